@@ -1,0 +1,63 @@
+-- The laws of frames.
+use Rattle.std.specs.Prelude.{◌≡◌, ◌≢◌, ◌↔◌, ◌⊎◌, ℕ, ◌+◌, ◌-◌, ◌<◌, ◌≤◌, List, [], ◌∷◌, ◌++◌, length}
+use Rattle.std.specs.List.{AllByRecursion}
+use Rattle.cobs.specs.Frames.{NoZero, Frame, Shortest, Longest, part, missing, shortest_frame, longest_frame, most_length}
+use Rattle.cobs.specs.Cases.{OneBlock, MoreBlocks, trailing, IsFull}
+use Rattle.cobs.specs.Sentinel.{masked}
+
+-- A frame is one block, or a block and then a frame.
+abbrev pub GoesByBlocks : Type 0
+GoesByBlocks = (frame message : List ℕ) → (Frame frame message) ↔ (OneBlock frame message ⊎ MoreBlocks frame message)
+
+-- A message has one shortest frame.
+abbrev pub HasOneShortest : Type 0
+HasOneShortest = (message : List ℕ) → Shortest (shortest_frame message) message × ((frame : List ℕ) → Shortest frame message → frame ≡ shortest_frame message)
+
+-- A message has one longest frame.
+abbrev pub HasOneLongest : Type 0
+HasOneLongest = (message : List ℕ) → Longest (longest_frame message) message × ((frame : List ℕ) → Longest frame message → frame ≡ longest_frame message)
+
+-- A message has a frame beside its shortest one exactly where it ends in a full run: the same and then a block 01.
+abbrev pub HasOneOther : Type 0
+HasOneOther = (frame message : List ℕ) → (Frame frame message × (frame ≢ shortest_frame message)) ↔ (IsFull (trailing message) × (frame ≡ shortest_frame message ++ 1 ∷ []))
+
+-- The longest frame is that other one, or else the shortest one.
+abbrev pub LongestIsOther : Type 0
+LongestIsOther = (message : List ℕ) → (IsFull (trailing message) × (longest_frame message ≡ shortest_frame message ++ 1 ∷ []))
+    ⊎ ((¬ IsFull (trailing message)) × (longest_frame message ≡ shortest_frame message))
+
+-- A frame has one message, which its bytes decide.
+abbrev pub HasOneMessage : Type 0
+HasOneMessage = (frame message : List ℕ) → Frame frame message → message ≡ part frame
+
+-- A frame ends where its last block ends.
+abbrev pub EndsWithItsBlock : Type 0
+EndsWithItsBlock = (frame message : List ℕ) → Frame frame message → missing frame ≡ 0
+
+-- Nonzero bytes that end where a block ends are a frame.
+abbrev pub IsFrameAtBlockEnd : Type 0
+IsFrameAtBlockEnd = (bytes : List ℕ) → AllByRecursion (λ b. (0 < b) × (b < 256)) bytes → bytes ≢ [] → missing bytes ≡ 0 → Frame bytes (part bytes)
+
+-- What bytes decide is shorter than they are.
+abbrev pub DecidesLess : Type 0
+DecidesLess = (bytes : List ℕ) → length (part bytes) ≤ length bytes - 1
+
+-- No byte of a frame is zero.
+abbrev pub HoldsNoZero : Type 0
+HoldsNoZero = (frame message : List ℕ) → Frame frame message → NoZero frame
+
+-- No byte of a frame that was XORed with a sentinel is that sentinel.
+abbrev pub HoldsNoSentinel : Type 0
+HoldsNoSentinel = (sentinel : ℕ) (frame message : List ℕ) → Frame frame message → AllByRecursion (λ b. b ≢ sentinel) (masked sentinel frame)
+
+-- The shortest frame has one byte more than its message at least, and so many at most.
+abbrev pub IsWithinLengths : Type 0
+IsWithinLengths = (message : List ℕ) → (length message + 1 ≤ length (shortest_frame message)) × (length (shortest_frame message) ≤ most_length (length message))
+
+-- Without a zero in the message it has so many.
+abbrev pub ReachesMostLength : Type 0
+ReachesMostLength = (message : List ℕ) → NoZero message → length (shortest_frame message) ≡ most_length (length message)
+
+-- Each further byte of a message makes its shortest frame longer.
+abbrev pub GrowsWithItsMessage : Type 0
+GrowsWithItsMessage = (message more : List ℕ) → length (shortest_frame message) + length more ≤ length (shortest_frame (message ++ more))
