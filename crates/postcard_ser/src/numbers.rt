@@ -67,6 +67,16 @@ impl Serialize for u128 {
     }
 }
 
+impl Serialize for usize {
+    ghost writes = { λ v. Some (number 64 v) };
+
+    ghost valid = { λ v. v < 2 ^ 64 };
+
+    fn serialize<F: Flavor>(&self, serializer: &mut Serializer<F>) -> Result<()> {
+        serializer.serialize_u64(*self as u64)
+    }
+}
+
 impl Serialize for i16 {
     ghost writes = { λ v. Some (number 16 (zigzag v)) };
 
