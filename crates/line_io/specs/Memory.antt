@@ -1,0 +1,50 @@
+-- What a clause reads of a device over memory.
+use Rattle.std.specs.Prelude.{ℕ, ◌-◌, List, length, take}
+use Rattle.std.specs.Borrow.{MutBor}
+use Rattle.line_io.specs.Plan.{Plan, failing}
+use Rattle.line_io.specs.declared.memory.Out.{Out}
+use Rattle.line_io.specs.declared.memory.In.{In}
+
+-- the buffer that it writes into
+abbrev pub out_buffer : Out → MutBor (List ℕ)
+out_buffer o = o.buffer
+
+-- the bytes that it has taken, at the front of its buffer
+abbrev pub out_bytes : Out → List ℕ
+out_bytes o = take o.moved o.buffer.now
+
+-- how many bytes it has taken
+abbrev pub out_moved : Out → ℕ
+out_moved o = o.moved
+
+-- how many more bytes its buffer has room for
+abbrev pub out_room : Out → ℕ
+out_room o = length o.buffer.now - o.moved
+
+-- how it goes on
+abbrev pub out_plan : Out → Plan
+out_plan o = record { each = o.each; fault = o.fault }
+
+-- how many of its calls were faults
+abbrev pub out_faults : Out → ℕ
+out_faults o = o.faults
+
+-- how many calls it still answers
+abbrev pub out_calls : Out → ℕ
+out_calls o = o.calls
+
+-- the bytes that are still to come
+abbrev pub in_bytes : In → List ℕ
+in_bytes i = i.rest.now
+
+-- how it goes on
+abbrev pub in_plan : In → Plan
+in_plan i = record { each = i.each; fault = failing i.fault }
+
+-- how many of its calls were faults
+abbrev pub in_faults : In → ℕ
+in_faults i = i.faults
+
+-- how many calls it still answers
+abbrev pub in_calls : In → ℕ
+in_calls i = i.calls

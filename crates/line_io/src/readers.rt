@@ -1,0 +1,152 @@
+ghost use Rattle.std.specs.Prelude.{◌≡◌, ℕ, ◌+◌, ◌-◌, ◌<◌, ◌≤◌, ◌^◌, [], length, take, None, Some, IfSome, MatchOption};
+ghost use Rattle.std.specs.Io.KnownBytes.{Keeps, Consumes};
+ghost use Rattle.line_io.specs.Device.{Gave, moved_front, read_faults};
+
+use crate::traits::Inlet;
+use std::io::Read;
+
+/// An [`Inlet`](crate::Inlet) over a reader of std.
+///
+/// A read that the reader fails, or breaks off as interrupted, is `None`, and nothing is tried again. What is to
+/// come is told up to the first fault, where the reader tells it.
+///
+/// ```
+/// let mut line = Reads::new(b"hi".as_slice());
+/// let mut room = [0u8; 8];
+/// assert_eq!(rt; line.read(&mut room), Some(2));
+/// ```
+#[derive(Drop)]
+pub struct Reads<R> {
+    inner: R,
+    faults: u64,
+    calls: u64,
+    ghost counted: { faults + calls ≤ 2 ^ 64 - 1 },
+}
+
+impl<R: Read> Reads<R> {
+    ghost use Rattle.line_io.specs.Streams.{inner_reader, reads_told};
+
+    /// A device over the reader. It has met no fault.
+    pub fn new(inner: R) -> Reads<R>
+        ensures to_come { ⟦<Reads<R> as Inlet>⟧.to_come result ≡ R.remaining inner }
+        ensures faults { ⟦<Reads<R> as Inlet>⟧.faults result ≡ 0 }
+        ensures calls { ⟦<Reads<R> as Inlet>⟧.calls_left result ≡ 2 ^ 64 - 1 }
+        ensures inner { inner_reader result ≡ inner }
+    {
+        Reads {
+            inner,
+            faults: 0,
+            calls: u64::MAX,
+        }
+    }
+
+    /// The reader, after the calls so far.
+    pub fn into_inner(self) -> R
+        ensures inner { result ≡ inner_reader self }
+        ensures told { ⟦<Reads<R> as Inlet>⟧.faults self ≡ 0 → R.remaining result ≡ ⟦<Reads<R> as Inlet>⟧.to_come self }
+    {
+        let Reads {
+            inner,
+            faults: _,
+            calls: _,
+        } = self;
+        inner
+    }
+}
+
+impl<R: Read> Inlet for Reads<R> {
+    ghost use Rattle.line_io.specs.Streams.{inner_reader, reads_told, reads_faults, reads_calls};
+
+    ghost to_come = { reads_told R.remaining };
+
+    ghost faults = { reads_faults };
+
+    ghost calls_left = { reads_calls };
+
+    fn read(&mut self, room: &mut [u8]) -> Option<usize>
+        ensures bound { IfSome result (λ n. n ≤ length room.new) }
+        ensures bytes { Gave (reads_told R.remaining self.old) (reads_told R.remaining self.new) (reads_faults self.old) (reads_faults self.new) (moved_front result room.new) }
+        ensures end { result ≡ Some 0 → 0 < length room.new → IfSome (reads_told R.remaining self.new) (λ rest. rest ≡ []) }
+        ensures faults { reads_faults self.new ≡ reads_faults self.old + read_faults (reads_calls self.old) result }
+        ensures calls { reads_calls self.new ≡ reads_calls self.old - 1 }
+        ensures spent { reads_calls self.old ≡ 0 → result ≡ None }
+        ensures silent { 0 < reads_faults self.new → reads_told R.remaining self.new ≡ None }
+        // What the reader will give is its own to tell, after a fault too.
+        ensures inner { MatchOption result
+            (Keeps (R.remaining (inner_reader self.old)) (R.remaining (inner_reader self.new)))
+            (λ n. Consumes (R.remaining (inner_reader self.old)) (R.remaining (inner_reader self.new)) (take n room.new)) }
+    {
+        if self.calls == 0 {
+            return None;
+        }
+        self.calls -= 1;
+        match self.inner.read(room) {
+            Ok(n) => Some(n),
+            Err(_) => {
+                self.faults += 1;
+                None
+            }
+        }
+    }
+}
+
+#[cfg(test)]
+mod tests {
+    use super::*;
+    use std::io;
+    use std::test::Fail;
+
+    /// Gives a byte a call of three, and fails once, after `before` bytes.
+    #[derive(Drop)]
+    struct Failing {
+        given: usize,
+        before: usize,
+    }
+
+    impl Read for Failing {
+        fn read(&mut self, buf: &mut [u8]) -> io::Result<usize> {
+            if self.given == self.before {
+                self.before = usize::MAX;
+                return Err(io::Error::from(io::ErrorKind::Other));
+            }
+            if buf.is_empty() || self.given >= 3 {
+                return Ok(0);
+            }
+            buf[0] = b'a';
+            self.given += 1;
+            Ok(1)
+        }
+    }
+
+    #[test]
+    fn a_failed_read_is_a_fault(rt: HostRuntime) -> Result<(), Fail> {
+        for before in 0..4 {
+            let mut line = Reads::new(Failing { given: 0, before });
+            let mut room = [0u8; 2];
+            for call in 0..4 {
+                let want = if call == before { None } else { Some(1) };
+                assert_eq!(rt; line.read(&mut room), want, "call {call} of {before}");
+            }
+            assert_eq!(rt; line.read(&mut room), Some(0));
+            assert_eq!(rt; line.read(&mut []), Some(0));
+            assert_eq!(rt; line.faults, 1);
+            assert_eq!(rt; line.into_inner().given, 3);
+        }
+        Ok(())
+    }
+
+    #[test]
+    fn no_call_is_left(rt: HostRuntime) -> Result<(), Fail> {
+        let mut line = Reads {
+            inner: b"hi".as_slice(),
+            faults: 0,
+            calls: 1,
+        };
+        let mut room = [0u8; 1];
+        assert_eq!(rt; line.read(&mut room), Some(1));
+        assert_eq!(rt; line.read(&mut room), None);
+        assert_eq!(rt; line.faults, 0);
+        assert_eq!(rt; line.into_inner(), b"i".as_slice());
+        Ok(())
+    }
+}

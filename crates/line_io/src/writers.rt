@@ -1,0 +1,167 @@
+ghost use Rattle.std.specs.Prelude.{◌≡◌, ℕ, ◌+◌, ◌-◌, ◌<◌, ◌≤◌, ◌^◌, length, take, None, IfSome, MatchOption};
+ghost use Rattle.std.specs.Io.KnownBytes.{Keeps, Appends};
+ghost use Rattle.line_io.specs.Device.{Wrote, moved_front, write_faults};
+
+use crate::traits::Outlet;
+use std::io::Write;
+
+/// An [`Outlet`](crate::Outlet) over a writer of std.
+///
+/// A write that the writer fails, or breaks off as interrupted, is `None`, and nothing is tried again. The bytes
+/// are told up to the first fault, where the writer tells them.
+///
+/// ```
+/// let mut line = Writes::new(Vec::new(alloc));
+/// assert_eq!(rt; line.write(b"hi"), Some(2));
+/// ```
+#[derive(Drop)]
+pub struct Writes<W> {
+    inner: W,
+    faults: u64,
+    calls: u64,
+    ghost counted: { faults + calls ≤ 2 ^ 64 - 1 },
+}
+
+impl<W: Write> Writes<W> {
+    ghost use Rattle.line_io.specs.Streams.{inner_writer, writes_told};
+
+    /// A device over the writer. It has met no fault.
+    pub fn new(inner: W) -> Writes<W>
+        ensures written { ⟦<Writes<W> as Outlet>⟧.written result ≡ W.contents inner }
+        ensures faults { ⟦<Writes<W> as Outlet>⟧.faults result ≡ 0 }
+        ensures calls { ⟦<Writes<W> as Outlet>⟧.calls_left result ≡ 2 ^ 64 - 1 }
+        ensures inner { inner_writer result ≡ inner }
+    {
+        Writes {
+            inner,
+            faults: 0,
+            calls: u64::MAX,
+        }
+    }
+
+    /// The writer, after the calls so far. Nothing is flushed.
+    pub fn into_inner(self) -> W
+        ensures inner { result ≡ inner_writer self }
+        ensures told { ⟦<Writes<W> as Outlet>⟧.faults self ≡ 0 → W.contents result ≡ ⟦<Writes<W> as Outlet>⟧.written self }
+    {
+        let Writes {
+            inner,
+            faults: _,
+            calls: _,
+        } = self;
+        inner
+    }
+}
+
+impl<W: Write> Outlet for Writes<W> {
+    ghost use Rattle.line_io.specs.Streams.{inner_writer, writes_told, writes_faults, writes_calls};
+
+    ghost written = { writes_told W.contents };
+
+    ghost faults = { writes_faults };
+
+    ghost calls_left = { writes_calls };
+
+    fn write(&mut self, piece: &[u8]) -> Option<usize>
+        ensures bound { IfSome result (λ n. n ≤ length piece.now) }
+        ensures bytes { Wrote (writes_told W.contents self.old) (writes_told W.contents self.new) (writes_faults self.old) (writes_faults self.new) (moved_front result piece.now) }
+        ensures faults { writes_faults self.new ≡ writes_faults self.old + write_faults (writes_calls self.old) result piece.now }
+        ensures calls { writes_calls self.new ≡ writes_calls self.old - 1 }
+        ensures spent { writes_calls self.old ≡ 0 → result ≡ None }
+        ensures silent { 0 < writes_faults self.new → writes_told W.contents self.new ≡ None }
+        // What the writer holds is its own to tell, after a fault too.
+        ensures inner { MatchOption result
+            (Keeps (W.contents (inner_writer self.old)) (W.contents (inner_writer self.new)))
+            (λ n. Appends (W.contents (inner_writer self.old)) (W.contents (inner_writer self.new)) (take n piece.now)) }
+    {
+        if self.calls == 0 {
+            return None;
+        }
+        self.calls -= 1;
+        match self.inner.write(piece) {
+            Ok(n) => {
+                if n == 0 && !piece.is_empty() {
+                    self.faults += 1;
+                }
+                Some(n)
+            }
+            Err(_) => {
+                self.faults += 1;
+                None
+            }
+        }
+    }
+}
+
+#[cfg(test)]
+mod tests {
+    use super::*;
+    use std::io;
+    use std::test::Fail;
+
+    /// Takes a byte a call, and is interrupted once, after `before` bytes.
+    #[derive(Drop)]
+    struct Interrupted {
+        taken: usize,
+        before: usize,
+    }
+
+    impl Write for Interrupted {
+        fn write(&mut self, buf: &[u8]) -> io::Result<usize> {
+            if self.taken == self.before {
+                self.before = usize::MAX;
+                return Err(io::Error::from(io::ErrorKind::Interrupted));
+            }
+            let count = buf.len().min(1);
+            self.taken = self.taken.saturating_add(count);
+            Ok(count)
+        }
+
+        fn flush(&mut self) -> io::Result<()> {
+            Ok(())
+        }
+    }
+
+    #[test]
+    fn an_interrupted_write_is_a_fault(rt: HostRuntime) -> Result<(), Fail> {
+        for before in 0..4 {
+            let mut line = Writes::new(Interrupted { taken: 0, before });
+            for call in 0..6 {
+                let want = if call == before { None } else { Some(1) };
+                assert_eq!(rt; line.write(b"ab"), want, "call {call} of {before}");
+            }
+            assert_eq!(rt; line.write(b""), Some(0));
+            assert_eq!(rt; line.faults, 1);
+            assert_eq!(rt; line.into_inner().taken, 5);
+        }
+        Ok(())
+    }
+
+    #[test]
+    fn a_full_writer_takes_nothing(rt: HostRuntime) -> Result<(), Fail> {
+        let mut room = [0u8; 3];
+        let mut line = Writes::new(room.as_mut_slice());
+        assert_eq!(rt; line.write(b"ab"), Some(2));
+        assert_eq!(rt; line.write(b"cd"), Some(1));
+        assert_eq!(rt; line.write(b"d"), Some(0));
+        assert_eq!(rt; line.write(b""), Some(0));
+        assert_eq!(rt; line.faults, 1);
+        assert_eq!(rt; line.into_inner().len(), 0);
+        assert_eq!(rt; room, *b"abc");
+        Ok(())
+    }
+
+    #[test]
+    fn no_call_is_left(rt: HostRuntime) -> Result<(), Fail> {
+        let mut line = Writes {
+            inner: Vec::new(rt.alloc()),
+            faults: 0,
+            calls: 1,
+        };
+        assert_eq!(rt; line.write(b"hi"), Some(2));
+        assert_eq!(rt; line.write(b"hi"), None);
+        assert_eq!(rt; line.faults, 0);
+        assert_eq!(rt; line.into_inner().as_slice(), b"hi".as_slice());
+        Ok(())
+    }
+}
