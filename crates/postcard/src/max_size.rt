@@ -131,6 +131,14 @@ impl MaxSize for i8 {
     }
 }
 
+impl MaxWritten for i8 {
+    fn show_valid(&self) {
+        let _value = *self;
+    }
+
+    ghost longest = { λ v h. byte_within (cast_unsigned w8 v) };
+}
+
 impl MaxSize for u16 {
     ghost greatest = { Some 3 };
 
@@ -219,6 +227,14 @@ impl MaxSize for i64 {
     }
 }
 
+impl MaxWritten for i64 {
+    fn show_valid(&self) {
+        let _value = *self;
+    }
+
+    ghost longest = { λ v h. within_64 (zigzag v) h };
+}
+
 impl MaxSize for u128 {
     ghost greatest = { Some 19 };
 
@@ -243,6 +259,14 @@ impl MaxSize for i128 {
     }
 }
 
+impl MaxWritten for i128 {
+    fn show_valid(&self) {
+        let _value = *self;
+    }
+
+    ghost longest = { λ v h. within_128 (zigzag v) h };
+}
+
 impl MaxSize for usize {
     ghost greatest = { Some 10 };
 
@@ -251,12 +275,28 @@ impl MaxSize for usize {
     }
 }
 
+impl MaxWritten for usize {
+    fn show_valid(&self) {
+        let _value = *self;
+    }
+
+    ghost longest = { within_64 };
+}
+
 impl MaxSize for isize {
     ghost greatest = { Some 10 };
 
     fn postcard_max_size() -> Option<usize> {
         Some(10)
     }
+}
+
+impl MaxWritten for isize {
+    fn show_valid(&self) {
+        let _value = *self;
+    }
+
+    ghost longest = { λ v h. within_64 (zigzag v) h };
 }
 
 impl MaxSize for char {
@@ -492,6 +532,14 @@ impl<const N: usize> MaxSize for ArrayString<N> {
     }
 }
 
+impl<const N: usize> MaxWritten for ArrayString<N> {
+    fn show_valid(&self) {
+        let _text = self.as_str();
+    }
+
+    ghost longest = { λ v h. text_within N v.bytes h.1 };
+}
+
 impl<T: MaxSize> MaxSize for &T {
     ghost greatest = { T.greatest };
 
@@ -588,6 +636,15 @@ impl<A: MaxSize> MaxSize for (A,) {
     }
 }
 
+impl<A: MaxWritten> MaxWritten for (A,) {
+    fn show_valid(&self) {
+        let (a,) = self;
+        a.show_valid();
+    }
+
+    ghost longest = { λ v h. group_within (part_within (A.longest v.0 h) none_within) };
+}
+
 impl<A: MaxSize, B: MaxSize> MaxSize for (A, B) {
     ghost greatest = { total (A.greatest ∷ B.greatest ∷ []) };
 
@@ -642,6 +699,18 @@ impl<A: MaxSize, B: MaxSize, C: MaxSize, D: MaxSize> MaxSize for (A, B, C, D) {
     }
 }
 
+impl<A: MaxWritten, B: MaxWritten, C: MaxWritten, D: MaxWritten> MaxWritten for (A, B, C, D) {
+    fn show_valid(&self) {
+        let (a, b, c, d) = self;
+        a.show_valid();
+        b.show_valid();
+        c.show_valid();
+        d.show_valid();
+    }
+
+    ghost longest = { λ v h. group_within (part_within (A.longest v.0 h.0) (part_within (B.longest v.1 h.1) (part_within (C.longest v.2 h.2) (part_within (D.longest v.3 h.3) none_within)))) };
+}
+
 impl<A: MaxSize, B: MaxSize, C: MaxSize, D: MaxSize, E: MaxSize> MaxSize for (A, B, C, D, E) {
     ghost greatest = { total (A.greatest ∷ B.greatest ∷ C.greatest ∷ D.greatest ∷ E.greatest ∷ []) };
 
@@ -657,6 +726,20 @@ impl<A: MaxSize, B: MaxSize, C: MaxSize, D: MaxSize, E: MaxSize> MaxSize for (A,
             ),
         )
     }
+}
+
+impl<A: MaxWritten, B: MaxWritten, C: MaxWritten, D: MaxWritten, E: MaxWritten> MaxWritten
+    for (A, B, C, D, E) {
+    fn show_valid(&self) {
+        let (a, b, c, d, e) = self;
+        a.show_valid();
+        b.show_valid();
+        c.show_valid();
+        d.show_valid();
+        e.show_valid();
+    }
+
+    ghost longest = { λ v h. group_within (part_within (A.longest v.0 h.0) (part_within (B.longest v.1 h.1) (part_within (C.longest v.2 h.2) (part_within (D.longest v.3 h.3) (part_within (E.longest v.4 h.4) none_within))))) };
 }
 
 impl<A: MaxSize, B: MaxSize, C: MaxSize, D: MaxSize, E: MaxSize, F: MaxSize> MaxSize
@@ -678,4 +761,25 @@ impl<A: MaxSize, B: MaxSize, C: MaxSize, D: MaxSize, E: MaxSize, F: MaxSize> Max
             ),
         )
     }
+}
+
+impl<
+    A: MaxWritten,
+    B: MaxWritten,
+    C: MaxWritten,
+    D: MaxWritten,
+    E: MaxWritten,
+    F: MaxWritten,
+> MaxWritten for (A, B, C, D, E, F) {
+    fn show_valid(&self) {
+        let (a, b, c, d, e, f) = self;
+        a.show_valid();
+        b.show_valid();
+        c.show_valid();
+        d.show_valid();
+        e.show_valid();
+        f.show_valid();
+    }
+
+    ghost longest = { λ v h. group_within (part_within (A.longest v.0 h.0) (part_within (B.longest v.1 h.1) (part_within (C.longest v.2 h.2) (part_within (D.longest v.3 h.3) (part_within (E.longest v.4 h.4) (part_within (F.longest v.5 h.5) none_within)))))) };
 }
