@@ -137,11 +137,8 @@ mod tests {
 
     #[test]
     fn no_call_is_left(rt: HostRuntime) -> Result<(), Fail> {
-        let mut line = Reads {
-            inner: b"hi".as_slice(),
-            faults: 0,
-            calls: 1,
-        };
+        let mut line = Reads::new(b"hi".as_slice());
+        line.calls = 1;
         let mut room = [0u8; 1];
         assert_eq!(rt; line.read(&mut room), Some(1));
         assert_eq!(rt; line.read(&mut room), None);

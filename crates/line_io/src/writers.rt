@@ -153,11 +153,8 @@ mod tests {
 
     #[test]
     fn no_call_is_left(rt: HostRuntime) -> Result<(), Fail> {
-        let mut line = Writes {
-            inner: Vec::new(rt.alloc()),
-            faults: 0,
-            calls: 1,
-        };
+        let mut line = Writes::new(Vec::new(rt.alloc()));
+        line.calls = 1;
         assert_eq!(rt; line.write(b"hi"), Some(2));
         assert_eq!(rt; line.write(b"hi"), None);
         assert_eq!(rt; line.faults, 0);
