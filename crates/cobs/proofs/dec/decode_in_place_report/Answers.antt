@@ -1,0 +1,32 @@
+use Rattle.std.proofs.Common.{inl, inr, arith, sym, ◌∙◌}
+use Rattle.cobs.proofs.Reading.{shorter, reading_on, reading_done, reading_holds, whole, broken, Ends}
+use Rattle.cobs.proofs.dec.decode_in_place_report.Goals as goal
+use Rattle.cobs.proofs.dec.decode_in_place_report.Goals.{After-feed, then-loop-read-test+else-buf-read-ne0, else-loop-read-test}
+
+pub take_in-write-requires-clause-countable : goal.take_in-write-requires-clause-countable
+take_in-write-requires-clause-countable c =
+    let short = shorter c.args.buf.now c.loop-read.read c.loop-read.write c.loop-read.state c.loop-read.invariant.reads in
+    omega (arith, short, c.loop-read.auto.read-fits)
+
+pub loop-read-preserved : goal.loop-read-preserved
+loop-read-preserved c = reading_on c.args.buf.now c.loop-read.buf c.loop-read.read c.loop-read.write c.loop-read.state _ _ _ c.loop-read.invariant c.loop-read-test.true (omega arith) c.take_in-write.ensures.taken c.take_in-write.ensures.dest
+
+ends : (c : After-feed) → Ends c.loop-read.buf c.loop-read.read
+ends c = elim c.loop-read-test.branch [
+  | then-loop-read-test+else-buf-read-ne0 w ↦ inr (w.loop-read-test.true, omega arith)
+  | else-loop-read-test w ↦ inl (omega arith)
+]
+
+pub returns-in-Ok-clause-answer : goal.returns-in-Ok-clause-answer
+returns-in-Ok-clause-answer c =
+    whole c.args.buf.now _ _ _ (reading_done c.args.buf.now _ _ _ _ c.loop-read.invariant (ends (goal.at.returns-in-Ok-clause-answer c).After-feed)) c.in-Ok.field-0 (sym c.feed.ensures.answer ∙ c.in-Ok.is)
+
+pub returns-in-Ok-clause-buffer : goal.returns-in-Ok-clause-buffer
+returns-in-Ok-clause-buffer c = reading_holds _ _ _ _ _ c.loop-read.invariant (ends (goal.at.returns-in-Ok-clause-buffer c).After-feed)
+
+pub returns-in-Err-clause-answer : goal.returns-in-Err-clause-answer
+returns-in-Err-clause-answer c =
+    broken c.args.buf.now _ _ _ (reading_done c.args.buf.now _ _ _ _ c.loop-read.invariant (ends (goal.at.returns-in-Err-clause-answer c).After-feed)) c.in-Err.field-0 (sym c.feed.ensures.answer ∙ c.in-Err.is)
+
+pub returns-in-Err-clause-buffer : goal.returns-in-Err-clause-buffer
+returns-in-Err-clause-buffer c = reading_holds _ _ _ _ _ c.loop-read.invariant (ends (goal.at.returns-in-Err-clause-buffer c).After-feed)

@@ -1,0 +1,369 @@
+//! Decoding, streaming and whole.
+ghost use Rattle.std.specs.Prelude.{◌≡◌, ◌≢◌, ◌^◌, ℕ, ◌+◌, ◌-◌, ◌*◌, ◌/◌, ◌<◌, ◌≤◌, ◌↔◌, List, [], ◌∷◌, ◌++◌, length, take, drop, replicate, slice_index, true, false, IsTrue, IfOk, IfErr, OnOk, OnErr, IsOk, IsErr, IfSome, IfNone, IsSome, IsNone, ◌⊎◌};
+ghost use Rattle.std.specs.Borrow.{sem};
+ghost use Rattle.cobs.specs.Frames.{Frame, part};
+ghost use Rattle.cobs.specs.Feeding.{by_code as state_by_code, told_by as byte_told_by, fed, next, placed, Taken};
+ghost use Rattle.cobs.specs.Reports.{parsed_size, frame_size};
+ghost use Rattle.cobs.specs.InPlace.{stretch, in_place, in_place_length, overwritten};
+ghost use Rattle.cobs.specs.Sentinel.{masked};
+
+use crate::enc::mask;
+use arrayvec::ArrayVec;
+use std::alloc::{AllocError, Global};
+use thiserror::Error;
+
+/// Where a decoder stands in a frame.
+#[derive(Clone, Copy, PartialEq, Debug)]
+pub enum DecoderState {
+    /// Between frames.
+    Idle,
+    /// This many bytes of the block are left, and the next code stands for a zero.
+    Grab(u8),
+    /// This many bytes of the block are left, and the next code doesn't.
+    GrabChain(u8),
+}
+
+/// What a byte tells.
+#[derive(Clone, Copy, PartialEq, Debug)]
+pub enum DecodeResult {
+    NoData,
+    DataStart,
+    DataComplete,
+    DataContinue(u8),
+}
+
+/// Why a frame was refused.
+#[derive(Clone, Copy, PartialEq, Eq, Debug, Error)]
+pub enum DecodeError {
+    #[error("empty frame")]
+    EmptyFrame,
+    #[error("invalid frame after {decoded_bytes} bytes")]
+    InvalidFrame { decoded_bytes: usize },
+    #[error("target buffer too small")]
+    TargetBufTooSmall,
+}
+
+fn by_code(code: u8) -> DecoderState
+    requires { 0 < code }
+    ensures { result ≡ state_by_code code }
+{
+    if code == 255 {
+        DecoderState::GrabChain(254)
+    } else {
+        DecoderState::Grab(code - 1)
+    }
+}
+
+impl DecoderState {
+    /// Takes a byte.
+    pub fn feed(&mut self, data: u8) -> Result<DecodeResult, DecodeError>
+        ensures answer { result ≡ fed self.old «data» }
+        ensures state { self.new ≡ next self.old «data» }
+    {
+        match *self {
+            DecoderState::Idle => {
+                if data == 0 {
+                    return Ok(DecodeResult::NoData);
+                }
+                *self = by_code(data);
+                Ok(DecodeResult::DataStart)
+            }
+            DecoderState::Grab(0) => {
+                if data == 0 {
+                    *self = DecoderState::Idle;
+                    return Ok(DecodeResult::DataComplete);
+                }
+                *self = by_code(data);
+                Ok(DecodeResult::DataContinue(0))
+            }
+            DecoderState::GrabChain(0) => {
+                if data == 0 {
+                    *self = DecoderState::Idle;
+                    return Ok(DecodeResult::DataComplete);
+                }
+                *self = by_code(data);
+                Ok(DecodeResult::NoData)
+            }
+            DecoderState::Grab(left) => {
+                if data == 0 {
+                    *self = DecoderState::Idle;
+                    return Err(DecodeError::InvalidFrame { decoded_bytes: 0 });
+                }
+                *self = DecoderState::Grab(left - 1);
+                Ok(DecodeResult::DataContinue(data))
+            }
+            DecoderState::GrabChain(left) => {
+                if data == 0 {
+                    *self = DecoderState::Idle;
+                    return Err(DecodeError::InvalidFrame { decoded_bytes: 0 });
+                }
+                *self = DecoderState::GrabChain(left - 1);
+                Ok(DecodeResult::DataContinue(data))
+            }
+        }
+    }
+}
+
+/// How much of a source was used, and how much it decodes to.
+#[derive(Clone, Copy, PartialEq, Debug)]
+pub struct DecodeReport {
+    parsed: usize,
+    decoded: usize,
+}
+
+impl DecodeReport {
+    /// How many bytes of the source were used.
+    pub fn parsed_size(&self) -> usize
+        ensures { result ≡ parsed_size self.now }
+    {
+        self.parsed
+    }
+
+    /// How many bytes the message has.
+    pub fn frame_size(&self) -> usize
+        ensures { result ≡ frame_size self.now }
+    {
+        self.decoded
+    }
+}
+
+/// What a decoding answers.
+pub type DecodingResult = Result<DecodeReport, DecodeError>;
+
+// The byte of the message that an answer tells.
+fn told_by(answer: Result<DecodeResult, DecodeError>) -> Option<u8>
+    ensures { result ≡ byte_told_by answer }
+{
+    match answer {
+        Ok(DecodeResult::DataContinue(byte)) => Some(byte),
+        Ok(DecodeResult::NoData) => None,
+        Ok(DecodeResult::DataStart) => None,
+        Ok(DecodeResult::DataComplete) => None,
+        Err(_) => None,
+    }
+}
+
+// Takes in a byte of a frame. The byte of the message that it tells goes behind those before it, where there is room.
+// Answers how many there are now.
+fn take_in(state: &mut DecoderState, dest: &mut [u8], len: usize, byte: u8) -> usize
+    requires nonzero { 0 < byte }
+    requires countable { len + 1 < 2 ^ 64 }
+    ensures taken { (p : List ℕ) → Taken state.old len p → Taken state.new result (p ++ byte ∷ []) }
+    ensures dest { (p : List ℕ) → Taken state.old len p → dest.new ≡ placed p byte dest.old }
+{
+    let Some(told) = told_by(state.feed(byte)) else {
+        return len;
+    };
+    if len < dest.len() {
+        dest[len] = told;
+    }
+    len + 1
+}
+
+/// Decodes the bytes before the first zero, or all where there is none, over themselves.
+///
+/// The message then stands in front. An empty buffer and one that begins with a zero give sizes 0 and 0; that zero
+/// isn't counted. The bytes from `parsed_size` on are as they were.
+///
+/// Bytes that are no frame are `InvalidFrame`, with the length of the part of a message that they decide, which then
+/// stands in front.
+pub fn decode_in_place_report(buf: &mut [u8]) -> DecodingResult
+    ensures answer { result ≡ in_place (stretch buf.old) }
+    ensures buffer { buf.new ≡ overwritten (part (stretch buf.old)) buf.old }
+{
+    let mut state = DecoderState::Idle;
+    let mut read: usize = 0;
+    let mut write: usize = 0;
+    while read < buf.len() && buf[read] != 0 {
+        let byte = buf[read];
+        write = take_in(&mut state, buf, write, byte);
+        read += 1;
+    }
+    match state.feed(0) {
+        Ok(_) => Ok(DecodeReport {
+            parsed: read,
+            decoded: write,
+        }),
+        Err(_) => Err(DecodeError::InvalidFrame {
+            decoded_bytes: write,
+        }),
+    }
+}
+
+/// As `decode_in_place_report`, with the length of the message alone.
+pub fn decode_in_place(buf: &mut [u8]) -> Result<usize, DecodeError>
+    ensures answer { result ≡ in_place_length (stretch buf.old) }
+    ensures buffer { buf.new ≡ overwritten (part (stretch buf.old)) buf.old }
+{
+    decode_in_place_report(buf).map(|report| report.frame_size())
+}
+
+/// As `decode_in_place`, after each byte of the buffer was XORed with the sentinel.
+///
+/// Bytes behind the first sentinel are left XORed.
+pub fn decode_in_place_with_sentinel(buf: &mut [u8], sentinel: u8) -> Result<usize, DecodeError>
+    ensures answer { result ≡ in_place_length (stretch (masked sentinel buf.old)) }
+    ensures buffer { buf.new ≡ overwritten (part (stretch (masked sentinel buf.old))) (masked sentinel buf.old) }
+{
+    mask(buf, sentinel);
+    decode_in_place(buf)
+}
+
+// How far a frame was taken in: how many bytes of its message stand in the buffer, and whether some had no room.
+#[derive(Clone, Copy)]
+struct Progress {
+    state: DecoderState,
+    len: usize,
+    over: bool,
+}
+
+impl Progress {
+    ghost use Rattle.cobs.specs.Feeding.{answer_of, at_zero, at_byte, frame_after};
+    ghost use Rattle.cobs.specs.Streaming.{Stands};
+    ghost use Rattle.cobs.specs.Pieces.{first_answer, frame_left, buffer_left};
+
+    fn new() -> Progress
+        ensures { (room : ℕ) → Stands room result [] }
+    {
+        Progress {
+            state: DecoderState::Idle,
+            len: 0,
+            over: false,
+        }
+    }
+
+    // Takes in a byte of a frame.
+    fn take_in(&mut self, buffer: &mut [u8], byte: u8) -> Result<Option<usize>, DecodeError>
+        requires { 0 < byte }
+        ensures stands { (p : List ℕ) → Stands (length buffer.old) self.old p → Stands (length buffer.old) self.new (p ++ byte ∷ []) }
+        ensures answer { (p : List ℕ) → Stands (length buffer.old) self.old p → result ≡ at_byte (length buffer.old) p byte }
+        ensures buffer { (p : List ℕ) → Stands (length buffer.old) self.old p → buffer.new ≡ placed p byte buffer.old }
+        ensures none { IfOk result IsNone }
+    {
+        let Some(told) = told_by(self.state.feed(byte)) else {
+            return Ok(None);
+        };
+        if self.len < buffer.len() {
+            buffer[self.len] = told;
+            self.len += 1;
+            Ok(None)
+        } else {
+            self.over = true;
+            Err(DecodeError::TargetBufTooSmall)
+        }
+    }
+
+    // Ends the frame at a zero.
+    fn end(&mut self, room: usize) -> Result<Option<usize>, DecodeError>
+        ensures stands { (r : ℕ) → Stands r self.new [] }
+        ensures answer { (p : List ℕ) → Stands room self.old p → result ≡ at_zero room p }
+        ensures within { IfOk result (λ o. IfSome o (λ n. n ≤ room)) }
+    {
+        let Progress {
+            mut state,
+            len,
+            over,
+        } = *self;
+        *self = Progress::new();
+        match state.feed(0) {
+            Ok(DecodeResult::NoData) => Ok(None),
+            Ok(_) if over => Err(DecodeError::TargetBufTooSmall),
+            Ok(_) => Ok(Some(len.min(room))),
+            Err(_) => Err(DecodeError::InvalidFrame { decoded_bytes: len }),
+        }
+    }
+
+    // Takes in a byte of a frame, or the zero behind one.
+    fn feed(&mut self, buffer: &mut [u8], byte: u8) -> Result<Option<usize>, DecodeError>
+        ensures stands { (p : List ℕ) → Stands (length buffer.old) self.old p → Stands (length buffer.old) self.new (frame_after p byte) }
+        ensures answer { (p : List ℕ) → Stands (length buffer.old) self.old p → result ≡ answer_of (length buffer.old) p byte }
+        ensures buffer { (p : List ℕ) → Stands (length buffer.old) self.old p → buffer.new ≡ placed p byte buffer.old }
+        ensures within { IfOk result (λ o. IfSome o (λ n. n ≤ length buffer.new)) }
+    {
+        if byte == 0 {
+            self.end(buffer.len())
+        } else {
+            self.take_in(buffer, byte)
+        }
+    }
+
+    // Feeds until the first answer.
+    fn push(&mut self, buffer: &mut [u8], piece: &[u8]) -> Result<Option<DecodeReport>, DecodeError>
+        ensures answer { (p : List ℕ) → Stands (length buffer.old) self.old p → result ≡ first_answer (length buffer.old) p piece.now 0 }
+        ensures stands { (p : List ℕ) → Stands (length buffer.old) self.old p → Stands (length buffer.old) self.new (frame_left (length buffer.old) p piece.now) }
+        ensures buffer { (p : List ℕ) → Stands (length buffer.old) self.old p → buffer.new ≡ buffer_left (length buffer.old) p piece.now buffer.old }
+        ensures within { IfOk result (λ o. IfSome o (λ r. (parsed_size r ≤ length piece.now) × (frame_size r ≤ length buffer.new))) }
+    {
+        for (i, byte) in piece.iter().enumerate() {
+            match self.feed(buffer, *byte) {
+                Ok(None) => {}
+                Ok(Some(len)) => {
+                    return Ok(Some(DecodeReport {
+                        parsed: i + 1,
+                        decoded: len,
+                    }));
+                }
+                Err(e) => return Err(e),
+            }
+        }
+        Ok(None)
+    }
+}
+
+/// Decodes frames that come byte by byte, into a buffer.
+#[derive(Drop)]
+pub struct CobsDecoder<'a> {
+    dest: &'a mut [u8],
+    progress: Progress,
+}
+
+impl<'a> CobsDecoder<'a> {
+    ghost use Rattle.cobs.specs.Feeding.{answer_of, frame_after};
+    ghost use Rattle.cobs.specs.Decoder.{Has, buffer_of};
+    ghost use Rattle.cobs.specs.Pieces.{first_answer, frame_left, buffer_left};
+
+    /// A decoder between frames.
+    pub fn new(dest: &'a mut [u8]) -> CobsDecoder<'a>
+        ensures idle { Has result [] }
+        ensures buffer { buffer_of result ≡ dest.old }
+        ensures lent { result.dest.ghost_name ≡ dest.entry.ghost_name }
+    {
+        CobsDecoder {
+            dest,
+            progress: Progress::new(),
+        }
+    }
+
+    /// Takes in a byte. At the zero of a whole frame, the length of its message, which then stands in front of the buffer.
+    pub fn feed(&mut self, data: u8) -> Result<Option<usize>, DecodeError>
+        ensures has { (p : List ℕ) → Has self.old p → Has self.new (frame_after p «data») }
+        ensures answer { (p : List ℕ) → Has self.old p → result ≡ answer_of (length (buffer_of self.old)) p «data» }
+        ensures buffer { (p : List ℕ) → Has self.old p → buffer_of self.new ≡ placed p «data» (buffer_of self.old) }
+        ensures within { IfOk result (λ o. IfSome o (λ n. n ≤ length (buffer_of self.new))) }
+        ensures room { length (buffer_of self.new) ≡ length (buffer_of self.old) }
+        ensures lent { self.new.dest.ghost_name ≡ self.old.dest.ghost_name }
+    {
+        self.progress.feed(self.dest, data)
+    }
+
+    /// Takes in bytes until the first answer.
+    pub fn push(&mut self, data: &[u8]) -> Result<Option<DecodeReport>, DecodeError>
+        ensures has { (p : List ℕ) → Has self.old p → Has self.new (frame_left (length (buffer_of self.old)) p «data».now) }
+        ensures answer { (p : List ℕ) → Has self.old p → result ≡ first_answer (length (buffer_of self.old)) p «data».now 0 }
+        ensures buffer { (p : List ℕ) → Has self.old p → buffer_of self.new ≡ buffer_left (length (buffer_of self.old)) p «data».now (buffer_of self.old) }
+        ensures room { length (buffer_of self.new) ≡ length (buffer_of self.old) }
+        ensures lent { self.new.dest.ghost_name ≡ self.old.dest.ghost_name }
+    {
+        self.progress.push(self.dest, data)
+    }
+
+    /// The buffer.
+    pub fn dest(&self) -> &[u8]
+        ensures { result.now ≡ buffer_of self.now }
+    {
+        self.dest
+    }
+}
+
+#[cfg(test)]
+mod tests;
