@@ -1,0 +1,127 @@
+//! Filling a slice.
+ghost use Rattle.std.specs.Prelude.{◌≡◌, ◌+◌, ◌<◌, ◌≤◌, ◌++◌, [], ◌∷◌, Some, IfOk, IsOk, OnOk, OnErr, IfErr, length};
+ghost use Rattle.postcard_tree.specs.declared.error.Error.TheVariants.{SerializeBufferFull};
+
+use crate::ser_flavors::{Flavor, IndexByte};
+use postcard_tree::{Error, Result};
+
+/// Fills a slice from its front.
+///
+/// A push that doesn't fit is `SerializeBufferFull`, and nothing of it is written.
+#[derive(Drop)]
+pub struct Slice<'a> {
+    room: &'a mut [u8],
+    count: usize,
+    pub ghost within: { count ≤ length room.now },
+}
+
+impl<'a> Slice<'a> {
+    ghost use Rattle.postcard_ser.specs.Slice.{held_of, room_of, lent_as};
+
+    /// Over a slice that is to be filled. Nothing is held yet.
+    pub fn new(room: &'a mut [u8]) -> Self
+        ensures empty { held_of result ≡ [] }
+        ensures room { room_of result ≡ length room.entry.now }
+        ensures same_reference { lent_as result ≡ room.entry.ghost_name }
+    {
+        Slice { room, count: 0 }
+    }
+}
+
+#[tactic(auto, using(crate::specs::Lists::exceeds_at_once))]
+impl<'a> Flavor for Slice<'a> {
+    ghost use Rattle.postcard_ser.specs.Slice.{held_of, room_of, SameRoom};
+    ghost use Rattle.postcard_ser.specs.Lists.{Exceeds, grown_more, exceeds_later, exceeds_more};
+    ghost use Rattle.std.proofs.Common.{arith, refl, sym, ◌∙◌, append-nil};
+
+    type Output = &'a mut [u8];
+
+    ghost told = { λ s. Some (held_of s) };
+
+    ghost took = { λ s a t. (held_of t ≡ held_of s ++ a) × SameRoom s t };
+
+    ghost refused = { λ s a e t. Exceeds (room_of s) SerializeBufferFull (held_of s) a e (held_of t) × SameRoom s t };
+
+    ghost has_room = { λ s a. length (held_of s) + length a ≤ room_of s };
+
+    ghost same = { SameRoom };
+
+    ghost ends = { λ s r. IfOk r (λ out. out.now ≡ held_of s) × IsOk r };
+
+    ghost laws = { record {
+      same_self = λ s. (refl, refl);
+      same_after = λ s t u p q. (q.0 ∙ p.0, q.1 ∙ p.1);
+      nothing = λ s. (sym (append-nil (held_of s)), (refl, refl));
+      more = λ s t u a b p q. (grown_more (held_of s) (held_of t) (held_of u) a b p.0 q.0, (q.1.0 ∙ p.1.0, q.1.1 ∙ p.1.1));
+      refused_later = λ s t u a b e p q. (exceeds_later (room_of s) (room_of t) SerializeBufferFull (held_of s) (held_of t) (held_of u) a b e (Prim.omega (arith, p.1.0)) p.0 q.0, (q.1.0 ∙ p.1.0, q.1.1 ∙ p.1.1));
+      refused_more = λ s u a b e p. (exceeds_more (room_of s) SerializeBufferFull (held_of s) (held_of u) a b e p.0, p.1);
+      tells = λ s t a x p q. Prim.cc (p.0);
+      tells_front = λ s t a x e p q. (p.0.taken, p.0.left, p.0.parts, Prim.cc (p.0.grown));
+      refuses_nothing = λ s t a e q p. Prim.omega (arith, p.0.over, q);
+    } };
+
+    fn try_extend(&mut self, bytes: &[u8]) -> Result<()>
+        ensures ok { OnOk result ((held_of self.new ≡ held_of self.old ++ bytes.now) × SameRoom self.old self.new) }
+        ensures err { IfErr result (λ e. Exceeds (room_of self.old) SerializeBufferFull (held_of self.old) bytes.now e (held_of self.new) × SameRoom self.old self.new) }
+        ensures same { SameRoom self.old self.new }
+        ensures unchanged { OnErr result (self.new ≡ self.old) }
+    {
+        let count = self.count;
+        if self.room.len() - count < bytes.len() {
+            return Err(Error::SerializeBufferFull);
+        }
+        let end = count + bytes.len();
+        self.room[count..end].copy_from_slice(bytes);
+        self.count = end;
+        Ok(())
+    }
+
+    fn try_push(&mut self, byte: u8) -> Result<()>
+        ensures ok { OnOk result ((held_of self.new ≡ held_of self.old ++ byte ∷ []) × SameRoom self.old self.new) }
+        ensures err { IfErr result (λ e. Exceeds (room_of self.old) SerializeBufferFull (held_of self.old) (byte ∷ []) e (held_of self.new) × SameRoom self.old self.new) }
+        ensures same { SameRoom self.old self.new }
+        ensures unchanged { OnErr result (self.new ≡ self.old) }
+    {
+        let count = self.count;
+        if count == self.room.len() {
+            return Err(Error::SerializeBufferFull);
+        }
+        self.room[count] = byte;
+        self.count = count + 1;
+        Ok(())
+    }
+
+    fn finalize(self) -> Result<&'a mut [u8]> {
+        let Slice { room, count } = self;
+        Ok(&mut room[..count])
+    }
+}
+
+impl<'a> IndexByte for Slice<'a> {
+    ghost use Rattle.postcard_ser.specs.Slice.{held_of, SameRoom};
+    ghost use Rattle.std.proofs.Common.{refl, ◌∙◌};
+
+    ghost bytes = { held_of };
+
+    ghost became = { λ s x t. (held_of t ≡ x) × SameRoom s t };
+
+    ghost index_laws = { record {
+      tells_bytes = λ s. refl;
+      same = λ s. (refl, (refl, refl));
+      holds = λ s t x p. p.0;
+      grew = λ s t a p. p;
+      again = λ s t u x y p q. (q.0, (q.1.0 ∙ p.1.0, q.1.1 ∙ p.1.1));
+    } };
+
+    fn held(&self) -> usize {
+        self.count
+    }
+
+    fn byte(&self, index: usize) -> u8 {
+        self.room[index]
+    }
+
+    fn set_byte(&mut self, index: usize, byte: u8) {
+        self.room[index] = byte;
+    }
+}
