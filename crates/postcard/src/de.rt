@@ -6,7 +6,7 @@ ghost use Rattle.postcard_tree.specs.Reading.{Spelled};
 ghost use Rattle.postcard.specs.Answer.{ReadsFront, AnswersFronts};
 
 use postcard_de::de_flavors::Slice;
-use postcard_de::io::IOReader;
+use postcard_de::de_flavors::io::IOReader;
 use postcard_de::{Deserialize, DeserializeOwned, Deserializer};
 use postcard_tree::Result;
 use std::alloc::Global;
