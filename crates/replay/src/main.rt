@@ -1,0 +1,54 @@
+//! Replays test vectors: answers each line of standard input by the calls that it speaks of, prints each line that
+//! differs with what was answered, and then how many lines passed and failed.
+#![tactic(auto)]
+
+mod encoding;
+mod findings;
+mod words;
+
+use crate::findings::Findings;
+use crate::words::{Trouble, Words};
+use std::alloc::Global;
+use std::io;
+use std::io::{BufRead, BufReader, BufWriter, ErrorKind, Write};
+use std::process::ExitCode;
+
+/// Answers a line by the calls that it speaks of, and compares each answer.
+fn replay(alloc: Global, line: &str, findings: &mut Findings) -> Result<(), Trouble> {
+    let mut words = Words::new(line);
+    match words.next()? {
+        "cobs_encode" => encoding::replay_encode(alloc, words, findings),
+        "cobs_sentinel" => encoding::replay_sentinel(alloc, words, findings),
+        _ => Err(Trouble::Unreadable),
+    }
+}
+
+/// Replays a line, prints it where it differs, and says whether it passed.
+fn passes<W: Write + Drop>(alloc: Global, line: &str, out: &mut BufWriter<W>) -> io::Result<bool> {
+    let mut findings = Findings::new(alloc);
+    match replay(alloc, line, &mut findings) {
+        Ok(()) if findings.is_empty() => return Ok(true),
+        Ok(()) => writeln!(out, "{line}{}", findings.text())?,
+        Err(Trouble::Unreadable) => writeln!(out, "{line} | unreadable")?,
+        Err(Trouble::NoMemory) => return Err(ErrorKind::OutOfMemory.into()),
+    }
+    Ok(false)
+}
+
+fn main(rt: HostRuntime) -> io::Result<ExitCode> {
+    let alloc = rt.alloc();
+    let mut out = BufWriter::new(alloc, io::writer(&rt))?;
+    let mut passed: u64 = 0;
+    let mut failed: u64 = 0;
+    for line in BufReader::new(alloc, rt.reader())?.lines(alloc) {
+        let line = line?;
+        if passes(alloc, line.as_str(), &mut out)? {
+            passed = passed.saturating_add(1);
+        } else {
+            failed = failed.saturating_add(1);
+        }
+    }
+    writeln!(out, "{passed} passed, {failed} failed")?;
+    out.flush()?;
+    Ok(ExitCode::from(if failed == 0 { 0 } else { 1 }))
+}
