@@ -9,11 +9,12 @@ use mir.Val.{bits}
 use mir.ValLaws.{of_z_fits, to_z-Fits}
 use Rattle.std.proofs.lemmas.List.{reverse-reverse, reverse-append, length-reverse}
 use Rattle.postcard_tree.specs.declared.error.Error.{Error}
-use Rattle.postcard_tree.specs.Tree.{Tree, byte, group, Trees, end, part, count_of, bytes_of}
-use Rattle.postcard_tree.specs.Reading.{EndsByItself, NoFront, TakesByte, TakesAll, TakesArray, IsShort}
+use Rattle.postcard_tree.specs.Tree.{Tree, group, Trees, end, part, count_of, bytes_of}
+use Rattle.postcard_tree.specs.Reading.{NoFront, TakesByte, TakesOctet, TakesAll, TakesArray, IsShort}
 use Rattle.postcard_tree.specs.Spelling.{Spells}
-use Rattle.postcard_tree.specs.Once.{byte_once, array_once, bytes_count}
-use Rattle.postcard_tree.specs.Bounds.{OnlyTrees, array_trees, byte_trees}
+use Rattle.postcard_tree.specs.Once.{array_once, bytes_count}
+use Rattle.postcard_tree.specs.Bounds.{array_trees}
+use Rattle.postcard_tree.specs.Kinds.{octet_is_byte, octet_once, octet_trees}
 use Rattle.postcard_tree.specs.ReadingLaws.{ReadingLaws}
 
 -- the lowest k bytes of n, the lowest of them first
@@ -29,10 +30,6 @@ big_endian k n = reverse (little_endian k n)
 abbrev pub AreOctets : List ℕ → Type 0
 AreOctets [] = Unit {0}
 AreOctets (b ∷ bs) = (b < 256) × AreOctets bs
-
-abbrev pub TakesOctet : Tree → Type 0
-TakesOctet (byte b) = b < 256
-TakesOctet _ = ⊥
 
 -- a group of n bytes
 abbrev pub TakesFixed : ℕ → Tree → Type 0
@@ -57,7 +54,7 @@ length_little (suc k) n = omega (arith, length_little k (n / 256))
 pub length_big : (k n : ℕ) → length (big_endian k n) ≡ k
 length_big k n = length-reverse (little_endian k n) ∙ length_little k n
 
-octets_little : (k n : ℕ) → AreOctets (little_endian k n)
+pub octets_little : (k n : ℕ) → AreOctets (little_endian k n)
 octets_little zero n = tt
 octets_little (suc k) n = (omega arith, octets_little k (n / 256))
 
@@ -65,11 +62,11 @@ octets_append : (xs ys : List ℕ) → AreOctets xs → AreOctets ys → AreOcte
 octets_append [] ys h k = k
 octets_append (x ∷ xs) ys h k = (h.0, octets_append xs ys h.1 k)
 
-octets_reverse : (xs : List ℕ) → AreOctets xs → AreOctets (reverse xs)
+pub octets_reverse : (xs : List ℕ) → AreOctets xs → AreOctets (reverse xs)
 octets_reverse [] h = tt
 octets_reverse (x ∷ xs) h = subst AreOctets (sym (reverse-append (x ∷ []) xs)) (octets_append (reverse xs) (x ∷ []) (octets_reverse xs h.1) (h.0, tt))
 
-octets_big : (k n : ℕ) → AreOctets (big_endian k n)
+pub octets_big : (k n : ℕ) → AreOctets (big_endian k n)
 octets_big k n = octets_reverse (little_endian k n) (octets_little k n)
 
 little_once : (k m n : ℕ) → m < 256 ^ k → n < 256 ^ k → little_endian k m ≡ little_endian k n → m ≡ n
@@ -86,19 +83,9 @@ big_once k m n f g h = little_once k m n f g (sym (reverse-reverse (little_endia
 
 -- Groups of bytes
 
-octet_is_byte : (t : Tree) → TakesOctet t → TakesByte t
-octet_is_byte (byte b) h = tt
-octet_is_byte _ h = absurd h
-
 all_bytes : (ts : Trees) → TakesAll TakesOctet ts → TakesAll TakesByte ts
 all_bytes end h = tt
 all_bytes (part t ts) h = (octet_is_byte t h.0, all_bytes ts h.1)
-
-octet_once : EndsByItself TakesOctet
-octet_once t u a b x y p q r s e = byte_once t u a b x y (octet_is_byte t p) (octet_is_byte u q) r s e
-
-octet_trees : OnlyTrees TakesOctet
-octet_trees t h = byte_trees t (octet_is_byte t h)
 
 fixed_refused : (n : ℕ) (s : List ℕ) (e : Error) → IsShort n s e → NoFront (TakesFixed n) s
 unfolding Spells
@@ -115,7 +102,7 @@ take_octets : (bs : List ℕ) → AreOctets bs → TakesAll TakesOctet (bytes_of
 take_octets [] h = tt
 take_octets (b ∷ bs) h = (h.0, take_octets bs h.1)
 
-takes_group : (n : ℕ) (bs : List ℕ) → length bs ≡ n → AreOctets bs → TakesFixed n (group (bytes_of bs))
+pub takes_group : (n : ℕ) (bs : List ℕ) → length bs ≡ n → AreOctets bs → TakesFixed n (group (bytes_of bs))
 takes_group n bs h k = (take_octets bs k, count_bytes bs ∙ h)
 
 bytes_of_once : (bs cs : List ℕ) → bytes_of bs ≡ bytes_of cs → bs ≡ cs

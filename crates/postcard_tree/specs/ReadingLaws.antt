@@ -11,10 +11,10 @@ use Rattle.postcard_tree.specs.declared.error.Error.{Error}
 use Rattle.postcard_tree.specs.Number.{greatest_groups}
 use Rattle.postcard_tree.specs.Tree.{Tree, byte, number, character, sequence, group, Trees, end, part, zigzag, IsWidth}
 use Rattle.postcard_tree.specs.Alike.{AlikeLists, AlikeOptions, AlikeResults, AlikePairs, Respects, AlikeMaps}
-use Rattle.postcard_tree.specs.Reading.{EndsByItself, NoFront, TakesByte, ReadsByte, RefusesByte, TakesNumber, ReadsNumber, RefusesGroups, TakesOption, ReadsOption, RefusesOption, NoParts, PartThen, GroupOf, RefusesNoParts, RefusesPartThen, TakesPair, ReadsPair, RefusesPair, TakesNothing, ReadsAll, TakesSequence, ReadsSequence, RefusesSequence, ReadsBytes, RefusesBytes, TakesText, ReadsText, RefusesText, TakesArray, ReadsArray, RefusesEach, TakesBool, ReadsBool, RefusesBool, ReadsSigned, ReadsSignedByte, TakesCharacter, ReadsCharacter, RefusesCharacter, TakesVariant, ReadsVariant, RefusesVariant, TakesResult, ReadsResult, RefusesResult, ReadsMap, put_all, TakesUpTo, ReadsUpTo, RefusesUpTo, TakesTextUpTo, ReadsTextUpTo, RefusesTextUpTo}
+use Rattle.postcard_tree.specs.Reading.{EndsByItself, NoFront, TakesByte, ReadsByte, RefusesByte, TakesNumber, ReadsNumber, RefusesGroups, TakesOption, ReadsOption, RefusesOption, NoParts, PartThen, GroupOf, RefusesNoParts, RefusesPartThen, TakesPair, ReadsPair, RefusesPair, TakesNothing, ReadsAll, TakesSequence, ReadsSequence, RefusesSequence, ReadsBytes, RefusesBytes, TakesText, ReadsText, RefusesText, TakesArray, ReadsArray, RefusesEach, TakesBool, ReadsBool, RefusesBool, ReadsSigned, ReadsSignedByte, TakesOctet, TakesCharacter, ReadsCharacter, RefusesCharacter, TakesVariant, ReadsVariant, RefusesVariant, TakesResult, ReadsResult, RefusesResult, ReadsMap, put_all, TakesUpTo, ReadsUpTo, RefusesUpTo, TakesTextUpTo, ReadsTextUpTo, RefusesTextUpTo}
 use Rattle.postcard_tree.specs.Once.{reach, byte_once, byte_taken, byte_refused, numbers_once, numbers_taken, numbers_refused, option_once, option_taken, option_refused, EndTogether, NoFrontTogether, no_parts_once, part_once, part_refused, group_once, group_refused, sequence_once, sequence_taken, sequence_refused, bytes_refused, text_once, text_taken, text_refused, array_once, array_taken, array_refused}
 use Rattle.postcard_tree.specs.Bounds.{OnlyTrees, OnlyParts, no_parts_trees, part_trees, group_trees, byte_trees, number_trees, option_trees, sequence_trees, text_trees, array_trees}
-use Rattle.postcard_tree.specs.Kinds.{bool_once, bool_taken, bool_trees, bool_refused, signed_taken, signed_byte_taken, character_once, character_taken, character_trees, character_refused, variant_once, variant_taken, variant_trees, variant_refused, result_once, result_taken, result_trees, result_refused, upto_once, upto_taken, upto_trees, upto_refused, text_upto_once, text_upto_taken, text_upto_trees, text_upto_refused}
+use Rattle.postcard_tree.specs.Kinds.{bool_once, bool_taken, bool_trees, bool_refused, signed_taken, signed_byte_taken, octet_once, octet_trees, octet_refused, character_once, character_taken, character_trees, character_refused, variant_once, variant_taken, variant_trees, variant_refused, result_once, result_taken, result_trees, result_refused, upto_once, upto_taken, upto_trees, upto_refused, text_upto_once, text_upto_taken, text_upto_trees, text_upto_refused}
 
 -- of a type: the trees that it takes, what a tree is read as, the bytes that it refuses and how, and which values are alike
 pub record ReadingLaws {A : Type 0} (takes : Tree → Type 0) (reads : Tree → A → Type 0) (refuses : List ℕ → Error → Type 0) (alike : A → A → Type 0) : Type 0 where
@@ -112,8 +112,8 @@ signed_byte_value : (t : Tree) (v w : ℤ) → ReadsSignedByte t v → ReadsSign
 signed_byte_value (byte b) v w h k = sym (to_z-of_z w8 v h.1) ∙ ap (to_z w8) (sym h.0 ∙ k.0) ∙ to_z-of_z w8 w k.1
 signed_byte_value _ v w h k = absurd h
 
-pub signed_byte_laws : ReadingLaws TakesByte ReadsSignedByte RefusesByte (λ v w. v ≡ w)
-signed_byte_laws = record { taken = signed_byte_taken; trees = byte_trees; once = byte_once; refused = byte_refused; one_value = signed_byte_value }
+pub signed_byte_laws : ReadingLaws TakesOctet ReadsSignedByte RefusesByte (λ v w. v ≡ w)
+signed_byte_laws = record { taken = signed_byte_taken; trees = octet_trees; once = octet_once; refused = octet_refused; one_value = signed_byte_value }
 
 -- Groups of fields
 

@@ -1,6 +1,6 @@
 //! Truth values and integers.
 ghost use Rattle.std.specs.Prelude.{◌≡◌, false, refl};
-ghost use Rattle.postcard_tree.specs.Reading.{TakesByte, ReadsByte, RefusesByte, TakesNumber, ReadsNumber, RefusesGroups, TakesBool, ReadsBool, RefusesBool, ReadsSigned, ReadsSignedByte, IsShort};
+ghost use Rattle.postcard_tree.specs.Reading.{TakesByte, TakesOctet, ReadsByte, RefusesByte, TakesNumber, ReadsNumber, RefusesGroups, TakesBool, ReadsBool, RefusesBool, ReadsSigned, ReadsSignedByte, IsShort};
 ghost use Rattle.postcard_tree.specs.Fixed.{little_endian, big_endian, TakesFixed, ReadsFixed, little_laws, big_laws};
 ghost use Rattle.postcard_tree.specs.Bounds.{width_16, width_32, width_64, width_128};
 ghost use Rattle.postcard_tree.specs.ReadingLaws.{seen_as, byte_laws, number_laws, signed_laws, signed_byte_laws, bool_laws};
@@ -45,7 +45,7 @@ impl Readable for u8 {
 }
 
 impl Readable for i8 {
-    ghost takes = { TakesByte };
+    ghost takes = { TakesOctet };
 
     ghost reads = { ReadsSignedByte };
 
