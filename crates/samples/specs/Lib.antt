@@ -1,3 +1,4 @@
 pub mod Views
 pub mod BasicEnum
 pub mod DataEnum
+pub mod Chain

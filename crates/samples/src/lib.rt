@@ -3,8 +3,10 @@
 //! calls, and so can be sent, read and compared like the types of the library.
 #![tactic(auto)]
 
+mod chain;
 mod enums;
 mod structs;
 
+pub use chain::Chain;
 pub use enums::{BasicEnum, DataEnum};
 pub use structs::{EnumStruct, NewTypeStruct, RefStruct, TupleStruct};
