@@ -2,8 +2,10 @@
 //! differs with what was answered, and then how many lines passed and failed.
 #![tactic(auto)]
 
+mod decoding;
 mod encoding;
 mod findings;
+mod streams;
 mod words;
 
 use crate::findings::Findings;
@@ -19,6 +21,8 @@ fn replay(alloc: Global, line: &str, findings: &mut Findings) -> Result<(), Trou
     match words.next()? {
         "cobs_encode" => encoding::replay_encode(alloc, words, findings),
         "cobs_sentinel" => encoding::replay_sentinel(alloc, words, findings),
+        "cobs_in_place" => decoding::replay_in_place(alloc, words, findings),
+        "cobs_stream" => streams::replay_stream(alloc, words, findings),
         _ => Err(Trouble::Unreadable),
     }
 }
