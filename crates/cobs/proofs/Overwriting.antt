@@ -1,6 +1,6 @@
 -- A message that is written over a buffer byte by byte.
 use Rattle.std.proofs.Common.{◌≡◌, ℕ, ◌+◌, ◌-◌, ◌<◌, ◌≤◌, List, [], ◌∷◌, ◌++◌, length, take, drop, set, get_or, Option, Some, None, inl, inr, refl, ap, sym, ◌∙◌, arith, append_assoc, length-append, length-take, length-drop}
-use Rattle.std.proofs.lemmas.List.{append-nil, length_push, take_all, drop_all, drop_more, set_at, set_past, take-append-le, get_or-append_right, get_or-drop}
+use Rattle.std.proofs.lemmas.List.{append-nil, length_push, take_all, drop_all, drop_more, set_at, set_past, take-append-le, get_or-append_right, get_or-drop, take_at, drop_at, drop-drop}
 use Rattle.std.proofs.lemmas.Bool.{cases_lt}
 use Rattle.cobs.specs.Frames.{part}
 use Rattle.cobs.specs.Feeding.{told_by, fed, standing, placed, stored}
@@ -49,3 +49,20 @@ behind message buffer i l w =
     ∙ get_or-append_right message (drop (length message) buffer) (length message) i 0 refl l
     ∙ get_or-drop (length message) buffer (i - length message) 0
     ∙ ap (λ n. get_or buffer n 0) (omega (arith, l))
+
+-- the message
+pub front : (buffer message : List ℕ) (len : ℕ) → len ≡ length message → len ≤ length buffer → take len (overwritten message buffer) ≡ message
+front buffer message len e l =
+    ap (take len) (overwritten_short message buffer (omega (arith, e, l))) ∙ take_at message (drop (length message) buffer) len (sym e)
+
+-- what is behind bytes that are no shorter
+pub rest : (buffer message : List ℕ) (n : ℕ) → length message ≤ n → n ≤ length buffer → drop n (overwritten message buffer) ≡ drop n buffer
+rest buffer message n l w =
+    let back : length message + (n - length message) ≡ n = omega (arith, l) in
+    let split = message ++ drop (length message) buffer in
+    ap (drop n) (overwritten_short message buffer (omega (arith, l, w)))
+    ∙ ap (λ k. drop k split) (sym back)
+    ∙ sym (drop-drop (n - length message) (length message) split)
+    ∙ ap (drop (n - length message)) (drop_at message (drop (length message) buffer) (length message) refl)
+    ∙ drop-drop (n - length message) (length message) buffer
+    ∙ ap (λ k. drop k buffer) back

@@ -169,7 +169,10 @@ fn take_in(state: &mut DecoderState, dest: &mut [u8], len: usize, byte: u8) -> u
 /// stands in front.
 pub fn decode_in_place_report(buf: &mut [u8]) -> DecodingResult
     ensures answer { result ≡ in_place (stretch buf.old) }
+    ensures frame { IfOk result (λ r. stretch buf.old ≢ [] → Frame (stretch buf.old) (take (frame_size r) buf.new)) }
+    ensures no_frame { OnErr result ((m : List ℕ) → Frame (stretch buf.old) m → ⊥) }
     ensures buffer { buf.new ≡ overwritten (part (stretch buf.old)) buf.old }
+    ensures rest { drop (length (stretch buf.old)) buf.new ≡ drop (length (stretch buf.old)) buf.old }
 {
     let mut state = DecoderState::Idle;
     let mut read: usize = 0;
@@ -193,7 +196,10 @@ pub fn decode_in_place_report(buf: &mut [u8]) -> DecodingResult
 /// As `decode_in_place_report`, with the length of the message alone.
 pub fn decode_in_place(buf: &mut [u8]) -> Result<usize, DecodeError>
     ensures answer { result ≡ in_place_length (stretch buf.old) }
+    ensures frame { IfOk result (λ n. stretch buf.old ≢ [] → Frame (stretch buf.old) (take n buf.new)) }
+    ensures no_frame { OnErr result ((m : List ℕ) → Frame (stretch buf.old) m → ⊥) }
     ensures buffer { buf.new ≡ overwritten (part (stretch buf.old)) buf.old }
+    ensures rest { drop (length (stretch buf.old)) buf.new ≡ drop (length (stretch buf.old)) buf.old }
 {
     decode_in_place_report(buf).map(|report| report.frame_size())
 }
@@ -203,10 +209,24 @@ pub fn decode_in_place(buf: &mut [u8]) -> Result<usize, DecodeError>
 /// Bytes behind the first sentinel are left XORed.
 pub fn decode_in_place_with_sentinel(buf: &mut [u8], sentinel: u8) -> Result<usize, DecodeError>
     ensures answer { result ≡ in_place_length (stretch (masked sentinel buf.old)) }
+    ensures frame { let p = stretch (masked sentinel buf.old) in IfOk result (λ n. p ≢ [] → Frame p (take n buf.new)) }
+    ensures no_frame { OnErr result ((m : List ℕ) → Frame (stretch (masked sentinel buf.old)) m → ⊥) }
     ensures buffer { buf.new ≡ overwritten (part (stretch (masked sentinel buf.old))) (masked sentinel buf.old) }
+    ensures rest { let n = length (stretch (masked sentinel buf.old)) in drop n buf.new ≡ drop n (masked sentinel buf.old) }
 {
     mask(buf, sentinel);
     decode_in_place(buf)
+}
+
+/// Why decoding into a vector of its own failed.
+#[derive(Clone, Copy, PartialEq, Eq, Debug, Error)]
+pub enum DecodeVecError {
+    /// The bytes were refused.
+    #[error(transparent)]
+    Decode(DecodeError),
+    /// No memory was found.
+    #[error("no memory")]
+    OutOfMemory,
 }
 
 // How far a frame was taken in: how many bytes of its message stand in the buffer, and whether some had no room.
@@ -362,6 +382,164 @@ impl<'a> CobsDecoder<'a> {
         ensures { result.now ≡ buffer_of self.now }
     {
         self.dest
+    }
+
+    /// The buffer, to be written.
+    pub fn dest_mut(&mut self) -> &mut [u8]
+        ensures { result.now ≡ buffer_of self.old }
+    {
+        self.dest
+    }
+}
+
+/// Decodes frames that come byte by byte, into a buffer of its own.
+#[derive(Drop)]
+pub struct CobsDecoderOwned {
+    buffer: Vec<u8>,
+    progress: Progress,
+}
+
+impl CobsDecoderOwned {
+    ghost use Rattle.cobs.specs.Feeding.{answer_of, frame_after};
+    ghost use Rattle.cobs.specs.Owners.{OwnedHas, owned_buffer, LendsOwnedBuffer};
+    ghost use Rattle.cobs.specs.Pieces.{first_answer, frame_left, buffer_left};
+
+    /// An idle decoder over a buffer of `size` zeros.
+    pub fn new(alloc: Global, size: usize) -> Result<CobsDecoderOwned, AllocError>
+        ensures idle { IfOk result (λ d. OwnedHas d []) }
+        ensures buffer { IfOk result (λ d. owned_buffer d ≡ replicate size 0) }
+    {
+        Ok(CobsDecoderOwned {
+            buffer: vec![in alloc; 0; size]?,
+            progress: Progress::new(),
+        })
+    }
+
+    /// Takes in a byte. At the zero of a whole frame, the length of its message, which then stands in front of the buffer.
+    pub fn feed(&mut self, data: u8) -> Result<Option<usize>, DecodeError>
+        ensures has { (p : List ℕ) → OwnedHas self.old p → OwnedHas self.new (frame_after p «data») }
+        ensures answer { (p : List ℕ) → OwnedHas self.old p → result ≡ answer_of (length (owned_buffer self.old)) p «data» }
+        ensures buffer { (p : List ℕ) → OwnedHas self.old p → owned_buffer self.new ≡ placed p «data» (owned_buffer self.old) }
+        ensures within { IfOk result (λ o. IfSome o (λ n. n ≤ length (owned_buffer self.new))) }
+        ensures room { length (owned_buffer self.new) ≡ length (owned_buffer self.old) }
+    {
+        self.progress.feed(self.buffer.as_mut_slice(), data)
+    }
+
+    /// Takes in bytes until the first answer.
+    pub fn push(&mut self, data: &[u8]) -> Result<Option<DecodeReport>, DecodeError>
+        ensures has { (p : List ℕ) → OwnedHas self.old p → OwnedHas self.new (frame_left (length (owned_buffer self.old)) p «data».now) }
+        ensures answer { (p : List ℕ) → OwnedHas self.old p → result ≡ first_answer (length (owned_buffer self.old)) p «data».now 0 }
+        ensures buffer { (p : List ℕ) → OwnedHas self.old p → owned_buffer self.new ≡ buffer_left (length (owned_buffer self.old)) p «data».now (owned_buffer self.old) }
+        ensures within { IfOk result (λ o. IfSome o (λ r. (parsed_size r ≤ length «data».now) × (frame_size r ≤ length (owned_buffer self.new)))) }
+        ensures room { length (owned_buffer self.new) ≡ length (owned_buffer self.old) }
+    {
+        self.progress.push(self.buffer.as_mut_slice(), data)
+    }
+
+    /// Makes the decoder idle. What was taken in of a frame is forgotten.
+    pub fn reset(&mut self)
+        ensures idle { OwnedHas self.new [] }
+        ensures buffer { owned_buffer self.new ≡ owned_buffer self.old }
+    {
+        self.progress = Progress::new();
+    }
+
+    /// The buffer.
+    pub fn dest(&self) -> &[u8]
+        ensures { result.now ≡ owned_buffer self.now }
+    {
+        self.buffer.as_slice()
+    }
+
+    /// The buffer, to be written. The decoder goes on in its frame: what is written over bytes that were decoded stands in their place.
+    pub fn dest_mut(&mut self) -> &mut [u8]
+        ensures* lends { sem 𝓛 (LendsOwnedBuffer self.entry result) }
+        ensures value { result.now ≡ owned_buffer self.old }
+    {
+        self.buffer.as_mut_slice()
+    }
+}
+
+/// Decodes frames that come byte by byte, into a buffer of N bytes of its own.
+#[derive(Drop)]
+pub struct CobsDecoderHeapless<const N: usize> {
+    buffer: ArrayVec<u8, N>,
+    progress: Progress,
+}
+
+impl<const N: usize> CobsDecoderHeapless<N> {
+    ghost use Rattle.cobs.specs.Feeding.{answer_of, frame_after};
+    ghost use Rattle.cobs.specs.Arrays.{ArrayHas, array_buffer, LendsArrayBuffer};
+    ghost use Rattle.cobs.specs.Pieces.{first_answer, frame_left, buffer_left};
+
+    /// An idle decoder over a buffer of zeros.
+    pub fn new() -> CobsDecoderHeapless<N>
+        ensures idle { ArrayHas result [] }
+        ensures buffer { array_buffer result ≡ replicate N 0 }
+    {
+        CobsDecoderHeapless::new_with_vec(ArrayVec::new())
+    }
+
+    /// An idle decoder, whose buffer has the vector's bytes, and then zeros.
+    pub fn new_with_vec(vec: ArrayVec<u8, N>) -> CobsDecoderHeapless<N>
+        ensures idle { ArrayHas result [] }
+        ensures buffer { array_buffer result ≡ vec.entry.items ++ replicate (N - length vec.entry.items) 0 }
+        ensures room { length (array_buffer result) ≡ N }
+    {
+        let mut buffer = vec;
+        while !buffer.is_full() {
+            buffer.push(0);
+        }
+        CobsDecoderHeapless {
+            buffer,
+            progress: Progress::new(),
+        }
+    }
+
+    /// Takes in a byte. At the zero of a whole frame, the length of its message, which then stands in front of the buffer.
+    pub fn feed(&mut self, data: u8) -> Result<Option<usize>, DecodeError>
+        ensures has { (p : List ℕ) → ArrayHas self.old p → ArrayHas self.new (frame_after p «data») }
+        ensures answer { (p : List ℕ) → ArrayHas self.old p → result ≡ answer_of (length (array_buffer self.old)) p «data» }
+        ensures buffer { (p : List ℕ) → ArrayHas self.old p → array_buffer self.new ≡ placed p «data» (array_buffer self.old) }
+        ensures within { IfOk result (λ o. IfSome o (λ n. n ≤ length (array_buffer self.new))) }
+        ensures room { length (array_buffer self.new) ≡ length (array_buffer self.old) }
+    {
+        self.progress.feed(self.buffer.as_mut_slice(), data)
+    }
+
+    /// Takes in bytes until the first answer.
+    pub fn push(&mut self, data: &[u8]) -> Result<Option<DecodeReport>, DecodeError>
+        ensures has { (p : List ℕ) → ArrayHas self.old p → ArrayHas self.new (frame_left (length (array_buffer self.old)) p «data».now) }
+        ensures answer { (p : List ℕ) → ArrayHas self.old p → result ≡ first_answer (length (array_buffer self.old)) p «data».now 0 }
+        ensures buffer { (p : List ℕ) → ArrayHas self.old p → array_buffer self.new ≡ buffer_left (length (array_buffer self.old)) p «data».now (array_buffer self.old) }
+        ensures within { IfOk result (λ o. IfSome o (λ r. (parsed_size r ≤ length «data».now) × (frame_size r ≤ length (array_buffer self.new)))) }
+        ensures room { length (array_buffer self.new) ≡ length (array_buffer self.old) }
+    {
+        self.progress.push(self.buffer.as_mut_slice(), data)
+    }
+
+    /// Makes the decoder idle. What was taken in of a frame is forgotten.
+    pub fn reset(&mut self)
+        ensures idle { ArrayHas self.new [] }
+        ensures buffer { array_buffer self.new ≡ array_buffer self.old }
+    {
+        self.progress = Progress::new();
+    }
+
+    /// The buffer.
+    pub fn dest(&self) -> &[u8]
+        ensures { result.now ≡ array_buffer self.now }
+    {
+        self.buffer.as_slice()
+    }
+
+    /// The buffer, to be written. The decoder goes on in its frame: what is written over bytes that were decoded stands in their place.
+    pub fn dest_mut(&mut self) -> &mut [u8]
+        ensures* lends { sem 𝓛 (LendsArrayBuffer N.row self.entry result) }
+        ensures value { result.now ≡ array_buffer self.old }
+    {
+        self.buffer.as_mut_slice()
     }
 }
 

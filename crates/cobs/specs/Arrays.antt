@@ -1,0 +1,25 @@
+-- What the decoders that hold an array keep.
+use Rattle.std.specs.Prelude.{List, ℕ, length}
+use Rattle.std.specs.Borrow.{Lends, MutBor, Fml, RattleType, u8, Array}
+use Rattle.arrayvec.specs.ArrayVec.{with_items}
+use Rattle.cobs.specs.Streaming.{Stands}
+use Rattle.cobs.specs.declared.dec.CobsDecoderHeapless.{CobsDecoderHeapless}
+use Rattle.cobs.specs.contracts.dec.CobsDecoderHeapless.{the_row}
+
+module _ {N : ℕ} where
+  -- the buffer
+  abbrev pub array_buffer : CobsDecoderHeapless N → List ℕ
+  array_buffer d = d.buffer.items
+
+  -- The bytes of this frame so far were taken in.
+  abbrev pub ArrayHas : CobsDecoderHeapless N → List ℕ → Type 0
+  ArrayHas d bytes = Stands (length (array_buffer d)) d.progress bytes
+
+  -- the same decoder with this in its buffer
+  abbrev pub with_array_buffer : CobsDecoderHeapless N → List ℕ → CobsDecoderHeapless N
+  with_array_buffer d bytes = record d { buffer = with_items d.buffer bytes }
+
+-- The buffer is lent: it ends as what is left behind the result, and nothing else changes.
+module _ (N : RattleType) (d : MutBor (the_row N).Denot) where
+  abbrev pub LendsArrayBuffer : MutBor (List ℕ) → Fml
+  LendsArrayBuffer r = Lends (the_row N) (Array u8 0) d r (with_array_buffer d.now)
