@@ -9,9 +9,11 @@ use Rattle.std.specs.Str.{IsUtf8}
 use Rattle.std.proofs.lemmas.Int.{of_z-to_z}
 use mir.ValLaws.{of_z_fits, to_z-Fits}
 use Rattle.postcard_tree.specs.Tree.{Tree, Trees, byte, number, character, sequence, group, end, part, count_of, bytes_of, text_of, zigzag}
-use Rattle.postcard_tree.specs.Reading.{TakesBool, ReadsBool, TakesOctet, ReadsSignedByte, TakesNumber, ReadsSigned, TakesByte, ReadsByte, TakesAll, ReadsAll, TakesSequence, ReadsBytes, TakesText, ReadsText, TakesTextUpTo, ReadsTextUpTo, HasUpTo}
+use Rattle.postcard_tree.specs.Reading.{TakesBool, ReadsBool, TakesOctet, ReadsSignedByte, TakesNumber, ReadsSigned, TakesByte, ReadsByte, TakesAll, ReadsAll, TakesSequence, ReadsBytes, TakesText, ReadsText, TakesTextUpTo, ReadsTextUpTo, HasUpTo, TakesUpTo, ReadsUpTo}
+use Rattle.postcard_tree.specs.Alike.{AlikeLists}
+use Rattle.postcard_tree.specs.Kinds.{all_counted}
 use Rattle.postcard_tree.specs.Fixed.{FixedLaws, TakesFixed, ReadsFixed, little_endian, big_endian, AreOctets, count_bytes, length_little, length_big, octets_little, octets_big, octets_reverse, takes_group}
-use Rattle.postcard_tree.specs.Table.{IsReadAs}
+use Rattle.postcard_tree.specs.Table.{IsReadAs, IsReadByParts}
 
 -- Truth values and signed bytes
 
@@ -255,3 +257,30 @@ text_upto_one n t = (
 pub text_upto_table : {A : Type 0} (n : ℕ) (view : A → List ℕ)
     → IsReadAs (TakesTextUpTo n) (λ t v. ReadsTextUpTo n t (view v)) (λ v w. view v ≡ view w) false view (λ s. IsUtf8 s × (length s < 2 ^ 64) × (length s ≤ n)) text_of false
 text_upto_table n view = record { read = λ t v. text_upto_read n t (view v); takes_one = text_upto_one n; same = λ v w. ((λ h. h), (λ h. h)); asks = refl }
+
+-- Sequences of at most n parts
+
+upto_taken_so : (n : ℕ) (P : Tree → Type 0) (t : Tree) → TakesUpTo n P t ↔ ((ts : Trees) × (t ≡ sequence ts) × (count_of ts < 2 ^ 64) × (count_of ts ≤ n) × TakesAll P ts)
+upto_taken_so n P (sequence ts) = ((λ h. (ts, refl, h.0.0, h.1, h.0.1)), (λ h. subst (TakesUpTo n P) (sym h.1) ((h.2, h.4), h.3)))
+upto_taken_so n P (byte b) = ((λ h. absurd h.1), (λ h. cc (h.1)))
+upto_taken_so n P (number b m) = ((λ h. absurd h.1), (λ h. cc (h.1)))
+upto_taken_so n P (character c) = ((λ h. absurd h.1), (λ h. cc (h.1)))
+upto_taken_so n P (group ts) = ((λ h. absurd h.1), (λ h. cc (h.1)))
+
+upto_read_so : {A : Type 0} (n : ℕ) (R : Tree → A → Type 0) (t : Tree) (v : List A)
+    → ReadsUpTo n R t v ↔ ((ts : Trees) × (t ≡ sequence ts) × (count_of ts < 2 ^ 64) × (count_of ts ≤ n) × ReadsAll R ts v)
+upto_read_so n R (sequence ts) v = (
+  (λ h. (ts, refl, h.0.0, subst (λ z. z ≤ n) (sym (all_counted R ts v h.0.1)) h.1, h.0.1)),
+  (λ h. subst (λ z. ReadsUpTo n R z v) (sym h.1) ((h.2, h.4), subst (λ z. z ≤ n) (all_counted R h.0 v h.4) h.3)),
+)
+upto_read_so n R (byte b) v = ((λ h. absurd h.0), (λ h. cc (h.1)))
+upto_read_so n R (number b m) v = ((λ h. absurd h.0), (λ h. cc (h.1)))
+upto_read_so n R (character c) v = ((λ h. absurd h.0), (λ h. cc (h.1)))
+upto_read_so n R (group ts) v = ((λ h. absurd h.0), (λ h. cc (h.1)))
+
+pub upto_table : {A B : Type 0} (n : ℕ) (P : Tree → Type 0) (R : Tree → B → Type 0) (L : B → B → Type 0) (grows : Bool) (view : A → List B)
+    → IsReadByParts (TakesUpTo n P) (λ t v. ReadsUpTo n R t (view v)) (λ v w. AlikeLists L (view v) (view w)) grows
+    (λ t. (ts : Trees) × (t ≡ sequence ts) × (count_of ts < 2 ^ 64) × (count_of ts ≤ n) × TakesAll P ts)
+    (λ t v. (ts : Trees) × (t ≡ sequence ts) × (count_of ts < 2 ^ 64) × (count_of ts ≤ n) × ReadsAll R ts (view v))
+    (λ v w. AlikeLists L (view v) (view w)) grows
+upto_table n P R L grows view = record { read = λ t v. upto_read_so n R t (view v); taken = upto_taken_so n P; same = λ v w. ((λ h. h), (λ h. h)); asks = refl }

@@ -10,3 +10,12 @@ pub record IsReadAs {A B : Type 0} (takes : Tree → Type 0) (reads : Tree → A
   pub takes_one : (t : Tree) → takes t ↔ ((w : B) × (t ≡ tree w) × in_range w)
   pub same : (v w : A) → alike v w ↔ (view v ≡ view w)
   pub asks : growing ≡ grows
+
+-- The same of a type whose trees are made of those of its parts: which trees it takes, and from which trees it reads a
+-- value, which values are alike, and whether reading asks for memory.
+pub record IsReadByParts {A : Type 0} (takes : Tree → Type 0) (reads : Tree → A → Type 0) (alike : A → A → Type 0) (growing : Bool)
+    (takes_so : Tree → Type 0) (reads_so : Tree → A → Type 0) (alike_so : A → A → Type 0) (grows : Bool) : Type 0 where
+  pub read : (t : Tree) (v : A) → reads t v ↔ reads_so t v
+  pub taken : (t : Tree) → takes t ↔ takes_so t
+  pub same : (v w : A) → alike v w ↔ alike_so v w
+  pub asks : growing ≡ grows
