@@ -38,7 +38,7 @@ EndsWithItsBlock = (frame message : List ℕ) → Frame frame message → missin
 abbrev pub IsFrameAtBlockEnd : Type 0
 IsFrameAtBlockEnd = (bytes : List ℕ) → AllByRecursion (λ b. (0 < b) × (b < 256)) bytes → bytes ≢ [] → missing bytes ≡ 0 → Frame bytes (part bytes)
 
--- What bytes decide is shorter than they are.
+-- What bytes decide of a message is shorter than they are.
 abbrev pub DecidesLess : Type 0
 DecidesLess = (bytes : List ℕ) → length (part bytes) ≤ length bytes - 1
 
@@ -50,11 +50,11 @@ HoldsNoZero = (frame message : List ℕ) → Frame frame message → NoZero fram
 abbrev pub HoldsNoSentinel : Type 0
 HoldsNoSentinel = (sentinel : ℕ) (frame message : List ℕ) → Frame frame message → AllByRecursion (λ b. b ≢ sentinel) (masked sentinel frame)
 
--- The shortest frame has one byte more than its message at least, and so many at most.
+-- The shortest frame is longer than its message, and no longer than `most_length` says.
 abbrev pub IsWithinLengths : Type 0
 IsWithinLengths = (message : List ℕ) → (length message + 1 ≤ length (shortest_frame message)) × (length (shortest_frame message) ≤ most_length (length message))
 
--- Without a zero in the message it has so many.
+-- Where the message has no zero, it is as long as that.
 abbrev pub ReachesMostLength : Type 0
 ReachesMostLength = (message : List ℕ) → NoZero message → length (shortest_frame message) ≡ most_length (length message)
 
