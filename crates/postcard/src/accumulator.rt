@@ -4,7 +4,10 @@ ghost use Rattle.std.specs.Borrow.{sem};
 ghost use Rattle.cobs.specs.Frames.{Frame};
 ghost use Rattle.cobs.specs.InPlace.{stretch};
 
+use crate::de::{from_bytes, from_bytes_owned};
 use crate::frames::unframe;
+use postcard_de::{Deserialize, DeserializeOwned};
+use std::alloc::Global;
 
 /// What feeding an accumulator answers.
 #[derive(Drop)]
@@ -70,6 +73,7 @@ impl<const N: usize> CobsAccumulator<N> {
     ghost use denote.Follow.{follows_so};
     ghost use Rattle.postcard.specs.Gathers.{held_of, Gathers, IsWithin};
     ghost use Rattle.postcard.specs.Advances.{Advances};
+    ghost use Rattle.postcard.specs.Feeds.{Fed};
 
     /// Holds nothing.
     pub fn new() -> Self
@@ -136,6 +140,74 @@ impl<const N: usize> CobsAccumulator<N> {
                 remaining: &input[used..],
             },
         }
+    }
+
+    /// Takes bytes until a frame ends, and reads the value of its message.
+    ///
+    /// By the first zero of the input:
+    ///
+    /// | Where | It fits, with what is held | Answer | Rest |
+    /// |---|---|---|---|
+    /// | at place n | with the zero | `Success`, or `DeserError` | behind the zero |
+    /// | at place n | it doesn't | `OverFull` | behind the zero |
+    /// | there is none | all of the input | `Consumed` | nothing |
+    /// | there is none | it doesn't | `OverFull` | behind as many bytes as fit |
+    ///
+    /// What is held afterwards is nothing, but after `Consumed` also the input. `DeserError` says that the bytes aren't
+    /// a frame, or that no front of its message is a value, or that no memory was found for one. Feed the rest again,
+    /// until it is empty or `Consumed` comes.
+    pub fn feed<'a, T: DeserializeOwned>(
+        &mut self,
+        alloc: Global,
+        input: &'a [u8],
+    ) -> FeedResult<'a, T>
+        ensures { Fed T.takes T.reads T.growing N (held_of self.old) input.now result (held_of self.new) }
+    {
+        cobs::laws::message_of_a_frame();
+        match self.gather(input) {
+            Gathered::Kept => FeedResult::Consumed,
+            Gathered::Full(used) => FeedResult::OverFull(&input[used..]),
+            Gathered::Broken(used) => FeedResult::DeserError(&input[used..]),
+            Gathered::Whole { size, used } => match from_bytes_owned(alloc, &self.buf[..size]) {
+                Ok(value) => FeedResult::Success {
+                    value,
+                    remaining: &input[used..],
+                },
+                Err(_) => FeedResult::DeserError(&input[used..]),
+            },
+        }
+    }
+
+    /// As `feed`, of a value that may borrow from the accumulator.
+    ///
+    /// `advance` says what is held afterwards.
+    pub fn feed_ref<'de, 'a, T: Deserialize<&'de [u8]>>(
+        &'de mut self,
+        alloc: Global,
+        input: &'a [u8],
+    ) -> FeedResult<'a, T>
+        ensures { (kept : List ℕ) × Fed T.takes T.reads T.growing N (held_of self.entry.now) input.now result kept }
+    {
+        cobs::laws::message_of_a_frame();
+        match self.advance(input) {
+            Advanced::Consumed => FeedResult::Consumed,
+            Advanced::OverFull(rest) => FeedResult::OverFull(rest),
+            Advanced::Damaged(rest) => FeedResult::DeserError(rest),
+            Advanced::Message { message, remaining } => match from_bytes(alloc, message) {
+                Ok(value) => FeedResult::Success { value, remaining },
+                Err(_) => FeedResult::DeserError(remaining),
+            },
+        }
+    }
+}
+
+impl<const N: usize> Default for CobsAccumulator<N> {
+    ghost use Rattle.postcard.specs.Gathers.{held_of};
+
+    ghost is_default = { λ s. held_of s ≡ [] };
+
+    fn default() -> Self {
+        CobsAccumulator::new()
     }
 }
 
