@@ -5,7 +5,9 @@
 mod decoding;
 mod encoding;
 mod findings;
+mod sizes;
 mod streams;
+mod values;
 mod words;
 
 use crate::findings::Findings;
@@ -23,6 +25,7 @@ fn replay(alloc: Global, line: &str, findings: &mut Findings) -> Result<(), Trou
         "cobs_sentinel" => encoding::replay_sentinel(alloc, words, findings),
         "cobs_in_place" => decoding::replay_in_place(alloc, words, findings),
         "cobs_stream" => streams::replay_stream(alloc, words, findings),
+        "max_size" => sizes::replay_size(alloc, words, findings),
         _ => Err(Trouble::Unreadable),
     }
 }
