@@ -89,6 +89,7 @@ impl<T: FixInt> LE<T> {
     /// Writes the bytes of the number into the front of a buffer.
     pub fn put<'a>(&self, buffer: &'a mut [u8; 16]) -> &'a mut [u8]
         ensures bytes { result.now ≡ little_endian T.size (T.bits self.now.0) }
+        ensures sized { length result.now ≡ T.size }
         ensures in_range { T.in_range self.now.0 }
     {
         let front = &mut buffer[..T::size()];
@@ -110,6 +111,7 @@ impl<T: FixInt> BE<T> {
     /// Writes the bytes of the number into the front of a buffer.
     pub fn put<'a>(&self, buffer: &'a mut [u8; 16]) -> &'a mut [u8]
         ensures bytes { result.now ≡ big_endian T.size (T.bits self.now.0) }
+        ensures sized { length result.now ≡ T.size }
         ensures in_range { T.in_range self.now.0 }
     {
         let front = &mut buffer[..T::size()];
