@@ -1,0 +1,131 @@
+ghost use Rattle.std.specs.Prelude.{◌≡◌, ℕ, ◌<◌, ◌≤◌, List};
+ghost use Rattle.framed.specs.Devices.{Writing, Reading, whole};
+ghost use Rattle.framed.specs.Program.{Finishes, Fails, LacksMemory};
+ghost use Rattle.framed.specs.Working.{Worked, AsRead, whole_text, SaysLast, Reports};
+
+use crate::arguments::Mode;
+use crate::devices::{End, read_whole, write_whole};
+use crate::pack::pack;
+use crate::stop::Stop;
+use crate::unpack::{unpack, unpack_hex};
+use line_io::{Inlet, Outlet};
+use std::alloc::Global;
+
+/// What a run leaves.
+#[derive(Drop)]
+pub struct Ran<R, W, E> {
+    /// The status that the program ends with, from 0 to 4.
+    pub status: u8,
+    /// The reader, after this run's reads.
+    pub reader: R,
+    /// The writer, after this run's writes.
+    pub writer: W,
+    /// Standard error, after what this run said.
+    pub faults: E,
+}
+
+/// Does the work of the program.
+pub fn run<R: Inlet, W: Outlet, E: Outlet>(
+    alloc: Global,
+    mode: Mode,
+    hex: bool,
+    mut reader: R,
+    mut writer: W,
+    mut faults: E,
+) -> Ran<R, W, E>
+    // The text was read to its end, and all that the program writes and says for it went out.
+    ensures finished { result.status < 3 → Finishes mode hex result.status
+        (Reading R.to_come R.faults R.calls_left reader result.reader)
+        (Writing W.written W.faults W.calls_left writer result.writer)
+        (Writing E.written E.faults E.calls_left faults result.faults) }
+
+    // A device failed.
+    ensures failed { result.status ≡ 3 → Fails mode hex
+        (Reading R.to_come R.faults R.calls_left reader result.reader)
+        (Writing W.written W.faults W.calls_left writer result.writer)
+        (Writing E.written E.faults E.calls_left faults result.faults) }
+
+    // Memory ran out, and no device failed.
+    ensures memory { result.status ≡ 4 → LacksMemory mode hex
+        (Reading R.to_come R.faults R.calls_left reader result.reader)
+        (Writing W.written W.faults W.calls_left writer result.writer)
+        (Writing E.written E.faults E.calls_left faults result.faults whole) }
+
+    ensures range { result.status ≤ 4 }
+{
+    let mut text = Vec::new(alloc);
+    let end = read_whole(&mut reader, &mut text);
+    let worked = work(alloc, mode, hex, end, &text, &mut writer, &mut faults);
+    let status = report(&mut faults, worked);
+    Ran {
+        status,
+        reader,
+        writer,
+        faults,
+    }
+}
+
+/// Does the work on what was read.
+fn work<W: Outlet, E: Outlet>(
+    alloc: Global,
+    mode: Mode,
+    hex: bool,
+    end: End,
+    text: &[u8],
+    writer: &mut W,
+    faults: &mut E,
+) -> Result<u8, Stop>
+    ensures { (lost : List ℕ) → Worked mode hex (AsRead end text.now lost)
+        (Writing W.written W.faults W.calls_left writer.old writer.new)
+        (Writing E.written E.faults E.calls_left faults.old faults.new) result }
+{
+    match (mode, hex) {
+        (Mode::Unpack, false) => unpack(end, text, writer),
+        (Mode::Unpack, true) => {
+            if let Err(stop) = need_whole(end) {
+                return Err(stop);
+            }
+            unpack_hex(alloc, text, writer, faults)
+        }
+        (Mode::Pack, hex) => {
+            if let Err(stop) = need_whole(end) {
+                return Err(stop);
+            }
+            pack(alloc, hex, text, writer, faults)
+        }
+    }
+}
+
+/// Goes on only where all of the text is there.
+fn need_whole(end: End) -> Result<(), Stop>
+    ensures { result ≡ whole_text end }
+{
+    match end {
+        End::Ended => Ok(()),
+        End::ReadFault => Err(Stop::ReadFault),
+        End::NoMemory => Err(Stop::NoMemory),
+    }
+}
+
+/// Says why the work ended early, and gives the status.
+fn report<E: Outlet>(faults: &mut E, worked: Result<u8, Stop>) -> u8
+    ensures { Reports faults.old faults.new (Writing E.written E.faults E.calls_left faults.old faults.new) worked result }
+{
+    match worked {
+        Ok(status) => status,
+        Err(Stop::ReadFault) => say_last(faults, b"read failed\n", 3),
+        Err(Stop::WriteFault) => say_last(faults, b"write failed\n", 3),
+        Err(Stop::SayingFault) => 3,
+        Err(Stop::NoMemory) => say_last(faults, b"no memory\n", 4),
+    }
+}
+
+/// Says the last line, and gives the status.
+fn say_last<E: Outlet>(faults: &mut E, line: &[u8], status: u8) -> u8
+    ensures { SaysLast (Writing E.written E.faults E.calls_left faults.old faults.new) line.now status result }
+{
+    match write_whole(faults, line) {
+        Ok(()) => status,
+        Err(_) => 3,
+    }
+}
