@@ -12,7 +12,7 @@ pub overwritten_short : (message buffer : List ℕ) → length message ≤ lengt
 overwritten_short message buffer l = ap (λ m. m ++ drop (length message) buffer) (take_all (length buffer) message l)
 
 -- and where there is none
-overwritten_long : (message buffer : List ℕ) → length buffer ≤ length message → overwritten message buffer ≡ take (length buffer) message
+pub overwritten_long : (message buffer : List ℕ) → length buffer ≤ length message → overwritten message buffer ≡ take (length buffer) message
 overwritten_long message buffer l = ap (λ d. take (length buffer) message ++ d) (drop_all (length message) buffer l) ∙ append-nil (take (length buffer) message)
 
 pub length-overwritten : (message buffer : List ℕ) → length (overwritten message buffer) ≡ length buffer

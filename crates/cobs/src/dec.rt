@@ -1,11 +1,12 @@
 //! Decoding, streaming and whole.
-ghost use Rattle.std.specs.Prelude.{◌≡◌, ◌≢◌, ◌^◌, ℕ, ◌+◌, ◌-◌, ◌*◌, ◌/◌, ◌<◌, ◌≤◌, ◌↔◌, List, [], ◌∷◌, ◌++◌, length, take, drop, replicate, slice_index, true, false, IsTrue, IfOk, IfErr, OnOk, OnErr, IsOk, IsErr, IfSome, IfNone, IsSome, IsNone, ◌⊎◌};
+ghost use Rattle.std.specs.Prelude.{◌≡◌, ◌≢◌, ◌^◌, ℕ, ◌+◌, ◌-◌, ◌*◌, ◌/◌, ◌<◌, ◌≤◌, ◌↔◌, List, [], ◌∷◌, ◌++◌, length, take, drop, replicate, slice_index, true, false, IsTrue, IfOk, IfErr, OnOk, OnErr, IsOk, IsErr, MatchResult, IfSome, IfNone, IsSome, IsNone, ◌⊎◌};
 ghost use Rattle.std.specs.Borrow.{sem};
 ghost use Rattle.cobs.specs.Frames.{Frame, part};
 ghost use Rattle.cobs.specs.Feeding.{by_code as state_by_code, told_by as byte_told_by, fed, next, placed, Taken};
 ghost use Rattle.cobs.specs.Reports.{parsed_size, frame_size};
 ghost use Rattle.cobs.specs.InPlace.{stretch, in_place, in_place_length, overwritten};
 ghost use Rattle.cobs.specs.Sentinel.{masked};
+ghost use Rattle.cobs.specs.Whole.{unpadded, frame_in, decoded_from, decoded_into, message_of_stretch, message_of_frame, Refuses};
 
 use crate::enc::mask;
 use arrayvec::ArrayVec;
@@ -328,6 +329,136 @@ impl Progress {
         }
         Ok(None)
     }
+}
+
+// The bytes before the first one that is the sentinel.
+fn before(bytes: &[u8], sentinel: u8) -> &[u8]
+    ensures { masked sentinel result.now ≡ stretch (masked sentinel bytes.now) }
+{
+    for (end, byte) in bytes.iter().enumerate() {
+        if *byte == sentinel {
+            return &bytes[..end];
+        }
+    }
+    bytes
+}
+
+// The bytes behind leading zeros.
+fn behind_zeros(bytes: &[u8]) -> &[u8]
+    ensures value { result.now ≡ unpadded bytes.now }
+    ensures within { length result.now ≤ length bytes.now }
+{
+    for (start, byte) in bytes.iter().enumerate() {
+        if *byte != 0 {
+            return &bytes[start..];
+        }
+    }
+    &[]
+}
+
+/// Decodes the first frame of a source: leading zeros are skipped, and the frame ends at the next zero or at the end.
+///
+/// The message then stands in front of `dest`. `parsed_size` counts the zeros that were skipped, the frame, and its
+/// zero where there is one.
+///
+/// `EmptyFrame` where no byte is nonzero. `TargetBufTooSmall` where `dest` has no room for what the bytes decide, and
+/// else `InvalidFrame` where they are no frame. What they decide of a message is then in front of `dest`, as far as
+/// there is room.
+pub fn decode(source: &[u8], dest: &mut [u8]) -> DecodingResult
+    ensures answer { result ≡ decoded_from (length dest.old) source.now }
+    ensures dest { dest.new ≡ overwritten (part (frame_in source.now)) dest.old }
+{
+    let rest = behind_zeros(source);
+    let frame = before(rest, 0);
+    let mut progress = Progress::new();
+    for byte in frame {
+        progress.take_in(dest, *byte)?;
+    }
+    match progress.end(dest.len())? {
+        None => Err(DecodeError::EmptyFrame),
+        Some(decoded) => {
+            let ended = if frame.len() < rest.len() { 1 } else { 0 };
+            Ok(DecodeReport {
+                parsed: source.len() - rest.len() + frame.len() + ended,
+                decoded,
+            })
+        }
+    }
+}
+
+/// Decodes the bytes before the first sentinel, or all where there is none, each XORed with the sentinel.
+///
+/// The message then stands in front of `dest`. A source with no such bytes gives length 0.
+///
+/// `InvalidFrame` where the bytes are no frame, and `TargetBufTooSmall` where they are one whose message is longer than
+/// `dest`. What they decide of a message is then in front of `dest`, as far as there is room.
+pub fn decode_with_sentinel(
+    source: &[u8],
+    dest: &mut [u8],
+    sentinel: u8,
+) -> Result<usize, DecodeError>
+    ensures answer { result ≡ decoded_into (length dest.old) (stretch (masked sentinel source.now)) }
+    ensures dest { dest.new ≡ overwritten (part (stretch (masked sentinel source.now))) dest.old }
+{
+    let mut state = DecoderState::Idle;
+    let mut len: usize = 0;
+    let frame = before(source, sentinel);
+    for byte in frame {
+        len = take_in(&mut state, dest, len, sentinel ^ *byte);
+    }
+    match state.feed(0) {
+        Err(_) => Err(DecodeError::InvalidFrame { decoded_bytes: len }),
+        Ok(_) if dest.len() < len => Err(DecodeError::TargetBufTooSmall),
+        Ok(_) => Ok(len),
+    }
+}
+
+// Decodes the bytes of a vector before its first zero over themselves.
+fn decode_vector(bytes: Vec<u8>) -> Result<Vec<u8>, DecodeVecError>
+    ensures { MatchResult result (λ v. message_of_stretch (stretch bytes.items) ≡ Ok v.items) (λ e. Refuses e (message_of_stretch (stretch bytes.items))) }
+{
+    let mut bytes = bytes;
+    match decode_in_place(bytes.as_mut_slice()) {
+        Ok(len) => {
+            bytes.truncate(len);
+            Ok(bytes)
+        }
+        Err(error) => Err(DecodeVecError::Decode(error)),
+    }
+}
+
+/// As `decode` with room for every message, into a vector of its own.
+///
+/// Where the source holds no frame and no memory is found, either may be answered.
+pub fn decode_vec(alloc: Global, source: &[u8]) -> Result<Vec<u8>, DecodeVecError>
+    ensures { MatchResult result (λ v. message_of_frame (frame_in source.now) ≡ Ok v.items) (λ e. Refuses e (message_of_frame (frame_in source.now))) }
+{
+    let frame = before(behind_zeros(source), 0);
+    if frame.is_empty() {
+        return Err(DecodeVecError::Decode(DecodeError::EmptyFrame));
+    }
+    let bytes = frame
+        .to_vec(alloc)
+        .map_err(|_| DecodeVecError::OutOfMemory)?;
+    decode_vector(bytes)
+}
+
+/// As `decode_with_sentinel` with room for every message, into a vector of its own.
+///
+/// Where the source holds no frame and no memory is found, either may be answered.
+pub fn decode_vec_with_sentinel(
+    alloc: Global,
+    source: &[u8],
+    sentinel: u8,
+) -> Result<Vec<u8>, DecodeVecError>
+    ensures { MatchResult result (λ v. message_of_stretch (stretch (masked sentinel source.now)) ≡ Ok v.items)
+        (λ e. Refuses e (message_of_stretch (stretch (masked sentinel source.now)))) }
+{
+    let mut bytes = before(source, sentinel)
+        .to_vec(alloc)
+        .map_err(|_| DecodeVecError::OutOfMemory)?;
+    mask(bytes.as_mut_slice(), sentinel);
+    decode_vector(bytes)
 }
 
 /// Decodes frames that come byte by byte, into a buffer.
