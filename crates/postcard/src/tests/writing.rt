@@ -19,21 +19,36 @@ use std::time::Duration;
 fn slices_and_arrays(rt: HostRuntime) -> Result<(), Fail> {
     let bytes: [u8; 4] = [0x01, 0x00, 0x20, 0x30];
     let mut room = [0u8; 8];
-    assert_eq!(rt; &*to_slice(&&bytes[..], &mut room)?, [4, 0x01, 0x00, 0x20, 0x30].as_slice());
-    assert_eq!(rt; &*to_slice(&bytes, &mut room)?, [0x01, 0x00, 0x20, 0x30].as_slice());
+    assert_eq!(rt;
+        &*to_slice(&&bytes[..], &mut room)?,
+        [4, 0x01, 0x00, 0x20, 0x30].as_slice()
+    );
+    assert_eq!(rt;
+        &*to_slice(&bytes, &mut room)?,
+        [0x01, 0x00, 0x20, 0x30].as_slice()
+    );
     Ok(())
 }
 
 #[test]
 fn numbers(rt: HostRuntime) -> Result<(), Fail> {
     let mut room = [0u8; 8];
-    assert_eq!(rt; &*to_slice(&42439u16, &mut room)?, [0xC7, 0xCB, 0x02].as_slice());
+    assert_eq!(rt;
+        &*to_slice(&42439u16, &mut room)?,
+        [0xC7, 0xCB, 0x02].as_slice()
+    );
     assert_eq!(rt;
         &*to_slice(&3450549266u32, &mut room)?,
         [0x92, 0xE8, 0xAC, 0xED, 0x0C].as_slice()
     );
-    assert_eq!(rt; &*to_slice(&32767i16, &mut room)?, [0xFE, 0xFF, 0x03].as_slice());
-    assert_eq!(rt; &*to_slice(&-32768i16, &mut room)?, [0xFF, 0xFF, 0x03].as_slice());
+    assert_eq!(rt;
+        &*to_slice(&32767i16, &mut room)?,
+        [0xFE, 0xFF, 0x03].as_slice()
+    );
+    assert_eq!(rt;
+        &*to_slice(&-32768i16, &mut room)?,
+        [0xFF, 0xFF, 0x03].as_slice()
+    );
     let mut serializer = Serializer {
         output: Slice::new(&mut room),
     };
@@ -52,7 +67,10 @@ fn numbers(rt: HostRuntime) -> Result<(), Fail> {
 fn texts(rt: HostRuntime) -> Result<(), Fail> {
     let mut room = [0u8; 16];
     assert_eq!(rt; &*to_slice(&'z', &mut room)?, [1, 0x7A].as_slice());
-    assert_eq!(rt; &*to_slice(&'\u{A2}', &mut room)?, [2, 0xC2, 0xA2].as_slice());
+    assert_eq!(rt;
+        &*to_slice(&'\u{A2}', &mut room)?,
+        [2, 0xC2, 0xA2].as_slice()
+    );
     assert_eq!(rt;
         &*to_slice(&'\u{10348}', &mut room)?,
         [4, 0xF0, 0x90, 0x8D, 0x88].as_slice()
@@ -64,7 +82,12 @@ fn texts(rt: HostRuntime) -> Result<(), Fail> {
         [1, 0x0A, 6, 0x48, 0x65, 0x6C, 0x6C, 0x6F, 0x21].as_slice()
     );
     let mut small = [0u8; 8];
-    assert!(rt; matches!(&to_slice(&value, &mut small), Err(Error::SerializeBufferFull)));
+    assert!(rt;
+        matches!(
+            &to_slice(&value, &mut small),
+            Err(Error::SerializeBufferFull)
+        )
+    );
     Ok(())
 }
 
@@ -87,7 +110,10 @@ fn vectors(rt: HostRuntime) -> Result<(), Fail> {
     let vec = to_vec::<_, 2>(&300u32)?;
     assert_eq!(rt; vec.as_slice(), [0xAC, 0x02].as_slice());
     assert!(rt; matches!(&to_vec::<_, 1>(&300u32), Err(Error::SerializeBufferFull)));
-    assert_eq!(rt; to_stdvec(rt.alloc(), &300u32)?.as_slice(), [0xAC, 0x02].as_slice());
+    assert_eq!(rt;
+        to_stdvec(rt.alloc(), &300u32)?.as_slice(),
+        [0xAC, 0x02].as_slice()
+    );
     let held = to_extend(&true, Vec::new(rt.alloc()))?;
     let held = to_extend(&"Hi!", held)?;
     assert_eq!(rt; held.as_slice(), [1, 3, 0x48, 0x69, 0x21].as_slice());
@@ -105,7 +131,12 @@ fn writers(rt: HostRuntime) -> Result<(), Fail> {
     to_io(&300u32, &mut lent)?;
     assert_eq!(rt; lent.as_slice(), [0xAC, 0x02].as_slice());
     let mut room = [0u8; 1];
-    assert!(rt; matches!(&to_io(&300u32, &mut room[..]), Err(Error::SerializeBufferFull)));
+    assert!(rt;
+        matches!(
+            &to_io(&300u32, &mut room[..]),
+            Err(Error::SerializeBufferFull)
+        )
+    );
     Ok(())
 }
 
@@ -114,7 +145,10 @@ fn flavors(rt: HostRuntime) -> Result<(), Fail> {
     let mut flavor = AllocVec::new(rt.alloc());
     serialize_with_flavor(&300u32, &mut flavor)?;
     serialize_with_flavor(&true, &mut flavor)?;
-    assert_eq!(rt; flavor.finalize()?.as_slice(), [0xAC, 0x02, 0x01].as_slice());
+    assert_eq!(rt;
+        flavor.finalize()?.as_slice(),
+        [0xAC, 0x02, 0x01].as_slice()
+    );
     Ok(())
 }
 
@@ -135,8 +169,14 @@ fn greatest_sizes(rt: HostRuntime) -> Result<(), Fail> {
     assert_eq!(rt; RangeInclusive::<u16>::postcard_max_size(), Some(6));
     assert_eq!(rt; RangeTo::<NonZeroU16>::postcard_max_size(), Some(3));
     assert_eq!(rt; Box::<Rc<Wrapping<char>>>::postcard_max_size(), Some(5));
-    assert_eq!(rt; <(Duration, PhantomData<u8>)>::postcard_max_size(), Some(15));
-    assert_eq!(rt; <(&Long, &Long, &Long)>::postcard_max_size(), Some(16429131440647569408));
+    assert_eq!(rt;
+        <(Duration, PhantomData<u8>)>::postcard_max_size(),
+        Some(15)
+    );
+    assert_eq!(rt;
+        <(&Long, &Long, &Long)>::postcard_max_size(),
+        Some(16429131440647569408)
+    );
     assert_eq!(rt; <(&Long, &Long, &Long, &Long)>::postcard_max_size(), None);
     Ok(())
 }
@@ -155,6 +195,10 @@ fn greatest_values(rt: HostRuntime) -> Result<(), Fail> {
     fits(&rt, &(usize::MAX, Some(i8::MIN), ()), 12);
     fits(&rt, &[isize::MIN, isize::MIN], 20);
     fits(&rt, &Ok::<(u16, u16), u8>((u16::MAX, u16::MAX)), 7);
-    fits(&rt, &ArrayString::<3>::from("abc").ok().unwrap_or_default(), 4);
+    fits(
+        &rt,
+        &ArrayString::<3>::from("abc").ok().unwrap_or_default(),
+        4,
+    );
     Ok(())
 }
