@@ -120,14 +120,18 @@ begins-front : (text lost front rest : List ℕ) (answers : List Verdict) → te
     → Begins Unpack false (text ++ lost) (lines_of answers) []
 begins-front text lost front rest answers e g = (
   refl,
-  inr (text ++ lost, refl, record {
-    front = front;
-    rest = rest ++ lost;
-    stream_is = ap (λ x. x ++ lost) e ∙ append_assoc front rest lost;
-    answers = answers;
-    given = g;
-    out_is = refl;
-  }),
+  inr (
+    text ++ lost,
+    refl,
+    record {
+      front = front;
+      rest = rest ++ lost;
+      stream_is = ap (λ x. x ++ lost) e ∙ append_assoc front rest lost;
+      answers = answers;
+      given = g;
+      out_is = refl;
+    },
+  ),
 )
 
 -- the lines of the answers to what was read before memory ran out
@@ -252,14 +256,18 @@ broken-hex text lost stream answers w t h (inr a) o q = record {
     stopped,
     (
       refl,
-      inr (stream, h, record {
-        front = a.0;
-        rest = a.1;
-        stream_is = a.2;
-        answers = answers;
-        given = a.3;
-        out_is = refl;
-      }),
+      inr (
+        stream,
+        h,
+        record {
+          front = a.0;
+          rest = a.1;
+          stream_is = a.2;
+          answers = answers;
+          given = a.3;
+          out_is = refl;
+        },
+      ),
     ),
     refl,
   );

@@ -129,3 +129,6 @@ fn say_last<E: Outlet>(faults: &mut E, line: &[u8], status: u8) -> u8
         Err(_) => 3,
     }
 }
+
+#[cfg(test)]
+mod tests;

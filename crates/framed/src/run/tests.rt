@@ -1,0 +1,309 @@
+use crate::arguments::Mode;
+use crate::run::run;
+use line_io::Fault;
+use line_io::memory::{In, Out};
+use std::process::Abort;
+
+/// How many bytes a device of these tests has room for.
+const ROOM: usize = 1100;
+
+/// What a run is given, and after how many bytes each of its devices fails.
+#[derive(Clone, Copy, Debug, Drop)]
+struct Setting<'a> {
+    mode: Mode,
+    hex: bool,
+    text: &'a [u8],
+    read_fault: Option<usize>,
+    write_fault: Option<(usize, Fault)>,
+    saying_fault: Option<(usize, Fault)>,
+}
+
+fn given(mode: Mode, hex: bool, text: &[u8]) -> Setting<'_> {
+    Setting {
+        mode,
+        hex,
+        text,
+        read_fault: None,
+        write_fault: None,
+        saying_fault: None,
+    }
+}
+
+/// Runs over memory, some bytes a call, and compares what is written, what is said and the status.
+fn expect<R: AllocGlobal + Abort>(rt: &R, given: Setting<'_>, out: &[u8], said: &[u8], status: u8) {
+    let mut written = [0u8; ROOM];
+    let mut told = [0u8; ROOM];
+    let ran = run(
+        rt.alloc(),
+        given.mode,
+        given.hex,
+        In::new(given.text, 3, given.read_fault),
+        Out::new(&mut written, 5, given.write_fault),
+        Out::new(&mut told, 2, given.saying_fault),
+    );
+    let written_len = ran.writer.moved();
+    let told_len = ran.faults.moved();
+    let found = ran.status;
+    drop(ran);
+    assert_eq!(rt; found, status);
+    assert!(rt; written_len <= ROOM);
+    assert!(rt; told_len <= ROOM);
+    assert_eq!(rt; &written[..written_len], out);
+    assert_eq!(rt; &told[..told_len], said);
+}
+
+#[test]
+fn packs_hex(rt: HostRuntime) {
+    let framed = b"00040268690001010003014100\n";
+    expect(&rt, given(Mode::Pack, true, b"hi\n\nA"), framed, b"", 0);
+    expect(&rt, given(Mode::Pack, true, b"hi\n\nA\n"), framed, b"", 0);
+    expect(&rt, given(Mode::Pack, true, b""), b"\n", b"", 0);
+}
+
+#[test]
+fn packs(rt: HostRuntime) {
+    let framed = b"\x00\x04\x02hi\x00\x01\x01\x00\x03\x01A\x00";
+    expect(&rt, given(Mode::Pack, false, b"hi\n\nA"), framed, b"", 0);
+    expect(&rt, given(Mode::Pack, false, b""), b"", b"", 0);
+    expect(
+        &rt,
+        given(Mode::Pack, false, b"\xff\nb"),
+        b"\x00\x03\x01b\x00",
+        b"line 1: refused\n",
+        1,
+    );
+}
+
+#[test]
+fn packs_up_to_the_limit(rt: HostRuntime) {
+    let letters = [b'a'; 1018];
+    let mut written = [0u8; ROOM];
+    let mut told = [0u8; 0];
+    let ran = run(
+        rt.alloc(),
+        Mode::Pack,
+        false,
+        In::new(&letters[..1017], 4096, None),
+        Out::new(&mut written, 4096, None),
+        Out::new(&mut told, 1, None),
+    );
+    assert_eq!(rt; ran.status, 0);
+    assert_eq!(rt; ran.writer.moved(), 1026);
+    drop(ran);
+    assert_eq!(rt; &written[..4], [0, 255, 0xf9, 7].as_slice());
+    assert_eq!(rt; &written[1021..1026], [4, b'a', b'a', b'a', 0].as_slice());
+    expect(
+        &rt,
+        given(Mode::Pack, false, &letters),
+        b"",
+        b"line 1: refused\n",
+        1,
+    );
+}
+
+#[test]
+fn unpacks_hex(rt: HostRuntime) {
+    let said = b"value hi\nvalue \nvalue A\n";
+    let framed = b"00040268690001010003014100\n";
+    expect(&rt, given(Mode::Unpack, true, framed), said, b"", 0);
+    let framed = b"00040268690001010003014100";
+    expect(&rt, given(Mode::Unpack, true, framed), said, b"", 0);
+    let escaped = b"value \\\\\\na\n";
+    expect(
+        &rt,
+        given(Mode::Unpack, true, b"05035c0a6100"),
+        escaped,
+        b"",
+        0,
+    );
+    expect(
+        &rt,
+        given(Mode::Unpack, true, b"05035C0A6100"),
+        escaped,
+        b"",
+        0,
+    );
+    expect(
+        &rt,
+        given(Mode::Unpack, true, b"0401626300"),
+        b"value b\n",
+        b"",
+        0,
+    );
+}
+
+#[test]
+fn refuses_bad_hex(rt: HostRuntime) {
+    for text in [b"0g".as_slice(), b"000".as_slice()] {
+        expect(&rt, given(Mode::Unpack, true, text), b"", b"bad hex\n", 2);
+    }
+}
+
+/// Stretches that hold no text, one that is too long, and one that nothing ends.
+#[test]
+fn unpacks(rt: HostRuntime) {
+    expect(
+        &rt,
+        given(
+            Mode::Unpack,
+            false,
+            b"\x00\x04\x02hi\x00\x03\x01\x00\x02\xff\x00\x03\x01A",
+        ),
+        b"value hi\ndamaged\ndamaged\ncut\n",
+        b"",
+        1,
+    );
+    let mut stream = [1u8; 1027];
+    stream[1025] = 0;
+    expect(
+        &rt,
+        given(Mode::Unpack, false, &stream),
+        b"too long\ncut\n",
+        b"",
+        1,
+    );
+}
+
+/// A read fails after all of the text.
+fn unread(given: Setting<'_>) -> Setting<'_> {
+    Setting {
+        read_fault: Some(given.text.len()),
+        ..given
+    }
+}
+
+#[test]
+fn reader_fails(rt: HostRuntime) {
+    let said = b"read failed\n";
+    let framed = b"\x00\x04\x02hi\x00\x04";
+    expect(
+        &rt,
+        unread(given(Mode::Unpack, false, framed)),
+        b"value hi\n",
+        said,
+        3,
+    );
+    let long = [1u8; 1025];
+    expect(
+        &rt,
+        unread(given(Mode::Unpack, false, &long)),
+        b"too long\n",
+        said,
+        3,
+    );
+    let digits = b"00040268690004";
+    expect(&rt, unread(given(Mode::Unpack, true, digits)), b"", said, 3);
+    expect(&rt, unread(given(Mode::Pack, false, b"hi\n")), b"", said, 3);
+    expect(&rt, unread(given(Mode::Pack, true, b"hi\n")), b"", said, 3);
+}
+
+#[test]
+fn writer_fails(rt: HostRuntime) {
+    for fault in [Fault::Fail, Fault::Nothing] {
+        let unwritten = |given| Setting {
+            write_fault: Some((2, fault)),
+            ..given
+        };
+        let said = b"write failed\n";
+        expect(
+            &rt,
+            unwritten(given(Mode::Pack, false, b"hi")),
+            b"\x00\x04",
+            said,
+            3,
+        );
+        expect(
+            &rt,
+            unwritten(given(Mode::Pack, true, b"hi")),
+            b"00",
+            said,
+            3,
+        );
+        let framed = b"\x04\x02hi\x00";
+        expect(
+            &rt,
+            unwritten(given(Mode::Unpack, false, framed)),
+            b"va",
+            said,
+            3,
+        );
+    }
+    let both = Setting {
+        write_fault: Some((2, Fault::Fail)),
+        ..given(Mode::Pack, false, b"\xff\nhi")
+    };
+    let said = b"line 1: refused\nwrite failed\n";
+    expect(&rt, both, b"\x00\x04", said, 3);
+}
+
+#[test]
+fn standard_error_fails(rt: HostRuntime) {
+    for fault in [Fault::Fail, Fault::Nothing] {
+        let unsaid = |given, after| Setting {
+            saying_fault: Some((after, fault)),
+            ..given
+        };
+        expect(
+            &rt,
+            unsaid(given(Mode::Pack, false, b"\xff\nb"), 0),
+            b"",
+            b"",
+            3,
+        );
+        expect(
+            &rt,
+            unsaid(given(Mode::Pack, false, b"\xff\nb"), 4),
+            b"",
+            b"line",
+            3,
+        );
+        expect(
+            &rt,
+            unsaid(given(Mode::Unpack, true, b"0g"), 3),
+            b"",
+            b"bad",
+            3,
+        );
+        let framed = unread(given(Mode::Unpack, false, b"\x04\x02hi\x00"));
+        expect(&rt, unsaid(framed, 4), b"value hi\n", b"read", 3);
+    }
+}
+
+/// A run in which a growth is refused says so, and writes a beginning; else it does all.
+fn whole_or_no_memory<R: AllocGlobal + Abort>(rt: &R, given: Setting<'_>, out: &[u8]) {
+    let mut written = [0u8; ROOM];
+    let mut told = [0u8; ROOM];
+    let ran = run(
+        rt.alloc(),
+        given.mode,
+        given.hex,
+        In::new(given.text, 3, None),
+        Out::new(&mut written, 5, None),
+        Out::new(&mut told, 2, None),
+    );
+    let written_len = ran.writer.moved();
+    let told_len = ran.faults.moved();
+    let status = ran.status;
+    drop(ran);
+    assert!(rt; written_len <= ROOM);
+    assert!(rt; told_len <= ROOM);
+    if status == 4 {
+        assert!(rt; out.starts_with(&written[..written_len]));
+        assert_eq!(rt; &told[..told_len], b"no memory\n".as_slice());
+    } else {
+        assert_eq!(rt; status, 0);
+        assert_eq!(rt; &written[..written_len], out);
+        assert_eq!(rt; told_len, 0);
+    }
+}
+
+/// To be run with each growth refused in turn: `rt try --test --fail-alloc N`. The other tests ask for the whole.
+#[test]
+fn memory_runs_out(rt: HostRuntime) {
+    let framed = b"00040268690001010003014100\n";
+    whole_or_no_memory(&rt, given(Mode::Pack, true, b"hi\n\nA"), framed);
+    let said = b"value hi\nvalue \nvalue A\n";
+    whole_or_no_memory(&rt, given(Mode::Unpack, true, framed), said);
+    let raw = b"\x00\x04\x02hi\x00\x01\x01\x00\x03\x01A\x00";
+    whole_or_no_memory(&rt, given(Mode::Unpack, false, raw), said);
+}
