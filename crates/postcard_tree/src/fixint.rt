@@ -3,7 +3,8 @@ ghost use Rattle.std.specs.Prelude.{◌≡◌, ◌<◌, ◌≤◌, ◌^◌, ℕ,
 ghost use Rattle.std.specs.Int.{w16, w32, w64, w128, cast_unsigned, cast_signed};
 ghost use Rattle.std.specs.Int.RustNames.{FitsSigned};
 ghost use Rattle.std.proofs.Common.{arith};
-ghost use Rattle.postcard_tree.specs.Fixed.{little_endian, big_endian, FixedLaws, unsigned_laws, signed_fixed_laws};
+ghost use Rattle.postcard_tree.specs.Fixed.{little_endian, big_endian, FixedLaws};
+ghost use Rattle.postcard_tree.specs.FixedOnce.{unsigned_laws, signed_fixed_laws};
 
 /// An integer type of 16 to 128 bits, which can be written as its bytes.
 pub trait FixInt: Copy {
