@@ -7,7 +7,8 @@ use Rattle.postcard_tree.specs.Reading.{TakesNothing, RefusesNoParts}
 use Rattle.postcard_tree.specs.ReadingLaws.{ReadingLaws, nothing_laws}
 use Rattle.samples.specs.declared.enums.BasicEnum.{BasicEnum}
 use Rattle.samples.specs.declared.enums.BasicEnum.TheVariants.{Bib, Bim, Bap}
-use Rattle.samples.specs.Views.{ReadsAs, view_laws, unknown_laws}
+use Rattle.postcard_tree.specs.Reading.{ReadsAs}
+use Rattle.postcard_tree.specs.ReadingLaws.{view_laws, unknown_laws}
 
 abbrev pub unit_writes : BasicEnum → Option Tree
 unit_writes Bib = variant_of 0 (Some (group end))

@@ -10,7 +10,8 @@ use Rattle.postcard_tree.specs.ReadingLaws.{ReadingLaws, byte_laws, number_laws,
 use Rattle.samples.specs.declared.structs.EnumStruct.{EnumStruct}
 use Rattle.samples.specs.declared.enums.DataEnum.{DataEnum}
 use Rattle.samples.specs.declared.enums.DataEnum.TheVariants.{Bib, Bim, Bap, Kim, Chi, Sho}
-use Rattle.samples.specs.Views.{ReadsAs, view_laws, unknown_laws}
+use Rattle.postcard_tree.specs.Reading.{ReadsAs}
+use Rattle.postcard_tree.specs.ReadingLaws.{view_laws, unknown_laws}
 
 abbrev pub data_writes : DataEnum → Option Tree
 data_writes (Bib n) = variant_of 0 (Some (number 16 n))

@@ -1,4 +1,3 @@
-pub mod Views
 pub mod BasicEnum
 pub mod DataEnum
 pub mod Chain
