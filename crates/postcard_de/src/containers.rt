@@ -35,12 +35,7 @@ impl<T: DeserializeOwned> DeserializeOwned for Option<T> {
 }
 
 // Index 0 is `Ok` and 1 is `Err`; any other is `SerdeDeCustom`.
-fn read_result<
-    W: Reads<T, F> + Reads<E, F>,
-    T: Readable + Drop,
-    E: Readable + Drop,
-    F: Flavor,
->(
+fn read_result<W: Reads<T, F> + Reads<E, F>, T: Readable + Drop, E: Readable + Drop, F: Flavor>(
     d: &mut Deserializer<F>,
 ) -> Result<std::result::Result<T, E>>
     ensures { OutcomeOf F.source d.old d.new result (Spelled (ReadsVariant (ReadsResult T.reads E.reads))) (RefusesVariant (RefusesResult T.refuses E.refuses)) (T.growing || E.growing) }
@@ -67,9 +62,7 @@ impl<B: Bytes, T: Deserialize<B>, E: Deserialize<B>> Deserialize<B> for std::res
 }
 
 impl<T: DeserializeOwned, E: DeserializeOwned> DeserializeOwned for std::result::Result<T, E> {
-    fn deserialize_owned<F: Flavor>(
-        d: &mut Deserializer<F>,
-    ) -> Result<std::result::Result<T, E>> {
+    fn deserialize_owned<F: Flavor>(d: &mut Deserializer<F>) -> Result<std::result::Result<T, E>> {
         read_result::<Owning, T, E, F>(d)
     }
 }
@@ -184,12 +177,7 @@ impl<T: DeserializeOwned + Default, const N: usize> DeserializeOwned for [T; N] 
     }
 }
 
-fn read_map<
-    W: Reads<K, F> + Reads<V, F>,
-    K: Readable + Ord + Drop,
-    V: Readable + Drop,
-    F: Flavor,
->(
+fn read_map<W: Reads<K, F> + Reads<V, F>, K: Readable + Ord + Drop, V: Readable + Drop, F: Flavor>(
     d: &mut Deserializer<F>,
 ) -> Result<BTreeMap<K, V>>
     ensures { OutcomeOf F.source d.old d.new result (Spelled (λ t m. ReadsMap K.reads V.reads K.cmp t m.entries)) (RefusesSequence (TakesPair K.takes V.takes) (RefusesPair K.takes K.refuses V.takes V.refuses)) true }

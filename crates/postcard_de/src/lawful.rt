@@ -152,6 +152,7 @@ impl<A: Lawful, B: Lawful, C: Lawful, D: Lawful, E: Lawful> Lawful for (A, B, C,
     ghost reads_back = { λ v t h e. group_back (A.writes v.0 ∷ B.writes v.1 ∷ C.writes v.2 ∷ D.writes v.3 ∷ E.writes v.4 ∷ []) (field_back (A.writes v.0) (B.writes v.1 ∷ C.writes v.2 ∷ D.writes v.3 ∷ E.writes v.4 ∷ []) (λ u k. A.reads_back v.0 u h.0 k) (field_back (B.writes v.1) (C.writes v.2 ∷ D.writes v.3 ∷ E.writes v.4 ∷ []) (λ u k. B.reads_back v.1 u h.1 k) (field_back (C.writes v.2) (D.writes v.3 ∷ E.writes v.4 ∷ []) (λ u k. C.reads_back v.2 u h.2 k) (field_back (D.writes v.3) (E.writes v.4 ∷ []) (λ u k. D.reads_back v.3 u h.3 k) (field_back (E.writes v.4) [] (λ u k. E.reads_back v.4 u h.4 k) no_fields_back))))) t e };
 }
 
-impl<A: Lawful, B: Lawful, C: Lawful, D: Lawful, E: Lawful, G: Lawful> Lawful for (A, B, C, D, E, G) {
+impl<A: Lawful, B: Lawful, C: Lawful, D: Lawful, E: Lawful, G: Lawful> Lawful
+    for (A, B, C, D, E, G) {
     ghost reads_back = { λ v t h e. group_back (A.writes v.0 ∷ B.writes v.1 ∷ C.writes v.2 ∷ D.writes v.3 ∷ E.writes v.4 ∷ G.writes v.5 ∷ []) (field_back (A.writes v.0) (B.writes v.1 ∷ C.writes v.2 ∷ D.writes v.3 ∷ E.writes v.4 ∷ G.writes v.5 ∷ []) (λ u k. A.reads_back v.0 u h.0 k) (field_back (B.writes v.1) (C.writes v.2 ∷ D.writes v.3 ∷ E.writes v.4 ∷ G.writes v.5 ∷ []) (λ u k. B.reads_back v.1 u h.1 k) (field_back (C.writes v.2) (D.writes v.3 ∷ E.writes v.4 ∷ G.writes v.5 ∷ []) (λ u k. C.reads_back v.2 u h.2 k) (field_back (D.writes v.3) (E.writes v.4 ∷ G.writes v.5 ∷ []) (λ u k. D.reads_back v.3 u h.3 k) (field_back (E.writes v.4) (G.writes v.5 ∷ []) (λ u k. E.reads_back v.4 u h.4 k) (field_back (G.writes v.5) [] (λ u k. G.reads_back v.5 u h.5 k) no_fields_back)))))) t e };
 }

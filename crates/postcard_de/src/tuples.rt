@@ -8,13 +8,7 @@ use crate::de_flavors::{Bytes, Flavor};
 use crate::deserialize::{Borrowing, Deserialize, DeserializeOwned, Owning, Reads};
 use postcard_tree::{Readable, Result};
 
-fn read_one<
-    W: Reads<A, F>,
-    A: Readable + Drop,
-    F: Flavor,
->(
-    d: &mut Deserializer<F>,
-) -> Result<(A,)>
+fn read_one<W: Reads<A, F>, A: Readable + Drop, F: Flavor>(d: &mut Deserializer<F>) -> Result<(A,)>
     ensures { OutcomeOf F.source d.old d.new result (Spelled (λ t v. GroupOf (PartThen (λ u. A.reads u v.0) NoParts) t)) (RefusesPartThen A.takes A.refuses RefusesNoParts) A.growing }
 {
     let first = W::read(d)?;
@@ -33,12 +27,7 @@ impl<A: DeserializeOwned> DeserializeOwned for (A,) {
     }
 }
 
-fn read_two<
-    W: Reads<A, F> + Reads<B, F>,
-    A: Readable + Drop,
-    B: Readable + Drop,
-    F: Flavor,
->(
+fn read_two<W: Reads<A, F> + Reads<B, F>, A: Readable + Drop, B: Readable + Drop, F: Flavor>(
     d: &mut Deserializer<F>,
 ) -> Result<(A, B)>
     ensures { OutcomeOf F.source d.old d.new result (Spelled (λ t v. GroupOf (PartThen (λ u. A.reads u v.0) (PartThen (λ u. B.reads u v.1) NoParts)) t)) (RefusesPartThen A.takes A.refuses (RefusesPartThen B.takes B.refuses RefusesNoParts)) (A.growing || B.growing) }
@@ -66,9 +55,7 @@ fn read_three<
     B: Readable + Drop,
     C: Readable + Drop,
     F: Flavor,
->(
-    d: &mut Deserializer<F>,
-) -> Result<(A, B, C)>
+>(d: &mut Deserializer<F>) -> Result<(A, B, C)>
     ensures { OutcomeOf F.source d.old d.new result (Spelled (λ t v. GroupOf (PartThen (λ u. A.reads u v.0) (PartThen (λ u. B.reads u v.1) (PartThen (λ u. C.reads u v.2) NoParts))) t)) (RefusesPartThen A.takes A.refuses (RefusesPartThen B.takes B.refuses (RefusesPartThen C.takes C.refuses RefusesNoParts))) (A.growing || B.growing || C.growing) }
 {
     let first = <W as Reads<A, F>>::read(d)?;
@@ -77,7 +64,8 @@ fn read_three<
     Ok((first, second, third))
 }
 
-impl<Z: Bytes, A: Deserialize<Z>, B: Deserialize<Z>, C: Deserialize<Z>> Deserialize<Z> for (A, B, C) {
+impl<Z: Bytes, A: Deserialize<Z>, B: Deserialize<Z>, C: Deserialize<Z>> Deserialize<Z>
+    for (A, B, C) {
     fn deserialize<F: Flavor<Taken = Z>>(d: &mut Deserializer<F>) -> Result<(A, B, C)> {
         read_three::<Borrowing, A, B, C, F>(d)
     }
@@ -96,9 +84,7 @@ fn read_four<
     C: Readable + Drop,
     D: Readable + Drop,
     F: Flavor,
->(
-    d: &mut Deserializer<F>,
-) -> Result<(A, B, C, D)>
+>(d: &mut Deserializer<F>) -> Result<(A, B, C, D)>
     ensures { OutcomeOf F.source d.old d.new result (Spelled (λ t v. GroupOf (PartThen (λ u. A.reads u v.0) (PartThen (λ u. B.reads u v.1) (PartThen (λ u. C.reads u v.2) (PartThen (λ u. D.reads u v.3) NoParts)))) t)) (RefusesPartThen A.takes A.refuses (RefusesPartThen B.takes B.refuses (RefusesPartThen C.takes C.refuses (RefusesPartThen D.takes D.refuses RefusesNoParts)))) (A.growing || B.growing || C.growing || D.growing) }
 {
     let first = <W as Reads<A, F>>::read(d)?;
@@ -108,13 +94,24 @@ fn read_four<
     Ok((first, second, third, fourth))
 }
 
-impl<Z: Bytes, A: Deserialize<Z>, B: Deserialize<Z>, C: Deserialize<Z>, D: Deserialize<Z>> Deserialize<Z> for (A, B, C, D) {
+impl<
+    Z: Bytes,
+    A: Deserialize<Z>,
+    B: Deserialize<Z>,
+    C: Deserialize<Z>,
+    D: Deserialize<Z>,
+> Deserialize<Z> for (A, B, C, D) {
     fn deserialize<F: Flavor<Taken = Z>>(d: &mut Deserializer<F>) -> Result<(A, B, C, D)> {
         read_four::<Borrowing, A, B, C, D, F>(d)
     }
 }
 
-impl<A: DeserializeOwned, B: DeserializeOwned, C: DeserializeOwned, D: DeserializeOwned> DeserializeOwned for (A, B, C, D) {
+impl<
+    A: DeserializeOwned,
+    B: DeserializeOwned,
+    C: DeserializeOwned,
+    D: DeserializeOwned,
+> DeserializeOwned for (A, B, C, D) {
     fn deserialize_owned<F: Flavor>(d: &mut Deserializer<F>) -> Result<(A, B, C, D)> {
         read_four::<Owning, A, B, C, D, F>(d)
     }
@@ -128,9 +125,7 @@ fn read_five<
     D: Readable + Drop,
     E: Readable + Drop,
     F: Flavor,
->(
-    d: &mut Deserializer<F>,
-) -> Result<(A, B, C, D, E)>
+>(d: &mut Deserializer<F>) -> Result<(A, B, C, D, E)>
     ensures { OutcomeOf F.source d.old d.new result (Spelled (λ t v. GroupOf (PartThen (λ u. A.reads u v.0) (PartThen (λ u. B.reads u v.1) (PartThen (λ u. C.reads u v.2) (PartThen (λ u. D.reads u v.3) (PartThen (λ u. E.reads u v.4) NoParts))))) t)) (RefusesPartThen A.takes A.refuses (RefusesPartThen B.takes B.refuses (RefusesPartThen C.takes C.refuses (RefusesPartThen D.takes D.refuses (RefusesPartThen E.takes E.refuses RefusesNoParts))))) (A.growing || B.growing || C.growing || D.growing || E.growing) }
 {
     let first = <W as Reads<A, F>>::read(d)?;
@@ -141,13 +136,26 @@ fn read_five<
     Ok((first, second, third, fourth, fifth))
 }
 
-impl<Z: Bytes, A: Deserialize<Z>, B: Deserialize<Z>, C: Deserialize<Z>, D: Deserialize<Z>, E: Deserialize<Z>> Deserialize<Z> for (A, B, C, D, E) {
+impl<
+    Z: Bytes,
+    A: Deserialize<Z>,
+    B: Deserialize<Z>,
+    C: Deserialize<Z>,
+    D: Deserialize<Z>,
+    E: Deserialize<Z>,
+> Deserialize<Z> for (A, B, C, D, E) {
     fn deserialize<F: Flavor<Taken = Z>>(d: &mut Deserializer<F>) -> Result<(A, B, C, D, E)> {
         read_five::<Borrowing, A, B, C, D, E, F>(d)
     }
 }
 
-impl<A: DeserializeOwned, B: DeserializeOwned, C: DeserializeOwned, D: DeserializeOwned, E: DeserializeOwned> DeserializeOwned for (A, B, C, D, E) {
+impl<
+    A: DeserializeOwned,
+    B: DeserializeOwned,
+    C: DeserializeOwned,
+    D: DeserializeOwned,
+    E: DeserializeOwned,
+> DeserializeOwned for (A, B, C, D, E) {
     fn deserialize_owned<F: Flavor>(d: &mut Deserializer<F>) -> Result<(A, B, C, D, E)> {
         read_five::<Owning, A, B, C, D, E, F>(d)
     }
@@ -162,9 +170,7 @@ fn read_six<
     E: Readable + Drop,
     G: Readable + Drop,
     F: Flavor,
->(
-    d: &mut Deserializer<F>,
-) -> Result<(A, B, C, D, E, G)>
+>(d: &mut Deserializer<F>) -> Result<(A, B, C, D, E, G)>
     ensures { OutcomeOf F.source d.old d.new result (Spelled (λ t v. GroupOf (PartThen (λ u. A.reads u v.0) (PartThen (λ u. B.reads u v.1) (PartThen (λ u. C.reads u v.2) (PartThen (λ u. D.reads u v.3) (PartThen (λ u. E.reads u v.4) (PartThen (λ u. G.reads u v.5) NoParts)))))) t)) (RefusesPartThen A.takes A.refuses (RefusesPartThen B.takes B.refuses (RefusesPartThen C.takes C.refuses (RefusesPartThen D.takes D.refuses (RefusesPartThen E.takes E.refuses (RefusesPartThen G.takes G.refuses RefusesNoParts)))))) (A.growing || B.growing || C.growing || D.growing || E.growing || G.growing) }
 {
     let first = <W as Reads<A, F>>::read(d)?;
@@ -176,13 +182,28 @@ fn read_six<
     Ok((first, second, third, fourth, fifth, sixth))
 }
 
-impl<Z: Bytes, A: Deserialize<Z>, B: Deserialize<Z>, C: Deserialize<Z>, D: Deserialize<Z>, E: Deserialize<Z>, G: Deserialize<Z>> Deserialize<Z> for (A, B, C, D, E, G) {
+impl<
+    Z: Bytes,
+    A: Deserialize<Z>,
+    B: Deserialize<Z>,
+    C: Deserialize<Z>,
+    D: Deserialize<Z>,
+    E: Deserialize<Z>,
+    G: Deserialize<Z>,
+> Deserialize<Z> for (A, B, C, D, E, G) {
     fn deserialize<F: Flavor<Taken = Z>>(d: &mut Deserializer<F>) -> Result<(A, B, C, D, E, G)> {
         read_six::<Borrowing, A, B, C, D, E, G, F>(d)
     }
 }
 
-impl<A: DeserializeOwned, B: DeserializeOwned, C: DeserializeOwned, D: DeserializeOwned, E: DeserializeOwned, G: DeserializeOwned> DeserializeOwned for (A, B, C, D, E, G) {
+impl<
+    A: DeserializeOwned,
+    B: DeserializeOwned,
+    C: DeserializeOwned,
+    D: DeserializeOwned,
+    E: DeserializeOwned,
+    G: DeserializeOwned,
+> DeserializeOwned for (A, B, C, D, E, G) {
     fn deserialize_owned<F: Flavor>(d: &mut Deserializer<F>) -> Result<(A, B, C, D, E, G)> {
         read_six::<Owning, A, B, C, D, E, G, F>(d)
     }
