@@ -1,12 +1,11 @@
-//! Numbers of a fixed width, byte by byte.
+//! Numbers of a fixed width, byte by byte: two, four, eight or sixteen bytes, whatever the number.
 ghost use Rattle.std.specs.Prelude.{◌≡◌, ◌<◌, ◌≤◌, ◌^◌, ℕ, length, refl};
 ghost use Rattle.std.specs.Int.{w16, w32, w64, w128, cast_unsigned, cast_signed};
 ghost use Rattle.std.specs.Int.RustNames.{FitsSigned};
-ghost use Rattle.std.proofs.Common.{arith};
 ghost use Rattle.postcard_tree.specs.Fixed.{little_endian, big_endian, FixedLaws};
 ghost use Rattle.postcard_tree.specs.FixedOnce.{unsigned_laws, signed_fixed_laws};
 
-/// An integer type of 16 to 128 bits, which can be written as its bytes.
+/// An integer type of 16 to 128 bits, signed or not, which can be written as its bytes.
 pub trait FixInt: Copy {
     /// How many bytes it has.
     ghost size: { ℕ };
@@ -39,11 +38,11 @@ pub trait FixInt: Copy {
     ghost laws: { FixedLaws size in_range bits of_bits };
 }
 
-/// A number written as its bytes, the lowest first.
+/// A number that is written as its bytes, the lowest first: `LE(0xABCDu16)` is `CD AB`.
 #[derive(Drop)]
 pub struct LE<T: FixInt>(pub T);
 
-/// A number written as its bytes, the highest first.
+/// A number that is written as its bytes, the highest first: `BE(0xABCDu16)` is `AB CD`.
 #[derive(Drop)]
 pub struct BE<T: FixInt>(pub T);
 
@@ -87,7 +86,8 @@ fn big_number(bytes: &[u8]) -> u128
 }
 
 impl<T: FixInt> LE<T> {
-    /// Writes the bytes of the number into the front of a buffer.
+    /// Writes the bytes of the number into the front of a buffer, and answers that front. The bytes behind it aren't
+    /// stated.
     pub fn put<'a>(&self, buffer: &'a mut [u8; 16]) -> &'a mut [u8]
         ensures bytes { result.now ≡ little_endian T.size (T.bits self.now.0) }
         ensures sized { length result.now ≡ T.size }
@@ -98,7 +98,7 @@ impl<T: FixInt> LE<T> {
         front
     }
 
-    /// The number of these bytes.
+    /// The number of these bytes, of which the caller owes as many as the type has.
     pub fn from_bytes(bytes: &[u8]) -> LE<T>
         requires { length bytes.now ≡ T.size }
         ensures bytes { little_endian T.size (T.bits result.0) ≡ bytes.now }
@@ -109,7 +109,8 @@ impl<T: FixInt> LE<T> {
 }
 
 impl<T: FixInt> BE<T> {
-    /// Writes the bytes of the number into the front of a buffer.
+    /// Writes the bytes of the number into the front of a buffer, and answers that front. The bytes behind it aren't
+    /// stated.
     pub fn put<'a>(&self, buffer: &'a mut [u8; 16]) -> &'a mut [u8]
         ensures bytes { result.now ≡ big_endian T.size (T.bits self.now.0) }
         ensures sized { length result.now ≡ T.size }
@@ -121,7 +122,7 @@ impl<T: FixInt> BE<T> {
         front
     }
 
-    /// The number of these bytes.
+    /// The number of these bytes, of which the caller owes as many as the type has.
     pub fn from_bytes(bytes: &[u8]) -> BE<T>
         requires { length bytes.now ≡ T.size }
         ensures bytes { big_endian T.size (T.bits result.0) ≡ bytes.now }
@@ -152,7 +153,7 @@ impl FixInt for u16 {
         n as u16
     }
 
-    ghost laws = { unsigned_laws 2 (Prim.omega arith) };
+    ghost laws = { unsigned_laws 2 refl };
 }
 
 impl FixInt for u32 {
@@ -176,7 +177,7 @@ impl FixInt for u32 {
         n as u32
     }
 
-    ghost laws = { unsigned_laws 4 (Prim.omega arith) };
+    ghost laws = { unsigned_laws 4 refl };
 }
 
 impl FixInt for u64 {
@@ -200,7 +201,7 @@ impl FixInt for u64 {
         n as u64
     }
 
-    ghost laws = { unsigned_laws 8 (Prim.omega arith) };
+    ghost laws = { unsigned_laws 8 refl };
 }
 
 impl FixInt for u128 {
@@ -224,7 +225,7 @@ impl FixInt for u128 {
         n
     }
 
-    ghost laws = { unsigned_laws 16 (Prim.omega arith) };
+    ghost laws = { unsigned_laws 16 refl };
 }
 
 impl FixInt for i16 {
@@ -248,7 +249,7 @@ impl FixInt for i16 {
         (n as u16).cast_signed()
     }
 
-    ghost laws = { signed_fixed_laws w16 2 (Prim.omega arith) refl };
+    ghost laws = { signed_fixed_laws w16 2 refl refl };
 }
 
 impl FixInt for i32 {
@@ -272,7 +273,7 @@ impl FixInt for i32 {
         (n as u32).cast_signed()
     }
 
-    ghost laws = { signed_fixed_laws w32 4 (Prim.omega arith) refl };
+    ghost laws = { signed_fixed_laws w32 4 refl refl };
 }
 
 impl FixInt for i64 {
@@ -296,7 +297,7 @@ impl FixInt for i64 {
         (n as u64).cast_signed()
     }
 
-    ghost laws = { signed_fixed_laws w64 8 (Prim.omega arith) refl };
+    ghost laws = { signed_fixed_laws w64 8 refl refl };
 }
 
 impl FixInt for i128 {
@@ -320,5 +321,5 @@ impl FixInt for i128 {
         n.cast_signed()
     }
 
-    ghost laws = { signed_fixed_laws w128 16 (Prim.omega arith) refl };
+    ghost laws = { signed_fixed_laws w128 16 refl refl };
 }
