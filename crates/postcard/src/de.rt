@@ -67,6 +67,6 @@ pub fn from_io<'a, T: Deserialize<&'a [u8]>, R: Read + Drop>(
     let (reader, buffer) = source;
     let mut d = Deserializer::from_flavor(alloc, IOReader::new(reader, buffer));
     let value = T::deserialize(&mut d)?;
-    let rest = d.finalize()?;
-    Ok((value, rest))
+    let left = d.finalize()?;
+    Ok((value, left))
 }
