@@ -15,7 +15,7 @@ use Rattle.std.specs.Int.{w8, cast_unsigned}
 use Rattle.std.specs.Int.RustNames.{FitsSigned}
 use Rattle.postcard_tree.specs.Tree.{Tree, Trees, byte, number, character, sequence, group, end, part, count_of, parts, with_part, group_of, sequence_of, option_writes, bytes_of, text_of, zigzag, variant_of, result_writes, pair_writes}
 use Rattle.postcard_tree.specs.Fixed.{ReadsFixed}
-use Rattle.postcard_tree.specs.Reading.{ReadsByte, ReadsNumber, ReadsOption, NoParts, PartThen, GroupOf, ReadsPair, ReadsAll, ReadsSequence, ReadsArray, ReadsText, ReadsBool, ReadsSigned, ReadsSignedByte, TakesNothing, ReadsCharacter, ReadsVariant, ReadsResult, ReadsMap, put_all}
+use Rattle.postcard_tree.specs.Reading.{ReadsByte, ReadsNumber, ReadsOption, NoParts, PartThen, GroupOf, ReadsPair, ReadsAll, ReadsSequence, ReadsArray, ReadsBytes, ReadsText, ReadsBool, ReadsSigned, ReadsSignedByte, TakesNothing, ReadsCharacter, ReadsVariant, ReadsResult, ReadsMap, put_all}
 
 -- each valid value reads the tree that it writes
 abbrev pub ReadsBack : {A : Type 0} → (A → Type 0) → (A → Option Tree) → (Tree → A → Type 0) → Type 0
@@ -132,9 +132,12 @@ bytes_read_back : (s : List ℕ) → ReadsAll ReadsByte (bytes_of s) s
 bytes_read_back [] = tt
 bytes_read_back (b ∷ s) = (refl, bytes_read_back s)
 
+pub byte_string_reads_back : (s : List ℕ) (t : Tree) → length s < 2 ^ 64 → Some (text_of s) ≡ Some t → ReadsBytes t s
+byte_string_reads_back s t n e =
+    as_written ReadsBytes s (text_of s) t e (omega (arith, n, all_count ReadsByte (bytes_of s) s (bytes_read_back s)), bytes_read_back s)
+
 pub text_reads_back : (s : List ℕ) (t : Tree) → IsUtf8 s → length s < 2 ^ 64 → Some (text_of s) ≡ Some t → ReadsText t s
-text_reads_back s t u n e =
-    as_written ReadsText s (text_of s) t e ((omega (arith, n, all_count ReadsByte (bytes_of s) s (bytes_read_back s)), bytes_read_back s), u)
+text_reads_back s t u n e = as_written ReadsText s (text_of s) t e (byte_string_reads_back s (text_of s) n refl, u)
 
 -- Truth values, signed numbers, nothing, characters
 

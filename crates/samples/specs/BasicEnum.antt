@@ -1,10 +1,12 @@
 -- Variants without a payload.
 use Rattle.std.specs.Prelude.{◌≡◌, ℕ, zero, suc, List, Option, Some, None, refl}
+use Rattle.std.proofs.Common.{arith, ◌≤◌}
 use Rattle.postcard_tree.specs.declared.error.Error.{Error}
 use Rattle.postcard_tree.specs.declared.error.Error.TheVariants.{SerdeDeCustom}
 use Rattle.postcard_tree.specs.Tree.{Tree, group, end, variant_of}
-use Rattle.postcard_tree.specs.Reading.{TakesNothing, RefusesNoParts}
+use Rattle.postcard_tree.specs.Reading.{TakesNothing, RefusesNoParts, ReadsVariant}
 use Rattle.postcard_tree.specs.ReadingLaws.{ReadingLaws, nothing_laws}
+use Rattle.postcard_de.specs.ReadsBack.{ReadsBack, variant_reads_back, nothing_reads_back}
 use Rattle.samples.specs.declared.enums.BasicEnum.{BasicEnum}
 use Rattle.samples.specs.declared.enums.BasicEnum.TheVariants.{Bib, Bim, Bap}
 use Rattle.postcard_tree.specs.Reading.{ReadsAs}
@@ -62,3 +64,15 @@ unit_laws zero = view_laws in_bib (λ _. Bib) is_bib (λ b c h. refl) nothing_la
 unit_laws (suc zero) = view_laws in_bim (λ _. Bim) is_bim (λ b c h. refl) nothing_laws
 unit_laws (suc (suc zero)) = view_laws in_bap (λ _. Bap) is_bap (λ b c h. refl) nothing_laws
 unit_laws (suc (suc (suc n))) = unknown_laws SerdeDeCustom
+
+pub unit_reads_back : ReadsBack (λ (v : BasicEnum). Unit {0}) unit_writes (ReadsVariant ReadsUnit)
+unit_reads_back Bib t h e = variant_reads_back ReadsUnit 0 (Some (group end)) Bib t (omega arith) nothing_reads_back e
+unit_reads_back Bim t h e = variant_reads_back ReadsUnit 1 (Some (group end)) Bim t (omega arith) nothing_reads_back e
+unit_reads_back Bap t h e = variant_reads_back ReadsUnit 2 (Some (group end)) Bap t (omega arith) nothing_reads_back e
+
+-- an index of no variant is refused
+pub unit_unknown : (i : ℕ) → 3 ≤ i → (s : List ℕ) → RefusesUnit i s SerdeDeCustom
+unit_unknown zero l s = absurd (omega (arith, l))
+unit_unknown (suc zero) l s = absurd (omega (arith, l))
+unit_unknown (suc (suc zero)) l s = absurd (omega (arith, l))
+unit_unknown (suc (suc (suc n))) l s = refl

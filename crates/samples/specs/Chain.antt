@@ -1,7 +1,7 @@
 -- Chains, their trees, and the bytes that are refused.
 use Rattle.std.specs.Global.{Global}
-use Rattle.std.specs.Prelude.{Box, ◌≡◌, ℕ, ◌≤◌, ◌⊎◌, List, [], ◌∷◌, ◌++◌, refl}
-use Rattle.std.proofs.Common.{sym, ◌∙◌, ap, inl, inr, arith, append_assoc, append-nil}
+use Rattle.std.specs.Prelude.{Box, Some, ◌≡◌, ℕ, ◌≤◌, ◌⊎◌, List, [], ◌∷◌, ◌++◌, refl}
+use Rattle.std.proofs.Common.{sym, ◌∙◌, ap, inl, inr, arith, append_assoc, append-nil, subst}
 use Rattle.postcard_tree.specs.declared.error.Error.{Error}
 use Rattle.postcard_tree.specs.declared.error.Error.TheVariants.{SerdeDeCustom}
 use Rattle.postcard_tree.specs.Number.{Number}
@@ -112,3 +112,10 @@ chain_laws = record { taken = chain_taken; trees = chain_trees; once = chain_onc
 abbrev pub chain_tree : Chain → Tree
 chain_tree End = end_tree
 chain_tree (More' b p rest) = more_tree b (chain_tree rest)
+
+chain_reads : (v : Chain) → ReadsChain (chain_tree v) v
+chain_reads End = reads_end
+chain_reads (More' b p rest) = reads_more b (chain_tree rest) _ (chain_reads rest)
+
+pub chain_reads_back : (v : Chain) (t : Tree) → Some (chain_tree v) ≡ Some t → ReadsChain t v
+chain_reads_back v t e = let k : chain_tree v ≡ t = cc in subst (λ z. ReadsChain z v) k (chain_reads v)

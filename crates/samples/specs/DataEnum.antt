@@ -1,16 +1,18 @@
 -- Variants with a payload of each form.
 use Rattle.std.specs.Prelude.{◌≡◌, ℕ, zero, suc, ◌<◌, ◌^◌, List, [], ◌∷◌, Option, Some, None, refl}
-use Rattle.std.proofs.Common.{ap, ◌∙◌}
+use Rattle.std.proofs.Common.{ap, ◌∙◌, arith, ◌≤◌}
 use Rattle.postcard_tree.specs.declared.error.Error.{Error}
 use Rattle.postcard_tree.specs.declared.error.Error.TheVariants.{SerdeDeCustom}
 use Rattle.postcard_tree.specs.Tree.{Tree, byte, number, parts, group_of, variant_of}
 use Rattle.postcard_tree.specs.Bounds.{width_16, width_32, width_64}
-use Rattle.postcard_tree.specs.Reading.{TakesByte, ReadsByte, RefusesByte, TakesNumber, ReadsNumber, RefusesGroups, TakesPair, ReadsPair, RefusesPair}
+use Rattle.postcard_tree.specs.Reading.{TakesByte, ReadsByte, RefusesByte, TakesNumber, ReadsNumber, RefusesGroups, TakesPair, ReadsPair, RefusesPair, ReadsVariant}
 use Rattle.postcard_tree.specs.ReadingLaws.{ReadingLaws, byte_laws, number_laws, pair_laws}
+use Rattle.postcard_de.specs.ReadsBack.{ReadsBack, variant_reads_back, number_reads_back, byte_reads_back}
 use Rattle.samples.specs.declared.structs.EnumStruct.{EnumStruct}
 use Rattle.samples.specs.declared.enums.DataEnum.{DataEnum}
 use Rattle.samples.specs.declared.enums.DataEnum.TheVariants.{Bib, Bim, Bap, Kim, Chi, Sho}
 use Rattle.postcard_tree.specs.Reading.{ReadsAs}
+use Rattle.samples.specs.Fields.{two_back, byte_and_number_back}
 use Rattle.postcard_tree.specs.ReadingLaws.{view_laws, unknown_laws}
 
 abbrev pub data_writes : DataEnum → Option Tree
@@ -123,3 +125,27 @@ data_laws (suc (suc (suc zero))) = view_laws in_kim kim is_kim (λ p q h. both_s
 data_laws (suc (suc (suc (suc zero)))) = view_laws in_chi (λ p. Chi p.0 p.1) is_chi (λ p q h. both_same Chi p q (h.0, h.1)) (pair_laws byte_laws (number_laws 32 4 15 width_32 refl refl))
 data_laws (suc (suc (suc (suc (suc zero))))) = view_laws in_sho (λ p. Sho p.0 p.1) is_sho (λ p q h. both_same Sho p q (h.0, h.1)) (pair_laws (number_laws 16 2 3 width_16 refl refl) byte_laws)
 data_laws (suc (suc (suc (suc (suc (suc n)))))) = unknown_laws SerdeDeCustom
+
+pub data_reads_back : ReadsBack DataIsValid data_writes (ReadsVariant ReadsData)
+data_reads_back (Bib n) t h e = variant_reads_back ReadsData 0 (Some (number 16 n)) (Bib n) t (omega arith) (λ u k. number_reads_back 16 n u h k) e
+data_reads_back (Bim n) t h e = variant_reads_back ReadsData 1 (Some (number 64 n)) (Bim n) t (omega arith) (λ u k. number_reads_back 64 n u h k) e
+data_reads_back (Bap n) t h e = variant_reads_back ReadsData 2 (Some (byte n)) (Bap n) t (omega arith) (λ u k. byte_reads_back n u k) e
+data_reads_back (Kim fields) t h e =
+    variant_reads_back ReadsData 3 (group_of (parts (Some (byte fields.eight) ∷ Some (number 16 fields.sixt) ∷ []))) (Kim fields) t (omega arith)
+    (λ u k. byte_and_number_back fields.eight fields.sixt u h.1 k) e
+data_reads_back (Chi a b) t h e =
+    variant_reads_back ReadsData 4 (group_of (parts (Some (byte a) ∷ Some (number 32 b) ∷ []))) (Chi a b) t (omega arith)
+    (two_back (byte a) (number 32 b) (byte_reads_back a) (λ u k. number_reads_back 32 b u h.1 k)) e
+data_reads_back (Sho a b) t h e =
+    variant_reads_back ReadsData 5 (group_of (parts (Some (number 16 a) ∷ Some (byte b) ∷ []))) (Sho a b) t (omega arith)
+    (two_back (number 16 a) (byte b) (λ u k. number_reads_back 16 a u h.0 k) (byte_reads_back b)) e
+
+-- an index of no variant is refused
+pub data_unknown : (i : ℕ) → 6 ≤ i → (s : List ℕ) → RefusesData i s SerdeDeCustom
+data_unknown zero l s = absurd (omega (arith, l))
+data_unknown (suc zero) l s = absurd (omega (arith, l))
+data_unknown (suc (suc zero)) l s = absurd (omega (arith, l))
+data_unknown (suc (suc (suc zero))) l s = absurd (omega (arith, l))
+data_unknown (suc (suc (suc (suc zero)))) l s = absurd (omega (arith, l))
+data_unknown (suc (suc (suc (suc (suc zero))))) l s = absurd (omega (arith, l))
+data_unknown (suc (suc (suc (suc (suc (suc n)))))) l s = refl

@@ -1,3 +1,5 @@
+pub mod Fields
 pub mod BasicEnum
 pub mod DataEnum
 pub mod Chain
+pub mod Steps

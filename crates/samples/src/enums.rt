@@ -1,12 +1,18 @@
 //! Enums are the variant's index and its payload.
 ghost use Rattle.std.specs.Prelude.{◌≡◌, false};
 ghost use Rattle.postcard_tree.specs.Reading.{TakesVariant, ReadsVariant, RefusesVariant};
+ghost use Rattle.postcard_tree.specs.Reading.{Spelled};
 ghost use Rattle.postcard_tree.specs.ReadingLaws.{variant_laws};
+ghost use Rattle.postcard_de.specs.Deserializer.{OutcomeOf};
+ghost use Rattle.samples.specs.BasicEnum.{ReadsUnit, RefusesUnit};
+ghost use Rattle.samples.specs.DataEnum.{ReadsData, RefusesData};
 
 use crate::structs::EnumStruct;
+use postcard_de::de_flavors::{Bytes, Flavor as Reading};
+use postcard_de::{Deserialize, DeserializeOwned, Deserializer, Lawful};
 use postcard_ser::ser_flavors::Flavor;
 use postcard_ser::{Serialize, Serializer};
-use postcard_tree::{Readable, Result};
+use postcard_tree::{Error, Readable, Result};
 
 /// Variants without a payload.
 #[derive(Clone, Copy, Debug, PartialEq, Eq, Drop)]
@@ -50,6 +56,44 @@ impl Serialize for BasicEnum {
             BasicEnum::Bim => serializer.serialize_unit_variant(1),
             BasicEnum::Bap => serializer.serialize_unit_variant(2),
         }
+    }
+}
+
+impl<B: Bytes> Deserialize<B> for BasicEnum {
+    fn deserialize<F: Reading<Taken = B>>(d: &mut Deserializer<F>) -> Result<BasicEnum> {
+        read_basic_enum(d)
+    }
+}
+
+impl DeserializeOwned for BasicEnum {
+    fn deserialize_owned<F: Reading>(d: &mut Deserializer<F>) -> Result<BasicEnum> {
+        read_basic_enum(d)
+    }
+}
+
+impl Lawful for BasicEnum {
+    ghost use Rattle.samples.specs.BasicEnum.{unit_reads_back};
+
+    ghost reads_back = { unit_reads_back };
+}
+
+fn read_basic_enum<F: Reading>(d: &mut Deserializer<F>) -> Result<BasicEnum>
+    ensures { OutcomeOf F.source d.old d.new result (Spelled (ReadsVariant ReadsUnit)) (RefusesVariant RefusesUnit) false }
+{
+    match d.deserialize_enum()? {
+        0 => {
+            d.unit_variant()?;
+            Ok(BasicEnum::Bib)
+        }
+        1 => {
+            d.unit_variant()?;
+            Ok(BasicEnum::Bim)
+        }
+        2 => {
+            d.unit_variant()?;
+            Ok(BasicEnum::Bap)
+        }
+        _ => Err(Error::SerdeDeCustom),
     }
 }
 
@@ -110,5 +154,55 @@ impl Serialize for DataEnum {
                 serializer.end()
             }
         }
+    }
+}
+
+impl<B: Bytes> Deserialize<B> for DataEnum {
+    fn deserialize<F: Reading<Taken = B>>(d: &mut Deserializer<F>) -> Result<DataEnum> {
+        read_data_enum(d)
+    }
+}
+
+impl DeserializeOwned for DataEnum {
+    fn deserialize_owned<F: Reading>(d: &mut Deserializer<F>) -> Result<DataEnum> {
+        read_data_enum(d)
+    }
+}
+
+impl Lawful for DataEnum {
+    ghost use Rattle.samples.specs.DataEnum.{data_reads_back};
+
+    ghost reads_back = { data_reads_back };
+}
+
+fn read_data_enum<F: Reading>(d: &mut Deserializer<F>) -> Result<DataEnum>
+    ensures { OutcomeOf F.source d.old d.new result (Spelled (ReadsVariant ReadsData)) (RefusesVariant RefusesData) false }
+{
+    match d.deserialize_enum()? {
+        0 => {
+            let number = d.deserialize_u16()?;
+            Ok(DataEnum::Bib(number))
+        }
+        1 => {
+            let number = d.deserialize_u64()?;
+            Ok(DataEnum::Bim(number))
+        }
+        2 => {
+            let byte = d.deserialize_u8()?;
+            Ok(DataEnum::Bap(byte))
+        }
+        3 => {
+            let fields = EnumStruct::deserialize_owned(d)?;
+            Ok(DataEnum::Kim(fields))
+        }
+        4 => {
+            let (a, b) = <(u8, u32)>::deserialize_owned(d)?;
+            Ok(DataEnum::Chi { a, b })
+        }
+        5 => {
+            let (a, b) = <(u16, u8)>::deserialize_owned(d)?;
+            Ok(DataEnum::Sho(a, b))
+        }
+        _ => Err(Error::SerdeDeCustom),
     }
 }

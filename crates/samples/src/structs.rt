@@ -3,9 +3,13 @@ ghost use Rattle.std.specs.Prelude.{◌≡◌, ◌<◌, ◌^◌, [], ◌∷◌, 
 ghost use Rattle.std.specs.Str.{IsUtf8};
 ghost use Rattle.postcard_tree.specs.Tree.{byte, number, parts, group_of, text_of};
 ghost use Rattle.postcard_tree.specs.Reading.{GroupOf, PartThen, NoParts, RefusesPartThen, RefusesNoParts, TakesByte, ReadsByte, RefusesByte, TakesNumber, ReadsNumber, RefusesGroups, TakesSequence, ReadsBytes, RefusesBytes, TakesText, ReadsText, RefusesText, TakesPair, ReadsPair, RefusesPair};
+ghost use Rattle.postcard_tree.specs.Reading.{Spelled};
+ghost use Rattle.postcard_de.specs.Deserializer.{OutcomeOf};
 ghost use Rattle.postcard_tree.specs.Bounds.{width_16, width_32};
 ghost use Rattle.postcard_tree.specs.ReadingLaws.{alike_as, seen_as, group_laws, part_laws, no_parts_laws, byte_laws, number_laws, bytes_laws, text_laws};
 
+use postcard_de::de_flavors::{Bytes, Flavor as Reading};
+use postcard_de::{Deserialize, DeserializeOwned, Deserializer, Lawful};
 use postcard_ser::ser_flavors::Flavor;
 use postcard_ser::{Serialize, Serializer};
 use postcard_tree::{Readable, Result};
@@ -50,6 +54,20 @@ impl<'a> Serialize for RefStruct<'a> {
     }
 }
 
+impl<'a> Lawful for RefStruct<'a> {
+    ghost use Rattle.samples.specs.Fields.{bytes_and_text_back};
+
+    ghost reads_back = { λ v t h e. bytes_and_text_back v.bytes.now v.text.now t h.0 h.1 h.2 e };
+}
+
+impl<'a> Deserialize<&'a [u8]> for RefStruct<'a> {
+    fn deserialize<F: Reading<Taken = &'a [u8]>>(d: &mut Deserializer<F>) -> Result<RefStruct<'a>> {
+        let bytes = <&'a [u8] as Deserialize<&'a [u8]>>::deserialize(d)?;
+        let text = <&'a str as Deserialize<&'a [u8]>>::deserialize(d)?;
+        Ok(RefStruct { bytes, text })
+    }
+}
+
 /// A number under a name of its own.
 #[derive(Clone, Copy, Debug, PartialEq, Eq, Drop)]
 pub struct NewTypeStruct(pub u32);
@@ -82,16 +100,41 @@ impl Serialize for NewTypeStruct {
     }
 }
 
+impl Lawful for NewTypeStruct {
+    ghost use Rattle.postcard_de.specs.ReadsBack.{number_reads_back};
+
+    ghost reads_back = { λ v t h e. number_reads_back 32 v.0 t h e };
+}
+
+impl<B: Bytes> Deserialize<B> for NewTypeStruct {
+    fn deserialize<F: Reading<Taken = B>>(d: &mut Deserializer<F>) -> Result<NewTypeStruct> {
+        read_new_type_struct(d)
+    }
+}
+
+impl DeserializeOwned for NewTypeStruct {
+    fn deserialize_owned<F: Reading>(d: &mut Deserializer<F>) -> Result<NewTypeStruct> {
+        read_new_type_struct(d)
+    }
+}
+
+fn read_new_type_struct<F: Reading>(d: &mut Deserializer<F>) -> Result<NewTypeStruct>
+    ensures { OutcomeOf F.source d.old d.new result (Spelled (λ t (v : NewTypeStruct). ReadsNumber 32 t v.0)) (RefusesGroups 5 15) false }
+{
+    let number = d.deserialize_u32()?;
+    Ok(NewTypeStruct(number))
+}
+
 /// Two numbers by their places.
 #[derive(Clone, Copy, Debug, PartialEq, Eq, Drop)]
 pub struct TupleStruct(pub u8, pub u16);
 
 impl Readable for TupleStruct {
-    ghost takes = { GroupOf (PartThen TakesByte (PartThen (TakesNumber 16) NoParts)) };
+    ghost takes = { TakesPair TakesByte (TakesNumber 16) };
 
-    ghost reads = { λ t v. GroupOf (PartThen (λ u. ReadsByte u v.0) (PartThen (λ u. ReadsNumber 16 u v.1) NoParts)) t };
+    ghost reads = { λ t v. ReadsPair ReadsByte (ReadsNumber 16) t (v.0, v.1) };
 
-    ghost refuses = { RefusesPartThen TakesByte RefusesByte (RefusesPartThen (TakesNumber 16) (RefusesGroups 3 3) RefusesNoParts) };
+    ghost refuses = { RefusesPair TakesByte RefusesByte (TakesNumber 16) (RefusesGroups 3 3) };
 
     ghost alike = { λ v w. (v.0 ≡ w.0) × (v.1 ≡ w.1) };
 
@@ -115,6 +158,32 @@ impl Serialize for TupleStruct {
         serializer.serialize_field(&self.1)?;
         serializer.end()
     }
+}
+
+impl Lawful for TupleStruct {
+    ghost use Rattle.samples.specs.Fields.{byte_and_number_back};
+
+    ghost reads_back = { λ v t h e. byte_and_number_back v.0 v.1 t h.1 e };
+}
+
+impl<B: Bytes> Deserialize<B> for TupleStruct {
+    fn deserialize<F: Reading<Taken = B>>(d: &mut Deserializer<F>) -> Result<TupleStruct> {
+        read_tuple_struct(d)
+    }
+}
+
+impl DeserializeOwned for TupleStruct {
+    fn deserialize_owned<F: Reading>(d: &mut Deserializer<F>) -> Result<TupleStruct> {
+        read_tuple_struct(d)
+    }
+}
+
+fn read_tuple_struct<F: Reading>(d: &mut Deserializer<F>) -> Result<TupleStruct>
+    ensures { OutcomeOf F.source d.old d.new result (Spelled (λ t (v : TupleStruct). ReadsPair ReadsByte (ReadsNumber 16) t (v.0, v.1))) (RefusesPair TakesByte RefusesByte (TakesNumber 16) (RefusesGroups 3 3)) false }
+{
+    let first = d.deserialize_u8()?;
+    let second = d.deserialize_u16()?;
+    Ok(TupleStruct(first, second))
 }
 
 /// A byte and a number, the payload of a variant of `DataEnum`.
@@ -153,4 +222,30 @@ impl Serialize for EnumStruct {
         serializer.serialize_field(&self.sixt)?;
         serializer.end()
     }
+}
+
+impl Lawful for EnumStruct {
+    ghost use Rattle.samples.specs.Fields.{byte_and_number_back};
+
+    ghost reads_back = { λ v t h e. byte_and_number_back v.eight v.sixt t h.1 e };
+}
+
+impl<B: Bytes> Deserialize<B> for EnumStruct {
+    fn deserialize<F: Reading<Taken = B>>(d: &mut Deserializer<F>) -> Result<EnumStruct> {
+        read_enum_struct(d)
+    }
+}
+
+impl DeserializeOwned for EnumStruct {
+    fn deserialize_owned<F: Reading>(d: &mut Deserializer<F>) -> Result<EnumStruct> {
+        read_enum_struct(d)
+    }
+}
+
+fn read_enum_struct<F: Reading>(d: &mut Deserializer<F>) -> Result<EnumStruct>
+    ensures { OutcomeOf F.source d.old d.new result (Spelled (λ t (v : EnumStruct). ReadsPair ReadsByte (ReadsNumber 16) t (v.eight, v.sixt))) (RefusesPair TakesByte RefusesByte (TakesNumber 16) (RefusesGroups 3 3)) false }
+{
+    let eight = d.deserialize_u8()?;
+    let sixt = d.deserialize_u16()?;
+    Ok(EnumStruct { eight, sixt })
 }
