@@ -240,8 +240,8 @@ struct Progress {
 
 impl Progress {
     ghost use Rattle.cobs.specs.Feeding.{answer_of, at_zero, at_byte, frame_after};
-    ghost use Rattle.cobs.specs.Streaming.{Stands};
-    ghost use Rattle.cobs.specs.Pieces.{first_answer, frame_left, buffer_left};
+    ghost use Rattle.cobs.specs.Streaming.{Stands, Decoded};
+    ghost use Rattle.cobs.specs.Pieces.{first_answer, frame_left, frame_met, buffer_left};
 
     fn new() -> Progress
         ensures { (room : ℕ) → Stands room result [] }
@@ -299,6 +299,8 @@ impl Progress {
         ensures stands { (p : List ℕ) → Stands (length buffer.old) self.old p → Stands (length buffer.old) self.new (frame_after p byte) }
         ensures answer { (p : List ℕ) → Stands (length buffer.old) self.old p → result ≡ answer_of (length buffer.old) p byte }
         ensures buffer { (p : List ℕ) → Stands (length buffer.old) self.old p → buffer.new ≡ placed p byte buffer.old }
+        ensures decoded { (p : List ℕ) → Stands (length buffer.old) self.old p → Decoded buffer.old p → Decoded buffer.new (frame_after p byte) }
+        ensures message { (p : List ℕ) → Stands (length buffer.old) self.old p → Decoded buffer.old p → IfOk result (λ o. IfSome o (λ n. take n buffer.new ≡ part p)) }
         ensures within { IfOk result (λ o. IfSome o (λ n. n ≤ length buffer.new)) }
     {
         if byte == 0 {
@@ -313,6 +315,8 @@ impl Progress {
         ensures answer { (p : List ℕ) → Stands (length buffer.old) self.old p → result ≡ first_answer (length buffer.old) p piece.now 0 }
         ensures stands { (p : List ℕ) → Stands (length buffer.old) self.old p → Stands (length buffer.old) self.new (frame_left (length buffer.old) p piece.now) }
         ensures buffer { (p : List ℕ) → Stands (length buffer.old) self.old p → buffer.new ≡ buffer_left (length buffer.old) p piece.now buffer.old }
+        ensures decoded { (p : List ℕ) → Stands (length buffer.old) self.old p → Decoded buffer.old p → Decoded buffer.new (frame_left (length buffer.old) p piece.now) }
+        ensures message { (p : List ℕ) → Stands (length buffer.old) self.old p → Decoded buffer.old p → IfOk result (λ o. IfSome o (λ r. take (frame_size r) buffer.new ≡ part (frame_met (length buffer.old) p piece.now))) }
         ensures within { IfOk result (λ o. IfSome o (λ r. (parsed_size r ≤ length piece.now) × (frame_size r ≤ length buffer.new))) }
     {
         for (i, byte) in piece.iter().enumerate() {
@@ -470,8 +474,9 @@ pub struct CobsDecoder<'a> {
 
 impl<'a> CobsDecoder<'a> {
     ghost use Rattle.cobs.specs.Feeding.{answer_of, frame_after};
+    ghost use Rattle.cobs.specs.Streaming.{Decoded};
     ghost use Rattle.cobs.specs.Decoder.{Has, buffer_of};
-    ghost use Rattle.cobs.specs.Pieces.{first_answer, frame_left, buffer_left};
+    ghost use Rattle.cobs.specs.Pieces.{first_answer, frame_left, frame_met, buffer_left};
 
     /// A decoder between frames.
     pub fn new(dest: &'a mut [u8]) -> CobsDecoder<'a>
@@ -490,6 +495,8 @@ impl<'a> CobsDecoder<'a> {
         ensures has { (p : List ℕ) → Has self.old p → Has self.new (frame_after p «data») }
         ensures answer { (p : List ℕ) → Has self.old p → result ≡ answer_of (length (buffer_of self.old)) p «data» }
         ensures buffer { (p : List ℕ) → Has self.old p → buffer_of self.new ≡ placed p «data» (buffer_of self.old) }
+        ensures decoded { (p : List ℕ) → Has self.old p → Decoded (buffer_of self.old) p → Decoded (buffer_of self.new) (frame_after p «data») }
+        ensures message { (p : List ℕ) → Has self.old p → Decoded (buffer_of self.old) p → IfOk result (λ o. IfSome o (λ n. take n (buffer_of self.new) ≡ part p)) }
         ensures within { IfOk result (λ o. IfSome o (λ n. n ≤ length (buffer_of self.new))) }
         ensures room { length (buffer_of self.new) ≡ length (buffer_of self.old) }
         ensures lent { self.new.dest.ghost_name ≡ self.old.dest.ghost_name }
@@ -502,6 +509,8 @@ impl<'a> CobsDecoder<'a> {
         ensures has { (p : List ℕ) → Has self.old p → Has self.new (frame_left (length (buffer_of self.old)) p «data».now) }
         ensures answer { (p : List ℕ) → Has self.old p → result ≡ first_answer (length (buffer_of self.old)) p «data».now 0 }
         ensures buffer { (p : List ℕ) → Has self.old p → buffer_of self.new ≡ buffer_left (length (buffer_of self.old)) p «data».now (buffer_of self.old) }
+        ensures decoded { (p : List ℕ) → Has self.old p → Decoded (buffer_of self.old) p → Decoded (buffer_of self.new) (frame_left (length (buffer_of self.old)) p «data».now) }
+        ensures message { (p : List ℕ) → Has self.old p → Decoded (buffer_of self.old) p → IfOk result (λ o. IfSome o (λ r. take (frame_size r) (buffer_of self.new) ≡ part (frame_met (length (buffer_of self.old)) p «data».now))) }
         ensures room { length (buffer_of self.new) ≡ length (buffer_of self.old) }
         ensures lent { self.new.dest.ghost_name ≡ self.old.dest.ghost_name }
     {
@@ -532,8 +541,9 @@ pub struct CobsDecoderOwned {
 
 impl CobsDecoderOwned {
     ghost use Rattle.cobs.specs.Feeding.{answer_of, frame_after};
+    ghost use Rattle.cobs.specs.Streaming.{Decoded};
     ghost use Rattle.cobs.specs.Owners.{OwnedHas, owned_buffer, LendsOwnedBuffer};
-    ghost use Rattle.cobs.specs.Pieces.{first_answer, frame_left, buffer_left};
+    ghost use Rattle.cobs.specs.Pieces.{first_answer, frame_left, frame_met, buffer_left};
 
     /// An idle decoder over a buffer of `size` zeros.
     pub fn new(alloc: Global, size: usize) -> Result<CobsDecoderOwned, AllocError>
@@ -551,6 +561,8 @@ impl CobsDecoderOwned {
         ensures has { (p : List ℕ) → OwnedHas self.old p → OwnedHas self.new (frame_after p «data») }
         ensures answer { (p : List ℕ) → OwnedHas self.old p → result ≡ answer_of (length (owned_buffer self.old)) p «data» }
         ensures buffer { (p : List ℕ) → OwnedHas self.old p → owned_buffer self.new ≡ placed p «data» (owned_buffer self.old) }
+        ensures decoded { (p : List ℕ) → OwnedHas self.old p → Decoded (owned_buffer self.old) p → Decoded (owned_buffer self.new) (frame_after p «data») }
+        ensures message { (p : List ℕ) → OwnedHas self.old p → Decoded (owned_buffer self.old) p → IfOk result (λ o. IfSome o (λ n. take n (owned_buffer self.new) ≡ part p)) }
         ensures within { IfOk result (λ o. IfSome o (λ n. n ≤ length (owned_buffer self.new))) }
         ensures room { length (owned_buffer self.new) ≡ length (owned_buffer self.old) }
     {
@@ -562,6 +574,8 @@ impl CobsDecoderOwned {
         ensures has { (p : List ℕ) → OwnedHas self.old p → OwnedHas self.new (frame_left (length (owned_buffer self.old)) p «data».now) }
         ensures answer { (p : List ℕ) → OwnedHas self.old p → result ≡ first_answer (length (owned_buffer self.old)) p «data».now 0 }
         ensures buffer { (p : List ℕ) → OwnedHas self.old p → owned_buffer self.new ≡ buffer_left (length (owned_buffer self.old)) p «data».now (owned_buffer self.old) }
+        ensures decoded { (p : List ℕ) → OwnedHas self.old p → Decoded (owned_buffer self.old) p → Decoded (owned_buffer self.new) (frame_left (length (owned_buffer self.old)) p «data».now) }
+        ensures message { (p : List ℕ) → OwnedHas self.old p → Decoded (owned_buffer self.old) p → IfOk result (λ o. IfSome o (λ r. take (frame_size r) (owned_buffer self.new) ≡ part (frame_met (length (owned_buffer self.old)) p «data».now))) }
         ensures within { IfOk result (λ o. IfSome o (λ r. (parsed_size r ≤ length «data».now) × (frame_size r ≤ length (owned_buffer self.new)))) }
         ensures room { length (owned_buffer self.new) ≡ length (owned_buffer self.old) }
     {
@@ -601,8 +615,9 @@ pub struct CobsDecoderHeapless<const N: usize> {
 
 impl<const N: usize> CobsDecoderHeapless<N> {
     ghost use Rattle.cobs.specs.Feeding.{answer_of, frame_after};
+    ghost use Rattle.cobs.specs.Streaming.{Decoded};
     ghost use Rattle.cobs.specs.Arrays.{ArrayHas, array_buffer, LendsArrayBuffer};
-    ghost use Rattle.cobs.specs.Pieces.{first_answer, frame_left, buffer_left};
+    ghost use Rattle.cobs.specs.Pieces.{first_answer, frame_left, frame_met, buffer_left};
 
     /// An idle decoder over a buffer of zeros.
     pub fn new() -> CobsDecoderHeapless<N>
@@ -633,6 +648,8 @@ impl<const N: usize> CobsDecoderHeapless<N> {
         ensures has { (p : List ℕ) → ArrayHas self.old p → ArrayHas self.new (frame_after p «data») }
         ensures answer { (p : List ℕ) → ArrayHas self.old p → result ≡ answer_of (length (array_buffer self.old)) p «data» }
         ensures buffer { (p : List ℕ) → ArrayHas self.old p → array_buffer self.new ≡ placed p «data» (array_buffer self.old) }
+        ensures decoded { (p : List ℕ) → ArrayHas self.old p → Decoded (array_buffer self.old) p → Decoded (array_buffer self.new) (frame_after p «data») }
+        ensures message { (p : List ℕ) → ArrayHas self.old p → Decoded (array_buffer self.old) p → IfOk result (λ o. IfSome o (λ n. take n (array_buffer self.new) ≡ part p)) }
         ensures within { IfOk result (λ o. IfSome o (λ n. n ≤ length (array_buffer self.new))) }
         ensures room { length (array_buffer self.new) ≡ length (array_buffer self.old) }
     {
@@ -644,6 +661,8 @@ impl<const N: usize> CobsDecoderHeapless<N> {
         ensures has { (p : List ℕ) → ArrayHas self.old p → ArrayHas self.new (frame_left (length (array_buffer self.old)) p «data».now) }
         ensures answer { (p : List ℕ) → ArrayHas self.old p → result ≡ first_answer (length (array_buffer self.old)) p «data».now 0 }
         ensures buffer { (p : List ℕ) → ArrayHas self.old p → array_buffer self.new ≡ buffer_left (length (array_buffer self.old)) p «data».now (array_buffer self.old) }
+        ensures decoded { (p : List ℕ) → ArrayHas self.old p → Decoded (array_buffer self.old) p → Decoded (array_buffer self.new) (frame_left (length (array_buffer self.old)) p «data».now) }
+        ensures message { (p : List ℕ) → ArrayHas self.old p → Decoded (array_buffer self.old) p → IfOk result (λ o. IfSome o (λ r. take (frame_size r) (array_buffer self.new) ≡ part (frame_met (length (array_buffer self.old)) p «data».now))) }
         ensures within { IfOk result (λ o. IfSome o (λ r. (parsed_size r ≤ length «data».now) × (frame_size r ≤ length (array_buffer self.new)))) }
         ensures room { length (array_buffer self.new) ≡ length (array_buffer self.old) }
     {

@@ -1,6 +1,8 @@
-use Rattle.std.proofs.Common.{◌≡◌, ap, sym, ◌∙◌, get_or, length, Ok, List, ℕ}
+use Rattle.std.proofs.Common.{◌≡◌, ◌+◌, refl, ap, sym, ◌∙◌, get_or, length, Ok, List, ℕ}
 use Rattle.cobs.specs.Feeding.{answer_of, frame_after, placed}
 use Rattle.cobs.specs.Streaming.{Stands}
+use Rattle.cobs.specs.Reports.{report}
+use Rattle.cobs.proofs.Messages.{decoded_left, message_met}
 use Rattle.cobs.proofs.Turns.{turn_some, turn_refused, turn_on, turn_end}
 use Rattle.cobs.proofs.dec.Progress.push.Goals as goal
 use Rattle.cobs.proofs.dec.Progress.push.Goals.{After-feed}
@@ -62,3 +64,18 @@ pub returns-clause-stands : goal.returns-clause-stands
 returns-clause-stands c = λ p s.
     let t = c.loop-i.invariant p s in
     rw (turn_end p c.args.piece.now c.args.buffer.now c.loop-i.i c.loop-i.buffer c.loop-i.self t c.loop-i-test.false).leaves t.stands
+
+pub returns-in-Ok-Some-clause-decoded : goal.returns-in-Ok-Some-clause-decoded
+returns-in-Ok-Some-clause-decoded c = λ p s d. rw (returns-in-Ok-Some-clause-buffer c p s) (decoded_left (length c.args.buffer.now) p c.args.piece.now c.args.buffer.now d)
+
+pub returns-in-Ok-Some-clause-message : goal.returns-in-Ok-Some-clause-message
+returns-in-Ok-Some-clause-message c = λ p s d.
+    rw (returns-in-Ok-Some-clause-buffer c p s) (message_met (length c.args.buffer.now) p c.args.piece.now c.args.buffer.now 0 (report (c.loop-i.i + 1) c.in-Ok-Some.len) refl d (sym (returns-in-Ok-Some-clause-answer c p s)))
+
+pub returns-in-Err-clause-decoded : goal.returns-in-Err-clause-decoded
+returns-in-Err-clause-decoded c = λ p s d. rw (returns-in-Err-clause-buffer c p s) (decoded_left (length c.args.buffer.now) p c.args.piece.now c.args.buffer.now d)
+
+pub returns-clause-decoded : goal.returns-clause-decoded
+returns-clause-decoded c = λ p s d.
+    let t = c.loop-i.invariant p s in
+    rw (sym (turn_end p c.args.piece.now c.args.buffer.now c.loop-i.i c.loop-i.buffer c.loop-i.self t c.loop-i-test.false).holds) (decoded_left (length c.args.buffer.now) p c.args.piece.now c.args.buffer.now d)
