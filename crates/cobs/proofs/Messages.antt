@@ -4,7 +4,7 @@ use Rattle.std.proofs.lemmas.List.{append-nil, take_all, take_more_set, set_past
 use Rattle.std.proofs.lemmas.Bool.{ne_eqb, cases_lt, ltb-false}
 use Rattle.std.proofs.lemmas.Bool.Decides.{eqb_tells}
 use Rattle.cobs.specs.Frames.{part, after, missing}
-use Rattle.cobs.specs.Feeding.{told_by, fed, standing, at_zero, answer_of, frame_after, placed, stored}
+use Rattle.cobs.specs.Feeding.{told_by, listed, fed, standing, at_zero, answer_of, frame_after, placed, stored}
 use Rattle.cobs.specs.Pieces.{answered, ended, first_answer, frame_left, frame_met, buffer_left}
 use Rattle.cobs.specs.Reports.{report, frame_size}
 use Rattle.cobs.specs.Streaming.{Decoded}
@@ -12,7 +12,7 @@ use Rattle.cobs.specs.declared.dec.DecodeError.{DecodeError}
 use Rattle.cobs.specs.declared.dec.DecodeError.TheVariants.{InvalidFrame, TargetBufTooSmall}
 use Rattle.cobs.specs.declared.dec.DecodeReport.{DecodeReport}
 use Rattle.cobs.specs.declared.dec.DecodeResult.TheVariants.{DataComplete}
-use Rattle.cobs.proofs.Feeds.{listed, part_told, frame_byte, answer_byte, fed_zero}
+use Rattle.cobs.proofs.Feeds.{part_told, frame_byte, answer_byte, fed_zero}
 
 length-stored : (told : Option ℕ) (place : ℕ) (buffer : List ℕ) → length (stored told place buffer) ≡ length buffer
 length-stored None place buffer = refl

@@ -3,9 +3,9 @@ use Rattle.std.proofs.Common.{◌≡◌, ℕ, ◌+◌, ◌-◌, ◌<◌, ◌≤�
 use Rattle.std.proofs.lemmas.List.{append-nil, length_push, take_all, drop_all, drop_more, set_at, set_past, take-append-le, get_or-append_right, get_or-drop, take_at, drop_at, drop-drop}
 use Rattle.std.proofs.lemmas.Bool.{cases_lt}
 use Rattle.cobs.specs.Frames.{part}
-use Rattle.cobs.specs.Feeding.{told_by, fed, standing, placed, stored}
+use Rattle.cobs.specs.Feeding.{told_by, listed, fed, standing, placed, stored}
 use Rattle.cobs.specs.InPlace.{overwritten}
-use Rattle.cobs.proofs.Feeds.{listed, part_told}
+use Rattle.cobs.proofs.Feeds.{part_told}
 
 -- where there is room
 pub overwritten_short : (message buffer : List ℕ) → length message ≤ length buffer → overwritten message buffer ≡ message ++ drop (length message) buffer

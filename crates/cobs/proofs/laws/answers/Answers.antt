@@ -1,0 +1,5 @@
+use Rattle.cobs.proofs.Zeros.{zero_answers, zero_refuses}
+use Rattle.cobs.proofs.laws.answers.Goals as goal
+
+pub returns : goal.returns
+returns c = record { frames = zero_answers; others = zero_refuses }

@@ -1,0 +1,71 @@
+-- The laws of decoding.
+use Rattle.std.specs.Prelude.{◌≡◌, ◌≢◌, ℕ, ◌+◌, ◌<◌, nat_lt, min, if◌then◌else◌, List, [], ◌∷◌, ◌++◌, length, Option, Some, None, Result, Ok, Err}
+use Rattle.std.specs.List.{AllByRecursion}
+use Rattle.cobs.specs.Frames.{Frame, part}
+use Rattle.cobs.specs.Feeding.{fed, next, told_by, listed, at_zero}
+use Rattle.cobs.specs.Pieces.{first_answer, frame_left, buffer_left}
+use Rattle.cobs.specs.Reports.{report, parsed_size, frame_size}
+use Rattle.cobs.specs.declared.dec.DecoderState.{DecoderState}
+use Rattle.cobs.specs.declared.dec.DecoderState.TheVariants.{Idle}
+use Rattle.cobs.specs.declared.dec.DecodeResult.TheVariants.{DataComplete}
+use Rattle.cobs.specs.declared.dec.DecodeReport.{DecodeReport}
+use Rattle.cobs.specs.declared.dec.DecodeError.{DecodeError}
+use Rattle.cobs.specs.declared.dec.DecodeError.TheVariants.{InvalidFrame, TargetBufTooSmall}
+
+-- the bytes of a message that the table tells while it is fed these
+abbrev pub data_from : DecoderState → List ℕ → List ℕ
+data_from state [] = []
+data_from state (byte ∷ bytes) = listed (told_by (fed state byte)) ++ data_from (next state byte) bytes
+
+-- where it stands behind them
+abbrev pub state_from : DecoderState → List ℕ → DecoderState
+state_from state [] = state
+state_from state (byte ∷ bytes) = state_from (next state byte) bytes
+
+-- Over a frame and a zero, from Idle, the table tells the frame's message, and the zero completes it.
+abbrev pub TellsMessages : Type 0
+TellsMessages = (frame message : List ℕ) → Frame frame message → (data_from Idle (frame ++ 0 ∷ []) ≡ message) × (fed (state_from Idle frame) 0 ≡ Ok DataComplete)
+
+-- The zero behind a frame gives the length of its message, where there is room for it.
+abbrev pub AnswersFrames : Type 0
+AnswersFrames = (room : ℕ) (frame message : List ℕ) → Frame frame message → at_zero room frame ≡ (if nat_lt room (length message) then Err TargetBufTooSmall else Ok (Some (length message)))
+
+-- The zero behind other bytes is refused, with how many bytes they decide that had room.
+abbrev pub RefusesOthers : Type 0
+RefusesOthers = (room : ℕ) (bytes : List ℕ) → AllByRecursion (λ b. (0 < b) × (b < 256)) bytes → bytes ≢ [] → ((message : List ℕ) → Frame bytes message → ⊥) → at_zero room bytes ≡ Err (InvalidFrame (min (length (part bytes)) room))
+
+-- what pushing comes to: the answer, the bytes of the frame so far, and the buffer
+pub record Outcome : Type 0 where
+  pub answer : Result (Option DecodeReport) DecodeError
+  pub frame : List ℕ
+  pub buffer : List ℕ
+
+abbrev pub pushed : ℕ → List ℕ → List ℕ → List ℕ → Outcome
+pushed room frame buffer piece = record { answer = first_answer room frame piece 0; frame = frame_left room frame piece; buffer = buffer_left room frame piece buffer }
+
+-- the same answer, counted from so many bytes earlier
+abbrev pub moved : ℕ → Result (Option DecodeReport) DecodeError → Result (Option DecodeReport) DecodeError
+moved earlier (Ok None) = Ok None
+moved earlier (Ok (Some r)) = Ok (Some (report (earlier + parsed_size r) (frame_size r)))
+moved earlier (Err e) = Err e
+
+-- the first outcome that has an answer
+abbrev pub or_later : Result (Option DecodeReport) DecodeError → Outcome → ℕ → Outcome → Outcome
+or_later (Ok None) now used later = record { answer = moved used later.answer; frame = later.frame; buffer = later.buffer }
+or_later (Ok (Some r)) now used later = now
+or_later (Err e) now used later = now
+
+-- what pushing pieces in turn comes to, up to the first answer
+abbrev pub pushed_in_turn : ℕ → List ℕ → List ℕ → List (List ℕ) → Outcome
+pushed_in_turn room frame buffer [] = record { answer = Ok None; frame = frame; buffer = buffer }
+pushed_in_turn room frame buffer (piece ∷ pieces) =
+    or_later (first_answer room frame piece 0) (pushed room frame buffer piece) (length piece) (pushed_in_turn room (frame_left room frame piece) (buffer_left room frame piece buffer) pieces)
+
+-- pieces, one behind the other
+abbrev pub joined_up : List (List ℕ) → List ℕ
+joined_up [] = []
+joined_up (piece ∷ pieces) = piece ++ joined_up pieces
+
+-- Where bytes are cut into pieces makes no difference.
+abbrev pub IgnoresCuts : Type 0
+IgnoresCuts = (room : ℕ) (frame buffer : List ℕ) (pieces : List (List ℕ)) → pushed_in_turn room frame buffer pieces ≡ pushed room frame buffer (joined_up pieces)
