@@ -10,3 +10,6 @@ mod structs;
 pub use chain::Chain;
 pub use enums::{BasicEnum, DataEnum};
 pub use structs::{EnumStruct, NewTypeStruct, RefStruct, TupleStruct};
+
+#[cfg(test)]
+mod tests;
