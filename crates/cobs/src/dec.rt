@@ -693,5 +693,15 @@ impl<const N: usize> CobsDecoderHeapless<N> {
     }
 }
 
+impl<const N: usize> Default for CobsDecoderHeapless<N> {
+    ghost use Rattle.cobs.specs.Arrays.{ArrayHas, array_buffer};
+
+    ghost is_default = { λ d. ArrayHas d [] × (array_buffer d ≡ replicate N 0) };
+
+    fn default() -> CobsDecoderHeapless<N> {
+        CobsDecoderHeapless::new()
+    }
+}
+
 #[cfg(test)]
 mod tests;
