@@ -1,4 +1,5 @@
 use crate::fixint::{BE, LE, be, le};
+use crate::laws::round_trip;
 use crate::{Deserializer, Error, from_bytes, from_bytes_owned, from_io, take_from_bytes};
 use arrayvec::ArrayVec;
 use std::collections::BTreeMap;
@@ -153,5 +154,20 @@ fn by_reader(rt: HostRuntime) -> Result<(), Fail> {
     )?;
     assert!(rt; c.as_str() == "ab" && d.as_str() == "cd" && left.is_empty());
     assert_eq!(rt; rest.len(), 2);
+    Ok(())
+}
+
+#[test]
+fn written_and_read(rt: HostRuntime) -> Result<(), Fail> {
+    let mut room = [0u8; 12];
+    let ((number, text), rest) = round_trip(rt.alloc(), &(42439u16, Some("Hi!")), &[7], &mut room)?;
+    assert!(rt; number == 42439 && text.unwrap_or("") == "Hi!" && rest == [7].as_slice());
+    let mut small = [0u8; 3];
+    assert!(rt;
+        matches!(
+            &round_trip(rt.alloc(), &(1u8, 'z'), &[7], &mut small),
+            Err(Error::SerializeBufferFull)
+        )
+    );
     Ok(())
 }
