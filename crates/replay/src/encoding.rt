@@ -188,12 +188,38 @@ pub fn replay_sentinel(
     let mut room = vec![in alloc; 0; cobs::encoded_length(&message)]?;
     let n = cobs::encode_with_sentinel(&message, room.as_mut_slice(), *sentinel);
     findings.compare_bytes("encode_with_sentinel", &room[..n], &frame)?;
-    let mut frame = frame;
-    match cobs::decode_in_place_with_sentinel(frame.as_mut_slice(), *sentinel) {
-        Ok(n) if n <= frame.len() => {
-            findings.compare_bytes("decode_in_place_with_sentinel", &frame[..n], &message)?;
-        }
-        _ => findings.add("decode_in_place_with_sentinel", "refused")?,
+    decode_sentinel(alloc, &message, &frame, *sentinel, findings)
+}
+
+/// The calls that take the message back.
+fn decode_sentinel(
+    alloc: Global,
+    message: &[u8],
+    frame: &[u8],
+    sentinel: u8,
+    findings: &mut Findings,
+) -> Result<(), Trouble> {
+    let mut room = vec![in alloc; 0; message.len()]?;
+    match cobs::decode_with_sentinel(frame, room.as_mut_slice(), sentinel) {
+        Ok(n) => findings.compare_bytes(
+            "decode_with_sentinel",
+            room.get(..n).unwrap_or(&[]),
+            message,
+        )?,
+        Err(_) => findings.add("decode_with_sentinel", "refused")?,
+    }
+    match cobs::decode_vec_with_sentinel(alloc, frame, sentinel) {
+        Ok(made) => findings.compare_bytes("decode_vec_with_sentinel", &made, message)?,
+        Err(_) => findings.add("decode_vec_with_sentinel", "refused")?,
+    }
+    let mut copy = frame.to_vec(alloc)?;
+    match cobs::decode_in_place_with_sentinel(copy.as_mut_slice(), sentinel) {
+        Ok(n) => findings.compare_bytes(
+            "decode_in_place_with_sentinel",
+            copy.get(..n).unwrap_or(&[]),
+            message,
+        )?,
+        Err(_) => findings.add("decode_in_place_with_sentinel", "refused")?,
     }
     Ok(())
 }

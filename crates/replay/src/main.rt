@@ -2,13 +2,17 @@
 //! differs with what was answered, and then how many lines passed and failed.
 #![tactic(auto)]
 
+mod accumulating;
 mod decoding;
 mod encoding;
 mod findings;
+mod messages;
+mod reading;
 mod sizes;
 mod streams;
 mod values;
 mod words;
+mod writing;
 
 use crate::findings::Findings;
 use crate::words::{Trouble, Words};
@@ -23,9 +27,14 @@ fn replay(alloc: Global, line: &str, findings: &mut Findings) -> Result<(), Trou
     match words.next()? {
         "cobs_encode" => encoding::replay_encode(alloc, words, findings),
         "cobs_sentinel" => encoding::replay_sentinel(alloc, words, findings),
+        "cobs_decode" => decoding::replay_decode(alloc, words, findings),
         "cobs_in_place" => decoding::replay_in_place(alloc, words, findings),
         "cobs_stream" => streams::replay_stream(alloc, words, findings),
         "max_size" => sizes::replay_size(alloc, words, findings),
+        "write" => messages::replay_write(alloc, words, findings),
+        "read" => messages::replay_read(alloc, words, findings),
+        "read_frame" => messages::replay_read_frame(alloc, words, findings),
+        "accumulate" => accumulating::replay_accumulate(alloc, words, findings),
         _ => Err(Trouble::Unreadable),
     }
 }

@@ -1,7 +1,7 @@
 //! Frames that come in pieces.
 use crate::findings::Findings;
 use crate::words::{Trouble, Words, bytes_of, digits};
-use cobs::{CobsDecoder, DecodeError, DecodeReport};
+use cobs::{CobsDecoder, CobsDecoderHeapless, CobsDecoderOwned, DecodeError, DecodeReport};
 use std::alloc::{AllocError, Global};
 
 /// A streaming decoder.
@@ -14,6 +14,34 @@ trait Streaming {
 }
 
 impl Streaming for CobsDecoder<'_> {
+    fn feed_byte(&mut self, byte: u8) -> Result<Option<usize>, DecodeError> {
+        self.feed(byte)
+    }
+
+    fn push_piece(&mut self, piece: &[u8]) -> Result<Option<DecodeReport>, DecodeError> {
+        self.push(piece)
+    }
+
+    fn buffer(&self) -> &[u8] {
+        self.dest()
+    }
+}
+
+impl Streaming for CobsDecoderOwned {
+    fn feed_byte(&mut self, byte: u8) -> Result<Option<usize>, DecodeError> {
+        self.feed(byte)
+    }
+
+    fn push_piece(&mut self, piece: &[u8]) -> Result<Option<DecodeReport>, DecodeError> {
+        self.push(piece)
+    }
+
+    fn buffer(&self) -> &[u8] {
+        self.dest()
+    }
+}
+
+impl<const N: usize> Streaming for CobsDecoderHeapless<N> {
     fn feed_byte(&mut self, byte: u8) -> Result<Option<usize>, DecodeError> {
         self.feed(byte)
     }
@@ -47,19 +75,209 @@ pub fn replay_stream(
     }
     let wanted = words.answer()?;
     let mut room = vec![in alloc; 0; capacity]?;
-    let stops = feed(alloc, &mut CobsDecoder::new(room.as_mut_slice()), &pieces)?;
-    let answer = text_of(alloc, &stops)?;
-    findings.compare("CobsDecoder::feed", answer.as_str(), wanted)?;
-    let mut room = vec![in alloc; 0; capacity]?;
-    let mut decoder = CobsDecoder::new(room.as_mut_slice());
-    push(
+    let mut other = vec![in alloc; 0; capacity]?;
+    let mut fed = CobsDecoder::new(room.as_mut_slice());
+    let mut pushed = CobsDecoder::new(other.as_mut_slice());
+    compare_streams(
         alloc,
-        "CobsDecoder::push",
-        &mut decoder,
+        "CobsDecoder",
+        &mut fed,
+        &mut pushed,
         &pieces,
-        &stops,
+        wanted,
+        findings,
+    )?;
+    let mut fed = CobsDecoderOwned::new(alloc, capacity)?;
+    let mut pushed = CobsDecoderOwned::new(alloc, capacity)?;
+    compare_streams(
+        alloc,
+        "CobsDecoderOwned",
+        &mut fed,
+        &mut pushed,
+        &pieces,
+        wanted,
+        findings,
+    )?;
+    compare_heapless(alloc, capacity, &pieces, wanted, findings)
+}
+
+/// Compares what decoders of a fixed room answer, where there is one that answers the same.
+fn compare_heapless(
+    alloc: Global,
+    capacity: usize,
+    pieces: &[Vec<u8>],
+    wanted: &str,
+    findings: &mut Findings,
+) -> Result<(), Trouble> {
+    match capacity {
+        0 => {
+            let (mut fed, mut pushed) = (
+                CobsDecoderHeapless::<0>::new(),
+                CobsDecoderHeapless::<0>::new(),
+            );
+            compare_streams(
+                alloc,
+                "CobsDecoderHeapless",
+                &mut fed,
+                &mut pushed,
+                pieces,
+                wanted,
+                findings,
+            )?;
+        }
+        1 => {
+            let (mut fed, mut pushed) = (
+                CobsDecoderHeapless::<1>::new(),
+                CobsDecoderHeapless::<1>::new(),
+            );
+            compare_streams(
+                alloc,
+                "CobsDecoderHeapless",
+                &mut fed,
+                &mut pushed,
+                pieces,
+                wanted,
+                findings,
+            )?;
+        }
+        2 => {
+            let (mut fed, mut pushed) = (
+                CobsDecoderHeapless::<2>::new(),
+                CobsDecoderHeapless::<2>::new(),
+            );
+            compare_streams(
+                alloc,
+                "CobsDecoderHeapless",
+                &mut fed,
+                &mut pushed,
+                pieces,
+                wanted,
+                findings,
+            )?;
+        }
+        3 => {
+            let (mut fed, mut pushed) = (
+                CobsDecoderHeapless::<3>::new(),
+                CobsDecoderHeapless::<3>::new(),
+            );
+            compare_streams(
+                alloc,
+                "CobsDecoderHeapless",
+                &mut fed,
+                &mut pushed,
+                pieces,
+                wanted,
+                findings,
+            )?;
+        }
+        4 => {
+            let (mut fed, mut pushed) = (
+                CobsDecoderHeapless::<4>::new(),
+                CobsDecoderHeapless::<4>::new(),
+            );
+            compare_streams(
+                alloc,
+                "CobsDecoderHeapless",
+                &mut fed,
+                &mut pushed,
+                pieces,
+                wanted,
+                findings,
+            )?;
+        }
+        7 => {
+            let (mut fed, mut pushed) = (
+                CobsDecoderHeapless::<7>::new(),
+                CobsDecoderHeapless::<7>::new(),
+            );
+            compare_streams(
+                alloc,
+                "CobsDecoderHeapless",
+                &mut fed,
+                &mut pushed,
+                pieces,
+                wanted,
+                findings,
+            )?;
+        }
+        12 => {
+            let (mut fed, mut pushed) = (
+                CobsDecoderHeapless::<12>::new(),
+                CobsDecoderHeapless::<12>::new(),
+            );
+            compare_streams(
+                alloc,
+                "CobsDecoderHeapless",
+                &mut fed,
+                &mut pushed,
+                pieces,
+                wanted,
+                findings,
+            )?;
+        }
+        17 => {
+            let (mut fed, mut pushed) = (
+                CobsDecoderHeapless::<17>::new(),
+                CobsDecoderHeapless::<17>::new(),
+            );
+            compare_streams(
+                alloc,
+                "CobsDecoderHeapless",
+                &mut fed,
+                &mut pushed,
+                pieces,
+                wanted,
+                findings,
+            )?;
+        }
+        33 => {
+            let (mut fed, mut pushed) = (
+                CobsDecoderHeapless::<33>::new(),
+                CobsDecoderHeapless::<33>::new(),
+            );
+            compare_streams(
+                alloc,
+                "CobsDecoderHeapless",
+                &mut fed,
+                &mut pushed,
+                pieces,
+                wanted,
+                findings,
+            )?;
+        }
+        _ => {}
+    }
+    if capacity > 1024 || wanted.contains("TargetBufTooSmall") {
+        return Ok(());
+    }
+    let mut fed = CobsDecoderHeapless::<1024>::new();
+    let mut pushed = CobsDecoderHeapless::<1024>::new();
+    compare_streams(
+        alloc,
+        "CobsDecoderHeapless with room to spare",
+        &mut fed,
+        &mut pushed,
+        pieces,
+        wanted,
         findings,
     )
+}
+
+/// Compares what two new decoders answer to the pieces, one byte by byte, and one piece by piece.
+fn compare_streams<D: Streaming>(
+    alloc: Global,
+    name: &str,
+    fed: &mut D,
+    pushed: &mut D,
+    pieces: &[Vec<u8>],
+    wanted: &str,
+    findings: &mut Findings,
+) -> Result<(), Trouble> {
+    let stops = feed(alloc, fed, pieces)?;
+    let answer = text_of(alloc, &stops)?;
+    findings.compare(name, answer.as_str(), wanted)?;
+    let call = format!(in alloc; "{name}::push")?;
+    push(alloc, call.as_str(), pushed, pieces, &stops, findings)
 }
 
 /// What a decoder answers to the pieces, byte by byte.

@@ -1,6 +1,6 @@
 //! How the lines show a value.
 use arrayvec::{ArrayString, ArrayVec};
-use postcard_tree::fixint::{BE, FixInt, LE};
+use postcard::fixint::{BE, FixInt, LE};
 use std::alloc::AllocError;
 use std::collections::BTreeMap;
 

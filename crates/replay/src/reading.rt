@@ -1,0 +1,81 @@
+//! What bytes are read as.
+use crate::findings::Findings;
+use crate::values::Shown;
+use crate::words::Trouble;
+use postcard::{Deserialize, Error};
+use std::alloc::{AllocError, Global};
+
+/// Reads bytes by each call. A reader has as much room as there are bytes.
+pub fn read<'a, T: Deserialize<&'a [u8]> + Shown>(
+    alloc: Global,
+    bytes: &'a [u8],
+    room: &'a mut [u8],
+    wanted: &str,
+    findings: &mut Findings,
+) -> Result<(), Trouble> {
+    let answer = match postcard::take_from_bytes::<T>(alloc, bytes) {
+        Ok((value, rest)) => with_rest(alloc, &value, rest.len())?,
+        Err(error) => refusal(alloc, error)?,
+    };
+    findings.compare("take_from_bytes", answer.as_str(), wanted)?;
+    let wanted = value_of(wanted);
+    let answer = match postcard::from_bytes::<T>(alloc, bytes) {
+        Ok(value) => shown(alloc, &value)?,
+        Err(error) => refusal(alloc, error)?,
+    };
+    findings.compare("from_bytes", answer.as_str(), wanted)?;
+    let answer = match postcard::from_io::<T, &[u8]>(alloc, (bytes, room)) {
+        Ok((value, _)) => shown(alloc, &value)?,
+        Err(error) => refusal(alloc, error)?,
+    };
+    findings.compare("from_io", answer.as_str(), wanted)?;
+    Ok(())
+}
+
+/// Reads a frame, and a copy of it, by each call.
+pub fn read_frame<'a, T: Deserialize<&'a [u8]> + Shown>(
+    alloc: Global,
+    frame: &'a mut [u8],
+    copy: &'a mut [u8],
+    wanted: &str,
+    findings: &mut Findings,
+) -> Result<(), Trouble> {
+    let answer = match postcard::take_from_bytes_cobs::<T>(alloc, frame) {
+        Ok((value, rest)) => with_rest(alloc, &value, rest.len())?,
+        Err(error) => refusal(alloc, error)?,
+    };
+    findings.compare("take_from_bytes_cobs", answer.as_str(), wanted)?;
+    let answer = match postcard::from_bytes_cobs::<T>(alloc, copy) {
+        Ok(value) => shown(alloc, &value)?,
+        Err(error) => refusal(alloc, error)?,
+    };
+    findings.compare("from_bytes_cobs", answer.as_str(), value_of(wanted))?;
+    Ok(())
+}
+
+/// The answer without the count of bytes that are left.
+fn value_of(wanted: &str) -> &str {
+    match wanted.split_once(' ') {
+        Some((value, _)) => value,
+        None => wanted,
+    }
+}
+
+/// A value, in the words of a line.
+pub fn shown<T: Shown>(alloc: Global, value: &T) -> Result<String, AllocError> {
+    let mut text = String::new(alloc);
+    value.show(&mut text)?;
+    Ok(text)
+}
+
+/// A value and a count of bytes that are left.
+fn with_rest<T: Shown>(alloc: Global, value: &T, rest: usize) -> Result<String, AllocError> {
+    let mut text = shown(alloc, value)?;
+    write!(text, " +{rest}")?;
+    Ok(text)
+}
+
+/// A refusal, in the words of a line.
+pub fn refusal(alloc: Global, error: Error) -> Result<String, AllocError> {
+    format!(in alloc; "!{error:?}")
+}
