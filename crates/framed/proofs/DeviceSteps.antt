@@ -1,8 +1,7 @@
 -- Bytes that go out one after another.
-use Rattle.std.proofs.Common.{◌≡◌, ℕ, ◌<◌, ◌⊎◌, inl, inr, List, [], ◌++◌, length, refl, sym, ap, ◌∙◌, arith, append_assoc, Option}
+use Rattle.std.proofs.Common.{◌≡◌, ℕ, inl, inr, List, [], ◌++◌, refl, sym, ap, ◌∙◌, arith, append_assoc, Option}
 use Rattle.std.proofs.lemmas.List.{length-append}
 use Rattle.std.specs.Prelude.{Result, Ok, Err, OnErr}
-use Rattle.line_io.specs.Device.{Wrote}
 use Rattle.line_io.proofs.DeviceLemmas.{Wrote-none, Wrote-then}
 use Rattle.framed.specs.Devices.{WentOut, BrokeOff, Failed}
 

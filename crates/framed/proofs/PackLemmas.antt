@@ -1,15 +1,15 @@
 -- Lines that are framed, and how the work on a text's lines ends.
-use Rattle.std.proofs.Common.{◌≡◌, ℕ, ◌<◌, ◌≤◌, inl, inr, Bool, true, false, List, [], ◌++◌, length, take, refl, sym, ap, ◌∙◌, arith, if◌then◌else◌, Option}
+use Rattle.std.proofs.Common.{◌≡◌, ℕ, ◌<◌, ◌≤◌, inl, inr, Bool, false, List, [], ◌++◌, length, take, refl, sym, ap, ◌∙◌, arith, if◌then◌else◌, Option}
 use Rattle.std.specs.Prelude.{Result, Ok, Err, OnOk, OnErr, nat_eq}
 use Rattle.std.proofs.lemmas.List.{append-nil, length-take-le}
 use Rattle.cobs.specs.Frames.{shortest_frame}
 use Rattle.cobs.specs.FrameLaws.{HasOneShortest}
 use Rattle.framed.specs.declared.arguments.Mode.TheVariants.{Pack}
 use Rattle.framed.specs.declared.devices.End.TheVariants.{Ended}
-use Rattle.framed.specs.Devices.{Fate, whole, broken, Reach, ended, stopped}
+use Rattle.framed.specs.Devices.{Fate, whole, broken}
 use Rattle.framed.specs.Spelling.{SpellsShort}
 use Rattle.framed.specs.Sending.{lines_in, IsSent, IsRefused, Outcomes, session_bytes, refusals, all_sent}
-use Rattle.framed.specs.Program.{framed_text, SaysFirst, Begins, Finishes, WriteFails, LacksMemory, SayingFails, write_failed, no_memory}
+use Rattle.framed.specs.Program.{framed_text, SaysFirst, Finishes, WriteFails, LacksMemory, SayingFails, write_failed, no_memory}
 use Rattle.framed.specs.Working.{AsRead, Before}
 use Rattle.framed.proofs.SendingLemmas.{all_sent-refusals}
 

@@ -1,5 +1,5 @@
 -- How a run ends, from how its reading, its work and its last line ended.
-use Rattle.std.proofs.Common.{◌≡◌, ℕ, ◌<◌, ◌≤◌, ◌⊎◌, inl, inr, Bool, true, false, List, [], ◌++◌, refl, sym, ap, subst, ◌∙◌, arith, if◌then◌else◌, lit≤, lit<}
+use Rattle.std.proofs.Common.{◌≡◌, ℕ, ◌<◌, ◌≤◌, ◌⊎◌, inl, inr, Bool, true, false, List, [], ◌++◌, refl, sym, subst, arith, if◌then◌else◌}
 use Rattle.std.specs.Prelude.{Result, Ok, Err}
 use Rattle.framed.specs.declared.arguments.Mode.{Mode}
 use Rattle.framed.specs.declared.arguments.Mode.TheVariants.{Pack, Unpack}
@@ -8,9 +8,9 @@ use Rattle.framed.specs.declared.devices.End.TheVariants.{Ended, ReadFault, NoMe
 use Rattle.framed.specs.declared.stop.Stop.{Stop}
 use Rattle.framed.specs.declared.stop.Stop.TheVariants as stop
 use Rattle.framed.specs.Devices.{Fate, whole, broken, Reach, ended, stopped, failed}
-use Rattle.framed.specs.Program.{Program, WritesGiven, Begins, Finishes, ReadFails, WriteFails, LacksMemory, SayingFails, Fails, read_failed, write_failed, no_memory}
+use Rattle.framed.specs.Program.{Program, WritesGiven, Begins, Finishes, ReadFails, LacksMemory, SayingFails, Fails, read_failed, write_failed, no_memory}
 use Rattle.framed.specs.Sending.{lines_in}
-use Rattle.framed.specs.Working.{AsRead, Before, Worked, whole_text, SaysLast, Reports}
+use Rattle.framed.specs.Working.{AsRead, Before, Worked, whole_text, Reports}
 use Rattle.framed.proofs.WorkLemmas.{Finishes-map, ReadFails-map, WriteFails-map, LacksMemory-map, SayingFails-map}
 
 -- all of the text is there where it was read to its end

@@ -1,10 +1,10 @@
 -- How the work of a run ends, and what becomes of that when the last line is said.
-use Rattle.std.proofs.Common.{◌≡◌, ℕ, ◌<◌, ◌≤◌, ◌⊎◌, inl, inr, Bool, true, false, List, [], ◌∷◌, ◌++◌, length, refl, sym, ap, ◌∙◌, arith, append_assoc, if◌then◌else◌}
+use Rattle.std.proofs.Common.{◌≡◌, ℕ, inl, inr, Bool, true, false, List, [], ◌++◌, refl, sym, ap, ◌∙◌, append_assoc, if◌then◌else◌}
 use Rattle.std.specs.List.{list_all}
 use Rattle.std.specs.Prelude.{Result, Ok, Err}
 use Rattle.std.proofs.lemmas.List.{append-nil}
 use Rattle.framed.specs.declared.arguments.Mode.{Mode}
-use Rattle.framed.specs.declared.arguments.Mode.TheVariants.{Pack, Unpack}
+use Rattle.framed.specs.declared.arguments.Mode.TheVariants.{Unpack}
 use Rattle.framed.specs.declared.devices.End.{End}
 use Rattle.framed.specs.declared.devices.End.TheVariants.{Ended, ReadFault, NoMemory}
 use Rattle.framed.specs.declared.stop.Stop.{Stop}

@@ -1,4 +1,4 @@
-use Rattle.std.proofs.Common.{◌∙◌, [], ◌++◌, ap}
+use Rattle.std.proofs.Common.{◌∙◌}
 use Rattle.framed.proofs.PackLemmas.{refused-line}
 use Rattle.framed.proofs.pack.frame_line.Goals as goal
 

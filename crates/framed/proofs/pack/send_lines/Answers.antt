@@ -2,7 +2,7 @@ use Rattle.std.proofs.Common.{◌≡◌, ◌+◌, ◌∷◌, ◌++◌, [], lengt
 use Rattle.std.proofs.lemmas.List.{length-append}
 use Rattle.std.proofs.lemmas.Result.{on_ok_weaker, on_err_weaker}
 use Rattle.framed.proofs.DeviceSteps.{on_err}
-use Rattle.framed.proofs.SendingLemmas.{Packed-nil, Packed-more, Packed-last, Packed-all, Packed-first, session-more, refusals-more, clean-append}
+use Rattle.framed.proofs.SendingLemmas.{Packed-more, Packed-last, Packed-all, Packed-first, session-more, refusals-more, clean-append}
 use Rattle.framed.proofs.pack.send_lines.Goals as goal
 
 pub returns-in_err-send-clause-err : goal.returns-in_err-send-clause-err

@@ -1,4 +1,3 @@
-use Rattle.std.proofs.Common.{◌≡◌, ◌++◌, [], sym, ap, ◌∙◌}
 use Rattle.framed.specs.Devices.{Writing, Reading}
 use Rattle.framed.proofs.DeviceSteps.{went-then, went-broke}
 use Rattle.framed.proofs.RunLemmas.{read-as, ends}

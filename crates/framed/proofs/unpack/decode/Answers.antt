@@ -1,5 +1,4 @@
 use Rattle.std.proofs.Common.{refl, sym, ◌∙◌}
-use Rattle.cobs.specs.Frames.{Frame}
 use Rattle.framed.proofs.FrameLemmas.{decoded, stretch-is}
 use Rattle.framed.proofs.unpack.decode.Goals as goal
 

@@ -1,8 +1,6 @@
-use Rattle.std.proofs.Common.{◌≡◌, ◌++◌, [], refl, sym, ap, ◌∙◌, append_assoc}
-use Rattle.std.specs.Prelude.{flat_map}
+use Rattle.std.proofs.Common.{◌++◌, [], sym, ap, ◌∙◌, append_assoc}
 use Rattle.std.proofs.lemmas.List.{append-nil}
 use Rattle.std.proofs.lemmas.Result.{on_ok_weaker, on_err_weaker}
-use Rattle.framed.specs.Stream.{escape}
 use Rattle.framed.proofs.DeviceSteps.{on_err}
 use Rattle.framed.proofs.OutputLemmas.{put-then, put-done, put-breaks}
 use Rattle.framed.proofs.unpack.put_escaped.Goals as goal

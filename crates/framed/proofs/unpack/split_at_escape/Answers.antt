@@ -1,4 +1,4 @@
-use Rattle.std.proofs.Common.{arith, sym, ◌∙◌}
+use Rattle.std.proofs.Common.{arith}
 use Rattle.std.proofs.lemmas.Grind.{common_steps}
 use Rattle.framed.proofs.StreamLemmas.{escape-at}
 use Rattle.framed.proofs.unpack.split_at_escape.Goals as goal
