@@ -9,7 +9,7 @@ use Rattle.cobs.specs.contracts.dec.CobsDecoderHeapless.{the_row}
 module _ {N : ℕ} where
   -- the buffer
   abbrev pub array_buffer : CobsDecoderHeapless N → List ℕ
-  array_buffer d = d.buffer.items
+  array_buffer d = d.array.items
 
   -- The bytes of this frame so far were taken in.
   abbrev pub ArrayHas : CobsDecoderHeapless N → List ℕ → Type 0
@@ -17,7 +17,7 @@ module _ {N : ℕ} where
 
   -- the same decoder with this in its buffer
   abbrev pub with_array_buffer : CobsDecoderHeapless N → List ℕ → CobsDecoderHeapless N
-  with_array_buffer d bytes = record d { buffer = with_items d.buffer bytes }
+  with_array_buffer d bytes = record d { array = with_items d.array bytes }
 
 -- The buffer is lent: it ends as what is left behind the result, and nothing else changes.
 module _ (N : RattleType) (d : MutBor (the_row N).Denot) where

@@ -1,4 +1,4 @@
-//! Decoding, streaming and whole.
+//! Decoding: byte by byte by a table, in streams into a buffer, and of whole sources.
 ghost use Rattle.std.specs.Prelude.{◌≡◌, ◌≢◌, ◌^◌, ℕ, ◌+◌, ◌-◌, ◌*◌, ◌/◌, ◌<◌, ◌≤◌, ◌↔◌, List, [], ◌∷◌, ◌++◌, length, take, drop, replicate, slice_index, true, false, IsTrue, IfOk, IfErr, OnOk, OnErr, IsOk, IsErr, MatchResult, IfSome, IfNone, IsSome, IsNone, ◌⊎◌};
 ghost use Rattle.std.specs.Borrow.{sem};
 ghost use Rattle.cobs.specs.Frames.{Frame, part};
@@ -13,7 +13,7 @@ use arrayvec::ArrayVec;
 use std::alloc::{AllocError, Global};
 use thiserror::Error;
 
-/// Where a decoder stands in a frame.
+/// Where a decoder stands in a frame. Its user keeps the message.
 #[derive(Clone, Copy, PartialEq, Debug)]
 pub enum DecoderState {
     /// Between frames.
@@ -27,23 +27,34 @@ pub enum DecoderState {
 /// What a byte tells.
 #[derive(Clone, Copy, PartialEq, Debug)]
 pub enum DecodeResult {
+    /// No byte of a message: a zero between frames, or the code behind a full block.
     NoData,
+    /// A frame begins.
     DataStart,
+    /// The frame is whole.
     DataComplete,
+    /// The next byte of the message.
     DataContinue(u8),
 }
 
 /// Why a frame was refused.
 #[derive(Clone, Copy, PartialEq, Eq, Debug, Error)]
 pub enum DecodeError {
+    /// There is no nonzero byte.
     #[error("empty frame")]
     EmptyFrame,
+    /// The bytes are no frame.
     #[error("invalid frame after {decoded_bytes} bytes")]
-    InvalidFrame { decoded_bytes: usize },
+    InvalidFrame {
+        /// How many bytes of a message they decided.
+        decoded_bytes: usize,
+    },
+    /// A byte of the message has no room.
     #[error("target buffer too small")]
     TargetBufTooSmall,
 }
 
+// Where a code leads.
 fn by_code(code: u8) -> DecoderState
     requires { 0 < code }
     ensures { result ≡ state_by_code code }
@@ -56,7 +67,9 @@ fn by_code(code: u8) -> DecoderState
 }
 
 impl DecoderState {
-    /// Takes a byte.
+    /// Takes a byte, and says what it tells: over a frame and a zero, from `Idle`, the bytes of its message.
+    ///
+    /// A zero inside a block is `InvalidFrame`, with no bytes counted. After every zero the state is `Idle`.
     pub fn feed(&mut self, data: u8) -> Result<DecodeResult, DecodeError>
         ensures answer { result ≡ fed self.old «data» }
         ensures state { self.new ≡ next self.old «data» }
@@ -253,6 +266,12 @@ impl Progress {
         }
     }
 
+    fn reset(&mut self)
+        ensures { (room : ℕ) → Stands room self.new [] }
+    {
+        *self = Progress::new();
+    }
+
     // Takes in a byte of a frame.
     fn take_in(&mut self, buffer: &mut [u8], byte: u8) -> Result<Option<usize>, DecodeError>
         requires { 0 < byte }
@@ -285,7 +304,7 @@ impl Progress {
             len,
             over,
         } = *self;
-        *self = Progress::new();
+        self.reset();
         match state.feed(0) {
             Ok(DecodeResult::NoData) => Ok(None),
             Ok(_) if over => Err(DecodeError::TargetBufTooSmall),
@@ -466,6 +485,12 @@ pub fn decode_vec_with_sentinel(
 }
 
 /// Decodes frames that come byte by byte, into a buffer.
+///
+/// ```text
+/// let mut decoder = CobsDecoder::new(&mut buffer);
+/// decoder.push(&[3, 10, 11, 2])       // Ok(None)
+/// decoder.push(&[12, 0, 7])           // Ok(Some(report)): 2 bytes were used, and dest()[..4] is 10, 11, 0, 12
+/// ```
 #[derive(Drop)]
 pub struct CobsDecoder<'a> {
     dest: &'a mut [u8],
@@ -490,7 +515,12 @@ impl<'a> CobsDecoder<'a> {
         }
     }
 
-    /// Takes in a byte. At the zero of a whole frame, the length of its message, which then stands in front of the buffer.
+    /// Takes in a byte. At the zero of a whole frame it gives the length n of the message, which is `dest()[..n]`; until
+    /// then, and at a zero between frames, nothing.
+    ///
+    /// `TargetBufTooSmall` at each byte whose byte of the message has no room, and again at the zero of such a frame.
+    /// `InvalidFrame` at a zero inside a block, with how many bytes were decoded and had room. After every zero the
+    /// decoder is between frames.
     pub fn feed(&mut self, data: u8) -> Result<Option<usize>, DecodeError>
         ensures has { (p : List ℕ) → Has self.old p → Has self.new (frame_after p «data») }
         ensures answer { (p : List ℕ) → Has self.old p → result ≡ answer_of (length (buffer_of self.old)) p «data» }
@@ -504,7 +534,8 @@ impl<'a> CobsDecoder<'a> {
         self.progress.feed(self.dest, data)
     }
 
-    /// Takes in bytes until the first answer.
+    /// Takes in bytes up to the first answer that `feed` gives. `parsed_size` counts the bytes of this piece, the zero
+    /// included. Where a byte is refused, the decoder stands behind it.
     pub fn push(&mut self, data: &[u8]) -> Result<Option<DecodeReport>, DecodeError>
         ensures has { (p : List ℕ) → Has self.old p → Has self.new (frame_left (length (buffer_of self.old)) p «data».now) }
         ensures answer { (p : List ℕ) → Has self.old p → result ≡ first_answer (length (buffer_of self.old)) p «data».now 0 }
@@ -524,11 +555,11 @@ impl<'a> CobsDecoder<'a> {
         self.dest
     }
 
-    /// The buffer, to be written.
+    /// The buffer, to be written. What is written over bytes that were decoded stands in their place.
     pub fn dest_mut(&mut self) -> &mut [u8]
         ensures { result.now ≡ buffer_of self.old }
     {
-        self.dest
+        &mut *self.dest
     }
 }
 
@@ -556,7 +587,12 @@ impl CobsDecoderOwned {
         })
     }
 
-    /// Takes in a byte. At the zero of a whole frame, the length of its message, which then stands in front of the buffer.
+    /// Takes in a byte. At the zero of a whole frame it gives the length n of the message, which is `dest()[..n]`; until
+    /// then, and at a zero between frames, nothing.
+    ///
+    /// `TargetBufTooSmall` at each byte whose byte of the message has no room, and again at the zero of such a frame.
+    /// `InvalidFrame` at a zero inside a block, with how many bytes were decoded and had room. After every zero the
+    /// decoder is between frames.
     pub fn feed(&mut self, data: u8) -> Result<Option<usize>, DecodeError>
         ensures has { (p : List ℕ) → OwnedHas self.old p → OwnedHas self.new (frame_after p «data») }
         ensures answer { (p : List ℕ) → OwnedHas self.old p → result ≡ answer_of (length (owned_buffer self.old)) p «data» }
@@ -569,7 +605,8 @@ impl CobsDecoderOwned {
         self.progress.feed(self.buffer.as_mut_slice(), data)
     }
 
-    /// Takes in bytes until the first answer.
+    /// Takes in bytes up to the first answer that `feed` gives. `parsed_size` counts the bytes of this piece, the zero
+    /// included. Where a byte is refused, the decoder stands behind it.
     pub fn push(&mut self, data: &[u8]) -> Result<Option<DecodeReport>, DecodeError>
         ensures has { (p : List ℕ) → OwnedHas self.old p → OwnedHas self.new (frame_left (length (owned_buffer self.old)) p «data».now) }
         ensures answer { (p : List ℕ) → OwnedHas self.old p → result ≡ first_answer (length (owned_buffer self.old)) p «data».now 0 }
@@ -587,7 +624,7 @@ impl CobsDecoderOwned {
         ensures idle { OwnedHas self.new [] }
         ensures buffer { owned_buffer self.new ≡ owned_buffer self.old }
     {
-        self.progress = Progress::new();
+        self.progress.reset();
     }
 
     /// The buffer.
@@ -609,7 +646,7 @@ impl CobsDecoderOwned {
 /// Decodes frames that come byte by byte, into a buffer of N bytes of its own.
 #[derive(Drop)]
 pub struct CobsDecoderHeapless<const N: usize> {
-    buffer: ArrayVec<u8, N>,
+    array: ArrayVec<u8, N>,
     progress: Progress,
 }
 
@@ -633,17 +670,22 @@ impl<const N: usize> CobsDecoderHeapless<N> {
         ensures buffer { array_buffer result ≡ vec.entry.items ++ replicate (N - length vec.entry.items) 0 }
         ensures room { length (array_buffer result) ≡ N }
     {
-        let mut buffer = vec;
-        while !buffer.is_full() {
-            buffer.push(0);
+        let mut array = vec;
+        while !array.is_full() {
+            array.push(0);
         }
         CobsDecoderHeapless {
-            buffer,
+            array,
             progress: Progress::new(),
         }
     }
 
-    /// Takes in a byte. At the zero of a whole frame, the length of its message, which then stands in front of the buffer.
+    /// Takes in a byte. At the zero of a whole frame it gives the length n of the message, which is `dest()[..n]`; until
+    /// then, and at a zero between frames, nothing.
+    ///
+    /// `TargetBufTooSmall` at each byte whose byte of the message has no room, and again at the zero of such a frame.
+    /// `InvalidFrame` at a zero inside a block, with how many bytes were decoded and had room. After every zero the
+    /// decoder is between frames.
     pub fn feed(&mut self, data: u8) -> Result<Option<usize>, DecodeError>
         ensures has { (p : List ℕ) → ArrayHas self.old p → ArrayHas self.new (frame_after p «data») }
         ensures answer { (p : List ℕ) → ArrayHas self.old p → result ≡ answer_of (length (array_buffer self.old)) p «data» }
@@ -653,10 +695,11 @@ impl<const N: usize> CobsDecoderHeapless<N> {
         ensures within { IfOk result (λ o. IfSome o (λ n. n ≤ length (array_buffer self.new))) }
         ensures room { length (array_buffer self.new) ≡ length (array_buffer self.old) }
     {
-        self.progress.feed(self.buffer.as_mut_slice(), data)
+        self.progress.feed(self.array.as_mut_slice(), data)
     }
 
-    /// Takes in bytes until the first answer.
+    /// Takes in bytes up to the first answer that `feed` gives. `parsed_size` counts the bytes of this piece, the zero
+    /// included. Where a byte is refused, the decoder stands behind it.
     pub fn push(&mut self, data: &[u8]) -> Result<Option<DecodeReport>, DecodeError>
         ensures has { (p : List ℕ) → ArrayHas self.old p → ArrayHas self.new (frame_left (length (array_buffer self.old)) p «data».now) }
         ensures answer { (p : List ℕ) → ArrayHas self.old p → result ≡ first_answer (length (array_buffer self.old)) p «data».now 0 }
@@ -666,7 +709,7 @@ impl<const N: usize> CobsDecoderHeapless<N> {
         ensures within { IfOk result (λ o. IfSome o (λ r. (parsed_size r ≤ length «data».now) × (frame_size r ≤ length (array_buffer self.new)))) }
         ensures room { length (array_buffer self.new) ≡ length (array_buffer self.old) }
     {
-        self.progress.push(self.buffer.as_mut_slice(), data)
+        self.progress.push(self.array.as_mut_slice(), data)
     }
 
     /// Makes the decoder idle. What was taken in of a frame is forgotten.
@@ -674,14 +717,14 @@ impl<const N: usize> CobsDecoderHeapless<N> {
         ensures idle { ArrayHas self.new [] }
         ensures buffer { array_buffer self.new ≡ array_buffer self.old }
     {
-        self.progress = Progress::new();
+        self.progress.reset();
     }
 
     /// The buffer.
     pub fn dest(&self) -> &[u8]
         ensures { result.now ≡ array_buffer self.now }
     {
-        self.buffer.as_slice()
+        self.array.as_slice()
     }
 
     /// The buffer, to be written. The decoder goes on in its frame: what is written over bytes that were decoded stands in their place.
@@ -689,7 +732,7 @@ impl<const N: usize> CobsDecoderHeapless<N> {
         ensures* lends { sem 𝓛 (LendsArrayBuffer N.row self.entry result) }
         ensures value { result.now ≡ array_buffer self.old }
     {
-        self.buffer.as_mut_slice()
+        self.array.as_mut_slice()
     }
 }
 

@@ -3,12 +3,12 @@ use Rattle.std.proofs.Math.ListN.{replicate}
 use Rattle.arrayvec.specs.ArrayVec.{array_vec_len}
 use Rattle.cobs.proofs.dec.CobsDecoderHeapless.new_with_vec.Given as goal
 
-abbrev pub invariant-loop-buffer : goal.invariant-loop-buffer
-invariant-loop-buffer g l = record {
-  within : array_vec_len l.buffer ≤ g.row.N;
-  longer : length l.initial.buffer.items ≤ length l.buffer.items;
-  zeros : l.buffer.items ≡ l.initial.buffer.items ++ replicate (length l.buffer.items - length l.initial.buffer.items) 0;
+abbrev pub invariant-loop-array : goal.invariant-loop-array
+invariant-loop-array g l = record {
+  within : array_vec_len l.array ≤ g.row.N;
+  longer : length l.initial.array.items ≤ length l.array.items;
+  zeros : l.array.items ≡ l.initial.array.items ++ replicate (length l.array.items - length l.initial.array.items) 0;
 }
 
-abbrev pub decreases-loop-buffer : goal.decreases-loop-buffer
-decreases-loop-buffer g l = g.row.N - array_vec_len l.buffer
+abbrev pub decreases-loop-array : goal.decreases-loop-array
+decreases-loop-array g l = g.row.N - array_vec_len l.array
