@@ -1,4 +1,4 @@
--- What is fed, case by case.
+-- What is fed.
 use Rattle.std.proofs.Common.{◌≡◌, ℕ, ◌+◌, ◌-◌, ◌<◌, ◌≤◌, List, [], ◌++◌, length, take, drop, refl, sym, ◌∙◌, ap, subst, arith, append-nil, ◌≢◌}
 use Rattle.std.proofs.lemmas.List.{length-take-le}
 use Rattle.cobs.specs.InPlace.{stretch}
@@ -7,38 +7,11 @@ use Rattle.postcard.proofs.Stretches.{stretch_short}
 
 -- n bytes of the input stand before its first zero, and `count` bytes were held, all of them here
 module _ {C : Type 0} {O : List ℕ → Type 0} {A : List ℕ → List ℕ → Type 0} (room n count : ℕ) (held input kept : List ℕ) (before : n ≡ length (stretch input)) (counted : length held ≡ count) (within : count ≤ room) where
-  pub feeds_more : n ≡ length input → count + length input ≤ room → C → kept ≡ held ++ input → Feeds room held input C O A kept
-  feeds_more e f c k = record {
-    nothing = λ z. (c, k ∙ ap (λ x. held ++ x) z ∙ append-nil held);
-    ended = λ l. absurd (omega (arith, l, e, before));
-    full_ended = λ l. absurd (omega (arith, l, e, before));
-    more = λ _ _. (c, k);
-    full = λ _ o. absurd (omega (arith, counted, f, o));
-  }
-
-  pub feeds_full : n ≡ length input → room < count + length input → O (drop (room - count) input) → kept ≡ [] → Feeds room held input C O A kept
-  feeds_full e f o k = record {
-    nothing = λ z. absurd (omega (arith, ap length z, within, f));
-    ended = λ l. absurd (omega (arith, l, e, before));
-    full_ended = λ l. absurd (omega (arith, l, e, before));
-    more = λ _ l. absurd (omega (arith, counted, f, l));
-    full = λ _ _. (subst (λ m. O (drop (room - m) input)) (sym counted) o, k);
-  }
-
   pub feeds_ended : n ≢ length input → count + (n + 1) ≤ room → A (held ++ stretch input) (drop (n + 1) input) → kept ≡ [] → Feeds room held input C O A kept
   feeds_ended e f a k = record {
     nothing = λ z. absurd (e (let s = stretch_short input in omega (arith, before, s, ap length z)));
     ended = λ _ _. (subst (λ m. A (held ++ stretch input) (drop (m + 1) input)) before a, k);
     full_ended = λ _ o. absurd (omega (arith, counted, before, f, o));
-    more = λ l. absurd (e (omega (arith, l, before)));
-    full = λ l. absurd (e (omega (arith, l, before)));
-  }
-
-  pub feeds_full_ended : n ≢ length input → room < count + (n + 1) → O (drop (n + 1) input) → kept ≡ [] → Feeds room held input C O A kept
-  feeds_full_ended e f o k = record {
-    nothing = λ z. absurd (e (let s = stretch_short input in omega (arith, before, s, ap length z)));
-    ended = λ _ l. absurd (omega (arith, counted, before, f, l));
-    full_ended = λ _ _. (subst (λ m. O (drop (m + 1) input)) before o, k);
     more = λ l. absurd (e (omega (arith, l, before)));
     full = λ l. absurd (e (omega (arith, l, before)));
   }

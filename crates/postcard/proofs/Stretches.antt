@@ -86,13 +86,6 @@ rest_stays old new t =
     let whole : take (length old) m ≡ m = take_all (length old) m (omega (arith, short, stretch_short old)) in
     rw (t, whole) (drop-append-drop (length m) old m (length (stretch old)) short refl)
 
--- a byte that isn't zero
-pub stretch_step : (s : List ℕ) (i : ℕ) → i < length s → (get_or s i 0 ≡ 0 → ⊥) → length (stretch (drop i s)) ≡ 1 + length (stretch (drop (i + 1) s))
-stretch_step s i h n = ap (λ x. length (stretch x)) (drop_more s i 0 h) ∙ rw (ne_eqb (get_or s i 0) 0 n) (omega arith)
-
-pub stretch_stop : (s : List ℕ) (i : ℕ) → i < length s → get_or s i 0 ≡ 0 → length (stretch (drop i s)) ≡ 0
-stretch_stop s i h e = ap (λ x. length (stretch x)) (drop_more s i 0 h ∙ ap (λ b. b ∷ drop (i + 1) s) e)
-
 -- where there is no zero
 whole_cons : (b : ℕ) (s : List ℕ) → (length (stretch s) ≡ length s → stretch s ≡ s) → length (stretch (b ∷ s)) ≡ length (b ∷ s) → stretch (b ∷ s) ≡ b ∷ s
 whole_cons zero s f e = absurd (omega (arith, e))
@@ -144,9 +137,6 @@ through s n e h = rw e (stretch_through s (omega (arith, stretch_short s, e, h))
 
 pub put_copied : (i k : ℕ) (xs ys zs : List ℕ) → i ≤ length xs → zs ≡ ys → take (i + length ys) (put_mid i k xs zs) ≡ take i xs ++ ys
 put_copied i k xs ys zs h z = rw z (put_filled i k xs ys h)
-
-pub take_none : (n : ℕ) (xs : List ℕ) → n ≡ 0 → take n xs ≡ []
-take_none n xs e = rw e refl
 
 pub take_rest : (n : ℕ) (xs : List ℕ) → take (length xs - n) (drop n xs) ≡ drop n xs
 take_rest n xs = take_all (length xs - n) (drop n xs) (omega (arith, length-drop n xs))
