@@ -24,7 +24,15 @@ pub struct Ran<R, W, E> {
     pub faults: E,
 }
 
-/// Does the work of the program.
+/// Does the work of the program: reads a text to its end, writes what the mode makes of it, and says on `faults` what
+/// went wrong.
+///
+/// `Mode::Pack` sends each line as text by one sender, and says `line K: refused` of a line that isn't UTF-8 or whose frame
+/// is longer than 1024 bytes; the refusals are said before the frames are written. `Mode::Unpack` writes a line for each
+/// stretch of the framed bytes. With `hex` the framed side is hexadecimal text, in lower case where it is written.
+///
+/// The status is 0; 1 where a line was refused or an answer isn't a value; 2 where the text isn't hexadecimal; 3 where a
+/// device failed; 4 where memory ran out. Statuses 2 to 4 end the run, and the last line on `faults` says why.
 pub fn run<R: Inlet, W: Outlet, E: Outlet>(
     alloc: Global,
     mode: Mode,
