@@ -35,32 +35,6 @@ before_on s bytes i l n e =
     opens : (x : ℕ) (xs : List ℕ) → 0 < x → stretch (x ∷ xs) ≡ x ∷ stretch xs
     opens x xs p = rw (ne_eqb x 0 (λ z. omega arith)) refl
 
--- and the first one
-pub before_here : (sentinel : ℕ) (bytes : List ℕ) (i : ℕ) → i < length bytes → get_or bytes i 0 ≡ sentinel
-    → stretch (masked sentinel bytes) ≡ masked sentinel (take i bytes) ++ stretch (masked sentinel (drop i bytes))
-    → masked sentinel (take i bytes) ≡ stretch (masked sentinel bytes)
-before_here s bytes i l h e =
-    let none : stretch (masked s (drop i bytes)) ≡ [] =
-    ap (λ d. stretch (masked s d)) (drop_more bytes i 0 l) ∙ ap (λ x. stretch (x ∷ masked s (drop (i + 1) bytes))) (ap (bit_xor s) h ∙ xor_self s) in
-    sym (e ∙ ap (λ d. masked s (take i bytes) ++ d) none ∙ append-nil (masked s (take i bytes)))
-
--- or none
-pub before_end : (sentinel : ℕ) (bytes : List ℕ) (i : ℕ) → length bytes ≤ i
-    → stretch (masked sentinel bytes) ≡ masked sentinel (take i bytes) ++ stretch (masked sentinel (drop i bytes))
-    → masked sentinel bytes ≡ stretch (masked sentinel bytes)
-before_end s bytes i l e =
-    sym (e ∙ ap (λ d. masked s (take i bytes) ++ stretch (masked s d)) (drop_all i bytes l) ∙ append-nil (masked s (take i bytes)) ∙ ap (masked s) (take_all i bytes l))
-
--- leading zeros
-pub zero_on : (bytes : List ℕ) (i : ℕ) → i < length bytes → get_or bytes i 0 ≡ 0 → unpadded (drop i bytes) ≡ unpadded (drop (i + 1) bytes)
-zero_on bytes i l z = ap unpadded (drop_more bytes i 0 l ∙ ap (λ b. b ∷ drop (i + 1) bytes) z)
-
-pub zero_ends : (bytes : List ℕ) (i : ℕ) → i < length bytes → 0 < get_or bytes i 0 → unpadded (drop i bytes) ≡ drop i bytes
-zero_ends bytes i l p = ap unpadded (drop_more bytes i 0 l) ∙ opens (get_or bytes i 0) (drop (i + 1) bytes) p ∙ sym (drop_more bytes i 0 l)
-  where
-    opens : (x : ℕ) (xs : List ℕ) → 0 < x → unpadded (x ∷ xs) ≡ x ∷ xs
-    opens x xs p = rw (ne_eqb x 0 (λ z. omega arith)) refl
-
 -- the sentinel zero changes nothing
 pub masked_zero : (bytes : List ℕ) → masked 0 bytes ≡ bytes
 masked_zero [] = refl

@@ -70,16 +70,6 @@ used_up source rest frame ended r w f e =
       | inr h ↦ omega (arith, long, short, w, h.0, h.1)
     ]
 
--- the answers of decoding into so much room
-pub into_whole : (room : ℕ) (bytes : List ℕ) (len : ℕ) → len ≡ length (part bytes) → missing bytes ≡ 0 → len ≤ room → Ok len ≡ decoded_into room bytes
-into_whole room bytes len c m l = rw (eq-eqb (missing bytes) 0 m, le-ltb room (length (part bytes)) (omega (arith, c, l)), c) refl
-
-pub into_over : (room : ℕ) (bytes : List ℕ) (len : ℕ) → len ≡ length (part bytes) → missing bytes ≡ 0 → room < len → Err TargetBufTooSmall ≡ decoded_into room bytes
-into_over room bytes len c m l = rw (eq-eqb (missing bytes) 0 m, lt-ltb room (length (part bytes)) (omega (arith, c, l))) refl
-
-pub into_broken : (room : ℕ) (bytes : List ℕ) (len : ℕ) → len ≡ length (part bytes) → (missing bytes ≡ 0 → ⊥) → Err (InvalidFrame len) ≡ decoded_into room bytes
-into_broken room bytes len c m = rw (ne_eqb (missing bytes) 0 m, c) refl
-
 -- The first i bytes of a frame were taken in.
 pub record Entering (frame source : List ℕ) (i len : ℕ) (state : DecoderState) (dest : List ℕ) : Type 0 where
   pub taken : Taken state len (take i frame)
