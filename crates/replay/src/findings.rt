@@ -1,4 +1,6 @@
 //! What differs.
+ghost use Rattle.std.specs.Prelude.{◌≡◌, ◌≢◌, ◌<◌, ◌≤◌, ◌↔◌, IsTrue, OnOk, string_len};
+
 use crate::words::digits;
 use std::alloc::{AllocError, Global};
 
@@ -10,14 +12,18 @@ pub struct Findings {
 }
 
 impl Findings {
-    pub fn new(alloc: Global) -> Findings {
+    pub fn new(alloc: Global) -> Findings
+        ensures { string_len result.text ≡ 0 }
+    {
         Findings {
             alloc,
             text: String::new(alloc),
         }
     }
 
-    pub fn is_empty(&self) -> bool {
+    pub fn is_empty(&self) -> bool
+        ensures { IsTrue result ↔ (string_len self.now.text ≡ 0) }
+    {
         self.text.is_empty()
     }
 
@@ -26,7 +32,10 @@ impl Findings {
     }
 
     /// Notes the answer of a call as one that differs.
-    pub fn add(&mut self, call: &str, answer: &str) -> Result<(), AllocError> {
+    pub fn add(&mut self, call: &str, answer: &str) -> Result<(), AllocError>
+        ensures noted { OnOk result (0 < string_len self.new.text) }
+        ensures kept { string_len self.old.text ≤ string_len self.new.text }
+    {
         self.text.push_str(" | ")?;
         self.text.push_str(call)?;
         self.text.push_str(": ")?;
@@ -34,7 +43,11 @@ impl Findings {
     }
 
     /// Compares what a call answered, in the line's words.
-    pub fn compare(&mut self, call: &str, answer: &str, wanted: &str) -> Result<(), AllocError> {
+    pub fn compare(&mut self, call: &str, answer: &str, wanted: &str) -> Result<(), AllocError>
+        ensures equal { answer.now ≡ wanted.now → string_len self.new.text ≡ string_len self.old.text }
+        ensures differs { answer.now ≢ wanted.now → OnOk result (0 < string_len self.new.text) }
+        ensures kept { string_len self.old.text ≤ string_len self.new.text }
+    {
         if answer == wanted {
             return Ok(());
         }
@@ -47,7 +60,11 @@ impl Findings {
         call: &str,
         answer: &[u8],
         wanted: &[u8],
-    ) -> Result<(), AllocError> {
+    ) -> Result<(), AllocError>
+        ensures equal { answer.now ≡ wanted.now → string_len self.new.text ≡ string_len self.old.text }
+        ensures differs { answer.now ≢ wanted.now → OnOk result (0 < string_len self.new.text) }
+        ensures kept { string_len self.old.text ≤ string_len self.new.text }
+    {
         if answer == wanted {
             return Ok(());
         }
@@ -61,7 +78,11 @@ impl Findings {
         call: &str,
         answer: usize,
         wanted: usize,
-    ) -> Result<(), AllocError> {
+    ) -> Result<(), AllocError>
+        ensures equal { answer ≡ wanted → string_len self.new.text ≡ string_len self.old.text }
+        ensures differs { answer ≢ wanted → OnOk result (0 < string_len self.new.text) }
+        ensures kept { string_len self.old.text ≤ string_len self.new.text }
+    {
         if answer == wanted {
             return Ok(());
         }

@@ -57,8 +57,15 @@ fn main(rt: HostRuntime) -> io::Result<ExitCode> {
     let mut passed: u64 = 0;
     let mut failed: u64 = 0;
     for line in BufReader::new(alloc, rt.reader())?.lines(alloc) {
-        let line = line?;
-        if passes(alloc, line.as_str(), &mut out)? {
+        let good = match line {
+            Ok(line) => passes(alloc, line.as_str(), &mut out)?,
+            Err(error) if error.kind() == ErrorKind::InvalidData => {
+                writeln!(out, "a line that isn't text | unreadable")?;
+                false
+            }
+            Err(error) => return Err(error),
+        };
+        if good {
             passed = passed.saturating_add(1);
         } else {
             failed = failed.saturating_add(1);

@@ -7,6 +7,7 @@ use crate::writing::write;
 use arrayvec::{ArrayString, ArrayVec};
 use postcard::fixint::{BE, LE};
 use postcard::{Deserialize, Serialize};
+use samples::DataEnum;
 use std::alloc::Global;
 use std::collections::BTreeMap;
 
@@ -209,6 +210,7 @@ fn ask_vector<'a>(
         "Vec<LE<u16>>" => perform::<Vec<LE<u16>>>(line, bytes, room, copy, findings),
         "Vec<Vec<u8>>" => perform::<Vec<Vec<u8>>>(line, bytes, room, copy, findings),
         "Vec<(u8,u16)>" => perform::<Vec<(u8, u16)>>(line, bytes, room, copy, findings),
+        "Vec<DataEnum>" => perform::<Vec<DataEnum>>(line, bytes, room, copy, findings),
         "Vec<Option<i32>>" => perform::<Vec<Option<i32>>>(line, bytes, room, copy, findings),
         "Vec<Result<u8,()>>" => perform::<Vec<Result<u8, ()>>>(line, bytes, room, copy, findings),
         _ => ask_array(name, line, bytes, room, copy, findings),
@@ -325,6 +327,7 @@ fn ask_other<'a>(
         "BTreeMap<i8,BTreeMap<bool,u16>>" => perform::<BTreeMap<i8, BTreeMap<bool, u16>>>(
             line, bytes, room, copy, findings,
         ),
+        "DataEnum" => perform::<DataEnum>(line, bytes, room, copy, findings),
         _ => Err(Trouble::Unreadable),
     }
 }

@@ -1,6 +1,7 @@
 //! How the lines show a value.
 use arrayvec::{ArrayString, ArrayVec};
 use postcard::fixint::{BE, FixInt, LE};
+use samples::DataEnum;
 use std::alloc::AllocError;
 use std::collections::BTreeMap;
 
@@ -311,5 +312,22 @@ impl<T: FixInt + Shown> Shown for LE<T> {
 impl<T: FixInt + Shown> Shown for BE<T> {
     fn show(&self, text: &mut String) -> Result<(), AllocError> {
         self.0.show(text)
+    }
+}
+
+/// The variant and its parts.
+impl Shown for DataEnum {
+    fn show(&self, text: &mut String) -> Result<(), AllocError> {
+        match self {
+            DataEnum::Bib(n) => write!(text, "Bib({n})"),
+            DataEnum::Bim(n) => write!(text, "Bim({n})"),
+            DataEnum::Bap(n) => write!(text, "Bap({n})"),
+            DataEnum::Kim(parts) => {
+                let (eight, sixt) = (parts.eight, parts.sixt);
+                write!(text, "Kim({eight},{sixt})")
+            }
+            DataEnum::Chi { a, b } => write!(text, "Chi({a},{b})"),
+            DataEnum::Sho(a, b) => write!(text, "Sho({a},{b})"),
+        }
     }
 }
