@@ -116,8 +116,7 @@ impl<T: FixInt> BE<T> {
         ensures sized { length result.now ≡ T.size }
         ensures in_range { T.in_range self.now.0 }
     {
-        let front = &mut buffer[..T::size()];
-        put_bytes(self.0.to_bits(), front);
+        let front = LE(self.0).put(buffer);
         front.reverse();
         front
     }
@@ -142,7 +141,7 @@ impl FixInt for u16 {
     ghost of_bits = { λ n. n };
 
     fn size() -> usize {
-        2
+        size_of::<u16>()
     }
 
     fn to_bits(self) -> u128 {
@@ -166,7 +165,7 @@ impl FixInt for u32 {
     ghost of_bits = { λ n. n };
 
     fn size() -> usize {
-        4
+        size_of::<u32>()
     }
 
     fn to_bits(self) -> u128 {
@@ -190,7 +189,7 @@ impl FixInt for u64 {
     ghost of_bits = { λ n. n };
 
     fn size() -> usize {
-        8
+        size_of::<u64>()
     }
 
     fn to_bits(self) -> u128 {
@@ -214,7 +213,7 @@ impl FixInt for u128 {
     ghost of_bits = { λ n. n };
 
     fn size() -> usize {
-        16
+        size_of::<u128>()
     }
 
     fn to_bits(self) -> u128 {
@@ -238,7 +237,7 @@ impl FixInt for i16 {
     ghost of_bits = { cast_signed w16 };
 
     fn size() -> usize {
-        2
+        size_of::<i16>()
     }
 
     fn to_bits(self) -> u128 {
@@ -262,7 +261,7 @@ impl FixInt for i32 {
     ghost of_bits = { cast_signed w32 };
 
     fn size() -> usize {
-        4
+        size_of::<i32>()
     }
 
     fn to_bits(self) -> u128 {
@@ -286,7 +285,7 @@ impl FixInt for i64 {
     ghost of_bits = { cast_signed w64 };
 
     fn size() -> usize {
-        8
+        size_of::<i64>()
     }
 
     fn to_bits(self) -> u128 {
@@ -310,7 +309,7 @@ impl FixInt for i128 {
     ghost of_bits = { cast_signed w128 };
 
     fn size() -> usize {
-        16
+        size_of::<i128>()
     }
 
     fn to_bits(self) -> u128 {
