@@ -1,6 +1,5 @@
 -- What is fed.
-use Rattle.std.proofs.Common.{◌≡◌, ℕ, ◌+◌, ◌-◌, ◌<◌, ◌≤◌, List, [], ◌++◌, length, take, drop, refl, sym, ◌∙◌, ap, subst, arith, append-nil, ◌≢◌}
-use Rattle.std.proofs.lemmas.List.{length-take-le}
+use Rattle.std.proofs.Common.{◌≡◌, ℕ, ◌+◌, ◌≤◌, List, [], ◌++◌, length, drop, ap, subst, arith, ◌≢◌}
 use Rattle.cobs.specs.InPlace.{stretch}
 use Rattle.postcard.specs.Feeds.{Feeds}
 use Rattle.postcard.proofs.Stretches.{stretch_short}

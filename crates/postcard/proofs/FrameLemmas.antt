@@ -1,5 +1,5 @@
 -- The frame that a flavor below ends up with.
-use Rattle.std.proofs.Common.{◌≡◌, ℕ, ◌+◌, ◌<◌, List, [], ◌∷◌, ◌++◌, length, ap, subst, arith, length-append, Option, Some, None, inl, inr, Result, Ok, Err}
+use Rattle.std.proofs.Common.{◌≡◌, ℕ, List, [], ◌∷◌, ◌++◌, subst, arith, Option, Some, None, inl, inr, Result, Ok, Err}
 use Rattle.cobs.specs.Kept.{Keeps}
 use Rattle.cobs.specs.declared.enc.EncoderState.{EncoderState}
 use Rattle.cobs.specs.Frames.{longest_frame}

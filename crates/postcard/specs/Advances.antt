@@ -1,5 +1,5 @@
 -- What taking bytes until a frame ends does.
-use Rattle.std.specs.Prelude.{◌≡◌, ℕ, ◌≤◌, List, length, take, drop}
+use Rattle.std.specs.Prelude.{◌≡◌, ℕ, List}
 use Rattle.cobs.specs.Frames.{Frame}
 use Rattle.postcard.specs.Feeds.{Feeds}
 use Rattle.postcard.specs.declared.accumulator.Advanced.{Advanced}

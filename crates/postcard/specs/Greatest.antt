@@ -1,12 +1,11 @@
 -- How long the spelling of a value is at most.
-use Rattle.std.specs.Prelude.{◌≡◌, ℕ, zero, suc, ◌+◌, ◌*◌, ◌/◌, ◌%◌, ◌^◌, ◌<◌, ◌≤◌, List, [], ◌∷◌, ◌++◌, length, map, max, Option, Some, None, Result, Ok, Err, if◌then◌else◌, nat_lt, refl, Bool, true, false, ℤ, MatchResult, IfSome}
+use Rattle.std.specs.Prelude.{◌≡◌, ℕ, zero, suc, ◌+◌, ◌*◌, ◌/◌, ◌^◌, ◌<◌, ◌≤◌, List, [], ◌∷◌, ◌++◌, length, map, max, Option, Some, None, Result, Ok, Err, if◌then◌else◌, nat_lt, refl, MatchResult, IfSome}
 use Rattle.std.specs.List.{All}
 use Rattle.std.specs.Char.{encode_utf8}
-use Rattle.std.proofs.Common.{sym, ◌∙◌, ap, subst, arith, inl, inr, ⊎_elim, length-append}
+use Rattle.std.proofs.Common.{◌∙◌, ap, subst, arith, ⊎_elim, length-append}
 use Rattle.std.proofs.Math.Nat.{pow-suc, div-lt_iff_lt-mul, mul-le-mul_left}
 use Rattle.std.proofs.lemmas.Bool.{cases_lt}
-use Rattle.postcard_tree.specs.Number.{greatest_groups}
-use Rattle.postcard_tree.specs.Tree.{Tree, Trees, byte, number, character, sequence, group, end, part, count_of, parts, with_part, group_of, sequence_of, option_writes, result_writes, variant_of, zigzag, bytes_of, text_of}
+use Rattle.postcard_tree.specs.Tree.{Tree, Trees, byte, number, character, sequence, group, end, part, count_of, parts, with_part, group_of, sequence_of, option_writes, result_writes, bytes_of, text_of}
 use Rattle.postcard_tree.specs.Spelling.{groups_of, varint, single, short, short_all}
 
 -- a size, where usize holds it

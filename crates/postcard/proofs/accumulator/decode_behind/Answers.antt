@@ -1,4 +1,4 @@
-use Rattle.std.proofs.Common.{ℕ, List, ◌≡◌, ◌+◌, ◌++◌, take, arith, subst, sym}
+use Rattle.std.proofs.Common.{ℕ, List, ◌++◌, take, arith, subst}
 use Rattle.cobs.specs.Frames.{Frame}
 use Rattle.cobs.specs.InPlace.{stretch}
 use Rattle.postcard.proofs.Stretches.{put_copied, message_front}

@@ -1,4 +1,4 @@
-use Rattle.std.proofs.Common.{arith, length, sym, take}
+use Rattle.std.proofs.Common.{arith, sym, take}
 use Rattle.std.proofs.lemmas.List.{length-take-le}
 use Rattle.cobs.specs.InPlace.{stretch}
 use Rattle.postcard.proofs.Framing.{of_message, of_none}

@@ -1,7 +1,6 @@
-use Rattle.std.proofs.Common.{ℕ, List, ◌≡◌, ◌+◌, ◌++◌, ◌≤◌, length, take, arith, rules, refl, sym, ◌∙◌, subst}
+use Rattle.std.proofs.Common.{ℕ, List, ◌+◌, ◌≤◌, length, take, arith, rules, refl, sym, ◌∙◌, subst}
 use Rattle.std.proofs.lemmas.List.{length-take-le}
 use Rattle.cobs.specs.Frames.{Frame}
-use Rattle.cobs.specs.InPlace.{stretch}
 use Rattle.postcard.proofs.Stretches.{stretch_whole, frame_behind}
 use Rattle.postcard.proofs.Feeding.{feeds_ended}
 use Rattle.postcard.proofs.accumulator.CobsAccumulator.gather.Goals as goal
