@@ -1,6 +1,4 @@
 //! What no clause says: published bytes, and that calls can succeed.
-ghost use Rattle.std.specs.Prelude.{◌≡◌, None};
-
 use crate::de_flavors::io::IOReader;
 use crate::de_flavors::{Bytes, Flavor, Slice};
 use crate::{Deserialize, DeserializeOwned, Deserializer};

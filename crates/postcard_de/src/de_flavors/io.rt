@@ -1,5 +1,5 @@
 //! A reader as a source.
-ghost use Rattle.std.specs.Prelude.{◌≡◌, ℕ, ◌+◌, ◌-◌, ◌^◌, ◌<◌, ◌≤◌, List, false, Option, Some, None, Result, IfErr, IsOkAnd, OnOk, OnErr, length, take};
+ghost use Rattle.std.specs.Prelude.{◌≡◌, ℕ, ◌+◌, ◌-◌, ◌^◌, ◌<◌, ◌≤◌, List, false, Option, Some, None, Result, IfErr, IsErr, IsOkAnd, OnOk, length, take};
 ghost use Rattle.std.specs.Borrow.{sem};
 ghost use Rattle.std.specs.Io.BufRead.{Rests};
 ghost use Rattle.std.specs.Io.KnownBytes.{Consumes, IsAtEnd};
@@ -155,7 +155,8 @@ impl<'de, R: Read> Flavor for IOReader<'de, R> {
         ensures refused { IfErr result (λ e. e ≡ DeserializeUnexpectedEnd) }
         ensures room { OnOk result (room_of self.old ≡ room_of self.new + ct) }
         ensures used { ct ≤ room_of self.old → ct ≤ limit_of self.old → (room_of self.old ≡ room_of self.new + ct) × (limit_of self.old ≡ limit_of self.new + ct) }
-        ensures too_small { room_of self.old < ct → OnErr result (room_of self.new ≡ room_of self.old × limit_of self.new ≡ limit_of self.old × reader_of self.new ≡ reader_of self.old) }
+        ensures too_small { room_of self.old < ct → IsErr result × (reader_of self.new ≡ reader_of self.old) × (room_of self.new ≡ room_of self.old) × (limit_of self.new ≡ limit_of self.old) }
+        ensures past_limit { limit_of self.old < ct → IsErr result × (reader_of self.new ≡ reader_of self.old) × (room_of self.new ≡ room_of self.old) × (limit_of self.new ≡ limit_of self.old) }
     {
         if self.limit < ct as u64 || self.buffer.rest.len() < ct {
             return Err(Error::DeserializeUnexpectedEnd);

@@ -1,9 +1,8 @@
-use Rattle.std.proofs.Common.{◌++◌, ◌∷◌, [], sym, ◌∙◌, ap}
+use Rattle.std.proofs.Common.{◌++◌, ◌∷◌, []}
 use Rattle.std.proofs.lemmas.Result.{err_from_is_err_and}
-use Rattle.std.specs.BTreeMap.{insert_entry}
 use Rattle.postcard_tree.specs.ReadingLaws.{pair_laws}
 use Rattle.postcard_de.specs.Values.{pair_read, key_fails, value_fails}
-use Rattle.postcard_de.specs.Parts.{parts_start, parts_more, parts_at, parts_last, sequence_read, sequence_fails, sequence_no_memory, put_snoc, map_read}
+use Rattle.postcard_de.specs.Parts.{parts_start, parts_more, parts_at, parts_last, sequence_read, sequence_fails, sequence_no_memory, put_more, map_read}
 use Rattle.postcard_de.proofs.containers.read_map.Goals as goal
 
 pub loop-init : goal.loop-init
@@ -30,7 +29,7 @@ loop-preserved g c =
     record {
       pairs = i.pairs ++ (c.in_ok-key.key, c.in_ok-value.value) ∷ [];
       parts = parts_more (pair_laws g.met.K.Readable.laws g.met.V.Readable.laws).taken (parts_at _ _ c.loop-test.true i.parts) (pair_read c.in_ok-key.ensures c.in_ok-value.ensures);
-      put = c.in-Ok.ensures.entries ∙ (ap (λ z. insert_entry g.K.Ord.cmp z c.in_ok-key.key c.in_ok-value.value) i.put ∙ sym (put_snoc g.K.Ord.cmp [] i.pairs (c.in_ok-key.key, c.in_ok-value.value)));
+      put = put_more g.K.Ord.cmp c.in_ok-key.key c.in_ok-value.value c.in-Ok.ensures.entries i.put;
     }
 
 pub returns : goal.returns
