@@ -500,14 +500,14 @@ pub struct CobsDecoder<'a> {
 impl<'a> CobsDecoder<'a> {
     ghost use Rattle.cobs.specs.Feeding.{answer_of, frame_after};
     ghost use Rattle.cobs.specs.Streaming.{Decoded};
-    ghost use Rattle.cobs.specs.Decoder.{Has, buffer_of};
+    ghost use Rattle.cobs.specs.Decoder.{Has, buffer_of, lent_name};
     ghost use Rattle.cobs.specs.Pieces.{first_answer, frame_left, frame_met, buffer_left};
 
     /// A decoder between frames.
     pub fn new(dest: &'a mut [u8]) -> CobsDecoder<'a>
         ensures idle { Has result [] }
         ensures buffer { buffer_of result ≡ dest.old }
-        ensures lent { result.dest.ghost_name ≡ dest.entry.ghost_name }
+        ensures lent { lent_name result ≡ dest.entry.ghost_name }
     {
         CobsDecoder {
             dest,
@@ -529,7 +529,7 @@ impl<'a> CobsDecoder<'a> {
         ensures message { (p : List ℕ) → Has self.old p → Decoded (buffer_of self.old) p → IfOk result (λ o. IfSome o (λ n. take n (buffer_of self.new) ≡ part p)) }
         ensures within { IfOk result (λ o. IfSome o (λ n. n ≤ length (buffer_of self.new))) }
         ensures room { length (buffer_of self.new) ≡ length (buffer_of self.old) }
-        ensures lent { self.new.dest.ghost_name ≡ self.old.dest.ghost_name }
+        ensures lent { lent_name self.new ≡ lent_name self.old }
     {
         self.progress.feed(self.dest, data)
     }
@@ -542,8 +542,9 @@ impl<'a> CobsDecoder<'a> {
         ensures buffer { (p : List ℕ) → Has self.old p → buffer_of self.new ≡ buffer_left (length (buffer_of self.old)) p «data».now (buffer_of self.old) }
         ensures decoded { (p : List ℕ) → Has self.old p → Decoded (buffer_of self.old) p → Decoded (buffer_of self.new) (frame_left (length (buffer_of self.old)) p «data».now) }
         ensures message { (p : List ℕ) → Has self.old p → Decoded (buffer_of self.old) p → IfOk result (λ o. IfSome o (λ r. take (frame_size r) (buffer_of self.new) ≡ part (frame_met (length (buffer_of self.old)) p «data».now))) }
+        ensures within { IfOk result (λ o. IfSome o (λ r. (parsed_size r ≤ length «data».now) × (frame_size r ≤ length (buffer_of self.new)))) }
         ensures room { length (buffer_of self.new) ≡ length (buffer_of self.old) }
-        ensures lent { self.new.dest.ghost_name ≡ self.old.dest.ghost_name }
+        ensures lent { lent_name self.new ≡ lent_name self.old }
     {
         self.progress.push(self.dest, data)
     }

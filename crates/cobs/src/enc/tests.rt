@@ -1,4 +1,5 @@
 use super::*;
+use crate::laws;
 use std::test::Fail;
 
 // 10, 11, 0, 12 and its frame
@@ -17,16 +18,20 @@ fn all_but_255() -> [u8; 254] {
 
 #[test]
 fn published_frames(rt: HostRuntime) -> Result<(), Fail> {
-    let mut dest = [0u8; 6];
-    assert_eq!(rt; try_encode(&MESSAGE, &mut dest).ok().ok_or("refused")?, 5);
-    assert_eq!(rt; dest, [3, 10, 11, 2, 12, 0]);
+    laws::lengths();
+    let mut dest = [0u8; 5];
+    assert_eq!(rt; encode(&MESSAGE, &mut dest), 5);
+    assert_eq!(rt; dest, FRAME);
     assert_eq!(rt; encoded_length(&MESSAGE), 5);
-    let frame = encode_vec(rt.alloc(), &[])?;
-    assert_eq!(rt; frame.as_slice(), [1].as_slice());
-    let frame = encode_vec(rt.alloc(), &all_but_255())?;
-    let (code, run) = frame.split_first().ok_or("no code")?;
-    assert_eq!(rt; *code, 255);
-    assert_eq!(rt; run, all_but_255().as_slice());
+    let mut dest = [0u8; 1];
+    assert_eq!(rt; encode(&[], &mut dest), 1);
+    assert_eq!(rt; dest, [1]);
+    let mut dest = [0u8; 255];
+    assert_eq!(rt; encode(&all_but_255(), &mut dest), 255);
+    assert_eq!(rt; dest[0], 255);
+    assert_eq!(rt; &dest[1..], all_but_255().as_slice());
+    let frame = encode_vec(rt.alloc(), &MESSAGE)?;
+    assert_eq!(rt; frame.as_slice(), FRAME.as_slice());
     Ok(())
 }
 
@@ -50,6 +55,9 @@ fn no_room(rt: HostRuntime) {
     let mut small = [9u8; 4];
     assert!(rt; try_encode(&MESSAGE, &mut small) == Err(DestBufTooSmallError));
     assert_eq!(rt; small, [9; 4]);
+    let mut dest = [9u8; 5];
+    assert!(rt; try_encode(&MESSAGE, &mut dest) == Ok(5));
+    assert_eq!(rt; dest, FRAME);
     let mut small = [9u8; 6];
     assert!(rt; try_encode_including_sentinels(&MESSAGE, &mut small) == Err(DestBufTooSmallError));
     assert_eq!(rt; small, [9; 6]);
