@@ -1,7 +1,7 @@
 -- What decoding a whole source answers.
 use Rattle.std.proofs.Common.{◌≡◌, ℕ, ◌+◌, ◌-◌, ◌<◌, ◌≤◌, List, [], ◌∷◌, ◌++◌, length, take, drop, get_or, Result, Some, None, Ok, Err, ◌⊎◌, inl, inr, refl, ap, sym, ◌∙◌, arith, subst, min}
 use Rattle.std.proofs.lemmas.List.{take_more, take_all, get_or-map, length-map, length-take-le, take_at}
-use Rattle.std.proofs.lemmas.Bool.{eq-eqb, ne_eqb, lt-ltb, le-ltb}
+use Rattle.std.proofs.lemmas.Bool.{eq-eqb, ne_eqb}
 use Rattle.std.proofs.lemmas.Bool.Decides.{eqb_tells}
 use Rattle.std.specs.Prelude.{IsErrAnd, bit_xor}
 use Rattle.cobs.specs.Frames.{NoZero, part, missing}
@@ -10,10 +10,10 @@ use Rattle.cobs.specs.Pieces.{first_answer, answered}
 use Rattle.cobs.specs.InPlace.{stretch, overwritten, in_place_length}
 use Rattle.cobs.specs.Sentinel.{masked}
 use Rattle.cobs.specs.Reports.{report}
-use Rattle.cobs.specs.Whole.{unpadded, frame_in, reported, decoded_from, decoded_into, message_of_stretch, message_of_frame}
+use Rattle.cobs.specs.Whole.{unpadded, frame_in, reported, decoded_from, message_of_stretch, message_of_frame}
 use Rattle.cobs.specs.declared.dec.DecodeReport.{DecodeReport}
 use Rattle.cobs.specs.declared.dec.DecodeError.{DecodeError}
-use Rattle.cobs.specs.declared.dec.DecodeError.TheVariants.{EmptyFrame, InvalidFrame, TargetBufTooSmall}
+use Rattle.cobs.specs.declared.dec.DecodeError.TheVariants.{EmptyFrame, InvalidFrame}
 use Rattle.cobs.specs.declared.dec.DecoderState.{DecoderState}
 use Rattle.cobs.proofs.Sources.{masked_zero, stretch_clear, clear_at, stretch_of}
 use Rattle.cobs.proofs.Decoding.{part_shorter}
