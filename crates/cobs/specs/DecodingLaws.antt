@@ -1,10 +1,11 @@
 -- The laws of decoding.
-use Rattle.std.specs.Prelude.{◌≡◌, ◌≢◌, ℕ, ◌+◌, ◌<◌, nat_lt, min, if◌then◌else◌, List, [], ◌∷◌, ◌++◌, length, Option, Some, None, Result, Ok, Err}
+use Rattle.std.specs.Prelude.{◌≡◌, ◌≢◌, ℕ, ◌+◌, ◌-◌, ◌<◌, nat_lt, min, if◌then◌else◌, List, [], ◌∷◌, ◌++◌, length, Option, Some, None, Result, Ok, Err, IsErr}
 use Rattle.std.specs.List.{AllByRecursion}
 use Rattle.cobs.specs.Frames.{Frame, part}
 use Rattle.cobs.specs.Feeding.{fed, next, told_by, listed, at_zero}
 use Rattle.cobs.specs.Pieces.{first_answer, frame_left, buffer_left}
 use Rattle.cobs.specs.Reports.{report, parsed_size, frame_size}
+use Rattle.cobs.specs.Whole.{unpadded, frame_in, decoded_from}
 use Rattle.cobs.specs.declared.dec.DecoderState.{DecoderState}
 use Rattle.cobs.specs.declared.dec.DecoderState.TheVariants.{Idle}
 use Rattle.cobs.specs.declared.dec.DecodeResult.TheVariants.{DataComplete}
@@ -33,6 +34,17 @@ AnswersFrames = (room : ℕ) (frame message : List ℕ) → Frame frame message 
 -- The zero behind other bytes is refused, with how many bytes they decide that had room.
 abbrev pub RefusesOthers : Type 0
 RefusesOthers = (room : ℕ) (bytes : List ℕ) → AllByRecursion (λ b. (0 < b) × (b < 256)) bytes → bytes ≢ [] → ((message : List ℕ) → Frame bytes message → ⊥) → at_zero room bytes ≡ Err (InvalidFrame (min (length (part bytes)) room))
+
+-- A source that has a frame behind its leading zeros gives the length of the message, where there is room for it. Used are
+-- the zeros, the frame, and its zero where there is one.
+abbrev pub DecodesFrames : Type 0
+DecodesFrames = (room : ℕ) (source message : List ℕ) → Frame (frame_in source) message
+    → decoded_from room source ≡ (if nat_lt room (length message) then Err TargetBufTooSmall
+    else Ok (report (min (length source - length (unpadded source) + length (frame_in source) + 1) (length source)) (length message)))
+
+-- Every other source is refused.
+abbrev pub RefusesSources : Type 0
+RefusesSources = (room : ℕ) (source : List ℕ) → AllByRecursion (λ b. b < 256) (frame_in source) → ((message : List ℕ) → Frame (frame_in source) message → ⊥) → IsErr (decoded_from room source)
 
 -- what pushing comes to: the answer, the bytes of the frame so far, and the buffer
 pub record Outcome : Type 0 where

@@ -1,0 +1,5 @@
+use Rattle.cobs.proofs.Answering.{decodes_frames, refuses_sources}
+use Rattle.cobs.proofs.laws.sources.Goals as goal
+
+pub returns : goal.returns
+returns c = record { frames = decodes_frames; others = refuses_sources }
