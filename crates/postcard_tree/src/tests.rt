@@ -84,6 +84,9 @@ fn numbers_are_spelled_shortest(rt: HostRuntime) {
         [0x92, 0xE8, 0xAC, 0xED, 0x0C].as_slice()
     );
     assert_eq!(rt; &*varint_u64(0, &mut [0; 10]), [0].as_slice());
+    let mut buffer = [0; 3];
+    assert_eq!(rt; varint_u16(200, &mut buffer).len(), 2);
+    assert_eq!(rt; &buffer[..2], [0xC8, 0x01].as_slice());
     let greatest = [0xFF, 0xFF, 0xFF, 0xFF, 0xFF, 0xFF, 0xFF, 0xFF, 0xFF, 0x01];
     assert_eq!(rt; &*varint_u64(u64::MAX, &mut [0; 10]), greatest.as_slice());
     assert_eq!(rt;
@@ -120,6 +123,9 @@ fn fixed_numbers_are_their_bytes(rt: HostRuntime) {
     assert_eq!(rt; &*BE(0xABCDu16).put(&mut [0; 16]), [0xAB, 0xCD].as_slice());
     assert_eq!(rt; &*LE(-2i16).put(&mut [0; 16]), [0xFE, 0xFF].as_slice());
     assert_eq!(rt; &*BE(-2i16).put(&mut [0; 16]), [0xFF, 0xFE].as_slice());
+    let mut buffer = [0; 16];
+    assert_eq!(rt; BE(0xABCDu16).put(&mut buffer).len(), 2);
+    assert_eq!(rt; &buffer[..2], [0xAB, 0xCD].as_slice());
     assert_eq!(rt; LE::<i16>::from_bytes(&[0xFE, 0xFF]).0, -2);
     assert_eq!(rt; BE::<u16>::from_bytes(&[0xAB, 0xCD]).0, 0xABCD);
 }
