@@ -3,6 +3,7 @@ ghost use Rattle.std.specs.Prelude.{◌≡◌, ℕ, ◌+◌, ◌-◌, ◌<◌, �
 ghost use Rattle.std.specs.Borrow.{sem};
 ghost use Rattle.cobs.specs.Frames.{Frame};
 ghost use Rattle.cobs.specs.InPlace.{stretch};
+ghost use Rattle.postcard.specs.Advances.{Answers};
 
 use crate::de::{from_bytes, from_bytes_owned};
 use crate::frames::unframe;
@@ -179,25 +180,35 @@ impl<const N: usize> CobsAccumulator<N> {
     }
 
     /// As `feed`, of a value that may borrow from the accumulator.
-    ///
-    /// `advance` says what is held afterwards.
     pub fn feed_ref<'de, 'a, T: Deserialize<&'de [u8]>>(
         &'de mut self,
         alloc: Global,
         input: &'a [u8],
     ) -> FeedResult<'a, T>
-        ensures { (kept : List ℕ) × Fed T.takes T.reads T.growing N (held_of self.entry.now) input.now result kept }
+        ensures answer { (kept : List ℕ) × Fed T.takes T.reads T.growing N (held_of self.entry.now) input.now result kept }
+        ensures* after { sem 𝓛 (follows_so (the_row N.row) (the_row N.row) self.entry.ghost_name none (λ _ _. ⊤) (λ n. Fed T.takes T.reads T.growing N (held_of self.entry.now) input.now result (held_of n))) }
     {
-        cobs::laws::message_of_a_frame();
-        match self.advance(input) {
-            Advanced::Consumed => FeedResult::Consumed,
-            Advanced::OverFull(rest) => FeedResult::OverFull(rest),
-            Advanced::Damaged(rest) => FeedResult::DeserError(rest),
-            Advanced::Message { message, remaining } => match from_bytes(alloc, message) {
-                Ok(value) => FeedResult::Success { value, remaining },
-                Err(_) => FeedResult::DeserError(remaining),
-            },
-        }
+        let advanced = self.advance(input);
+        read_advanced(alloc, advanced)
+    }
+}
+
+/// Reads the value of a message, and passes on what else there was.
+fn read_advanced<'de, 'a, T: Deserialize<&'de [u8]>>(
+    alloc: Global,
+    advanced: Advanced<'de, 'a>,
+) -> FeedResult<'a, T>
+    ensures { Answers T.takes T.reads T.growing advanced.entry result }
+{
+    cobs::laws::message_of_a_frame();
+    match advanced {
+        Advanced::Consumed => FeedResult::Consumed,
+        Advanced::OverFull(rest) => FeedResult::OverFull(rest),
+        Advanced::Damaged(rest) => FeedResult::DeserError(rest),
+        Advanced::Message { message, remaining } => match from_bytes(alloc, message) {
+            Ok(value) => FeedResult::Success { value, remaining },
+            Err(_) => FeedResult::DeserError(remaining),
+        },
     }
 }
 
