@@ -179,7 +179,9 @@ impl<const N: usize> CobsAccumulator<N> {
         }
     }
 
-    /// As `feed`, of a value that may borrow from the accumulator.
+    /// As `feed`, of a value that may borrow from the accumulator, which is free again once the value is gone.
+    ///
+    /// The same table says its answer and what is held afterwards.
     pub fn feed_ref<'de, 'a, T: Deserialize<&'de [u8]>>(
         &'de mut self,
         alloc: Global,

@@ -1,14 +1,13 @@
 -- What `advance` says of the accumulator afterwards, `feed_ref` says too: reading the message takes only shared bytes.
 -- The proof is by hand, since none is generated where the result holds a value of a bound's type. Assumes `Logic`.
-use Rattle.std.proofs.Common.{◌≡◌, ℕ, ◌<◌, ◌^◌, List, [], ◌∷◌, refl, sym, subst, w64}
+use Rattle.std.proofs.Common.{◌≡◌, ℕ, ◌<◌, ◌^◌, List, [], ◌∷◌, refl, sym, subst}
 use Rattle.std.specs.Prelude.{⊤}
 use mathlib.Core.Option.{none}
 use seplogic.Ra.Ura.{Ura}
 use mir.Syntax.{Fn, Args as TypeArgs, a_number, a_type, dcons, dnil, named, erased}
 use mir.MapTy.{inst_fn}
-use mir.Val.{Val}
 use base.Fml.{Fml, Lft, GName, ftrue, flft}
-use base.Logic.{SProp, ent, id⊢, emp, ex_e, ex_i}
+use base.Logic.{ent, id⊢, emp, ex_e, ex_i}
 use prog.Memory.{size as size_of}
 use types.Logic.{Logic, sem}
 use types.Kit.{‵, raw, ◌⊛◌, some, later, ◌$◌, ◌∵◌, !, qed, by, move, keep, drop, split, join, fjoin, pick, use0, use1, await}
@@ -85,7 +84,7 @@ feed_ref_spec 𝓤 𝓛 𝓜 𝓡 wired n T fits L gd dd gr dr dx P met_d met_r 
     let at : TypeArgs = bounded (a_number ∷ a_type ∷ []) (N, (T, tt)) (dcons dd (dcons dr (dcons dx dnil))) in
     let fn : Fn = inst_fn at code.function in
     let hs : Stays En.signature.params En.kept =
-      (stay_dropped (mut_ref_to (0 ∷ []) tt (plain (λ _. R))) no, (stay_dropped (plain (λ _. Global)) yes, (stay_dropped (shr_slice_of (1 ∷ []) tt (plain (λ _. u8))) yes, tt))) in
+    (stay_dropped (mut_ref_to (0 ∷ []) tt (plain (λ _. R))) no, (stay_dropped (plain (λ _. Global)) yes, (stay_dropped (shr_slice_of (1 ∷ []) tt (plain (λ _. u8))) yes, tt))) in
     proved 𝓛 En hs c 𝓜 𝓡
     (Goes-spent_ref 𝓛 4 (0 ∷ []) tt (plain (λ _. R)), (Goes-dropped 𝓛 4 (plain (λ _. Global)) yes (λ κs x w. refl), (Goes-dropped 𝓛 4 (shr_slice_of (1 ∷ []) tt (plain (λ _. u8))) yes (λ κs x w. refl), tt)))
     (#self at) fn (code.unfolded 𝓤 H 𝓜 𝓡 wired (N, (T, tt)) dd dr dx)
@@ -111,12 +110,13 @@ feed_ref_spec 𝓤 𝓛 𝓜 𝓡 wired n T fits L gd dd gr dr dx P met_d met_r 
     let G₂ = triple_of 𝓛 (reads.signature T) (reads.spec T gd dd gr dr dx P₂ 𝓛 𝓜.mem 𝓡.returns) in
     let Fed' : Res.Denot → List ℕ → Type 0 = λ r. Fed gr.takes gr.reads gr.growing n (held_of me.now) input.now r in
     qed 𝓛 (((t₀ ⊛ t₁ ⊛ t₂ ⊛ t₃ ⊛ ‵ ftrue) ⊛ ‵ ((MutRef (named 0) κs.0 R).own_val me us) ⊛ ‵ (Global.own_val alloc gs) ⊛ ‵ ((ShrSlice (named 1) κs.1.0 u8).own_val input is) ⊛ ‵ ftrue)
-      ∷ (raw (fact 𝓤 (κs.1.1.0 ⊑ N.lives)) ⊛ raw (fact 𝓤 (κs.1.1.1.0 ⊑ T.lives)) ⊛ raw (fact 𝓤 (size_of (layout R) < 2 ^ 63)) ⊛ raw (fact 𝓤 (P κs)) ⊛ ‵ ftrue) ∷ []) ∵
+    ∷ (raw (fact 𝓤 (κs.1.1.0 ⊑ N.lives)) ⊛ raw (fact 𝓤 (κs.1.1.1.0 ⊑ T.lives)) ⊛ raw (fact 𝓤 (size_of (layout R) < 2 ^ 63)) ⊛ raw (fact 𝓤 (P κs)) ⊛ ‵ ftrue) ∷ []) ∵
     move ! (1 ∷ []) $ split ! $ heard ! _ (λ n_lives. split ! $ heard ! _ (λ t_lives. split ! $ heard ! _ (λ small. split ! $ heard ! _ (λ p. drop ! $
     split ! $ split ! $ move ! (1 ∷ []) $ split ! $ move ! (1 ∷ []) $ split ! $ move ! (1 ∷ []) $ split ! $ move ! (5 ∷ []) $ split ! $ move ! (1 ∷ []) $ split ! $ move ! (1 ∷ []) $ split ! $ keep ! (8 ∷ 7 ∷ 6 ∷ 4 ∷ 3 ∷ 2 ∷ 0 ∷ []) $
     -- [the four tokens; the three parameters]
     enter ! _ _ _ _ _ $ alloc_all ! (λ l. pass_all ! refl ((tt, tt), (((struct_loose.loose_lawful global_type global.the_loose 𝓛).typed alloc gs are.1.0).0, ((((struct_law.shr_slice_laws β u8 tt).lawful 𝓛).typed input is are.1.1.0).0, tt))) $
     sets ! (addr ! (through ! refl (stop !))) refl (tt, tt) $
+    -- what `advance` asks: its tokens, its parameters, its facts
     nothing ! $ move ! (3 ∷ 0 ∷ []) $ join ! $ move ! (2 ∷ 0 ∷ []) $ join ! $ move ! (1 ∷ 0 ∷ []) $ join ! $
     nothing ! $ move ! (5 ∷ 0 ∷ []) $ join ! $ move ! (3 ∷ 0 ∷ []) $ join ! $ move ! (1 ∷ 0 ∷ []) $ join ! $
     nothing ! $ use0 𝓛 (raw (fact 𝓤 (size_of (layout R) < 2 ^ 63))) (fact_i 𝓤 _ (emp 𝓤) small) $ join ! $ use0 𝓛 (raw (fact 𝓤 (κs.1.1.0 ⊑ N.lives))) (fact_i 𝓤 _ (emp 𝓤) n_lives) $ join ! $
@@ -131,6 +131,7 @@ feed_ref_spec 𝓤 𝓛 𝓜 𝓡 wired n T fits L gd dd gr dr dx P met_d met_r 
     let z₂ : G₂.Ghost = (((κs.0, (κs.1.0, (κs.1.1.1.0, tt))), (qs.0, (qs.1.0, (qs.1.1.1.0, tt))), tt, (alloc, (x, tt)), (gs, (v ∷ [], tt))), tt) in
     let typed = ((lawful_advanced 𝓛 α β).typed x (v ∷ []) has).0 in
     lands_as ! refl refl typed $ sets ! (of_opd ! (get ! refl)) refl typed $
+    -- what `read_advanced` asks, likewise
     nothing ! $ move ! (7 ∷ 0 ∷ []) $ join ! $ move ! (4 ∷ 0 ∷ []) $ join ! $ move ! (4 ∷ 0 ∷ []) $ join ! $
     nothing ! $ move ! (2 ∷ 0 ∷ []) $ join ! $ move ! (5 ∷ 0 ∷ []) $ join ! $ move ! (1 ∷ 0 ∷ []) $ join ! $
     nothing ! $ use0 𝓛 (raw (fact 𝓤 (κs.0 ≡ κs.0))) (fact_i 𝓤 _ (emp 𝓤) refl) $ join ! $ use0 𝓛 (raw (fact 𝓤 (κs.1.1.1.0 ⊑ T.lives))) (fact_i 𝓤 _ (emp 𝓤) t_lives) $ join ! $
@@ -143,6 +144,7 @@ feed_ref_spec 𝓤 𝓛 𝓜 𝓡 wired n T fits L gd dd gr dr dx P met_d met_r 
     peeks ! Res _ (shows 𝓛 Res) r (u ∷ []) (λ has'.
     let fed : (kept : List ℕ) → Step x kept → Fed' r kept = λ kept. feeds_as answers.consumed answers.over answers.answered in
     lands_as ! refl refl ((lawful_result 𝓛 β T L).typed r (u ∷ []) has').0 $ returns ! (look_at ! 0 refl) $ free_all ! refl $
+    -- what is owed: the tokens, nothing of the parameters, the result, and the two clauses
     move ! (1 ∷ []) $ split ! $ move ! (1 ∷ []) $ split ! $ move ! (1 ∷ []) $ move ! (4 ∷ 0 ∷ []) $ join ! $ move ! (1 ∷ 0 ∷ []) $ join ! $ move ! (1 ∷ 0 ∷ []) $ join ! $
     move ! (3 ∷ []) $ use1 𝓛 (‵ (Ends R me.ghost_name (λ m. Fed' r (held_of m)))) (ends_as 𝓛 R me.ghost_name (λ m. Step x (held_of m)) (λ m. Fed' r (held_of m)) (λ m. fed (held_of m))) $
     use0 𝓛 (raw (fact 𝓤 ((kept : List ℕ) × Fed' r kept))) (fact_i 𝓤 _ (emp 𝓤) (stepped.0, fed stepped.0 stepped.1)) $ join ! $
