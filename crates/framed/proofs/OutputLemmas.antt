@@ -8,10 +8,6 @@ use Rattle.framed.proofs.DeviceSteps.{went-none, went-then, went-broke, broke-mo
 pub put-none : (w : Option (List ℕ)) (f : ℕ) (held : List ℕ) → Put w w f f held held []
 put-none w f held = record { sent = []; bytes_are = append-nil held; went = went-none w f }
 
--- the bytes are held
-pub put-held : (w : Option (List ℕ)) (f : ℕ) (held kept bytes : List ℕ) → kept ≡ held ++ bytes → Put w w f f held kept bytes
-put-held w f held kept bytes e = record { sent = []; bytes_are = sym e; went = went-none w f }
-
 pub put-then : {u v w : Option (List ℕ)} {f g h : ℕ} {x y z a b : List ℕ} → Put u v f g x y a → Put v w g h y z b → Put u w f h x z (a ++ b)
 put-then {x = x} {y = y} {z = z} {a = a} {b = b} p q = record {
   sent = p.sent ++ q.sent;

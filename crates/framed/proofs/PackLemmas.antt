@@ -1,26 +1,17 @@
 -- Lines that are framed, and how the work on a text's lines ends.
-use Rattle.std.proofs.Common.{◌≡◌, ℕ, ◌<◌, ◌≤◌, inl, inr, Bool, false, List, [], ◌++◌, length, take, refl, sym, ap, ◌∙◌, arith, if◌then◌else◌, Option}
+use Rattle.std.proofs.Common.{◌≡◌, ℕ, ◌<◌, inl, inr, Bool, false, List, [], ◌++◌, length, refl, sym, ap, ◌∙◌, if◌then◌else◌, Option}
 use Rattle.std.specs.Prelude.{Result, Ok, Err, OnOk, OnErr, nat_eq}
-use Rattle.std.proofs.lemmas.List.{append-nil, length-take-le}
+use Rattle.std.proofs.lemmas.List.{append-nil}
 use Rattle.cobs.specs.Frames.{shortest_frame}
 use Rattle.cobs.specs.FrameLaws.{HasOneShortest}
 use Rattle.framed.specs.declared.arguments.Mode.TheVariants.{Pack}
 use Rattle.framed.specs.declared.devices.End.TheVariants.{Ended}
 use Rattle.framed.specs.Devices.{Fate, whole, broken}
 use Rattle.framed.specs.Spelling.{SpellsShort}
-use Rattle.framed.specs.Sending.{lines_in, IsSent, IsRefused, Outcomes, session_bytes, refusals, all_sent}
+use Rattle.framed.specs.Sending.{lines_in, IsRefused, Outcomes, session_bytes, refusals, all_sent}
 use Rattle.framed.specs.Program.{framed_text, SaysFirst, Finishes, WriteFails, LacksMemory, SayingFails, write_failed, no_memory}
 use Rattle.framed.specs.Working.{AsRead, Before}
 use Rattle.framed.proofs.SendingLemmas.{all_sent-refusals}
-
--- a line whose frame fits
-pub sent-line : (line message source dest : List ℕ) (n room : ℕ) → HasOneShortest → SpellsShort line message → source ≡ message
-    → n ≡ length (shortest_frame source) → take n dest ≡ shortest_frame source → length (shortest_frame source) ≤ room → length dest ≡ room → room ≡ 1024
-    → (n ≤ length dest) × IsSent line (take n dest)
-sent-line line message source dest n room law s e l f fits d r =
-    let within : n ≤ length dest = omega arith in
-    let long : length (take n dest) ≡ n = length-take-le n dest within in
-    (within, ((message, s, rw (f, e) (law message).0), omega arith))
 
 -- a line whose frame doesn't fit
 pub refused-line : (line message source : List ℕ) (room : ℕ) → HasOneShortest → SpellsShort line message → source ≡ message

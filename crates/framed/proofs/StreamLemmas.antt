@@ -78,10 +78,6 @@ pub ended-one : (piece : List ℕ) (answer : Verdict) → 0 < length piece → I
 ended-one [] answer some h = absurd (omega arith)
 ended-one (b ∷ bytes) answer some h = (h, tt)
 
-pub ended-none : (piece : List ℕ) → length piece ≡ 0 → EachAnswer (ended_of (piece ∷ [] ∷ [])) []
-ended-none [] h = tt
-ended-none (b ∷ bytes) h = absurd (omega arith)
-
 and-true : (a : Bool) → a && true ≡ a
 and-true true = refl
 and-true false = refl

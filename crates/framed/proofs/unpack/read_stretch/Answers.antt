@@ -1,4 +1,3 @@
-use Rattle.std.proofs.Common.{refl}
 use Rattle.std.proofs.lemmas.Option.{IfSome_then}
 use Rattle.framed.proofs.FrameLemmas.{holds-no-text, none-then}
 use Rattle.framed.proofs.unpack.read_stretch.Goals as goal
