@@ -31,7 +31,7 @@ WriteFails-map f k h = record {
   text = h.text;
   out = h.out;
   said = h.said;
-  is = elim h.is [ inl p ↦ inl (p.0, p.1, f ended _ p.2) | inr p ↦ inr (p.0, p.1, f p.0 _ p.2) ];
+  is = elim h.is [ inl p ↦ inl (p.0, p.1, f ended _ p.2) | inr p ↦ inr (p.0, p.1, f p.0 _ p.2, p.3) ];
   wrote = h.wrote;
   told = k _ h.told;
 }
@@ -170,7 +170,7 @@ answered-broken Ended ends text lost answers w f (inr a) o = record {
   text = text;
   out = lines_of answers;
   said = [];
-  is = inr (stopped, rw append-nil at (begins-front text [] a.0 a.1 answers a.2 a.3), refl);
+  is = inr (stopped, rw append-nil at (begins-front text [] a.0 a.1 answers a.2 a.3), refl, tt);
   wrote = o;
   told = before-line write_failed;
 }
@@ -178,7 +178,7 @@ answered-broken ReadFault ends text lost answers w f (inl a) o = record {
   text = text;
   out = lines_of answers;
   said = [];
-  is = inr (failed, rw append-nil at (begins-front text [] text [] answers (sym (append-nil text)) (rw f at a)), refl);
+  is = inr (failed, rw append-nil at (begins-front text [] text [] answers (sym (append-nil text)) (rw f at a)), refl, tt);
   wrote = o;
   told = before-line write_failed;
 }
@@ -186,7 +186,7 @@ answered-broken ReadFault ends text lost answers w f (inr a) o = record {
   text = text;
   out = lines_of answers;
   said = [];
-  is = inr (failed, rw append-nil at (begins-front text [] a.0 a.1 answers a.2 a.3), refl);
+  is = inr (failed, rw append-nil at (begins-front text [] a.0 a.1 answers a.2 a.3), refl, tt);
   wrote = o;
   told = before-line write_failed;
 }
@@ -194,7 +194,7 @@ answered-broken NoMemory ends text lost answers w f (inl a) o = record {
   text = text ++ lost;
   out = lines_of answers;
   said = [];
-  is = inr (stopped, begins-front text lost text [] answers (sym (append-nil text)) (rw f at a), refl);
+  is = inr (stopped, begins-front text lost text [] answers (sym (append-nil text)) (rw f at a), refl, tt);
   wrote = o;
   told = before-line write_failed;
 }
@@ -202,7 +202,7 @@ answered-broken NoMemory ends text lost answers w f (inr a) o = record {
   text = text ++ lost;
   out = lines_of answers;
   said = [];
-  is = inr (stopped, begins-front text lost a.0 a.1 answers a.2 a.3, refl);
+  is = inr (stopped, begins-front text lost a.0 a.1 answers a.2 a.3, refl, tt);
   wrote = o;
   told = before-line write_failed;
 }
@@ -253,7 +253,7 @@ broken-hex text lost stream answers w t h (inr a) o q = record {
   out = lines_of answers;
   said = [];
   is = inr (
-    stopped,
+    ended,
     (
       refl,
       inr (
@@ -270,6 +270,7 @@ broken-hex text lost stream answers w t h (inr a) o q = record {
       ),
     ),
     refl,
+    tt,
   );
   wrote = o;
   told = ([], refl, q);
