@@ -1,18 +1,18 @@
 -- What decoding a whole source answers, by frames.
-use Rattle.std.proofs.Common.{◌≡◌, ℕ, ◌+◌, ◌-◌, ◌<◌, ◌≤◌, nat_lt, min, if◌then◌else◌, Bool, true, false, List, [], ◌∷◌, ◌++◌, length, Result, Option, Some, None, Ok, Err, ◌⊎◌, inl, inr, refl, ap, sym, ◌∙◌, subst, arith, append_assoc, length-append}
+use Rattle.std.proofs.Common.{◌≡◌, ◌≢◌, ℕ, ◌+◌, ◌-◌, ◌<◌, ◌≤◌, nat_lt, min, if◌then◌else◌, Bool, true, false, List, [], ◌∷◌, ◌++◌, length, Result, Option, Some, None, Ok, Err, ◌⊎◌, inl, inr, refl, ap, sym, ◌∙◌, subst, arith, append_assoc, length-append}
 use Rattle.std.proofs.lemmas.List.{append-nil}
-use Rattle.std.proofs.lemmas.Bool.{lt-ltb, le-ltb, cases_lt}
+use Rattle.std.proofs.lemmas.Bool.{lt-ltb, le-ltb, cases_lt, eq-eqb, ne_eqb}
 use Rattle.std.specs.Prelude.{IsErr}
 use Rattle.std.specs.List.{AllByRecursion}
-use Rattle.cobs.specs.Frames.{NoZero, Frame, part, part_from, after}
+use Rattle.cobs.specs.Frames.{NoZero, Frame, part, part_from, after, missing}
 use Rattle.cobs.specs.Feeding.{at_zero, at_byte, frame_after}
 use Rattle.cobs.specs.Pieces.{first_answer, answered}
 use Rattle.cobs.specs.Reports.{report}
-use Rattle.cobs.specs.Whole.{unpadded, frame_in, reported, decoded_from}
+use Rattle.cobs.specs.Whole.{unpadded, frame_in, reported, decoded_from, decoded_into, message_of_stretch}
 use Rattle.cobs.specs.declared.dec.DecodeReport.{DecodeReport}
 use Rattle.cobs.specs.declared.dec.DecodeError.{DecodeError}
-use Rattle.cobs.specs.declared.dec.DecodeError.TheVariants.{TargetBufTooSmall}
-use Rattle.cobs.proofs.Decoding.{Stretch, part_append, frame_reads}
+use Rattle.cobs.specs.declared.dec.DecodeError.TheVariants.{InvalidFrame, TargetBufTooSmall}
+use Rattle.cobs.proofs.Decoding.{Stretch, part_append, frame_reads, frame_ends, stretch_frame}
 use Rattle.cobs.proofs.Feeds.{frame_byte, answer_byte}
 use Rattle.cobs.proofs.Wholes.{found_clear}
 use Rattle.cobs.proofs.Zeros.{zero_answers, zero_refuses}
@@ -119,3 +119,18 @@ refuses_sources room source s h =
     let z = found_clear source (frame_in source) refl in
     unanswered (length source) (first_answer room [] (frame_in source ++ 0 ∷ []) (length source - length (unpadded source)))
     (λ r e. let found = first_is_zero room [] (frame_in source) (length source - length (unpadded source)) r z e in no_answer room (frame_in source) (both (frame_in source) z s) h found.0 found.1)
+
+-- bytes that are decoded at once
+
+pub decodes_stretches : (room : ℕ) (bytes message : List ℕ) → Frame bytes message
+    → (decoded_into room bytes ≡ (if nat_lt room (length message) then Err TargetBufTooSmall else Ok (length message))) × (message_of_stretch bytes ≡ Ok message)
+decodes_stretches room bytes message f =
+    let whole = eq-eqb (missing bytes) 0 (frame_ends bytes message f) in
+    let reads = sym (frame_reads bytes message f) in
+    (rw (whole, reads) refl, rw (whole, reads) refl)
+
+pub refuses_stretches : (room : ℕ) (bytes : List ℕ) → Stretch bytes → bytes ≢ [] → ((message : List ℕ) → Frame bytes message → ⊥)
+    → (decoded_into room bytes ≡ Err (InvalidFrame (length (part bytes)))) × (message_of_stretch bytes ≡ Err (InvalidFrame (length (part bytes))))
+refuses_stretches room bytes s n h =
+    let broken = ne_eqb (missing bytes) 0 (λ m. h (part bytes) (stretch_frame bytes s n m)) in
+    (rw broken refl, rw broken refl)

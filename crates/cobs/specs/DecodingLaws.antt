@@ -5,7 +5,7 @@ use Rattle.cobs.specs.Frames.{Frame, part}
 use Rattle.cobs.specs.Feeding.{fed, next, told_by, listed, at_zero}
 use Rattle.cobs.specs.Pieces.{first_answer, frame_left, buffer_left}
 use Rattle.cobs.specs.Reports.{report, parsed_size, frame_size}
-use Rattle.cobs.specs.Whole.{unpadded, frame_in, decoded_from}
+use Rattle.cobs.specs.Whole.{unpadded, frame_in, decoded_from, decoded_into, message_of_stretch}
 use Rattle.cobs.specs.declared.dec.DecoderState.{DecoderState}
 use Rattle.cobs.specs.declared.dec.DecoderState.TheVariants.{Idle}
 use Rattle.cobs.specs.declared.dec.DecodeResult.TheVariants.{DataComplete}
@@ -45,6 +45,16 @@ DecodesFrames = (room : ℕ) (source message : List ℕ) → Frame (frame_in sou
 -- Every other source is refused.
 abbrev pub RefusesSources : Type 0
 RefusesSources = (room : ℕ) (source : List ℕ) → AllByRecursion (λ b. b < 256) (frame_in source) → ((message : List ℕ) → Frame (frame_in source) message → ⊥) → IsErr (decoded_from room source)
+
+-- Where bytes that were XORed with a sentinel, or go into a vector, are a frame, they give its message.
+abbrev pub DecodesStretches : Type 0
+DecodesStretches = (room : ℕ) (bytes message : List ℕ) → Frame bytes message
+    → (decoded_into room bytes ≡ (if nat_lt room (length message) then Err TargetBufTooSmall else Ok (length message))) × (message_of_stretch bytes ≡ Ok message)
+
+-- Other such bytes are refused, with how many bytes they decide.
+abbrev pub RefusesStretches : Type 0
+RefusesStretches = (room : ℕ) (bytes : List ℕ) → AllByRecursion (λ b. (0 < b) × (b < 256)) bytes → bytes ≢ [] → ((message : List ℕ) → Frame bytes message → ⊥)
+    → (decoded_into room bytes ≡ Err (InvalidFrame (length (part bytes)))) × (message_of_stretch bytes ≡ Err (InvalidFrame (length (part bytes))))
 
 -- what pushing comes to: the answer, the bytes of the frame so far, and the buffer
 pub record Outcome : Type 0 where
