@@ -1,5 +1,6 @@
 //! Frames that an accumulator gathers.
 use crate::findings::Findings;
+use crate::lending::FeedRef;
 use crate::values::Shown;
 use crate::words::{Trouble, Words, bytes_of};
 use postcard::DeserializeOwned;
@@ -20,49 +21,72 @@ pub fn replay_accumulate(
         pieces.push(bytes_of(alloc, piece)?)?;
     }
     let wanted = words.answer()?;
-    let answer = match name {
-        "()" => gather::<()>(alloc, size, &pieces)?,
-        "bool" => gather::<bool>(alloc, size, &pieces)?,
-        "u32" => gather::<u32>(alloc, size, &pieces)?,
-        "(u8,u8)" => gather::<(u8, u8)>(alloc, size, &pieces)?,
-        "Option<u16>" => gather::<Option<u16>>(alloc, size, &pieces)?,
-        "[u8;10]" => gather::<[u8; 10]>(alloc, size, &pieces)?,
-        "String" => gather::<String>(alloc, size, &pieces)?,
-        "Vec<u8>" => gather::<Vec<u8>>(alloc, size, &pieces)?,
-        "BTreeMap<u8,u8>" => gather::<BTreeMap<u8, u8>>(alloc, size, &pieces)?,
-        _ => return Err(Trouble::Unreadable),
-    };
+    let answer = gather(alloc, size, name, Call::Feed, &pieces)?;
     findings.compare("feed", answer.as_str(), wanted)?;
+    let answer = gather(alloc, size, name, Call::FeedRef, &pieces)?;
+    findings.compare("feed_ref", answer.as_str(), wanted)?;
     Ok(())
 }
 
-/// The answers of a new accumulator of so many bytes.
-fn gather<T: DeserializeOwned + Shown>(
+/// The call that feeds an accumulator.
+#[derive(Clone, Copy, Drop)]
+enum Call {
+    Feed,
+    FeedRef,
+}
+
+/// The answers of a new accumulator of so many bytes, of values of the type of that name.
+fn gather(
     alloc: Global,
     size: usize,
+    name: &str,
+    call: Call,
     pieces: &[Vec<u8>],
 ) -> Result<String, Trouble> {
     match size {
-        1 => feed_all::<T, 1>(alloc, &mut CobsAccumulator::new(), pieces),
-        2 => feed_all::<T, 2>(alloc, &mut CobsAccumulator::new(), pieces),
-        3 => feed_all::<T, 3>(alloc, &mut CobsAccumulator::new(), pieces),
-        4 => feed_all::<T, 4>(alloc, &mut CobsAccumulator::new(), pieces),
-        5 => feed_all::<T, 5>(alloc, &mut CobsAccumulator::new(), pieces),
-        6 => feed_all::<T, 6>(alloc, &mut CobsAccumulator::new(), pieces),
-        8 => feed_all::<T, 8>(alloc, &mut CobsAccumulator::new(), pieces),
-        11 => feed_all::<T, 11>(alloc, &mut CobsAccumulator::new(), pieces),
-        12 => feed_all::<T, 12>(alloc, &mut CobsAccumulator::new(), pieces),
-        16 => feed_all::<T, 16>(alloc, &mut CobsAccumulator::new(), pieces),
-        32 => feed_all::<T, 32>(alloc, &mut CobsAccumulator::new(), pieces),
-        64 => feed_all::<T, 64>(alloc, &mut CobsAccumulator::new(), pieces),
+        1 => ask::<1>(alloc, &mut CobsAccumulator::new(), name, call, pieces),
+        2 => ask::<2>(alloc, &mut CobsAccumulator::new(), name, call, pieces),
+        3 => ask::<3>(alloc, &mut CobsAccumulator::new(), name, call, pieces),
+        4 => ask::<4>(alloc, &mut CobsAccumulator::new(), name, call, pieces),
+        5 => ask::<5>(alloc, &mut CobsAccumulator::new(), name, call, pieces),
+        6 => ask::<6>(alloc, &mut CobsAccumulator::new(), name, call, pieces),
+        8 => ask::<8>(alloc, &mut CobsAccumulator::new(), name, call, pieces),
+        11 => ask::<11>(alloc, &mut CobsAccumulator::new(), name, call, pieces),
+        12 => ask::<12>(alloc, &mut CobsAccumulator::new(), name, call, pieces),
+        16 => ask::<16>(alloc, &mut CobsAccumulator::new(), name, call, pieces),
+        32 => ask::<32>(alloc, &mut CobsAccumulator::new(), name, call, pieces),
+        64 => ask::<64>(alloc, &mut CobsAccumulator::new(), name, call, pieces),
+        _ => Err(Trouble::Unreadable),
+    }
+}
+
+/// The answers of an accumulator, of values of the type of that name.
+fn ask<const N: usize>(
+    alloc: Global,
+    accumulator: &mut CobsAccumulator<N>,
+    name: &str,
+    call: Call,
+    pieces: &[Vec<u8>],
+) -> Result<String, Trouble> {
+    match name {
+        "()" => feed_all::<(), N>(alloc, accumulator, call, pieces),
+        "bool" => feed_all::<bool, N>(alloc, accumulator, call, pieces),
+        "u32" => feed_all::<u32, N>(alloc, accumulator, call, pieces),
+        "(u8,u8)" => feed_all::<(u8, u8), N>(alloc, accumulator, call, pieces),
+        "Option<u16>" => feed_all::<Option<u16>, N>(alloc, accumulator, call, pieces),
+        "[u8;10]" => feed_all::<[u8; 10], N>(alloc, accumulator, call, pieces),
+        "String" => feed_all::<String, N>(alloc, accumulator, call, pieces),
+        "Vec<u8>" => feed_all::<Vec<u8>, N>(alloc, accumulator, call, pieces),
+        "BTreeMap<u8,u8>" => feed_all::<BTreeMap<u8, u8>, N>(alloc, accumulator, call, pieces),
         _ => Err(Trouble::Unreadable),
     }
 }
 
 /// The answers of an accumulator to the pieces.
-fn feed_all<T: DeserializeOwned + Shown, const N: usize>(
+fn feed_all<T: DeserializeOwned + FeedRef<CobsAccumulator<N>> + Shown, const N: usize>(
     alloc: Global,
     accumulator: &mut CobsAccumulator<N>,
+    call: Call,
     pieces: &[Vec<u8>],
 ) -> Result<String, Trouble> {
     let mut text = String::new(alloc);
@@ -70,15 +94,16 @@ fn feed_all<T: DeserializeOwned + Shown, const N: usize>(
         if i > 0 {
             text.push('|')?;
         }
-        feed_piece::<T, N>(alloc, accumulator, piece, &mut text)?;
+        feed_piece::<T, N>(alloc, accumulator, call, piece, &mut text)?;
     }
     Ok(text)
 }
 
 /// Feeds a piece, and each rest again until it is empty or all was consumed. Each feed takes a byte at least.
-fn feed_piece<T: DeserializeOwned + Shown, const N: usize>(
+fn feed_piece<T: DeserializeOwned + FeedRef<CobsAccumulator<N>> + Shown, const N: usize>(
     alloc: Global,
     accumulator: &mut CobsAccumulator<N>,
+    call: Call,
     piece: &[u8],
     text: &mut String,
 ) -> Result<(), Trouble> {
@@ -90,7 +115,7 @@ fn feed_piece<T: DeserializeOwned + Shown, const N: usize>(
             }
             text.push(';')?;
         }
-        match accumulator.feed::<T>(alloc, rest) {
+        match feed::<T, N>(alloc, accumulator, call, rest) {
             FeedResult::Consumed => {
                 text.push('C')?;
                 break;
@@ -114,4 +139,17 @@ fn feed_piece<T: DeserializeOwned + Shown, const N: usize>(
         }
     }
     Ok(())
+}
+
+/// Feeds once.
+fn feed<'a, T: DeserializeOwned + FeedRef<CobsAccumulator<N>>, const N: usize>(
+    alloc: Global,
+    accumulator: &mut CobsAccumulator<N>,
+    call: Call,
+    input: &'a [u8],
+) -> FeedResult<'a, T> {
+    match call {
+        Call::Feed => accumulator.feed(alloc, input),
+        Call::FeedRef => T::feed_ref(alloc, accumulator, input),
+    }
 }

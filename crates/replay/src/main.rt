@@ -6,6 +6,7 @@ mod accumulating;
 mod decoding;
 mod encoding;
 mod findings;
+mod lending;
 mod messages;
 mod reading;
 mod sizes;

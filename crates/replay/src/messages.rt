@@ -1,12 +1,12 @@
 //! The types of messages, by their names.
 use crate::findings::Findings;
-use crate::reading::{read, read_frame};
+use crate::reading::{read, read_frame, read_owned};
 use crate::values::Shown;
 use crate::words::{Trouble, Words};
 use crate::writing::write;
 use arrayvec::{ArrayString, ArrayVec};
 use postcard::fixint::{BE, LE};
-use postcard::{Deserialize, Serialize};
+use postcard::{Deserialize, DeserializeOwned, Serialize};
 use samples::DataEnum;
 use std::alloc::Global;
 use std::collections::BTreeMap;
@@ -95,9 +95,23 @@ pub fn replay_read_frame(
     )
 }
 
-/// Does what a line asks of a type. Bytes that are decoded over themselves stand in `room` and again in `copy`; else
-/// `room` is a reader's.
-fn perform<'a, T: Serialize + Deserialize<&'a [u8]> + Shown>(
+/// Does what a line asks of a type that keeps none of the bytes that it is read from.
+fn perform<'a, T: Serialize + Deserialize<&'a [u8]> + DeserializeOwned + Shown>(
+    line: Line<'_>,
+    bytes: &'a [u8],
+    room: &'a mut [u8],
+    copy: &'a mut [u8],
+    findings: &mut Findings,
+) -> Result<(), Trouble> {
+    if line.task != Task::ReadFrame {
+        read_owned::<T>(line.alloc, bytes, line.wanted, findings)?;
+    }
+    perform_borrowing::<T>(line, bytes, room, copy, findings)
+}
+
+/// Does what a line asks of a type that may keep bytes. Bytes that are decoded over themselves stand in `room` and again
+/// in `copy`; else `room` is a reader's.
+fn perform_borrowing<'a, T: Serialize + Deserialize<&'a [u8]> + Shown>(
     line: Line<'_>,
     bytes: &'a [u8],
     room: &'a mut [u8],
@@ -181,8 +195,8 @@ fn ask_text<'a>(
     findings: &mut Findings,
 ) -> Result<(), Trouble> {
     match name {
-        "&[u8]" => perform::<&'a [u8]>(line, bytes, room, copy, findings),
-        "&str" => perform::<&'a str>(line, bytes, room, copy, findings),
+        "&[u8]" => perform_borrowing::<&'a [u8]>(line, bytes, room, copy, findings),
+        "&str" => perform_borrowing::<&'a str>(line, bytes, room, copy, findings),
         "ArrayString<0>" => perform::<ArrayString<0>>(line, bytes, room, copy, findings),
         "ArrayString<8>" => perform::<ArrayString<8>>(line, bytes, room, copy, findings),
         "String" => perform::<String>(line, bytes, room, copy, findings),

@@ -2,7 +2,7 @@
 use crate::findings::Findings;
 use crate::values::Shown;
 use crate::words::Trouble;
-use postcard::{Deserialize, Error};
+use postcard::{Deserialize, DeserializeOwned, Error};
 use std::alloc::{AllocError, Global};
 
 /// Reads bytes by each call. A reader has as much room as there are bytes.
@@ -29,6 +29,21 @@ pub fn read<'a, T: Deserialize<&'a [u8]> + Shown>(
         Err(error) => refusal(alloc, error)?,
     };
     findings.compare("from_io", answer.as_str(), wanted)?;
+    Ok(())
+}
+
+/// Reads bytes as a value that keeps none of them.
+pub fn read_owned<T: DeserializeOwned + Shown>(
+    alloc: Global,
+    bytes: &[u8],
+    wanted: &str,
+    findings: &mut Findings,
+) -> Result<(), Trouble> {
+    let answer = match postcard::from_bytes_owned::<T>(alloc, bytes) {
+        Ok(value) => shown(alloc, &value)?,
+        Err(error) => refusal(alloc, error)?,
+    };
+    findings.compare("from_bytes_owned", answer.as_str(), value_of(wanted))?;
     Ok(())
 }
 
