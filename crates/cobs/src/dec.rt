@@ -500,7 +500,7 @@ pub struct CobsDecoder<'a> {
 impl<'a> CobsDecoder<'a> {
     ghost use Rattle.cobs.specs.Feeding.{answer_of, frame_after};
     ghost use Rattle.cobs.specs.Streaming.{Decoded};
-    ghost use Rattle.cobs.specs.Decoder.{Has, buffer_of, lent_name};
+    ghost use Rattle.cobs.specs.Decoder.{Has, buffer_of, lent_name, LendsBuffer};
     ghost use Rattle.cobs.specs.Pieces.{first_answer, frame_left, frame_met, buffer_left};
 
     /// A decoder between frames.
@@ -556,9 +556,10 @@ impl<'a> CobsDecoder<'a> {
         self.dest
     }
 
-    /// The buffer, to be written. What is written over bytes that were decoded stands in their place.
+    /// The buffer, to be written. The decoder goes on in its frame: what is written over bytes that were decoded stands in their place.
     pub fn dest_mut(&mut self) -> &mut [u8]
-        ensures { result.now ≡ buffer_of self.old }
+        ensures* lends { sem 𝓛 (LendsBuffer self.entry result) }
+        ensures value { result.now ≡ buffer_of self.old }
     {
         &mut *self.dest
     }
