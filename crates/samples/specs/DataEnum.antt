@@ -8,7 +8,6 @@ use Rattle.postcard_tree.specs.Bounds.{width_16, width_32, width_64}
 use Rattle.postcard_tree.specs.Reading.{TakesByte, ReadsByte, RefusesByte, TakesNumber, ReadsNumber, RefusesGroups, TakesPair, ReadsPair, RefusesPair, ReadsVariant}
 use Rattle.postcard_tree.specs.ReadingLaws.{ReadingLaws, byte_laws, number_laws, pair_laws}
 use Rattle.postcard_de.specs.ReadsBack.{ReadsBack, variant_reads_back, number_reads_back, byte_reads_back}
-use Rattle.samples.specs.declared.structs.EnumStruct.{EnumStruct}
 use Rattle.samples.specs.declared.enums.DataEnum.{DataEnum}
 use Rattle.samples.specs.declared.enums.DataEnum.TheVariants.{Bib, Bim, Bap, Kim, Chi, Sho}
 use Rattle.postcard_tree.specs.Reading.{ReadsAs}

@@ -1,5 +1,5 @@
 -- Two fields that are written are read back.
-use Rattle.std.specs.Prelude.{◌≡◌, ℕ, ◌<◌, ◌^◌, List, [], ◌∷◌, length, Option, Some}
+use Rattle.std.specs.Prelude.{◌≡◌, ℕ, ◌<◌, ◌^◌, List, [], ◌∷◌, length, Some}
 use Rattle.std.specs.Str.{IsUtf8}
 use Rattle.postcard_tree.specs.Tree.{Tree, byte, number, parts, group_of, text_of}
 use Rattle.postcard_tree.specs.Reading.{GroupOf, PartThen, NoParts, ReadsByte, ReadsNumber, ReadsPair, ReadsBytes, ReadsText}

@@ -1,4 +1,4 @@
-use Rattle.std.proofs.Common.{ℕ, ◌≡◌, ◌-◌, ◌+◌, ◌≤◌, ◌++◌, List, length, take, drop, arith, rules, ap, subst, sym, ◌∙◌, length-append, length-drop, refl}
+use Rattle.std.proofs.Common.{◌≡◌, ◌+◌, ◌≤◌, ◌++◌, length, take, drop, arith, rules, ap, sym, ◌∙◌, length-append, length-drop}
 use Rattle.std.proofs.Math.Seq.{take-append_seam}
 use Rattle.postcard_de.proofs.Filling.{gave_filled}
 use Rattle.postcard_de.proofs.de_flavors.io.IOReader.fill_front.Goals as goal
