@@ -747,6 +747,3 @@ impl<const N: usize> Default for CobsDecoderHeapless<N> {
         CobsDecoderHeapless::new()
     }
 }
-
-#[cfg(test)]
-mod tests;

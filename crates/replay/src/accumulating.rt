@@ -9,7 +9,7 @@ use std::alloc::Global;
 use std::collections::BTreeMap;
 
 /// `N TYPE PIECE,PIECE,.. -> A|A|..`: what an accumulator of so many bytes answers by the documented loop.
-pub fn replay_accumulate(
+pub(crate) fn replay_accumulate(
     alloc: Global,
     mut words: Words<'_>,
     findings: &mut Findings,

@@ -5,7 +5,7 @@ use cobs::{DecodeError, DecodeReport, DecodeVecError};
 use std::alloc::{AllocError, Global};
 
 /// `SOURCE CAP -> PARSED MESSAGE` or `SOURCE CAP -> !ERROR`: the first frame of a source, decoded into so much room.
-pub fn replay_decode(
+pub(crate) fn replay_decode(
     alloc: Global,
     mut words: Words<'_>,
     findings: &mut Findings,
@@ -31,7 +31,7 @@ pub fn replay_decode(
 }
 
 /// `SOURCE -> PARSED MESSAGE` or `SOURCE -> !InvalidFrame`: a frame that is decoded over its own bytes.
-pub fn replay_in_place(
+pub(crate) fn replay_in_place(
     alloc: Global,
     mut words: Words<'_>,
     findings: &mut Findings,

@@ -13,7 +13,7 @@ const PIECE: usize = 100;
 const UNTOUCHED: u8 = 0xA5;
 
 /// `MESSAGE FRAME MORE`: the shortest frame of a message, and whether a block 01 more makes another one.
-pub fn replay_encode(
+pub(crate) fn replay_encode(
     alloc: Global,
     mut words: Words<'_>,
     findings: &mut Findings,
@@ -171,7 +171,7 @@ fn keep_buffer(alloc: Global, message: &[u8]) -> Result<Vec<u8>, Trouble> {
 }
 
 /// `S MESSAGE FRAME`: the frame of a message for a sentinel.
-pub fn replay_sentinel(
+pub(crate) fn replay_sentinel(
     alloc: Global,
     mut words: Words<'_>,
     findings: &mut Findings,

@@ -27,7 +27,7 @@ impl Findings {
         self.text.is_empty()
     }
 
-    pub fn text(&self) -> &str {
+    pub(crate) fn text(&self) -> &str {
         self.text.as_str()
     }
 

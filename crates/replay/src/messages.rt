@@ -31,7 +31,7 @@ struct Line<'a> {
 }
 
 /// `TYPE VALUE BYTES FRAME`: what a value is written as.
-pub fn replay_write(
+pub(crate) fn replay_write(
     alloc: Global,
     mut words: Words<'_>,
     findings: &mut Findings,
@@ -51,7 +51,7 @@ pub fn replay_write(
 }
 
 /// `TYPE BYTES -> VALUE +REST` or `TYPE BYTES -> !ERROR`: what bytes are read as.
-pub fn replay_read(
+pub(crate) fn replay_read(
     alloc: Global,
     mut words: Words<'_>,
     findings: &mut Findings,
@@ -70,7 +70,7 @@ pub fn replay_read(
 }
 
 /// `TYPE BYTES -> VALUE +REST` or `TYPE BYTES -> !ERROR`: what a frame is read as.
-pub fn replay_read_frame(
+pub(crate) fn replay_read_frame(
     alloc: Global,
     mut words: Words<'_>,
     findings: &mut Findings,

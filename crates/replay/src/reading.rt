@@ -6,7 +6,7 @@ use postcard::{Deserialize, DeserializeOwned, Error};
 use std::alloc::{AllocError, Global};
 
 /// Reads bytes by each call. A reader has as much room as there are bytes.
-pub fn read<'a, T: Deserialize<&'a [u8]> + Shown>(
+pub(crate) fn read<'a, T: Deserialize<&'a [u8]> + Shown>(
     alloc: Global,
     bytes: &'a [u8],
     room: &'a mut [u8],
@@ -33,7 +33,7 @@ pub fn read<'a, T: Deserialize<&'a [u8]> + Shown>(
 }
 
 /// Reads bytes as a value that keeps none of them.
-pub fn read_owned<T: DeserializeOwned + Shown>(
+pub(crate) fn read_owned<T: DeserializeOwned + Shown>(
     alloc: Global,
     bytes: &[u8],
     wanted: &str,
@@ -48,7 +48,7 @@ pub fn read_owned<T: DeserializeOwned + Shown>(
 }
 
 /// Reads a frame, and a copy of it, by each call.
-pub fn read_frame<'a, T: Deserialize<&'a [u8]> + Shown>(
+pub(crate) fn read_frame<'a, T: Deserialize<&'a [u8]> + Shown>(
     alloc: Global,
     frame: &'a mut [u8],
     copy: &'a mut [u8],
@@ -77,7 +77,7 @@ fn value_of(wanted: &str) -> &str {
 }
 
 /// A value, in the words of a line.
-pub fn shown<T: Shown>(alloc: Global, value: &T) -> Result<String, AllocError> {
+pub(crate) fn shown<T: Shown>(alloc: Global, value: &T) -> Result<String, AllocError> {
     let mut text = String::new(alloc);
     value.show(&mut text)?;
     Ok(text)
@@ -91,6 +91,6 @@ fn with_rest<T: Shown>(alloc: Global, value: &T, rest: usize) -> Result<String, 
 }
 
 /// A refusal, in the words of a line.
-pub fn refusal(alloc: Global, error: Error) -> Result<String, AllocError> {
+pub(crate) fn refusal(alloc: Global, error: Error) -> Result<String, AllocError> {
     format!(in alloc; "!{error:?}")
 }

@@ -14,7 +14,7 @@ use std::rc::Rc;
 use std::time::Duration;
 
 /// `TYPE SIZE`: the greatest size of a type.
-pub fn replay_size(
+pub(crate) fn replay_size(
     alloc: Global,
     mut words: Words<'_>,
     findings: &mut Findings,

@@ -63,7 +63,7 @@ struct Stop {
 }
 
 /// `CAP PIECE,PIECE,.. -> A|A|..`: what a decoder over so many bytes answers.
-pub fn replay_stream(
+pub(crate) fn replay_stream(
     alloc: Global,
     mut words: Words<'_>,
     findings: &mut Findings,

@@ -29,12 +29,12 @@ pub struct Words<'a> {
 }
 
 impl<'a> Words<'a> {
-    pub fn new(line: &'a str) -> Words<'a> {
+    pub(crate) fn new(line: &'a str) -> Words<'a> {
         Words { rest: Some(line) }
     }
 
     /// The next word.
-    pub fn next(&mut self) -> Result<&'a str, Trouble> {
+    pub(crate) fn next(&mut self) -> Result<&'a str, Trouble> {
         let rest = self.rest.ok_or(Trouble::Unreadable)?;
         match rest.split_once(' ') {
             Some((word, after)) => {
@@ -49,7 +49,7 @@ impl<'a> Words<'a> {
     }
 
     /// All that is left behind a word `->`.
-    pub fn answer(mut self) -> Result<&'a str, Trouble> {
+    pub(crate) fn answer(mut self) -> Result<&'a str, Trouble> {
         if self.next()? != "->" {
             return Err(Trouble::Unreadable);
         }
@@ -57,17 +57,17 @@ impl<'a> Words<'a> {
     }
 
     /// The next word's bytes.
-    pub fn bytes(&mut self, alloc: Global) -> Result<Vec<u8>, Trouble> {
+    pub(crate) fn bytes(&mut self, alloc: Global) -> Result<Vec<u8>, Trouble> {
         bytes_of(alloc, self.next()?)
     }
 
     /// The next word's number.
-    pub fn number(&mut self) -> Result<usize, Trouble> {
+    pub(crate) fn number(&mut self) -> Result<usize, Trouble> {
         self.next()?.parse::<usize>().or(Err(Trouble::Unreadable))
     }
 
     /// Refuses a line with a word more.
-    pub fn end(self) -> Result<(), Trouble> {
+    pub(crate) fn end(self) -> Result<(), Trouble> {
         if self.rest.is_some() {
             return Err(Trouble::Unreadable);
         }
@@ -76,7 +76,7 @@ impl<'a> Words<'a> {
 }
 
 /// The bytes of hexadecimal digits; a dash is no bytes.
-pub fn bytes_of(alloc: Global, word: &str) -> Result<Vec<u8>, Trouble> {
+pub(crate) fn bytes_of(alloc: Global, word: &str) -> Result<Vec<u8>, Trouble> {
     if word == "-" {
         return Ok(Vec::new(alloc));
     }
@@ -88,7 +88,7 @@ pub fn bytes_of(alloc: Global, word: &str) -> Result<Vec<u8>, Trouble> {
 }
 
 /// The digits of bytes; a dash where there are none.
-pub fn digits(alloc: Global, bytes: &[u8]) -> Result<String, AllocError> {
+pub(crate) fn digits(alloc: Global, bytes: &[u8]) -> Result<String, AllocError> {
     if bytes.is_empty() {
         return String::from_str(alloc, "-");
     }

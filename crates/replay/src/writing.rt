@@ -11,7 +11,7 @@ use std::alloc::Global;
 const MOST: usize = 4096;
 
 /// Makes the value, which its bytes are read as, and writes it by each call.
-pub fn write<'a, T: Serialize + Deserialize<&'a [u8]> + Shown>(
+pub(crate) fn write<'a, T: Serialize + Deserialize<&'a [u8]> + Shown>(
     alloc: Global,
     wanted: &str,
     bytes: &'a [u8],

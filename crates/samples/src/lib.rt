@@ -10,6 +10,3 @@ mod structs;
 pub use chain::Chain;
 pub use enums::{BasicEnum, DataEnum};
 pub use structs::{EnumStruct, NewTypeStruct, RefStruct, TupleStruct};
-
-#[cfg(test)]
-mod tests;

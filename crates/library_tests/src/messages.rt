@@ -1,5 +1,5 @@
 //! What the types are on the wire, by published bytes.
-use super::*;
+use samples::*;
 use postcard::{Error, from_bytes, from_bytes_owned, take_from_bytes, to_allocvec, to_slice};
 use std::alloc::Global;
 use std::process::Abort;

@@ -1,6 +1,6 @@
 //! What the serializer's calls push.
-use crate::ser_flavors::{Flavor, HVec, IndexByte, Slice};
-use crate::{Serialize, Serializer};
+use postcard_ser::ser_flavors::{Flavor, HVec, IndexByte, Slice};
+use postcard_ser::{Serialize, Serializer};
 use postcard_tree::Error;
 use std::test::Fail;
 

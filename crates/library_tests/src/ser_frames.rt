@@ -1,6 +1,6 @@
 //! Frames.
-use crate::ser_flavors::{AllocVec, Cobs, Flavor, HVec, Slice};
-use crate::{Serialize, Serializer};
+use postcard_ser::ser_flavors::{AllocVec, Cobs, Flavor, HVec, Slice};
+use postcard_ser::{Serialize, Serializer};
 use postcard_tree::{Error, Result as Answer};
 use std::test::Fail;
 

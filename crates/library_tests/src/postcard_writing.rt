@@ -1,8 +1,8 @@
-use crate::experimental::max_size::{MaxSize, MaxWritten};
-use crate::experimental::serialized_size;
-use crate::fixint::{BE, LE, be, le};
-use crate::ser_flavors::{AllocVec, Flavor, Slice};
-use crate::{
+use postcard::experimental::max_size::{MaxSize, MaxWritten};
+use postcard::experimental::serialized_size;
+use postcard::fixint::{BE, LE, be, le};
+use postcard::ser_flavors::{AllocVec, Flavor, Slice};
+use postcard::{
     Error, Serialize, Serializer, serialize_with_flavor, to_allocvec, to_extend, to_io, to_slice,
     to_stdvec, to_vec,
 };

@@ -3,9 +3,9 @@ ghost use Rattle.std.specs.Prelude.{◌≡◌, IfOk, take};
 ghost use Rattle.postcard_tree.specs.Spelling.{short};
 ghost use Rattle.postcard_tree.specs.Tree.{number};
 
-use crate::ser_flavors::io::WriteFlavor;
-use crate::ser_flavors::{AllocVec, ExtendFlavor, Flavor, HVec, IndexByte, Size, Slice, StdVec};
-use crate::{Serialize, Serializer};
+use postcard_ser::ser_flavors::io::WriteFlavor;
+use postcard_ser::ser_flavors::{AllocVec, ExtendFlavor, Flavor, HVec, IndexByte, Size, Slice, StdVec};
+use postcard_ser::{Serialize, Serializer};
 use arrayvec::ArrayVec;
 use postcard_tree::{Error, Result as Answer};
 use std::io;

@@ -1,5 +1,5 @@
-use crate::accumulator::{CobsAccumulator, FeedResult};
-use crate::{
+use postcard::accumulator::{CobsAccumulator, FeedResult};
+use postcard::{
     Error, from_bytes_cobs, take_from_bytes_cobs, to_allocvec_cobs, to_slice_cobs, to_stdvec_cobs,
     to_vec_cobs,
 };

@@ -1,5 +1,6 @@
-use super::*;
-use crate::laws;
+use cobs::*;
+use cobs::laws;
+use std::alloc::Global;
 use std::test::Fail;
 
 // 10, 11, 0, 12 and its frame

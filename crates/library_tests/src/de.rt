@@ -1,7 +1,7 @@
 //! What no clause says: published bytes, and that calls can succeed.
-use crate::de_flavors::io::IOReader;
-use crate::de_flavors::{Bytes, Flavor, Slice};
-use crate::{Deserialize, DeserializeOwned, Deserializer};
+use postcard_de::de_flavors::io::IOReader;
+use postcard_de::de_flavors::{Bytes, Flavor, Slice};
+use postcard_de::{Deserialize, DeserializeOwned, Deserializer};
 use arrayvec::{ArrayString, ArrayVec};
 use postcard_tree::fixint::{BE, LE};
 use postcard_tree::{Error, Result};

@@ -1,6 +1,6 @@
 //! Texts that are formatted.
-use crate::Serializer;
-use crate::ser_flavors::{AllocVec, Flavor, IndexByte, Size, Slice};
+use postcard_ser::Serializer;
+use postcard_ser::ser_flavors::{AllocVec, Flavor, IndexByte, Size, Slice};
 use postcard_tree::Error;
 use std::fmt;
 use std::fmt::{Display, Formatter, Write};

@@ -1,6 +1,6 @@
-use crate::fixint::{BE, LE, be, le};
-use crate::laws::round_trip;
-use crate::{Deserializer, Error, from_bytes, from_bytes_owned, from_io, take_from_bytes};
+use postcard::fixint::{BE, LE, be, le};
+use postcard::laws::round_trip;
+use postcard::{Deserializer, Error, from_bytes, from_bytes_owned, from_io, take_from_bytes};
 use arrayvec::ArrayVec;
 use std::collections::BTreeMap;
 use std::test::Fail;

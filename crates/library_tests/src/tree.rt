@@ -1,7 +1,7 @@
-use crate::error::Error;
-use crate::fixint::{BE, FixInt, LE};
-use crate::readable::Readable;
-use crate::varint::{
+use postcard_tree::error::Error;
+use postcard_tree::fixint::{BE, FixInt, LE};
+use postcard_tree::readable::Readable;
+use postcard_tree::varint::{
     VarintInt, max_of_last_byte, varint_max, varint_u16, varint_u32, varint_u64, varint_u128,
     varint_usize,
 };

@@ -1,0 +1,30 @@
+//! Tests of the libraries, by their public calls alone: outside vectors and worked rows, texts, each call once on
+//! its happy path, each generic one at a concrete type, writers and readers that fail, and memory that isn't found.
+//!
+//! They stand in a crate of their own because a crate with tests is proved twice, once with and once without them.
+#![tactic(auto)]
+
+#[cfg(test)]
+mod cobs_decoding;
+#[cfg(test)]
+mod cobs_encoding;
+#[cfg(test)]
+mod de;
+#[cfg(test)]
+mod messages;
+#[cfg(test)]
+mod postcard_frames;
+#[cfg(test)]
+mod postcard_reading;
+#[cfg(test)]
+mod postcard_writing;
+#[cfg(test)]
+mod ser_calls;
+#[cfg(test)]
+mod ser_flavors;
+#[cfg(test)]
+mod ser_frames;
+#[cfg(test)]
+mod ser_texts;
+#[cfg(test)]
+mod tree;
