@@ -1,5 +1,5 @@
-use cobs::*;
-use cobs::laws;
+//! `cobs`, encoding: published frames, rows about full blocks and pieces, and the text of its error.
+use cobs::{laws, *};
 use std::alloc::Global;
 use std::test::Fail;
 
@@ -21,18 +21,18 @@ fn all_but_255() -> [u8; 254] {
 fn published_frames(rt: HostRuntime) -> Result<(), Fail> {
     laws::lengths();
     let mut dest = [0u8; 5];
-    assert_eq!(rt; encode(&MESSAGE, &mut dest), 5);
-    assert_eq!(rt; dest, FRAME);
-    assert_eq!(rt; encoded_length(&MESSAGE), 5);
+    assert!(rt; encode(&MESSAGE, &mut dest) == 5);
+    assert!(rt; dest == FRAME);
+    assert!(rt; encoded_length(&MESSAGE) == 5);
     let mut dest = [0u8; 1];
-    assert_eq!(rt; encode(&[], &mut dest), 1);
-    assert_eq!(rt; dest, [1]);
+    assert!(rt; encode(&[], &mut dest) == 1);
+    assert!(rt; dest == [1]);
     let mut dest = [0u8; 255];
-    assert_eq!(rt; encode(&all_but_255(), &mut dest), 255);
-    assert_eq!(rt; dest[0], 255);
-    assert_eq!(rt; &dest[1..], all_but_255().as_slice());
+    assert!(rt; encode(&all_but_255(), &mut dest) == 255);
+    assert!(rt; dest[0] == 255);
+    assert!(rt; &dest[1..] == all_but_255().as_slice());
     let frame = encode_vec(rt.alloc(), &MESSAGE)?;
-    assert_eq!(rt; frame.as_slice(), FRAME.as_slice());
+    assert!(rt; frame.as_slice() == FRAME.as_slice());
     Ok(())
 }
 
@@ -46,40 +46,40 @@ fn greatest_lengths(rt: HostRuntime) {
         (508, 510),
         (509, 512),
     ] {
-        assert_eq!(rt; max_encoding_length(len), most, "at {len}");
+        assert!(rt; max_encoding_length(len) == most, "at {len}");
     }
-    assert_eq!(rt; max_encoding_overhead(509), 3);
+    assert!(rt; max_encoding_overhead(509) == 3);
 }
 
 #[test]
 fn no_room(rt: HostRuntime) {
     let mut small = [9u8; 4];
     assert!(rt; try_encode(&MESSAGE, &mut small) == Err(DestBufTooSmallError));
-    assert_eq!(rt; small, [9; 4]);
+    assert!(rt; small == [9; 4]);
     let mut dest = [9u8; 5];
     assert!(rt; try_encode(&MESSAGE, &mut dest) == Ok(5));
-    assert_eq!(rt; dest, FRAME);
+    assert!(rt; dest == FRAME);
     let mut small = [9u8; 6];
     assert!(rt; try_encode_including_sentinels(&MESSAGE, &mut small) == Err(DestBufTooSmallError));
-    assert_eq!(rt; small, [9; 6]);
+    assert!(rt; small == [9; 6]);
     let mut dest = [9u8; 7];
     assert!(rt; try_encode_including_sentinels(&MESSAGE, &mut dest) == Ok(7));
-    assert_eq!(rt; dest, [0, 3, 10, 11, 2, 12, 0]);
+    assert!(rt; dest == [0, 3, 10, 11, 2, 12, 0]);
 }
 
 #[test]
 fn sentinels(rt: HostRuntime) -> Result<(), Fail> {
     let mut dest = [9u8; 3];
-    assert_eq!(rt; encode_including_sentinels(&[], &mut dest), 3);
-    assert_eq!(rt; dest, [0, 1, 0]);
+    assert!(rt; encode_including_sentinels(&[], &mut dest) == 3);
+    assert!(rt; dest == [0, 1, 0]);
     let mut dest = [0u8; 5];
     let n = encode_with_sentinel(&MESSAGE, &mut dest, 10);
-    assert_eq!(rt; n, 5);
-    assert_eq!(rt; dest, [9, 0, 1, 8, 6]);
+    assert!(rt; n == 5);
+    assert!(rt; dest == [9, 0, 1, 8, 6]);
     let frame = encode_vec_including_sentinels(rt.alloc(), &MESSAGE)?;
-    assert_eq!(rt; frame.as_slice(), [0, 3, 10, 11, 2, 12, 0].as_slice());
+    assert!(rt; frame.as_slice() == [0, 3, 10, 11, 2, 12, 0].as_slice());
     let frame = encode_vec_with_sentinel(rt.alloc(), &MESSAGE, 10)?;
-    assert_eq!(rt; frame.as_slice(), [9, 0, 1, 8, 6].as_slice());
+    assert!(rt; frame.as_slice() == [9, 0, 1, 8, 6].as_slice());
     Ok(())
 }
 
@@ -87,12 +87,12 @@ fn sentinels(rt: HostRuntime) -> Result<(), Fail> {
 fn full_blocks(rt: HostRuntime) -> Result<(), Fail> {
     let mut message = vec![in rt.alloc(); 1; 254]?;
     let frame = encode_vec(rt.alloc(), message.as_slice())?;
-    assert_eq!(rt; frame.len(), 255);
-    assert_eq!(rt; frame[0], 255);
+    assert!(rt; frame.len() == 255);
+    assert!(rt; frame[0] == 255);
     message.push(0)?;
     let frame = encode_vec(rt.alloc(), message.as_slice())?;
-    assert_eq!(rt; frame.len(), 257);
-    assert_eq!(rt; &frame[254..], [1, 1, 1].as_slice());
+    assert!(rt; frame.len() == 257);
+    assert!(rt; &frame[254..] == [1, 1, 1].as_slice());
     Ok(())
 }
 
@@ -103,16 +103,16 @@ fn pieces(rt: HostRuntime) {
     let mut encoder = CobsEncoder::new(&mut dest);
     assert!(rt; encoder.push(&ones) == Ok(()));
     assert!(rt; encoder.push(&[]) == Ok(()));
-    assert_eq!(rt; encoder.frame_length(), 255);
-    assert_eq!(rt; encoder.finalize(), 255);
-    assert_eq!(rt; dest[0], 255);
+    assert!(rt; encoder.frame_length() == 255);
+    assert!(rt; encoder.finalize() == 255);
+    assert!(rt; dest[0] == 255);
     let mut encoder = CobsEncoder::new(&mut dest);
     assert!(rt; encoder.push(&ones) == Ok(()));
     assert!(rt; encoder.push(&[]) == Ok(()));
     assert!(rt; encoder.push(&[1]) == Err(DestBufTooSmallError));
     assert!(rt; encoder.push(&[]) == Err(DestBufTooSmallError));
-    assert_eq!(rt; encoder.frame_length(), 0);
-    assert_eq!(rt; encoder.finalize(), 0);
+    assert!(rt; encoder.frame_length() == 0);
+    assert!(rt; encoder.finalize() == 0);
 }
 
 // Pushes a message, and ends it, as the documentation of `EncoderState` says.
@@ -144,17 +144,17 @@ fn kept(alloc: Global, message: &[u8]) -> Result<Vec<u8>, Fail> {
 #[test]
 fn kept_buffers(rt: HostRuntime) -> Result<(), Fail> {
     let buffer = kept(rt.alloc(), &MESSAGE)?;
-    assert_eq!(rt; buffer.as_slice(), FRAME.as_slice());
+    assert!(rt; buffer.as_slice() == FRAME.as_slice());
     let buffer = kept(rt.alloc(), &[1; 254])?;
-    assert_eq!(rt; buffer.len(), 256);
-    assert_eq!(rt; buffer[0], 255);
-    assert_eq!(rt; buffer[255], 1);
+    assert!(rt; buffer.len() == 256);
+    assert!(rt; buffer[0] == 255);
+    assert!(rt; buffer[255] == 1);
     Ok(())
 }
 
 #[test]
 fn error_text(rt: HostRuntime) -> Result<(), Fail> {
     let text = format!(in rt.alloc(); "{}", DestBufTooSmallError)?;
-    assert_eq!(rt; text.as_str(), "destination buffer too small");
+    assert!(rt; text.as_str() == "destination buffer too small");
     Ok(())
 }

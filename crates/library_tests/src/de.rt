@@ -1,8 +1,8 @@
-//! What no clause says: published bytes, and that calls can succeed.
+//! `postcard_de`: published bytes by each call, readers that fail, and refusals.
+use arrayvec::{ArrayString, ArrayVec};
 use postcard_de::de_flavors::io::IOReader;
 use postcard_de::de_flavors::{Bytes, Flavor, Slice};
 use postcard_de::{Deserialize, DeserializeOwned, Deserializer};
-use arrayvec::{ArrayString, ArrayVec};
 use postcard_tree::fixint::{BE, LE};
 use postcard_tree::{Error, Result};
 use std::alloc::Global;
@@ -73,12 +73,9 @@ impl Read for Broken<'_> {
 #[test]
 fn a_slice_gives_its_bytes(rt: HostRuntime) -> Tested {
     let mut slice = Slice::new(&[1, 2, 3, 4]);
-    assert_eq!(rt; slice.pop(), Ok(1));
-    assert_eq!(rt; slice.size_hint(), Some(3));
-    assert_eq!(rt;
-        slice.try_take_n(4).err(),
-        Some(Error::DeserializeUnexpectedEnd)
-    );
+    assert!(rt; slice.pop() == Ok(1));
+    assert!(rt; slice.size_hint() == Some(3));
+    assert!(rt; slice.try_take_n(4).err() == Some(Error::DeserializeUnexpectedEnd));
     assert!(rt; slice.try_take_n_temp(1)? == [2].as_slice());
     assert!(rt; slice.try_take_n(1)? == [3].as_slice());
     assert!(rt; slice.finalize()? == [4].as_slice());
@@ -90,11 +87,11 @@ fn a_reader_needs_no_buffer_for_a_byte(rt: HostRuntime) -> Tested {
     let bytes = [0xAA, 0xBB, 0xCC];
     let mut none = [0u8; 0];
     let mut reader = IOReader::new(&bytes[..], &mut none);
-    assert_eq!(rt; reader.size_hint(), None);
+    assert!(rt; reader.size_hint() == None);
     for byte in [0xAA, 0xBB, 0xCC] {
-        assert_eq!(rt; reader.pop(), Ok(byte));
+        assert!(rt; reader.pop() == Ok(byte));
     }
-    assert_eq!(rt; reader.pop(), Err(Error::DeserializeUnexpectedEnd));
+    assert!(rt; reader.pop() == Err(Error::DeserializeUnexpectedEnd));
     Ok(())
 }
 
@@ -105,12 +102,9 @@ fn bytes_by_a_reader_use_the_buffer(rt: HostRuntime) -> Tested {
     let mut reader = IOReader::new(&bytes[..], &mut buffer);
     assert!(rt; reader.try_take_n(2)? == [0xAA, 0xBB].as_slice());
     assert!(rt; reader.try_take_n(2)? == [0xCC, 0xDD].as_slice());
-    assert_eq!(rt;
-        reader.try_take_n(2).err(),
-        Some(Error::DeserializeUnexpectedEnd)
-    );
+    assert!(rt; reader.try_take_n(2).err() == Some(Error::DeserializeUnexpectedEnd));
     let (_, rest) = reader.finalize()?;
-    assert_eq!(rt; rest.len(), 2);
+    assert!(rt; rest.len() == 2);
     Ok(())
 }
 
@@ -119,18 +113,12 @@ fn a_buffer_that_is_too_small_stays_whole(rt: HostRuntime) -> Tested {
     let bytes = [1, 2, 3];
     let mut buffer = [0u8; 2];
     let mut reader = IOReader::new(&bytes[..], &mut buffer);
-    assert_eq!(rt;
-        reader.try_take_n(3).err(),
-        Some(Error::DeserializeUnexpectedEnd)
-    );
-    assert_eq!(rt;
-        reader.try_take_n_temp(3).err(),
-        Some(Error::DeserializeUnexpectedEnd)
-    );
+    assert!(rt; reader.try_take_n(3).err() == Some(Error::DeserializeUnexpectedEnd));
+    assert!(rt; reader.try_take_n_temp(3).err() == Some(Error::DeserializeUnexpectedEnd));
     assert!(rt; reader.try_take_n_temp(2)? == [1, 2].as_slice());
-    assert_eq!(rt; reader.pop(), Ok(3));
+    assert!(rt; reader.pop() == Ok(3));
     let (left, rest) = reader.finalize()?;
-    assert_eq!(rt; (left.len(), rest.len()), (0, 2));
+    assert!(rt; (left.len(), rest.len()) == (0, 2));
     Ok(())
 }
 
@@ -141,9 +129,9 @@ fn texts_by_a_reader(rt: HostRuntime) -> Tested {
     let ((a, b), left) = read_by::<(&str, &str), _>(rt.alloc(), &bytes[..], &mut four)?;
     assert!(rt; a == "ab" && b == "cd" && left == 0);
     let mut three = [0u8; 3];
-    assert_eq!(rt;
-        read_by::<(&str, &str), _>(rt.alloc(), &bytes[..], &mut three).err(),
-        Some(Error::DeserializeUnexpectedEnd)
+    assert!(rt;
+        read_by::<(&str, &str), _>(rt.alloc(), &bytes[..], &mut three).err()
+            == Some(Error::DeserializeUnexpectedEnd)
     );
     let mut two = [0u8; 2];
     let ((a, b), left) = read_by::<(String, String), _>(rt.alloc(), &bytes[..], &mut two)?;
@@ -198,22 +186,22 @@ fn each_call_for_a_number(rt: HostRuntime) -> Tested {
     ];
     let mut d = Deserializer::from_bytes(rt.alloc(), &bytes);
     assert!(rt; !d.is_human_readable());
-    assert_eq!(rt; d.deserialize_bool(), Ok(true));
-    assert_eq!(rt; d.deserialize_u8(), Ok(7));
-    assert_eq!(rt; d.deserialize_i8(), Ok(-1));
-    assert_eq!(rt; d.deserialize_u16(), Ok(42439));
-    assert_eq!(rt; d.deserialize_u32(), Ok(3450549266));
-    assert_eq!(rt; d.deserialize_u64(), Ok(128));
-    assert_eq!(rt; d.deserialize_u128(), Ok(129));
-    assert_eq!(rt; d.deserialize_i16(), Ok(32767));
-    assert_eq!(rt; d.deserialize_i32(), Ok(-2));
-    assert_eq!(rt; d.deserialize_i64(), Ok(-1));
-    assert_eq!(rt; d.deserialize_i128(), Ok(1));
-    assert_eq!(rt; d.deserialize_enum(), Ok(5));
-    assert_eq!(rt; d.unit_variant(), Ok(()));
-    assert_eq!(rt; d.deserialize_unit(), Ok(()));
-    assert_eq!(rt; d.deserialize_unit_struct(), Ok(()));
-    assert_eq!(rt; d.deserialize_u16(), Err(Error::DeserializeUnexpectedEnd));
+    assert!(rt; d.deserialize_bool() == Ok(true));
+    assert!(rt; d.deserialize_u8() == Ok(7));
+    assert!(rt; d.deserialize_i8() == Ok(-1));
+    assert!(rt; d.deserialize_u16() == Ok(42439));
+    assert!(rt; d.deserialize_u32() == Ok(3450549266));
+    assert!(rt; d.deserialize_u64() == Ok(128));
+    assert!(rt; d.deserialize_u128() == Ok(129));
+    assert!(rt; d.deserialize_i16() == Ok(32767));
+    assert!(rt; d.deserialize_i32() == Ok(-2));
+    assert!(rt; d.deserialize_i64() == Ok(-1));
+    assert!(rt; d.deserialize_i128() == Ok(1));
+    assert!(rt; d.deserialize_enum() == Ok(5));
+    assert!(rt; d.unit_variant() == Ok(()));
+    assert!(rt; d.deserialize_unit() == Ok(()));
+    assert!(rt; d.deserialize_unit_struct() == Ok(()));
+    assert!(rt; d.deserialize_u16() == Err(Error::DeserializeUnexpectedEnd));
     Ok(())
 }
 
@@ -221,24 +209,24 @@ fn each_call_for_a_number(rt: HostRuntime) -> Tested {
 fn each_call_for_bytes(rt: HostRuntime) -> Tested {
     let bytes = [1, 0x7A, 2, 0x61, 0x62, 1, 0x63, 2, 9, 8, 1, 7, 1, 6, 5];
     let mut d = Deserializer::from_bytes(rt.alloc(), &bytes);
-    assert_eq!(rt; d.deserialize_char(), Ok('z'));
+    assert!(rt; d.deserialize_char() == Ok('z'));
     assert!(rt; d.deserialize_str()?.as_bytes() == [0x61, 0x62].as_slice());
     assert!(rt; d.deserialize_string()?.as_str() == "c");
     assert!(rt; d.deserialize_bytes()? == [9, 8].as_slice());
     assert!(rt; d.deserialize_byte_buf()?.as_slice() == [7].as_slice());
-    assert_eq!(rt; d.deserialize_option(), Ok(true));
-    assert_eq!(rt; d.deserialize_newtype_struct::<u8>(), Ok(6));
-    assert_eq!(rt; d.newtype_variant::<u8>(), Ok(5));
+    assert!(rt; d.deserialize_option() == Ok(true));
+    assert!(rt; d.deserialize_newtype_struct::<u8>() == Ok(6));
+    assert!(rt; d.newtype_variant::<u8>() == Ok(5));
     Ok(())
 }
 
 #[test]
 fn calls_that_never_answer_read_nothing(rt: HostRuntime) -> Tested {
     let mut d = Deserializer::from_bytes(rt.alloc(), &[3]);
-    assert_eq!(rt; d.deserialize_any(), Err(Error::WontImplement));
-    assert_eq!(rt; d.deserialize_identifier(), Err(Error::WontImplement));
-    assert_eq!(rt; d.deserialize_ignored_any(), Err(Error::WontImplement));
-    assert_eq!(rt; d.deserialize_u8(), Ok(3));
+    assert!(rt; d.deserialize_any() == Err(Error::WontImplement));
+    assert!(rt; d.deserialize_identifier() == Err(Error::WontImplement));
+    assert!(rt; d.deserialize_ignored_any() == Err(Error::WontImplement));
+    assert!(rt; d.deserialize_u8() == Ok(3));
     Ok(())
 }
 
@@ -247,17 +235,17 @@ fn parts_one_at_a_time(rt: HostRuntime) -> Tested {
     let bytes = [3, 1, 2, 2, 5, 6, 1, 7, 8, 9, 4, 0x80];
     let mut d = Deserializer::from_bytes(rt.alloc(), &bytes);
     let mut seq = d.deserialize_seq()?;
-    assert_eq!(rt; seq.size_hint(), Some(3));
-    assert_eq!(rt; seq.next_element::<u8>(), Ok(Some(1)));
-    assert_eq!(rt; seq.next_element_owned::<u8>(), Ok(Some(2)));
-    assert_eq!(rt; seq.next_element::<bool>(), Err(Error::DeserializeBadBool));
-    assert_eq!(rt; seq.next_element::<u8>(), Ok(None));
+    assert!(rt; seq.size_hint() == Some(3));
+    assert!(rt; seq.next_element::<u8>() == Ok(Some(1)));
+    assert!(rt; seq.next_element_owned::<u8>() == Ok(Some(2)));
+    assert!(rt; seq.next_element::<bool>() == Err(Error::DeserializeBadBool));
+    assert!(rt; seq.next_element::<u8>() == Ok(None));
     for len in [1usize, 1, 1, 1, 1] {
-        assert_eq!(rt; d.deserialize_tuple(len)?.size_hint(), Some(1));
-        assert_eq!(rt; d.deserialize_tuple_struct(9)?.size_hint(), None);
-        assert_eq!(rt; d.deserialize_struct(len)?.size_hint(), Some(1));
-        assert_eq!(rt; d.tuple_variant(len)?.size_hint(), Some(1));
-        assert_eq!(rt; d.struct_variant(len)?.size_hint(), Some(1));
+        assert!(rt; d.deserialize_tuple(len)?.size_hint() == Some(1));
+        assert!(rt; d.deserialize_tuple_struct(9)?.size_hint() == None);
+        assert!(rt; d.deserialize_struct(len)?.size_hint() == Some(1));
+        assert!(rt; d.tuple_variant(len)?.size_hint() == Some(1));
+        assert!(rt; d.struct_variant(len)?.size_hint() == Some(1));
     }
     Ok(())
 }
@@ -267,52 +255,36 @@ fn entries_one_at_a_time(rt: HostRuntime) -> Tested {
     let bytes = [2, 5, 6, 1, 7];
     let mut d = Deserializer::from_bytes(rt.alloc(), &bytes);
     let mut map = d.deserialize_map()?;
-    assert_eq!(rt; map.size_hint(), Some(2));
-    assert_eq!(rt; map.next_key::<u8>(), Ok(Some(5)));
-    assert_eq!(rt; map.next_value::<u8>(), Ok(6));
-    assert_eq!(rt; map.next_key_owned::<u8>(), Ok(Some(1)));
-    assert_eq!(rt; map.next_value_owned::<u8>(), Ok(7));
-    assert_eq!(rt; map.next_key::<u8>(), Ok(None));
+    assert!(rt; map.size_hint() == Some(2));
+    assert!(rt; map.next_key::<u8>() == Ok(Some(5)));
+    assert!(rt; map.next_value::<u8>() == Ok(6));
+    assert!(rt; map.next_key_owned::<u8>() == Ok(Some(1)));
+    assert!(rt; map.next_value_owned::<u8>() == Ok(7));
+    assert!(rt; map.next_key::<u8>() == Ok(None));
     Ok(())
 }
 
 #[test]
 fn numbers_and_their_refusals(rt: HostRuntime) -> Tested {
     let a = rt.alloc();
-    assert_eq!(rt;
-        read::<u32>(a, &[0xFF, 0xFF, 0xFF, 0xFF, 0x1F]),
-        Err(Error::DeserializeBadVarint)
+    assert!(rt;
+        read::<u32>(a, &[0xFF, 0xFF, 0xFF, 0xFF, 0x1F]) == Err(Error::DeserializeBadVarint)
     );
-    assert_eq!(rt;
-        read::<u32>(a, &[0xFF, 0xFF, 0xFF, 0xFF, 0x0F]),
-        Ok(4294967295)
-    );
-    assert_eq!(rt;
-        read::<u32>(a, &[0xFF, 0xFF]),
-        Err(Error::DeserializeUnexpectedEnd)
-    );
-    assert_eq!(rt; read::<u16>(a, &[0x80, 0x80, 0x01]), Ok(16384));
-    assert_eq!(rt; read::<u16>(a, &[0x80, 0x80, 0x00]), Ok(0));
-    assert_eq!(rt; read::<usize>(a, &[0x80, 0x01]), Ok(128));
-    assert_eq!(rt; read::<isize>(a, &[0x03]), Ok(-2));
-    assert_eq!(rt; read::<bool>(a, &[2]), Err(Error::DeserializeBadBool));
-    assert_eq!(rt; read::<char>(a, &[0]), Err(Error::DeserializeBadChar));
-    assert_eq!(rt; read::<char>(a, &[5]), Err(Error::DeserializeBadChar));
-    assert_eq!(rt;
-        read::<char>(a, &[2, 0x61]),
-        Err(Error::DeserializeUnexpectedEnd)
-    );
-    assert_eq!(rt; read::<char>(a, &[1, 0xFF]), Err(Error::DeserializeBadChar));
-    assert_eq!(rt;
-        read::<char>(a, &[4, 0xF0, 0x90, 0x8D, 0x88]),
-        Ok('\u{10348}')
-    );
-    assert_eq!(rt; read::<LE<u16>>(a, &[0xCD, 0xAB])?.0, 0xABCD);
-    assert_eq!(rt; read_owned::<BE<u16>>(a, &[0xAB, 0xCD, 1])?.0.0, 0xABCD);
-    assert_eq!(rt;
-        read::<LE<i32>>(a, &[1, 2, 3]).err(),
-        Some(Error::DeserializeUnexpectedEnd)
-    );
+    assert!(rt; read::<u32>(a, &[0xFF, 0xFF, 0xFF, 0xFF, 0x0F]) == Ok(4294967295));
+    assert!(rt; read::<u32>(a, &[0xFF, 0xFF]) == Err(Error::DeserializeUnexpectedEnd));
+    assert!(rt; read::<u16>(a, &[0x80, 0x80, 0x01]) == Ok(16384));
+    assert!(rt; read::<u16>(a, &[0x80, 0x80, 0x00]) == Ok(0));
+    assert!(rt; read::<usize>(a, &[0x80, 0x01]) == Ok(128));
+    assert!(rt; read::<isize>(a, &[0x03]) == Ok(-2));
+    assert!(rt; read::<bool>(a, &[2]) == Err(Error::DeserializeBadBool));
+    assert!(rt; read::<char>(a, &[0]) == Err(Error::DeserializeBadChar));
+    assert!(rt; read::<char>(a, &[5]) == Err(Error::DeserializeBadChar));
+    assert!(rt; read::<char>(a, &[2, 0x61]) == Err(Error::DeserializeUnexpectedEnd));
+    assert!(rt; read::<char>(a, &[1, 0xFF]) == Err(Error::DeserializeBadChar));
+    assert!(rt; read::<char>(a, &[4, 0xF0, 0x90, 0x8D, 0x88]) == Ok('\u{10348}'));
+    assert!(rt; read::<LE<u16>>(a, &[0xCD, 0xAB])?.0 == 0xABCD);
+    assert!(rt; read_owned::<BE<u16>>(a, &[0xAB, 0xCD, 1])?.0.0 == 0xABCD);
+    assert!(rt; read::<LE<i32>>(a, &[1, 2, 3]).err() == Some(Error::DeserializeUnexpectedEnd));
     Ok(())
 }
 
@@ -322,31 +294,20 @@ fn containers_and_their_refusals(rt: HostRuntime) -> Tested {
     let eight = [8, 0xFF, 0xFF, 0xFF, 0, 0, 0, 0, 0];
     assert!(rt; read::<Vec<u8>>(a, &eight)?.as_slice() == &eight[1..]);
     let many = [0x88, 0xFF, 0xFF, 0xFF, 0, 0, 0, 0, 0];
-    assert_eq!(rt;
-        read::<Vec<u8>>(a, &many).err(),
-        Some(Error::DeserializeUnexpectedEnd)
-    );
-    assert_eq!(rt; read::<Vec<()>>(a, &[3])?.len(), 3);
-    assert_eq!(rt;
-        read::<ArrayVec<u8, 2>>(a, &[3, 1, 2, 3]).err(),
-        Some(Error::SerdeDeCustom)
-    );
-    assert_eq!(rt;
-        read::<ArrayVec<u8, 2>>(a, &[3, 1, 2]).err(),
-        Some(Error::DeserializeUnexpectedEnd)
+    assert!(rt; read::<Vec<u8>>(a, &many).err() == Some(Error::DeserializeUnexpectedEnd));
+    assert!(rt; read::<Vec<()>>(a, &[3])?.len() == 3);
+    assert!(rt; read::<ArrayVec<u8, 2>>(a, &[3, 1, 2, 3]).err() == Some(Error::SerdeDeCustom));
+    assert!(rt;
+        read::<ArrayVec<u8, 2>>(a, &[3, 1, 2]).err() == Some(Error::DeserializeUnexpectedEnd)
     );
     assert!(rt; read::<ArrayVec<u8, 2>>(a, &[2, 1, 2])?.as_slice() == [1, 2].as_slice());
-    assert_eq!(rt;
-        read::<std::result::Result<u8, u8>>(a, &[2, 5]).err(),
-        Some(Error::SerdeDeCustom)
+    assert!(rt;
+        read::<std::result::Result<u8, u8>>(a, &[2, 5]).err() == Some(Error::SerdeDeCustom)
     );
     assert!(rt; read::<std::result::Result<u8, bool>>(a, &[1, 1])? == Err(true));
-    assert_eq!(rt; read::<Option<u8>>(a, &[1, 9]), Ok(Some(9)));
-    assert_eq!(rt;
-        read::<Option<u8>>(a, &[2]),
-        Err(Error::DeserializeBadOption)
-    );
-    assert_eq!(rt; *read::<Box<u8>>(a, &[7])?, 7);
+    assert!(rt; read::<Option<u8>>(a, &[1, 9]) == Ok(Some(9)));
+    assert!(rt; read::<Option<u8>>(a, &[2]) == Err(Error::DeserializeBadOption));
+    assert!(rt; *read::<Box<u8>>(a, &[7])? == 7);
     assert!(rt; read::<[u8; 3]>(a, &[1, 2, 3])? == [1, 2, 3]);
     let map = read::<BTreeMap<u8, u8>>(a, &[3, 2, 6, 1, 5, 2, 8])?;
     assert!(rt; map.len() == 2 && map.get(&2).copied() == Some(8));
@@ -361,22 +322,10 @@ fn texts_and_their_refusals(rt: HostRuntime) -> Tested {
     assert!(rt; read::<&[u8]>(a, &hi)? == &hi[1..]);
     assert!(rt; read::<String>(a, &hi)?.as_str() == "Hi!");
     assert!(rt; read::<ArrayString<3>>(a, &hi)?.as_str() == "Hi!");
-    assert_eq!(rt;
-        read::<ArrayString<2>>(a, &hi).err(),
-        Some(Error::SerdeDeCustom)
-    );
-    assert_eq!(rt;
-        read::<&str>(a, &[1, 0xFF]).err(),
-        Some(Error::DeserializeBadUtf8)
-    );
-    assert_eq!(rt;
-        read::<ArrayString<0>>(a, &[1, 0xFF]).err(),
-        Some(Error::DeserializeBadUtf8)
-    );
-    assert_eq!(rt;
-        read::<&str>(a, &[2, 0x61]).err(),
-        Some(Error::DeserializeUnexpectedEnd)
-    );
+    assert!(rt; read::<ArrayString<2>>(a, &hi).err() == Some(Error::SerdeDeCustom));
+    assert!(rt; read::<&str>(a, &[1, 0xFF]).err() == Some(Error::DeserializeBadUtf8));
+    assert!(rt; read::<ArrayString<0>>(a, &[1, 0xFF]).err() == Some(Error::DeserializeBadUtf8));
+    assert!(rt; read::<&str>(a, &[2, 0x61]).err() == Some(Error::DeserializeUnexpectedEnd));
     Ok(())
 }
 

@@ -1,6 +1,6 @@
-//! What the types are on the wire, by published bytes.
-use samples::*;
+//! `samples`: what the types are on the wire, by published bytes.
 use postcard::{Error, from_bytes, from_bytes_owned, take_from_bytes, to_allocvec, to_slice};
+use samples::*;
 use std::alloc::Global;
 use std::process::Abort;
 use std::test::Fail;
@@ -27,24 +27,12 @@ fn struct_of_borrowed_parts(rt: HostRuntime) -> Result<(), Fail> {
 fn structs_by_place(rt: HostRuntime) -> Result<(), Fail> {
     let bytes = to_allocvec(rt.alloc(), &NewTypeStruct(5))?;
     assert!(rt; bytes.as_slice() == [5].as_slice());
-    assert_eq!(rt;
-        from_bytes_owned::<NewTypeStruct>(rt.alloc(), &bytes)?,
-        NewTypeStruct(5)
-    );
-    assert_eq!(rt;
-        from_bytes::<NewTypeStruct>(rt.alloc(), &bytes)?,
-        NewTypeStruct(5)
-    );
+    assert!(rt; from_bytes_owned::<NewTypeStruct>(rt.alloc(), &bytes)? == NewTypeStruct(5));
+    assert!(rt; from_bytes::<NewTypeStruct>(rt.alloc(), &bytes)? == NewTypeStruct(5));
     let pair = to_allocvec(rt.alloc(), &TupleStruct(0xA0, 0x1234))?;
     assert!(rt; pair.as_slice() == [0xA0, 0xB4, 0x24].as_slice());
-    assert_eq!(rt;
-        from_bytes_owned::<TupleStruct>(rt.alloc(), &pair)?,
-        TupleStruct(0xA0, 0x1234)
-    );
-    assert_eq!(rt;
-        from_bytes::<TupleStruct>(rt.alloc(), &pair)?,
-        TupleStruct(0xA0, 0x1234)
-    );
+    assert!(rt; from_bytes_owned::<TupleStruct>(rt.alloc(), &pair)? == TupleStruct(0xA0, 0x1234));
+    assert!(rt; from_bytes::<TupleStruct>(rt.alloc(), &pair)? == TupleStruct(0xA0, 0x1234));
     Ok(())
 }
 
@@ -57,8 +45,8 @@ fn struct_by_name(rt: HostRuntime) -> Result<(), Fail> {
     };
     let bytes = to_allocvec(rt.alloc(), &sent)?;
     assert!(rt; bytes.as_slice() == [0xF0, 0xAC, 0xD9, 0x02].as_slice());
-    assert_eq!(rt; from_bytes_owned::<EnumStruct>(rt.alloc(), &bytes)?, sent);
-    assert_eq!(rt; from_bytes::<EnumStruct>(rt.alloc(), &bytes)?, sent);
+    assert!(rt; from_bytes_owned::<EnumStruct>(rt.alloc(), &bytes)? == sent);
+    assert!(rt; from_bytes::<EnumStruct>(rt.alloc(), &bytes)? == sent);
     Ok(())
 }
 
@@ -71,11 +59,8 @@ fn variants_without_payload(rt: HostRuntime) -> Result<(), Fail> {
     {
         let bytes = to_allocvec(rt.alloc(), variant)?;
         assert!(rt; bytes.as_slice() == [index as u8].as_slice());
-        assert_eq!(rt;
-            from_bytes_owned::<BasicEnum>(rt.alloc(), &bytes)?,
-            *variant
-        );
-        assert_eq!(rt; from_bytes::<BasicEnum>(rt.alloc(), &bytes)?, *variant);
+        assert!(rt; from_bytes_owned::<BasicEnum>(rt.alloc(), &bytes)? == *variant);
+        assert!(rt; from_bytes::<BasicEnum>(rt.alloc(), &bytes)? == *variant);
     }
     assert!(rt;
         matches!(
@@ -89,8 +74,8 @@ fn variants_without_payload(rt: HostRuntime) -> Result<(), Fail> {
 fn check_data(alloc: Global, rt: &impl Abort, variant: DataEnum, bytes: &[u8]) -> Result<(), Fail> {
     let written = to_allocvec(alloc, &variant)?;
     assert!(rt; written.as_slice() == bytes);
-    assert_eq!(rt; from_bytes_owned::<DataEnum>(alloc, bytes)?, variant);
-    assert_eq!(rt; from_bytes::<DataEnum>(alloc, bytes)?, variant);
+    assert!(rt; from_bytes_owned::<DataEnum>(alloc, bytes)? == variant);
+    assert!(rt; from_bytes::<DataEnum>(alloc, bytes)? == variant);
     Ok(())
 }
 

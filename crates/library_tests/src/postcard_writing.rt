@@ -1,3 +1,5 @@
+//! `postcard`, writing: published bytes, writers that refuse, and greatest sizes.
+use arrayvec::{ArrayString, ArrayVec};
 use postcard::experimental::max_size::{MaxSize, MaxWritten};
 use postcard::experimental::serialized_size;
 use postcard::fixint::{BE, LE, be, le};
@@ -6,7 +8,6 @@ use postcard::{
     Error, Serialize, Serializer, serialize_with_flavor, to_allocvec, to_extend, to_io, to_slice,
     to_stdvec, to_vec,
 };
-use arrayvec::{ArrayString, ArrayVec};
 use std::collections::BTreeMap;
 use std::marker::PhantomData;
 use std::num::{NonZeroU16, Wrapping};
@@ -19,36 +20,20 @@ use std::time::Duration;
 fn slices_and_arrays(rt: HostRuntime) -> Result<(), Fail> {
     let bytes: [u8; 4] = [0x01, 0x00, 0x20, 0x30];
     let mut room = [0u8; 8];
-    assert_eq!(rt;
-        &*to_slice(&&bytes[..], &mut room)?,
-        [4, 0x01, 0x00, 0x20, 0x30].as_slice()
-    );
-    assert_eq!(rt;
-        &*to_slice(&bytes, &mut room)?,
-        [0x01, 0x00, 0x20, 0x30].as_slice()
-    );
+    assert!(rt; &*to_slice(&&bytes[..], &mut room)? == [4, 0x01, 0x00, 0x20, 0x30].as_slice());
+    assert!(rt; &*to_slice(&bytes, &mut room)? == [0x01, 0x00, 0x20, 0x30].as_slice());
     Ok(())
 }
 
 #[test]
 fn numbers(rt: HostRuntime) -> Result<(), Fail> {
     let mut room = [0u8; 8];
-    assert_eq!(rt;
-        &*to_slice(&42439u16, &mut room)?,
-        [0xC7, 0xCB, 0x02].as_slice()
+    assert!(rt; &*to_slice(&42439u16, &mut room)? == [0xC7, 0xCB, 0x02].as_slice());
+    assert!(rt;
+        &*to_slice(&3450549266u32, &mut room)? == [0x92, 0xE8, 0xAC, 0xED, 0x0C].as_slice()
     );
-    assert_eq!(rt;
-        &*to_slice(&3450549266u32, &mut room)?,
-        [0x92, 0xE8, 0xAC, 0xED, 0x0C].as_slice()
-    );
-    assert_eq!(rt;
-        &*to_slice(&32767i16, &mut room)?,
-        [0xFE, 0xFF, 0x03].as_slice()
-    );
-    assert_eq!(rt;
-        &*to_slice(&-32768i16, &mut room)?,
-        [0xFF, 0xFF, 0x03].as_slice()
-    );
+    assert!(rt; &*to_slice(&32767i16, &mut room)? == [0xFE, 0xFF, 0x03].as_slice());
+    assert!(rt; &*to_slice(&-32768i16, &mut room)? == [0xFF, 0xFF, 0x03].as_slice());
     let mut serializer = Serializer {
         output: Slice::new(&mut room),
     };
@@ -56,9 +41,9 @@ fn numbers(rt: HostRuntime) -> Result<(), Fail> {
     be::serialize(&0xABCDu16, &mut serializer)?;
     LE(-2i16).serialize(&mut serializer)?;
     BE(-2i16).serialize(&mut serializer)?;
-    assert_eq!(rt;
-        &*serializer.output.finalize()?,
-        [0xCD, 0xAB, 0xAB, 0xCD, 0xFE, 0xFF, 0xFF, 0xFE].as_slice()
+    assert!(rt;
+        &*serializer.output.finalize()?
+            == [0xCD, 0xAB, 0xAB, 0xCD, 0xFE, 0xFF, 0xFF, 0xFE].as_slice()
     );
     Ok(())
 }
@@ -66,20 +51,14 @@ fn numbers(rt: HostRuntime) -> Result<(), Fail> {
 #[test]
 fn texts(rt: HostRuntime) -> Result<(), Fail> {
     let mut room = [0u8; 16];
-    assert_eq!(rt; &*to_slice(&'z', &mut room)?, [1, 0x7A].as_slice());
-    assert_eq!(rt;
-        &*to_slice(&'\u{A2}', &mut room)?,
-        [2, 0xC2, 0xA2].as_slice()
-    );
-    assert_eq!(rt;
-        &*to_slice(&'\u{10348}', &mut room)?,
-        [4, 0xF0, 0x90, 0x8D, 0x88].as_slice()
-    );
+    assert!(rt; &*to_slice(&'z', &mut room)? == [1, 0x7A].as_slice());
+    assert!(rt; &*to_slice(&'\u{A2}', &mut room)? == [2, 0xC2, 0xA2].as_slice());
+    assert!(rt; &*to_slice(&'\u{10348}', &mut room)? == [4, 0xF0, 0x90, 0x8D, 0x88].as_slice());
     let value = (1u8, 10u32, "Hello!");
-    assert_eq!(rt; serialized_size(&value)?, 9);
-    assert_eq!(rt;
-        &*to_slice(&value, &mut room)?,
-        [1, 0x0A, 6, 0x48, 0x65, 0x6C, 0x6C, 0x6F, 0x21].as_slice()
+    assert!(rt; serialized_size(&value)? == 9);
+    assert!(rt;
+        &*to_slice(&value, &mut room)?
+            == [1, 0x0A, 6, 0x48, 0x65, 0x6C, 0x6C, 0x6F, 0x21].as_slice()
     );
     let mut small = [0u8; 8];
     assert!(rt;
@@ -98,9 +77,8 @@ fn maps(rt: HostRuntime) -> Result<(), Fail> {
     map.insert(1, 5)?;
     map.insert(4, 8)?;
     map.insert(2, 6)?;
-    assert_eq!(rt;
-        to_allocvec(rt.alloc(), &map)?.as_slice(),
-        [4, 1, 5, 2, 6, 3, 7, 4, 8].as_slice()
+    assert!(rt;
+        to_allocvec(rt.alloc(), &map)?.as_slice() == [4, 1, 5, 2, 6, 3, 7, 4, 8].as_slice()
     );
     Ok(())
 }
@@ -108,15 +86,12 @@ fn maps(rt: HostRuntime) -> Result<(), Fail> {
 #[test]
 fn vectors(rt: HostRuntime) -> Result<(), Fail> {
     let vec = to_vec::<_, 2>(&300u32)?;
-    assert_eq!(rt; vec.as_slice(), [0xAC, 0x02].as_slice());
+    assert!(rt; vec.as_slice() == [0xAC, 0x02].as_slice());
     assert!(rt; matches!(&to_vec::<_, 1>(&300u32), Err(Error::SerializeBufferFull)));
-    assert_eq!(rt;
-        to_stdvec(rt.alloc(), &300u32)?.as_slice(),
-        [0xAC, 0x02].as_slice()
-    );
+    assert!(rt; to_stdvec(rt.alloc(), &300u32)?.as_slice() == [0xAC, 0x02].as_slice());
     let held = to_extend(&true, Vec::new(rt.alloc()))?;
     let held = to_extend(&"Hi!", held)?;
-    assert_eq!(rt; held.as_slice(), [1, 3, 0x48, 0x69, 0x21].as_slice());
+    assert!(rt; held.as_slice() == [1, 3, 0x48, 0x69, 0x21].as_slice());
     let mut full: ArrayVec<u8, 1> = ArrayVec::new();
     assert!(rt; full.try_push(7).is_ok());
     assert!(rt; matches!(&to_extend(&true, full), Err(Error::SerializeBufferFull)));
@@ -126,10 +101,10 @@ fn vectors(rt: HostRuntime) -> Result<(), Fail> {
 #[test]
 fn writers(rt: HostRuntime) -> Result<(), Fail> {
     let written = to_io(&300u32, Vec::new(rt.alloc()))?;
-    assert_eq!(rt; written.as_slice(), [0xAC, 0x02].as_slice());
+    assert!(rt; written.as_slice() == [0xAC, 0x02].as_slice());
     let mut lent = Vec::new(rt.alloc());
     to_io(&300u32, &mut lent)?;
-    assert_eq!(rt; lent.as_slice(), [0xAC, 0x02].as_slice());
+    assert!(rt; lent.as_slice() == [0xAC, 0x02].as_slice());
     let mut room = [0u8; 1];
     assert!(rt;
         matches!(
@@ -145,10 +120,7 @@ fn flavors(rt: HostRuntime) -> Result<(), Fail> {
     let mut flavor = AllocVec::new(rt.alloc());
     serialize_with_flavor(&300u32, &mut flavor)?;
     serialize_with_flavor(&true, &mut flavor)?;
-    assert_eq!(rt;
-        flavor.finalize()?.as_slice(),
-        [0xAC, 0x02, 0x01].as_slice()
-    );
+    assert!(rt; flavor.finalize()?.as_slice() == [0xAC, 0x02, 0x01].as_slice());
     Ok(())
 }
 
@@ -157,35 +129,29 @@ type Long = [u128; 288230376151711744];
 
 #[test]
 fn greatest_sizes(rt: HostRuntime) -> Result<(), Fail> {
-    assert_eq!(rt; <(u128, [u8; 8])>::postcard_max_size(), Some(27));
-    assert_eq!(rt; <(u16, Option<u8>)>::postcard_max_size(), Some(5));
-    assert_eq!(rt; ArrayVec::<u8, 127>::postcard_max_size(), Some(128));
-    assert_eq!(rt; ArrayVec::<u8, 128>::postcard_max_size(), Some(130));
-    assert_eq!(rt; ArrayVec::<u8, 16383>::postcard_max_size(), Some(16385));
-    assert_eq!(rt; ArrayVec::<u8, 16384>::postcard_max_size(), Some(16387));
-    assert_eq!(rt; ArrayString::<4>::postcard_max_size(), Some(5));
-    assert_eq!(rt; Result::<u16, u8>::postcard_max_size(), Some(4));
-    assert_eq!(rt; Range::<u16>::postcard_max_size(), Some(6));
-    assert_eq!(rt; RangeInclusive::<u16>::postcard_max_size(), Some(6));
-    assert_eq!(rt; RangeTo::<NonZeroU16>::postcard_max_size(), Some(3));
-    assert_eq!(rt; Box::<Rc<Wrapping<char>>>::postcard_max_size(), Some(5));
-    assert_eq!(rt;
-        <(Duration, PhantomData<u8>)>::postcard_max_size(),
-        Some(15)
-    );
-    assert_eq!(rt;
-        <(&Long, &Long, &Long)>::postcard_max_size(),
-        Some(16429131440647569408)
-    );
-    assert_eq!(rt; <(&Long, &Long, &Long, &Long)>::postcard_max_size(), None);
+    assert!(rt; <(u128, [u8; 8])>::postcard_max_size() == Some(27));
+    assert!(rt; <(u16, Option<u8>)>::postcard_max_size() == Some(5));
+    assert!(rt; ArrayVec::<u8, 127>::postcard_max_size() == Some(128));
+    assert!(rt; ArrayVec::<u8, 128>::postcard_max_size() == Some(130));
+    assert!(rt; ArrayVec::<u8, 16383>::postcard_max_size() == Some(16385));
+    assert!(rt; ArrayVec::<u8, 16384>::postcard_max_size() == Some(16387));
+    assert!(rt; ArrayString::<4>::postcard_max_size() == Some(5));
+    assert!(rt; Result::<u16, u8>::postcard_max_size() == Some(4));
+    assert!(rt; Range::<u16>::postcard_max_size() == Some(6));
+    assert!(rt; RangeInclusive::<u16>::postcard_max_size() == Some(6));
+    assert!(rt; RangeTo::<NonZeroU16>::postcard_max_size() == Some(3));
+    assert!(rt; Box::<Rc<Wrapping<char>>>::postcard_max_size() == Some(5));
+    assert!(rt; <(Duration, PhantomData<u8>)>::postcard_max_size() == Some(15));
+    assert!(rt; <(&Long, &Long, &Long)>::postcard_max_size() == Some(16429131440647569408));
+    assert!(rt; <(&Long, &Long, &Long, &Long)>::postcard_max_size() == None);
     Ok(())
 }
 
 // A value of a type with a greatest size fits a vector of that size.
 fn fits<T: MaxWritten>(rt: &impl std::process::Abort, value: &T, greatest: usize) {
     value.show_valid();
-    assert_eq!(rt; T::postcard_max_size(), Some(greatest));
-    assert_eq!(rt; serialized_size(value), Ok(greatest));
+    assert!(rt; T::postcard_max_size() == Some(greatest));
+    assert!(rt; serialized_size(value) == Ok(greatest));
 }
 
 #[test]

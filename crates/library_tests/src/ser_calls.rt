@@ -1,4 +1,4 @@
-//! What the serializer's calls push.
+//! `postcard_ser`: what the serializer's calls push.
 use postcard_ser::ser_flavors::{Flavor, HVec, IndexByte, Slice};
 use postcard_ser::{Serialize, Serializer};
 use postcard_tree::Error;
@@ -21,13 +21,13 @@ fn numbers(rt: HostRuntime) -> Result<(), Fail> {
     serializer.serialize_i32(-1)?;
     serializer.serialize_i64(-2)?;
     serializer.serialize_i128(1)?;
-    assert_eq!(rt;
-        &*serializer.output.finalize()?,
-        [
-            1, 255, 0xFF, 0xC7, 0xCB, 0x02, 0x92, 0xE8, 0xAC, 0xED, 0x0C, 0xAC, 0x02, 0xAC, 0x02,
-            0xFF, 0xFF, 0x03, 1, 3, 2
-        ]
-        .as_slice()
+    assert!(rt;
+        &*serializer.output.finalize()?
+            == [
+                1, 255, 0xFF, 0xC7, 0xCB, 0x02, 0x92, 0xE8, 0xAC, 0xED, 0x0C, 0xAC, 0x02, 0xAC,
+                0x02, 0xFF, 0xFF, 0x03, 1, 3, 2
+            ]
+            .as_slice()
     );
     Ok(())
 }
@@ -41,9 +41,8 @@ fn texts(rt: HostRuntime) -> Result<(), Fail> {
     serializer.serialize_char('\u{A2}')?;
     serializer.serialize_str("Hi!")?;
     serializer.serialize_bytes(&[1, 0])?;
-    assert_eq!(rt;
-        &*serializer.output.finalize()?,
-        [2, 0xC2, 0xA2, 3, 0x48, 0x69, 0x21, 2, 1, 0].as_slice()
+    assert!(rt;
+        &*serializer.output.finalize()? == [2, 0xC2, 0xA2, 3, 0x48, 0x69, 0x21, 2, 1, 0].as_slice()
     );
     Ok(())
 }
@@ -66,10 +65,7 @@ fn options_and_structs(rt: HostRuntime) -> Result<(), Fail> {
     serializer.serialize_element(&8u8)?;
     serializer.serialize_tuple_struct(1)?;
     serializer.serialize_field(&9u8)?;
-    assert_eq!(rt;
-        &*serializer.output.finalize()?,
-        [0, 1, 5, 6, 7, 8, 9].as_slice()
-    );
+    assert!(rt; &*serializer.output.finalize()? == [0, 1, 5, 6, 7, 8, 9].as_slice());
     Ok(())
 }
 
@@ -87,13 +83,13 @@ fn variants(rt: HostRuntime) -> Result<(), Fail> {
     serializer.serialize_struct_variant(3, 1)?;
     serializer.serialize_field(&0u8)?;
     serializer.end()?;
-    assert_eq!(rt;
-        &*serializer.output.finalize()?,
-        [
-            0xAC, 2, 1, 0xFF, 0xFF, 0xFF, 0xFF, 0xFF, 0xFF, 0xFF, 0xFF, 0xFF, 1, 5, 0xE9, 0xD2,
-            0x01, 7, 3, 0
-        ]
-        .as_slice()
+    assert!(rt;
+        &*serializer.output.finalize()?
+            == [
+                0xAC, 2, 1, 0xFF, 0xFF, 0xFF, 0xFF, 0xFF, 0xFF, 0xFF, 0xFF, 0xFF, 1, 5, 0xE9, 0xD2,
+                0x01, 7, 3, 0
+            ]
+            .as_slice()
     );
     Ok(())
 }
@@ -115,16 +111,13 @@ fn counts(rt: HostRuntime) -> Result<(), Fail> {
             Err(Error::SerializeSeqLengthUnknown)
         )
     );
-    assert_eq!(rt; serializer.output.held(), 0);
+    assert!(rt; serializer.output.held() == 0);
     serializer.serialize_seq(Some(200))?;
     serializer.serialize_map(Some(1))?;
     serializer.serialize_key(&2u8)?;
     serializer.serialize_value(&3u8)?;
     assert!(rt; !serializer.is_human_readable());
-    assert_eq!(rt;
-        serializer.output.finalize()?.as_slice(),
-        [0xC8, 1, 1, 2, 3].as_slice()
-    );
+    assert!(rt; serializer.output.finalize()?.as_slice() == [0xC8, 1, 1, 2, 3].as_slice());
     Ok(())
 }
 
@@ -140,6 +133,6 @@ fn refusals(rt: HostRuntime) -> Result<(), Fail> {
             Err(Error::SerializeBufferFull)
         )
     );
-    assert_eq!(rt; serializer.output.held(), 1);
+    assert!(rt; serializer.output.held() == 1);
     Ok(())
 }

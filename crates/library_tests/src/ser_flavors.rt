@@ -1,12 +1,14 @@
-//! Flavors that are filled.
+//! `postcard_ser`: flavors that are filled, writers that fail, and memory that isn't found.
 ghost use Rattle.std.specs.Prelude.{◌≡◌, IfOk, take};
 ghost use Rattle.postcard_tree.specs.Spelling.{short};
 ghost use Rattle.postcard_tree.specs.Tree.{number};
 
-use postcard_ser::ser_flavors::io::WriteFlavor;
-use postcard_ser::ser_flavors::{AllocVec, ExtendFlavor, Flavor, HVec, IndexByte, Size, Slice, StdVec};
-use postcard_ser::{Serialize, Serializer};
 use arrayvec::ArrayVec;
+use postcard_ser::ser_flavors::io::WriteFlavor;
+use postcard_ser::ser_flavors::{
+    AllocVec, ExtendFlavor, Flavor, HVec, IndexByte, Size, Slice, StdVec,
+};
+use postcard_ser::{Serialize, Serializer};
 use postcard_tree::{Error, Result as Answer};
 use std::io;
 use std::io::{ErrorKind, Write};
@@ -39,14 +41,14 @@ fn slices(rt: HostRuntime) -> Result<(), Fail> {
     let mut slice = Slice::new(&mut room);
     slice.try_extend(&[1, 2, 3])?;
     assert!(rt; matches!(&slice.try_extend(&[4, 5]), Err(Error::SerializeBufferFull)));
-    assert_eq!(rt; slice.held(), 3);
+    assert!(rt; slice.held() == 3);
     slice.set_byte(0, 9);
     slice.try_push(4)?;
     assert!(rt; matches!(&slice.try_push(5), Err(Error::SerializeBufferFull)));
-    assert_eq!(rt; &*slice.finalize()?, [9, 2, 3, 4].as_slice());
+    assert!(rt; &*slice.finalize()? == [9, 2, 3, 4].as_slice());
     let n = fill(300, &mut room)?;
-    assert_eq!(rt; n, 2);
-    assert_eq!(rt; room, [0xAC, 0x02, 3, 4]);
+    assert!(rt; n == 2);
+    assert!(rt; room == [0xAC, 0x02, 3, 4]);
     Ok(())
 }
 
@@ -55,10 +57,10 @@ fn fixed_vectors(rt: HostRuntime) -> Result<(), Fail> {
     let mut vec: HVec<2> = HVec::default();
     vec.try_push(1)?;
     assert!(rt; matches!(&vec.try_extend(&[2, 3]), Err(Error::SerializeBufferFull)));
-    assert_eq!(rt; vec.held(), 1);
-    assert_eq!(rt; patch(&mut vec)?, 9);
+    assert!(rt; vec.held() == 1);
+    assert!(rt; patch(&mut vec)? == 9);
     assert!(rt; matches!(&vec.try_push(3), Err(Error::SerializeBufferFull)));
-    assert_eq!(rt; vec.finalize()?.as_slice(), [1, 9].as_slice());
+    assert!(rt; vec.finalize()?.as_slice() == [1, 9].as_slice());
     let mut full: ArrayVec<u8, 2> = ArrayVec::new();
     full.push(7);
     let mut extended = ExtendFlavor::new(full);
@@ -69,7 +71,7 @@ fn fixed_vectors(rt: HostRuntime) -> Result<(), Fail> {
         )
     );
     extended.try_push(8)?;
-    assert_eq!(rt; extended.finalize()?.as_slice(), [7, 8].as_slice());
+    assert!(rt; extended.finalize()?.as_slice() == [7, 8].as_slice());
     Ok(())
 }
 
@@ -77,13 +79,13 @@ fn fixed_vectors(rt: HostRuntime) -> Result<(), Fail> {
 fn growing_vectors(rt: HostRuntime) -> Result<(), Fail> {
     let mut vec: StdVec = AllocVec::new(rt.alloc());
     vec.try_extend(&[1, 2])?;
-    assert_eq!(rt; patch(&mut vec)?, 9);
-    assert_eq!(rt; vec.finalize()?.as_slice(), [1, 2, 9].as_slice());
+    assert!(rt; patch(&mut vec)? == 9);
+    assert!(rt; vec.finalize()?.as_slice() == [1, 2, 9].as_slice());
     let mut begun = Vec::new(rt.alloc());
     begun.push(7)?;
     let mut extended = ExtendFlavor::new(begun);
     extended.try_push(8)?;
-    assert_eq!(rt; extended.finalize()?.as_slice(), [7, 8].as_slice());
+    assert!(rt; extended.finalize()?.as_slice() == [7, 8].as_slice());
     Ok(())
 }
 
@@ -94,19 +96,19 @@ fn want_of_memory(rt: HostRuntime) -> Result<(), Fail> {
     for round in 1..5 {
         let held = vec.held();
         match vec.try_extend(&[round; 40]) {
-            Ok(()) => assert_eq!(rt; vec.held(), held + 40),
+            Ok(()) => assert!(rt; vec.held() == held + 40),
             Err(cause) => {
-                assert_eq!(rt; cause, Error::OutOfMemory);
-                assert_eq!(rt; vec.held(), held);
+                assert!(rt; cause == Error::OutOfMemory);
+                assert!(rt; vec.held() == held);
             }
         }
     }
     let mut extended = ExtendFlavor::new(Vec::new(rt.alloc()));
     match extended.try_extend(&[1; 40]) {
-        Ok(()) => assert_eq!(rt; extended.finalize()?.len(), 40),
+        Ok(()) => assert!(rt; extended.finalize()?.len() == 40),
         Err(cause) => {
-            assert_eq!(rt; cause, Error::OutOfMemory);
-            assert_eq!(rt; extended.finalize()?.len(), 0);
+            assert!(rt; cause == Error::OutOfMemory);
+            assert!(rt; extended.finalize()?.len() == 0);
         }
     }
     Ok(())
@@ -117,7 +119,7 @@ fn sizes(rt: HostRuntime) -> Result<(), Fail> {
     let mut size = Size::default();
     size.try_extend(&[0; 300])?;
     size.try_push(0)?;
-    assert_eq!(rt; size.finalize()?, 301);
+    assert!(rt; size.finalize()? == 301);
     Ok(())
 }
 
@@ -158,10 +160,7 @@ fn writers(rt: HostRuntime) -> Result<(), Fail> {
     };
     serializer.serialize_u32(300)?;
     serializer.output.try_push(5)?;
-    assert_eq!(rt;
-        serializer.output.finalize()?.as_slice(),
-        [0xAC, 0x02, 5].as_slice()
-    );
+    assert!(rt; serializer.output.finalize()?.as_slice() == [0xAC, 0x02, 5].as_slice());
     let mut narrow = Narrow {
         left: 3,
         taken: 0,
@@ -177,7 +176,7 @@ fn writers(rt: HostRuntime) -> Result<(), Fail> {
             Err(Error::SerializeBufferFull)
         )
     );
-    assert_eq!(rt; serializer.output.finalize()?.taken, 3);
+    assert!(rt; serializer.output.finalize()?.taken == 3);
     let stuck = Narrow {
         left: 3,
         taken: 0,

@@ -1,4 +1,4 @@
-//! Texts that are formatted.
+//! `postcard_ser`: texts that are formatted.
 use postcard_ser::Serializer;
 use postcard_ser::ser_flavors::{AllocVec, Flavor, IndexByte, Size, Slice};
 use postcard_tree::Error;
@@ -13,10 +13,7 @@ fn slices(rt: HostRuntime) -> Result<(), Fail> {
         output: Slice::new(&mut room),
     };
     serializer.collect_str(&300u32)?;
-    assert_eq!(rt;
-        &*serializer.output.finalize()?,
-        [3, 0x33, 0x30, 0x30].as_slice()
-    );
+    assert!(rt; &*serializer.output.finalize()? == [3, 0x33, 0x30, 0x30].as_slice());
     let mut small = [0u8; 1];
     let mut serializer = Serializer {
         output: Slice::new(&mut small),
@@ -27,7 +24,7 @@ fn slices(rt: HostRuntime) -> Result<(), Fail> {
             Err(Error::CollectStrError)
         )
     );
-    assert_eq!(rt; &*serializer.output.finalize()?, [3].as_slice());
+    assert!(rt; &*serializer.output.finalize()? == [3].as_slice());
     let mut none = [0u8; 0];
     let mut serializer = Serializer {
         output: Slice::new(&mut none),
@@ -38,7 +35,7 @@ fn slices(rt: HostRuntime) -> Result<(), Fail> {
             Err(Error::SerializeBufferFull)
         )
     );
-    assert_eq!(rt; serializer.output.held(), 0);
+    assert!(rt; serializer.output.held() == 0);
     Ok(())
 }
 
@@ -48,15 +45,12 @@ fn sizes_and_vectors(rt: HostRuntime) -> Result<(), Fail> {
         output: Size::default(),
     };
     counter.collect_str(&300u32)?;
-    assert_eq!(rt; counter.output.finalize()?, 4);
+    assert!(rt; counter.output.finalize()? == 4);
     let mut serializer = Serializer {
         output: AllocVec::new(rt.alloc()),
     };
     serializer.collect_str(&300u32)?;
-    assert_eq!(rt;
-        serializer.output.finalize()?.as_slice(),
-        [3, 0x33, 0x30, 0x30].as_slice()
-    );
+    assert!(rt; serializer.output.finalize()?.as_slice() == [3, 0x33, 0x30, 0x30].as_slice());
     Ok(())
 }
 
@@ -91,7 +85,7 @@ fn faults(rt: HostRuntime) -> Result<(), Fail> {
             Err(Error::CollectStrError)
         )
     );
-    assert_eq!(rt; serializer.output.finalize()?, 0);
+    assert!(rt; serializer.output.finalize()? == 0);
     let mut room = [0u8; 3];
     let mut serializer = Serializer {
         output: Slice::new(&mut room),
@@ -102,6 +96,6 @@ fn faults(rt: HostRuntime) -> Result<(), Fail> {
             Err(Error::CollectStrError)
         )
     );
-    assert_eq!(rt; &*serializer.output.finalize()?, [4].as_slice());
+    assert!(rt; &*serializer.output.finalize()? == [4].as_slice());
     Ok(())
 }

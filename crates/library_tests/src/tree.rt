@@ -1,3 +1,5 @@
+//! `postcard_tree`: texts of errors, published numbers, and the limits of each width.
+use arrayvec::{ArrayString, ArrayVec};
 use postcard_tree::error::Error;
 use postcard_tree::fixint::{BE, FixInt, LE};
 use postcard_tree::readable::Readable;
@@ -5,7 +7,6 @@ use postcard_tree::varint::{
     VarintInt, max_of_last_byte, varint_max, varint_u16, varint_u32, varint_u64, varint_u128,
     varint_usize,
 };
-use arrayvec::{ArrayString, ArrayVec};
 use std::alloc::Global;
 use std::collections::BTreeMap;
 use std::process::Abort;
@@ -60,45 +61,30 @@ fn errors_have_their_texts(rt: HostRuntime) -> Result<(), Fail> {
         (Error::OutOfMemory, "No memory was found"),
     ];
     for (error, text) in texts {
-        assert_eq!(rt; format!(in rt.alloc(); "{error}")?.as_str(), text);
+        assert!(rt; format!(in rt.alloc(); "{error}")?.as_str() == text);
     }
-    assert_eq!(rt;
-        format!(in rt.alloc(); "{:?}", Error::OutOfMemory)?.as_str(),
-        "OutOfMemory"
-    );
+    assert!(rt; format!(in rt.alloc(); "{:?}", Error::OutOfMemory)?.as_str() == "OutOfMemory");
     Ok(())
 }
 
 #[test]
 fn numbers_are_spelled_shortest(rt: HostRuntime) {
-    assert_eq!(rt;
-        &*varint_u16(16384, &mut [0; 3]),
-        [0x80, 0x80, 0x01].as_slice()
-    );
-    assert_eq!(rt;
-        &*varint_u16(42439, &mut [0; 3]),
-        [0xC7, 0xCB, 0x02].as_slice()
-    );
-    assert_eq!(rt;
-        &*varint_u32(3450549266, &mut [0; 5]),
-        [0x92, 0xE8, 0xAC, 0xED, 0x0C].as_slice()
-    );
-    assert_eq!(rt; &*varint_u64(0, &mut [0; 10]), [0].as_slice());
+    assert!(rt; &*varint_u16(16384, &mut [0; 3]) == [0x80, 0x80, 0x01].as_slice());
+    assert!(rt; &*varint_u16(42439, &mut [0; 3]) == [0xC7, 0xCB, 0x02].as_slice());
+    assert!(rt; &*varint_u32(3450549266, &mut [0; 5]) == [0x92, 0xE8, 0xAC, 0xED, 0x0C].as_slice());
+    assert!(rt; &*varint_u64(0, &mut [0; 10]) == [0].as_slice());
     let mut buffer = [0; 3];
-    assert_eq!(rt; varint_u16(200, &mut buffer).len(), 2);
-    assert_eq!(rt; &buffer[..2], [0xC8, 0x01].as_slice());
+    assert!(rt; varint_u16(200, &mut buffer).len() == 2);
+    assert!(rt; &buffer[..2] == [0xC8, 0x01].as_slice());
     let greatest = [0xFF, 0xFF, 0xFF, 0xFF, 0xFF, 0xFF, 0xFF, 0xFF, 0xFF, 0x01];
-    assert_eq!(rt; &*varint_u64(u64::MAX, &mut [0; 10]), greatest.as_slice());
-    assert_eq!(rt;
-        &*varint_usize(usize::MAX, &mut [0; 10]),
-        greatest.as_slice()
-    );
-    assert_eq!(rt; varint_u128(u128::MAX, &mut [0; 19]).len(), 19);
+    assert!(rt; &*varint_u64(u64::MAX, &mut [0; 10]) == greatest.as_slice());
+    assert!(rt; &*varint_usize(usize::MAX, &mut [0; 10]) == greatest.as_slice());
+    assert!(rt; varint_u128(u128::MAX, &mut [0; 19]).len() == 19);
 }
 
 fn check_limits<T: VarintInt>(rt: &impl Abort, most: usize, last: u8) {
-    assert_eq!(rt; varint_max::<T>(), most);
-    assert_eq!(rt; max_of_last_byte::<T>(), last);
+    assert!(rt; varint_max::<T>() == most);
+    assert!(rt; max_of_last_byte::<T>() == last);
 }
 
 #[test]
@@ -119,15 +105,15 @@ fn numbers_have_their_limits(rt: HostRuntime) {
 
 #[test]
 fn fixed_numbers_are_their_bytes(rt: HostRuntime) {
-    assert_eq!(rt; &*LE(0xABCDu16).put(&mut [0; 16]), [0xCD, 0xAB].as_slice());
-    assert_eq!(rt; &*BE(0xABCDu16).put(&mut [0; 16]), [0xAB, 0xCD].as_slice());
-    assert_eq!(rt; &*LE(-2i16).put(&mut [0; 16]), [0xFE, 0xFF].as_slice());
-    assert_eq!(rt; &*BE(-2i16).put(&mut [0; 16]), [0xFF, 0xFE].as_slice());
+    assert!(rt; &*LE(0xABCDu16).put(&mut [0; 16]) == [0xCD, 0xAB].as_slice());
+    assert!(rt; &*BE(0xABCDu16).put(&mut [0; 16]) == [0xAB, 0xCD].as_slice());
+    assert!(rt; &*LE(-2i16).put(&mut [0; 16]) == [0xFE, 0xFF].as_slice());
+    assert!(rt; &*BE(-2i16).put(&mut [0; 16]) == [0xFF, 0xFE].as_slice());
     let mut buffer = [0; 16];
-    assert_eq!(rt; BE(0xABCDu16).put(&mut buffer).len(), 2);
-    assert_eq!(rt; &buffer[..2], [0xAB, 0xCD].as_slice());
-    assert_eq!(rt; LE::<i16>::from_bytes(&[0xFE, 0xFF]).0, -2);
-    assert_eq!(rt; BE::<u16>::from_bytes(&[0xAB, 0xCD]).0, 0xABCD);
+    assert!(rt; BE(0xABCDu16).put(&mut buffer).len() == 2);
+    assert!(rt; &buffer[..2] == [0xAB, 0xCD].as_slice());
+    assert!(rt; LE::<i16>::from_bytes(&[0xFE, 0xFF]).0 == -2);
+    assert!(rt; BE::<u16>::from_bytes(&[0xAB, 0xCD]).0 == 0xABCD);
 }
 
 fn check_both_ways<T: FixInt + PartialEq>(rt: &impl Abort, low: T, size: usize) {
@@ -135,7 +121,7 @@ fn check_both_ways<T: FixInt + PartialEq>(rt: &impl Abort, low: T, size: usize) 
     let mut big = [0; 16];
     let little = LE(low).put(&mut little);
     let big = BE(low).put(&mut big);
-    assert_eq!(rt; little.len(), size);
+    assert!(rt; little.len() == size);
     assert!(rt; LE::<T>::from_bytes(little).0 == low);
     assert!(rt; BE::<T>::from_bytes(big).0 == low);
 }

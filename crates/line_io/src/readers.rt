@@ -13,7 +13,7 @@ use std::io::Read;
 /// ```
 /// let mut line = Reads::new(b"hi".as_slice());
 /// let mut room = [0u8; 8];
-/// assert_eq!(rt; line.read(&mut room), Some(2));
+/// assert!(rt; line.read(&mut room) == Some(2));
 /// ```
 #[derive(Drop)]
 pub struct Reads<R> {
@@ -125,12 +125,12 @@ mod tests {
             let mut room = [0u8; 2];
             for call in 0..4 {
                 let want = if call == before { None } else { Some(1) };
-                assert_eq!(rt; line.read(&mut room), want, "call {call} of {before}");
+                assert!(rt; line.read(&mut room) == want, "call {call} of {before}");
             }
-            assert_eq!(rt; line.read(&mut room), Some(0));
-            assert_eq!(rt; line.read(&mut []), Some(0));
-            assert_eq!(rt; line.faults, 1);
-            assert_eq!(rt; line.into_inner().given, 3);
+            assert!(rt; line.read(&mut room) == Some(0));
+            assert!(rt; line.read(&mut []) == Some(0));
+            assert!(rt; line.faults == 1);
+            assert!(rt; line.into_inner().given == 3);
         }
         Ok(())
     }
@@ -140,10 +140,10 @@ mod tests {
         let mut line = Reads::new(b"hi".as_slice());
         line.calls = 1;
         let mut room = [0u8; 1];
-        assert_eq!(rt; line.read(&mut room), Some(1));
-        assert_eq!(rt; line.read(&mut room), None);
-        assert_eq!(rt; line.faults, 0);
-        assert_eq!(rt; line.into_inner(), b"i".as_slice());
+        assert!(rt; line.read(&mut room) == Some(1));
+        assert!(rt; line.read(&mut room) == None);
+        assert!(rt; line.faults == 0);
+        assert!(rt; line.into_inner() == b"i".as_slice());
         Ok(())
     }
 }

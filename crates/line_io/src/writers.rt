@@ -12,7 +12,7 @@ use std::io::Write;
 ///
 /// ```
 /// let mut line = Writes::new(Vec::new(alloc));
-/// assert_eq!(rt; line.write(b"hi"), Some(2));
+/// assert!(rt; line.write(b"hi") == Some(2));
 /// ```
 #[derive(Drop)]
 pub struct Writes<W> {
@@ -128,11 +128,11 @@ mod tests {
             let mut line = Writes::new(Interrupted { taken: 0, before });
             for call in 0..6 {
                 let want = if call == before { None } else { Some(1) };
-                assert_eq!(rt; line.write(b"ab"), want, "call {call} of {before}");
+                assert!(rt; line.write(b"ab") == want, "call {call} of {before}");
             }
-            assert_eq!(rt; line.write(b""), Some(0));
-            assert_eq!(rt; line.faults, 1);
-            assert_eq!(rt; line.into_inner().taken, 5);
+            assert!(rt; line.write(b"") == Some(0));
+            assert!(rt; line.faults == 1);
+            assert!(rt; line.into_inner().taken == 5);
         }
         Ok(())
     }
@@ -141,13 +141,13 @@ mod tests {
     fn a_full_writer_takes_nothing(rt: HostRuntime) -> Result<(), Fail> {
         let mut room = [0u8; 3];
         let mut line = Writes::new(room.as_mut_slice());
-        assert_eq!(rt; line.write(b"ab"), Some(2));
-        assert_eq!(rt; line.write(b"cd"), Some(1));
-        assert_eq!(rt; line.write(b"d"), Some(0));
-        assert_eq!(rt; line.write(b""), Some(0));
-        assert_eq!(rt; line.faults, 1);
-        assert_eq!(rt; line.into_inner().len(), 0);
-        assert_eq!(rt; room, *b"abc");
+        assert!(rt; line.write(b"ab") == Some(2));
+        assert!(rt; line.write(b"cd") == Some(1));
+        assert!(rt; line.write(b"d") == Some(0));
+        assert!(rt; line.write(b"") == Some(0));
+        assert!(rt; line.faults == 1);
+        assert!(rt; line.into_inner().len() == 0);
+        assert!(rt; room == *b"abc");
         Ok(())
     }
 
@@ -155,10 +155,10 @@ mod tests {
     fn no_call_is_left(rt: HostRuntime) -> Result<(), Fail> {
         let mut line = Writes::new(Vec::new(rt.alloc()));
         line.calls = 1;
-        assert_eq!(rt; line.write(b"hi"), Some(2));
-        assert_eq!(rt; line.write(b"hi"), None);
-        assert_eq!(rt; line.faults, 0);
-        assert_eq!(rt; line.into_inner().as_slice(), b"hi".as_slice());
+        assert!(rt; line.write(b"hi") == Some(2));
+        assert!(rt; line.write(b"hi") == None);
+        assert!(rt; line.faults == 0);
+        assert!(rt; line.into_inner().as_slice() == b"hi".as_slice());
         Ok(())
     }
 }

@@ -45,11 +45,11 @@ fn expect<R: AllocGlobal + Abort>(rt: &R, given: Setting<'_>, out: &[u8], said: 
     let told_len = ran.faults.moved();
     let found = ran.status;
     drop(ran);
-    assert_eq!(rt; found, status);
+    assert!(rt; found == status);
     assert!(rt; written_len <= ROOM);
     assert!(rt; told_len <= ROOM);
-    assert_eq!(rt; &written[..written_len], out);
-    assert_eq!(rt; &told[..told_len], said);
+    assert!(rt; &written[..written_len] == out);
+    assert!(rt; &told[..told_len] == said);
 }
 
 #[test]
@@ -87,11 +87,11 @@ fn packs_up_to_the_limit(rt: HostRuntime) {
         Out::new(&mut written, 4096, None),
         Out::new(&mut told, 1, None),
     );
-    assert_eq!(rt; ran.status, 0);
-    assert_eq!(rt; ran.writer.moved(), 1026);
+    assert!(rt; ran.status == 0);
+    assert!(rt; ran.writer.moved() == 1026);
     drop(ran);
-    assert_eq!(rt; &written[..4], [0, 255, 0xf9, 7].as_slice());
-    assert_eq!(rt; &written[1021..1026], [4, b'a', b'a', b'a', 0].as_slice());
+    assert!(rt; &written[..4] == [0, 255, 0xf9, 7].as_slice());
+    assert!(rt; &written[1021..1026] == [4, b'a', b'a', b'a', 0].as_slice());
     expect(
         &rt,
         given(Mode::Pack, false, &letters),
@@ -289,11 +289,11 @@ fn whole_or_no_memory<R: AllocGlobal + Abort>(rt: &R, given: Setting<'_>, out: &
     assert!(rt; told_len <= ROOM);
     if status == 4 {
         assert!(rt; out.starts_with(&written[..written_len]));
-        assert_eq!(rt; &told[..told_len], b"no memory\n".as_slice());
+        assert!(rt; &told[..told_len] == b"no memory\n".as_slice());
     } else {
-        assert_eq!(rt; status, 0);
-        assert_eq!(rt; &written[..written_len], out);
-        assert_eq!(rt; told_len, 0);
+        assert!(rt; status == 0);
+        assert!(rt; &written[..written_len] == out);
+        assert!(rt; told_len == 0);
     }
 }
 
