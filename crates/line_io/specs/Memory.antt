@@ -37,6 +37,10 @@ out_calls o = o.calls
 abbrev pub in_bytes : In → List ℕ
 in_bytes i = i.rest.now
 
+-- how many bytes it has given
+abbrev pub in_moved : In → ℕ
+in_moved i = i.given
+
 -- how it goes on
 abbrev pub in_plan : In → Plan
 in_plan i = record { each = i.each; fault = failing i.fault }

@@ -93,47 +93,7 @@ impl<R: Read> Inlet for Reads<R> {
 #[cfg(test)]
 mod tests {
     use super::*;
-    use std::io;
     use std::test::Fail;
-
-    /// Gives a byte a call of three, and fails once, after `before` bytes.
-    #[derive(Drop)]
-    struct Failing {
-        given: usize,
-        before: usize,
-    }
-
-    impl Read for Failing {
-        fn read(&mut self, buf: &mut [u8]) -> io::Result<usize> {
-            if self.given == self.before {
-                self.before = usize::MAX;
-                return Err(io::Error::from(io::ErrorKind::Other));
-            }
-            if buf.is_empty() || self.given >= 3 {
-                return Ok(0);
-            }
-            buf[0] = b'a';
-            self.given += 1;
-            Ok(1)
-        }
-    }
-
-    #[test]
-    fn a_failed_read_is_a_fault(rt: HostRuntime) -> Result<(), Fail> {
-        for before in 0..4 {
-            let mut line = Reads::new(Failing { given: 0, before });
-            let mut room = [0u8; 2];
-            for call in 0..4 {
-                let want = if call == before { None } else { Some(1) };
-                assert!(rt; line.read(&mut room) == want, "call {call} of {before}");
-            }
-            assert!(rt; line.read(&mut room) == Some(0));
-            assert!(rt; line.read(&mut []) == Some(0));
-            assert!(rt; line.faults == 1);
-            assert!(rt; line.into_inner().given == 3);
-        }
-        Ok(())
-    }
 
     #[test]
     fn no_call_is_left(rt: HostRuntime) -> Result<(), Fail> {

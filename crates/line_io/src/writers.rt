@@ -96,60 +96,7 @@ impl<W: Write> Outlet for Writes<W> {
 #[cfg(test)]
 mod tests {
     use super::*;
-    use std::io;
     use std::test::Fail;
-
-    /// Takes a byte a call, and is interrupted once, after `before` bytes.
-    #[derive(Drop)]
-    struct Interrupted {
-        taken: usize,
-        before: usize,
-    }
-
-    impl Write for Interrupted {
-        fn write(&mut self, buf: &[u8]) -> io::Result<usize> {
-            if self.taken == self.before {
-                self.before = usize::MAX;
-                return Err(io::Error::from(io::ErrorKind::Interrupted));
-            }
-            let count = buf.len().min(1);
-            self.taken = self.taken.saturating_add(count);
-            Ok(count)
-        }
-
-        fn flush(&mut self) -> io::Result<()> {
-            Ok(())
-        }
-    }
-
-    #[test]
-    fn an_interrupted_write_is_a_fault(rt: HostRuntime) -> Result<(), Fail> {
-        for before in 0..4 {
-            let mut line = Writes::new(Interrupted { taken: 0, before });
-            for call in 0..6 {
-                let want = if call == before { None } else { Some(1) };
-                assert!(rt; line.write(b"ab") == want, "call {call} of {before}");
-            }
-            assert!(rt; line.write(b"") == Some(0));
-            assert!(rt; line.faults == 1);
-            assert!(rt; line.into_inner().taken == 5);
-        }
-        Ok(())
-    }
-
-    #[test]
-    fn a_full_writer_takes_nothing(rt: HostRuntime) -> Result<(), Fail> {
-        let mut room = [0u8; 3];
-        let mut line = Writes::new(room.as_mut_slice());
-        assert!(rt; line.write(b"ab") == Some(2));
-        assert!(rt; line.write(b"cd") == Some(1));
-        assert!(rt; line.write(b"d") == Some(0));
-        assert!(rt; line.write(b"") == Some(0));
-        assert!(rt; line.faults == 1);
-        assert!(rt; line.into_inner().len() == 0);
-        assert!(rt; room == *b"abc");
-        Ok(())
-    }
 
     #[test]
     fn no_call_is_left(rt: HostRuntime) -> Result<(), Fail> {
