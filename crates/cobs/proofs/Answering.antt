@@ -1,10 +1,9 @@
 -- What decoding a whole source answers, by frames.
-use Rattle.std.proofs.Common.{◌≡◌, ◌≢◌, ℕ, ◌+◌, ◌-◌, ◌<◌, ◌≤◌, nat_lt, min, if◌then◌else◌, Bool, true, false, List, [], ◌∷◌, ◌++◌, length, Result, Option, Some, None, Ok, Err, ◌⊎◌, inl, inr, refl, ap, sym, ◌∙◌, subst, arith, append_assoc, length-append}
+use Rattle.std.proofs.Common.{◌≡◌, ◌≢◌, ℕ, ◌+◌, ◌-◌, ◌<◌, ◌≤◌, nat_lt, min, if◌then◌else◌, Bool, true, false, List, [], ◌∷◌, ◌++◌, length, Result, Option, Some, None, Ok, Err, ◌⊎◌, inl, inr, refl, ap, sym, ◌∙◌, subst, arith, append_assoc}
 use Rattle.std.proofs.lemmas.List.{append-nil}
 use Rattle.std.proofs.lemmas.Bool.{lt-ltb, le-ltb, cases_lt, eq-eqb, ne_eqb}
-use Rattle.std.specs.Prelude.{IsErr}
 use Rattle.std.specs.List.{AllByRecursion}
-use Rattle.cobs.specs.Frames.{NoZero, Frame, part, part_from, after, missing}
+use Rattle.cobs.specs.Frames.{NoZero, Frame, part, missing}
 use Rattle.cobs.specs.Feeding.{at_zero, at_byte, frame_after}
 use Rattle.cobs.specs.Pieces.{first_answer, answered}
 use Rattle.cobs.specs.Reports.{report}
@@ -12,8 +11,10 @@ use Rattle.cobs.specs.Whole.{unpadded, frame_in, reported, decoded_from, decoded
 use Rattle.cobs.specs.declared.dec.DecodeReport.{DecodeReport}
 use Rattle.cobs.specs.declared.dec.DecodeError.{DecodeError}
 use Rattle.cobs.specs.declared.dec.DecodeError.TheVariants.{InvalidFrame, TargetBufTooSmall}
-use Rattle.cobs.proofs.Decoding.{Stretch, part_append, frame_reads, frame_ends, stretch_frame}
+use Rattle.cobs.specs.DecodingLaws.{refusal}
+use Rattle.cobs.proofs.Decoding.{Stretch, frame_reads, frame_ends, stretch_frame}
 use Rattle.cobs.proofs.Feeds.{frame_byte, answer_byte}
+use Rattle.cobs.proofs.Passing.{decided_on}
 use Rattle.cobs.proofs.Wholes.{found_clear}
 use Rattle.cobs.proofs.Zeros.{zero_answers, zero_refuses}
 
@@ -26,13 +27,6 @@ byte_cases room q b = elim (cases_lt room (length (part (q ++ b ∷ [])))) [
     | inr k ↦ inl (rw (lt-ltb room (length (part (q ++ b ∷ []))) l, le-ltb (length (part q)) (length (part (q ++ b ∷ []))) k) refl)
   ]
 ]
-
--- what is decided by a front is decided
-decided_on : (q p : List ℕ) → length (part q) ≤ length (part (q ++ p))
-decided_on q p =
-    let more = ap length (part_append 0 false q p) in
-    let long = length-append (part q) (part_from (after 0 false q).0 (after 0 false q).1 p) in
-    omega (arith, more, long)
 
 -- the first answer behind one byte
 behind_byte : (room : ℕ) (q : List ℕ) (b : ℕ) (p : List ℕ) (used : ℕ) → 0 < b
@@ -78,47 +72,59 @@ decodes_frames room source message f =
     ap (reported (length source)) (frame_first room [] (frame_in source) (length source - length (unpadded source)) message (found_clear source (frame_in source) refl) f)
     ∙ reported_by (nat_lt room (length message)) (length source - length (unpadded source) + length (frame_in source) + 1) (length message) (length source)
 
--- an answer is the zero's
-zero_answered : (a : Result (Option ℕ) DecodeError) (u : ℕ) (r : DecodeReport) → answered a u (Ok None) ≡ Ok (Some r) → (n : ℕ) × (a ≡ Ok (Some n))
-zero_answered (Ok None) u r h = absurd (cc)
-zero_answered (Ok (Some n)) u r h = (n, refl)
-zero_answered (Err e) u r h = absurd (cc)
+-- what bytes and the zero behind them come to
+abbrev behind_all : Bool → ℕ → List ℕ → ℕ → Result (Option DecodeReport) DecodeError
+behind_all t room s used = if t then Err TargetBufTooSmall else answered (at_zero room s) used (Ok None)
 
-first_is_zero : (room : ℕ) (q p : List ℕ) (used : ℕ) (r : DecodeReport) → NoZero p → first_answer room q (p ++ 0 ∷ []) used ≡ Ok (Some r) → (n : ℕ) × (at_zero room (q ++ p) ≡ Ok (Some n))
-first_is_zero room q [] used r z h =
-    let found = zero_answered (at_zero room q) (used + 1) r h in
-    (found.0, ap (at_zero room) (append-nil q) ∙ found.1)
-first_is_zero room q (b ∷ p) used r z h =
-    let start = behind_byte room q b (p ++ 0 ∷ []) used z.0 in
-    elim (byte_cases room q b) [
-      | inl e ↦
-          let found = first_is_zero room (q ++ b ∷ []) p (used + 1) r z.1
-          (sym (start ∙ ap (λ a. answered a (used + 1) (first_answer room (q ++ b ∷ []) (p ++ 0 ∷ []) (used + 1))) e) ∙ h) in
-          (found.0, ap (at_zero room) (sym (append_assoc q (b ∷ []) p)) ∙ found.1)
-      | inr e ↦
-          let never : ◌≡◌ {A = Result (Option DecodeReport) DecodeError} (Err TargetBufTooSmall) (Ok (Some r)) =
-          sym (start ∙ ap (λ a. answered a (used + 1) (first_answer room (q ++ b ∷ []) (p ++ 0 ∷ []) (used + 1))) e.0) ∙ h in
-          absurd (cc)
+-- the first answer to bytes and the zero behind them, where those before have room
+first_of : (room : ℕ) (q p : List ℕ) (used : ℕ) → NoZero p → length (part q) ≤ room
+    → first_answer room q (p ++ 0 ∷ []) used ≡ behind_all (nat_lt room (length (part (q ++ p)))) room (q ++ p) (used + length p + 1)
+first_of room q [] used z w =
+    rw (append-nil q, le-ltb room (length (part q)) w) (ap (λ u. answered (at_zero room q) u (Ok None)) (omega arith))
+first_of room q (b ∷ p) used z w =
+    let later = first_answer room (q ++ b ∷ []) (p ++ 0 ∷ []) (used + 1) in
+    let same : (q ++ b ∷ []) ++ p ≡ q ++ b ∷ p = append_assoc q (b ∷ []) p in
+    behind_byte room q b (p ++ 0 ∷ []) used z.0 ∙ elim (cases_lt room (length (part (q ++ b ∷ [])))) [
+      | inl l ↦
+          let long : room < length (part (q ++ b ∷ p)) = omega (arith, l, decided_on (q ++ b ∷ []) p, ap (λ s. length (part s)) same) in
+          let grown : length (part q) < length (part (q ++ b ∷ [])) = omega (arith, l, w) in
+          let refused : at_byte room q b ≡ Err TargetBufTooSmall =
+          rw (lt-ltb room (length (part (q ++ b ∷ []))) l, lt-ltb (length (part q)) (length (part (q ++ b ∷ []))) grown) refl in
+          ap (λ a. answered a (used + 1) later) refused
+          ∙ sym (ap (λ t. behind_all t room (q ++ b ∷ p) (used + length (b ∷ p) + 1)) (lt-ltb room (length (part (q ++ b ∷ p))) long))
+      | inr l ↦
+          let passed : at_byte room q b ≡ Ok None = rw (le-ltb room (length (part (q ++ b ∷ []))) l) refl in
+          let count : used + 1 + length p + 1 ≡ used + length (b ∷ p) + 1 = omega arith in
+          ap (λ a. answered a (used + 1) later) passed
+          ∙ first_of room (q ++ b ∷ []) p (used + 1) z.1 l
+          ∙ ap (λ s. behind_all (nat_lt room (length (part s))) room s (used + 1 + length p + 1)) same
+          ∙ ap (λ u. behind_all (nat_lt room (length (part (q ++ b ∷ p)))) room (q ++ b ∷ p) u) count
     ]
 
 both : (p : List ℕ) → NoZero p → AllByRecursion (λ b. b < 256) p → Stretch p
 both [] z s = tt
 both (b ∷ p) z s = ((z.0, s.0), both p z.1 s.1)
 
-no_answer : (room : ℕ) (p : List ℕ) → Stretch p → ((message : List ℕ) → Frame p message → ⊥) → (n : ℕ) → at_zero room p ≡ Ok (Some n) → ⊥
-no_answer room [] s h n a = cc
-no_answer room (code ∷ p) s h n a = let e = sym (zero_refuses room (code ∷ p) s (λ x. cc) h) ∙ a in cc
+refused_by : (room : ℕ) (p : List ℕ) (used limit : ℕ) → Stretch p → ((message : List ℕ) → Frame p message → ⊥)
+    → reported limit (behind_all (nat_lt room (length (part p))) room p used) ≡ Err (refusal room p)
+refused_by room [] used limit s h = rw (le-ltb room 0 (omega arith)) refl
+refused_by room (code ∷ p) used limit s h = elim (cases_lt room (length (part (code ∷ p)))) [
+  | inl l ↦ rw (lt-ltb room (length (part (code ∷ p))) l) refl
+  | inr l ↦
+      let t = le-ltb room (length (part (code ∷ p))) l in
+      let few : min (length (part (code ∷ p))) room ≡ length (part (code ∷ p)) = omega (arith, l) in
+      ap (λ c. reported limit (behind_all c room (code ∷ p) used)) t
+      ∙ ap (λ a. reported limit (answered a used (Ok None))) (zero_refuses room (code ∷ p) s (λ x. cc) h)
+      ∙ ap (λ n. Err (InvalidFrame n)) few
+      ∙ sym (ap (λ c. Err (if c then TargetBufTooSmall else InvalidFrame (length (part (code ∷ p))))) t)
+]
 
-unanswered : (limit : ℕ) (a : Result (Option DecodeReport) DecodeError) → ((r : DecodeReport) → a ≡ Ok (Some r) → ⊥) → IsErr (reported limit a)
-unanswered limit (Ok None) h = refl
-unanswered limit (Ok (Some r)) h = absurd (h r refl)
-unanswered limit (Err e) h = refl
-
-pub refuses_sources : (room : ℕ) (source : List ℕ) → AllByRecursion (λ b. b < 256) (frame_in source) → ((message : List ℕ) → Frame (frame_in source) message → ⊥) → IsErr (decoded_from room source)
+pub refuses_sources : (room : ℕ) (source : List ℕ) → AllByRecursion (λ b. b < 256) (frame_in source) → ((message : List ℕ) → Frame (frame_in source) message → ⊥)
+    → decoded_from room source ≡ Err (refusal room (frame_in source))
 refuses_sources room source s h =
     let z = found_clear source (frame_in source) refl in
-    unanswered (length source) (first_answer room [] (frame_in source ++ 0 ∷ []) (length source - length (unpadded source)))
-    (λ r e. let found = first_is_zero room [] (frame_in source) (length source - length (unpadded source)) r z e in no_answer room (frame_in source) (both (frame_in source) z s) h found.0 found.1)
+    ap (reported (length source)) (first_of room [] (frame_in source) (length source - length (unpadded source)) z (omega arith))
+    ∙ refused_by room (frame_in source) (length source - length (unpadded source) + length (frame_in source) + 1) (length source) (both (frame_in source) z s) h
 
 -- bytes that are decoded at once
 

@@ -12,7 +12,7 @@ moved_answer (Ok None) earlier used later later' h = h
 moved_answer (Ok (Some n)) earlier used later later' h = refl
 moved_answer (Err e) earlier used later later' h = refl
 
-first_moved : (room : ℕ) (frame piece : List ℕ) (earlier used : ℕ) → first_answer room frame piece (earlier + used) ≡ moved earlier (first_answer room frame piece used)
+pub first_moved : (room : ℕ) (frame piece : List ℕ) (earlier used : ℕ) → first_answer room frame piece (earlier + used) ≡ moved earlier (first_answer room frame piece used)
 first_moved room frame [] earlier used = refl
 first_moved room frame (byte ∷ piece) earlier used =
     let next : earlier + used + 1 ≡ earlier + (used + 1) = omega arith in

@@ -81,7 +81,7 @@ whole_fits true true n len least h = absurd (cc)
 whole_fits true false n len least h = (refl, (cc))
 whole_fits false u n len least h = absurd (cc)
 
-zero_fits : (room : ℕ) (bytes : List ℕ) (n : ℕ) → at_zero room bytes ≡ Ok (Some n) → (nat_lt room (length (part bytes)) ≡ false) × (n ≡ length (part bytes))
+pub zero_fits : (room : ℕ) (bytes : List ℕ) (n : ℕ) → at_zero room bytes ≡ Ok (Some n) → (nat_lt room (length (part bytes)) ≡ false) × (n ≡ length (part bytes))
 zero_fits room [] n h = absurd (cc)
 zero_fits room (code ∷ bytes) n h = whole_fits (missing (code ∷ bytes) == 0) (nat_lt room (length (part (code ∷ bytes)))) n (length (part (code ∷ bytes))) _ h
 

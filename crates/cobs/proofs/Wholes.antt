@@ -1,23 +1,22 @@
 -- What decoding a whole source answers.
-use Rattle.std.proofs.Common.{◌≡◌, ℕ, ◌+◌, ◌-◌, ◌<◌, ◌≤◌, List, [], ◌∷◌, ◌++◌, length, take, drop, get_or, Result, Some, None, Ok, Err, ◌⊎◌, inl, inr, refl, ap, sym, ◌∙◌, arith, subst, min}
+use Rattle.std.proofs.Common.{◌≡◌, ℕ, ◌+◌, ◌^◌, ◌<◌, ◌≤◌, List, [], ◌∷◌, ◌++◌, length, take, drop, get_or, Result, Ok, Err, inl, inr, refl, ap, sym, ◌∙◌, arith, subst}
 use Rattle.std.proofs.lemmas.List.{take_more, take_all, get_or-map, length-map, length-take-le, take_at}
 use Rattle.std.proofs.lemmas.Bool.{eq-eqb, ne_eqb}
 use Rattle.std.proofs.lemmas.Bool.Decides.{eqb_tells}
 use Rattle.std.specs.Prelude.{IsErrAnd, bit_xor}
 use Rattle.cobs.specs.Frames.{NoZero, part, missing}
-use Rattle.cobs.specs.Feeding.{at_zero, placed, Taken}
-use Rattle.cobs.specs.Pieces.{first_answer, answered}
+use Rattle.cobs.specs.Feeding.{fed, standing, placed}
 use Rattle.cobs.specs.InPlace.{stretch, overwritten, in_place_length}
 use Rattle.cobs.specs.Sentinel.{masked}
-use Rattle.cobs.specs.Reports.{report}
-use Rattle.cobs.specs.Whole.{unpadded, frame_in, reported, decoded_from, message_of_stretch, message_of_frame}
-use Rattle.cobs.specs.declared.dec.DecodeReport.{DecodeReport}
+use Rattle.cobs.specs.Whole.{unpadded, frame_in, decoded_into, message_of_stretch, message_of_frame}
 use Rattle.cobs.specs.declared.dec.DecodeError.{DecodeError}
 use Rattle.cobs.specs.declared.dec.DecodeError.TheVariants.{EmptyFrame, InvalidFrame}
-use Rattle.cobs.specs.declared.dec.DecoderState.{DecoderState}
+use Rattle.cobs.specs.declared.dec.Progress.{Progress}
+use Rattle.cobs.specs.Streaming.{Stands}
 use Rattle.cobs.proofs.Sources.{masked_zero, stretch_clear, clear_at, stretch_of}
 use Rattle.cobs.proofs.Decoding.{part_shorter}
 use Rattle.cobs.proofs.Overwriting.{placed_on, front}
+use Rattle.cobs.proofs.Reading.{ends_broken}
 
 -- the frame that decoding finds
 pub found : (source rest frame : List ℕ) → rest ≡ unpadded source → masked 0 frame ≡ stretch (masked 0 rest) → frame ≡ frame_in source
@@ -31,26 +30,6 @@ pub passed_on : {A : Type 0} (r : Result A DecodeError) (e : DecodeError) → Is
 passed_on (Ok x) e h = absurd h
 passed_on (Err y) e h = ap (λ z. Err z) h
 
--- a refusal
-pub answer_refused : (room : ℕ) (source frame : List ℕ) (r : Result DecodeReport DecodeError) (e : DecodeError) → frame ≡ frame_in source → r ≡ Err e → ((used : ℕ) → first_answer room [] (frame ++ 0 ∷ []) used ≡ Err e) → r ≡ decoded_from room source
-answer_refused room source frame r e f i h = i ∙ sym (ap (reported (length source)) (ap (λ p. first_answer room [] (p ++ 0 ∷ []) (length source - length (unpadded source))) (sym f) ∙ h (length source - length (unpadded source))))
-
--- what the zero answers
-module _ (room : ℕ) (source frame : List ℕ) (f : frame ≡ frame_in source) (h : (used : ℕ) → first_answer room [] (frame ++ 0 ∷ []) used ≡ answered (at_zero room frame) (used + length frame + 1) (Ok None)) where
-  at_end : decoded_from room source ≡ reported (length source) (answered (at_zero room frame) (length source - length (unpadded source) + length frame + 1) (Ok None))
-  at_end = ap (reported (length source)) (ap (λ p. first_answer room [] (p ++ 0 ∷ []) (length source - length (unpadded source))) (sym f) ∙ h (length source - length (unpadded source)))
-
-  pub answer_ended : (r : Result DecodeReport DecodeError) (e : DecodeError) → r ≡ Err e → at_zero room frame ≡ Err e → r ≡ decoded_from room source
-  answer_ended r e i a = i ∙ sym (at_end ∙ ap (λ z. reported (length source) (answered z (length source - length (unpadded source) + length frame + 1) (Ok None))) a)
-
-  pub answer_empty : at_zero room frame ≡ Ok None → Err EmptyFrame ≡ decoded_from room source
-  answer_empty a = sym (at_end ∙ ap (λ z. reported (length source) (answered z (length source - length (unpadded source) + length frame + 1) (Ok None))) a)
-
-  pub answer_whole : (n parsed : ℕ) → at_zero room frame ≡ Ok (Some n) → parsed ≡ min (length source - length (unpadded source) + length frame + 1) (length source) → Ok (report parsed n) ≡ decoded_from room source
-  answer_whole n parsed a p =
-      ap (λ k. Ok (report k n)) p
-      ∙ sym (at_end ∙ ap (λ z. reported (length source) (answered z (length source - length (unpadded source) + length frame + 1) (Ok None))) a)
-
 -- a stretch is no longer than what it begins
 stretch_within : (bytes : List ℕ) → length (stretch bytes) ≤ length bytes
 stretch_within [] = omega arith
@@ -59,23 +38,18 @@ stretch_within (b ∷ bytes) = elim (eqb_tells b 0) [
   | inr t ↦ rw (ne_eqb b 0 t.1) (omega (arith, stretch_within bytes))
 ]
 
--- how many bytes of a source were used
-pub used_up : (source rest frame : List ℕ) (ended : ℕ) → rest ≡ unpadded source → length rest ≤ length source → frame ≡ frame_in source → ((length frame < length rest) × (ended ≡ 1)) ⊎ ((length rest ≤ length frame) × (ended ≡ 0))
-    → length source - length rest + length frame + ended ≡ min (length source - length (unpadded source) + length frame + 1) (length source)
-used_up source rest frame ended r w f e =
-    let long : length rest ≡ length (unpadded source) = ap length r in
-    let short : length frame ≤ length (unpadded source) = omega (arith, ap length f, stretch_within (unpadded source)) in
-    elim e [
-      | inl h ↦ omega (arith, long, short, w, h.0, h.1)
-      | inr h ↦ omega (arith, long, short, w, h.0, h.1)
-    ]
-
 -- The first i bytes of a frame were taken in.
-pub record Entering (frame source : List ℕ) (i len : ℕ) (state : DecoderState) (dest : List ℕ) : Type 0 where
-  pub taken : Taken state len (take i frame)
+pub record Entering (frame source : List ℕ) (i : ℕ) (d : Progress) (dest : List ℕ) : Type 0 where
+  pub stands : Stands d (take i frame)
   pub holds : dest ≡ overwritten (part (take i frame)) source
 
-module _ (sentinel : ℕ) (bytes source : List ℕ) (i len : ℕ) (state : DecoderState) (dest : List ℕ) (t : Entering (masked sentinel bytes) source i len state dest) (clear : NoZero (masked sentinel bytes)) where
+-- All of it was.
+pub record EnteredAll (frame source : List ℕ) (d : Progress) (dest : List ℕ) : Type 0 where
+  pub state : d.state ≡ standing frame
+  pub counts : d.len ≡ length (part frame)
+  pub holds : dest ≡ overwritten (part frame) source
+
+module _ (sentinel : ℕ) (bytes source : List ℕ) (i : ℕ) (d : Progress) (dest : List ℕ) (t : Entering (masked sentinel bytes) source i d dest) (clear : NoZero (masked sentinel bytes)) where
   -- the byte of this turn
   pub turn_byte : i < length bytes → get_or (masked sentinel bytes) i 0 ≡ bit_xor sentinel (get_or bytes i 0)
   turn_byte l = get_or-map (bit_xor sentinel) bytes i 0 0 l
@@ -83,27 +57,36 @@ module _ (sentinel : ℕ) (bytes source : List ℕ) (i len : ℕ) (state : Decod
   pub turn_positive : i < length bytes → 0 < bit_xor sentinel (get_or bytes i 0)
   turn_positive l = rw (turn_byte l) at (clear_at (masked sentinel bytes) i clear (omega (arith, l, length-map bytes (bit_xor sentinel))))
 
-  pub turn_short : i ≤ length bytes → len ≤ i
-  turn_short l = omega (arith, t.taken.counts, part_shorter (take i (masked sentinel bytes)), length-take-le i (masked sentinel bytes) (omega (arith, l, length-map bytes (bit_xor sentinel))))
+  -- all of the message so far is counted
+  pub turn_counted : length bytes < 2 ^ 64 → i ≤ length bytes → d.len ≡ length (part (take i (masked sentinel bytes)))
+  turn_counted w l = omega (arith, t.stands.len, w, part_shorter (take i (masked sentinel bytes)), length-take-le i (masked sentinel bytes) (omega (arith, l, length-map bytes (bit_xor sentinel))))
 
-  pub entering_on : (len' : ℕ) (state' : DecoderState) (dest' : List ℕ) → i < length bytes
-      → ((p : List ℕ) → Taken state len p → Taken state' len' (p ++ bit_xor sentinel (get_or bytes i 0) ∷ []))
-      → ((p : List ℕ) → Taken state len p → dest' ≡ placed p (bit_xor sentinel (get_or bytes i 0)) dest)
-      → Entering (masked sentinel bytes) source (i + 1) len' state' dest'
-  entering_on len' state' dest' l h d =
+  pub entering_on : (d' : Progress) (dest' : List ℕ) → i < length bytes
+      → ((p : List ℕ) → Stands d p → Stands d' (p ++ bit_xor sentinel (get_or bytes i 0) ∷ []))
+      → ((p : List ℕ) → Stands d p → dest' ≡ placed p (bit_xor sentinel (get_or bytes i 0)) dest)
+      → Entering (masked sentinel bytes) source (i + 1) d' dest'
+  entering_on d' dest' l h k =
       let p = take i (masked sentinel bytes) in
       let byte = bit_xor sentinel (get_or bytes i 0) in
       let more : take (i + 1) (masked sentinel bytes) ≡ p ++ byte ∷ [] = take_more (masked sentinel bytes) i 0 (omega (arith, l, length-map bytes (bit_xor sentinel))) ∙ ap (λ b. p ++ b ∷ []) (turn_byte l) in
       record {
-        taken = rw more (h p t.taken);
-        holds = d p t.taken ∙ placed_on p byte source dest (turn_positive l) t.holds ∙ ap (λ b. overwritten (part b) source) (sym more);
+        stands = rw more (h p t.stands);
+        holds = k p t.stands ∙ placed_on p byte source dest (turn_positive l) t.holds ∙ ap (λ b. overwritten (part b) source) (sym more);
       }
 
-  pub entering_done : length bytes ≤ i → Entering (masked sentinel bytes) source (length (masked sentinel bytes)) len state dest
-  entering_done l =
-      let all : take i (masked sentinel bytes) ≡ take (length (masked sentinel bytes)) (masked sentinel bytes) =
-      take_all i (masked sentinel bytes) (omega (arith, l, length-map bytes (bit_xor sentinel))) ∙ sym (take_all (length (masked sentinel bytes)) (masked sentinel bytes) (omega arith)) in
-      record { taken = rw (sym all) t.taken; holds = rw (sym all) t.holds }
+  pub entering_done : length bytes < 2 ^ 64 → length bytes ≤ i → i ≤ length bytes → EnteredAll (masked sentinel bytes) source d dest
+  entering_done w l k =
+      let all : take i (masked sentinel bytes) ≡ masked sentinel bytes = take_all i (masked sentinel bytes) (omega (arith, l, length-map bytes (bit_xor sentinel))) in
+      record {
+        state = t.stands.state ∙ ap standing all;
+        counts = turn_counted w k ∙ ap (λ b. length (part b)) all;
+        holds = t.holds ∙ ap (λ b. overwritten (part b) source) all;
+      }
+
+-- what the form with a sentinel answers to a frame that is broken
+pub sentinel_broken : (room : ℕ) (frame source : List ℕ) (d : Progress) (dest : List ℕ) → EnteredAll frame source d dest → (x : DecodeError) → fed d.state 0 ≡ Err x → Err (InvalidFrame d.len) ≡ decoded_into room frame
+sentinel_broken room frame source d dest t x e =
+    ap (λ n. Err (InvalidFrame n)) t.counts ∙ sym (rw (ne_eqb (missing frame) 0 (ends_broken frame d.state x t.state e)) refl)
 
 -- a vector's elements after a write of all of them
 pub refilled : (n : ℕ) (old new : List ℕ) → n ≡ length old → length new ≡ length old → take n (new ++ drop (length new) old) ≡ new

@@ -1,8 +1,9 @@
 -- What the decoders that hold an array keep.
-use Rattle.std.specs.Prelude.{List, ℕ, length}
+use Rattle.std.specs.Prelude.{List, ℕ}
 use Rattle.std.specs.Borrow.{Lends, MutBor, Fml, RattleType, u8, Array}
 use Rattle.arrayvec.specs.ArrayVec.{with_items}
 use Rattle.cobs.specs.Streaming.{Stands}
+use Rattle.cobs.specs.declared.dec.Progress.{Progress}
 use Rattle.cobs.specs.declared.dec.CobsDecoderHeapless.{CobsDecoderHeapless}
 use Rattle.cobs.specs.contracts.dec.CobsDecoderHeapless.{the_row}
 
@@ -11,9 +12,13 @@ module _ {N : ℕ} where
   abbrev pub array_buffer : CobsDecoderHeapless N → List ℕ
   array_buffer d = d.array.items
 
+  -- how far its frame was taken in
+  abbrev pub array_progress : CobsDecoderHeapless N → Progress
+  array_progress d = d.progress
+
   -- The bytes of this frame so far were taken in.
   abbrev pub ArrayHas : CobsDecoderHeapless N → List ℕ → Type 0
-  ArrayHas d bytes = Stands (length (array_buffer d)) d.progress bytes
+  ArrayHas d bytes = Stands (array_progress d) bytes
 
   -- the same decoder with this in its buffer
   abbrev pub with_array_buffer : CobsDecoderHeapless N → List ℕ → CobsDecoderHeapless N

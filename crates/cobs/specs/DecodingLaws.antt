@@ -1,5 +1,5 @@
 -- The laws of decoding.
-use Rattle.std.specs.Prelude.{◌≡◌, ◌≢◌, ℕ, ◌+◌, ◌-◌, ◌<◌, nat_lt, min, if◌then◌else◌, List, [], ◌∷◌, ◌++◌, length, Option, Some, None, Result, Ok, Err, IsErr}
+use Rattle.std.specs.Prelude.{◌≡◌, ◌≢◌, ℕ, ◌+◌, ◌-◌, ◌<◌, nat_lt, min, if◌then◌else◌, List, [], ◌∷◌, ◌++◌, length, Option, Some, None, Result, Ok, Err}
 use Rattle.std.specs.List.{AllByRecursion}
 use Rattle.cobs.specs.Frames.{Frame, part}
 use Rattle.cobs.specs.Feeding.{fed, next, told_by, listed, at_zero}
@@ -11,7 +11,7 @@ use Rattle.cobs.specs.declared.dec.DecoderState.TheVariants.{Idle}
 use Rattle.cobs.specs.declared.dec.DecodeResult.TheVariants.{DataComplete}
 use Rattle.cobs.specs.declared.dec.DecodeReport.{DecodeReport}
 use Rattle.cobs.specs.declared.dec.DecodeError.{DecodeError}
-use Rattle.cobs.specs.declared.dec.DecodeError.TheVariants.{InvalidFrame, TargetBufTooSmall}
+use Rattle.cobs.specs.declared.dec.DecodeError.TheVariants.{EmptyFrame, InvalidFrame, TargetBufTooSmall}
 
 -- the bytes of a message that the table tells while it is fed these
 abbrev pub data_from : DecoderState → List ℕ → List ℕ
@@ -35,6 +35,10 @@ AnswersFrames = (room : ℕ) (frame message : List ℕ) → Frame frame message 
 abbrev pub RefusesOthers : Type 0
 RefusesOthers = (room : ℕ) (bytes : List ℕ) → AllByRecursion (λ b. (0 < b) × (b < 256)) bytes → bytes ≢ [] → ((message : List ℕ) → Frame bytes message → ⊥) → at_zero room bytes ≡ Err (InvalidFrame (min (length (part bytes)) room))
 
+-- Bytes whose zero gives a length are a frame, of a message of that length.
+abbrev pub AnswersOnlyFrames : Type 0
+AnswersOnlyFrames = (room n : ℕ) (bytes : List ℕ) → AllByRecursion (λ b. (0 < b) × (b < 256)) bytes → at_zero room bytes ≡ Ok (Some n) → Frame bytes (part bytes) × (n ≡ length (part bytes))
+
 -- A source that has a frame behind its leading zeros gives the length of the message, where there is room for it. Used are
 -- the zeros, the frame, and its zero where there is one.
 abbrev pub DecodesFrames : Type 0
@@ -42,9 +46,16 @@ DecodesFrames = (room : ℕ) (source message : List ℕ) → Frame (frame_in sou
     → decoded_from room source ≡ (if nat_lt room (length message) then Err TargetBufTooSmall
     else Ok (report (min (length source - length (unpadded source) + length (frame_in source) + 1) (length source)) (length message)))
 
--- Every other source is refused.
+-- the refusal of bytes that are no frame: there are none, or what they decide has no room, or they end inside a block
+abbrev pub refusal : ℕ → List ℕ → DecodeError
+refusal room [] = EmptyFrame
+refusal room (code ∷ bytes) =
+    if nat_lt room (length (part (code ∷ bytes))) then TargetBufTooSmall else InvalidFrame (length (part (code ∷ bytes)))
+
+-- Every other source is refused so.
 abbrev pub RefusesSources : Type 0
-RefusesSources = (room : ℕ) (source : List ℕ) → AllByRecursion (λ b. b < 256) (frame_in source) → ((message : List ℕ) → Frame (frame_in source) message → ⊥) → IsErr (decoded_from room source)
+RefusesSources = (room : ℕ) (source : List ℕ) → AllByRecursion (λ b. b < 256) (frame_in source) → ((message : List ℕ) → Frame (frame_in source) message → ⊥)
+    → decoded_from room source ≡ Err (refusal room (frame_in source))
 
 -- Where bytes that were XORed with a sentinel, or go into a vector, are a frame, they give its message.
 abbrev pub DecodesStretches : Type 0

@@ -4,6 +4,7 @@ use Rattle.std.specs.List.{AllByRecursion}
 use Rattle.cobs.specs.Frames.{NoZero, Frame, Shortest, Longest, part, missing, shortest_frame, longest_frame, most_length}
 use Rattle.cobs.specs.Cases.{OneBlock, MoreBlocks, trailing, IsFull}
 use Rattle.cobs.specs.Sentinel.{masked}
+use Rattle.cobs.specs.Thinner.{Within}
 
 -- A frame is one block, or a block and then a frame.
 abbrev pub GoesByBlocks : Type 0
@@ -61,3 +62,17 @@ ReachesMostLength = (message : List ℕ) → NoZero message → length (shortest
 -- Each further byte of a message makes its shortest frame longer.
 abbrev pub GrowsWithItsMessage : Type 0
 GrowsWithItsMessage = (message more : List ℕ) → length (shortest_frame message) + length more ≤ length (shortest_frame (message ++ more))
+
+-- A nonempty front of a frame is itself a frame exactly where it ends at a block's end.
+abbrev pub IsFrameAtEachBlockEnd : Type 0
+IsFrameAtEachBlockEnd = (frame message front rest : List ℕ) → Frame frame message → frame ≡ front ++ rest → front ≢ []
+    → ((begun : List ℕ) × Frame front begun) ↔ (missing front ≡ 0)
+
+-- Where a proper front of a shortest frame is itself a frame, its message is a proper beginning of the message.
+abbrev pub BeginsProperly : Type 0
+BeginsProperly = (frame message front rest begun : List ℕ) → Shortest frame message → frame ≡ front ++ rest → rest ≢ [] → Frame front begun
+    → (later : List ℕ) × (message ≡ begun ++ later) × (later ≢ [])
+
+-- Where a message's zeros and other bytes are, in order, among those of another, its shortest frame isn't longer.
+abbrev pub GrowsWithItsBytes : Type 0
+GrowsWithItsBytes = (a b : List ℕ) → Within a b → length (shortest_frame a) ≤ length (shortest_frame b)

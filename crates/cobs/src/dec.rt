@@ -1,15 +1,16 @@
 //! Decoding: byte by byte by a table, in streams into a buffer, and of whole sources.
-ghost use Rattle.std.specs.Prelude.{◌≡◌, ◌≢◌, ◌^◌, ℕ, ◌+◌, ◌-◌, ◌*◌, ◌/◌, ◌<◌, ◌≤◌, ◌↔◌, List, [], ◌∷◌, ◌++◌, length, take, drop, replicate, slice_index, true, false, IsTrue, IfOk, IfErr, OnOk, OnErr, IsOk, IsErr, MatchResult, IfSome, IfNone, IsSome, IsNone, ◌⊎◌};
+ghost use Rattle.std.specs.Prelude.{◌≡◌, ◌≢◌, ◌^◌, ℕ, ◌+◌, ◌-◌, ◌<◌, ◌≤◌, List, [], ◌∷◌, ◌++◌, length, take, drop, slice_index, true, replicate, IfOk, OnErr, MatchResult, IfSome, IsNone};
 ghost use Rattle.std.specs.Borrow.{sem};
-ghost use Rattle.cobs.specs.Frames.{Frame, part};
-ghost use Rattle.cobs.specs.Feeding.{by_code as state_by_code, told_by as byte_told_by, fed, next, placed, Taken};
+ghost use Rattle.cobs.specs.Frames.{Frame, part, part_from, after};
+ghost use Rattle.cobs.specs.Feeding.{by_code as state_by_code, told_by as byte_told_by, fed, next, stands_by, placed};
 ghost use Rattle.cobs.specs.Reports.{parsed_size, frame_size};
-ghost use Rattle.cobs.specs.InPlace.{stretch, in_place, in_place_length, overwritten};
+ghost use Rattle.cobs.specs.InPlace.{stretch, in_place, in_place_length, overwritten, written_over};
 ghost use Rattle.cobs.specs.Sentinel.{masked};
 ghost use Rattle.cobs.specs.Whole.{unpadded, frame_in, decoded_from, decoded_into, message_of_stretch, message_of_frame, Refuses};
 
 use crate::enc::mask;
 use arrayvec::ArrayVec;
+use memchr::memchr;
 use std::alloc::{AllocError, Global};
 use thiserror::Error;
 
@@ -46,7 +47,9 @@ pub enum DecodeError {
     /// The bytes are no frame.
     #[error("invalid frame after {decoded_bytes} bytes")]
     InvalidFrame {
-        /// How many bytes of a message they decided.
+        /// How many bytes of a message were decided: from `decode`, the in-place forms and those with a sentinel or into
+        /// a vector, all that the bytes decide; from `CobsDecoder`, `CobsDecoderOwned` and `CobsDecoderHeapless`, those of
+        /// them that had room; from `DecoderState::feed`, which keeps no count, always 0.
         decoded_bytes: usize,
     },
     /// A byte of the message has no room.
@@ -141,8 +144,8 @@ impl DecodeReport {
     }
 }
 
-/// What a decoding answers.
-pub type DecodingResult = Result<DecodeReport, DecodeError>;
+/// Another name of `DecodeReport`.
+pub type DecodingResult = DecodeReport;
 
 // The byte of the message that an answer tells.
 fn told_by(answer: Result<DecodeResult, DecodeError>) -> Option<u8>
@@ -157,23 +160,6 @@ fn told_by(answer: Result<DecodeResult, DecodeError>) -> Option<u8>
     }
 }
 
-// Takes in a byte of a frame. The byte of the message that it tells goes behind those before it, where there is room.
-// Answers how many there are now.
-fn take_in(state: &mut DecoderState, dest: &mut [u8], len: usize, byte: u8) -> usize
-    requires nonzero { 0 < byte }
-    requires countable { len + 1 < 2 ^ 64 }
-    ensures taken { (p : List ℕ) → Taken state.old len p → Taken state.new result (p ++ byte ∷ []) }
-    ensures dest { (p : List ℕ) → Taken state.old len p → dest.new ≡ placed p byte dest.old }
-{
-    let Some(told) = told_by(state.feed(byte)) else {
-        return len;
-    };
-    if len < dest.len() {
-        dest[len] = told;
-    }
-    len + 1
-}
-
 /// Decodes the bytes before the first zero, or all where there is none, over themselves.
 ///
 /// The message then stands in front. An empty buffer and one that begins with a zero give sizes 0 and 0; that zero
@@ -181,29 +167,27 @@ fn take_in(state: &mut DecoderState, dest: &mut [u8], len: usize, byte: u8) -> u
 ///
 /// Bytes that are no frame are `InvalidFrame`, with the length of the part of a message that they decide, which then
 /// stands in front.
-pub fn decode_in_place_report(buf: &mut [u8]) -> DecodingResult
+pub fn decode_in_place_report(buf: &mut [u8]) -> Result<DecodeReport, DecodeError>
     ensures answer { result ≡ in_place (stretch buf.old) }
     ensures frame { IfOk result (λ r. stretch buf.old ≢ [] → Frame (stretch buf.old) (take (frame_size r) buf.new)) }
     ensures no_frame { OnErr result ((m : List ℕ) → Frame (stretch buf.old) m → ⊥) }
     ensures buffer { buf.new ≡ overwritten (part (stretch buf.old)) buf.old }
     ensures rest { drop (length (stretch buf.old)) buf.new ≡ drop (length (stretch buf.old)) buf.old }
 {
-    let mut state = DecoderState::Idle;
+    let mut progress = Progress::new();
     let mut read: usize = 0;
-    let mut write: usize = 0;
     while read < buf.len() && buf[read] != 0 {
         let byte = buf[read];
-        write = take_in(&mut state, buf, write, byte);
+        let _ = progress.take_in(buf, byte);
         read += 1;
     }
+    let Progress { mut state, len } = progress;
     match state.feed(0) {
         Ok(_) => Ok(DecodeReport {
             parsed: read,
-            decoded: write,
+            decoded: len,
         }),
-        Err(_) => Err(DecodeError::InvalidFrame {
-            decoded_bytes: write,
-        }),
+        Err(_) => Err(DecodeError::InvalidFrame { decoded_bytes: len }),
     }
 }
 
@@ -243,84 +227,186 @@ pub enum DecodeVecError {
     OutOfMemory,
 }
 
-// How far a frame was taken in: how many bytes of its message stand in the buffer, and whether some had no room.
+// How far a frame was taken in, and how many bytes of its message were decided, also those that had no room.
 #[derive(Clone, Copy)]
 struct Progress {
     state: DecoderState,
     len: usize,
-    over: bool,
+}
+
+// How many bytes are copied at once: what lies behind the code of a full block among them is of that block.
+const WINDOW: usize = 254;
+
+// How many bytes are searched and copied by a loop, since a call costs more.
+const FEW: usize = 8;
+
+// How many bytes come before the first zero.
+#[inline(always)]
+fn before_zero(bytes: &[u8]) -> usize
+    ensures within { result ≤ length bytes.now }
+    ensures nonzero { (k : ℕ) → k < result → 0 < slice_index bytes.now k }
+{
+    if FEW <= bytes.len() {
+        return memchr(0, bytes).unwrap_or(bytes.len());
+    }
+    for (end, byte) in bytes.iter().enumerate() {
+        if *byte == 0 {
+            return end;
+        }
+    }
+    bytes.len()
+}
+
+// Copies bytes into a part that is as long.
+#[inline(always)]
+fn copy(bytes: &[u8], out: &mut [u8])
+    requires { length bytes.now ≡ length out.old }
+    ensures { out.new ≡ bytes.now }
+{
+    if FEW <= bytes.len() {
+        out.copy_from_slice(bytes);
+        return;
+    }
+    for (place, byte) in bytes.iter().enumerate() {
+        out[place] = *byte;
+    }
+}
+
+// Puts a zero for each code of bytes that were copied, where so many are left of a block. Answers where their last block
+// stands.
+#[inline(always)]
+fn put_zeros(bytes: &[u8], out: &mut [u8], left: u8) -> DecoderState
+    requires copied { out.old ≡ bytes.now }
+    requires short { length bytes.now ≤ 254 }
+    requires nonzero { (k : ℕ) → k < length bytes.now → 0 < slice_index bytes.now k }
+    ensures out { out.new ≡ part_from left true bytes.now }
+    ensures state { result ≡ stands_by (after left true bytes.now) }
+{
+    let mut at = left as usize;
+    while at < bytes.len() {
+        let code = bytes[at];
+        out[at] = 0;
+        if code == u8::MAX {
+            return DecoderState::GrabChain((255 + at - bytes.len()) as u8);
+        }
+        at += code as usize;
+    }
+    DecoderState::Grab((at - bytes.len()) as u8)
+}
+
+// Copies bytes of a frame, where so many are left of a block, and puts a zero for each code. Answers where their last block
+// stands.
+#[inline(always)]
+fn decode_window(bytes: &[u8], out: &mut [u8], left: u8) -> DecoderState
+    requires long { length bytes.now ≡ length out.old }
+    requires short { length bytes.now ≤ 254 }
+    requires nonzero { (k : ℕ) → k < length bytes.now → 0 < slice_index bytes.now k }
+    ensures out { out.new ≡ part_from left true bytes.now }
+    ensures state { result ≡ stands_by (after left true bytes.now) }
+{
+    copy(bytes, out);
+    put_zeros(bytes, out, left)
 }
 
 impl Progress {
-    ghost use Rattle.cobs.specs.Feeding.{answer_of, at_zero, at_byte, frame_after};
-    ghost use Rattle.cobs.specs.Streaming.{Stands, Decoded};
-    ghost use Rattle.cobs.specs.Pieces.{first_answer, frame_left, frame_met, buffer_left};
+    ghost use Rattle.cobs.specs.Feeding.{at_zero, at_byte};
+    ghost use Rattle.cobs.specs.Streaming.{Stands};
+    ghost use Rattle.cobs.specs.Taking.{TakesByte, TakesPiece, TakesFront};
 
     fn new() -> Progress
-        ensures { (room : ℕ) → Stands room result [] }
+        ensures { Stands result [] }
     {
         Progress {
             state: DecoderState::Idle,
             len: 0,
-            over: false,
         }
     }
 
     fn reset(&mut self)
-        ensures { (room : ℕ) → Stands room self.new [] }
+        ensures { Stands self.new [] }
     {
         *self = Progress::new();
     }
 
     // Takes in a byte of a frame.
+    #[inline(always)]
     fn take_in(&mut self, buffer: &mut [u8], byte: u8) -> Result<Option<usize>, DecodeError>
         requires { 0 < byte }
-        ensures stands { (p : List ℕ) → Stands (length buffer.old) self.old p → Stands (length buffer.old) self.new (p ++ byte ∷ []) }
-        ensures answer { (p : List ℕ) → Stands (length buffer.old) self.old p → result ≡ at_byte (length buffer.old) p byte }
-        ensures buffer { (p : List ℕ) → Stands (length buffer.old) self.old p → buffer.new ≡ placed p byte buffer.old }
+        ensures stands { (p : List ℕ) → Stands self.old p → Stands self.new (p ++ byte ∷ []) }
+        ensures answer { (p : List ℕ) → Stands self.old p → result ≡ at_byte (length buffer.old) p byte }
+        ensures buffer { (p : List ℕ) → Stands self.old p → buffer.new ≡ placed p byte buffer.old }
         ensures none { IfOk result IsNone }
     {
         let Some(told) = told_by(self.state.feed(byte)) else {
             return Ok(None);
         };
-        if self.len < buffer.len() {
-            buffer[self.len] = told;
-            self.len += 1;
+        let place = self.len;
+        self.len = place.saturating_add(1);
+        if place < buffer.len() {
+            buffer[place] = told;
             Ok(None)
         } else {
-            self.over = true;
             Err(DecodeError::TargetBufTooSmall)
         }
     }
 
+    // Takes in the next bytes at once, where they are of an open block and have room: up to a zero, or as many as a window
+    // may have. Answers how many.
+    #[inline(always)]
+    fn take_window(&mut self, buffer: &mut [u8], piece: &[u8]) -> usize
+        ensures within { result ≤ length piece.now }
+        ensures front { (p : List ℕ) → Stands self.old p → TakesFront p piece.now buffer.old result self.new buffer.new }
+    {
+        let len = self.len;
+        if buffer.len() <= len {
+            return 0;
+        }
+        let room = piece.len().min(buffer.len() - len);
+        match self.state {
+            DecoderState::Idle => 0,
+            DecoderState::Grab(left) => {
+                let n = before_zero(&piece[..room.min(WINDOW)]);
+                let bytes = &piece[..n];
+                self.state = decode_window(bytes, &mut buffer[len..len + n], left);
+                self.len = len + n;
+                n
+            }
+            DecoderState::GrabChain(left) => {
+                let n = before_zero(&piece[..room.min(left as usize)]);
+                copy(&piece[..n], &mut buffer[len..len + n]);
+                self.state = DecoderState::GrabChain(left - n as u8);
+                self.len = len + n;
+                n
+            }
+        }
+    }
+
     // Ends the frame at a zero.
+    #[inline(always)]
     fn end(&mut self, room: usize) -> Result<Option<usize>, DecodeError>
-        ensures stands { (r : ℕ) → Stands r self.new [] }
-        ensures answer { (p : List ℕ) → Stands room self.old p → result ≡ at_zero room p }
+        requires { room < 2 ^ 63 }
+        ensures stands { Stands self.new [] }
+        ensures answer { (p : List ℕ) → Stands self.old p → result ≡ at_zero room p }
         ensures within { IfOk result (λ o. IfSome o (λ n. n ≤ room)) }
     {
-        let Progress {
-            mut state,
-            len,
-            over,
-        } = *self;
+        let Progress { mut state, len } = *self;
         self.reset();
+        if let DecoderState::Idle = state {
+            return Ok(None);
+        }
         match state.feed(0) {
-            Ok(DecodeResult::NoData) => Ok(None),
-            Ok(_) if over => Err(DecodeError::TargetBufTooSmall),
-            Ok(_) => Ok(Some(len.min(room))),
-            Err(_) => Err(DecodeError::InvalidFrame { decoded_bytes: len }),
+            Err(_) => Err(DecodeError::InvalidFrame {
+                decoded_bytes: len.min(room),
+            }),
+            Ok(_) if room < len => Err(DecodeError::TargetBufTooSmall),
+            Ok(_) => Ok(Some(len)),
         }
     }
 
     // Takes in a byte of a frame, or the zero behind one.
+    #[inline(always)]
     fn feed(&mut self, buffer: &mut [u8], byte: u8) -> Result<Option<usize>, DecodeError>
-        ensures stands { (p : List ℕ) → Stands (length buffer.old) self.old p → Stands (length buffer.old) self.new (frame_after p byte) }
-        ensures answer { (p : List ℕ) → Stands (length buffer.old) self.old p → result ≡ answer_of (length buffer.old) p byte }
-        ensures buffer { (p : List ℕ) → Stands (length buffer.old) self.old p → buffer.new ≡ placed p byte buffer.old }
-        ensures decoded { (p : List ℕ) → Stands (length buffer.old) self.old p → Decoded buffer.old p → Decoded buffer.new (frame_after p byte) }
-        ensures message { (p : List ℕ) → Stands (length buffer.old) self.old p → Decoded buffer.old p → IfOk result (λ o. IfSome o (λ n. take n buffer.new ≡ part p)) }
-        ensures within { IfOk result (λ o. IfSome o (λ n. n ≤ length buffer.new)) }
+        ensures { TakesByte self.old buffer.old byte result self.new buffer.new }
     {
         if byte == 0 {
             self.end(buffer.len())
@@ -329,14 +415,44 @@ impl Progress {
         }
     }
 
-    // Feeds until the first answer.
-    fn push(&mut self, buffer: &mut [u8], piece: &[u8]) -> Result<Option<DecodeReport>, DecodeError>
-        ensures answer { (p : List ℕ) → Stands (length buffer.old) self.old p → result ≡ first_answer (length buffer.old) p piece.now 0 }
-        ensures stands { (p : List ℕ) → Stands (length buffer.old) self.old p → Stands (length buffer.old) self.new (frame_left (length buffer.old) p piece.now) }
-        ensures buffer { (p : List ℕ) → Stands (length buffer.old) self.old p → buffer.new ≡ buffer_left (length buffer.old) p piece.now buffer.old }
-        ensures decoded { (p : List ℕ) → Stands (length buffer.old) self.old p → Decoded buffer.old p → Decoded buffer.new (frame_left (length buffer.old) p piece.now) }
-        ensures message { (p : List ℕ) → Stands (length buffer.old) self.old p → Decoded buffer.old p → IfOk result (λ o. IfSome o (λ r. take (frame_size r) buffer.new ≡ part (frame_met (length buffer.old) p piece.now))) }
-        ensures within { IfOk result (λ o. IfSome o (λ r. (parsed_size r ≤ length piece.now) × (frame_size r ≤ length buffer.new))) }
+    // Takes in a piece up to the first answer: bytes of an open block by windows, and the others by themselves.
+    #[inline(never)]
+    fn push_windows(
+        &mut self,
+        buffer: &mut [u8],
+        piece: &[u8],
+    ) -> Result<Option<DecodeReport>, DecodeError>
+        ensures { TakesPiece self.old buffer.old piece.now result self.new buffer.new }
+    {
+        let mut at = 0;
+        while at < piece.len() {
+            let taken = self.take_window(buffer, &piece[at..]);
+            if 0 < taken {
+                at += taken;
+                continue;
+            }
+            match self.feed(buffer, piece[at]) {
+                Ok(None) => at += 1,
+                Ok(Some(len)) => {
+                    return Ok(Some(DecodeReport {
+                        parsed: at + 1,
+                        decoded: len,
+                    }));
+                }
+                Err(e) => return Err(e),
+            }
+        }
+        Ok(None)
+    }
+
+    // The same of a few bytes, where windows cost more.
+    #[inline(always)]
+    fn push_few(
+        &mut self,
+        buffer: &mut [u8],
+        piece: &[u8],
+    ) -> Result<Option<DecodeReport>, DecodeError>
+        ensures { TakesPiece self.old buffer.old piece.now result self.new buffer.new }
     {
         for (i, byte) in piece.iter().enumerate() {
             match self.feed(buffer, *byte) {
@@ -352,6 +468,25 @@ impl Progress {
         }
         Ok(None)
     }
+
+    // Takes in a piece up to the first answer.
+    fn push(&mut self, buffer: &mut [u8], piece: &[u8]) -> Result<Option<DecodeReport>, DecodeError>
+        ensures { TakesPiece self.old buffer.old piece.now result self.new buffer.new }
+    {
+        if piece.len() < FEW {
+            self.push_few(buffer, piece)
+        } else {
+            self.push_windows(buffer, piece)
+        }
+    }
+}
+
+// Writes bytes over those of a buffer, from a place on.
+fn write_over(buffer: &mut [u8], place: usize, bytes: &[u8])
+    requires { place + length bytes.now ≤ length buffer.old }
+    ensures { buffer.new ≡ written_over place bytes.now buffer.old }
+{
+    buffer[place..place + bytes.len()].copy_from_slice(bytes);
 }
 
 // The bytes before the first one that is the sentinel.
@@ -387,25 +522,24 @@ fn behind_zeros(bytes: &[u8]) -> &[u8]
 /// `EmptyFrame` where no byte is nonzero. `TargetBufTooSmall` where `dest` has no room for what the bytes decide, and
 /// else `InvalidFrame` where they are no frame. What they decide of a message is then in front of `dest`, as far as
 /// there is room.
-pub fn decode(source: &[u8], dest: &mut [u8]) -> DecodingResult
+pub fn decode(source: &[u8], dest: &mut [u8]) -> Result<DecodeReport, DecodeError>
     ensures answer { result ≡ decoded_from (length dest.old) source.now }
     ensures dest { dest.new ≡ overwritten (part (frame_in source.now)) dest.old }
 {
     let rest = behind_zeros(source);
-    let frame = before(rest, 0);
     let mut progress = Progress::new();
-    for byte in frame {
-        progress.take_in(dest, *byte)?;
+    if let Some(DecodeReport { parsed, decoded }) = progress.push(dest, rest)? {
+        return Ok(DecodeReport {
+            parsed: source.len() - rest.len() + parsed,
+            decoded,
+        });
     }
     match progress.end(dest.len())? {
         None => Err(DecodeError::EmptyFrame),
-        Some(decoded) => {
-            let ended = if frame.len() < rest.len() { 1 } else { 0 };
-            Ok(DecodeReport {
-                parsed: source.len() - rest.len() + frame.len() + ended,
-                decoded,
-            })
-        }
+        Some(decoded) => Ok(DecodeReport {
+            parsed: source.len(),
+            decoded,
+        }),
     }
 }
 
@@ -423,12 +557,12 @@ pub fn decode_with_sentinel(
     ensures answer { result ≡ decoded_into (length dest.old) (stretch (masked sentinel source.now)) }
     ensures dest { dest.new ≡ overwritten (part (stretch (masked sentinel source.now))) dest.old }
 {
-    let mut state = DecoderState::Idle;
-    let mut len: usize = 0;
+    let mut progress = Progress::new();
     let frame = before(source, sentinel);
     for byte in frame {
-        len = take_in(&mut state, dest, len, sentinel ^ *byte);
+        let _ = progress.take_in(dest, sentinel ^ *byte);
     }
+    let Progress { mut state, len } = progress;
     match state.feed(0) {
         Err(_) => Err(DecodeError::InvalidFrame { decoded_bytes: len }),
         Ok(_) if dest.len() < len => Err(DecodeError::TargetBufTooSmall),
@@ -498,10 +632,8 @@ pub struct CobsDecoder<'a> {
 }
 
 impl<'a> CobsDecoder<'a> {
-    ghost use Rattle.cobs.specs.Feeding.{answer_of, frame_after};
-    ghost use Rattle.cobs.specs.Streaming.{Decoded};
-    ghost use Rattle.cobs.specs.Decoder.{Has, buffer_of, lent_name, LendsBuffer};
-    ghost use Rattle.cobs.specs.Pieces.{first_answer, frame_left, frame_met, buffer_left};
+    ghost use Rattle.cobs.specs.Decoder.{Has, progress_of, buffer_of, lent_name, LendsBuffer};
+    ghost use Rattle.cobs.specs.Taking.{TakesByte, TakesPiece};
 
     /// A decoder between frames.
     pub fn new(dest: &'a mut [u8]) -> CobsDecoder<'a>
@@ -522,13 +654,7 @@ impl<'a> CobsDecoder<'a> {
     /// `InvalidFrame` at a zero inside a block, with how many bytes were decoded and had room. After every zero the
     /// decoder is between frames.
     pub fn feed(&mut self, data: u8) -> Result<Option<usize>, DecodeError>
-        ensures has { (p : List ℕ) → Has self.old p → Has self.new (frame_after p «data») }
-        ensures answer { (p : List ℕ) → Has self.old p → result ≡ answer_of (length (buffer_of self.old)) p «data» }
-        ensures buffer { (p : List ℕ) → Has self.old p → buffer_of self.new ≡ placed p «data» (buffer_of self.old) }
-        ensures decoded { (p : List ℕ) → Has self.old p → Decoded (buffer_of self.old) p → Decoded (buffer_of self.new) (frame_after p «data») }
-        ensures message { (p : List ℕ) → Has self.old p → Decoded (buffer_of self.old) p → IfOk result (λ o. IfSome o (λ n. take n (buffer_of self.new) ≡ part p)) }
-        ensures within { IfOk result (λ o. IfSome o (λ n. n ≤ length (buffer_of self.new))) }
-        ensures room { length (buffer_of self.new) ≡ length (buffer_of self.old) }
+        ensures takes { TakesByte (progress_of self.old) (buffer_of self.old) «data» result (progress_of self.new) (buffer_of self.new) }
         ensures lent { lent_name self.new ≡ lent_name self.old }
     {
         self.progress.feed(self.dest, data)
@@ -537,13 +663,7 @@ impl<'a> CobsDecoder<'a> {
     /// Takes in bytes up to the first answer that `feed` gives. `parsed_size` counts the bytes of this piece, the zero
     /// included. Where a byte is refused, the decoder stands behind it.
     pub fn push(&mut self, data: &[u8]) -> Result<Option<DecodeReport>, DecodeError>
-        ensures has { (p : List ℕ) → Has self.old p → Has self.new (frame_left (length (buffer_of self.old)) p «data».now) }
-        ensures answer { (p : List ℕ) → Has self.old p → result ≡ first_answer (length (buffer_of self.old)) p «data».now 0 }
-        ensures buffer { (p : List ℕ) → Has self.old p → buffer_of self.new ≡ buffer_left (length (buffer_of self.old)) p «data».now (buffer_of self.old) }
-        ensures decoded { (p : List ℕ) → Has self.old p → Decoded (buffer_of self.old) p → Decoded (buffer_of self.new) (frame_left (length (buffer_of self.old)) p «data».now) }
-        ensures message { (p : List ℕ) → Has self.old p → Decoded (buffer_of self.old) p → IfOk result (λ o. IfSome o (λ r. take (frame_size r) (buffer_of self.new) ≡ part (frame_met (length (buffer_of self.old)) p «data».now))) }
-        ensures within { IfOk result (λ o. IfSome o (λ r. (parsed_size r ≤ length «data».now) × (frame_size r ≤ length (buffer_of self.new)))) }
-        ensures room { length (buffer_of self.new) ≡ length (buffer_of self.old) }
+        ensures takes { TakesPiece (progress_of self.old) (buffer_of self.old) «data».now result (progress_of self.new) (buffer_of self.new) }
         ensures lent { lent_name self.new ≡ lent_name self.old }
     {
         self.progress.push(self.dest, data)
@@ -556,12 +676,25 @@ impl<'a> CobsDecoder<'a> {
         self.dest
     }
 
-    /// The buffer, to be written. The decoder goes on in its frame: what is written over bytes that were decoded stands in their place.
+    /// The buffer, to be written. The decoder goes on in its frame: what is written over bytes that were decoded stands in
+    /// their place. What the decoder is afterwards only a proof by hand can use; `overwrite` says it in plain clauses.
     pub fn dest_mut(&mut self) -> &mut [u8]
         ensures* lends { sem 𝓛 (LendsBuffer self.entry result) }
         ensures value { result.now ≡ buffer_of self.old }
     {
         &mut *self.dest
+    }
+
+    /// Writes bytes over those of the buffer, from a place on. The decoder goes on in its frame.
+    ///
+    /// The caller owes the room: `place + bytes.len()` is no more than the buffer's length.
+    pub fn overwrite(&mut self, place: usize, bytes: &[u8])
+        requires { place + length bytes.now ≤ length (buffer_of self.old) }
+        ensures buffer { buffer_of self.new ≡ written_over place bytes.now (buffer_of self.old) }
+        ensures progress { progress_of self.new ≡ progress_of self.old }
+        ensures lent { lent_name self.new ≡ lent_name self.old }
+    {
+        write_over(self.dest, place, bytes);
     }
 }
 
@@ -573,10 +706,8 @@ pub struct CobsDecoderOwned {
 }
 
 impl CobsDecoderOwned {
-    ghost use Rattle.cobs.specs.Feeding.{answer_of, frame_after};
-    ghost use Rattle.cobs.specs.Streaming.{Decoded};
-    ghost use Rattle.cobs.specs.Owners.{OwnedHas, owned_buffer, LendsOwnedBuffer};
-    ghost use Rattle.cobs.specs.Pieces.{first_answer, frame_left, frame_met, buffer_left};
+    ghost use Rattle.cobs.specs.Owners.{OwnedHas, owned_progress, owned_buffer, LendsOwnedBuffer};
+    ghost use Rattle.cobs.specs.Taking.{TakesByte, TakesPiece};
 
     /// An idle decoder over a buffer of `size` zeros.
     pub fn new(alloc: Global, size: usize) -> Result<CobsDecoderOwned, AllocError>
@@ -596,13 +727,7 @@ impl CobsDecoderOwned {
     /// `InvalidFrame` at a zero inside a block, with how many bytes were decoded and had room. After every zero the
     /// decoder is between frames.
     pub fn feed(&mut self, data: u8) -> Result<Option<usize>, DecodeError>
-        ensures has { (p : List ℕ) → OwnedHas self.old p → OwnedHas self.new (frame_after p «data») }
-        ensures answer { (p : List ℕ) → OwnedHas self.old p → result ≡ answer_of (length (owned_buffer self.old)) p «data» }
-        ensures buffer { (p : List ℕ) → OwnedHas self.old p → owned_buffer self.new ≡ placed p «data» (owned_buffer self.old) }
-        ensures decoded { (p : List ℕ) → OwnedHas self.old p → Decoded (owned_buffer self.old) p → Decoded (owned_buffer self.new) (frame_after p «data») }
-        ensures message { (p : List ℕ) → OwnedHas self.old p → Decoded (owned_buffer self.old) p → IfOk result (λ o. IfSome o (λ n. take n (owned_buffer self.new) ≡ part p)) }
-        ensures within { IfOk result (λ o. IfSome o (λ n. n ≤ length (owned_buffer self.new))) }
-        ensures room { length (owned_buffer self.new) ≡ length (owned_buffer self.old) }
+        ensures { TakesByte (owned_progress self.old) (owned_buffer self.old) «data» result (owned_progress self.new) (owned_buffer self.new) }
     {
         self.progress.feed(self.buffer.as_mut_slice(), data)
     }
@@ -610,13 +735,7 @@ impl CobsDecoderOwned {
     /// Takes in bytes up to the first answer that `feed` gives. `parsed_size` counts the bytes of this piece, the zero
     /// included. Where a byte is refused, the decoder stands behind it.
     pub fn push(&mut self, data: &[u8]) -> Result<Option<DecodeReport>, DecodeError>
-        ensures has { (p : List ℕ) → OwnedHas self.old p → OwnedHas self.new (frame_left (length (owned_buffer self.old)) p «data».now) }
-        ensures answer { (p : List ℕ) → OwnedHas self.old p → result ≡ first_answer (length (owned_buffer self.old)) p «data».now 0 }
-        ensures buffer { (p : List ℕ) → OwnedHas self.old p → owned_buffer self.new ≡ buffer_left (length (owned_buffer self.old)) p «data».now (owned_buffer self.old) }
-        ensures decoded { (p : List ℕ) → OwnedHas self.old p → Decoded (owned_buffer self.old) p → Decoded (owned_buffer self.new) (frame_left (length (owned_buffer self.old)) p «data».now) }
-        ensures message { (p : List ℕ) → OwnedHas self.old p → Decoded (owned_buffer self.old) p → IfOk result (λ o. IfSome o (λ r. take (frame_size r) (owned_buffer self.new) ≡ part (frame_met (length (owned_buffer self.old)) p «data».now))) }
-        ensures within { IfOk result (λ o. IfSome o (λ r. (parsed_size r ≤ length «data».now) × (frame_size r ≤ length (owned_buffer self.new)))) }
-        ensures room { length (owned_buffer self.new) ≡ length (owned_buffer self.old) }
+        ensures { TakesPiece (owned_progress self.old) (owned_buffer self.old) «data».now result (owned_progress self.new) (owned_buffer self.new) }
     {
         self.progress.push(self.buffer.as_mut_slice(), data)
     }
@@ -636,12 +755,24 @@ impl CobsDecoderOwned {
         self.buffer.as_slice()
     }
 
-    /// The buffer, to be written. The decoder goes on in its frame: what is written over bytes that were decoded stands in their place.
+    /// The buffer, to be written. The decoder goes on in its frame: what is written over bytes that were decoded stands in
+    /// their place. What the decoder is afterwards only a proof by hand can use; `overwrite` says it in plain clauses.
     pub fn dest_mut(&mut self) -> &mut [u8]
         ensures* lends { sem 𝓛 (LendsOwnedBuffer self.entry result) }
         ensures value { result.now ≡ owned_buffer self.old }
     {
         self.buffer.as_mut_slice()
+    }
+
+    /// Writes bytes over those of the buffer, from a place on. The decoder goes on in its frame.
+    ///
+    /// The caller owes the room: `place + bytes.len()` is no more than the buffer's length.
+    pub fn overwrite(&mut self, place: usize, bytes: &[u8])
+        requires { place + length bytes.now ≤ length (owned_buffer self.old) }
+        ensures buffer { owned_buffer self.new ≡ written_over place bytes.now (owned_buffer self.old) }
+        ensures progress { owned_progress self.new ≡ owned_progress self.old }
+    {
+        write_over(self.buffer.as_mut_slice(), place, bytes);
     }
 }
 
@@ -653,10 +784,8 @@ pub struct CobsDecoderHeapless<const N: usize> {
 }
 
 impl<const N: usize> CobsDecoderHeapless<N> {
-    ghost use Rattle.cobs.specs.Feeding.{answer_of, frame_after};
-    ghost use Rattle.cobs.specs.Streaming.{Decoded};
-    ghost use Rattle.cobs.specs.Arrays.{ArrayHas, array_buffer, LendsArrayBuffer};
-    ghost use Rattle.cobs.specs.Pieces.{first_answer, frame_left, frame_met, buffer_left};
+    ghost use Rattle.cobs.specs.Arrays.{ArrayHas, array_progress, array_buffer, LendsArrayBuffer};
+    ghost use Rattle.cobs.specs.Taking.{TakesByte, TakesPiece};
 
     /// An idle decoder over a buffer of zeros.
     pub fn new() -> CobsDecoderHeapless<N>
@@ -689,13 +818,7 @@ impl<const N: usize> CobsDecoderHeapless<N> {
     /// `InvalidFrame` at a zero inside a block, with how many bytes were decoded and had room. After every zero the
     /// decoder is between frames.
     pub fn feed(&mut self, data: u8) -> Result<Option<usize>, DecodeError>
-        ensures has { (p : List ℕ) → ArrayHas self.old p → ArrayHas self.new (frame_after p «data») }
-        ensures answer { (p : List ℕ) → ArrayHas self.old p → result ≡ answer_of (length (array_buffer self.old)) p «data» }
-        ensures buffer { (p : List ℕ) → ArrayHas self.old p → array_buffer self.new ≡ placed p «data» (array_buffer self.old) }
-        ensures decoded { (p : List ℕ) → ArrayHas self.old p → Decoded (array_buffer self.old) p → Decoded (array_buffer self.new) (frame_after p «data») }
-        ensures message { (p : List ℕ) → ArrayHas self.old p → Decoded (array_buffer self.old) p → IfOk result (λ o. IfSome o (λ n. take n (array_buffer self.new) ≡ part p)) }
-        ensures within { IfOk result (λ o. IfSome o (λ n. n ≤ length (array_buffer self.new))) }
-        ensures room { length (array_buffer self.new) ≡ length (array_buffer self.old) }
+        ensures { TakesByte (array_progress self.old) (array_buffer self.old) «data» result (array_progress self.new) (array_buffer self.new) }
     {
         self.progress.feed(self.array.as_mut_slice(), data)
     }
@@ -703,13 +826,7 @@ impl<const N: usize> CobsDecoderHeapless<N> {
     /// Takes in bytes up to the first answer that `feed` gives. `parsed_size` counts the bytes of this piece, the zero
     /// included. Where a byte is refused, the decoder stands behind it.
     pub fn push(&mut self, data: &[u8]) -> Result<Option<DecodeReport>, DecodeError>
-        ensures has { (p : List ℕ) → ArrayHas self.old p → ArrayHas self.new (frame_left (length (array_buffer self.old)) p «data».now) }
-        ensures answer { (p : List ℕ) → ArrayHas self.old p → result ≡ first_answer (length (array_buffer self.old)) p «data».now 0 }
-        ensures buffer { (p : List ℕ) → ArrayHas self.old p → array_buffer self.new ≡ buffer_left (length (array_buffer self.old)) p «data».now (array_buffer self.old) }
-        ensures decoded { (p : List ℕ) → ArrayHas self.old p → Decoded (array_buffer self.old) p → Decoded (array_buffer self.new) (frame_left (length (array_buffer self.old)) p «data».now) }
-        ensures message { (p : List ℕ) → ArrayHas self.old p → Decoded (array_buffer self.old) p → IfOk result (λ o. IfSome o (λ r. take (frame_size r) (array_buffer self.new) ≡ part (frame_met (length (array_buffer self.old)) p «data».now))) }
-        ensures within { IfOk result (λ o. IfSome o (λ r. (parsed_size r ≤ length «data».now) × (frame_size r ≤ length (array_buffer self.new)))) }
-        ensures room { length (array_buffer self.new) ≡ length (array_buffer self.old) }
+        ensures { TakesPiece (array_progress self.old) (array_buffer self.old) «data».now result (array_progress self.new) (array_buffer self.new) }
     {
         self.progress.push(self.array.as_mut_slice(), data)
     }
@@ -729,12 +846,24 @@ impl<const N: usize> CobsDecoderHeapless<N> {
         self.array.as_slice()
     }
 
-    /// The buffer, to be written. The decoder goes on in its frame: what is written over bytes that were decoded stands in their place.
+    /// The buffer, to be written. The decoder goes on in its frame: what is written over bytes that were decoded stands in
+    /// their place. What the decoder is afterwards only a proof by hand can use; `overwrite` says it in plain clauses.
     pub fn dest_mut(&mut self) -> &mut [u8]
         ensures* lends { sem 𝓛 (LendsArrayBuffer N.row self.entry result) }
         ensures value { result.now ≡ array_buffer self.old }
     {
         self.array.as_mut_slice()
+    }
+
+    /// Writes bytes over those of the buffer, from a place on. The decoder goes on in its frame.
+    ///
+    /// The caller owes the room: `place + bytes.len()` is no more than the buffer's length.
+    pub fn overwrite(&mut self, place: usize, bytes: &[u8])
+        requires { place + length bytes.now ≤ length (array_buffer self.old) }
+        ensures buffer { array_buffer self.new ≡ written_over place bytes.now (array_buffer self.old) }
+        ensures progress { array_progress self.new ≡ array_progress self.old }
+    {
+        write_over(self.array.as_mut_slice(), place, bytes);
     }
 }
 

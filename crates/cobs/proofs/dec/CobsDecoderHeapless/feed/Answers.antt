@@ -1,16 +1,9 @@
-use Rattle.std.proofs.Common.{◌≡◌, List, ℕ, length, take, refl, sym, ◌∙◌, ap, subst}
-use Rattle.std.specs.Prelude.{IfOk, IfSome}
-use Rattle.std.specs.List.{length_refill}
-use Rattle.cobs.specs.Frames.{part}
+use Rattle.std.proofs.Common.{List, ℕ, length, refl, sym, ◌∙◌, ap, subst}
+use Rattle.cobs.specs.Taking.{TakesByte}
 use Rattle.cobs.proofs.Wholes.{refilled}
 use Rattle.cobs.proofs.dec.CobsDecoderHeapless.feed.Goals as goal
 
-pub returns-clause-message : goal.returns-clause-message
-returns-clause-message g c = λ p s d.
+pub returns : goal.returns
+returns g c =
     let all = refilled (length c.args.self.now.array.items) c.args.self.now.array.items c.feed.new.buffer refl (c.feed.auto.buffer ∙ ap length c.as_mut_slice.ensures.value) in
-    subst (λ (b : List ℕ). IfOk c.feed.result (λ o. IfSome o (λ n. take n b ≡ part p))) (sym all) ((rw c.as_mut_slice.ensures.value at c.feed.ensures.message) p s d)
-
-pub returns-clause-has : goal.returns-clause-has
-returns-clause-has g c = λ p s.
-    let long = sym (length_refill (length c.args.self.now.array.items) c.args.self.now.array.items c.feed.new.buffer refl) in
-    rw long (rw c.as_mut_slice.ensures.value at (c.feed.ensures.stands p (rw c.as_mut_slice.ensures.value s)))
+    subst (λ (b : List ℕ). TakesByte c.args.self.now.progress c.args.self.now.array.items c.args.data c.feed.result c.feed.new.self b) (sym all) (rw c.as_mut_slice.ensures.value at c.feed.ensures)

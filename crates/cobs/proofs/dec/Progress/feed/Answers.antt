@@ -1,10 +1,11 @@
-use Rattle.std.proofs.Common.{arith}
-use Rattle.cobs.proofs.Feeds.{frame_byte}
-use Rattle.cobs.proofs.Messages.{decoded_next}
+use Rattle.std.proofs.Common.{◌≤◌, length, arith}
+use Rattle.cobs.proofs.Takes.{takes_zero, takes_nonzero, none_within}
 use Rattle.cobs.proofs.dec.Progress.feed.Goals as goal
 
-pub returns-else-byte-eq0-clause-stands : goal.returns-else-byte-eq0-clause-stands
-returns-else-byte-eq0-clause-stands c = λ p s. rw (frame_byte p c.args.byte (omega arith)) (c.take_in.ensures.stands p s)
+pub returns-then-byte-eq0 : goal.returns-then-byte-eq0
+returns-then-byte-eq0 c = takes_zero c.args.self.now c.args.buffer.now c.args.byte c.end.result c.end.new.self c.if-byte-eq0.true c.end.ensures.stands c.end.ensures.answer c.end.ensures.within
 
-pub returns-else-byte-eq0-clause-decoded : goal.returns-else-byte-eq0-clause-decoded
-returns-else-byte-eq0-clause-decoded c = λ p s d. rw (c.take_in.ensures.buffer p s) (decoded_next p c.args.byte c.args.buffer.now d)
+pub returns-else-byte-eq0 : goal.returns-else-byte-eq0
+returns-else-byte-eq0 c =
+    let e = c.take_in.ensures in
+    takes_nonzero c.args.self.now c.args.buffer.now c.args.byte c.take_in.result c.take_in.new.self c.take_in.new.buffer (omega arith) e.stands e.answer e.buffer (none_within c.take_in.result (λ n. n ≤ length c.take_in.new.buffer) e.none) c.take_in.auto.buffer

@@ -1,6 +1,7 @@
-use Rattle.std.proofs.Common.{◌≡◌, sym, ◌∙◌, ap, arith, Some, None}
+use Rattle.std.proofs.Common.{◌≡◌, ℕ, ◌+◌, ◌-◌, ◌^◌, min, List, [], ◌∷◌, ◌++◌, sym, ◌∙◌, ap, arith, Some, None}
 use Rattle.cobs.specs.Feeding.{told_by, fed}
-use Rattle.cobs.proofs.Feeds.{stays, goes_on, runs_over}
+use Rattle.cobs.specs.Streaming.{Stands}
+use Rattle.cobs.proofs.Feeds.{stays, counts, goes_on, runs_over}
 use Rattle.cobs.proofs.dec.Progress.take_in.Goals as goal
 use Rattle.cobs.proofs.dec.Progress.take_in.Goals.{In_default, In-Some}
 
@@ -16,18 +17,20 @@ returns-in_default-clause-stands c = λ p s. rw c.feed.ensures.state (stays c.ar
 pub returns-in_default-clause-answer : goal.returns-in_default-clause-answer
 returns-in_default-clause-answer c = λ p s. (stays c.args.buffer.now c.args.self.now p c.args.byte c.requires (omega (arith, c.ranges.byte.fits)) s (nothing c)).1
 
-pub returns-then-self-buffer-clause-stands : goal.returns-then-self-buffer-clause-stands
-returns-then-self-buffer-clause-stands c = λ p s.
-    rw c.feed.ensures.state (goes_on c.args.buffer.now c.args.self.now p c.args.byte c.requires (omega (arith, c.ranges.byte.fits)) s c.in-Some.told (something (goal.at.returns-then-self-buffer-clause-stands c).In-Some) c.if-self-buffer.true).0
+-- a byte that was told is counted
+counted : (c : In-Some) (p : List ℕ) → Stands c.args.self.now p → (n : ℕ) → n ≡ min (c.args.self.now.len + 1) (2 ^ 64 - 1) → Stands (record { state = c.feed.new.self; len = n }) (p ++ c.args.byte ∷ [])
+counted c p s n i = rw c.feed.ensures.state (counts c.args.buffer.now c.args.self.now p c.args.byte c.requires (omega (arith, c.ranges.byte.fits)) s c.in-Some.told (something c) n i)
 
-pub returns-then-self-buffer-clause-answer : goal.returns-then-self-buffer-clause-answer
-returns-then-self-buffer-clause-answer c = λ p s.
-    (goes_on c.args.buffer.now c.args.self.now p c.args.byte c.requires (omega (arith, c.ranges.byte.fits)) s c.in-Some.told (something (goal.at.returns-then-self-buffer-clause-answer c).In-Some) c.if-self-buffer.true).1
+pub returns-then-place-buffer-clause-stands : goal.returns-then-place-buffer-clause-stands
+returns-then-place-buffer-clause-stands c p s = counted (goal.at.returns-then-place-buffer-clause-stands c).In-Some p s _ c.saturating_add-self.ensures
 
-pub returns-else-self-buffer-clause-stands : goal.returns-else-self-buffer-clause-stands
-returns-else-self-buffer-clause-stands c = λ p s.
-    rw c.feed.ensures.state (runs_over c.args.buffer.now c.args.self.now p c.args.byte c.requires (omega (arith, c.ranges.byte.fits)) s c.in-Some.told (something (goal.at.returns-else-self-buffer-clause-stands c).In-Some) c.if-self-buffer.false).0
+pub returns-then-place-buffer-clause-answer : goal.returns-then-place-buffer-clause-answer
+returns-then-place-buffer-clause-answer c p s =
+    (goes_on c.args.buffer.now c.args.self.now p c.args.byte c.requires (omega (arith, c.ranges.byte.fits)) s c.in-Some.told (something (goal.at.returns-then-place-buffer-clause-answer c).In-Some) c.if-place-buffer.true (omega arith)).0
 
-pub returns-else-self-buffer-clause-answer : goal.returns-else-self-buffer-clause-answer
-returns-else-self-buffer-clause-answer c = λ p s.
-    (runs_over c.args.buffer.now c.args.self.now p c.args.byte c.requires (omega (arith, c.ranges.byte.fits)) s c.in-Some.told (something (goal.at.returns-else-self-buffer-clause-answer c).In-Some) c.if-self-buffer.false).1
+pub returns-else-place-buffer-clause-stands : goal.returns-else-place-buffer-clause-stands
+returns-else-place-buffer-clause-stands c p s = counted (goal.at.returns-else-place-buffer-clause-stands c).In-Some p s _ c.saturating_add-self.ensures
+
+pub returns-else-place-buffer-clause-answer : goal.returns-else-place-buffer-clause-answer
+returns-else-place-buffer-clause-answer c p s =
+    (runs_over c.args.buffer.now c.args.self.now p c.args.byte c.requires (omega (arith, c.ranges.byte.fits)) s c.in-Some.told (something (goal.at.returns-else-place-buffer-clause-answer c).In-Some) c.if-place-buffer.false).0

@@ -1,0 +1,17 @@
+use Rattle.std.proofs.Common.{arith}
+use Rattle.cobs.proofs.Lanes.{going_on, going_end}
+use Rattle.cobs.proofs.codes.put_codes_marked.Goals as goal
+
+pub loop-zeros-preserved : goal.loop-zeros-preserved
+loop-zeros-preserved c =
+    let f = c.lowest-n.ensures in
+    going_on _ _ _ _ _ _ _ _ _ c.requires.few f.set f.below f.others f.no_more c.loop-zeros.invariant
+
+pub returns : goal.returns
+returns c =
+    let going = c.loop-zeros.invariant in
+    record {
+      begins = omega (arith, going.begins, going.within);
+      later = going.later;
+      coding = going_end _ _ _ _ _ _ _ c.loop-zeros-test.false going;
+    }

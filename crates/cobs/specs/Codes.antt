@@ -1,0 +1,49 @@
+-- How the bytes of a piece are coded in the open block of a frame.
+use Rattle.std.specs.Prelude.{◌≡◌, ℕ, suc, ◌+◌, ◌<◌, ◌≤◌, List, ◌∷◌, ◌++◌, length, slice_index}
+use Rattle.std.specs.Int.{bit_at}
+use Rattle.cobs.specs.Frames.{shortest_frame, shortest_from}
+
+-- The buffer has closed blocks, a place for the code of the open run, that run, and then bytes that are still to be coded: with
+-- these the message is whole, and whatever follows it goes on behind them.
+pub record Coding (bytes : List ℕ) (code_at at : ℕ) (message rest : List ℕ) : Type 0 where
+  pub closed : List ℕ
+  pub code : ℕ
+  pub run : List ℕ
+  pub tail : List ℕ
+  pub spells : bytes ≡ closed ++ (code ∷ (run ++ (rest ++ tail)))
+  pub begins : code_at ≡ length closed
+  pub ends : at ≡ length closed + suc (length run)
+  pub short : length run + length rest ≤ 254
+  pub goes_on : (more : List ℕ) → shortest_frame (message ++ more) ≡ closed ++ shortest_from run (rest ++ more)
+
+-- The same where the bytes that are still to be coded aren't copied yet: they have room behind the open run.
+pub record Putting (bytes : List ℕ) (code_at at : ℕ) (message rest : List ℕ) : Type 0 where
+  pub closed : List ℕ
+  pub code : ℕ
+  pub run : List ℕ
+  pub tail : List ℕ
+  pub spells : bytes ≡ closed ++ (code ∷ (run ++ tail))
+  pub begins : code_at ≡ length closed
+  pub ends : at ≡ length closed + suc (length run)
+  pub short : length run + length rest ≤ 254
+  pub room : length rest ≤ length tail
+  pub goes_on : (more : List ℕ) → shortest_frame (message ++ more) ≡ closed ++ shortest_from run (rest ++ more)
+
+-- The bytes stand, from a place on, within the buffer and the open block.
+pub record InBlock (buffer : List ℕ) (code_at from : ℕ) (bytes : List ℕ) : Type 0 where
+  pub begins : code_at < from
+  pub within : from + length bytes ≤ length buffer
+  pub short : from + length bytes ≤ code_at + 255
+
+-- They are coded, and the code that is still to come goes to this place.
+pub record Coded (before : List ℕ) (code_at from : ℕ) (bytes buffer : List ℕ) (last : ℕ) : Type 0 where
+  pub begins : last < from + length bytes
+  pub later : code_at ≤ last
+  pub coding : (message more : List ℕ) → Coding before code_at from message (bytes ++ more) → Coding buffer last (from + length bytes) message more
+
+-- the bits that are set are the places, from one on, of the bytes that are zero
+pub record Marks (bits from : ℕ) (bytes : List ℕ) : Type 0 where
+  pub low : (k : ℕ) → bit_at bits k ≡ 1 → from ≤ k
+  pub high : (k : ℕ) → bit_at bits k ≡ 1 → k < length bytes
+  pub zeros : (k : ℕ) → bit_at bits k ≡ 1 → slice_index bytes k ≡ 0
+  pub all : (k : ℕ) → from ≤ k → k < length bytes → slice_index bytes k ≡ 0 → bit_at bits k ≡ 1
