@@ -46,7 +46,7 @@ pub struct LE<T: FixInt>(pub T);
 #[derive(Drop)]
 pub struct BE<T: FixInt>(pub T);
 
-/// Writes the lowest bytes of a number, the lowest first.
+// Writes the lowest bytes of a number, the lowest first.
 fn put_bytes(n: u128, out: &mut [u8])
     ensures { out.new ≡ little_endian (length out.old) n }
 {
@@ -57,7 +57,7 @@ fn put_bytes(n: u128, out: &mut [u8])
     }
 }
 
-/// The number of these bytes, the lowest first.
+// The number of these bytes, the lowest first.
 fn little_number(bytes: &[u8]) -> u128
     requires { length bytes.now ≤ 16 }
     ensures bytes { little_endian (length bytes.now) result ≡ bytes.now }
@@ -72,7 +72,7 @@ fn little_number(bytes: &[u8]) -> u128
     n
 }
 
-/// The number of these bytes, the highest first.
+// The number of these bytes, the highest first.
 fn big_number(bytes: &[u8]) -> u128
     requires { length bytes.now ≤ 16 }
     ensures bytes { big_endian (length bytes.now) result ≡ bytes.now }
