@@ -1,7 +1,8 @@
 //! Filling a slice.
-ghost use Rattle.std.specs.Prelude.{◌≡◌, ◌+◌, ◌<◌, ◌≤◌, ◌++◌, [], ◌∷◌, Some, IfOk, IsOk, OnOk, OnErr, IfErr, length};
+ghost use Rattle.std.specs.Prelude.{◌≡◌, ◌+◌, ◌≤◌, ◌++◌, [], ◌∷◌, Some, IfOk, IsOk, OnOk, OnErr, IfErr, length};
 ghost use Rattle.postcard_tree.specs.declared.error.Error.TheVariants.{SerializeBufferFull};
 
+use crate::memory::{Span, Writable};
 use crate::ser_flavors::{Flavor, IndexByte};
 use postcard_tree::{Error, Result};
 
@@ -10,9 +11,7 @@ use postcard_tree::{Error, Result};
 /// A push that doesn't fit is `SerializeBufferFull`, and nothing of it is written.
 #[derive(Drop)]
 pub struct Slice<'a> {
-    room: &'a mut [u8],
-    count: usize,
-    pub ghost within: { count ≤ length room.now },
+    span: Span<'a, Writable>,
 }
 
 impl<'a> Slice<'a> {
@@ -24,7 +23,9 @@ impl<'a> Slice<'a> {
         ensures room { room_of result ≡ length room.entry.now }
         ensures same_reference { lent_as result ≡ room.entry.ghost_name }
     {
-        Slice { room, count: 0 }
+        Slice {
+            span: Span::new(room),
+        }
     }
 }
 
@@ -62,38 +63,35 @@ impl<'a> Flavor for Slice<'a> {
 
     fn try_extend(&mut self, bytes: &[u8]) -> Result<()>
         ensures ok { OnOk result ((held_of self.new ≡ held_of self.old ++ bytes.now) × SameRoom self.old self.new) }
-        ensures err { IfErr result (λ e. Exceeds (room_of self.old) SerializeBufferFull (held_of self.old) bytes.now e (held_of self.new) × SameRoom self.old self.new) }
+        ensures err { IfErr result (λ e. Exceeds (room_of self.old) SerializeBufferFull (held_of self.old) bytes.now e
+            (held_of self.new) × SameRoom self.old self.new) }
         ensures same { SameRoom self.old self.new }
         ensures unchanged { OnErr result (self.new ≡ self.old) }
     {
-        let count = self.count;
-        if self.room.len() - count < bytes.len() {
+        if self.span.remaining() < bytes.len() {
             return Err(Error::SerializeBufferFull);
         }
-        let end = count + bytes.len();
-        self.room[count..end].copy_from_slice(bytes);
-        self.count = end;
+        self.span.push_slice(bytes);
         Ok(())
     }
 
     fn try_push(&mut self, byte: u8) -> Result<()>
         ensures ok { OnOk result ((held_of self.new ≡ held_of self.old ++ byte ∷ []) × SameRoom self.old self.new) }
-        ensures err { IfErr result (λ e. Exceeds (room_of self.old) SerializeBufferFull (held_of self.old) (byte ∷ []) e (held_of self.new) × SameRoom self.old self.new) }
+        ensures err { IfErr result (λ e. Exceeds (room_of self.old) SerializeBufferFull (held_of self.old) (byte ∷ []) e
+            (held_of self.new) × SameRoom self.old self.new) }
         ensures same { SameRoom self.old self.new }
         ensures unchanged { OnErr result (self.new ≡ self.old) }
     {
-        let count = self.count;
-        if count == self.room.len() {
+        if self.span.remaining() == 0 {
             return Err(Error::SerializeBufferFull);
         }
-        self.room[count] = byte;
-        self.count = count + 1;
+        self.span.push(byte);
         Ok(())
     }
 
     fn finalize(self) -> Result<&'a mut [u8]> {
-        let Slice { room, count } = self;
-        Ok(&mut room[..count])
+        let Slice { span } = self;
+        Ok(span.into_behind())
     }
 }
 
@@ -114,14 +112,14 @@ impl<'a> IndexByte for Slice<'a> {
     } };
 
     fn held(&self) -> usize {
-        self.count
+        self.span.count()
     }
 
     fn byte(&self, index: usize) -> u8 {
-        self.room[index]
+        self.span.byte(index)
     }
 
     fn set_byte(&mut self, index: usize, byte: u8) {
-        self.room[index] = byte;
+        self.span.set_byte(index, byte);
     }
 }
