@@ -1,5 +1,6 @@
 -- What contracts see of a reader as a source.
 use Rattle.std.specs.Prelude.{ℕ, ◌&&◌, nat_lt, suc, List, length, Bool, true, false, Option, Some, None}
+use Rattle.postcard_ser.specs.Span.{ahead_of}
 use Rattle.postcard_de.specs.declared.de_flavors.io.IOReader.{IOReader}
 use Rattle.postcard_de.specs.Source.{SourceState}
 
@@ -18,7 +19,7 @@ reader_of f = f.reader
 
 -- how many bytes of the buffer are left
 abbrev pub room_of : {R : Type 0} → IOReader R → ℕ
-room_of f = length f.buffer.rest.now
+room_of f = length (ahead_of f.buffer.span)
 
 -- how many bytes it can give at most
 abbrev pub limit_of : {R : Type 0} → IOReader R → ℕ
@@ -29,4 +30,4 @@ abbrev pub failed_of : {R : Type 0} → IOReader R → Bool
 failed_of f = f.failed
 
 abbrev pub reader_source : {R : Type 0} → (R → Option (List ℕ)) → IOReader R → SourceState
-reader_source remaining f = reader_state (remaining f.reader) f.failed (length f.buffer.rest.now) f.limit
+reader_source remaining f = reader_state (remaining f.reader) f.failed (length (ahead_of f.buffer.span)) f.limit

@@ -38,7 +38,8 @@ impl<T: DeserializeOwned> DeserializeOwned for Option<T> {
 fn read_result<W: Reads<T, F> + Reads<E, F>, T: Readable + Drop, E: Readable + Drop, F: Flavor>(
     d: &mut Deserializer<F>,
 ) -> Result<std::result::Result<T, E>>
-    ensures { OutcomeOf F.source d.old d.new result (Spelled (ReadsVariant (ReadsResult T.reads E.reads))) (RefusesVariant (RefusesResult T.refuses E.refuses)) (T.growing || E.growing) }
+    ensures { OutcomeOf F.source d.old d.new result (Spelled (ReadsVariant (ReadsResult T.reads E.reads)))
+        (RefusesVariant (RefusesResult T.refuses E.refuses)) (T.growing || E.growing) }
 {
     match d.deserialize_enum()? {
         0 => {
@@ -95,7 +96,8 @@ impl<T: DeserializeOwned> DeserializeOwned for Box<T> {
 fn read_vec<W: Reads<T, F>, T: Readable + Drop, F: Flavor>(
     d: &mut Deserializer<F>,
 ) -> Result<Vec<T>>
-    ensures { OutcomeOf F.source d.old d.new result (Spelled (λ t v. ReadsSequence T.reads t v.items)) (RefusesSequence T.takes T.refuses) true }
+    ensures { OutcomeOf F.source d.old d.new result (Spelled (λ t v. ReadsSequence T.reads t v.items))
+        (RefusesSequence T.takes T.refuses) true }
 {
     let count = d.deserialize_u64()?;
     let mut items = Vec::new(d.allocator());
@@ -124,7 +126,8 @@ impl<T: DeserializeOwned> DeserializeOwned for Vec<T> {
 fn read_array_vec<W: Reads<T, F>, T: Readable + Drop + Default, F: Flavor, const N: usize>(
     d: &mut Deserializer<F>,
 ) -> Result<ArrayVec<T, N>>
-    ensures { OutcomeOf F.source d.old d.new result (Spelled (λ t v. ReadsUpTo N T.reads t v.items)) (RefusesUpTo N T.takes T.refuses) T.growing }
+    ensures { OutcomeOf F.source d.old d.new result (Spelled (λ t v. ReadsUpTo N T.reads t v.items))
+        (RefusesUpTo N T.takes T.refuses) T.growing }
 {
     let count = d.deserialize_u64()?;
     let mut items = ArrayVec::new();
@@ -154,7 +157,8 @@ impl<T: DeserializeOwned + Default, const N: usize> DeserializeOwned for ArrayVe
 fn read_array<W: Reads<T, F>, T: Readable + Drop + Default, F: Flavor, const N: usize>(
     d: &mut Deserializer<F>,
 ) -> Result<[T; N]>
-    ensures { OutcomeOf F.source d.old d.new result (Spelled (λ t v. ReadsArray N T.reads t v)) (RefusesEach T.takes T.refuses N) T.growing }
+    ensures { OutcomeOf F.source d.old d.new result (Spelled (λ t v. ReadsArray N T.reads t v))
+        (RefusesEach T.takes T.refuses N) T.growing }
 {
     let mut items: [T; N] = Default::default();
     for i in 0..N {
@@ -180,7 +184,8 @@ impl<T: DeserializeOwned + Default, const N: usize> DeserializeOwned for [T; N] 
 fn read_map<W: Reads<K, F> + Reads<V, F>, K: Readable + Ord + Drop, V: Readable + Drop, F: Flavor>(
     d: &mut Deserializer<F>,
 ) -> Result<BTreeMap<K, V>>
-    ensures { OutcomeOf F.source d.old d.new result (Spelled (λ t m. ReadsMap K.reads V.reads K.cmp t m.entries)) (RefusesSequence (TakesPair K.takes V.takes) (RefusesPair K.takes K.refuses V.takes V.refuses)) true }
+    ensures { OutcomeOf F.source d.old d.new result (Spelled (λ t m. ReadsMap K.reads V.reads K.cmp t m.entries))
+        (RefusesSequence (TakesPair K.takes V.takes) (RefusesPair K.takes K.refuses V.takes V.refuses)) true }
 {
     let count = d.deserialize_u64()?;
     let mut entries = BTreeMap::new(d.allocator());

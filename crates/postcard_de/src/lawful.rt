@@ -101,7 +101,8 @@ impl<const N: usize> Lawful for ArrayString<N> {
 }
 
 impl<'a> Lawful for &'a [u8] {
-    ghost reads_back = { λ v t h e. sequence_reads_back (λ n. n < 2 ^ 8) (λ n. Some (byte n)) ReadsByte (λ n u l k. byte_reads_back n u k) v.now t h.0 h.1 e };
+    ghost reads_back = { λ v t h e. sequence_reads_back (λ n. n < 2 ^ 8) (λ n. Some (byte n)) ReadsByte
+        (λ n u l k. byte_reads_back n u k) v.now t h.0 h.1 e };
 }
 
 impl<T: Lawful> Lawful for Option<T> {
@@ -133,26 +134,48 @@ impl<K: Lawful + Ord, V: Lawful> Lawful for BTreeMap<K, V> {
 }
 
 impl<A: Lawful> Lawful for (A,) {
-    ghost reads_back = { λ v t h e. group_back (A.writes v.0 ∷ []) (field_back (A.writes v.0) [] (λ u k. A.reads_back v.0 u h k) no_fields_back) t e };
+    ghost reads_back = { λ v t h e. group_back (A.writes v.0 ∷ [])
+        (field_back (A.writes v.0) [] (λ u k. A.reads_back v.0 u h k) no_fields_back) t e };
 }
 
 impl<A: Lawful, B: Lawful> Lawful for (A, B) {
-    ghost reads_back = { λ v t h e. group_back (A.writes v.0 ∷ B.writes v.1 ∷ []) (field_back (A.writes v.0) (B.writes v.1 ∷ []) (λ u k. A.reads_back v.0 u h.0 k) (field_back (B.writes v.1) [] (λ u k. B.reads_back v.1 u h.1 k) no_fields_back)) t e };
+    ghost reads_back = { λ v t h e. group_back (A.writes v.0 ∷ B.writes v.1 ∷ [])
+        (field_back (A.writes v.0) (B.writes v.1 ∷ []) (λ u k. A.reads_back v.0 u h.0 k)
+        (field_back (B.writes v.1) [] (λ u k. B.reads_back v.1 u h.1 k) no_fields_back)) t e };
 }
 
 impl<A: Lawful, B: Lawful, C: Lawful> Lawful for (A, B, C) {
-    ghost reads_back = { λ v t h e. group_back (A.writes v.0 ∷ B.writes v.1 ∷ C.writes v.2 ∷ []) (field_back (A.writes v.0) (B.writes v.1 ∷ C.writes v.2 ∷ []) (λ u k. A.reads_back v.0 u h.0 k) (field_back (B.writes v.1) (C.writes v.2 ∷ []) (λ u k. B.reads_back v.1 u h.1 k) (field_back (C.writes v.2) [] (λ u k. C.reads_back v.2 u h.2 k) no_fields_back))) t e };
+    ghost reads_back = { λ v t h e. group_back (A.writes v.0 ∷ B.writes v.1 ∷ C.writes v.2 ∷ [])
+        (field_back (A.writes v.0) (B.writes v.1 ∷ C.writes v.2 ∷ []) (λ u k. A.reads_back v.0 u h.0 k)
+        (field_back (B.writes v.1) (C.writes v.2 ∷ []) (λ u k. B.reads_back v.1 u h.1 k)
+        (field_back (C.writes v.2) [] (λ u k. C.reads_back v.2 u h.2 k) no_fields_back))) t e };
 }
 
 impl<A: Lawful, B: Lawful, C: Lawful, D: Lawful> Lawful for (A, B, C, D) {
-    ghost reads_back = { λ v t h e. group_back (A.writes v.0 ∷ B.writes v.1 ∷ C.writes v.2 ∷ D.writes v.3 ∷ []) (field_back (A.writes v.0) (B.writes v.1 ∷ C.writes v.2 ∷ D.writes v.3 ∷ []) (λ u k. A.reads_back v.0 u h.0 k) (field_back (B.writes v.1) (C.writes v.2 ∷ D.writes v.3 ∷ []) (λ u k. B.reads_back v.1 u h.1 k) (field_back (C.writes v.2) (D.writes v.3 ∷ []) (λ u k. C.reads_back v.2 u h.2 k) (field_back (D.writes v.3) [] (λ u k. D.reads_back v.3 u h.3 k) no_fields_back)))) t e };
+    ghost reads_back = { λ v t h e. group_back (A.writes v.0 ∷ B.writes v.1 ∷ C.writes v.2 ∷ D.writes v.3 ∷ [])
+        (field_back (A.writes v.0) (B.writes v.1 ∷ C.writes v.2 ∷ D.writes v.3 ∷ []) (λ u k. A.reads_back v.0 u h.0 k)
+        (field_back (B.writes v.1) (C.writes v.2 ∷ D.writes v.3 ∷ []) (λ u k. B.reads_back v.1 u h.1 k)
+        (field_back (C.writes v.2) (D.writes v.3 ∷ []) (λ u k. C.reads_back v.2 u h.2 k)
+        (field_back (D.writes v.3) [] (λ u k. D.reads_back v.3 u h.3 k) no_fields_back)))) t e };
 }
 
 impl<A: Lawful, B: Lawful, C: Lawful, D: Lawful, E: Lawful> Lawful for (A, B, C, D, E) {
-    ghost reads_back = { λ v t h e. group_back (A.writes v.0 ∷ B.writes v.1 ∷ C.writes v.2 ∷ D.writes v.3 ∷ E.writes v.4 ∷ []) (field_back (A.writes v.0) (B.writes v.1 ∷ C.writes v.2 ∷ D.writes v.3 ∷ E.writes v.4 ∷ []) (λ u k. A.reads_back v.0 u h.0 k) (field_back (B.writes v.1) (C.writes v.2 ∷ D.writes v.3 ∷ E.writes v.4 ∷ []) (λ u k. B.reads_back v.1 u h.1 k) (field_back (C.writes v.2) (D.writes v.3 ∷ E.writes v.4 ∷ []) (λ u k. C.reads_back v.2 u h.2 k) (field_back (D.writes v.3) (E.writes v.4 ∷ []) (λ u k. D.reads_back v.3 u h.3 k) (field_back (E.writes v.4) [] (λ u k. E.reads_back v.4 u h.4 k) no_fields_back))))) t e };
+    ghost reads_back = { λ v t h e. group_back (A.writes v.0 ∷ B.writes v.1 ∷ C.writes v.2 ∷ D.writes v.3 ∷ E.writes v.4
+        ∷ []) (field_back (A.writes v.0) (B.writes v.1 ∷ C.writes v.2 ∷ D.writes v.3 ∷ E.writes v.4 ∷ [])
+        (λ u k. A.reads_back v.0 u h.0 k) (field_back (B.writes v.1) (C.writes v.2 ∷ D.writes v.3 ∷ E.writes v.4 ∷ [])
+        (λ u k. B.reads_back v.1 u h.1 k) (field_back (C.writes v.2) (D.writes v.3 ∷ E.writes v.4 ∷ [])
+        (λ u k. C.reads_back v.2 u h.2 k) (field_back (D.writes v.3) (E.writes v.4 ∷ []) (λ u k. D.reads_back v.3 u h.3 k)
+        (field_back (E.writes v.4) [] (λ u k. E.reads_back v.4 u h.4 k) no_fields_back))))) t e };
 }
 
 impl<A: Lawful, B: Lawful, C: Lawful, D: Lawful, E: Lawful, G: Lawful> Lawful
     for (A, B, C, D, E, G) {
-    ghost reads_back = { λ v t h e. group_back (A.writes v.0 ∷ B.writes v.1 ∷ C.writes v.2 ∷ D.writes v.3 ∷ E.writes v.4 ∷ G.writes v.5 ∷ []) (field_back (A.writes v.0) (B.writes v.1 ∷ C.writes v.2 ∷ D.writes v.3 ∷ E.writes v.4 ∷ G.writes v.5 ∷ []) (λ u k. A.reads_back v.0 u h.0 k) (field_back (B.writes v.1) (C.writes v.2 ∷ D.writes v.3 ∷ E.writes v.4 ∷ G.writes v.5 ∷ []) (λ u k. B.reads_back v.1 u h.1 k) (field_back (C.writes v.2) (D.writes v.3 ∷ E.writes v.4 ∷ G.writes v.5 ∷ []) (λ u k. C.reads_back v.2 u h.2 k) (field_back (D.writes v.3) (E.writes v.4 ∷ G.writes v.5 ∷ []) (λ u k. D.reads_back v.3 u h.3 k) (field_back (E.writes v.4) (G.writes v.5 ∷ []) (λ u k. E.reads_back v.4 u h.4 k) (field_back (G.writes v.5) [] (λ u k. G.reads_back v.5 u h.5 k) no_fields_back)))))) t e };
+    ghost reads_back = { λ v t h e. group_back (A.writes v.0 ∷ B.writes v.1 ∷ C.writes v.2 ∷ D.writes v.3 ∷ E.writes v.4
+        ∷ G.writes v.5 ∷ []) (field_back (A.writes v.0) (B.writes v.1 ∷ C.writes v.2 ∷ D.writes v.3 ∷ E.writes v.4
+        ∷ G.writes v.5 ∷ []) (λ u k. A.reads_back v.0 u h.0 k)
+        (field_back (B.writes v.1) (C.writes v.2 ∷ D.writes v.3 ∷ E.writes v.4 ∷ G.writes v.5 ∷ [])
+        (λ u k. B.reads_back v.1 u h.1 k) (field_back (C.writes v.2) (D.writes v.3 ∷ E.writes v.4 ∷ G.writes v.5 ∷ [])
+        (λ u k. C.reads_back v.2 u h.2 k) (field_back (D.writes v.3) (E.writes v.4 ∷ G.writes v.5 ∷ [])
+        (λ u k. D.reads_back v.3 u h.3 k) (field_back (E.writes v.4) (G.writes v.5 ∷ []) (λ u k. E.reads_back v.4 u h.4 k)
+        (field_back (G.writes v.5) [] (λ u k. G.reads_back v.5 u h.5 k) no_fields_back)))))) t e };
 }

@@ -1,42 +1,49 @@
 //! A reader as a source.
-ghost use Rattle.std.specs.Prelude.{◌≡◌, ℕ, ◌+◌, ◌-◌, ◌^◌, ◌<◌, ◌≤◌, List, false, Option, Some, None, Result, IfErr, IsErr, IsOkAnd, OnOk, length, take};
-ghost use Rattle.std.specs.Borrow.{sem};
-ghost use Rattle.std.specs.Io.BufRead.{Rests};
+ghost use Rattle.std.specs.Prelude.{◌≡◌, ◌⊎◌, ℕ, ◌+◌, ◌-◌, ◌^◌, ◌<◌, ◌≤◌, List, false, Option, None, Result, IfErr, IsErr, IsOkAnd, OnOk, length, take};
 ghost use Rattle.std.specs.Io.KnownBytes.{Consumes, IsAtEnd};
 ghost use Rattle.postcard_tree.specs.declared.error.Error.{Error};
 ghost use Rattle.postcard_tree.specs.declared.error.Error.TheVariants.{DeserializeUnexpectedEnd};
 ghost use Rattle.postcard_tree.specs.Reading.{IsShort};
-ghost use Rattle.postcard_de.specs.Source.{SourceState, Outcome, GivesByte, GivesBytes};
-ghost use Rattle.postcard_de.specs.Reader.{reader_state, reader_source, reader_of, room_of, limit_of, failed_of};
+ghost use Rattle.postcard_ser.specs.Span.{ahead_of};
+ghost use Rattle.postcard_de.specs.Source.{Outcome, GivesByte, GivesBytes};
+ghost use Rattle.postcard_de.specs.Reader.{reader_source, reader_of, room_of, limit_of, failed_of};
 
 use crate::de_flavors::Flavor;
+use postcard_ser::memory::{Span, Writable};
 use postcard_tree::{Error, Result};
 use std::io::{ErrorKind, Read};
 
 // A buffer that gives its front away.
 #[derive(Drop)]
 struct SlidingBuffer<'de> {
-    rest: &'de mut [u8],
+    span: Span<'de, Writable>,
 }
 
 impl<'de> SlidingBuffer<'de> {
+    // How many bytes are left.
+    fn remaining(&self) -> usize
+        ensures { result ≡ length (ahead_of self.now.span) }
+    {
+        self.span.remaining()
+    }
+
     // The first `ct` bytes for the call.
     fn front(&self, ct: usize) -> &[u8]
-        requires { ct ≤ length self.now.rest.now }
-        ensures { result.now ≡ take ct self.now.rest.now }
+        requires { ct ≤ length (ahead_of self.now.span) }
+        ensures { result.now ≡ take ct (ahead_of self.now.span) }
     {
-        &self.rest[..ct]
+        self.span.front(ct)
     }
 
     // The first `ct` bytes for good.
     fn take_n(&mut self, ct: usize) -> &'de mut [u8]
-        requires { ct ≤ length self.old.rest.now }
+        requires { ct ≤ length (ahead_of self.old.span) }
         ensures front { length result.now ≡ ct }
-        ensures rest { length self.old.rest.now ≡ ct + length self.new.rest.now }
+        ensures rest { length (ahead_of self.old.span) ≡ ct + length (ahead_of self.new.span) }
     {
-        let rest = std::mem::take(&mut self.rest);
-        let (front, rest) = rest.split_at_mut(ct);
-        self.rest = rest;
+        let span = std::mem::replace(&mut self.span, Span::new(&mut []));
+        let (front, rest) = span.split_front(ct);
+        self.span = rest;
         front
     }
 }
@@ -56,7 +63,8 @@ enum Filled {
 fn fill<R: Read>(reader: &mut R, buf: &mut [u8]) -> Filled
     ensures full { result ≡ Filled.Full → Consumes (R.remaining reader.old) (R.remaining reader.new) buf.new }
     ensures ended { result ≡ Filled.Ended → IsAtEnd (R.remaining reader.new) }
-    ensures part { (s : List ℕ) × Consumes (R.remaining reader.old) (R.remaining reader.new) s × (length s ≤ length buf.new) × (result ≡ Filled.Ended → length s < length buf.new) }
+    ensures part { (s : List ℕ) × Consumes (R.remaining reader.old) (R.remaining reader.new) s × (length s ≤ length buf.new)
+        × (result ≡ Filled.Ended → length s < length buf.new) }
 {
     let mut at = 0;
     for _ in 0..u64::MAX {
@@ -101,7 +109,9 @@ impl<'de, R: Read> IOReader<'de, R> {
     {
         IOReader {
             reader,
-            buffer: SlidingBuffer { rest: buffer },
+            buffer: SlidingBuffer {
+                span: Span::new(buffer),
+            },
             limit: u64::MAX,
             failed: false,
         }
@@ -109,6 +119,8 @@ impl<'de, R: Read> IOReader<'de, R> {
 }
 
 impl<'de, R: Read> Flavor for IOReader<'de, R> {
+    ghost use Rattle.std.proofs.Common.{refl, ◌∙◌};
+
     type Taken = &'de [u8];
 
     type Remainder = (R, &'de mut [u8]);
@@ -123,10 +135,15 @@ impl<'de, R: Read> Flavor for IOReader<'de, R> {
 
     ghost keeps = { λ f n. room_of n ≡ room_of f };
 
+    ghost spares = { λ f ct n. (room_of f < ct) ⊎ (limit_of f < ct) → n ≡ f };
+
     ghost finishes = { λ f r. IsOkAnd r (λ p. (p.0 ≡ reader_of f) × (length p.1.now ≡ room_of f)) };
 
+    ghost laws = { record { same = λ f. refl; after = λ f g h p q. q ∙ p } };
+
     fn pop(&mut self) -> Result<u8>
-        ensures reads { Outcome (reader_source (λ r. R.remaining r) self.old) (reader_source (λ r. R.remaining r) self.new) result GivesByte (IsShort 1) false }
+        ensures reads { Outcome (reader_source (λ r. R.remaining r) self.old)
+            (reader_source (λ r. R.remaining r) self.new) result GivesByte (IsShort 1) false }
         ensures keeps { room_of self.new ≡ room_of self.old }
         ensures limit { limit_of self.new ≡ limit_of self.old - 1 }
         ensures refused { IfErr result (λ e. e ≡ DeserializeUnexpectedEnd) }
@@ -151,14 +168,16 @@ impl<'de, R: Read> Flavor for IOReader<'de, R> {
     }
 
     fn try_take_n(&mut self, ct: usize) -> Result<&'de [u8]>
-        ensures reads { Outcome (reader_source (λ r. R.remaining r) self.old) (reader_source (λ r. R.remaining r) self.new) result (GivesBytes (λ r. r.now) ct) (IsShort ct) false }
+        ensures reads { Outcome (reader_source (λ r. R.remaining r) self.old)
+            (reader_source (λ r. R.remaining r) self.new) result (GivesBytes (λ r. r.now) ct) (IsShort ct) false }
         ensures refused { IfErr result (λ e. e ≡ DeserializeUnexpectedEnd) }
         ensures room { OnOk result (room_of self.old ≡ room_of self.new + ct) }
-        ensures used { ct ≤ room_of self.old → ct ≤ limit_of self.old → (room_of self.old ≡ room_of self.new + ct) × (limit_of self.old ≡ limit_of self.new + ct) }
-        ensures too_small { room_of self.old < ct → IsErr result × (reader_of self.new ≡ reader_of self.old) × (room_of self.new ≡ room_of self.old) × (limit_of self.new ≡ limit_of self.old) }
-        ensures past_limit { limit_of self.old < ct → IsErr result × (reader_of self.new ≡ reader_of self.old) × (room_of self.new ≡ room_of self.old) × (limit_of self.new ≡ limit_of self.old) }
+        ensures used { ct ≤ room_of self.old → ct ≤ limit_of self.old → (room_of self.old ≡ room_of self.new + ct) ×
+            (limit_of self.old ≡ limit_of self.new + ct) }
+        ensures too_small { room_of self.old < ct → IsErr result × (self.new ≡ self.old) }
+        ensures past_limit { limit_of self.old < ct → IsErr result × (self.new ≡ self.old) }
     {
-        if self.limit < ct as u64 || self.buffer.rest.len() < ct {
+        if self.limit < ct as u64 || self.buffer.remaining() < ct {
             return Err(Error::DeserializeUnexpectedEnd);
         }
         self.limit -= ct as u64;
@@ -185,8 +204,8 @@ impl<'de, R: Read> Flavor for IOReader<'de, R> {
             limit: _,
             failed: _,
         } = self;
-        let SlidingBuffer { rest } = buffer;
-        Ok((reader, rest))
+        let SlidingBuffer { span } = buffer;
+        Ok((reader, span.into_ahead()))
     }
 }
 
@@ -194,18 +213,20 @@ impl<'de, R: Read> IOReader<'de, R> {
     // Reads the next bytes into the front of the buffer, which keeps it.
     fn fill_front(&mut self, ct: usize) -> Result<()>
         ensures reads { Outcome (reader_source (λ r. R.remaining r) self.old) (reader_source (λ r. R.remaining r) self.new) result
-            (λ s _. (s ≡ take ct self.new.buffer.rest.now) × (length s ≡ ct)) (IsShort ct) false }
+            (λ s _. (s ≡ take ct (ahead_of self.new.buffer.span)) × (length s ≡ ct)) (IsShort ct) false }
         ensures keeps { room_of self.new ≡ room_of self.old }
-        ensures room { OnOk result (ct ≤ length self.new.buffer.rest.now) }
+        ensures room { OnOk result (ct ≤ length (ahead_of self.new.buffer.span)) }
+        ensures spares { (room_of self.old < ct) ⊎ (limit_of self.old < ct) → self.new ≡ self.old }
         ensures refused { IfErr result (λ e. e ≡ DeserializeUnexpectedEnd) }
     {
-        if self.limit < ct as u64 || self.buffer.rest.len() < ct {
+        if self.limit < ct as u64 || self.buffer.remaining() < ct {
             return Err(Error::DeserializeUnexpectedEnd);
         }
         self.limit -= ct as u64;
-        let rest = std::mem::take(&mut self.buffer.rest);
+        let span = std::mem::replace(&mut self.buffer.span, Span::new(&mut []));
+        let rest = span.into_ahead();
         let filled = fill(&mut self.reader, &mut rest[..ct]);
-        self.buffer.rest = rest;
+        self.buffer.span = Span::new(rest);
         match filled {
             Filled::Full => Ok(()),
             Filled::Ended => Err(Error::DeserializeUnexpectedEnd),
