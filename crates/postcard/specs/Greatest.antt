@@ -45,12 +45,12 @@ pub record AllWithin (os : List (Option Tree)) (gs : List (Option ℕ)) : Type 0
 size_of_is : (n m : ℕ) → size_of n ≡ Some m → n ≡ m
 size_of_is n m e = grind (arith, e)
 
-sum_some : (a b : Option ℕ) (m : ℕ) → sum_of a b ≡ Some m → (x : ℕ) × (y : ℕ) × (a ≡ Some x) × (b ≡ Some y) × (x + y ≡ m)
+pub sum_some : (a b : Option ℕ) (m : ℕ) → sum_of a b ≡ Some m → (x : ℕ) × (y : ℕ) × (a ≡ Some x) × (b ≡ Some y) × (x + y ≡ m)
 sum_some None b m e = cc
 sum_some (Some a) None m e = cc
 sum_some (Some a) (Some b) m e = (a, b, refl, refl, size_of_is (a + b) m e)
 
-greater_some : (a b : Option ℕ) (m : ℕ) → greater_of a b ≡ Some m → (x : ℕ) × (y : ℕ) × (a ≡ Some x) × (b ≡ Some y) × (x ≤ m) × (y ≤ m)
+pub greater_some : (a b : Option ℕ) (m : ℕ) → greater_of a b ≡ Some m → (x : ℕ) × (y : ℕ) × (a ≡ Some x) × (b ≡ Some y) × (x ≤ m) × (y ≤ m)
 greater_some None b m e = cc
 greater_some (Some a) None m e = cc
 greater_some (Some a) (Some b) m e = let k : max a b ≡ m = cc in (a, b, refl, refl, omega (arith, k), omega (arith, k))
@@ -158,7 +158,7 @@ pub end_within : SizeWithin (Some (group end)) (Some 0)
 end_within = tree_within (group end) 0 (omega arith)
 
 -- a part of known size before a value
-first_then : (u : Tree) (n : ℕ) {o : Option Tree} {g : Option ℕ} → length (short u) ≤ n → SizeWithin o g → (t : Tree) (x m : ℕ) → group_of (parts (Some u ∷ o ∷ [])) ≡ Some t → g ≡ Some x → x + n ≤ m → length (short t) ≤ m
+pub first_then : (u : Tree) (n : ℕ) {o : Option Tree} {g : Option ℕ} → length (short u) ≤ n → SizeWithin o g → (t : Tree) (x m : ℕ) → group_of (parts (Some u ∷ o ∷ [])) ≡ Some t → g ≡ Some x → x + n ≤ m → length (short t) ≤ m
 first_then u n {o} {g} h one t x m e q l =
     let p = group_some (parts (Some u ∷ o ∷ [])) t e in
     let f = parts_some (Some u) (o ∷ []) p.0 p.1 in

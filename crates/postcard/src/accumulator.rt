@@ -1,5 +1,5 @@
 //! Frames that come in pieces.
-ghost use Rattle.std.specs.Prelude.{◌≡◌, ℕ, ◌+◌, ◌-◌, ◌<◌, ◌≤◌, List, [], ◌++◌, length, take, drop, ⊤, IfSome, IfNone};
+ghost use Rattle.std.specs.Prelude.{◌≡◌, ℕ, ◌+◌, ◌≤◌, List, [], ◌++◌, length, take, ⊤, IfSome, IfNone};
 ghost use Rattle.std.specs.Borrow.{sem};
 ghost use Rattle.cobs.specs.Frames.{Frame};
 ghost use Rattle.cobs.specs.InPlace.{stretch};
@@ -56,7 +56,7 @@ pub struct CobsAccumulator<const N: usize> {
     ghost clear: { stretch (take count buf) ≡ take count buf },
 }
 
-/// How many bytes there are before the first zero.
+// How many bytes there are before the first zero.
 fn before_zero(s: &[u8]) -> usize
     ensures before { result ≡ length (stretch s.now) }
     ensures within { result ≤ length s.now }
@@ -86,7 +86,7 @@ impl<const N: usize> CobsAccumulator<N> {
         }
     }
 
-    /// Takes bytes without a zero.
+    // Takes bytes without a zero.
     fn keep(&mut self, input: &[u8])
         requires clear { stretch input.now ≡ input.now }
         requires fits { self.old.count + length input.now ≤ N }
@@ -99,7 +99,7 @@ impl<const N: usize> CobsAccumulator<N> {
         self.count = end;
     }
 
-    /// Takes bytes until a frame ends, and decodes it in the buffer.
+    // Takes bytes until a frame ends, and decodes it in the buffer.
     fn gather(&mut self, input: &[u8]) -> Gathered
         ensures gathers { Gathers N (held_of self.old) input.now result self.new.buf (held_of self.new) }
         ensures within { IsWithin N input.now result }
@@ -130,7 +130,8 @@ impl<const N: usize> CobsAccumulator<N> {
     /// `feed` and `feed_ref` are this and then the reading of a value.
     pub fn advance<'de, 'a>(&'de mut self, input: &'a [u8]) -> Advanced<'de, 'a>
         ensures answer { (kept : List ℕ) × Advances N (held_of self.entry.now) input.now result kept }
-        ensures* after { sem 𝓛 (follows_so (the_row N.row) (the_row N.row) self.entry.ghost_name none (λ _ _. ⊤) (λ n. Advances N (held_of self.entry.now) input.now result (held_of n))) }
+        ensures* after { sem 𝓛 (follows_so (the_row N.row) (the_row N.row) self.entry.ghost_name none (λ _ _. ⊤)
+            (λ n. Advances N (held_of self.entry.now) input.now result (held_of n))) }
     {
         match self.gather(input) {
             Gathered::Kept => Advanced::Consumed,
@@ -188,14 +189,15 @@ impl<const N: usize> CobsAccumulator<N> {
         input: &'a [u8],
     ) -> FeedResult<'a, T>
         ensures answer { (kept : List ℕ) × Fed T.takes T.reads T.growing N (held_of self.entry.now) input.now result kept }
-        ensures* after { sem 𝓛 (follows_so (the_row N.row) (the_row N.row) self.entry.ghost_name none (λ _ _. ⊤) (λ n. Fed T.takes T.reads T.growing N (held_of self.entry.now) input.now result (held_of n))) }
+        ensures* after { sem 𝓛 (follows_so (the_row N.row) (the_row N.row) self.entry.ghost_name none (λ _ _. ⊤)
+            (λ n. Fed T.takes T.reads T.growing N (held_of self.entry.now) input.now result (held_of n))) }
     {
         let advanced = self.advance(input);
         read_advanced(alloc, advanced)
     }
 }
 
-/// Reads the value of a message, and passes on what else there was.
+// Reads the value of a message, and passes on what else there was.
 fn read_advanced<'de, 'a, T: Deserialize<&'de [u8]>>(
     alloc: Global,
     advanced: Advanced<'de, 'a>,
@@ -224,11 +226,12 @@ impl<const N: usize> Default for CobsAccumulator<N> {
     }
 }
 
-/// Puts bytes behind the first `count`, decodes all of these as a frame, and answers how long its message is, which
-/// stands at the front then.
+// Puts bytes behind the first `count`, decodes all of these as a frame, and answers how long its message is, which
+// stands at the front then.
 fn decode_behind(buf: &mut [u8], count: usize, input: &[u8]) -> Option<usize>
     requires { count + length input.now ≤ length buf.old }
-    ensures message { IfSome result (λ size. (size ≤ length buf.new) × Frame (stretch (take count buf.old ++ input.now)) (take size buf.new)) }
+    ensures message { IfSome result (λ size. (size ≤ length buf.new) × Frame (stretch (take count buf.old ++ input.now))
+        (take size buf.new)) }
     ensures damaged { IfNone result ((m : List ℕ) → Frame (stretch (take count buf.old ++ input.now)) m → ⊥) }
 {
     let end = count + input.len();

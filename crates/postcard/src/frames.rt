@@ -10,12 +10,12 @@ use postcard_de::Deserialize;
 use postcard_tree::{Error, Result};
 use std::alloc::Global;
 
-/// What a byte may be.
+// What a byte may be.
 fn all_bytes(s: &[u8])
     ensures { (k : ℕ) → slice_index_or s.now k 0 < 256 }
 {}
 
-/// Decodes the frame at the front over itself, and answers how many bytes were used and are its message.
+// Decodes the frame at the front over itself, and answers how many bytes were used and are its message.
 pub(crate) fn unframe(s: &mut [u8]) -> Result<(usize, usize)>
     ensures ok { IfOk result (λ p. (p.0 ≡ length (stretch s.old)) × (p.1 ≤ p.0) × Frame (stretch s.old) (take p.1 s.new)) }
     ensures err { IfErr result (λ e. (e ≡ DeserializeBadEncoding) × ((m : List ℕ) → Frame (stretch s.old) m → ⊥)) }

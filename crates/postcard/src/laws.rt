@@ -1,16 +1,22 @@
 //! Laws that hold of every type, as functions whose contracts say them.
-ghost use Rattle.std.specs.Prelude.{◌≡◌, ◌⊎◌, ◌+◌, ◌<◌, ◌++◌, length, true, IfOk, IfErr, OnOk};
+ghost use Rattle.std.specs.Prelude.{◌≡◌, ◌⊎◌, ◌+◌, ◌<◌, ◌++◌, length, true, Some, IfOk, IfErr, OnOk};
 ghost use Rattle.postcard_tree.specs.declared.error.Error.TheVariants.{OutOfMemory, SerializeBufferFull};
+ghost use Rattle.postcard_tree.specs.Tree.{Tree};
+ghost use Rattle.postcard.specs.Spellings.{HasNoBeginning, KeepsItsPattern};
 ghost use Rattle.postcard.specs.Written.{WrittenAs, UnlessRefused};
+
+pub mod sizes;
+mod within;
 
 use crate::de::take_from_bytes;
 use postcard_de::{Deserialize, Lawful};
 use postcard_ser::ser_flavors::{Flavor, Slice};
 use postcard_ser::{Serialize, Serializer};
-use postcard_tree::Result;
+use postcard_tree::{Readable, Result};
 use std::alloc::Global;
+pub use within::within_greatest;
 
-/// Writes a value and then more bytes at the front of a slice, and answers that front.
+// Writes a value and then more bytes at the front of a slice, and answers that front.
 fn write_before<'a, T: Serialize>(v: &T, more: &[u8], room: &'a mut [u8]) -> Result<&'a mut [u8]>
     ensures ok { IfOk result (λ front. WrittenAs (T.writes v.now) (λ bytes. front.now ≡ bytes ++ more.now)) }
     ensures err { IfErr result (λ e. UnlessRefused (T.writes v.now) (λ bytes.
@@ -47,3 +53,22 @@ pub fn round_trip<'a, T: Lawful + Deserialize<&'a [u8]>>(
     let written = write_before(v, more, room)?;
     take_from_bytes(alloc, written)
 }
+
+/// What a valid value of a lawful type writes is a tree that the type takes.
+pub fn taken<T: Lawful>(v: &T)
+    requires { T.valid v.now }
+    ensures { (t : Tree) → T.writes v.now ≡ Some t → T.takes t }
+{}
+
+/// No proper beginning of the short spelling of a tree that a type takes, as a valid value of a lawful type writes one, has
+/// a front that spells a tree that the type takes.
+pub fn beginnings<T: Readable>()
+    ensures { HasNoBeginning T.takes }
+{
+    postcard_tree::laws::short_is_a_spelling();
+}
+
+/// The zeros and the other bytes of a tree's short spelling are, in order, some of those of each of its spellings.
+pub fn patterns()
+    ensures { KeepsItsPattern }
+{}

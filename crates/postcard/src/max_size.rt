@@ -1,21 +1,10 @@
 //! The greatest size of a type's values.
 //!
 //! `T::postcard_max_size()` tells how many bytes the longest value of `T` takes, so that a buffer can be
-//! made before there is a value. It is `None` where that number doesn't fit `usize`. A type of your own
-//! adds up its fields:
-//!
-//! ```text
-//! impl MaxSize for Reading {
-//!     ghost greatest = { total (Some 3 ∷ Some 2 ∷ []) };
-//!
-//!     fn postcard_max_size() -> Option<usize> {
-//!         <(u16, Option<u8>)>::postcard_max_size()
-//!     }
-//! }
-//! ```
+//! made before there is a value. It is `None` where that number doesn't fit `usize`. A message type of your
+//! own has the greatest size of its shape by one line, `impl MaxSizeShape for Reading {}`.
 ghost use Rattle.std.specs.Prelude.{◌≡◌, ℕ, length, [], ◌∷◌, Option, Some, if◌then◌else◌};
 ghost use Rattle.std.specs.Int.{w8, cast_unsigned};
-ghost use Rattle.std.specs.List.{All};
 ghost use Rattle.postcard_tree.specs.Spelling.{varint};
 ghost use Rattle.postcard_tree.specs.Tree.{zigzag};
 ghost use Rattle.postcard.specs.Greatest.{SizeWithin, size_of, sum_of, greater_of, times, total, byte_within, within_16, within_32, within_64, within_128, character_within, none_within, part_within, group_within, end_within, option_within, result_within, array_within, sequence_within, text_within};
@@ -44,17 +33,12 @@ pub trait MaxSize {
 
 /// A type none of whose values is spelled longer than its greatest size.
 pub trait MaxWritten: MaxSize + Serialize {
-    /// Shows that a value is one of the type: an integer is in its range, a text is UTF-8, each part is
-    /// valid. It changes nothing and takes no memory.
-    fn show_valid(&self)
-        ensures { Self.valid self.now };
-
     /// No valid value is spelled in more bytes.
     ghost longest: { (v : Self) → Self.valid v → SizeWithin (Self.writes v) Self.greatest };
 }
 
-/// The sum of two sizes.
-fn sum(a: Option<usize>, b: Option<usize>) -> Option<usize>
+// The sum of two sizes.
+pub(crate) fn sum(a: Option<usize>, b: Option<usize>) -> Option<usize>
     ensures { result ≡ sum_of a b }
 {
     match (a, b) {
@@ -63,8 +47,8 @@ fn sum(a: Option<usize>, b: Option<usize>) -> Option<usize>
     }
 }
 
-/// The greater of two sizes.
-fn greater(a: Option<usize>, b: Option<usize>) -> Option<usize>
+// The greater of two sizes.
+pub(crate) fn greater(a: Option<usize>, b: Option<usize>) -> Option<usize>
     ensures { result ≡ greater_of a b }
 {
     match (a, b) {
@@ -73,7 +57,7 @@ fn greater(a: Option<usize>, b: Option<usize>) -> Option<usize>
     }
 }
 
-/// So many of a size.
+// So many of a size.
 fn product(a: Option<usize>, n: usize) -> Option<usize>
     ensures { result ≡ times a n }
 {
@@ -83,8 +67,8 @@ fn product(a: Option<usize>, n: usize) -> Option<usize>
     }
 }
 
-/// How long a count is spelled.
-fn count_size(n: usize) -> Option<usize>
+// How long a count is spelled.
+pub(crate) fn count_size(n: usize) -> Option<usize>
     ensures { result ≡ Some (length (varint n)) }
 {
     let mut groups = [0u8; 10];
@@ -100,10 +84,6 @@ impl MaxSize for bool {
 }
 
 impl MaxWritten for bool {
-    fn show_valid(&self) {
-        let _value = *self;
-    }
-
     ghost longest = { λ v h. byte_within (if v then 1 else 0) };
 }
 
@@ -116,10 +96,6 @@ impl MaxSize for u8 {
 }
 
 impl MaxWritten for u8 {
-    fn show_valid(&self) {
-        let _value = *self;
-    }
-
     ghost longest = { λ v h. byte_within v };
 }
 
@@ -132,10 +108,6 @@ impl MaxSize for i8 {
 }
 
 impl MaxWritten for i8 {
-    fn show_valid(&self) {
-        let _value = *self;
-    }
-
     ghost longest = { λ v h. byte_within (cast_unsigned w8 v) };
 }
 
@@ -148,10 +120,6 @@ impl MaxSize for u16 {
 }
 
 impl MaxWritten for u16 {
-    fn show_valid(&self) {
-        let _value = *self;
-    }
-
     ghost longest = { within_16 };
 }
 
@@ -164,10 +132,6 @@ impl MaxSize for i16 {
 }
 
 impl MaxWritten for i16 {
-    fn show_valid(&self) {
-        let _value = *self;
-    }
-
     ghost longest = { λ v h. within_16 (zigzag v) h };
 }
 
@@ -180,10 +144,6 @@ impl MaxSize for u32 {
 }
 
 impl MaxWritten for u32 {
-    fn show_valid(&self) {
-        let _value = *self;
-    }
-
     ghost longest = { within_32 };
 }
 
@@ -196,10 +156,6 @@ impl MaxSize for i32 {
 }
 
 impl MaxWritten for i32 {
-    fn show_valid(&self) {
-        let _value = *self;
-    }
-
     ghost longest = { λ v h. within_32 (zigzag v) h };
 }
 
@@ -212,10 +168,6 @@ impl MaxSize for u64 {
 }
 
 impl MaxWritten for u64 {
-    fn show_valid(&self) {
-        let _value = *self;
-    }
-
     ghost longest = { within_64 };
 }
 
@@ -228,10 +180,6 @@ impl MaxSize for i64 {
 }
 
 impl MaxWritten for i64 {
-    fn show_valid(&self) {
-        let _value = *self;
-    }
-
     ghost longest = { λ v h. within_64 (zigzag v) h };
 }
 
@@ -244,10 +192,6 @@ impl MaxSize for u128 {
 }
 
 impl MaxWritten for u128 {
-    fn show_valid(&self) {
-        let _value = *self;
-    }
-
     ghost longest = { within_128 };
 }
 
@@ -260,10 +204,6 @@ impl MaxSize for i128 {
 }
 
 impl MaxWritten for i128 {
-    fn show_valid(&self) {
-        let _value = *self;
-    }
-
     ghost longest = { λ v h. within_128 (zigzag v) h };
 }
 
@@ -276,10 +216,6 @@ impl MaxSize for usize {
 }
 
 impl MaxWritten for usize {
-    fn show_valid(&self) {
-        let _value = *self;
-    }
-
     ghost longest = { within_64 };
 }
 
@@ -292,10 +228,6 @@ impl MaxSize for isize {
 }
 
 impl MaxWritten for isize {
-    fn show_valid(&self) {
-        let _value = *self;
-    }
-
     ghost longest = { λ v h. within_64 (zigzag v) h };
 }
 
@@ -308,10 +240,6 @@ impl MaxSize for char {
 }
 
 impl MaxWritten for char {
-    fn show_valid(&self) {
-        let _value = *self;
-    }
-
     ghost longest = { λ v h. character_within v };
 }
 
@@ -324,10 +252,6 @@ impl MaxSize for () {
 }
 
 impl MaxWritten for () {
-    fn show_valid(&self) {
-        let _value = *self;
-    }
-
     ghost longest = { λ v h. end_within };
 }
 
@@ -452,12 +376,6 @@ impl<T: MaxSize> MaxSize for Option<T> {
 }
 
 impl<T: MaxWritten> MaxWritten for Option<T> {
-    fn show_valid(&self) {
-        if let Some(value) = self {
-            value.show_valid();
-        }
-    }
-
     ghost longest = { option_within T.valid T.writes T.greatest T.longest };
 }
 
@@ -473,13 +391,6 @@ impl<T: MaxSize, E: MaxSize> MaxSize for Result<T, E> {
 }
 
 impl<T: MaxWritten, E: MaxWritten> MaxWritten for Result<T, E> {
-    fn show_valid(&self) {
-        match self {
-            Ok(value) => value.show_valid(),
-            Err(error) => error.show_valid(),
-        }
-    }
-
     ghost longest = { result_within T.valid E.valid T.writes E.writes T.greatest E.greatest T.longest E.longest };
 }
 
@@ -491,20 +402,7 @@ impl<T: MaxSize, const N: usize> MaxSize for [T; N] {
     }
 }
 
-/// Shows that each of these is valid.
-fn show_each<T: MaxWritten>(items: &[T])
-    ensures { All T.valid items.now }
-{
-    for item in items {
-        item.show_valid();
-    }
-}
-
 impl<T: MaxWritten, const N: usize> MaxWritten for [T; N] {
-    fn show_valid(&self) {
-        show_each(self);
-    }
-
     ghost longest = { λ v h. array_within T.valid T.writes T.greatest N T.longest v h.0 h.1 };
 }
 
@@ -517,10 +415,6 @@ impl<T: MaxSize, const N: usize> MaxSize for ArrayVec<T, N> {
 }
 
 impl<T: MaxWritten, const N: usize> MaxWritten for ArrayVec<T, N> {
-    fn show_valid(&self) {
-        show_each(self.as_slice());
-    }
-
     ghost longest = { λ v h. sequence_within T.valid T.writes T.greatest N T.longest v.items h.0 h.2 };
 }
 
@@ -533,35 +427,7 @@ impl<const N: usize> MaxSize for ArrayString<N> {
 }
 
 impl<const N: usize> MaxWritten for ArrayString<N> {
-    fn show_valid(&self) {
-        let _text = self.as_str();
-    }
-
     ghost longest = { λ v h. text_within N v.bytes h.1 };
-}
-
-impl<T: MaxSize> MaxSize for &T {
-    ghost greatest = { T.greatest };
-
-    fn postcard_max_size() -> Option<usize> {
-        T::postcard_max_size()
-    }
-}
-
-impl<T: MaxWritten> MaxWritten for &T {
-    fn show_valid(&self) {
-        (**self).show_valid();
-    }
-
-    ghost longest = { λ v h. T.longest v.now h };
-}
-
-impl<T: MaxSize> MaxSize for &mut T {
-    ghost greatest = { T.greatest };
-
-    fn postcard_max_size() -> Option<usize> {
-        T::postcard_max_size()
-    }
 }
 
 impl<T: MaxSize> MaxSize for Box<T> {
@@ -573,10 +439,6 @@ impl<T: MaxSize> MaxSize for Box<T> {
 }
 
 impl<T: MaxWritten> MaxWritten for Box<T> {
-    fn show_valid(&self) {
-        (**self).show_valid();
-    }
-
     ghost longest = { λ v h. T.longest v.value h };
 }
 
@@ -637,11 +499,6 @@ impl<A: MaxSize> MaxSize for (A,) {
 }
 
 impl<A: MaxWritten> MaxWritten for (A,) {
-    fn show_valid(&self) {
-        let (a,) = self;
-        a.show_valid();
-    }
-
     ghost longest = { λ v h. group_within (part_within (A.longest v.0 h) none_within) };
 }
 
@@ -654,12 +511,6 @@ impl<A: MaxSize, B: MaxSize> MaxSize for (A, B) {
 }
 
 impl<A: MaxWritten, B: MaxWritten> MaxWritten for (A, B) {
-    fn show_valid(&self) {
-        let (a, b) = self;
-        a.show_valid();
-        b.show_valid();
-    }
-
     ghost longest = { λ v h. group_within (part_within (A.longest v.0 h.0) (part_within (B.longest v.1 h.1) none_within)) };
 }
 
@@ -675,14 +526,8 @@ impl<A: MaxSize, B: MaxSize, C: MaxSize> MaxSize for (A, B, C) {
 }
 
 impl<A: MaxWritten, B: MaxWritten, C: MaxWritten> MaxWritten for (A, B, C) {
-    fn show_valid(&self) {
-        let (a, b, c) = self;
-        a.show_valid();
-        b.show_valid();
-        c.show_valid();
-    }
-
-    ghost longest = { λ v h. group_within (part_within (A.longest v.0 h.0) (part_within (B.longest v.1 h.1) (part_within (C.longest v.2 h.2) none_within))) };
+    ghost longest = { λ v h. group_within (part_within (A.longest v.0 h.0)
+        (part_within (B.longest v.1 h.1) (part_within (C.longest v.2 h.2) none_within))) };
 }
 
 impl<A: MaxSize, B: MaxSize, C: MaxSize, D: MaxSize> MaxSize for (A, B, C, D) {
@@ -700,15 +545,8 @@ impl<A: MaxSize, B: MaxSize, C: MaxSize, D: MaxSize> MaxSize for (A, B, C, D) {
 }
 
 impl<A: MaxWritten, B: MaxWritten, C: MaxWritten, D: MaxWritten> MaxWritten for (A, B, C, D) {
-    fn show_valid(&self) {
-        let (a, b, c, d) = self;
-        a.show_valid();
-        b.show_valid();
-        c.show_valid();
-        d.show_valid();
-    }
-
-    ghost longest = { λ v h. group_within (part_within (A.longest v.0 h.0) (part_within (B.longest v.1 h.1) (part_within (C.longest v.2 h.2) (part_within (D.longest v.3 h.3) none_within)))) };
+    ghost longest = { λ v h. group_within (part_within (A.longest v.0 h.0)
+        (part_within (B.longest v.1 h.1) (part_within (C.longest v.2 h.2) (part_within (D.longest v.3 h.3) none_within)))) };
 }
 
 impl<A: MaxSize, B: MaxSize, C: MaxSize, D: MaxSize, E: MaxSize> MaxSize for (A, B, C, D, E) {
@@ -730,16 +568,9 @@ impl<A: MaxSize, B: MaxSize, C: MaxSize, D: MaxSize, E: MaxSize> MaxSize for (A,
 
 impl<A: MaxWritten, B: MaxWritten, C: MaxWritten, D: MaxWritten, E: MaxWritten> MaxWritten
     for (A, B, C, D, E) {
-    fn show_valid(&self) {
-        let (a, b, c, d, e) = self;
-        a.show_valid();
-        b.show_valid();
-        c.show_valid();
-        d.show_valid();
-        e.show_valid();
-    }
-
-    ghost longest = { λ v h. group_within (part_within (A.longest v.0 h.0) (part_within (B.longest v.1 h.1) (part_within (C.longest v.2 h.2) (part_within (D.longest v.3 h.3) (part_within (E.longest v.4 h.4) none_within))))) };
+    ghost longest = { λ v h. group_within (part_within (A.longest v.0 h.0)
+        (part_within (B.longest v.1 h.1) (part_within (C.longest v.2 h.2)
+        (part_within (D.longest v.3 h.3) (part_within (E.longest v.4 h.4) none_within))))) };
 }
 
 impl<A: MaxSize, B: MaxSize, C: MaxSize, D: MaxSize, E: MaxSize, F: MaxSize> MaxSize
@@ -771,15 +602,8 @@ impl<
     E: MaxWritten,
     F: MaxWritten,
 > MaxWritten for (A, B, C, D, E, F) {
-    fn show_valid(&self) {
-        let (a, b, c, d, e, f) = self;
-        a.show_valid();
-        b.show_valid();
-        c.show_valid();
-        d.show_valid();
-        e.show_valid();
-        f.show_valid();
-    }
-
-    ghost longest = { λ v h. group_within (part_within (A.longest v.0 h.0) (part_within (B.longest v.1 h.1) (part_within (C.longest v.2 h.2) (part_within (D.longest v.3 h.3) (part_within (E.longest v.4 h.4) (part_within (F.longest v.5 h.5) none_within)))))) };
+    ghost longest = { λ v h. group_within (part_within (A.longest v.0 h.0)
+        (part_within (B.longest v.1 h.1) (part_within (C.longest v.2 h.2)
+        (part_within (D.longest v.3 h.3) (part_within (E.longest v.4 h.4)
+        (part_within (F.longest v.5 h.5) none_within)))))) };
 }

@@ -12,7 +12,7 @@ use postcard_ser::ser_flavors::{AllocVec, Cobs, HVec, IndexByte, Slice};
 use postcard_tree::Result;
 use std::alloc::Global;
 
-/// Writes a value's frame and a zero into a flavor that holds nothing, and ends it.
+// Writes a value's frame and a zero into a flavor that holds nothing, and ends it.
 fn serialize_cobs<T: Serialize, B: IndexByte>(v: &T, inner: B) -> Result<B::Output>
     requires { B.bytes inner ≡ [] }
     ensures whole { FrameWhole B.became B.refused B.ends inner (T.writes v.now) result }
