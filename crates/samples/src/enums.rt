@@ -1,18 +1,11 @@
-//! Enums are the variant's index and its payload.
-ghost use Rattle.std.specs.Prelude.{◌≡◌, false};
-ghost use Rattle.postcard_tree.specs.Reading.{TakesVariant, ReadsVariant, RefusesVariant};
-ghost use Rattle.postcard_tree.specs.Reading.{Spelled};
-ghost use Rattle.postcard_tree.specs.ReadingLaws.{variant_laws};
-ghost use Rattle.postcard_de.specs.Deserializer.{OutcomeOf};
-ghost use Rattle.samples.specs.BasicEnum.{ReadsUnit, RefusesUnit};
-ghost use Rattle.samples.specs.DataEnum.{ReadsData, RefusesData};
-
+//! Enums are the variant's index and what the variant holds.
 use crate::structs::EnumStruct;
-use postcard_de::de_flavors::{Bytes, Flavor as Reading};
-use postcard_de::{Deserialize, DeserializeOwned, Deserializer, Lawful};
-use postcard_ser::ser_flavors::Flavor;
-use postcard_ser::{Serialize, Serializer};
-use postcard_tree::{Error, Readable, Result};
+use postcard::experimental::max_size::MaxSizeShape;
+use postcard::ser_flavors::Flavor;
+use postcard::{
+    DeserializeShape, ExactShape, Last, Result, SerializeShape, Serializer, Shaped, Variant,
+    Variants4,
+};
 
 /// Variants without a payload.
 #[derive(Clone, Copy, Debug, PartialEq, Eq, Drop)]
@@ -22,35 +15,20 @@ pub enum BasicEnum {
     Bap,
 }
 
-impl Readable for BasicEnum {
-    ghost use Rattle.samples.specs.BasicEnum.{TakesUnit, ReadsUnit, RefusesUnit, unit_laws};
+type BasicEnumShape = Variant<(), Variant<(), Last<()>>>;
 
-    ghost takes = { TakesVariant TakesUnit };
+impl Shaped for BasicEnum {
+    ghost use Rattle.samples.specs.declared.enums.BasicEnum.TheVariants.{Bib, Bim, Bap};
+    ghost use Rattle.postcard_tree.specs.declared.variants.Variant.TheVariants.{This, Other};
+    ghost use Rattle.postcard_tree.specs.declared.variants.Last.TheVariants.{Last};
 
-    ghost reads = { ReadsVariant ReadsUnit };
+    type Shape = BasicEnumShape;
 
-    ghost refuses = { RefusesVariant RefusesUnit };
-
-    ghost alike = { λ v w. v ≡ w };
-
-    ghost growing = { false };
-
-    fn grows() -> bool {
-        false
-    }
-
-    ghost laws = { variant_laws unit_laws };
+    ghost shape = { λ v. elim v [ Bib ↦ This tt | Bim ↦ Other (This tt) | Bap ↦ Other (Other (Last tt)) ] };
 }
 
-impl Serialize for BasicEnum {
-    ghost use Rattle.std.specs.Prelude.{⊤};
-    ghost use Rattle.samples.specs.BasicEnum.{unit_writes};
-
-    ghost writes = { unit_writes };
-
-    ghost valid = { λ _. ⊤ };
-
-    fn serialize<F: Flavor>(&self, serializer: &mut Serializer<F>) -> Result<()> {
+impl SerializeShape for BasicEnum {
+    fn serialize_shape<F: Flavor>(&self, serializer: &mut Serializer<F>) -> Result<()> {
         match self {
             BasicEnum::Bib => serializer.serialize_unit_variant(0),
             BasicEnum::Bim => serializer.serialize_unit_variant(1),
@@ -59,43 +37,19 @@ impl Serialize for BasicEnum {
     }
 }
 
-impl<B: Bytes> Deserialize<B> for BasicEnum {
-    fn deserialize<F: Reading<Taken = B>>(d: &mut Deserializer<F>) -> Result<BasicEnum> {
-        read_basic_enum(d)
+impl DeserializeShape for BasicEnum {
+    fn from_shape(it: BasicEnumShape) -> BasicEnum {
+        match it {
+            Variant::This(()) => BasicEnum::Bib,
+            Variant::Other(Variant::This(())) => BasicEnum::Bim,
+            Variant::Other(Variant::Other(Last::Last(()))) => BasicEnum::Bap,
+        }
     }
 }
 
-impl DeserializeOwned for BasicEnum {
-    fn deserialize_owned<F: Reading>(d: &mut Deserializer<F>) -> Result<BasicEnum> {
-        read_basic_enum(d)
-    }
-}
+impl MaxSizeShape for BasicEnum {}
 
-impl Lawful for BasicEnum {
-    ghost use Rattle.samples.specs.BasicEnum.{unit_reads_back};
-
-    ghost reads_back = { unit_reads_back };
-}
-
-fn read_basic_enum<F: Reading>(d: &mut Deserializer<F>) -> Result<BasicEnum>
-    ensures { OutcomeOf F.source d.old d.new result (Spelled (ReadsVariant ReadsUnit)) (RefusesVariant RefusesUnit) false }
-{
-    match d.deserialize_enum()? {
-        0 => {
-            d.unit_variant()?;
-            Ok(BasicEnum::Bib)
-        }
-        1 => {
-            d.unit_variant()?;
-            Ok(BasicEnum::Bim)
-        }
-        2 => {
-            d.unit_variant()?;
-            Ok(BasicEnum::Bap)
-        }
-        _ => Err(Error::SerdeDeCustom),
-    }
-}
+impl ExactShape for BasicEnum {}
 
 /// Variants with a payload of each form.
 #[derive(Clone, Copy, Debug, PartialEq, Eq, Drop)]
@@ -108,101 +62,45 @@ pub enum DataEnum {
     Sho(u16, u8),
 }
 
-impl Readable for DataEnum {
-    ghost use Rattle.samples.specs.DataEnum.{TakesData, ReadsData, RefusesData, data_laws};
+type DataEnumShape = Variants4<u16, u64, u8, EnumStruct, Variant<(u8, u32), Last<(u16, u8)>>>;
 
-    ghost takes = { TakesVariant TakesData };
+impl Shaped for DataEnum {
+    ghost use Rattle.samples.specs.declared.enums.DataEnum.TheVariants.{Bib, Bim, Bap, Kim, Chi, Sho};
+    ghost use Rattle.postcard_tree.specs.declared.variants.Variants4.TheVariants.{V0, V1, V2, V3, More};
+    ghost use Rattle.postcard_tree.specs.declared.variants.Variant.TheVariants.{This, Other};
+    ghost use Rattle.postcard_tree.specs.declared.variants.Last.TheVariants.{Last};
 
-    ghost reads = { ReadsVariant ReadsData };
+    type Shape = DataEnumShape;
 
-    ghost refuses = { RefusesVariant RefusesData };
-
-    ghost alike = { λ v w. v ≡ w };
-
-    ghost growing = { false };
-
-    fn grows() -> bool {
-        false
-    }
-
-    ghost laws = { variant_laws data_laws };
+    ghost shape = { λ v. elim v [ Bib n ↦ V0 n | Bim n ↦ V1 n | Bap n ↦ V2 n | Kim s ↦ V3 s | Chi a b ↦ More (This (a, b)) | Sho a b ↦ More (Other (Last (a, b))) ] };
 }
 
-impl Serialize for DataEnum {
-    ghost use Rattle.samples.specs.DataEnum.{data_writes, DataIsValid};
-
-    ghost writes = { data_writes };
-
-    ghost valid = { DataIsValid };
-
-    fn serialize<F: Flavor>(&self, serializer: &mut Serializer<F>) -> Result<()> {
+impl SerializeShape for DataEnum {
+    fn serialize_shape<F: Flavor>(&self, serializer: &mut Serializer<F>) -> Result<()> {
         match self {
-            DataEnum::Bib(n) => serializer.serialize_newtype_variant(0, n),
-            DataEnum::Bim(n) => serializer.serialize_newtype_variant(1, n),
-            DataEnum::Bap(n) => serializer.serialize_newtype_variant(2, n),
+            DataEnum::Bib(number) => serializer.serialize_newtype_variant(0, number),
+            DataEnum::Bim(number) => serializer.serialize_newtype_variant(1, number),
+            DataEnum::Bap(byte) => serializer.serialize_newtype_variant(2, byte),
             DataEnum::Kim(fields) => serializer.serialize_newtype_variant(3, fields),
-            DataEnum::Chi { a, b } => {
-                serializer.serialize_struct_variant(4, 2)?;
-                serializer.serialize_field(a)?;
-                serializer.serialize_field(b)?;
-                serializer.end()
-            }
-            DataEnum::Sho(a, b) => {
-                serializer.serialize_tuple_variant(5, 2)?;
-                serializer.serialize_field(a)?;
-                serializer.serialize_field(b)?;
-                serializer.end()
-            }
+            DataEnum::Chi { a, b } => serializer.serialize_newtype_variant(4, &(a, b)),
+            DataEnum::Sho(a, b) => serializer.serialize_newtype_variant(5, &(a, b)),
         }
     }
 }
 
-impl<B: Bytes> Deserialize<B> for DataEnum {
-    fn deserialize<F: Reading<Taken = B>>(d: &mut Deserializer<F>) -> Result<DataEnum> {
-        read_data_enum(d)
+impl DeserializeShape for DataEnum {
+    fn from_shape(it: DataEnumShape) -> DataEnum {
+        match it {
+            Variants4::V0(number) => DataEnum::Bib(number),
+            Variants4::V1(number) => DataEnum::Bim(number),
+            Variants4::V2(byte) => DataEnum::Bap(byte),
+            Variants4::V3(fields) => DataEnum::Kim(fields),
+            Variants4::More(Variant::This((a, b))) => DataEnum::Chi { a, b },
+            Variants4::More(Variant::Other(Last::Last((a, b)))) => DataEnum::Sho(a, b),
+        }
     }
 }
 
-impl DeserializeOwned for DataEnum {
-    fn deserialize_owned<F: Reading>(d: &mut Deserializer<F>) -> Result<DataEnum> {
-        read_data_enum(d)
-    }
-}
+impl MaxSizeShape for DataEnum {}
 
-impl Lawful for DataEnum {
-    ghost use Rattle.samples.specs.DataEnum.{data_reads_back};
-
-    ghost reads_back = { data_reads_back };
-}
-
-fn read_data_enum<F: Reading>(d: &mut Deserializer<F>) -> Result<DataEnum>
-    ensures { OutcomeOf F.source d.old d.new result (Spelled (ReadsVariant ReadsData)) (RefusesVariant RefusesData) false }
-{
-    match d.deserialize_enum()? {
-        0 => {
-            let number = d.deserialize_u16()?;
-            Ok(DataEnum::Bib(number))
-        }
-        1 => {
-            let number = d.deserialize_u64()?;
-            Ok(DataEnum::Bim(number))
-        }
-        2 => {
-            let byte = d.deserialize_u8()?;
-            Ok(DataEnum::Bap(byte))
-        }
-        3 => {
-            let fields = EnumStruct::deserialize_owned(d)?;
-            Ok(DataEnum::Kim(fields))
-        }
-        4 => {
-            let (a, b) = <(u8, u32)>::deserialize_owned(d)?;
-            Ok(DataEnum::Chi { a, b })
-        }
-        5 => {
-            let (a, b) = <(u16, u8)>::deserialize_owned(d)?;
-            Ok(DataEnum::Sho(a, b))
-        }
-        _ => Err(Error::SerdeDeCustom),
-    }
-}
+impl ExactShape for DataEnum {}
