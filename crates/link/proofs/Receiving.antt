@@ -1,0 +1,60 @@
+-- What one byte does to a receiver.
+use Rattle.std.proofs.Common.{◌≡◌, ℕ, ◌<◌, ◌≤◌, Bool, true, false, List, [], ◌∷◌, length, take, min, Option, Some, None, Ok, Err, refl, sym, ap, subst, inl, inr, arith}
+use Rattle.std.specs.Prelude.{IfSome}
+use Rattle.std.specs.List.{AllByRecursion}
+use Rattle.std.proofs.lemmas.List.{take_all}
+use Rattle.std.proofs.lemmas.Bool.{cases_eq, cases_lt, eq-eqb, ne_eqb, lt-ltb, le-ltb}
+use Rattle.cobs.specs.Frames.{Frame, part, missing}
+use Rattle.cobs.specs.FrameLaws.{HasOneMessage, IsFrameAtBlockEnd, DecidesLess}
+use Rattle.cobs.specs.DecodingLaws.{AnswersFrames}
+use Rattle.cobs.specs.Feeding.{at_zero}
+use Rattle.cobs.specs.declared.dec.CobsDecoderHeapless.{CobsDecoderHeapless}
+use Rattle.cobs.specs.declared.dec.DecodeError.{DecodeError}
+use Rattle.cobs.specs.declared.dec.DecodeError.TheVariants.{InvalidFrame}
+use Rattle.link.specs.Stream.{Begun, kept, over}
+use Rattle.link.specs.Receivers.{Has}
+
+-- where a receiver with these fields stands
+module _ {N : ℕ} (d : CobsDecoderHeapless N) (count : ℕ) (past : Bool) where
+  abbrev pub Stands : Begun → Type 0
+  Stands (kept p) = (past ≡ false) × Has d count p
+  Stands over = (past ≡ true) × Has d count []
+
+  pub kept_is : (b : Begun) → past ≡ false → Stands b → (p : List ℕ) × (b ≡ kept p) × Has d count p
+  kept_is (kept p) e i = (p, refl, i.1)
+  kept_is over e i = let h : past ≡ true = i.0 in cc
+
+-- the zero behind a stretch
+zero_broken : (room : ℕ) (p : List ℕ) → 0 < length p → (missing p ≡ 0 → ⊥) → at_zero room p ≡ Err (InvalidFrame (min (length (part p)) room))
+zero_broken room [] l ne = absurd (omega arith)
+zero_broken room (code ∷ bytes) l ne = rw (ne_eqb (missing (code ∷ bytes)) 0 ne) refl
+
+-- it tells something
+pub zero_answers : (room : ℕ) (p : List ℕ) → 0 < length p → Ok None ≡ at_zero room p → ⊥
+zero_answers room [] l e = absurd (omega arith)
+zero_answers room (code ∷ bytes) l e = elim (cases_eq (missing (code ∷ bytes)) 0) [
+  | inl z ↦ elim (cases_lt room (length (part (code ∷ bytes)))) [
+    | inl m ↦ (let h = rw (eq-eqb (missing (code ∷ bytes)) 0 z, lt-ltb room (length (part (code ∷ bytes))) m) at e in cc)
+    | inr m ↦ (let h = rw (eq-eqb (missing (code ∷ bytes)) 0 z, le-ltb room (length (part (code ∷ bytes))) m) at e in cc)
+  ]
+  | inr ne ↦ (let h = zero_broken room (code ∷ bytes) l ne in cc)
+]
+
+module _ (room : ℕ) (p : List ℕ) (some : 0 < length p) (bytes : AllByRecursion (λ x. (0 < x) × (x < 256)) p) where
+  -- it tells the message of a frame
+  pub whole_frame : IsFrameAtBlockEnd → (o : Option ℕ) (size : ℕ) (buffer : List ℕ) → o ≡ Some size → Ok o ≡ at_zero room p → IfSome o (λ n. take n buffer ≡ part p) → Frame p (take size buffer)
+  whole_frame law o size buffer q e k = elim (cases_eq (missing p) 0) [
+    | inl z ↦ (let m : take size buffer ≡ part p = subst (λ (x : Option ℕ). IfSome x (λ n. take n buffer ≡ part p)) q k in subst (λ x. Frame p x) (sym m) (law p bytes (λ n. omega (arith, some, ap length n)) z))
+    | inr ne ↦ (let h = zero_broken room p some ne in cc)
+  ]
+
+  -- it refuses only what is no frame, where there is room for every message
+  pub no_frame : HasOneMessage → DecidesLess → AnswersFrames → (e : DecodeError) → Err e ≡ at_zero room p → length p ≤ room → (m : List ℕ) → Frame p m → ⊥
+  no_frame one less answers e h l m f =
+      let k = answers room p m f in
+      let short : length m ≤ room = omega (arith, ap length (one p m f), less p) in
+      let w = rw (le-ltb room (length m) short) at k in
+      cc
+
+pub take_nothing : (n : ℕ) → take {A = ℕ} n [] ≡ []
+take_nothing n = take_all n [] (omega arith)

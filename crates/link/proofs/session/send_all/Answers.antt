@@ -1,0 +1,12 @@
+use Rattle.std.proofs.Common.{◌∙◌, ap, sym, arith, ◌++◌, ◌∷◌, [], take, length, ◌<◌}
+use Rattle.std.proofs.lemmas.List.{take_more, take_more_set}
+use Rattle.link.proofs.Turns.{one_sent}
+use Rattle.link.proofs.session.send_all.Goals as goal
+
+pub loop-i-preserved : goal.loop-i-preserved
+loop-i-preserved g c =
+    let i = c.loop-i.i in
+    let value = c.index-values-i.result in
+    let short : i < length c.loop-i.fates = omega (arith, c.loop-i-test.true, c.loop-i.auto.fates, c.requires) in
+    rw (take_more c.args.values.now i value c.loop-i-test.true ∙ ap (λ v. take i c.args.values.now ++ v ∷ []) (sym c.index-values-i.is), take_more_set c.loop-i.fates i c.send_one.result short)
+    (one_sent _ _ _ _ _ _ _ _ _ _ _ _ _ _ _ _ _ _ _ _ c.loop-i.invariant c.send_one.ensures)

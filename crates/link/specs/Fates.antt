@@ -1,0 +1,78 @@
+-- What becomes of the sends of one sender.
+use Rattle.std.specs.Prelude.{◌≡◌, ℕ, ◌+◌, ◌<◌, ◌≤◌, ◌⊎◌, Bool, List, [], ◌∷◌, length, Option, Some}
+use Rattle.std.specs.List.{AllZip}
+use Rattle.std.specs.Borrow.{RattleType}
+use Rattle.std.specs.Mem.{FitsInMemory}
+use Rattle.cobs.specs.Frames.{shortest_frame}
+use Rattle.line_io.specs.Device.{Wrote}
+use Rattle.postcard_tree.specs.Tree.{Tree, IsTree}
+use Rattle.postcard.specs.Written.{UnlessRefused}
+use Rattle.link.specs.Run.{Send, completed, refused, broken, written, clean_after, session_line, IsSend, IsSession}
+use Rattle.link.specs.declared.session.Fate.{Fate}
+use Rattle.link.specs.declared.session.Fate.TheVariants.{Done, Refused, Broken}
+use Rattle.link.specs.contracts.sender.Sender as sender
+
+-- a sender of such a limit can be held
+abbrev pub SenderFitsInMemory : (W N : RattleType) → Type 0
+SenderFitsInMemory W N = FitsInMemory (sender.the_row W N)
+
+abbrev pub fate_of : Send → Fate
+fate_of (completed t) = Done
+fate_of refused = Refused
+fate_of (broken t k) = Broken
+
+abbrev pub fates_of : List Send → List Fate
+fates_of [] = []
+fates_of (x ∷ xs) = fate_of x ∷ fates_of xs
+
+-- how many broke off
+abbrev pub broke : Send → ℕ
+broke (completed t) = 0
+broke refused = 0
+broke (broken t k) = 1
+
+abbrev pub brokens : List Send → ℕ
+brokens [] = 0
+brokens (x ∷ xs) = broke x + brokens xs
+
+-- no more broke off than calls failed, or no call is left
+abbrev pub FewBroke : ℕ → ℕ → ℕ → ℕ → Type 0
+FewBroke before after calls_left broken_off = (before + broken_off ≤ after) ⊎ (calls_left ≡ 0)
+
+-- a send of a value that writes this tree, where it writes one
+abbrev pub IsSendOf : ℕ → Option Tree → Type 0 → Send → Type 0
+IsSendOf limit writes valid (completed t) = (writes ≡ Some t) × valid
+IsSendOf limit writes valid refused = UnlessRefused writes (λ bytes. limit < length (shortest_frame bytes))
+IsSendOf limit writes valid (broken t k) = (writes ≡ Some t) × valid
+
+abbrev pub clean_after_all : Bool → List Send → Bool
+clean_after_all clean [] = clean
+clean_after_all clean (x ∷ xs) = clean_after_all (clean_after clean x) xs
+
+-- what a sender did to its line
+pub record Did (old new : Option (List ℕ)) (before after calls_before calls_after : ℕ) (bytes : List ℕ) (broken_off : ℕ) : Type 0 where
+  pub wrote : Wrote old new before after bytes
+  pub few : FewBroke before after calls_after broken_off
+  pub calls : calls_after ≤ calls_before
+
+-- one send
+pub record SendsOne (limit s : ℕ) (writes : Option Tree) (valid : Type 0) (clean later : Bool) (old new : Option (List ℕ)) (before after calls_before calls_after : ℕ) (fate : Fate) : Type 0 where
+  pub send : Send
+  pub is : IsSend IsTree limit s clean send
+  pub of : IsSendOf limit writes valid send
+  pub fated : fate ≡ fate_of send
+  pub did : Did old new before after calls_before calls_after (written s clean send) (broke send)
+  pub then : later ≡ clean_after clean send
+
+-- the sends of these values, and what became of them
+pub record SendsAll {V : Type 0} (limit s : ℕ) (writes : V → Option Tree) (valid : V → Type 0) (clean later : Bool) (old new : Option (List ℕ)) (before after calls_before calls_after : ℕ) (values : List V) (fates : List Fate) : Type 0 where
+  pub sends : List Send
+  pub are : IsSession IsTree limit s clean sends
+  pub of : AllZip (λ v x. IsSendOf limit (writes v) (valid v) x) values sends
+  pub fated : fates ≡ fates_of sends
+  pub did : Did old new before after calls_before calls_after (session_line s clean sends) (brokens sends)
+  pub then : later ≡ clean_after_all clean sends
+
+-- A session of values that are valid is one of trees that the type takes.
+abbrev pub IsCarried : {V : Type 0} → (Tree → Type 0) → (V → Option Tree) → (V → Type 0) → List V → Type 0
+IsCarried takes writes valid values = (limit s : ℕ) (clean : Bool) (xs : List Send) → AllZip (λ v x. IsSendOf limit (writes v) (valid v) x) values xs → IsSession IsTree limit s clean xs → IsSession takes limit s clean xs

@@ -1,0 +1,87 @@
+-- What the loop over an accumulator does with a piece.
+use Rattle.std.specs.Prelude.{◌≡◌, ℕ, Bool, true, List, [], ◌∷◌, ◌++◌}
+use Rattle.std.specs.Borrow.{RattleType}
+use Rattle.std.specs.Mem.{FitsInMemory}
+use Rattle.postcard_tree.specs.Tree.{Tree}
+use Rattle.postcard.specs.contracts.accumulator.CobsAccumulator as accumulator
+use Rattle.postcard.specs.Frames.{Holds}
+use Rattle.link.specs.Stream.{Verdict, Answers}
+use Rattle.link.specs.Roads.{Loops, joined, AllFit, AreValues, AreFirst, values_of, IsSameByAccumulator}
+use Rattle.link.specs.declared.listening.End.{End}
+use Rattle.link.specs.declared.listening.End.TheVariants.{Ended, ReadFault, NoMemory}
+
+-- an accumulator of such a room can be held
+abbrev pub AccumulatorFitsInMemory : RattleType → Type 0
+AccumulatorFitsInMemory N = FitsInMemory (accumulator.the_row N)
+
+-- From these held bytes the piece was fed until `rest` of it was left, and these values came: whatever the loop gives from
+-- there, it gives behind them.
+pub record GathersFront {V : Type 0} (takes : Tree → Type 0) (reads : Tree → V → Type 0) (growing : Bool) (room : ℕ) (held piece kept rest : List ℕ) (old new : List V) : Type 0 where
+  pub got : List V
+  pub values : new ≡ old ++ got
+  pub goes_on : (may_stop : Bool) (later : List (List ℕ)) (vs : List V) → Loops takes reads growing may_stop room kept (rest ∷ later) vs → Loops takes reads growing may_stop room held (piece ∷ later) (got ++ vs)
+
+-- The same of the whole piece.
+pub record GathersPiece {V : Type 0} (takes : Tree → Type 0) (reads : Tree → V → Type 0) (growing : Bool) (room : ℕ) (held piece kept : List ℕ) (old new : List V) : Type 0 where
+  pub got : List V
+  pub values : new ≡ old ++ got
+  pub goes_on : (may_stop : Bool) (later : List (List ℕ)) (vs : List V) → Loops takes reads growing may_stop room kept later vs → Loops takes reads growing may_stop room held (piece ∷ later) (got ++ vs)
+
+-- A further value had no place in the list: whatever the loop would have given from there comes behind it.
+pub record LacksPlace {V : Type 0} (takes : Tree → Type 0) (reads : Tree → V → Type 0) (growing : Bool) (room : ℕ) (held piece : List ℕ) (old new : List V) : Type 0 where
+  pub got : List V
+  pub lost : V
+  pub kept : List ℕ
+  pub rest : List ℕ
+  pub values : new ≡ old ++ got
+  pub goes_on : (may_stop : Bool) (later : List (List ℕ)) (vs : List V) → Loops takes reads growing may_stop room kept (rest ∷ later) vs → Loops takes reads growing may_stop room held (piece ∷ later) (got ++ (lost ∷ vs))
+
+-- `roads`' law of an accumulator, of any values
+abbrev pub AreSameByAccumulator : {V : Type 0} → (Tree → Type 0) → (Tree → V → Type 0) → Bool → Type 0
+AreSameByAccumulator {V} takes reads growing = (values : List V) → IsSameByAccumulator takes reads growing values
+
+-- a byte or none
+abbrev pub some_held : List ℕ → ℕ
+some_held [] = 0
+some_held (b ∷ held) = 1
+
+-- The same of pieces one behind another.
+pub record GathersPieces {V : Type 0} (takes : Tree → Type 0) (reads : Tree → V → Type 0) (growing : Bool) (room : ℕ) (held : List ℕ) (pieces : List (List ℕ)) (kept : List ℕ) (old new : List V) : Type 0 where
+  pub got : List V
+  pub values : new ≡ old ++ got
+  pub goes_on : (may_stop : Bool) (later : List (List ℕ)) (vs : List V) → Loops takes reads growing may_stop room kept later vs → Loops takes reads growing may_stop room held (pieces ++ later) (got ++ vs)
+
+-- pieces of these bytes
+pub record Gathers {V : Type 0} (takes : Tree → Type 0) (reads : Tree → V → Type 0) (growing : Bool) (room : ℕ) (held bytes kept : List ℕ) (old new : List V) : Type 0 where
+  pub pieces : List (List ℕ)
+  pub are : joined pieces ≡ bytes
+  pub gathers : GathersPieces takes reads growing room held pieces kept old new
+
+-- pieces of these bytes; then a further value had no place in the list
+pub record Lacks {V : Type 0} (takes : Tree → Type 0) (reads : Tree → V → Type 0) (growing : Bool) (room : ℕ) (held bytes : List ℕ) (old new : List V) : Type 0 where
+  pub pieces : List (List ℕ)
+  pub are : joined pieces ≡ bytes
+  pub got : List V
+  pub lost : V
+  pub values : new ≡ old ++ got
+  pub loops : Loops takes reads growing true room held pieces (got ++ lost ∷ [])
+
+-- what was gathered, by how the reading ended
+abbrev pub IsGathered : {V : Type 0} → (Tree → Type 0) → (Tree → V → Type 0) → Bool → ℕ → List ℕ → List ℕ → List ℕ → List V → List V → End → Type 0
+IsGathered takes reads growing room held bytes kept old new Ended = Gathers takes reads growing room held bytes kept old new
+IsGathered takes reads growing room held bytes kept old new ReadFault = Gathers takes reads growing room held bytes kept old new
+IsGathered takes reads growing room held bytes kept old new NoMemory = Lacks takes reads growing room held bytes old new
+
+-- Where the stretches of the bytes fit, the values are those of the answers.
+abbrev pub AreThose : {V : Type 0} → (Tree → Type 0) → (Tree → V → Type 0) → Bool → ℕ → List ℕ → List V → Type 0
+AreThose takes reads growing room bytes values = (answers : List Verdict) → AllFit room 0 bytes → Answers (Holds takes) room 0 bytes answers → AreValues reads growing (values_of answers) values
+
+-- The same of these values and one more, which had no place in the list, and of the first of the answers.
+pub record AreBefore {V : Type 0} (takes : Tree → Type 0) (reads : Tree → V → Type 0) (growing : Bool) (room : ℕ) (bytes : List ℕ) (values : List V) : Type 0 where
+  pub lost : V
+  pub those : (answers : List Verdict) → AllFit room 0 bytes → Answers (Holds takes) room 0 bytes answers → AreFirst reads growing true (values_of answers) (values ++ lost ∷ [])
+
+abbrev pub AreThoseBy : {V : Type 0} → (Tree → Type 0) → (Tree → V → Type 0) → Bool → ℕ → List ℕ → List V → End → Type 0
+AreThoseBy takes reads growing room bytes values Ended = AreThose takes reads growing room bytes values
+AreThoseBy takes reads growing room bytes values ReadFault = AreThose takes reads growing room bytes values
+AreThoseBy takes reads growing room bytes values NoMemory = AreBefore takes reads growing room bytes values

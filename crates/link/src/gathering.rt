@@ -1,0 +1,116 @@
+//! Receiving by postcard's accumulator.
+ghost use Rattle.std.specs.Prelude.{◌<◌, OnOk, OnErr, List, ℕ};
+ghost use Rattle.postcard.specs.Gathers.{held_of};
+ghost use Rattle.link.specs.Listening.{HasRead};
+ghost use Rattle.link.specs.Gathering.{GathersPiece, LacksPlace, AreSameByAccumulator, IsGathered, AreThoseBy, AccumulatorFitsInMemory};
+
+use crate::listening::End;
+use crate::receiver::NoMemory;
+use line_io::Inlet;
+use postcard::DeserializeOwned;
+use postcard::accumulator::{CobsAccumulator, FeedResult};
+use postcard_tree::Readable;
+use std::alloc::Global;
+
+// How many bytes are asked for in one read.
+const ROOM: usize = 1024;
+
+/// What was received.
+#[derive(Drop)]
+pub struct Gathered<T, R> {
+    /// The values, in the order of their frames.
+    pub values: Vec<T>,
+    /// How the reception ended.
+    pub end: End,
+    /// The reader that was handed in, after this call's reads.
+    pub reader: R,
+}
+
+// Feeds a piece until nothing is left of it, and keeps the values.
+fn gather<T: DeserializeOwned, const N: usize>(
+    alloc: Global,
+    accumulator: &mut CobsAccumulator<N>,
+    values: &mut Vec<T>,
+    piece: &[u8],
+) -> Result<(), NoMemory>
+    requires { 0 < N }
+    ensures ok { OnOk result (GathersPiece T.takes T.reads T.growing N (held_of accumulator.old) piece.now (held_of accumulator.new) values.old.items values.new.items) }
+    ensures err { OnErr result (LacksPlace T.takes T.reads T.growing N (held_of accumulator.old) piece.now values.old.items values.new.items) }
+{
+    let mut rest = piece;
+    while !rest.is_empty() {
+        match accumulator.feed::<T>(alloc, rest) {
+            FeedResult::Consumed => return Ok(()),
+            FeedResult::OverFull(left) => rest = left,
+            FeedResult::DeserError(left) => rest = left,
+            FeedResult::Success { value, remaining } => {
+                if values.push(value).is_err() {
+                    return Err(NoMemory);
+                }
+                rest = remaining;
+            }
+        }
+    }
+    Ok(())
+}
+
+// Feeds what a reader gives, to its end, and keeps the values.
+fn collect<T: DeserializeOwned, R: Inlet, const N: usize>(
+    alloc: Global,
+    reader: &mut R,
+    accumulator: &mut CobsAccumulator<N>,
+    values: &mut Vec<T>,
+) -> End
+    requires { 0 < N }
+    ensures { (bytes : List ℕ) × HasRead (R.to_come reader.old) (R.to_come reader.new) (R.faults reader.old) (R.faults reader.new) (R.calls_left reader.new) result bytes
+        × IsGathered T.takes T.reads T.growing N (held_of accumulator.old) bytes (held_of accumulator.new) values.old.items values.new.items result }
+{
+    let mut room = [0u8; ROOM];
+    loop {
+        match reader.read(&mut room) {
+            None => return End::ReadFault,
+            Some(0) => return End::Ended,
+            Some(n) => {
+                if gather(alloc, accumulator, values, &room[..n]).is_err() {
+                    return End::NoMemory;
+                }
+            }
+        }
+    }
+}
+
+// What `laws::roads` says of values, of any. It does nothing.
+fn gathered_alike<T: Readable>()
+    ensures { AreSameByAccumulator T.takes T.reads T.growing }
+{
+    cobs::laws::message_of_a_frame();
+    cobs::laws::frames_of_a_message();
+    postcard_tree::laws::short_is_a_spelling();
+}
+
+/// The values of all that a reader gives, to its end or first fault, by the loop that postcard documents for its accumulator: a
+/// frame with its zero has at most N bytes. The caller owes that N is at least 1.
+///
+/// What isn't a value is left out, and nothing tells of it. Where the stretches fit, the values are those among the answers of
+/// `receive`; but a value for which no memory was found is left out too, so a type that can ask for memory may lack some. At
+/// `NoMemory` the list itself found none: the values before it stand.
+pub fn receive_by_accumulator<T: DeserializeOwned, R: Inlet, const N: usize>(
+    alloc: Global,
+    reader: R,
+) -> Gathered<T, R>
+    requires some { 0 < N }
+    requires fits { AccumulatorFitsInMemory N.row }
+    ensures { (bytes : List ℕ) × HasRead (R.to_come reader) (R.to_come result.reader) (R.faults reader) (R.faults result.reader) (R.calls_left result.reader) result.end bytes
+        × AreThoseBy T.takes T.reads T.growing N bytes result.values.items result.end }
+{
+    let mut reader = reader;
+    let mut accumulator = CobsAccumulator::<N>::new();
+    let mut values = Vec::new(alloc);
+    let end = collect::<T, R, N>(alloc, &mut reader, &mut accumulator, &mut values);
+    gathered_alike::<T>();
+    Gathered {
+        values,
+        end,
+        reader,
+    }
+}

@@ -1,0 +1,72 @@
+//! Reading stretches where they lie.
+ghost use Rattle.std.specs.Prelude.{◌≡◌, ℕ, ◌<◌, ◌≤◌, [], length, drop, true, OnErr, IfSome, IfNone};
+ghost use Rattle.cobs.specs.InPlace.{stretch};
+ghost use Rattle.cobs.specs.Whole.{unpadded};
+ghost use Rattle.link.specs.InPlace.{AnswersEnded, ReadsNext};
+
+use crate::receiver::{Answer, NoMemory};
+use crate::zeros::before_zero;
+use postcard::{Deserialize, Error, from_bytes};
+use std::alloc::Global;
+
+// How many zeros stand in front.
+fn leading_zeros(bytes: &[u8]) -> usize
+    ensures rest { drop result bytes.now ≡ unpadded bytes.now }
+    ensures within { result ≤ length bytes.now }
+{
+    let mut count = 0;
+    while count < bytes.len() && bytes[count] == 0 {
+        count += 1;
+    }
+    count
+}
+
+// The answer to the stretch in front, which a zero ends. It is decoded over itself.
+fn read_stretch<'a, T: Deserialize<&'a [u8]>>(
+    alloc: Global,
+    bytes: &'a mut [u8],
+) -> Result<Answer<T>, NoMemory>
+    requires { stretch bytes.now ≡ [] → ⊥ }
+    ensures answer { AnswersEnded T.takes T.reads (stretch bytes.entry.now) result }
+    ensures memory { OnErr result (T.growing ≡ true) }
+{
+    cobs::laws::message_of_a_frame();
+    cobs::laws::shorter();
+    match cobs::decode_in_place(bytes) {
+        Ok(size) => match from_bytes(alloc, &bytes[..size]) {
+            Ok(value) => Ok(Answer::Value(value)),
+            Err(error) => match error {
+                Error::OutOfMemory => Err(NoMemory),
+                _ => Ok(Answer::Damaged),
+            },
+        },
+        Err(_) => Ok(Answer::Damaged),
+    }
+}
+
+/// The answer to the next stretch, and the bytes behind its zero; nothing where no byte but zeros is left.
+///
+/// Leading zeros are skipped. A stretch that a zero ends is decoded over its own bytes, from which the value may borrow; there is
+/// no limit to its length, so it is never `TooLong`. One that no zero ends is `Cut`, its bytes stay as they were, and nothing is
+/// left behind it. `NoMemory` is only for a frame, and the bytes behind its zero are left then too.
+pub fn read_in_place<'a, T: Deserialize<&'a [u8]>>(
+    alloc: Global,
+    bytes: &'a mut [u8],
+) -> Option<(Result<Answer<T>, NoMemory>, &'a mut [u8])>
+    ensures some { IfSome result (λ p. ReadsNext T.takes T.reads (unpadded bytes.entry.now) p.0 p.1.now) }
+    ensures none { IfNone result (unpadded bytes.entry.now ≡ []) }
+    ensures memory { IfSome result (λ p. OnErr p.0 (T.growing ≡ true)) }
+{
+    let zeros = leading_zeros(bytes);
+    let (_, rest) = bytes.split_at_mut(zeros);
+    if rest.is_empty() {
+        return None;
+    }
+    let size = before_zero(rest);
+    if size == rest.len() {
+        let (_, end) = rest.split_at_mut(size);
+        return Some((Ok(Answer::Cut), end));
+    }
+    let (front, after) = rest.split_at_mut(size + 1);
+    Some((read_stretch(alloc, front), after))
+}

@@ -1,0 +1,69 @@
+//! Values over a line that may break: a sender puts each value on it as a frame that ends with a zero, and a receiver
+//! answers each stretch of bytes that a zero ends, however the bytes are cut into pieces.
+//!
+//! ```text
+//! let mut sender = Sender::<_, 64>::new(writer);
+//! if sender.send(&reading).is_err() {
+//!     // the line failed, or the frame is longer than 64 bytes; the next send is heard all the same
+//! }
+//!
+//! let mut receiver = Receiver::<64>::new();
+//! let mut rest = piece;
+//! while !rest.is_empty() {
+//!     let Pushed { used, answer } = receiver.push::<Reading>(alloc, rest);
+//!     rest = &rest[used..];
+//!     match answer {
+//!         Ok(Some(Answer::Value(reading))) => take(reading),
+//!         Ok(Some(_)) => note_a_loss(),
+//!         Ok(None) => {}
+//!         Err(NoMemory) => note_a_loss(),
+//!     }
+//! }
+//! ```
+//!
+//! | To | Use |
+//! |---|---|
+//! | send values one by one | `Sender` |
+//! | send the values of a slice, and know what became of each | `send_each` |
+//! | write a frame into a buffer of the caller's | `Framed`, a flavor of postcard's |
+//! | receive from pieces | `Receiver`: `push`, `push_ref` of values that borrow, `push_strict` of what sending makes alone |
+//! | receive all that a reader gives | `receive`, `receive_strict`, `receive_by_accumulator` |
+//! | read a buffer where it lies | `read_in_place` |
+//!
+//! A **stretch** is a longest run of bytes that aren't zero. One that a zero ends is answered by the value of its frame, or
+//! `Damaged`, or `TooLong` where it has more bytes than the receiver's N; one that is still unfinished at the end is `Cut`.
+//! Zeros in a row answer nothing. So every answer is by its own stretch alone: damage in one reaches no other.
+//!
+//! A send that the line breaks off leaves a beginning of its bytes. The next send that writes, of this sender or of another one,
+//! begins with a zero and so ends what was left of it: that is `Damaged`, or the value where its whole frame had gone out. No
+//! other value is ever made of it. `laws::told` says this of every run of sends; `headline` says it of the calls.
+//!
+//! What allocates takes the allocator first. Only `receive`, `receive_strict` and `receive_by_accumulator` take memory
+//! themselves, for their lists; the other calls take some only where a value's type does.
+//!
+//! The contracts speak of bytes as lists and of values by the trees that postcard writes them as: `specs/Stream.antt` says what
+//! is answered, `specs/Run.antt` what is sent and what is to be told of it, and `laws` what holds of these.
+#![tactic(auto)]
+
+mod framed;
+mod gathering;
+pub mod headline;
+mod in_place;
+mod judging;
+pub mod laws;
+mod lent;
+mod listening;
+mod receiver;
+pub mod rows;
+mod sender;
+mod session;
+mod writing;
+mod zeros;
+
+pub use framed::Framed;
+pub use gathering::{Gathered, receive_by_accumulator};
+pub use in_place::read_in_place;
+pub use listening::{End, Received, receive, receive_strict};
+pub use receiver::{Answer, NoMemory, Pushed, Receiver};
+pub use sender::{SendError, Sender};
+pub use session::{Fate, send_each};

@@ -1,0 +1,104 @@
+//! Sending values over a line that may fail.
+ghost use Rattle.std.specs.Prelude.{◌≡◌, ℕ, ◌+◌, ◌<◌, ◌≤◌, ◌++◌, ◌∷◌, List, [], length, take, false, IsTrue, IfSome, IfNone, OnOk, if◌then◌else◌};
+ghost use Rattle.cobs.specs.Sentinel.{masked};
+ghost use Rattle.postcard_tree.specs.Tree.{Tree, IsTree};
+ghost use Rattle.line_io.specs.Device.{Wrote};
+ghost use Rattle.link.specs.Run.{Send, written, clean_after, IsSend};
+
+use crate::framed::frame_into;
+use crate::writing::put_frame;
+use line_io::Outlet;
+use postcard::Serialize;
+use thiserror::Error;
+
+/// Why a value wasn't sent whole.
+#[derive(Clone, Copy, PartialEq, Eq, Debug, Drop, Error)]
+pub enum SendError {
+    /// The value refuses itself, or its frame is longer than N bytes, which is `SerializeBufferFull`. Nothing was written, and
+    /// whether the sender is clean stays. Where both hold, either cause may be named.
+    #[error("refused: {0}")]
+    Refused(postcard::Error),
+    /// A write failed or took nothing. A beginning of this send's bytes went out, not all of them, and perhaps none; the
+    /// sender isn't clean.
+    #[error("line failed")]
+    Line,
+}
+
+/// Sends values over a line, each as a frame of at most N bytes and a zero.
+///
+/// A sender that isn't clean writes a zero first, so that what an earlier send has left on the line ends there. It owns the line
+/// while it lives: what others write between two of its sends, it doesn't know of.
+#[derive(Drop)]
+pub struct Sender<W, const N: usize> {
+    writer: W,
+    clean: bool,
+    buffer: [u8; N],
+    ghost some: { 0 < N },
+}
+
+impl<W: Outlet, const N: usize> Sender<W, N> {
+    ghost use Rattle.link.specs.Senders.{writer_of, clean_of, IsSent, UnlessRefusal, OnRefusal, OnLine, Failed};
+
+    /// A sender that hasn't written anything, and isn't clean. The caller owes that N is at least 1.
+    pub fn new(writer: W) -> Sender<W, N>
+        requires { 0 < N }
+        ensures writer { writer_of result ≡ writer }
+        ensures clean { clean_of result ≡ false }
+    {
+        Sender {
+            writer,
+            clean: false,
+            buffer: [0; N],
+        }
+    }
+
+    /// Whether the last send that wasn't refused completed. Where it didn't, or none was made, the next send that writes begins
+    /// with a zero.
+    pub fn is_clean(&self) -> bool
+        ensures { result ≡ clean_of self.now }
+    {
+        self.clean
+    }
+
+    /// What it writes to, after all its writes.
+    pub fn into_inner(self) -> W
+        ensures { result ≡ writer_of self }
+    {
+        let Sender {
+            writer,
+            clean: _,
+            buffer: _,
+        } = self;
+        writer
+    }
+
+    /// Sends a value: a zero where the sender isn't clean, the shortest frame of the value's shortest spelling, and a zero.
+    ///
+    /// The frame is whole in the sender's own buffer before its first byte goes out. No memory is taken, and nothing is tried
+    /// twice: after `Line` the caller may send the value again, and a receiver may then hear it twice.
+    pub fn send<T: Serialize>(&mut self, value: &T) -> Result<(), SendError>
+        ensures sent { (x : Send) × IsSend IsTree N 0 (clean_of self.old) x × IsSent N (T.writes value.now) result x
+            × Wrote (W.written (writer_of self.old)) (W.written (writer_of self.new)) (W.faults (writer_of self.old)) (W.faults (writer_of self.new)) (written 0 (clean_of self.old) x)
+            × (clean_of self.new ≡ clean_after (clean_of self.old) x) }
+        ensures valid { UnlessRefusal result (T.valid value.now) }
+        ensures refused { OnRefusal result (writer_of self.new ≡ writer_of self.old) }
+        ensures calls { W.calls_left (writer_of self.new) ≤ W.calls_left (writer_of self.old) }
+        ensures done { OnOk result (W.faults (writer_of self.new) ≡ W.faults (writer_of self.old)) }
+        ensures line { OnLine result (Failed (W.faults (writer_of self.old)) (W.faults (writer_of self.new)) (W.calls_left (writer_of self.new))) }
+    {
+        let n = match frame_into(value, &mut self.buffer) {
+            Ok(n) => n,
+            Err(e) => return Err(SendError::Refused(e)),
+        };
+        match put_frame(&mut self.writer, self.clean, &self.buffer[..n]) {
+            None => {
+                self.clean = true;
+                Ok(())
+            }
+            Some(_) => {
+                self.clean = false;
+                Err(SendError::Line)
+            }
+        }
+    }
+}

@@ -1,0 +1,72 @@
+//! Sending values in turn.
+ghost use Rattle.std.specs.Prelude.{◌≡◌, ◌<◌, ℕ, Bool, false, length};
+ghost use Rattle.link.specs.Senders.{writer_of, clean_of};
+ghost use Rattle.link.specs.Fates.{SendsOne, SendsAll, SenderFitsInMemory};
+
+use crate::sender::{SendError, Sender};
+use line_io::Outlet;
+use postcard::Serialize;
+
+/// What became of a send.
+#[derive(Clone, Copy, PartialEq, Debug, Drop)]
+pub enum Fate {
+    /// All its bytes went out.
+    Done,
+    /// The value refuses itself, or its frame is longer than N bytes. Nothing was written.
+    Refused,
+    /// A write failed or took nothing. A beginning of this send's bytes went out, not all of them, and perhaps none.
+    Broken,
+}
+
+// Sends a value.
+fn send_one<T: Serialize, W: Outlet, const N: usize>(sender: &mut Sender<W, N>, value: &T) -> Fate
+    ensures { SendsOne N 0 (T.writes value.now) (T.valid value.now) (clean_of sender.old) (clean_of sender.new)
+        (W.written (writer_of sender.old)) (W.written (writer_of sender.new)) (W.faults (writer_of sender.old)) (W.faults (writer_of sender.new))
+        (W.calls_left (writer_of sender.old)) (W.calls_left (writer_of sender.new)) result }
+{
+    match sender.send(value) {
+        Ok(()) => Fate::Done,
+        Err(error) => match error {
+            SendError::Refused(_) => Fate::Refused,
+            SendError::Line => Fate::Broken,
+        },
+    }
+}
+
+// Sends the values in turn.
+fn send_all<T: Serialize, W: Outlet, const N: usize>(
+    sender: &mut Sender<W, N>,
+    values: &[T],
+    fates: &mut [Fate],
+)
+    requires { length values.now ≡ length fates.old }
+    ensures { SendsAll N 0 T.writes T.valid (clean_of sender.old) (clean_of sender.new)
+        (W.written (writer_of sender.old)) (W.written (writer_of sender.new)) (W.faults (writer_of sender.old)) (W.faults (writer_of sender.new))
+        (W.calls_left (writer_of sender.old)) (W.calls_left (writer_of sender.new)) values.now fates.new }
+{
+    for i in 0..values.len() {
+        fates[i] = send_one(sender, &values[i]);
+    }
+}
+
+/// Sends the values in turn by a new `Sender` with frames of at most N bytes, going on after refusals and faults, and puts what
+/// became of each in its place. Answers the writer, after all the writes.
+///
+/// The caller owes as many places as values (there may be none of either), and that N is at least 1. No more sends are `Broken`
+/// than writes failed or took nothing, as long as the writer had a call left.
+pub fn send_each<T: Serialize, W: Outlet, const N: usize>(
+    writer: W,
+    values: &[T],
+    fates: &mut [Fate],
+) -> W
+    requires places { length values.now ≡ length fates.old }
+    requires some { 0 < N }
+    requires fits { SenderFitsInMemory W.row N.row }
+    ensures { (later : Bool) × SendsAll N 0 T.writes T.valid false later
+        (W.written writer) (W.written result) (W.faults writer) (W.faults result)
+        (W.calls_left writer) (W.calls_left result) values.now fates.new }
+{
+    let mut sender = Sender::<W, N>::new(writer);
+    send_all(&mut sender, values, fates);
+    sender.into_inner()
+}

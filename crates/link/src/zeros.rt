@@ -1,0 +1,13 @@
+//! Where a stretch ends.
+ghost use Rattle.std.specs.Prelude.{◌≡◌, ◌≤◌, length};
+ghost use Rattle.cobs.specs.InPlace.{stretch};
+
+use memchr::memchr;
+
+// How many bytes stand before the first zero; all where there is none.
+pub(crate) fn before_zero(bytes: &[u8]) -> usize
+    ensures before { result ≡ length (stretch bytes.now) }
+    ensures within { result ≤ length bytes.now }
+{
+    memchr(0, bytes).unwrap_or(bytes.len())
+}
