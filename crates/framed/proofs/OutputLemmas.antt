@@ -1,12 +1,13 @@
 -- Bytes that are put one after another.
-use Rattle.std.proofs.Common.{◌≡◌, ℕ, List, [], ◌++◌, sym, ap, subst, ◌∙◌, append_assoc, Option}
-use Rattle.std.proofs.lemmas.List.{append-nil}
-use Rattle.framed.specs.Devices.{WentOut, BrokeOff}
+use Rattle.std.proofs.Common.{◌≡◌, ℕ, List, [], ◌++◌, length, sym, ap, subst, ◌∙◌, arith, append_assoc, Option}
+use Rattle.std.proofs.lemmas.List.{append-nil, length-append}
+use Rattle.std.specs.Prelude.{Result, Ok, Err, OnErr}
+use Rattle.line_io.specs.Transfers.{WentOut, BrokeOff}
 use Rattle.framed.specs.Output.{Put}
-use Rattle.framed.proofs.DeviceSteps.{went-none, went-then, went-broke, broke-more}
+use Rattle.line_io.specs.Calls.{WentOut-none, WentOut-then, BrokeOff-then, BrokeOff-more}
 
 pub put-none : (w : Option (List ℕ)) (f : ℕ) (held : List ℕ) → Put w w f f held held []
-put-none w f held = record { sent = []; bytes_are = append-nil held; went = went-none w f }
+put-none w f held = record { sent = []; bytes_are = append-nil held; went = WentOut-none w f }
 
 pub put-then : {u v w : Option (List ℕ)} {f g h : ℕ} {x y z a b : List ℕ} → Put u v f g x y a → Put v w g h y z b → Put u w f h x z (a ++ b)
 put-then {x = x} {y = y} {z = z} {a = a} {b = b} p q = record {
@@ -14,7 +15,7 @@ put-then {x = x} {y = y} {z = z} {a = a} {b = b} p q = record {
   bytes_are =
       sym (append_assoc x a b) ∙ (ap (λ t. t ++ b) p.bytes_are ∙ (append_assoc p.sent y b
       ∙ (ap (λ t. p.sent ++ t) q.bytes_are ∙ sym (append_assoc p.sent q.sent z))));
-  went = went-then p.went q.went;
+  went = WentOut-then p.went q.went;
 }
 
 pub put-broke : {u v w : Option (List ℕ)} {f g h calls : ℕ} {x y a : List ℕ} (b : List ℕ) → Put u v f g x y a → BrokeOff v w g h calls (y ++ b)
@@ -22,7 +23,7 @@ pub put-broke : {u v w : Option (List ℕ)} {f g h calls : ℕ} {x y a : List �
 put-broke {x = x} {y = y} {a = a} b p q =
     let same : p.sent ++ (y ++ b) ≡ x ++ (a ++ b) =
     sym (append_assoc p.sent y b) ∙ (ap (λ t. t ++ b) (sym p.bytes_are) ∙ append_assoc x a b) in
-    rw same at (went-broke p.went q)
+    rw same at (BrokeOff-then p.went q)
 
 -- what was held goes out, and then the bytes
 pub put-through : {u v w : Option (List ℕ)} {f g h : ℕ} {front held kept bytes : List ℕ} → front ≡ held → kept ≡ [] → WentOut u v f g front
@@ -30,13 +31,13 @@ pub put-through : {u v w : Option (List ℕ)} {f g h : ℕ} {front held kept byt
 put-through {front = front} {bytes = bytes} e k p q = record {
   sent = front ++ bytes;
   bytes_are = ap (λ x. x ++ bytes) (sym e) ∙ (sym (append-nil (front ++ bytes)) ∙ ap (λ x. (front ++ bytes) ++ x) (sym k));
-  went = went-then p q;
+  went = WentOut-then p q;
 }
 
 pub broke-through : {u v w : Option (List ℕ)} {f g h calls : ℕ} {front held bytes : List ℕ} → front ≡ held → WentOut u v f g front
     → BrokeOff v w g h calls bytes → BrokeOff u w f h calls (held ++ bytes)
 broke-through {u = u} {w = w} {f = f} {h = h} {calls = calls} {bytes = bytes} e p q =
-    subst (λ (x : List ℕ). BrokeOff u w f h calls (x ++ bytes)) e (went-broke p q)
+    subst (λ (x : List ℕ). BrokeOff u w f h calls (x ++ bytes)) e (BrokeOff-then p q)
 
 -- the first bytes were put, and then others
 pub put-done : {u v w : Option (List ℕ)} {f g h : ℕ} {x y z a b : List ℕ} (all : List ℕ) → all ≡ a ++ b → Put u v f g x y a → Put v w g h y z b
@@ -47,7 +48,7 @@ put-done {u = u} {w = w} {f = f} {h = h} {x = x} {z = z} all e p q = let P : Lis
 pub put-breaks : {u v w : Option (List ℕ)} {f g h calls : ℕ} {x y a : List ℕ} (all b c : List ℕ) → all ≡ a ++ (b ++ c) → Put u v f g x y a
     → BrokeOff v w g h calls (y ++ b) → BrokeOff u w f h calls (x ++ all)
 put-breaks {u = u} {w = w} {f = f} {h = h} {calls = calls} {x = x} {y = y} {a = a} all b c e p q =
-    let more : BrokeOff u w f h calls ((x ++ (a ++ b)) ++ c) = broke-more c (put-broke b p q) in
+    let more : BrokeOff u w f h calls ((x ++ (a ++ b)) ++ c) = BrokeOff-more c (put-broke b p q) in
     let same : (x ++ (a ++ b)) ++ c ≡ x ++ all = rw e (simp append_assoc) in
     let P : List ℕ → Type 0 = λ t. BrokeOff u w f h calls t in
     subst P same more
@@ -56,4 +57,22 @@ put-breaks {u = u} {w = w} {f = f} {h = h} {calls = calls} {x = x} {y = y} {a = 
 pub put-flush : {u v w : Option (List ℕ)} {f g h calls : ℕ} {x y a : List ℕ} → Put u v f g x y a → BrokeOff v w g h calls y
     → BrokeOff u w f h calls (x ++ a)
 put-flush {u = u} {w = w} {f = f} {h = h} {calls = calls} p q =
-    let P : List ℕ → Type 0 = λ t. BrokeOff u w f h calls t in subst P (sym p.bytes_are) (went-broke p.went q)
+    let P : List ℕ → Type 0 = λ t. BrokeOff u w f h calls t in subst P (sym p.bytes_are) (BrokeOff-then p.went q)
+
+pub on_err : {T E P : Type 0} (r : Result T E) → P → OnErr r P
+on_err (Ok x) p = tt
+on_err (Err e) p = p
+
+-- the first bytes went out, and then others
+pub went-done : {u v w : Option (List ℕ)} {f g h : ℕ} {a b : List ℕ} (all : List ℕ) → all ≡ a ++ b → WentOut u v f g a → WentOut v w g h b → WentOut u w f h all
+went-done {u = u} {w = w} {f = f} {h = h} all e p q = let P : List ℕ → Type 0 = λ t. WentOut u w f h t in subst P (sym e) (WentOut-then p q)
+
+-- the first bytes went out, and then the device broke off
+pub went-breaks : {u v w : Option (List ℕ)} {f g h calls : ℕ} {a b : List ℕ} (all c : List ℕ) → all ≡ a ++ (b ++ c) → WentOut u v f g a
+    → BrokeOff v w g h calls b → BrokeOff u w f h calls all
+went-breaks {u = u} {w = w} {f = f} {h = h} {calls = calls} all c e p q =
+    let P : List ℕ → Type 0 = λ t. BrokeOff u w f h calls t in subst P (sym e) (BrokeOff-then p (BrokeOff-more c q))
+
+-- no device breaks off in nothing
+pub never-broke : {u w : Option (List ℕ)} {f h calls : ℕ} → BrokeOff u w f h calls [] → ⊥
+never-broke p = let l = p.some_left in let e : length {A = ℕ} [] ≡ length (p.front ++ p.rest) = ap length p.bytes_are in omega (arith, length-append p.front p.rest)

@@ -1,67 +1,14 @@
--- How a run ends, from how its reading, its work and its last line ended.
-use Rattle.std.proofs.Common.{◌≡◌, ℕ, ◌<◌, ◌≤◌, ◌⊎◌, inl, inr, Bool, true, false, List, [], ◌++◌, refl, sym, subst, arith, if◌then◌else◌}
+-- How a run ends, from how its work and its last line ended.
+use Rattle.std.proofs.Common.{◌≡◌, ℕ, ◌<◌, ◌≤◌, inl, inr, Bool, true, false, List, ◌++◌, sym, subst, arith, if◌then◌else◌}
 use Rattle.std.specs.Prelude.{Result, Ok, Err}
 use Rattle.framed.specs.declared.arguments.Mode.{Mode}
-use Rattle.framed.specs.declared.arguments.Mode.TheVariants.{Pack, Unpack}
-use Rattle.framed.specs.declared.devices.End.{End}
-use Rattle.framed.specs.declared.devices.End.TheVariants.{Ended, ReadFault, NoMemory}
+use Rattle.framed.specs.declared.arguments.Mode.TheVariants.{Pack, Unpack, Strict}
 use Rattle.framed.specs.declared.stop.Stop.{Stop}
 use Rattle.framed.specs.declared.stop.Stop.TheVariants as stop
-use Rattle.framed.specs.Devices.{Fate, whole, broken, Reach, ended, stopped, failed}
-use Rattle.framed.specs.Program.{Program, WritesGiven, Begins, Finishes, ReadFails, LacksMemory, SayingFails, Fails, read_failed, write_failed, no_memory}
-use Rattle.framed.specs.Sending.{lines_in}
-use Rattle.framed.specs.Working.{AsRead, Before, Worked, whole_text, Reports}
+use Rattle.line_io.specs.Transfers.{Fate, whole, broken, Reach}
+use Rattle.framed.specs.Program.{Program, Finishes, LacksMemory, SayingFails, Fails, read_failed, write_failed, no_memory}
+use Rattle.framed.specs.Working.{Before, Worked, Reports}
 use Rattle.framed.proofs.WorkLemmas.{Finishes-map, ReadFails-map, WriteFails-map, LacksMemory-map, SayingFails-map}
-
--- all of the text is there where it was read to its end
-pub whole-ended : (end : End) (x : Unit {0}) → ◌≡◌ {A = Result (Unit {0}) Stop} (Ok x) (whole_text end) → end ≡ Ended
-whole-ended Ended x e = refl
-whole-ended ReadFault x e = cc
-whole-ended NoMemory x e = cc
-
--- nothing is written of a text that is to be whole
-nothing-given : (mode : Mode) (hex : Bool) (text : List ℕ) → (mode ≡ Pack) ⊎ (hex ≡ true) → WritesGiven mode hex text []
-nothing-given Pack hex text needs = refl
-nothing-given Unpack true text needs = refl
-nothing-given Unpack false text (inl e) = cc
-nothing-given Unpack false text (inr e) = cc
-
--- nothing is a beginning of every text of the program
-nothing-begun : (mode : Mode) (hex : Bool) (text : List ℕ) → Begins mode hex text [] []
-nothing-begun Pack hex text =
-    (refl, record { seen = []; later = lines_in text; lines_are = refl; outcomes = []; are = tt; said_is = refl })
-nothing-begun Unpack hex text = (refl, inl refl)
-
--- no work is done on a part of a text that is to be whole
-pub stopped-early : (mode : Mode) (hex : Bool) (end : End) (cause : Stop) (text lost : List ℕ) (w t : Fate → List ℕ → Type 0)
-    → (mode ≡ Pack) ⊎ (hex ≡ true) → ◌≡◌ {A = Result (Unit {0}) Stop} (Err cause) (whole_text end) → w whole [] → t whole []
-    → Worked mode hex (AsRead end text lost) w t (Err cause)
-stopped-early mode hex Ended cause text lost w t needs e o s = cc
-stopped-early mode hex ReadFault cause text lost w t needs e o s =
-    let is : cause ≡ stop.ReadFault = cc in
-    let fails : ReadFails mode hex (AsRead ReadFault text lost) w (Before read_failed (t whole)) = record {
-      text = text;
-      out = [];
-      is = nothing-given mode hex text needs;
-      read = refl;
-      wrote = o;
-      told = ([], refl, s);
-    } in
-    let P : Stop → Type 0 = λ c. Worked mode hex (AsRead ReadFault text lost) w t (Err c) in
-    subst P (sym is) fails
-stopped-early mode hex NoMemory cause text lost w t needs e o s =
-    let is : cause ≡ stop.NoMemory = cc in
-    let lacks : LacksMemory mode hex (AsRead NoMemory text lost) w (Before no_memory (t whole)) = record {
-      text = text ++ lost;
-      out = [];
-      said = [];
-      is = nothing-begun mode hex (text ++ lost);
-      read = refl;
-      wrote = o;
-      told = ([], refl, s);
-    } in
-    let P : Stop → Type 0 = λ c. Worked mode hex (AsRead NoMemory text lost) w t (Err c) in
-    subst P (sym is) lacks
 
 low : (b : Bool) (status : ℕ) → status ≡ (if b then 0 else 1) → status < 3
 low true status e = omega arith
@@ -71,38 +18,8 @@ program-low : (mode : Mode) (hex : Bool) (text out said : List ℕ) (status : �
 program-low Pack hex text out said status p = low _ status p.status_is
 program-low Unpack hex text out said status (inl p) = low _ status p.status_is
 program-low Unpack hex text out said status (inr p) = (let s = p.status_is in omega arith)
-
--- what the reader was seen to do
-pub read-as : (end : End) (text bytes : List ℕ) (s : Reach → List ℕ → Type 0) → text ≡ bytes → (end ≡ Ended → s ended bytes) → (end ≡ ReadFault → s failed bytes)
-    → (end ≡ NoMemory → (lost : List ℕ) × s stopped (bytes ++ lost)) → ((b : List ℕ) → s ended b → s stopped b)
-    → (lost : List ℕ) × ((reach : Reach) (t : List ℕ) → AsRead end text lost reach t → s reach t)
-read-as Ended text bytes s e f g h k = (
-  [],
-  λ reach t a.
-      (elim reach as (λ x. AsRead Ended text [] x t → s x t) [
-        | ended ↦ λ b. rw (b, e) (f refl)
-        | stopped ↦ λ b. rw (b, e) (k bytes (f refl))
-        | failed ↦ λ b. absurd b
-      ]) a,
-)
-read-as ReadFault text bytes s e f g h k = (
-  [],
-  λ reach t a.
-      (elim reach as (λ x. AsRead ReadFault text [] x t → s x t) [
-        | ended ↦ λ b. absurd b
-        | stopped ↦ λ b. absurd b
-        | failed ↦ λ b. rw (b, e) (g refl)
-      ]) a,
-)
-read-as NoMemory text bytes s e f g h k = (
-  (h refl).0,
-  λ reach t a.
-      (elim reach as (λ x. AsRead NoMemory text (h refl).0 x t → s x t) [
-        | ended ↦ λ b. absurd b
-        | stopped ↦ λ b. rw (b, e) (h refl).1
-        | failed ↦ λ b. absurd b
-      ]) a,
-)
+program-low Strict hex text out said status (inl p) = low _ status p.status_is
+program-low Strict hex text out said status (inr p) = (let s = p.status_is in omega arith)
 
 -- how a run ends
 pub record Ends (mode : Mode) (hex : Bool) (status : ℕ) (reading : Reach → List ℕ → Type 0) (writing saying : Fate → List ℕ → Type 0) : Type 0 where

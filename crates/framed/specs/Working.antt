@@ -1,30 +1,30 @@
 -- How the work of a run ends, before its last line is said.
-use Rattle.std.specs.Prelude.{◌≡◌, ℕ, Bool, true, false, List, [], ◌++◌, ◌⊎◌, Result, Ok, Err}
+use Rattle.std.specs.Prelude.{◌≡◌, ℕ, Bool, true, false, List, [], ◌++◌, ◌⊎◌, Result, Ok, Err, if◌then◌else◌}
+use Rattle.std.specs.List.{list_all}
 use Rattle.framed.specs.declared.arguments.Mode.{Mode}
-use Rattle.framed.specs.declared.devices.End.{End}
-use Rattle.framed.specs.declared.devices.End.TheVariants.{Ended, ReadFault, NoMemory}
+use Rattle.framed.specs.declared.arguments.Mode.TheVariants.{Unpack, Strict}
 use Rattle.framed.specs.declared.stop.Stop.{Stop}
 use Rattle.framed.specs.declared.stop.Stop.TheVariants as stop
-use Rattle.framed.specs.Devices.{Fate, whole, broken, Reach, ended, stopped, failed}
-use Rattle.framed.specs.Program.{Finishes, ReadFails, WriteFails, LacksMemory, SayingFails, read_failed, write_failed, no_memory}
+use Rattle.line_io.specs.Transfers.{Fate, whole, broken, Reach, ended, stopped, failed}
+use Rattle.link.specs.Run.{Send}
+use Rattle.link.specs.Stream.{Verdict}
+use Rattle.link.specs.declared.listening.End.{End}
+use Rattle.link.specs.declared.listening.End.TheVariants.{Ended, ReadFault, NoMemory}
+use Rattle.framed.specs.declared.devices.WriteFault.{WriteFault}
+use Rattle.framed.specs.Lines.{AreAnswers, lines_of, is_value}
+use Rattle.framed.specs.Program.{Finishes, ReadFails, WriteFails, LacksMemory, SayingFails, SaysFirst, SaysBefore, WritesFirst, read_failed, write_failed, no_memory}
+use Rattle.framed.specs.Sending.{IsSendable, IsSendOf, AreSendsOf, is_whole, lines_in, refusals, said_of, all_sent}
 
--- What is known of a text by how its reading ended: where memory ran out, further bytes were read and lost.
-abbrev pub AsRead : End → List ℕ → List ℕ → Reach → List ℕ → Type 0
-AsRead Ended bytes lost ended text = text ≡ bytes
-AsRead Ended bytes lost stopped text = text ≡ bytes
-AsRead Ended bytes lost failed text = ⊥
-AsRead ReadFault bytes lost ended text = ⊥
-AsRead ReadFault bytes lost stopped text = ⊥
-AsRead ReadFault bytes lost failed text = text ≡ bytes
-AsRead NoMemory bytes lost ended text = ⊥
-AsRead NoMemory bytes lost stopped text = text ≡ bytes ++ lost
-AsRead NoMemory bytes lost failed text = ⊥
+-- the text was read to its end
+abbrev pub IsWhole : List ℕ → Reach → List ℕ → Type 0
+IsWhole bytes ended text = text ≡ bytes
+IsWhole bytes stopped text = ⊥
+IsWhole bytes failed text = ⊥
 
--- whether there was nothing left to read
-abbrev pub came_to_end : End → Bool
-came_to_end Ended = true
-came_to_end ReadFault = false
-came_to_end NoMemory = false
+-- the mode that reads frames, strictly or not
+abbrev pub unpacking : Bool → Mode
+unpacking false = Unpack
+unpacking true = Strict
 
 -- nothing is said
 abbrev pub says_nothing : Fate → List ℕ → Type 0
@@ -43,12 +43,6 @@ Worked mode hex reading writing saying (Err stop.WriteFault) = WriteFails mode h
 Worked mode hex reading writing saying (Err stop.SayingFault) = SayingFails mode hex reading writing (saying broken)
 Worked mode hex reading writing saying (Err stop.NoMemory) = LacksMemory mode hex reading writing (Before no_memory (saying whole))
 
--- whether all of a text is there, or why not
-abbrev pub whole_text : End → Result (Unit {0}) Stop
-whole_text Ended = Ok tt
-whole_text ReadFault = Err stop.ReadFault
-whole_text NoMemory = Err stop.NoMemory
-
 -- The line was said, with a status; or standard error failed.
 abbrev pub SaysLast : (Fate → List ℕ → Type 0) → List ℕ → ℕ → ℕ → Type 0
 SaysLast saying line planned status = ((status ≡ planned) × saying whole line) ⊎ ((status ≡ 3) × saying broken line)
@@ -60,3 +54,47 @@ Reports old new saying (Err stop.ReadFault) status = SaysLast saying read_failed
 Reports old new saying (Err stop.WriteFault) status = SaysLast saying write_failed 3 status
 Reports old new saying (Err stop.SayingFault) status = (status ≡ 3) × (new ≡ old)
 Reports old new saying (Err stop.NoMemory) status = SaysLast saying no_memory 4 status
+
+-- What comes of the line with this number, by what is put of it and what standard error takes in vain: whether it is sent.
+abbrev pub SendsLine : List ℕ → ℕ → (Send → Type 0) → (List ℕ → Type 0) → (List ℕ → Type 0) → Result Bool Stop → Type 0
+SendsLine line number adds puts breaks (Ok sent) = (x : Send) × IsSendOf line x × (sent ≡ is_whole x) × adds x × puts (said_of number x)
+SendsLine line number adds puts breaks (Err stop.SayingFault) = (x : Send) × IsSendOf line x × breaks (said_of number x)
+SendsLine line number adds puts breaks (Err stop.NoMemory) = IsSendable line × puts []
+SendsLine line number adds puts breaks (Err stop.ReadFault) = ⊥
+SendsLine line number adds puts breaks (Err stop.WriteFault) = ⊥
+
+-- What comes of all lines of a text: whether all are sent.
+abbrev pub SendsLines : List ℕ → (List Send → Type 0) → (List ℕ → Type 0) → (List ℕ → Type 0) → Result Bool Stop → Type 0
+SendsLines text adds puts breaks (Ok good) = (sends : List Send) × AreSendsOf (lines_in text) sends × (good ≡ all_sent sends) × adds sends × puts (refusals 1 sends)
+SendsLines text adds puts breaks (Err stop.SayingFault) = (said : List ℕ) × SaysFirst text said × breaks said
+SendsLines text adds puts breaks (Err stop.NoMemory) = (said : List ℕ) × SaysBefore text said × puts said
+SendsLines text adds puts breaks (Err stop.ReadFault) = ⊥
+SendsLines text adds puts breaks (Err stop.WriteFault) = ⊥
+
+-- how the work on answers ends, by how the reception ended, whether the lines were written, and whether all are values
+abbrev pub outcome_of : End → Result (Unit {0}) WriteFault → Bool → Result ℕ Stop
+outcome_of end (Err fault) good = Err stop.WriteFault
+outcome_of Ended (Ok u) good = Ok (if good then 0 else 1)
+outcome_of ReadFault (Ok u) good = Err stop.ReadFault
+outcome_of NoMemory (Ok u) good = Err stop.NoMemory
+
+-- the end of a reception from memory, and its answers, where a fault is taken for want of memory
+abbrev pub without_fault_of : End → End
+without_fault_of Ended = Ended
+without_fault_of ReadFault = NoMemory
+without_fault_of NoMemory = NoMemory
+
+abbrev pub unless_fault : {X : Type 0} → End → List X → List X
+unless_fault Ended answers = answers
+unless_fault ReadFault answers = []
+unless_fault NoMemory answers = answers
+
+-- What comes of a stream in memory: how the work ends, and what is written.
+abbrev pub AnswersStream : Bool → List ℕ → (Fate → List ℕ → Type 0) → Result ℕ Stop → Type 0
+AnswersStream strict stream writing (Ok status) =
+    (verdicts : List Verdict) × AreAnswers strict ended stream verdicts × (status ≡ (if list_all is_value verdicts then 0 else 1)) × writing whole (lines_of verdicts)
+AnswersStream strict stream writing (Err stop.WriteFault) =
+    (out : List ℕ) × (((verdicts : List Verdict) × AreAnswers strict ended stream verdicts × (out ≡ lines_of verdicts)) ⊎ WritesFirst strict stream out) × writing broken out
+AnswersStream strict stream writing (Err stop.NoMemory) = (out : List ℕ) × ((out ≡ []) ⊎ WritesFirst strict stream out) × writing whole out
+AnswersStream strict stream writing (Err stop.ReadFault) = ⊥
+AnswersStream strict stream writing (Err stop.SayingFault) = ⊥

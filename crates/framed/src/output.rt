@@ -1,5 +1,5 @@
 ghost use Rattle.std.specs.Prelude.{◌≡◌, ◌++◌, OnOk, OnErr};
-ghost use Rattle.framed.specs.Devices.{Writing, whole, broken};
+ghost use Rattle.line_io.specs.Transfers.{Writing, whole, broken};
 ghost use Rattle.framed.specs.Output.{Puts};
 
 use crate::devices::{WriteFault, write_whole};

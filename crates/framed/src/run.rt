@@ -1,13 +1,13 @@
-ghost use Rattle.std.specs.Prelude.{◌≡◌, ℕ, ◌<◌, ◌≤◌, List};
-ghost use Rattle.framed.specs.Devices.{Writing, Reading, whole};
+ghost use Rattle.std.specs.Prelude.{◌≡◌, ◌<◌, ◌≤◌};
+ghost use Rattle.line_io.specs.Transfers.{Writing, Reading, whole};
 ghost use Rattle.framed.specs.Program.{Finishes, Fails, LacksMemory};
-ghost use Rattle.framed.specs.Working.{Worked, AsRead, whole_text, SaysLast, Reports};
+ghost use Rattle.framed.specs.Working.{Worked, SaysLast, Reports};
 
 use crate::arguments::Mode;
-use crate::devices::{End, read_whole, write_whole};
+use crate::devices::write_whole;
 use crate::pack::pack;
 use crate::stop::Stop;
-use crate::unpack::{unpack, unpack_hex};
+use crate::unpack::unpack;
 use line_io::{Inlet, Outlet};
 use std::alloc::Global;
 
@@ -29,7 +29,10 @@ pub struct Ran<R, W, E> {
 ///
 /// `Mode::Pack` sends each line as text by one sender, and says `line K: refused` of a line that isn't UTF-8 or whose frame
 /// is longer than 1024 bytes; the refusals are said before the frames are written. `Mode::Unpack` writes a line for each
-/// stretch of the framed bytes. With `hex` the framed side is hexadecimal text, in lower case where it is written.
+/// answer to the framed bytes: `value` and the text, with a backslash as `\\` and a line feed as `\n`; `damaged`;
+/// `too long`, of a stretch of more than 1024 bytes; or `cut`. `Mode::Strict` does the same, but a stretch that isn't
+/// exactly what sending its text makes is `damaged`. With `hex` the framed side is hexadecimal text, in lower case where it
+/// is written.
 ///
 /// The status is 0; 1 where a line was refused or an answer isn't a value; 2 where the text isn't hexadecimal; 3 where a
 /// device failed; 4 where memory ran out. Statuses 2 to 4 end the run, and the last line on `faults` says why.
@@ -37,7 +40,7 @@ pub fn run<R: Inlet, W: Outlet, E: Outlet>(
     alloc: Global,
     mode: Mode,
     hex: bool,
-    mut reader: R,
+    reader: R,
     mut writer: W,
     mut faults: E,
 ) -> Ran<R, W, E>
@@ -53,7 +56,7 @@ pub fn run<R: Inlet, W: Outlet, E: Outlet>(
         (Writing W.written W.faults W.calls_left writer result.writer)
         (Writing E.written E.faults E.calls_left faults result.faults) }
 
-    // Memory ran out, and no device failed.
+    // Memory ran out, and no device failed: the lines of the first answers went out.
     ensures memory { result.status ≡ 4 → LacksMemory mode hex
         (Reading R.to_come R.faults R.calls_left reader result.reader)
         (Writing W.written W.faults W.calls_left writer result.writer)
@@ -61,9 +64,7 @@ pub fn run<R: Inlet, W: Outlet, E: Outlet>(
 
     ensures range { result.status ≤ 4 }
 {
-    let mut text = Vec::new(alloc);
-    let end = read_whole(&mut reader, &mut text);
-    let worked = work(alloc, mode, hex, end, &text, &mut writer, &mut faults);
+    let (reader, worked) = work(alloc, mode, hex, reader, &mut writer, &mut faults);
     let status = report(&mut faults, worked);
     Ran {
         status,
@@ -73,45 +74,27 @@ pub fn run<R: Inlet, W: Outlet, E: Outlet>(
     }
 }
 
-/// Does the work on what was read.
-fn work<W: Outlet, E: Outlet>(
+/// Does the work, but for the last line on `faults`.
+fn work<R: Inlet, W: Outlet, E: Outlet>(
     alloc: Global,
     mode: Mode,
     hex: bool,
-    end: End,
-    text: &[u8],
+    reader: R,
     writer: &mut W,
     faults: &mut E,
-) -> Result<u8, Stop>
-    ensures { (lost : List ℕ) → Worked mode hex (AsRead end text.now lost)
+) -> (R, Result<u8, Stop>)
+    ensures { Worked mode hex (Reading R.to_come R.faults R.calls_left reader result.0)
         (Writing W.written W.faults W.calls_left writer.old writer.new)
-        (Writing E.written E.faults E.calls_left faults.old faults.new) result }
+        (Writing E.written E.faults E.calls_left faults.old faults.new) result.1 }
 {
-    match (mode, hex) {
-        (Mode::Unpack, false) => unpack(end, text, writer),
-        (Mode::Unpack, true) => {
-            if let Err(stop) = need_whole(end) {
-                return Err(stop);
-            }
-            unpack_hex(alloc, text, writer, faults)
+    match mode {
+        Mode::Pack => {
+            let mut reader = reader;
+            let worked = pack(alloc, hex, &mut reader, writer, faults);
+            (reader, worked)
         }
-        (Mode::Pack, hex) => {
-            if let Err(stop) = need_whole(end) {
-                return Err(stop);
-            }
-            pack(alloc, hex, text, writer, faults)
-        }
-    }
-}
-
-/// Goes on only where all of the text is there.
-fn need_whole(end: End) -> Result<(), Stop>
-    ensures { result ≡ whole_text end }
-{
-    match end {
-        End::Ended => Ok(()),
-        End::ReadFault => Err(Stop::ReadFault),
-        End::NoMemory => Err(Stop::NoMemory),
+        Mode::Unpack => unpack(alloc, false, hex, reader, writer, faults),
+        Mode::Strict => unpack(alloc, true, hex, reader, writer, faults),
     }
 }
 

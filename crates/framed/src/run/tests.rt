@@ -2,7 +2,9 @@ use crate::arguments::Mode;
 use crate::run::run;
 use line_io::Fault;
 use line_io::memory::{In, Out};
+use std::alloc::{AllocError, Global};
 use std::process::Abort;
+use std::test::Fail;
 
 /// How many bytes a device of these tests has room for.
 const ROOM: usize = 1100;
@@ -132,6 +134,20 @@ fn unpacks_hex(rt: HostRuntime) {
     );
 }
 
+/// A text that sending spells otherwise, behind a byte that is no part of it, and one that it spells so.
+#[test]
+fn unpacks_strictly(rt: HostRuntime) {
+    let more = b"0401626300";
+    expect(&rt, given(Mode::Strict, true, more), b"damaged\n", b"", 1);
+    let framed = b"\x00\x04\x02hi\x00\x01\x01\x00\x03\x01A\x00";
+    let said = b"value hi\nvalue \nvalue A\n";
+    expect(&rt, given(Mode::Strict, false, framed), said, b"", 0);
+    let padded = b"\x05\x82\x80hi\x00\x04\x02hi\x00";
+    let said = b"damaged\nvalue hi\n";
+    expect(&rt, given(Mode::Strict, false, padded), said, b"", 1);
+    expect(&rt, given(Mode::Strict, true, b"0g"), b"", b"bad hex\n", 2);
+}
+
 #[test]
 fn refuses_bad_hex(rt: HostRuntime) {
     for text in [b"0g".as_slice(), b"000".as_slice()] {
@@ -193,6 +209,15 @@ fn reader_fails(rt: HostRuntime) {
     );
     let digits = b"00040268690004";
     expect(&rt, unread(given(Mode::Unpack, true, digits)), b"", said, 3);
+    expect(&rt, unread(given(Mode::Strict, true, digits)), b"", said, 3);
+    let framed = b"\x04\x02hi\x00\x04\x01bc\x00\x04";
+    expect(
+        &rt,
+        unread(given(Mode::Strict, false, framed)),
+        b"value hi\ndamaged\n",
+        said,
+        3,
+    );
     expect(&rt, unread(given(Mode::Pack, false, b"hi\n")), b"", said, 3);
     expect(&rt, unread(given(Mode::Pack, true, b"hi\n")), b"", said, 3);
 }
@@ -245,6 +270,13 @@ fn standard_error_fails(rt: HostRuntime) {
         };
         expect(
             &rt,
+            unsaid(given(Mode::Pack, false, b"\xff"), 0),
+            b"",
+            b"",
+            3,
+        );
+        expect(
+            &rt,
             unsaid(given(Mode::Pack, false, b"\xff\nb"), 0),
             b"",
             b"",
@@ -295,6 +327,100 @@ fn whole_or_no_memory<R: AllocGlobal + Abort>(rt: &R, given: Setting<'_>, out: &
         assert!(rt; &written[..written_len] == out);
         assert!(rt; told_len == 0);
     }
+}
+
+/// How often the long tests have their line.
+const TIMES: usize = 1600;
+
+/// The piece, so many times, behind another one.
+fn repeated(alloc: Global, first: &[u8], piece: &[u8]) -> Result<Vec<u8>, AllocError> {
+    let mut bytes = Vec::from_slice(alloc, first)?;
+    for _ in 0..TIMES {
+        bytes.extend_from_slice(piece)?;
+    }
+    Ok(bytes)
+}
+
+/// How many bytes a device of the long tests has room for.
+const LONG: usize = 32 * 1024;
+
+/// Runs over more than 12,000 bytes, in pieces of 4096, and compares what is written, what is said and the status.
+fn expect_long<R: AllocGlobal + Abort>(
+    rt: &R,
+    given: Setting<'_>,
+    out: &[u8],
+    said: &[u8],
+    status: u8,
+) {
+    let mut written = [0u8; LONG];
+    let mut told = [0u8; ROOM];
+    let ran = run(
+        rt.alloc(),
+        given.mode,
+        given.hex,
+        In::new(given.text, 4096, given.read_fault),
+        Out::new(&mut written, 4096, None),
+        Out::new(&mut told, 4096, None),
+    );
+    let written_len = ran.writer.moved();
+    let told_len = ran.faults.moved();
+    let found = ran.status;
+    drop(ran);
+    assert!(rt; found == status);
+    assert!(rt; written_len <= LONG);
+    assert!(rt; told_len <= ROOM);
+    assert!(rt; &written[..written_len] == out);
+    assert!(rt; &told[..told_len] == said);
+}
+
+#[test]
+fn packs_long_texts(rt: HostRuntime) -> Result<(), Fail> {
+    let text = repeated(rt.alloc(), b"", b"letters\n")?;
+    let framed = repeated(rt.alloc(), b"\0", b"\x09\x07letters\0")?;
+    expect_long(&rt, given(Mode::Pack, false, &text), &framed, b"", 0);
+    let mut digits = repeated(rt.alloc(), b"00", b"09076c65747465727300")?;
+    digits.push(b'\n')?;
+    expect_long(&rt, given(Mode::Pack, true, &text), &digits, b"", 0);
+    Ok(())
+}
+
+/// A line is refused behind many that are sent.
+#[test]
+fn refuses_late_lines(rt: HostRuntime) -> Result<(), Fail> {
+    let mut text = repeated(rt.alloc(), b"", b"letters\n")?;
+    text.extend_from_slice(b"\xff\nletters")?;
+    let mut framed = repeated(rt.alloc(), b"\0", b"\x09\x07letters\0")?;
+    framed.extend_from_slice(b"\x09\x07letters\0")?;
+    let said = b"line 1601: refused\n";
+    expect_long(&rt, given(Mode::Pack, false, &text), &framed, said, 1);
+    Ok(())
+}
+
+#[test]
+fn unpacks_long_streams(rt: HostRuntime) -> Result<(), Fail> {
+    let said = repeated(rt.alloc(), b"", b"value letters\n")?;
+    let framed = repeated(rt.alloc(), b"\0", b"\x09\x07letters\0")?;
+    expect_long(&rt, given(Mode::Unpack, false, &framed), &said, b"", 0);
+    expect_long(&rt, given(Mode::Strict, false, &framed), &said, b"", 0);
+    let digits = repeated(rt.alloc(), b"00", b"09076C65747465727300")?;
+    expect_long(&rt, given(Mode::Unpack, true, &digits), &said, b"", 0);
+    expect_long(&rt, given(Mode::Strict, true, &digits), &said, b"", 0);
+    Ok(())
+}
+
+/// Of a long stream whose reader fails, the lines of what it gave are written.
+#[test]
+fn long_streams_that_fail(rt: HostRuntime) -> Result<(), Fail> {
+    let said = repeated(rt.alloc(), b"", b"value letters\n")?;
+    let framed = repeated(rt.alloc(), b"\0", b"\x09\x07letters\0")?;
+    expect_long(
+        &rt,
+        unread(given(Mode::Unpack, false, &framed)),
+        &said,
+        b"read failed\n",
+        3,
+    );
+    Ok(())
 }
 
 /// To be run with each growth refused in turn: `rt try --test --fail-alloc N`. The other tests ask for the whole.

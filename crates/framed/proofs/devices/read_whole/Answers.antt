@@ -1,6 +1,6 @@
 use Rattle.std.proofs.Common.{◌≡◌, take, ◌∙◌, arith}
 use Rattle.std.proofs.lemmas.Grind.{common_steps}
-use Rattle.line_io.proofs.DeviceLemmas.{Gave-then, read_some}
+use Rattle.line_io.specs.Calls.{Gave-then, read_some}
 use Rattle.framed.proofs.devices.read_whole.Goals as goal
 
 pub returns-then-is_err-clause-memory : goal.returns-then-is_err-clause-memory

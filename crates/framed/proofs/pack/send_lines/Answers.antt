@@ -1,53 +1,70 @@
-use Rattle.std.proofs.Common.{◌≡◌, ◌+◌, ◌∷◌, ◌++◌, [], length, sym, ap, ◌∙◌, arith}
-use Rattle.std.proofs.lemmas.List.{length-append}
-use Rattle.std.proofs.lemmas.Result.{on_ok_weaker, on_err_weaker}
-use Rattle.framed.proofs.DeviceSteps.{on_err}
-use Rattle.framed.proofs.SendingLemmas.{Packed-more, Packed-last, Packed-all, Packed-first, session-more, refusals-more, clean-append}
+use Rattle.std.proofs.Common.{◌≡◌, false, ◌+◌, ◌<◌, ◌∷◌, ◌++◌, [], length, sym, ap, ◌∙◌, arith}
+use Rattle.std.proofs.lemmas.List.{append-nil, length-append}
+use Rattle.line_io.specs.Transfers.{Writing, broken}
+use Rattle.link.specs.Run.{session_line}
+use Rattle.link.specs.Senders.{writer_of}
+use Rattle.framed.specs.Collected.{collected_bytes}
+use Rattle.framed.specs.Output.{Puts}
+use Rattle.framed.specs.Sending.{lines_in, Adds}
+use Rattle.framed.proofs.OutputLemmas.{put-done, put-broke}
+use Rattle.framed.proofs.SendingLemmas.{stops, next-line, last-line, Sent-more, Sent-last, session-more, clean-more, refusals-more, all-more}
 use Rattle.framed.proofs.pack.send_lines.Goals as goal
 
-pub returns-in_err-send-clause-err : goal.returns-in_err-send-clause-err
-returns-in_err-send-clause-err c =
-    let i = c.loop-line.invariant in
-    on_err _ (Packed-first _ c.loop-line.rest.now _ i.0 i.1 (c.in_err-send.ensures.err ∙ i.3))
-
-pub loop-line-preserved : goal.loop-line-preserved
-loop-line-preserved c =
+pub returns-in-Err : goal.returns-in-Err
+returns-in-Err g c =
     let i = c.loop-line.invariant in
     let cut = c.in-Some.ensures in
-    let sent = c.in_ok-send.ensures.ok in
+    stops c.args.text.now c.loop-line.rest.now c.in-Some.line.now (lines_in c.in-Some.after.now) (c.loop-line.lines + 1) i.0 i.1
+    (next-line _ _ _ cut.0 cut.1) (let n = i.5 in omega arith) (λ x. Adds c.loop-line.sender c.send_line.new.sender x)
+    (λ xs. collected_bytes (writer_of c.send_line.new.sender) ≡ session_line 0 false xs)
+    (λ bytes. Puts g.E.Outlet.written g.E.Outlet.faults c.loop-line.faults c.send_line.new.faults c.loop-line.held.items c.send_line.new.held.items bytes)
+    (λ bytes. Writing g.E.Outlet.written g.E.Outlet.faults g.E.Outlet.calls_left c.loop-line.faults c.send_line.new.faults broken (c.loop-line.held.items ++ bytes))
+    (λ bytes. Puts g.E.Outlet.written g.E.Outlet.faults c.args.faults.now c.send_line.new.faults [] c.send_line.new.held.items bytes)
+    (λ bytes. Writing g.E.Outlet.written g.E.Outlet.faults g.E.Outlet.calls_left c.args.faults.now c.send_line.new.faults broken bytes) (λ q. put-done _ (sym (append-nil _)) i.4 q) (λ x b. put-broke _ i.4 b) c.in-Err.stop
+    c.in-Err.ensures
+
+pub loop-line-preserved : goal.loop-line-preserved
+loop-line-preserved g c =
+    let i = c.loop-line.invariant in
+    let cut = c.in-Some.ensures in
+    let sent = c.in-Ok.ensures in
     let one : length (i.0 ++ sent.0 ∷ []) ≡ length i.0 + 1 = length-append i.0 (sent.0 ∷ []) in
     let longer : length c.loop-line.rest.now ≡ length c.in-Some.line.now + length (10 ∷ c.in-Some.after.now) =
     ap length cut.0 ∙ length-append c.in-Some.line.now (10 ∷ c.in-Some.after.now) in
-    let lines = sent.2.lines in
     let counted = i.5 in
-    let few = i.6 in (
+    let few = i.7 in (
       i.0 ++ sent.0 ∷ [],
-      Packed-more _ c.loop-line.rest.now c.in-Some.line.now c.in-Some.after.now i.0 sent.0 i.1 cut.0 cut.1 sent.1,
-      session-more _ _ _ i.0 sent.0 i.2 i.4 sent.2.framed,
-      refusals-more _ _ _ i.0 sent.0 i.3 i.5 sent.2.log,
-      sent.2.clean ∙ rw i.4 (sym (clean-append _ i.0 (sent.0 ∷ []))),
+      Sent-more _ c.loop-line.rest.now c.in-Some.line.now c.in-Some.after.now i.0 sent.0 i.1 (next-line _ _ _ cut.0 cut.1) sent.1,
+      session-more _ _ _ i.0 sent.0 i.2 i.3 sent.3.bytes,
+      clean-more _ _ i.0 sent.0 i.3 sent.3.clean,
+      put-done _ (refusals-more (c.loop-line.lines + 1) i.0 sent.0 (omega arith)) i.4 sent.4,
       omega arith,
+      all-more _ _ i.0 sent.0 i.6 sent.2,
       omega arith,
     )
 
-pub returns-then-is_empty-clause-ok : goal.returns-then-is_empty-clause-ok
-returns-then-is_empty-clause-ok c =
+pub returns-in-Ok-send_line : goal.returns-in-Ok-send_line
+returns-in-Ok-send_line g c =
     let i = c.loop-line.invariant in
-    (i.0, Packed-all _ c.loop-line.rest.now i.0 i.1 (grind arith), i.2, i.3)
-
-pub returns-clause-ok : goal.returns-clause-ok
-returns-clause-ok c =
-    let i = c.loop-line.invariant in
-    on_ok_weaker c.send-2.result
-    (λ sent. (
+    let sent = c.in-Ok-send_line.ensures in
+    let counted = i.5 in
+    let some : 0 < length c.loop-line.rest.now = grind arith in (
       i.0 ++ sent.0 ∷ [],
-      Packed-last _ c.loop-line.rest.now i.0 sent.0 i.1 c.in_default.ensures (grind arith) sent.1,
-      session-more _ _ _ i.0 sent.0 i.2 i.4 sent.2.framed,
-      refusals-more _ _ _ i.0 sent.0 i.3 i.5 sent.2.log,
-    ))
-    c.send-2.ensures.ok
+      Sent-last _ c.loop-line.rest.now i.0 sent.0 i.1 (last-line _ c.in_default.ensures some) sent.1,
+      all-more _ _ i.0 sent.0 i.6 sent.2,
+      session-more _ _ _ i.0 sent.0 i.2 i.3 sent.3.bytes,
+      put-done _ (refusals-more (c.loop-line.lines + 1) i.0 sent.0 (omega arith)) i.4 sent.4,
+    )
 
-pub returns-clause-err : goal.returns-clause-err
-returns-clause-err c =
+pub returns-in-Err-send_line : goal.returns-in-Err-send_line
+returns-in-Err-send_line g c =
     let i = c.loop-line.invariant in
-    on_err_weaker c.send-2.result (λ e. Packed-first _ c.loop-line.rest.now _ i.0 i.1 (e ∙ i.3)) c.send-2.ensures.err
+    let some : 0 < length c.loop-line.rest.now = grind arith in
+    stops c.args.text.now c.loop-line.rest.now c.loop-line.rest.now [] (c.loop-line.lines + 1) i.0 i.1
+    (last-line _ c.in_default.ensures some) (let n = i.5 in omega arith) (λ x. Adds c.loop-line.sender c.send_line-2.new.sender x)
+    (λ xs. collected_bytes (writer_of c.send_line-2.new.sender) ≡ session_line 0 false xs)
+    (λ bytes. Puts g.E.Outlet.written g.E.Outlet.faults c.loop-line.faults c.send_line-2.new.faults c.loop-line.held.items c.send_line-2.new.held.items bytes)
+    (λ bytes. Writing g.E.Outlet.written g.E.Outlet.faults g.E.Outlet.calls_left c.loop-line.faults c.send_line-2.new.faults broken (c.loop-line.held.items ++ bytes))
+    (λ bytes. Puts g.E.Outlet.written g.E.Outlet.faults c.args.faults.now c.send_line-2.new.faults [] c.send_line-2.new.held.items bytes)
+    (λ bytes. Writing g.E.Outlet.written g.E.Outlet.faults g.E.Outlet.calls_left c.args.faults.now c.send_line-2.new.faults broken bytes) (λ q. put-done _ (sym (append-nil _)) i.4 q) (λ x b. put-broke _ i.4 b) c.in-Err-send_line.stop
+    c.in-Err-send_line.ensures

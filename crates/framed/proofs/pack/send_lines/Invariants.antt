@@ -1,14 +1,20 @@
-use Rattle.std.proofs.Common.{◌≡◌, ◌≤◌, ◌+◌, ℕ, false, List, length, Option}
-use Rattle.framed.specs.Sending.{session_bytes, clean_after, refusals}
-use Rattle.framed.proofs.SendingLemmas.{Packed}
+use Rattle.std.proofs.Common.{◌≡◌, ◌≤◌, ◌+◌, false, List, [], length}
+use Rattle.link.specs.Run.{Send, session_line}
+use Rattle.link.specs.Fates.{clean_after_all}
+use Rattle.link.specs.Senders.{writer_of, clean_of}
+use Rattle.framed.specs.Collected.{collected_bytes}
+use Rattle.framed.specs.Output.{Puts}
+use Rattle.framed.specs.Sending.{refusals, all_sent}
+use Rattle.framed.proofs.SendingLemmas.{Sent}
 use Rattle.framed.proofs.pack.send_lines.Given as goal
 
 -- what came of the lines that were read, each of which is a byte at least
 abbrev pub invariant-loop-line : goal.invariant-loop-line
-invariant-loop-line l =
-    (done : List (Option (List ℕ))) × Packed l.text l.rest done
-    × (l.session.framed.items ≡ session_bytes false done) × (l.session.log.items ≡ refusals 1 done)
-    × (l.session.clean ≡ clean_after false done) × (l.session.lines ≡ length done) × (length done + length l.rest ≤ length l.text)
+invariant-loop-line g l =
+    (done : List Send) × Sent l.text l.rest done
+    × (collected_bytes (writer_of l.sender) ≡ session_line 0 false done) × (clean_of l.sender ≡ clean_after_all false done)
+    × Puts g.E.Outlet.written g.E.Outlet.faults l.fn.faults l.faults [] l.held.items (refusals 1 done)
+    × (l.lines ≡ length done) × (l.good ≡ all_sent done) × (length done + length l.rest ≤ length l.text)
 
 abbrev pub decreases-loop-line : goal.decreases-loop-line
-decreases-loop-line l = length l.rest
+decreases-loop-line g l = length l.rest
