@@ -1,0 +1,56 @@
+//! The words and marks of a file.
+use std::alloc::{AllocError, Global};
+
+/// A word, a lifetime, a number or a mark, and the line where it stands. A comment `// message` is one token.
+#[derive(Drop)]
+pub struct Token {
+    pub text: String,
+    pub line: usize,
+}
+
+/// Whether a character can stand in a word, a lifetime or a number.
+fn is_of_word(character: char) -> bool {
+    character.is_alphanumeric() || character == '_' || character == '\''
+}
+
+/// Appends a text as a token, unless it is empty.
+fn put(alloc: Global, text: &str, line: usize, tokens: &mut Vec<Token>) -> Result<(), AllocError> {
+    if text.is_empty() {
+        return Ok(());
+    }
+    let text = String::from_str(alloc, text)?;
+    tokens.push(Token { text, line })?;
+    Ok(())
+}
+
+/// Appends the tokens of a line. Other comments than `// message` are left out.
+pub fn read_line(
+    alloc: Global,
+    line: &str,
+    number: usize,
+    tokens: &mut Vec<Token>,
+) -> Result<(), AllocError> {
+    let line = line.trim();
+    if line == "// message" || line.starts_with("// message:") {
+        return put(alloc, line, number, tokens);
+    }
+    let code = match line.split_once("//") {
+        Some((code, _)) => code,
+        None => line,
+    };
+    let mut word = String::new(alloc);
+    for character in code.chars() {
+        if is_of_word(character) {
+            word.push(character)?;
+            continue;
+        }
+        put(alloc, word.as_str(), number, tokens)?;
+        word.clear();
+        if !character.is_whitespace() {
+            word.push(character)?;
+            put(alloc, word.as_str(), number, tokens)?;
+            word.clear();
+        }
+    }
+    put(alloc, word.as_str(), number, tokens)
+}
