@@ -1,12 +1,28 @@
 //! Frames that an accumulator gathers.
 use crate::findings::Findings;
-use crate::lending::FeedRef;
+use crate::pieces::pieces_of;
 use crate::values::Shown;
-use crate::words::{Trouble, Words, bytes_of};
-use postcard::DeserializeOwned;
+use crate::words::{Trouble, Words};
 use postcard::accumulator::{CobsAccumulator, FeedResult};
+use postcard::{Deserialize, DeserializeOwned};
 use std::alloc::Global;
 use std::collections::BTreeMap;
+
+/// The call that feeds an accumulator.
+#[derive(Clone, Copy, Drop)]
+enum Call {
+    Feed,
+    FeedRef,
+}
+
+/// How an accumulator is fed.
+#[derive(Clone, Copy, Drop)]
+struct Feeding<'a> {
+    alloc: Global,
+    call: Call,
+    /// The type's name.
+    name: &'a str,
+}
 
 /// `N TYPE PIECE,PIECE,.. -> A|A|..`: what an accumulator of so many bytes answers by the documented loop.
 pub(crate) fn replay_accumulate(
@@ -16,140 +32,143 @@ pub(crate) fn replay_accumulate(
 ) -> Result<(), Trouble> {
     let size = words.number()?;
     let name = words.next()?;
-    let mut pieces = Vec::new(alloc);
-    for piece in words.next()?.split(',') {
-        pieces.push(bytes_of(alloc, piece)?)?;
-    }
-    let wanted = words.answer()?;
-    let answer = gather(alloc, size, name, Call::Feed, &pieces)?;
-    findings.compare("feed", answer.as_str(), wanted)?;
-    let answer = gather(alloc, size, name, Call::FeedRef, &pieces)?;
-    findings.compare("feed_ref", answer.as_str(), wanted)?;
-    Ok(())
+    let pieces = pieces_of(alloc, words.next()?)?;
+    compare_answers(alloc, size, name, &pieces, words, findings)
 }
 
-/// The call that feeds an accumulator.
-#[derive(Clone, Copy, Drop)]
-enum Call {
-    Feed,
-    FeedRef,
-}
-
-/// The answers of a new accumulator of so many bytes, of values of the type of that name.
-fn gather(
+/// Compares the answers by each call.
+fn compare_answers(
     alloc: Global,
     size: usize,
     name: &str,
-    call: Call,
     pieces: &[Vec<u8>],
-) -> Result<String, Trouble> {
-    match size {
-        1 => ask::<1>(alloc, &mut CobsAccumulator::new(), name, call, pieces),
-        2 => ask::<2>(alloc, &mut CobsAccumulator::new(), name, call, pieces),
-        3 => ask::<3>(alloc, &mut CobsAccumulator::new(), name, call, pieces),
-        4 => ask::<4>(alloc, &mut CobsAccumulator::new(), name, call, pieces),
-        5 => ask::<5>(alloc, &mut CobsAccumulator::new(), name, call, pieces),
-        6 => ask::<6>(alloc, &mut CobsAccumulator::new(), name, call, pieces),
-        8 => ask::<8>(alloc, &mut CobsAccumulator::new(), name, call, pieces),
-        11 => ask::<11>(alloc, &mut CobsAccumulator::new(), name, call, pieces),
-        12 => ask::<12>(alloc, &mut CobsAccumulator::new(), name, call, pieces),
-        16 => ask::<16>(alloc, &mut CobsAccumulator::new(), name, call, pieces),
-        32 => ask::<32>(alloc, &mut CobsAccumulator::new(), name, call, pieces),
-        64 => ask::<64>(alloc, &mut CobsAccumulator::new(), name, call, pieces),
-        _ => Err(Trouble::Unreadable),
-    }
+    words: Words<'_>,
+    findings: &mut Findings,
+) -> Result<(), Trouble> {
+    let wanted = words.answer()?;
+    let call = Call::Feed;
+    let feeding = Feeding { alloc, call, name };
+    findings.check("feed", feed_new(size, feeding, pieces), wanted)?;
+    let call = Call::FeedRef;
+    let feeding = Feeding { alloc, call, name };
+    findings.check("feed_ref", feed_new(size, feeding, pieces), wanted)
 }
 
-/// The answers of an accumulator, of values of the type of that name.
-fn ask<const N: usize>(
-    alloc: Global,
-    accumulator: &mut CobsAccumulator<N>,
-    name: &str,
-    call: Call,
-    pieces: &[Vec<u8>],
-) -> Result<String, Trouble> {
-    match name {
-        "()" => feed_all::<(), N>(alloc, accumulator, call, pieces),
-        "bool" => feed_all::<bool, N>(alloc, accumulator, call, pieces),
-        "u32" => feed_all::<u32, N>(alloc, accumulator, call, pieces),
-        "(u8,u8)" => feed_all::<(u8, u8), N>(alloc, accumulator, call, pieces),
-        "Option<u16>" => feed_all::<Option<u16>, N>(alloc, accumulator, call, pieces),
-        "[u8;10]" => feed_all::<[u8; 10], N>(alloc, accumulator, call, pieces),
-        "String" => feed_all::<String, N>(alloc, accumulator, call, pieces),
-        "Vec<u8>" => feed_all::<Vec<u8>, N>(alloc, accumulator, call, pieces),
-        "BTreeMap<u8,u8>" => feed_all::<BTreeMap<u8, u8>, N>(alloc, accumulator, call, pieces),
+/// The answers of a new accumulator of so many bytes.
+fn feed_new(size: usize, feeding: Feeding<'_>, pieces: &[Vec<u8>]) -> Result<String, Trouble> {
+    match size {
+        1 => feed_all(&mut CobsAccumulator::<1>::new(), feeding, pieces),
+        2 => feed_all(&mut CobsAccumulator::<2>::new(), feeding, pieces),
+        3 => feed_all(&mut CobsAccumulator::<3>::new(), feeding, pieces),
+        4 => feed_all(&mut CobsAccumulator::<4>::new(), feeding, pieces),
+        5 => feed_all(&mut CobsAccumulator::<5>::new(), feeding, pieces),
+        6 => feed_all(&mut CobsAccumulator::<6>::new(), feeding, pieces),
+        8 => feed_all(&mut CobsAccumulator::<8>::new(), feeding, pieces),
+        11 => feed_all(&mut CobsAccumulator::<11>::new(), feeding, pieces),
+        12 => feed_all(&mut CobsAccumulator::<12>::new(), feeding, pieces),
+        16 => feed_all(&mut CobsAccumulator::<16>::new(), feeding, pieces),
+        32 => feed_all(&mut CobsAccumulator::<32>::new(), feeding, pieces),
+        64 => feed_all(&mut CobsAccumulator::<64>::new(), feeding, pieces),
         _ => Err(Trouble::Unreadable),
     }
 }
 
 /// The answers of an accumulator to the pieces.
-fn feed_all<T: DeserializeOwned + FeedRef<CobsAccumulator<N>> + Shown, const N: usize>(
-    alloc: Global,
+fn feed_all<const N: usize>(
     accumulator: &mut CobsAccumulator<N>,
-    call: Call,
+    feeding: Feeding<'_>,
     pieces: &[Vec<u8>],
 ) -> Result<String, Trouble> {
-    let mut text = String::new(alloc);
-    for (i, piece) in pieces.iter().enumerate() {
-        if i > 0 {
+    let mut text = String::new(feeding.alloc);
+    for piece in pieces {
+        if !text.is_empty() {
             text.push('|')?;
         }
-        feed_piece::<T, N>(alloc, accumulator, call, piece, &mut text)?;
+        feed_piece(accumulator, feeding, piece, &mut text)?;
     }
     Ok(text)
 }
 
 /// Feeds a piece, and each rest again until it is empty or all was consumed. Each feed takes a byte at least.
-fn feed_piece<T: DeserializeOwned + FeedRef<CobsAccumulator<N>> + Shown, const N: usize>(
-    alloc: Global,
+fn feed_piece<const N: usize>(
     accumulator: &mut CobsAccumulator<N>,
-    call: Call,
+    feeding: Feeding<'_>,
     piece: &[u8],
     text: &mut String,
 ) -> Result<(), Trouble> {
     let mut rest = piece;
     for turn in 0..=piece.len() {
         if turn > 0 {
-            if rest.is_empty() {
-                break;
-            }
             text.push(';')?;
         }
-        match feed::<T, N>(alloc, accumulator, call, rest) {
-            FeedResult::Consumed => {
-                text.push('C')?;
-                break;
-            }
-            FeedResult::OverFull(after) => {
-                let count = after.len();
-                write!(text, "O{count}")?;
-                rest = after;
-            }
-            FeedResult::DeserError(after) => {
-                let count = after.len();
-                write!(text, "D{count}")?;
-                rest = after;
-            }
-            FeedResult::Success { value, remaining } => {
-                let count = remaining.len();
-                write!(text, "S{count}=")?;
-                value.show(text)?;
-                rest = remaining;
-            }
+        let Some(left) = feed_named(accumulator, feeding, rest, text)? else {
+            break;
+        };
+        rest = rest.get(rest.len().saturating_sub(left)..).unwrap_or(&[]);
+        if rest.is_empty() {
+            break;
         }
     }
     Ok(())
 }
 
-/// Feeds once.
-fn feed<'a, T: DeserializeOwned + FeedRef<CobsAccumulator<N>>, const N: usize>(
-    alloc: Global,
+/// Feeds once for the type of the name.
+fn feed_named<const N: usize>(
     accumulator: &mut CobsAccumulator<N>,
-    call: Call,
-    input: &'a [u8],
-) -> FeedResult<'a, T> {
-    match call {
-        Call::Feed => accumulator.feed(alloc, input),
-        Call::FeedRef => T::feed_ref(alloc, accumulator, input),
+    feeding: Feeding<'_>,
+    input: &[u8],
+    text: &mut String,
+) -> Result<Option<usize>, Trouble> {
+    match feeding.name {
+        "()" => feed::<(), N>(accumulator, feeding, input, text),
+        "bool" => feed::<bool, N>(accumulator, feeding, input, text),
+        "u32" => feed::<u32, N>(accumulator, feeding, input, text),
+        "(u8,u8)" => feed::<(u8, u8), N>(accumulator, feeding, input, text),
+        "Option<u16>" => feed::<Option<u16>, N>(accumulator, feeding, input, text),
+        "[u8;10]" => feed::<[u8; 10], N>(accumulator, feeding, input, text),
+        "String" => feed::<String, N>(accumulator, feeding, input, text),
+        "Vec<u8>" => feed::<Vec<u8>, N>(accumulator, feeding, input, text),
+        "BTreeMap<u8,u8>" => feed::<BTreeMap<u8, u8>, N>(accumulator, feeding, input, text),
+        _ => Err(Trouble::Unreadable),
     }
+}
+
+/// Feeds once, shows the answer, and says how many bytes are left, if not all was consumed.
+fn feed<'a, T: Deserialize<&'a [u8]> + DeserializeOwned + Shown, const N: usize>(
+    accumulator: &'a mut CobsAccumulator<N>,
+    feeding: Feeding<'_>,
+    input: &[u8],
+    text: &mut String,
+) -> Result<Option<usize>, Trouble> {
+    match feeding.call {
+        Call::Feed => show(accumulator.feed::<T>(feeding.alloc, input), text),
+        Call::FeedRef => show(accumulator.feed_ref::<T>(feeding.alloc, input), text),
+    }
+}
+
+/// Shows the answer of a feed.
+fn show<T: Shown + Drop>(
+    answer: FeedResult<'_, T>,
+    text: &mut String,
+) -> Result<Option<usize>, Trouble> {
+    match answer {
+        FeedResult::Consumed => {
+            text.push('C')?;
+            Ok(None)
+        }
+        FeedResult::OverFull(rest) => show_count('O', rest.len(), text),
+        FeedResult::DeserError(rest) => show_count('D', rest.len(), text),
+        FeedResult::Success { value, remaining } => {
+            let left = show_count('S', remaining.len(), text)?;
+            text.push('=')?;
+            value.show(text)?;
+            Ok(left)
+        }
+    }
+}
+
+/// Shows what an answer is, and how many bytes are left.
+fn show_count(answer: char, left: usize, text: &mut String) -> Result<Option<usize>, Trouble> {
+    write!(text, "{answer}{left}")?;
+    Ok(Some(left))
 }

@@ -11,23 +11,43 @@ pub(crate) fn replay_decode(
     findings: &mut Findings,
 ) -> Result<(), Trouble> {
     let source = words.bytes(alloc)?;
-    let mut room = vec![in alloc; 0; words.number()?]?;
+    compare_decode(alloc, &source, words, findings)
+}
+
+/// Compares what a source is decoded to, by each call.
+fn compare_decode(
+    alloc: Global,
+    source: &[u8],
+    mut words: Words<'_>,
+    findings: &mut Findings,
+) -> Result<(), Trouble> {
+    let capacity = words.number()?;
     let wanted = words.answer()?;
-    let answer = match cobs::decode(&source, room.as_mut_slice()) {
-        Ok(report) => report_text(alloc, &report, &room)?,
-        Err(error) => error_text(alloc, error)?,
-    };
-    findings.compare("decode", answer.as_str(), wanted)?;
+    findings.check("decode", decoded(alloc, source, capacity), wanted)?;
     if wanted == "!TargetBufTooSmall" {
         return Ok(());
     }
-    let answer = match cobs::decode_vec(alloc, &source) {
-        Ok(message) => digits(alloc, &message)?,
-        Err(DecodeVecError::Decode(error)) => error_text(alloc, error)?,
+    findings.check("decode_vec", decoded_vec(alloc, source), message_of(wanted))
+}
+
+/// The answer of `decode` into so much room.
+fn decoded(alloc: Global, source: &[u8], capacity: usize) -> Result<String, Trouble> {
+    let mut room = vec![in alloc; 0; capacity]?;
+    let text = match cobs::decode(source, room.as_mut_slice()) {
+        Ok(report) => report_text(alloc, &report, &room),
+        Err(error) => error_text(alloc, error),
+    };
+    Ok(text?)
+}
+
+/// The answer of `decode_vec`.
+fn decoded_vec(alloc: Global, source: &[u8]) -> Result<String, Trouble> {
+    let text = match cobs::decode_vec(alloc, source) {
+        Ok(message) => digits(alloc, &message),
+        Err(DecodeVecError::Decode(error)) => error_text(alloc, error),
         Err(DecodeVecError::OutOfMemory) => return Err(Trouble::NoMemory),
     };
-    findings.compare("decode_vec", answer.as_str(), message_of(wanted))?;
-    Ok(())
+    Ok(text?)
 }
 
 /// `SOURCE -> PARSED MESSAGE` or `SOURCE -> !InvalidFrame`: a frame that is decoded over its own bytes.
@@ -37,20 +57,43 @@ pub(crate) fn replay_in_place(
     findings: &mut Findings,
 ) -> Result<(), Trouble> {
     let source = words.bytes(alloc)?;
+    compare_in_place(alloc, &source, words, findings)
+}
+
+/// Compares what a source is decoded to over its own bytes, by each call.
+fn compare_in_place(
+    alloc: Global,
+    source: &[u8],
+    words: Words<'_>,
+    findings: &mut Findings,
+) -> Result<(), Trouble> {
     let wanted = words.answer()?;
-    let mut buffer = source.clone()?;
-    let answer = match cobs::decode_in_place_report(buffer.as_mut_slice()) {
-        Ok(report) => report_text(alloc, &report, &buffer)?,
-        Err(_) => String::from_str(alloc, "!InvalidFrame")?,
+    findings.check("decode_in_place_report", reported(alloc, source), wanted)?;
+    findings.check(
+        "decode_in_place",
+        replaced(alloc, source),
+        message_of(wanted),
+    )
+}
+
+/// The answer of `decode_in_place_report`.
+fn reported(alloc: Global, source: &[u8]) -> Result<String, Trouble> {
+    let mut buffer = source.to_vec(alloc)?;
+    let text = match cobs::decode_in_place_report(buffer.as_mut_slice()) {
+        Ok(report) => report_text(alloc, &report, &buffer),
+        Err(_) => String::from_str(alloc, "!InvalidFrame"),
     };
-    findings.compare("decode_in_place_report", answer.as_str(), wanted)?;
-    let mut buffer = source.clone()?;
-    let answer = match cobs::decode_in_place(buffer.as_mut_slice()) {
-        Ok(n) => digits(alloc, buffer.get(..n).unwrap_or(&[]))?,
-        Err(_) => String::from_str(alloc, "!InvalidFrame")?,
+    Ok(text?)
+}
+
+/// The answer of `decode_in_place`.
+fn replaced(alloc: Global, source: &[u8]) -> Result<String, Trouble> {
+    let mut buffer = source.to_vec(alloc)?;
+    let text = match cobs::decode_in_place(buffer.as_mut_slice()) {
+        Ok(n) => digits(alloc, buffer.get(..n).unwrap_or(&[])),
+        Err(_) => String::from_str(alloc, "!InvalidFrame"),
     };
-    findings.compare("decode_in_place", answer.as_str(), message_of(wanted))?;
-    Ok(())
+    Ok(text?)
 }
 
 /// The message of an answer, or its refusal.

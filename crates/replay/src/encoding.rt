@@ -20,22 +20,39 @@ pub(crate) fn replay_encode(
 ) -> Result<(), Trouble> {
     let message = words.bytes(alloc)?;
     let frame = words.bytes(alloc)?;
-    let mut longest = frame.clone()?;
-    match words.next()? {
+    compare_encode(alloc, &message, &frame, words, findings)
+}
+
+/// Compares the frames that each call makes.
+fn compare_encode(
+    alloc: Global,
+    message: &[u8],
+    frame: &[u8],
+    mut words: Words<'_>,
+    findings: &mut Findings,
+) -> Result<(), Trouble> {
+    let more = words.next()?;
+    words.end()?;
+    encode_whole(alloc, message, frame, findings)?;
+    encode_between_zeros(alloc, message, frame, findings)?;
+    for piece in [1, PIECE, usize::MAX] {
+        let made = push_pieces(alloc, message, frame.len(), piece);
+        findings.check_bytes("CobsEncoder", made, frame)?;
+    }
+    refuse(alloc, message, frame.len().saturating_sub(1), findings)?;
+    let longest = longest(alloc, frame, more)?;
+    findings.check_bytes("EncoderState", keep_buffer(alloc, message), &longest)
+}
+
+/// The longest frame, by the shortest and what the line says of another one.
+fn longest(alloc: Global, frame: &[u8], more: &str) -> Result<Vec<u8>, Trouble> {
+    let mut longest = frame.to_vec(alloc)?;
+    match more {
         "=" => {}
         "+01" => longest.push(1)?,
         _ => return Err(Trouble::Unreadable),
     }
-    words.end()?;
-    encode_whole(alloc, &message, &frame, findings)?;
-    encode_between_zeros(alloc, &message, &frame, findings)?;
-    for piece in [1, PIECE, usize::MAX] {
-        push_pieces(alloc, &message, &frame, piece, findings)?;
-    }
-    refuse(alloc, &message, &frame, findings)?;
-    let kept = keep_buffer(alloc, &message)?;
-    findings.compare_bytes("EncoderState", &kept, &longest)?;
-    Ok(())
+    Ok(longest)
 }
 
 /// The calls that frame a whole message.
@@ -47,17 +64,33 @@ fn encode_whole(
 ) -> Result<(), Trouble> {
     let length = cobs::encoded_length(message);
     findings.compare_number("encoded_length", length, frame.len())?;
-    let mut room = vec![in alloc; 0; length]?;
+    findings.check_bytes("encode", encode(alloc, message), frame)?;
+    findings.check_bytes("encode_vec", encode_vec(alloc, message), frame)?;
+    let made = try_encode(alloc, message, frame.len());
+    findings.check_bytes("try_encode", made, frame)
+}
+
+/// The frame that `encode` makes.
+fn encode(alloc: Global, message: &[u8]) -> Result<Vec<u8>, Trouble> {
+    let mut room = vec![in alloc; 0; cobs::encoded_length(message)]?;
     let n = cobs::encode(message, room.as_mut_slice());
-    findings.compare_bytes("encode", &room[..n], frame)?;
-    let made = cobs::encode_vec(alloc, message)?;
-    findings.compare_bytes("encode_vec", &made, frame)?;
-    let mut exact = vec![in alloc; 0; frame.len()]?;
-    match cobs::try_encode(message, exact.as_mut_slice()) {
-        Ok(n) => findings.compare_bytes("try_encode", &exact[..n], frame)?,
-        Err(_) => findings.add("try_encode", "refused")?,
+    room.truncate(n);
+    Ok(room)
+}
+
+/// The frame that `encode_vec` makes.
+fn encode_vec(alloc: Global, message: &[u8]) -> Result<Vec<u8>, Trouble> {
+    Ok(cobs::encode_vec(alloc, message)?)
+}
+
+/// The frame that `try_encode` makes in so much room.
+fn try_encode(alloc: Global, message: &[u8], length: usize) -> Result<Vec<u8>, Trouble> {
+    let mut room = vec![in alloc; 0; length]?;
+    match cobs::try_encode(message, room.as_mut_slice()) {
+        Ok(n) => room.truncate(n),
+        Err(_) => return Err(Trouble::Refused),
     }
-    Ok(())
+    Ok(room)
 }
 
 /// The calls that put a zero on each side of the frame.
@@ -71,31 +104,62 @@ fn encode_between_zeros(
     wanted.push(0)?;
     wanted.extend_from_slice(frame)?;
     wanted.push(0)?;
-    let made = cobs::encode_vec_including_sentinels(alloc, message)?;
-    findings.compare_bytes("encode_vec_including_sentinels", &made, &wanted)?;
+    compare_between_zeros(alloc, message, &wanted, findings)
+}
+
+/// Compares what the calls make that put a zero on each side.
+fn compare_between_zeros(
+    alloc: Global,
+    message: &[u8],
+    wanted: &[u8],
+    findings: &mut Findings,
+) -> Result<(), Trouble> {
+    let made = encode_including_sentinels(alloc, message);
+    findings.check_bytes("encode_including_sentinels", made, wanted)?;
+    let made = encode_vec_including_sentinels(alloc, message);
+    findings.check_bytes("encode_vec_including_sentinels", made, wanted)?;
+    let made = try_encode_including_sentinels(alloc, message, wanted.len());
+    findings.check_bytes("try_encode_including_sentinels", made, wanted)
+}
+
+/// What `encode_including_sentinels` makes.
+fn encode_including_sentinels(alloc: Global, message: &[u8]) -> Result<Vec<u8>, Trouble> {
     let mut room = vec![in alloc; 0; cobs::encoded_length(message)]?;
     room.extend_from_slice(&[0, 0])?;
     let n = cobs::encode_including_sentinels(message, room.as_mut_slice());
-    findings.compare_bytes("encode_including_sentinels", &room[..n], &wanted)?;
-    let mut exact = vec![in alloc; 0; wanted.len()]?;
-    match cobs::try_encode_including_sentinels(message, exact.as_mut_slice()) {
-        Ok(n) => findings.compare_bytes("try_encode_including_sentinels", &exact[..n], &wanted)?,
-        Err(_) => findings.add("try_encode_including_sentinels", "refused")?,
-    }
-    Ok(())
+    room.truncate(n);
+    Ok(room)
 }
 
-/// A message that is pushed in pieces of so many bytes, with nothing pushed between them.
+/// What `encode_vec_including_sentinels` makes.
+fn encode_vec_including_sentinels(alloc: Global, message: &[u8]) -> Result<Vec<u8>, Trouble> {
+    Ok(cobs::encode_vec_including_sentinels(alloc, message)?)
+}
+
+/// What `try_encode_including_sentinels` makes in so much room.
+fn try_encode_including_sentinels(
+    alloc: Global,
+    message: &[u8],
+    length: usize,
+) -> Result<Vec<u8>, Trouble> {
+    let mut room = vec![in alloc; 0; length]?;
+    match cobs::try_encode_including_sentinels(message, room.as_mut_slice()) {
+        Ok(n) => room.truncate(n),
+        Err(_) => return Err(Trouble::Refused),
+    }
+    Ok(room)
+}
+
+/// The frame of a message that is pushed in pieces of so many bytes, with nothing pushed between them.
 fn push_pieces(
     alloc: Global,
     message: &[u8],
-    frame: &[u8],
+    length: usize,
     piece: usize,
-    findings: &mut Findings,
-) -> Result<(), Trouble>
+) -> Result<Vec<u8>, Trouble>
     requires { 0 < piece }
 {
-    let mut room = vec![in alloc; 0; frame.len()]?;
+    let mut room = vec![in alloc; 0; length]?;
     if room.is_empty() {
         return Err(Trouble::Unreadable);
     }
@@ -105,43 +169,59 @@ fn push_pieces(
         refused |= encoder.push(bytes).is_err();
         refused |= encoder.push(&[]).is_err();
     }
-    let length = encoder.frame_length();
+    let told = encoder.frame_length();
     let n = encoder.finalize();
-    if refused || n > frame.len() {
-        findings.add("CobsEncoder", "refused")?;
-        return Ok(());
+    if refused || told != n {
+        return Err(Trouble::Refused);
     }
-    findings.compare_number("CobsEncoder::frame_length", length, n)?;
-    findings.compare_bytes("CobsEncoder", &room[..n], frame)?;
-    Ok(())
+    room.truncate(n);
+    Ok(room)
 }
 
 /// The calls that refuse a message whose frame has one byte less of room.
 fn refuse(
     alloc: Global,
     message: &[u8],
-    frame: &[u8],
+    less: usize,
     findings: &mut Findings,
 ) -> Result<(), Trouble> {
-    let less = frame.len().saturating_sub(1);
-    let untouched = vec![in alloc; UNTOUCHED; less]?;
-    let mut room = untouched.clone()?;
-    if cobs::try_encode(message, room.as_mut_slice()).is_ok() {
-        findings.add("try_encode with a byte less", "taken")?;
+    let mut room = vec![in alloc; UNTOUCHED; less]?;
+    let answer = refused(message, room.as_mut_slice());
+    findings.compare("try_encode with a byte less", answer, "refused")?;
+    let answer = spent(message, room.as_mut_slice());
+    findings.compare("CobsEncoder with a byte less", answer, "refused")?;
+    Ok(())
+}
+
+/// What becomes of a message that `try_encode` has to refuse, and of the room, which it has to leave alone.
+fn refused(message: &[u8], room: &mut [u8]) -> &'static str {
+    if cobs::try_encode(message, room).is_ok() {
+        return "taken";
     }
-    findings.compare_bytes("the buffer that try_encode refused", &room, &untouched)?;
+    for byte in room.iter() {
+        if *byte != UNTOUCHED {
+            return "refused, and written over the buffer";
+        }
+    }
+    "refused"
+}
+
+/// What becomes of a message that an encoder has to refuse, and of all that it is asked afterwards.
+fn spent(message: &[u8], room: &mut [u8]) -> &'static str {
     if room.is_empty() {
-        return Ok(());
+        return "refused";
     }
-    let mut encoder = CobsEncoder::new(room.as_mut_slice());
+    let mut encoder = CobsEncoder::new(room);
     if encoder.push(message).is_ok() {
-        findings.add("CobsEncoder with a byte less", "taken")?;
+        return "taken";
     }
     if encoder.push(&[]).is_ok() {
-        findings.add("a spent CobsEncoder", "taken")?;
+        return "refused, and then something taken";
     }
-    findings.compare_number("a spent CobsEncoder", encoder.finalize(), 0)?;
-    Ok(())
+    if encoder.finalize() != 0 {
+        return "refused, and then a frame";
+    }
+    "refused"
 }
 
 /// The buffer that is kept as an `EncoderState` says.
@@ -155,19 +235,30 @@ fn keep_buffer(alloc: Global, message: &[u8]) -> Result<Vec<u8>, Trouble> {
         match state.push(*byte) {
             PushResult::AddSingle(b) => buffer.push(b)?,
             PushResult::ModifyFromStartAndSkip((i, code)) => {
-                *buffer.get_mut(i).ok_or(Trouble::Unreadable)? = code;
+                set(buffer.as_mut_slice(), i, code)?;
                 buffer.push(0)?;
             }
             PushResult::ModifyFromStartAndPushAndSkip((i, code, b)) => {
-                *buffer.get_mut(i).ok_or(Trouble::Unreadable)? = code;
+                set(buffer.as_mut_slice(), i, code)?;
                 buffer.push(b)?;
                 buffer.push(0)?;
             }
         }
     }
     let (i, code) = state.finalize();
-    *buffer.get_mut(i).ok_or(Trouble::Unreadable)? = code;
+    set(buffer.as_mut_slice(), i, code)?;
     Ok(buffer)
+}
+
+/// Puts a code in its place.
+fn set(buffer: &mut [u8], at: usize, code: u8) -> Result<(), Trouble> {
+    match buffer.get_mut(at) {
+        Some(byte) => {
+            *byte = code;
+            Ok(())
+        }
+        None => Err(Trouble::Refused),
+    }
 }
 
 /// `S MESSAGE FRAME`: the frame of a message for a sentinel.
@@ -176,19 +267,43 @@ pub(crate) fn replay_sentinel(
     mut words: Words<'_>,
     findings: &mut Findings,
 ) -> Result<(), Trouble> {
-    let sentinel = words.bytes(alloc)?;
+    let sentinel = words.byte(alloc)?;
     let message = words.bytes(alloc)?;
     let frame = words.bytes(alloc)?;
     words.end()?;
-    let [sentinel] = sentinel.as_slice() else {
-        return Err(Trouble::Unreadable);
-    };
-    let made = cobs::encode_vec_with_sentinel(alloc, &message, *sentinel)?;
-    findings.compare_bytes("encode_vec_with_sentinel", &made, &frame)?;
-    let mut room = vec![in alloc; 0; cobs::encoded_length(&message)]?;
-    let n = cobs::encode_with_sentinel(&message, room.as_mut_slice(), *sentinel);
-    findings.compare_bytes("encode_with_sentinel", &room[..n], &frame)?;
-    decode_sentinel(alloc, &message, &frame, *sentinel, findings)
+    encode_sentinel(alloc, &message, &frame, sentinel, findings)?;
+    decode_sentinel(alloc, &message, &frame, sentinel, findings)
+}
+
+/// The calls that make the frame.
+fn encode_sentinel(
+    alloc: Global,
+    message: &[u8],
+    frame: &[u8],
+    sentinel: u8,
+    findings: &mut Findings,
+) -> Result<(), Trouble> {
+    let made = encode_with_sentinel(alloc, message, sentinel);
+    findings.check_bytes("encode_with_sentinel", made, frame)?;
+    let made = encode_vec_with_sentinel(alloc, message, sentinel);
+    findings.check_bytes("encode_vec_with_sentinel", made, frame)
+}
+
+/// The frame that `encode_with_sentinel` makes.
+fn encode_with_sentinel(alloc: Global, message: &[u8], sentinel: u8) -> Result<Vec<u8>, Trouble> {
+    let mut room = vec![in alloc; 0; cobs::encoded_length(message)]?;
+    let n = cobs::encode_with_sentinel(message, room.as_mut_slice(), sentinel);
+    room.truncate(n);
+    Ok(room)
+}
+
+/// The frame that `encode_vec_with_sentinel` makes.
+fn encode_vec_with_sentinel(
+    alloc: Global,
+    message: &[u8],
+    sentinel: u8,
+) -> Result<Vec<u8>, Trouble> {
+    Ok(cobs::encode_vec_with_sentinel(alloc, message, sentinel)?)
 }
 
 /// The calls that take the message back.
@@ -199,27 +314,44 @@ fn decode_sentinel(
     sentinel: u8,
     findings: &mut Findings,
 ) -> Result<(), Trouble> {
-    let mut room = vec![in alloc; 0; message.len()]?;
+    let made = decode_with_sentinel(alloc, message.len(), frame, sentinel);
+    findings.check_bytes("decode_with_sentinel", made, message)?;
+    let made = decode_vec_with_sentinel(alloc, frame, sentinel);
+    findings.check_bytes("decode_vec_with_sentinel", made, message)?;
+    let made = decode_in_place_with_sentinel(alloc, frame, sentinel);
+    findings.check_bytes("decode_in_place_with_sentinel", made, message)
+}
+
+/// The message that `decode_with_sentinel` gives in so much room.
+fn decode_with_sentinel(
+    alloc: Global,
+    length: usize,
+    frame: &[u8],
+    sentinel: u8,
+) -> Result<Vec<u8>, Trouble> {
+    let mut room = vec![in alloc; 0; length]?;
     match cobs::decode_with_sentinel(frame, room.as_mut_slice(), sentinel) {
-        Ok(n) => findings.compare_bytes(
-            "decode_with_sentinel",
-            room.get(..n).unwrap_or(&[]),
-            message,
-        )?,
-        Err(_) => findings.add("decode_with_sentinel", "refused")?,
+        Ok(n) => room.truncate(n),
+        Err(_) => return Err(Trouble::Refused),
     }
-    match cobs::decode_vec_with_sentinel(alloc, frame, sentinel) {
-        Ok(made) => findings.compare_bytes("decode_vec_with_sentinel", &made, message)?,
-        Err(_) => findings.add("decode_vec_with_sentinel", "refused")?,
+    Ok(room)
+}
+
+/// The message that `decode_vec_with_sentinel` gives.
+fn decode_vec_with_sentinel(alloc: Global, frame: &[u8], sentinel: u8) -> Result<Vec<u8>, Trouble> {
+    cobs::decode_vec_with_sentinel(alloc, frame, sentinel).or(Err(Trouble::Refused))
+}
+
+/// The message that `decode_in_place_with_sentinel` gives.
+fn decode_in_place_with_sentinel(
+    alloc: Global,
+    frame: &[u8],
+    sentinel: u8,
+) -> Result<Vec<u8>, Trouble> {
+    let mut room = frame.to_vec(alloc)?;
+    match cobs::decode_in_place_with_sentinel(room.as_mut_slice(), sentinel) {
+        Ok(n) => room.truncate(n),
+        Err(_) => return Err(Trouble::Refused),
     }
-    let mut copy = frame.to_vec(alloc)?;
-    match cobs::decode_in_place_with_sentinel(copy.as_mut_slice(), sentinel) {
-        Ok(n) => findings.compare_bytes(
-            "decode_in_place_with_sentinel",
-            copy.get(..n).unwrap_or(&[]),
-            message,
-        )?,
-        Err(_) => findings.add("decode_in_place_with_sentinel", "refused")?,
-    }
-    Ok(())
+    Ok(room)
 }

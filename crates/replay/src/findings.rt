@@ -1,7 +1,7 @@
 //! What differs.
 ghost use Rattle.std.specs.Prelude.{◌≡◌, ◌≢◌, ◌<◌, ◌≤◌, ◌↔◌, IsTrue, OnOk, string_len};
 
-use crate::words::digits;
+use crate::words::{Trouble, digits};
 use std::alloc::{AllocError, Global};
 
 /// The answers of a line's calls that aren't those of the line.
@@ -88,5 +88,32 @@ impl Findings {
         }
         let answer = format!(in self.alloc; "{answer}")?;
         self.add(call, answer.as_str())
+    }
+
+    /// As [`compare`](Findings::compare), of an answer in the line's words that was just made.
+    pub(crate) fn check(
+        &mut self,
+        call: &str,
+        answer: Result<String, Trouble>,
+        wanted: &str,
+    ) -> Result<(), Trouble> {
+        let answer = answer?;
+        self.compare(call, answer.as_str(), wanted)?;
+        Ok(())
+    }
+
+    /// As [`compare_bytes`](Findings::compare_bytes), of bytes that were just made, or refused.
+    pub(crate) fn check_bytes(
+        &mut self,
+        call: &str,
+        answer: Result<Vec<u8>, Trouble>,
+        wanted: &[u8],
+    ) -> Result<(), Trouble> {
+        match answer {
+            Ok(bytes) => self.compare_bytes(call, &bytes, wanted)?,
+            Err(Trouble::Refused) => self.add(call, "refused")?,
+            Err(trouble) => return Err(trouble),
+        }
+        Ok(())
     }
 }

@@ -3,12 +3,19 @@
 #![tactic(auto)]
 
 mod accumulating;
+mod answers;
 mod decoding;
 mod encoding;
 mod findings;
-mod lending;
+mod gathering;
+mod in_place;
+mod linked;
 mod messages;
+mod pieces;
+mod pushing;
 mod reading;
+mod receiving;
+mod sending;
 mod sizes;
 mod streams;
 mod values;
@@ -36,6 +43,10 @@ fn replay(alloc: Global, line: &str, findings: &mut Findings) -> Result<(), Trou
         "read" => messages::replay_read(alloc, words, findings),
         "read_frame" => messages::replay_read_frame(alloc, words, findings),
         "accumulate" => accumulating::replay_accumulate(alloc, words, findings),
+        "stream" => linked::replay_stream(alloc, words, findings),
+        "in_place" => linked::replay_stretches(alloc, words, findings),
+        "gathered" => linked::replay_gathered(alloc, words, findings),
+        "sends" => linked::replay_sends(alloc, words, findings),
         _ => Err(Trouble::Unreadable),
     }
 }
@@ -47,6 +58,7 @@ fn passes<W: Write + Drop>(alloc: Global, line: &str, out: &mut BufWriter<W>) ->
         Ok(()) if findings.is_empty() => return Ok(true),
         Ok(()) => writeln!(out, "{line}{}", findings.text())?,
         Err(Trouble::Unreadable) => writeln!(out, "{line} | unreadable")?,
+        Err(Trouble::Refused) => writeln!(out, "{line} | refused")?,
         Err(Trouble::NoMemory) => return Err(ErrorKind::OutOfMemory.into()),
     }
     Ok(false)

@@ -198,6 +198,7 @@ fn ask_text<'a>(
         "&[u8]" => perform_borrowing::<&'a [u8]>(line, bytes, room, copy, findings),
         "&str" => perform_borrowing::<&'a str>(line, bytes, room, copy, findings),
         "ArrayString<0>" => perform::<ArrayString<0>>(line, bytes, room, copy, findings),
+        "ArrayString<4>" => perform::<ArrayString<4>>(line, bytes, room, copy, findings),
         "ArrayString<8>" => perform::<ArrayString<8>>(line, bytes, room, copy, findings),
         "String" => perform::<String>(line, bytes, room, copy, findings),
         _ => ask_vector(name, line, bytes, room, copy, findings),
@@ -243,6 +244,7 @@ fn ask_array<'a>(
     match name {
         "ArrayVec<(),3>" => perform::<ArrayVec<(), 3>>(line, bytes, room, copy, findings),
         "ArrayVec<u8,0>" => perform::<ArrayVec<u8, 0>>(line, bytes, room, copy, findings),
+        "ArrayVec<u8,2>" => perform::<ArrayVec<u8, 2>>(line, bytes, room, copy, findings),
         "ArrayVec<u8,4>" => perform::<ArrayVec<u8, 4>>(line, bytes, room, copy, findings),
         "ArrayVec<u16,2>" => perform::<ArrayVec<u16, 2>>(line, bytes, room, copy, findings),
         "ArrayVec<ArrayString<4>,2>" => perform::<ArrayVec<ArrayString<4>, 2>>(
@@ -253,6 +255,7 @@ fn ask_array<'a>(
         "[u16;3]" => perform::<[u16; 3]>(line, bytes, room, copy, findings),
         "[u8;0]" => perform::<[u8; 0]>(line, bytes, room, copy, findings),
         "[u8;1]" => perform::<[u8; 1]>(line, bytes, room, copy, findings),
+        "[u8;3]" => perform::<[u8; 3]>(line, bytes, room, copy, findings),
         "[u8;32]" => perform::<[u8; 32]>(line, bytes, room, copy, findings),
         "[u8;4]" => perform::<[u8; 4]>(line, bytes, room, copy, findings),
         _ => ask_tuple(name, line, bytes, room, copy, findings),
@@ -312,6 +315,7 @@ fn ask_choice<'a>(
         "Option<Vec<Result<(u8,String),[u16;2]>>>" => perform::<
             Option<Vec<Result<(u8, String), [u16; 2]>>>,
         >(line, bytes, room, copy, findings),
+        "Result<u8,u8>" => perform::<Result<u8, u8>>(line, bytes, room, copy, findings),
         "Result<u8,u16>" => perform::<Result<u8, u16>>(line, bytes, room, copy, findings),
         "Result<(),String>" => perform::<Result<(), String>>(line, bytes, room, copy, findings),
         "Result<Vec<u8>,bool>" => perform::<Result<Vec<u8>, bool>>(
@@ -342,6 +346,26 @@ fn ask_other<'a>(
             line, bytes, room, copy, findings,
         ),
         "DataEnum" => perform::<DataEnum>(line, bytes, room, copy, findings),
+        _ => ask_nothings(name, line, bytes, room, copy, findings),
+    }
+}
+
+/// Asks a container of nothings that the lines of other families don't name.
+fn ask_nothings<'a>(
+    name: &str,
+    line: Line<'_>,
+    bytes: &'a [u8],
+    room: &'a mut [u8],
+    copy: &'a mut [u8],
+    findings: &mut Findings,
+) -> Result<(), Trouble> {
+    match name {
+        "Vec<()>" => perform::<Vec<()>>(line, bytes, room, copy, findings),
+        "[();3]" => perform::<[(); 3]>(line, bytes, room, copy, findings),
+        "Box<()>" => perform::<Box<()>>(line, bytes, room, copy, findings),
+        "((),)" => perform::<((),)>(line, bytes, room, copy, findings),
+        "Result<(),()>" => perform::<Result<(), ()>>(line, bytes, room, copy, findings),
+        "BTreeMap<u8,()>" => perform::<BTreeMap<u8, ()>>(line, bytes, room, copy, findings),
         _ => Err(Trouble::Unreadable),
     }
 }

@@ -3,7 +3,7 @@ use crate::findings::Findings;
 use crate::values::Shown;
 use crate::words::Trouble;
 use postcard::{Deserialize, DeserializeOwned, Error};
-use std::alloc::{AllocError, Global};
+use std::alloc::Global;
 
 /// Reads bytes by each call. A reader has as much room as there are bytes.
 pub(crate) fn read<'a, T: Deserialize<&'a [u8]> + Shown>(
@@ -14,22 +14,17 @@ pub(crate) fn read<'a, T: Deserialize<&'a [u8]> + Shown>(
     findings: &mut Findings,
 ) -> Result<(), Trouble> {
     let answer = match postcard::take_from_bytes::<T>(alloc, bytes) {
-        Ok((value, rest)) => with_rest(alloc, &value, rest.len())?,
-        Err(error) => refusal(alloc, error)?,
+        Ok((value, rest)) => with_rest(alloc, &value, rest.len()),
+        Err(error) => refusal(alloc, error),
     };
-    findings.compare("take_from_bytes", answer.as_str(), wanted)?;
-    let wanted = value_of(wanted);
-    let answer = match postcard::from_bytes::<T>(alloc, bytes) {
-        Ok(value) => shown(alloc, &value)?,
-        Err(error) => refusal(alloc, error)?,
-    };
-    findings.compare("from_bytes", answer.as_str(), wanted)?;
+    findings.check("take_from_bytes", answer, wanted)?;
+    let answer = told(alloc, postcard::from_bytes::<T>(alloc, bytes));
+    findings.check("from_bytes", answer, value_of(wanted))?;
     let answer = match postcard::from_io::<T, &[u8]>(alloc, (bytes, room)) {
-        Ok((value, _)) => shown(alloc, &value)?,
-        Err(error) => refusal(alloc, error)?,
+        Ok((value, _)) => shown(alloc, &value),
+        Err(error) => refusal(alloc, error),
     };
-    findings.compare("from_io", answer.as_str(), wanted)?;
-    Ok(())
+    findings.check("from_io", answer, value_of(wanted))
 }
 
 /// Reads bytes as a value that keeps none of them.
@@ -39,12 +34,8 @@ pub(crate) fn read_owned<T: DeserializeOwned + Shown>(
     wanted: &str,
     findings: &mut Findings,
 ) -> Result<(), Trouble> {
-    let answer = match postcard::from_bytes_owned::<T>(alloc, bytes) {
-        Ok(value) => shown(alloc, &value)?,
-        Err(error) => refusal(alloc, error)?,
-    };
-    findings.compare("from_bytes_owned", answer.as_str(), value_of(wanted))?;
-    Ok(())
+    let answer = told(alloc, postcard::from_bytes_owned::<T>(alloc, bytes));
+    findings.check("from_bytes_owned", answer, value_of(wanted))
 }
 
 /// Reads a frame, and a copy of it, by each call.
@@ -56,16 +47,20 @@ pub(crate) fn read_frame<'a, T: Deserialize<&'a [u8]> + Shown>(
     findings: &mut Findings,
 ) -> Result<(), Trouble> {
     let answer = match postcard::take_from_bytes_cobs::<T>(alloc, frame) {
-        Ok((value, rest)) => with_rest(alloc, &value, rest.len())?,
-        Err(error) => refusal(alloc, error)?,
+        Ok((value, rest)) => with_rest(alloc, &value, rest.len()),
+        Err(error) => refusal(alloc, error),
     };
-    findings.compare("take_from_bytes_cobs", answer.as_str(), wanted)?;
-    let answer = match postcard::from_bytes_cobs::<T>(alloc, copy) {
-        Ok(value) => shown(alloc, &value)?,
-        Err(error) => refusal(alloc, error)?,
-    };
-    findings.compare("from_bytes_cobs", answer.as_str(), value_of(wanted))?;
-    Ok(())
+    findings.check("take_from_bytes_cobs", answer, wanted)?;
+    let answer = told(alloc, postcard::from_bytes_cobs::<T>(alloc, copy));
+    findings.check("from_bytes_cobs", answer, value_of(wanted))
+}
+
+/// The answer of a call that gives a value alone.
+fn told<T: Shown + Drop>(alloc: Global, answer: Result<T, Error>) -> Result<String, Trouble> {
+    match answer {
+        Ok(value) => shown(alloc, &value),
+        Err(error) => refusal(alloc, error),
+    }
 }
 
 /// The answer without the count of bytes that are left.
@@ -77,20 +72,20 @@ fn value_of(wanted: &str) -> &str {
 }
 
 /// A value, in the words of a line.
-pub(crate) fn shown<T: Shown>(alloc: Global, value: &T) -> Result<String, AllocError> {
+pub(crate) fn shown<T: Shown>(alloc: Global, value: &T) -> Result<String, Trouble> {
     let mut text = String::new(alloc);
     value.show(&mut text)?;
     Ok(text)
 }
 
 /// A value and a count of bytes that are left.
-fn with_rest<T: Shown>(alloc: Global, value: &T, rest: usize) -> Result<String, AllocError> {
+fn with_rest<T: Shown>(alloc: Global, value: &T, rest: usize) -> Result<String, Trouble> {
     let mut text = shown(alloc, value)?;
     write!(text, " +{rest}")?;
     Ok(text)
 }
 
 /// A refusal, in the words of a line.
-pub(crate) fn refusal(alloc: Global, error: Error) -> Result<String, AllocError> {
-    format!(in alloc; "!{error:?}")
+pub(crate) fn refusal(alloc: Global, error: Error) -> Result<String, Trouble> {
+    Ok(format!(in alloc; "!{error:?}")?)
 }

@@ -45,6 +45,14 @@ fn greatest(name: &str) -> Result<Option<usize>, Trouble> {
         "usize" => usize::postcard_max_size(),
         "isize" => isize::postcard_max_size(),
         "u128" => u128::postcard_max_size(),
+        _ => return greatest2(name),
+    };
+    Ok(size)
+}
+
+/// The greatest size of the type of a name.
+fn greatest2(name: &str) -> Result<Option<usize>, Trouble> {
+    let size = match name {
         "i128" => i128::postcard_max_size(),
         "char" => char::postcard_max_size(),
         "()" => <()>::postcard_max_size(),
@@ -57,6 +65,14 @@ fn greatest(name: &str) -> Result<Option<usize>, Trouble> {
         "(u8,)" => <(u8,)>::postcard_max_size(),
         "(u8,u16)" => <(u8, u16)>::postcard_max_size(),
         "(u128,[u8;8])" => <(u128, [u8; 8])>::postcard_max_size(),
+        _ => return greatest3(name),
+    };
+    Ok(size)
+}
+
+/// The greatest size of the type of a name.
+fn greatest3(name: &str) -> Result<Option<usize>, Trouble> {
+    let size = match name {
         "(u8,u16,u32)" => <(u8, u16, u32)>::postcard_max_size(),
         "(i8,u16,i32,u64)" => <(i8, u16, i32, u64)>::postcard_max_size(),
         "(u16,u8,u128,u64,u32)" => <(u16, u8, u128, u64, u32)>::postcard_max_size(),
@@ -69,6 +85,14 @@ fn greatest(name: &str) -> Result<Option<usize>, Trouble> {
         "Range<u32>" => <Range<u32>>::postcard_max_size(),
         "RangeInclusive<u32>" => <RangeInclusive<u32>>::postcard_max_size(),
         "RangeFrom<u32>" => <RangeFrom<u32>>::postcard_max_size(),
+        _ => return greatest4(name),
+    };
+    Ok(size)
+}
+
+/// The greatest size of the type of a name.
+fn greatest4(name: &str) -> Result<Option<usize>, Trouble> {
+    let size = match name {
         "RangeTo<u32>" => <RangeTo<u32>>::postcard_max_size(),
         "Duration" => Duration::postcard_max_size(),
         "NonZeroU8" => NonZeroU8::postcard_max_size(),
@@ -81,6 +105,14 @@ fn greatest(name: &str) -> Result<Option<usize>, Trouble> {
         "NonZeroU16" => NonZeroU16::postcard_max_size(),
         "NonZeroI32" => NonZeroI32::postcard_max_size(),
         "NonZeroI64" => NonZeroI64::postcard_max_size(),
+        _ => return greatest5(name),
+    };
+    Ok(size)
+}
+
+/// The greatest size of the type of a name.
+fn greatest5(name: &str) -> Result<Option<usize>, Trouble> {
+    let size = match name {
         "NonZeroIsize" => NonZeroIsize::postcard_max_size(),
         "NonZeroU128" => NonZeroU128::postcard_max_size(),
         "ArrayVec<u8,0>" => <ArrayVec<u8, 0>>::postcard_max_size(),

@@ -1,6 +1,7 @@
 //! Frames that come in pieces.
 use crate::findings::Findings;
-use crate::words::{Trouble, Words, bytes_of, digits};
+use crate::pieces::pieces_of;
+use crate::words::{Trouble, Words, digits};
 use cobs::{CobsDecoder, CobsDecoderHeapless, CobsDecoderOwned, DecodeError, DecodeReport};
 use std::alloc::{AllocError, Global};
 
@@ -55,6 +56,14 @@ impl<const N: usize> Streaming for CobsDecoderHeapless<N> {
     }
 }
 
+/// What decoders are asked.
+#[derive(Clone, Copy, Drop)]
+struct Case<'a> {
+    alloc: Global,
+    pieces: &'a [Vec<u8>],
+    wanted: &'a str,
+}
+
 /// An answer of a decoder that isn't `Ok(None)`, at a byte of a piece.
 #[derive(Drop)]
 struct Stop {
@@ -69,226 +78,155 @@ pub(crate) fn replay_stream(
     findings: &mut Findings,
 ) -> Result<(), Trouble> {
     let capacity = words.number()?;
-    let mut pieces = Vec::new(alloc);
-    for piece in words.next()?.split(',') {
-        pieces.push(bytes_of(alloc, piece)?)?;
-    }
-    let wanted = words.answer()?;
-    let mut room = vec![in alloc; 0; capacity]?;
-    let mut other = vec![in alloc; 0; capacity]?;
-    let mut fed = CobsDecoder::new(room.as_mut_slice());
-    let mut pushed = CobsDecoder::new(other.as_mut_slice());
-    compare_streams(
-        alloc,
-        "CobsDecoder",
-        &mut fed,
-        &mut pushed,
-        &pieces,
-        wanted,
-        findings,
-    )?;
-    let mut fed = CobsDecoderOwned::new(alloc, capacity)?;
-    let mut pushed = CobsDecoderOwned::new(alloc, capacity)?;
-    compare_streams(
-        alloc,
-        "CobsDecoderOwned",
-        &mut fed,
-        &mut pushed,
-        &pieces,
-        wanted,
-        findings,
-    )?;
-    compare_heapless(alloc, capacity, &pieces, wanted, findings)
+    let pieces = pieces_of(alloc, words.next()?)?;
+    compare_all(alloc, capacity, &pieces, words, findings)
 }
 
-/// Compares what decoders of a fixed room answer, where there is one that answers the same.
-fn compare_heapless(
+/// Compares what decoders of each kind answer.
+fn compare_all(
     alloc: Global,
     capacity: usize,
     pieces: &[Vec<u8>],
-    wanted: &str,
+    words: Words<'_>,
     findings: &mut Findings,
 ) -> Result<(), Trouble> {
-    match capacity {
-        0 => {
-            let (mut fed, mut pushed) = (
-                CobsDecoderHeapless::<0>::new(),
-                CobsDecoderHeapless::<0>::new(),
-            );
-            compare_streams(
-                alloc,
-                "CobsDecoderHeapless",
-                &mut fed,
-                &mut pushed,
-                pieces,
-                wanted,
-                findings,
-            )?;
-        }
-        1 => {
-            let (mut fed, mut pushed) = (
-                CobsDecoderHeapless::<1>::new(),
-                CobsDecoderHeapless::<1>::new(),
-            );
-            compare_streams(
-                alloc,
-                "CobsDecoderHeapless",
-                &mut fed,
-                &mut pushed,
-                pieces,
-                wanted,
-                findings,
-            )?;
-        }
-        2 => {
-            let (mut fed, mut pushed) = (
-                CobsDecoderHeapless::<2>::new(),
-                CobsDecoderHeapless::<2>::new(),
-            );
-            compare_streams(
-                alloc,
-                "CobsDecoderHeapless",
-                &mut fed,
-                &mut pushed,
-                pieces,
-                wanted,
-                findings,
-            )?;
-        }
-        3 => {
-            let (mut fed, mut pushed) = (
-                CobsDecoderHeapless::<3>::new(),
-                CobsDecoderHeapless::<3>::new(),
-            );
-            compare_streams(
-                alloc,
-                "CobsDecoderHeapless",
-                &mut fed,
-                &mut pushed,
-                pieces,
-                wanted,
-                findings,
-            )?;
-        }
-        4 => {
-            let (mut fed, mut pushed) = (
-                CobsDecoderHeapless::<4>::new(),
-                CobsDecoderHeapless::<4>::new(),
-            );
-            compare_streams(
-                alloc,
-                "CobsDecoderHeapless",
-                &mut fed,
-                &mut pushed,
-                pieces,
-                wanted,
-                findings,
-            )?;
-        }
-        7 => {
-            let (mut fed, mut pushed) = (
-                CobsDecoderHeapless::<7>::new(),
-                CobsDecoderHeapless::<7>::new(),
-            );
-            compare_streams(
-                alloc,
-                "CobsDecoderHeapless",
-                &mut fed,
-                &mut pushed,
-                pieces,
-                wanted,
-                findings,
-            )?;
-        }
-        12 => {
-            let (mut fed, mut pushed) = (
-                CobsDecoderHeapless::<12>::new(),
-                CobsDecoderHeapless::<12>::new(),
-            );
-            compare_streams(
-                alloc,
-                "CobsDecoderHeapless",
-                &mut fed,
-                &mut pushed,
-                pieces,
-                wanted,
-                findings,
-            )?;
-        }
-        17 => {
-            let (mut fed, mut pushed) = (
-                CobsDecoderHeapless::<17>::new(),
-                CobsDecoderHeapless::<17>::new(),
-            );
-            compare_streams(
-                alloc,
-                "CobsDecoderHeapless",
-                &mut fed,
-                &mut pushed,
-                pieces,
-                wanted,
-                findings,
-            )?;
-        }
-        33 => {
-            let (mut fed, mut pushed) = (
-                CobsDecoderHeapless::<33>::new(),
-                CobsDecoderHeapless::<33>::new(),
-            );
-            compare_streams(
-                alloc,
-                "CobsDecoderHeapless",
-                &mut fed,
-                &mut pushed,
-                pieces,
-                wanted,
-                findings,
-            )?;
-        }
-        _ => {}
-    }
+    let wanted = words.answer()?;
+    let case = Case {
+        alloc,
+        pieces,
+        wanted,
+    };
+    compare_lent(case, capacity, findings)?;
+    compare_owned(case, capacity, findings)?;
+    compare_fixed(case, capacity, findings)?;
     if capacity > 1024 || wanted.contains("TargetBufTooSmall") {
         return Ok(());
     }
-    let mut fed = CobsDecoderHeapless::<1024>::new();
-    let mut pushed = CobsDecoderHeapless::<1024>::new();
+    compare_spacious(case, findings)
+}
+
+/// Compares what decoders answer that are lent their room.
+fn compare_lent(case: Case<'_>, capacity: usize, findings: &mut Findings) -> Result<(), Trouble> {
+    let mut room = vec![in case.alloc; 0; capacity]?;
+    let mut other = vec![in case.alloc; 0; capacity]?;
     compare_streams(
-        alloc,
+        case,
+        "CobsDecoder",
+        &mut CobsDecoder::new(room.as_mut_slice()),
+        &mut CobsDecoder::new(other.as_mut_slice()),
+        findings,
+    )
+}
+
+/// Compares what decoders answer that have a vector.
+fn compare_owned(case: Case<'_>, capacity: usize, findings: &mut Findings) -> Result<(), Trouble> {
+    let mut fed = CobsDecoderOwned::new(case.alloc, capacity)?;
+    let mut pushed = CobsDecoderOwned::new(case.alloc, capacity)?;
+    compare_streams(case, "CobsDecoderOwned", &mut fed, &mut pushed, findings)
+}
+
+/// Compares what decoders of a fixed room answer, where one of that room stands here.
+fn compare_fixed(case: Case<'_>, capacity: usize, findings: &mut Findings) -> Result<(), Trouble> {
+    match capacity {
+        0 => compare_streams(
+            case,
+            "CobsDecoderHeapless",
+            &mut CobsDecoderHeapless::<0>::new(),
+            &mut CobsDecoderHeapless::<0>::new(),
+            findings,
+        ),
+        1 => compare_streams(
+            case,
+            "CobsDecoderHeapless",
+            &mut CobsDecoderHeapless::<1>::new(),
+            &mut CobsDecoderHeapless::<1>::new(),
+            findings,
+        ),
+        2 => compare_streams(
+            case,
+            "CobsDecoderHeapless",
+            &mut CobsDecoderHeapless::<2>::new(),
+            &mut CobsDecoderHeapless::<2>::new(),
+            findings,
+        ),
+        3 => compare_streams(
+            case,
+            "CobsDecoderHeapless",
+            &mut CobsDecoderHeapless::<3>::new(),
+            &mut CobsDecoderHeapless::<3>::new(),
+            findings,
+        ),
+        4 => compare_streams(
+            case,
+            "CobsDecoderHeapless",
+            &mut CobsDecoderHeapless::<4>::new(),
+            &mut CobsDecoderHeapless::<4>::new(),
+            findings,
+        ),
+        7 => compare_streams(
+            case,
+            "CobsDecoderHeapless",
+            &mut CobsDecoderHeapless::<7>::new(),
+            &mut CobsDecoderHeapless::<7>::new(),
+            findings,
+        ),
+        12 => compare_streams(
+            case,
+            "CobsDecoderHeapless",
+            &mut CobsDecoderHeapless::<12>::new(),
+            &mut CobsDecoderHeapless::<12>::new(),
+            findings,
+        ),
+        17 => compare_streams(
+            case,
+            "CobsDecoderHeapless",
+            &mut CobsDecoderHeapless::<17>::new(),
+            &mut CobsDecoderHeapless::<17>::new(),
+            findings,
+        ),
+        33 => compare_streams(
+            case,
+            "CobsDecoderHeapless",
+            &mut CobsDecoderHeapless::<33>::new(),
+            &mut CobsDecoderHeapless::<33>::new(),
+            findings,
+        ),
+        _ => Ok(()),
+    }
+}
+
+/// Compares what decoders with room to spare answer.
+fn compare_spacious(case: Case<'_>, findings: &mut Findings) -> Result<(), Trouble> {
+    compare_streams(
+        case,
         "CobsDecoderHeapless with room to spare",
-        &mut fed,
-        &mut pushed,
-        pieces,
-        wanted,
+        &mut CobsDecoderHeapless::<1024>::new(),
+        &mut CobsDecoderHeapless::<1024>::new(),
         findings,
     )
 }
 
 /// Compares what two new decoders answer to the pieces, one byte by byte, and one piece by piece.
 fn compare_streams<D: Streaming>(
-    alloc: Global,
+    case: Case<'_>,
     name: &str,
     fed: &mut D,
     pushed: &mut D,
-    pieces: &[Vec<u8>],
-    wanted: &str,
     findings: &mut Findings,
 ) -> Result<(), Trouble> {
-    let stops = feed(alloc, fed, pieces)?;
-    let answer = text_of(alloc, &stops)?;
-    findings.compare(name, answer.as_str(), wanted)?;
-    let call = format!(in alloc; "{name}::push")?;
-    push(alloc, call.as_str(), pushed, pieces, &stops, findings)
+    let stops = feed(case, fed)?;
+    findings.check(name, text_of(case.alloc, &stops), case.wanted)?;
+    for (piece, stops) in case.pieces.iter().zip(&stops) {
+        push(case.alloc, name, pushed, piece, stops, findings)?;
+    }
+    Ok(())
 }
 
 /// What a decoder answers to the pieces, byte by byte.
-fn feed<D: Streaming>(
-    alloc: Global,
-    decoder: &mut D,
-    pieces: &[Vec<u8>],
-) -> Result<Vec<Vec<Stop>>, Trouble> {
-    let mut stops = Vec::new(alloc);
-    for piece in pieces {
-        stops.push(feed_piece(alloc, decoder, piece)?)?;
+fn feed<D: Streaming>(case: Case<'_>, decoder: &mut D) -> Result<Vec<Vec<Stop>>, Trouble> {
+    let mut stops = Vec::new(case.alloc);
+    for piece in case.pieces {
+        stops.push(feed_piece(case.alloc, decoder, piece)?)?;
     }
     Ok(stops)
 }
@@ -311,52 +249,55 @@ fn feed_piece<D: Streaming>(
     Ok(stops)
 }
 
-/// Compares what a decoder answers to whole pieces, and to each rest again, with where it stopped byte by byte.
+/// Compares what a decoder answers to a whole piece, and to each rest again, with where it stopped byte by byte.
 fn push<D: Streaming>(
     alloc: Global,
-    call: &str,
+    name: &str,
     decoder: &mut D,
-    pieces: &[Vec<u8>],
-    stops: &[Vec<Stop>],
+    piece: &[u8],
+    stops: &[Stop],
     findings: &mut Findings,
 ) -> Result<(), Trouble> {
-    for (piece, stops) in pieces.iter().zip(stops) {
-        let mut start = 0;
-        for stop in stops {
-            let rest = piece.get(start..).unwrap_or(&[]);
-            let answer = match decoder.push_piece(rest) {
-                Ok(None) => String::from_str(alloc, "-")?,
-                Ok(Some(report)) => {
-                    findings.compare_number(
-                        call,
-                        report.parsed_size(),
-                        stop.at.saturating_sub(start).saturating_add(1),
-                    )?;
-                    message_text(alloc, decoder.buffer(), report.frame_size())?
-                }
-                Err(error) => error_text(alloc, error)?,
-            };
-            findings.compare(call, answer.as_str(), stop.answer.as_str())?;
-            start = stop.at.saturating_add(1);
-        }
+    let mut start = 0;
+    for stop in stops {
         let rest = piece.get(start..).unwrap_or(&[]);
-        match decoder.push_piece(rest) {
-            Ok(None) => {}
-            _ => findings.add(call, "a stop more")?,
-        }
+        let used = stop.at.saturating_sub(start).saturating_add(1);
+        let answer = push_text(alloc, decoder, rest, used);
+        findings.check(name, answer, stop.answer.as_str())?;
+        start = stop.at.saturating_add(1);
+    }
+    match decoder.push_piece(piece.get(start..).unwrap_or(&[])) {
+        Ok(None) => {}
+        _ => findings.add(name, "a stop more by push")?,
     }
     Ok(())
 }
 
+/// What a decoder answers to a piece of which it has to use so many bytes.
+fn push_text<D: Streaming>(
+    alloc: Global,
+    decoder: &mut D,
+    piece: &[u8],
+    used: usize,
+) -> Result<String, Trouble> {
+    let text = match decoder.push_piece(piece) {
+        Ok(None) => String::from_str(alloc, "no stop by push"),
+        Ok(Some(report)) if report.parsed_size() == used => {
+            message_text(alloc, decoder.buffer(), report.frame_size())
+        }
+        Ok(Some(_)) => String::from_str(alloc, "a stop elsewhere by push"),
+        Err(error) => error_text(alloc, error),
+    };
+    Ok(text?)
+}
+
 /// A message as it stands at the front of a buffer.
 fn message_text(alloc: Global, buffer: &[u8], size: usize) -> Result<String, AllocError> {
-    match buffer.get(..size) {
-        Some(message) => {
-            let message = digits(alloc, message)?;
-            format!(in alloc; "={message}")
-        }
-        None => format!(in alloc; "={size} bytes"),
-    }
+    let Some(message) = buffer.get(..size) else {
+        return String::from_str(alloc, "= past the buffer");
+    };
+    let message = digits(alloc, message)?;
+    format!(in alloc; "={message}")
 }
 
 /// An error, in the words of a stream's line.
@@ -371,23 +312,29 @@ fn error_text(alloc: Global, error: DecodeError) -> Result<String, AllocError> {
 }
 
 /// The answers to all pieces, in the words of the line.
-fn text_of(alloc: Global, pieces: &[Vec<Stop>]) -> Result<String, AllocError> {
+fn text_of(alloc: Global, pieces: &[Vec<Stop>]) -> Result<String, Trouble> {
     let mut text = String::new(alloc);
-    for (i, stops) in pieces.iter().enumerate() {
-        if i > 0 {
+    for stops in pieces {
+        if !text.is_empty() {
             text.push('|')?;
         }
-        if stops.is_empty() {
-            text.push('-')?;
-        }
-        for (j, stop) in stops.iter().enumerate() {
-            if j > 0 {
-                text.push(';')?;
-            }
-            let at = stop.at;
-            write!(text, "{at}")?;
-            text.push_str(stop.answer.as_str())?;
-        }
+        show_stops(stops, &mut text)?;
     }
     Ok(text)
+}
+
+/// Shows the answers to a piece, a semicolon between two; a dash where there are none.
+fn show_stops(stops: &[Stop], text: &mut String) -> Result<(), AllocError> {
+    if stops.is_empty() {
+        return text.push('-');
+    }
+    for (i, stop) in stops.iter().enumerate() {
+        if i > 0 {
+            text.push(';')?;
+        }
+        let at = stop.at;
+        let answer = stop.answer.as_str();
+        write!(text, "{at}{answer}")?;
+    }
+    Ok(())
 }

@@ -132,12 +132,13 @@ impl<const N: usize> Shown for ArrayString<N> {
 
 /// The elements in order.
 fn show_list<T: Shown>(items: &[T], text: &mut String) -> Result<(), AllocError> {
-    text.push('[')?;
-    for (i, item) in items.iter().enumerate() {
-        if i > 0 {
-            text.push(',')?;
-        }
-        item.show(text)?;
+    let mut mark = '[';
+    for item in items {
+        show_after(mark, item, text)?;
+        mark = ',';
+    }
+    if mark == '[' {
+        text.push(mark)?;
     }
     text.push(']')
 }
@@ -166,11 +167,15 @@ impl<T: Shown, const N: usize> Shown for [T; N] {
     }
 }
 
+/// Appends a mark and a value.
+fn show_after<T: Shown>(mark: char, value: &T, text: &mut String) -> Result<(), AllocError> {
+    text.push(mark)?;
+    value.show(text)
+}
+
 impl<A: Shown> Shown for (A,) {
     fn show(&self, text: &mut String) -> Result<(), AllocError> {
-        let (a,) = self;
-        text.push('(')?;
-        a.show(text)?;
+        show_after('(', &self.0, text)?;
         text.push_str(",)")
     }
 }
@@ -178,10 +183,8 @@ impl<A: Shown> Shown for (A,) {
 impl<A: Shown, B: Shown> Shown for (A, B) {
     fn show(&self, text: &mut String) -> Result<(), AllocError> {
         let (a, b) = self;
-        text.push('(')?;
-        a.show(text)?;
-        text.push(',')?;
-        b.show(text)?;
+        show_after('(', a, text)?;
+        show_after(',', b, text)?;
         text.push(')')
     }
 }
@@ -189,12 +192,9 @@ impl<A: Shown, B: Shown> Shown for (A, B) {
 impl<A: Shown, B: Shown, C: Shown> Shown for (A, B, C) {
     fn show(&self, text: &mut String) -> Result<(), AllocError> {
         let (a, b, c) = self;
-        text.push('(')?;
-        a.show(text)?;
-        text.push(',')?;
-        b.show(text)?;
-        text.push(',')?;
-        c.show(text)?;
+        show_after('(', a, text)?;
+        show_after(',', b, text)?;
+        show_after(',', c, text)?;
         text.push(')')
     }
 }
@@ -202,14 +202,10 @@ impl<A: Shown, B: Shown, C: Shown> Shown for (A, B, C) {
 impl<A: Shown, B: Shown, C: Shown, D: Shown> Shown for (A, B, C, D) {
     fn show(&self, text: &mut String) -> Result<(), AllocError> {
         let (a, b, c, d) = self;
-        text.push('(')?;
-        a.show(text)?;
-        text.push(',')?;
-        b.show(text)?;
-        text.push(',')?;
-        c.show(text)?;
-        text.push(',')?;
-        d.show(text)?;
+        show_after('(', a, text)?;
+        show_after(',', b, text)?;
+        show_after(',', c, text)?;
+        show_after(',', d, text)?;
         text.push(')')
     }
 }
@@ -217,16 +213,11 @@ impl<A: Shown, B: Shown, C: Shown, D: Shown> Shown for (A, B, C, D) {
 impl<A: Shown, B: Shown, C: Shown, D: Shown, E: Shown> Shown for (A, B, C, D, E) {
     fn show(&self, text: &mut String) -> Result<(), AllocError> {
         let (a, b, c, d, e) = self;
-        text.push('(')?;
-        a.show(text)?;
-        text.push(',')?;
-        b.show(text)?;
-        text.push(',')?;
-        c.show(text)?;
-        text.push(',')?;
-        d.show(text)?;
-        text.push(',')?;
-        e.show(text)?;
+        show_after('(', a, text)?;
+        show_after(',', b, text)?;
+        show_after(',', c, text)?;
+        show_after(',', d, text)?;
+        show_after(',', e, text)?;
         text.push(')')
     }
 }
@@ -234,18 +225,12 @@ impl<A: Shown, B: Shown, C: Shown, D: Shown, E: Shown> Shown for (A, B, C, D, E)
 impl<A: Shown, B: Shown, C: Shown, D: Shown, E: Shown, F: Shown> Shown for (A, B, C, D, E, F) {
     fn show(&self, text: &mut String) -> Result<(), AllocError> {
         let (a, b, c, d, e, f) = self;
-        text.push('(')?;
-        a.show(text)?;
-        text.push(',')?;
-        b.show(text)?;
-        text.push(',')?;
-        c.show(text)?;
-        text.push(',')?;
-        d.show(text)?;
-        text.push(',')?;
-        e.show(text)?;
-        text.push(',')?;
-        f.show(text)?;
+        show_after('(', a, text)?;
+        show_after(',', b, text)?;
+        show_after(',', c, text)?;
+        show_after(',', d, text)?;
+        show_after(',', e, text)?;
+        show_after(',', f, text)?;
         text.push(')')
     }
 }
@@ -290,14 +275,14 @@ impl<T: Shown> Shown for Box<T> {
 /// In ascending order of keys.
 impl<K: Shown + Ord, V: Shown> Shown for BTreeMap<K, V> {
     fn show(&self, text: &mut String) -> Result<(), AllocError> {
-        text.push('{')?;
-        for (i, (key, value)) in self.iter().enumerate() {
-            if i > 0 {
-                text.push(',')?;
-            }
-            key.show(text)?;
-            text.push(':')?;
-            value.show(text)?;
+        let mut mark = '{';
+        for (key, value) in self {
+            show_after(mark, key, text)?;
+            show_after(':', value, text)?;
+            mark = ',';
+        }
+        if mark == '{' {
+            text.push(mark)?;
         }
         text.push('}')
     }

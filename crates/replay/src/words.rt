@@ -7,6 +7,8 @@ use std::alloc::{AllocError, AllocFailed, Global};
 pub enum Trouble {
     /// The line isn't one of a known kind and type.
     Unreadable,
+    /// A call refused what it has to take by the line.
+    Refused,
     NoMemory,
 }
 
@@ -59,6 +61,15 @@ impl<'a> Words<'a> {
     /// The next word's bytes.
     pub(crate) fn bytes(&mut self, alloc: Global) -> Result<Vec<u8>, Trouble> {
         bytes_of(alloc, self.next()?)
+    }
+
+    /// The next word's byte.
+    pub(crate) fn byte(&mut self, alloc: Global) -> Result<u8, Trouble> {
+        let bytes = self.bytes(alloc)?;
+        match bytes.as_slice() {
+            [byte] => Ok(*byte),
+            _ => Err(Trouble::Unreadable),
+        }
     }
 
     /// The next word's number.

@@ -3,6 +3,7 @@ use crate::findings::Findings;
 use crate::reading::{refusal, shown};
 use crate::values::Shown;
 use crate::words::Trouble;
+use arrayvec::ArrayVec;
 use postcard::experimental::serialized_size;
 use postcard::{Deserialize, Error, Serialize};
 use std::alloc::Global;
@@ -20,16 +21,11 @@ pub(crate) fn write<'a, T: Serialize + Deserialize<&'a [u8]> + Shown>(
 ) -> Result<(), Trouble> {
     match postcard::from_bytes::<T>(alloc, bytes) {
         Ok(value) => {
-            let text = shown(alloc, &value)?;
-            findings.compare("from_bytes", text.as_str(), wanted)?;
+            findings.check("from_bytes", shown(alloc, &value), wanted)?;
             write_bytes(alloc, &value, bytes, findings)?;
             write_frame(alloc, &value, frame, findings)
         }
-        Err(error) => {
-            let text = refusal(alloc, error)?;
-            findings.add("from_bytes", text.as_str())?;
-            Ok(())
-        }
+        Err(error) => findings.check("from_bytes", refusal(alloc, error), wanted),
     }
 }
 
@@ -43,10 +39,62 @@ fn compare(
 ) -> Result<(), Trouble> {
     match written {
         Ok(bytes) => findings.compare_bytes(call, bytes, wanted)?,
-        Err(error) => {
-            let text = refusal(alloc, error)?;
-            findings.add(call, text.as_str())?;
-        }
+        Err(error) => return findings.check(call, refusal(alloc, error), ""),
+    }
+    Ok(())
+}
+
+/// Compares what a call wrote into a vector.
+fn compare_vec(
+    alloc: Global,
+    call: &str,
+    written: Result<Vec<u8>, Error>,
+    wanted: &[u8],
+    findings: &mut Findings,
+) -> Result<(), Trouble> {
+    match written {
+        Ok(bytes) => compare(alloc, call, Ok(&bytes), wanted, findings),
+        Err(error) => compare(alloc, call, Err(error), wanted, findings),
+    }
+}
+
+/// Compares what a call wrote into a vector of a fixed room.
+fn compare_array(
+    alloc: Global,
+    call: &str,
+    written: Result<ArrayVec<u8, MOST>, Error>,
+    wanted: &[u8],
+    findings: &mut Findings,
+) -> Result<(), Trouble> {
+    match written {
+        Ok(bytes) => compare(alloc, call, Ok(bytes.as_slice()), wanted, findings),
+        Err(error) => compare(alloc, call, Err(error), wanted, findings),
+    }
+}
+
+/// Compares what a call wrote into exactly enough room.
+fn compare_slice(
+    alloc: Global,
+    call: &str,
+    written: Result<&mut [u8], Error>,
+    wanted: &[u8],
+    findings: &mut Findings,
+) -> Result<(), Trouble> {
+    match written {
+        Ok(bytes) => compare(alloc, call, Ok(bytes), wanted, findings),
+        Err(error) => compare(alloc, call, Err(error), wanted, findings),
+    }
+}
+
+/// Notes a call that takes what it has to refuse, for a byte of room that is missing.
+fn need_full(
+    call: &str,
+    written: Result<&mut [u8], Error>,
+    findings: &mut Findings,
+) -> Result<(), Trouble> {
+    match written {
+        Err(Error::SerializeBufferFull) => {}
+        _ => findings.add(call, "taken with a byte less")?,
     }
     Ok(())
 }
@@ -58,43 +106,48 @@ fn write_bytes<T: Serialize>(
     bytes: &[u8],
     findings: &mut Findings,
 ) -> Result<(), Trouble> {
+    count(alloc, value, bytes.len(), findings)?;
+    write_slice(alloc, value, bytes, findings)?;
+    let written = postcard::to_vec::<T, MOST>(value);
+    compare_array(alloc, "to_vec", written, bytes, findings)?;
+    let written = postcard::to_allocvec(alloc, value);
+    compare_vec(alloc, "to_allocvec", written, bytes, findings)?;
+    let written = postcard::to_stdvec(alloc, value);
+    compare_vec(alloc, "to_stdvec", written, bytes, findings)?;
+    let written = postcard::to_extend(value, Vec::new(alloc));
+    compare_vec(alloc, "to_extend", written, bytes, findings)?;
+    let written = postcard::to_io(value, Vec::new(alloc));
+    compare_vec(alloc, "to_io", written, bytes, findings)
+}
+
+/// Counts the bytes of a value.
+fn count<T: Serialize>(
+    alloc: Global,
+    value: &T,
+    wanted: usize,
+    findings: &mut Findings,
+) -> Result<(), Trouble> {
     match serialized_size(value) {
-        Ok(size) => findings.compare_number("serialized_size", size, bytes.len())?,
-        Err(error) => findings.add("serialized_size", refusal(alloc, error)?.as_str())?,
-    }
-    let mut room = vec![in alloc; 0; bytes.len()]?;
-    match postcard::to_slice(value, room.as_mut_slice()) {
-        Ok(front) => compare(alloc, "to_slice", Ok(front), bytes, findings)?,
-        Err(error) => compare(alloc, "to_slice", Err(error), bytes, findings)?,
-    }
-    match postcard::to_vec::<T, MOST>(value) {
-        Ok(made) => compare(alloc, "to_vec", Ok(made.as_slice()), bytes, findings)?,
-        Err(error) => compare(alloc, "to_vec", Err(error), bytes, findings)?,
-    }
-    match postcard::to_allocvec(alloc, value) {
-        Ok(made) => compare(alloc, "to_allocvec", Ok(made.as_slice()), bytes, findings)?,
-        Err(error) => compare(alloc, "to_allocvec", Err(error), bytes, findings)?,
-    }
-    match postcard::to_stdvec(alloc, value) {
-        Ok(made) => compare(alloc, "to_stdvec", Ok(made.as_slice()), bytes, findings)?,
-        Err(error) => compare(alloc, "to_stdvec", Err(error), bytes, findings)?,
-    }
-    match postcard::to_extend(value, Vec::new(alloc)) {
-        Ok(made) => compare(alloc, "to_extend", Ok(made.as_slice()), bytes, findings)?,
-        Err(error) => compare(alloc, "to_extend", Err(error), bytes, findings)?,
-    }
-    match postcard::to_io(value, Vec::new(alloc)) {
-        Ok(made) => compare(alloc, "to_io", Ok(made.as_slice()), bytes, findings)?,
-        Err(error) => compare(alloc, "to_io", Err(error), bytes, findings)?,
-    }
-    let Some((_, less)) = room.split_last_mut() else {
-        return Ok(());
-    };
-    match postcard::to_slice(value, less) {
-        Err(Error::SerializeBufferFull) => {}
-        _ => findings.add("to_slice with a byte less", "taken")?,
+        Ok(size) => findings.compare_number("serialized_size", size, wanted)?,
+        Err(error) => return findings.check("serialized_size", refusal(alloc, error), ""),
     }
     Ok(())
+}
+
+/// Writes a value into exactly enough room, and into a byte less.
+fn write_slice<T: Serialize>(
+    alloc: Global,
+    value: &T,
+    bytes: &[u8],
+    findings: &mut Findings,
+) -> Result<(), Trouble> {
+    let mut room = vec![in alloc; 0; bytes.len()]?;
+    let written = postcard::to_slice(value, room.as_mut_slice());
+    compare_slice(alloc, "to_slice", written, bytes, findings)?;
+    match room.split_last_mut() {
+        None => Ok(()),
+        Some((_, less)) => need_full("to_slice", postcard::to_slice(value, less), findings),
+    }
 }
 
 /// Writes a value as a frame by each call.
@@ -104,41 +157,31 @@ fn write_frame<T: Serialize>(
     frame: &[u8],
     findings: &mut Findings,
 ) -> Result<(), Trouble> {
+    write_slice_cobs(alloc, value, frame, findings)?;
+    let written = postcard::to_vec_cobs::<T, MOST>(value);
+    compare_array(alloc, "to_vec_cobs", written, frame, findings)?;
+    let written = postcard::to_allocvec_cobs(alloc, value);
+    compare_vec(alloc, "to_allocvec_cobs", written, frame, findings)?;
+    let written = postcard::to_stdvec_cobs(alloc, value);
+    compare_vec(alloc, "to_stdvec_cobs", written, frame, findings)
+}
+
+/// Writes a value as a frame into exactly enough room, and into a byte less.
+fn write_slice_cobs<T: Serialize>(
+    alloc: Global,
+    value: &T,
+    frame: &[u8],
+    findings: &mut Findings,
+) -> Result<(), Trouble> {
     let mut room = vec![in alloc; 0; frame.len()]?;
-    match postcard::to_slice_cobs(value, room.as_mut_slice()) {
-        Ok(front) => compare(alloc, "to_slice_cobs", Ok(front), frame, findings)?,
-        Err(error) => compare(alloc, "to_slice_cobs", Err(error), frame, findings)?,
-    }
-    match postcard::to_vec_cobs::<T, MOST>(value) {
-        Ok(made) => compare(alloc, "to_vec_cobs", Ok(made.as_slice()), frame, findings)?,
-        Err(error) => compare(alloc, "to_vec_cobs", Err(error), frame, findings)?,
-    }
-    match postcard::to_allocvec_cobs(alloc, value) {
-        Ok(made) => compare(
-            alloc,
-            "to_allocvec_cobs",
-            Ok(made.as_slice()),
-            frame,
+    let written = postcard::to_slice_cobs(value, room.as_mut_slice());
+    compare_slice(alloc, "to_slice_cobs", written, frame, findings)?;
+    match room.split_last_mut() {
+        None => Ok(()),
+        Some((_, less)) => need_full(
+            "to_slice_cobs",
+            postcard::to_slice_cobs(value, less),
             findings,
-        )?,
-        Err(error) => compare(alloc, "to_allocvec_cobs", Err(error), frame, findings)?,
+        ),
     }
-    match postcard::to_stdvec_cobs(alloc, value) {
-        Ok(made) => compare(
-            alloc,
-            "to_stdvec_cobs",
-            Ok(made.as_slice()),
-            frame,
-            findings,
-        )?,
-        Err(error) => compare(alloc, "to_stdvec_cobs", Err(error), frame, findings)?,
-    }
-    let Some((_, less)) = room.split_last_mut() else {
-        return Ok(());
-    };
-    match postcard::to_slice_cobs(value, less) {
-        Err(Error::SerializeBufferFull) => {}
-        _ => findings.add("to_slice_cobs with a byte less", "taken")?,
-    }
-    Ok(())
 }

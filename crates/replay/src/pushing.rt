@@ -1,0 +1,210 @@
+//! Streams that are pushed to a receiver.
+ghost use Rattle.link.specs.Listening.{ReceiverFitsInMemory};
+
+use crate::answers::show_answer;
+use crate::findings::Findings;
+use crate::linked::Line;
+use crate::values::Shown;
+use crate::words::Trouble;
+use arrayvec::{ArrayString, ArrayVec};
+use link::{Answer, Pushed, Receiver};
+use postcard::fixint::LE;
+use postcard::{Deserialize, DeserializeOwned, Exact};
+use samples::DataEnum;
+use std::alloc::{AllocError, Global};
+use std::collections::BTreeMap;
+
+/// The call that pushes.
+#[derive(Clone, Copy, Debug, PartialEq, Eq, Drop)]
+enum Call {
+    Push,
+    PushRef,
+    PushStrict,
+}
+
+/// Compares what new receivers answer to the pieces, and to each rest again, by each call.
+pub(crate) fn compare_pushes(
+    line: Line<'_>,
+    pieces: &[Vec<u8>],
+    is_strict: bool,
+    findings: &mut Findings,
+) -> Result<(), Trouble> {
+    if is_strict {
+        let answer = push_all(line, Call::PushStrict, pieces)?;
+        findings.compare("push_strict", answer.as_str(), line.wanted)?;
+        return Ok(());
+    }
+    let answer = push_all(line, Call::Push, pieces)?;
+    findings.compare("push", answer.as_str(), line.wanted)?;
+    let answer = push_all(line, Call::PushRef, pieces)?;
+    findings.compare("push_ref", answer.as_str(), line.wanted)?;
+    Ok(())
+}
+
+/// What a new receiver of the line's limit answers.
+fn push_all(line: Line<'_>, call: Call, pieces: &[Vec<u8>]) -> Result<String, Trouble> {
+    match line.limit {
+        0 => push_to(line, call, Receiver::<0>::new(), pieces),
+        1 => push_to(line, call, Receiver::<1>::new(), pieces),
+        3 => push_to(line, call, Receiver::<3>::new(), pieces),
+        8 => push_to(line, call, Receiver::<8>::new(), pieces),
+        16 => push_to(line, call, Receiver::<16>::new(), pieces),
+        64 => push_to(line, call, Receiver::<64>::new(), pieces),
+        256 => push_to(line, call, Receiver::<256>::new(), pieces),
+        512 => push_to(line, call, Receiver::<512>::new(), pieces),
+        1025 => push_to(line, call, Receiver::<1025>::new(), pieces),
+        _ => Err(Trouble::Unreadable),
+    }
+}
+
+/// What a receiver answers to the pieces and to the end.
+fn push_to<const N: usize>(
+    line: Line<'_>,
+    call: Call,
+    receiver: Receiver<N>,
+    pieces: &[Vec<u8>],
+) -> Result<String, Trouble>
+    requires { ReceiverFitsInMemory N.row }
+{
+    let mut receiver = receiver;
+    let mut text = String::new(line.alloc);
+    for piece in pieces {
+        let answers = push_piece(line, call, &mut receiver, piece)?;
+        text.push_str(answers.as_str())?;
+        text.push('|')?;
+    }
+    text.push_str(match receiver.finish::<()>() {
+        None => "-",
+        Some(Answer::Cut) => "cut",
+        Some(_) => "another answer",
+    })?;
+    Ok(text)
+}
+
+/// What a receiver answers to a piece, and to each rest until none is left.
+fn push_piece<const N: usize>(
+    line: Line<'_>,
+    call: Call,
+    receiver: &mut Receiver<N>,
+    piece: &[u8],
+) -> Result<String, Trouble> {
+    let mut text = String::new(line.alloc);
+    let mut rest = piece;
+    for turn in 0..=piece.len() {
+        if turn > 0 && rest.is_empty() {
+            break;
+        }
+        let mut answer = String::new(line.alloc);
+        let used = push_number(line, call, receiver, rest, &mut answer)?;
+        rest = rest.get(used..).unwrap_or(&[]);
+        if !answer.is_empty() {
+            let at = piece.len().saturating_sub(rest.len()).saturating_sub(1);
+            add(&mut text, at, answer.as_str())?;
+        }
+    }
+    if text.is_empty() {
+        text.push('-')?;
+    }
+    Ok(text)
+}
+
+/// Adds an answer with its place to those of a piece.
+fn add(text: &mut String, at: usize, answer: &str) -> Result<(), AllocError> {
+    if !text.is_empty() {
+        text.push(';')?;
+    }
+    write!(text, "{at}{answer}")
+}
+
+/// Pushes a piece by a call, shows the answer, and says how many bytes were used.
+fn push<'a, T: Deserialize<&'a [u8]> + DeserializeOwned + Exact + Shown, const N: usize>(
+    alloc: Global,
+    call: Call,
+    receiver: &'a mut Receiver<N>,
+    piece: &[u8],
+    text: &mut String,
+) -> Result<usize, Trouble> {
+    match call {
+        Call::Push => show(receiver.push::<T>(alloc, piece), text),
+        Call::PushRef => show(receiver.push_ref::<T>(alloc, piece), text),
+        Call::PushStrict => show(receiver.push_strict::<T>(alloc, piece), text),
+    }
+}
+
+/// As [`push`], of a type that strict reception doesn't take.
+fn push_inexact<'a, T: Deserialize<&'a [u8]> + DeserializeOwned + Shown, const N: usize>(
+    alloc: Global,
+    call: Call,
+    receiver: &'a mut Receiver<N>,
+    piece: &[u8],
+    text: &mut String,
+) -> Result<usize, Trouble> {
+    match call {
+        Call::Push => show(receiver.push::<T>(alloc, piece), text),
+        Call::PushRef => show(receiver.push_ref::<T>(alloc, piece), text),
+        Call::PushStrict => Err(Trouble::Unreadable),
+    }
+}
+
+/// Shows the answer of a push, where it has one, and says how many bytes were used.
+fn show<T: Shown + Drop>(pushed: Pushed<T>, text: &mut String) -> Result<usize, Trouble> {
+    let Pushed { used, answer } = pushed;
+    match answer {
+        Ok(None) => {}
+        Ok(Some(answer)) => show_answer(&answer, text)?,
+        Err(_) => return Err(Trouble::NoMemory),
+    }
+    Ok(used)
+}
+
+/// Pushes for a number, a character or nothing.
+fn push_number<const N: usize>(
+    line: Line<'_>,
+    call: Call,
+    receiver: &mut Receiver<N>,
+    piece: &[u8],
+    text: &mut String,
+) -> Result<usize, Trouble> {
+    let alloc = line.alloc;
+    match line.name {
+        "bool" => push::<bool, N>(alloc, call, receiver, piece, text),
+        "u8" => push::<u8, N>(alloc, call, receiver, piece, text),
+        "u16" => push::<u16, N>(alloc, call, receiver, piece, text),
+        "u32" => push::<u32, N>(alloc, call, receiver, piece, text),
+        "u64" => push::<u64, N>(alloc, call, receiver, piece, text),
+        "i16" => push::<i16, N>(alloc, call, receiver, piece, text),
+        "i64" => push::<i64, N>(alloc, call, receiver, piece, text),
+        "char" => push::<char, N>(alloc, call, receiver, piece, text),
+        "()" => push::<(), N>(alloc, call, receiver, piece, text),
+        "LE<u16>" => push::<LE<u16>, N>(alloc, call, receiver, piece, text),
+        _ => push_composed(line, call, receiver, piece, text),
+    }
+}
+
+/// Pushes for a type that has parts.
+fn push_composed<const N: usize>(
+    line: Line<'_>,
+    call: Call,
+    receiver: &mut Receiver<N>,
+    piece: &[u8],
+    text: &mut String,
+) -> Result<usize, Trouble> {
+    let alloc = line.alloc;
+    match line.name {
+        "String" => push::<String, N>(alloc, call, receiver, piece, text),
+        "ArrayString<4>" => push::<ArrayString<4>, N>(alloc, call, receiver, piece, text),
+        "Vec<u8>" => push::<Vec<u8>, N>(alloc, call, receiver, piece, text),
+        "Vec<u16>" => push::<Vec<u16>, N>(alloc, call, receiver, piece, text),
+        "ArrayVec<u8,2>" => push::<ArrayVec<u8, 2>, N>(alloc, call, receiver, piece, text),
+        "[u8;3]" => push::<[u8; 3], N>(alloc, call, receiver, piece, text),
+        "(u8,u8)" => push::<(u8, u8), N>(alloc, call, receiver, piece, text),
+        "(u8,u32,String)" => push::<(u8, u32, String), N>(alloc, call, receiver, piece, text),
+        "Option<u16>" => push::<Option<u16>, N>(alloc, call, receiver, piece, text),
+        "Result<u8,u16>" => push::<Result<u8, u16>, N>(alloc, call, receiver, piece, text),
+        "DataEnum" => push::<DataEnum, N>(alloc, call, receiver, piece, text),
+        "BTreeMap<u8,u8>" => push_inexact::<BTreeMap<u8, u8>, N>(
+            alloc, call, receiver, piece, text,
+        ),
+        _ => Err(Trouble::Unreadable),
+    }
+}

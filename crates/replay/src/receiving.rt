@@ -1,0 +1,95 @@
+//! Streams that a reader gives.
+use crate::answers::{need_end, show_answers, without_places};
+use crate::findings::Findings;
+use crate::linked::Line;
+use crate::pieces::{Pieces, pieces_of};
+use crate::values::Shown;
+use crate::words::Trouble;
+use line_io::Reads;
+use link::{Received, receive, receive_strict};
+use postcard::{DeserializeOwned, Exact};
+use std::alloc::Global;
+
+/// What comes from a reader.
+type From<'a> = Reads<Pieces<'a>>;
+
+/// Compares the answers to a stream that comes in its pieces, and to one that comes byte by byte.
+pub(crate) fn compare_received<T: DeserializeOwned + Shown>(
+    line: Line<'_>,
+    findings: &mut Findings,
+) -> Result<(), Trouble> {
+    let pieces = pieces_of(line.alloc, line.given)?;
+    let wanted = without_places(line.alloc, line.wanted)?;
+    for each in [usize::MAX, 1] {
+        let reader = Reads::new(Pieces::new(&pieces, each));
+        let answer = receive_all::<T>(line.alloc, line.limit, reader)?;
+        findings.compare("receive", answer.as_str(), wanted.as_str())?;
+    }
+    Ok(())
+}
+
+/// As [`compare_received`], by strict reception.
+pub(crate) fn compare_received_strictly<T: DeserializeOwned + Exact + Shown>(
+    line: Line<'_>,
+    findings: &mut Findings,
+) -> Result<(), Trouble> {
+    let pieces = pieces_of(line.alloc, line.given)?;
+    let wanted = without_places(line.alloc, line.wanted)?;
+    for each in [usize::MAX, 1] {
+        let reader = Reads::new(Pieces::new(&pieces, each));
+        let answer = receive_all_strictly::<T>(line.alloc, line.limit, reader)?;
+        findings.compare("receive_strict", answer.as_str(), wanted.as_str())?;
+    }
+    Ok(())
+}
+
+/// The answers of a receiver of so many bytes.
+pub(crate) fn receive_all<T: DeserializeOwned + Shown>(
+    alloc: Global,
+    limit: usize,
+    reader: From<'_>,
+) -> Result<String, Trouble> {
+    match limit {
+        0 => show(alloc, receive::<T, _, 0>(alloc, reader)),
+        1 => show(alloc, receive::<T, _, 1>(alloc, reader)),
+        3 => show(alloc, receive::<T, _, 3>(alloc, reader)),
+        8 => show(alloc, receive::<T, _, 8>(alloc, reader)),
+        16 => show(alloc, receive::<T, _, 16>(alloc, reader)),
+        64 => show(alloc, receive::<T, _, 64>(alloc, reader)),
+        256 => show(alloc, receive::<T, _, 256>(alloc, reader)),
+        512 => show(alloc, receive::<T, _, 512>(alloc, reader)),
+        1025 => show(alloc, receive::<T, _, 1025>(alloc, reader)),
+        _ => Err(Trouble::Unreadable),
+    }
+}
+
+/// The strict answers of a receiver of so many bytes.
+fn receive_all_strictly<T: DeserializeOwned + Exact + Shown>(
+    alloc: Global,
+    limit: usize,
+    reader: From<'_>,
+) -> Result<String, Trouble> {
+    match limit {
+        0 => show(alloc, receive_strict::<T, _, 0>(alloc, reader)),
+        1 => show(alloc, receive_strict::<T, _, 1>(alloc, reader)),
+        3 => show(alloc, receive_strict::<T, _, 3>(alloc, reader)),
+        8 => show(alloc, receive_strict::<T, _, 8>(alloc, reader)),
+        16 => show(alloc, receive_strict::<T, _, 16>(alloc, reader)),
+        64 => show(alloc, receive_strict::<T, _, 64>(alloc, reader)),
+        256 => show(alloc, receive_strict::<T, _, 256>(alloc, reader)),
+        512 => show(alloc, receive_strict::<T, _, 512>(alloc, reader)),
+        1025 => show(alloc, receive_strict::<T, _, 1025>(alloc, reader)),
+        _ => Err(Trouble::Unreadable),
+    }
+}
+
+/// The answers that were received, in the words of a line.
+fn show<T: Shown + Drop>(
+    alloc: Global,
+    received: Received<T, From<'_>>,
+) -> Result<String, Trouble> {
+    let mut text = String::new(alloc);
+    show_answers(&received.answers, &mut text)?;
+    need_end(received.end, &mut text)?;
+    Ok(text)
+}
