@@ -11,6 +11,16 @@ mod cobs_encoding;
 #[cfg(test)]
 mod de;
 #[cfg(test)]
+mod line_io_memory;
+#[cfg(test)]
+mod line_io_streams;
+#[cfg(test)]
+mod link_lines;
+#[cfg(test)]
+mod link_receiving;
+#[cfg(test)]
+mod link_sending;
+#[cfg(test)]
 mod messages;
 #[cfg(test)]
 mod postcard_frames;
@@ -25,6 +35,10 @@ mod ser_flavors;
 #[cfg(test)]
 mod ser_frames;
 #[cfg(test)]
+mod ser_span;
+#[cfg(test)]
 mod ser_texts;
+#[cfg(test)]
+mod station;
 #[cfg(test)]
 mod tree;

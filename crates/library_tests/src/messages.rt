@@ -1,8 +1,6 @@
 //! `samples`: what the types are on the wire, by published bytes.
 use postcard::{Error, from_bytes, from_bytes_owned, take_from_bytes, to_allocvec, to_slice};
 use samples::*;
-use std::alloc::Global;
-use std::process::Abort;
 use std::test::Fail;
 
 /// A struct of four bytes and a text.
@@ -65,67 +63,6 @@ fn variants_without_payload(rt: HostRuntime) -> Result<(), Fail> {
     assert!(rt;
         matches!(
             &from_bytes::<BasicEnum>(rt.alloc(), &[3]),
-            Err(Error::SerdeDeCustom)
-        )
-    );
-    Ok(())
-}
-
-fn check_data(alloc: Global, rt: &impl Abort, variant: DataEnum, bytes: &[u8]) -> Result<(), Fail> {
-    let written = to_allocvec(alloc, &variant)?;
-    assert!(rt; written.as_slice() == bytes);
-    assert!(rt; from_bytes_owned::<DataEnum>(alloc, bytes)? == variant);
-    assert!(rt; from_bytes::<DataEnum>(alloc, bytes)? == variant);
-    Ok(())
-}
-
-/// A variant is its index and its payload, of each form.
-#[test]
-fn variants_with_payload(rt: HostRuntime) -> Result<(), Fail> {
-    check_data(
-        rt.alloc(),
-        &rt,
-        DataEnum::Bib(u16::MAX),
-        &[0, 0xFF, 0xFF, 0x03],
-    )?;
-    check_data(
-        rt.alloc(),
-        &rt,
-        DataEnum::Bim(u64::MAX),
-        &[
-            1, 0xFF, 0xFF, 0xFF, 0xFF, 0xFF, 0xFF, 0xFF, 0xFF, 0xFF, 0x01,
-        ],
-    )?;
-    check_data(rt.alloc(), &rt, DataEnum::Bap(u8::MAX), &[2, 0xFF])?;
-    let fields = EnumStruct {
-        eight: 0xF0,
-        sixt: 0xACAC,
-    };
-    check_data(
-        rt.alloc(),
-        &rt,
-        DataEnum::Kim(fields),
-        &[3, 0xF0, 0xAC, 0xD9, 0x02],
-    )?;
-    let chi = DataEnum::Chi {
-        a: 0x0F,
-        b: 0xC7C7_C7C7,
-    };
-    check_data(
-        rt.alloc(),
-        &rt,
-        chi,
-        &[4, 0x0F, 0xC7, 0x8F, 0x9F, 0xBE, 0x0C],
-    )?;
-    check_data(
-        rt.alloc(),
-        &rt,
-        DataEnum::Sho(0x6969, 0x07),
-        &[5, 0xE9, 0xD2, 0x01, 0x07],
-    )?;
-    assert!(rt;
-        matches!(
-            &from_bytes::<DataEnum>(rt.alloc(), &[6, 1]),
             Err(Error::SerdeDeCustom)
         )
     );

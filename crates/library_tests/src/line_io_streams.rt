@@ -1,0 +1,93 @@
+//! `line_io`, over writers and readers of std: they fail and end only where those do.
+use line_io::{Inlet, Outlet, Reads, Writes};
+use std::io;
+use std::io::{Read, Write};
+use std::test::Fail;
+
+// Gives a byte a call of three, and fails once, after `before` bytes.
+#[derive(Drop)]
+struct Failing {
+    given: usize,
+    before: usize,
+}
+
+impl Read for Failing {
+    fn read(&mut self, buf: &mut [u8]) -> io::Result<usize> {
+        if self.given == self.before {
+            self.before = usize::MAX;
+            return Err(io::Error::from(io::ErrorKind::Other));
+        }
+        if buf.is_empty() || self.given >= 3 {
+            return Ok(0);
+        }
+        buf[0] = b'a';
+        self.given += 1;
+        Ok(1)
+    }
+}
+
+#[test]
+fn a_failed_read_is_a_fault(rt: HostRuntime) -> Result<(), Fail> {
+    for before in 0..4 {
+        let mut line = Reads::new(Failing { given: 0, before });
+        let mut room = [0u8; 2];
+        for call in 0..4 {
+            let want = if call == before { None } else { Some(1) };
+            assert!(rt; line.read(&mut room) == want, "call {call} of {before}");
+        }
+        assert!(rt; line.read(&mut room) == Some(0));
+        assert!(rt; line.read(&mut []) == Some(0));
+        assert!(rt; line.into_inner().given == 3);
+    }
+    Ok(())
+}
+
+// Takes a byte a call, and is interrupted once, after `before` bytes.
+#[derive(Drop)]
+struct Interrupted {
+    taken: usize,
+    before: usize,
+}
+
+impl Write for Interrupted {
+    fn write(&mut self, buf: &[u8]) -> io::Result<usize> {
+        if self.taken == self.before {
+            self.before = usize::MAX;
+            return Err(io::Error::from(io::ErrorKind::Interrupted));
+        }
+        let count = buf.len().min(1);
+        self.taken = self.taken.saturating_add(count);
+        Ok(count)
+    }
+
+    fn flush(&mut self) -> io::Result<()> {
+        Ok(())
+    }
+}
+
+#[test]
+fn an_interrupted_write_is_a_fault(rt: HostRuntime) -> Result<(), Fail> {
+    for before in 0..4 {
+        let mut line = Writes::new(Interrupted { taken: 0, before });
+        for call in 0..6 {
+            let want = if call == before { None } else { Some(1) };
+            assert!(rt; line.write(b"ab") == want, "call {call} of {before}");
+        }
+        assert!(rt; line.write(b"") == Some(0));
+        assert!(rt; line.into_inner().taken == 5);
+    }
+    Ok(())
+}
+
+#[test]
+fn a_full_writer_takes_nothing(rt: HostRuntime) -> Result<(), Fail> {
+    let mut room = [0u8; 3];
+    let mut line = Writes::new(room.as_mut_slice());
+    assert!(rt; line.write(b"ab") == Some(2));
+    assert!(rt; line.write(b"cd") == Some(1));
+    assert!(rt; line.write(b"d") == Some(0));
+    assert!(rt; line.write(b"") == Some(0));
+    assert!(rt; line.into_inner().len() == 0);
+    assert!(rt; room == *b"abc");
+    Ok(())
+}
