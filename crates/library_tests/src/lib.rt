@@ -39,6 +39,6 @@ mod ser_span;
 #[cfg(test)]
 mod ser_texts;
 #[cfg(test)]
-mod station;
+mod station_messages;
 #[cfg(test)]
 mod tree;
