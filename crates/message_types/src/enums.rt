@@ -4,7 +4,7 @@ use crate::printer::{Printer, joined, names_of, tuple_text, types_of, whole_name
 use std::alloc::{AllocError, Global};
 
 /// Where the shape of a variant stands: behind so many fours, and behind so many single ones.
-#[derive(Clone, Copy, Debug, PartialEq, Eq, Drop)]
+#[derive(Clone, Copy, PartialEq, Eq, Drop)]
 struct Place {
     fours: usize,
     ones: usize,
@@ -12,7 +12,7 @@ struct Place {
 }
 
 /// Which constructor holds it there.
-#[derive(Clone, Copy, Debug, PartialEq, Eq, Drop)]
+#[derive(Clone, Copy, PartialEq, Eq, Drop)]
 enum Kind {
     OfFour(usize),
     This,
@@ -121,78 +121,100 @@ fn shapes(alloc: Global, variants: &[VariantOf]) -> Result<Vec<String>, AllocErr
     Ok(shapes)
 }
 
+/// How the shape of these variants begins, and the variants that it holds before its rest: none where the last stands alone.
+fn first_of(variants: &[VariantOf]) -> (&str, &[VariantOf]) {
+    match place_of(0, variants.len()).kind {
+        Kind::Last => ("Last<", &[]),
+        Kind::This => ("Variant<", variants.get(..1).unwrap_or(&[])),
+        Kind::OfFour(_) => ("Variants4<", variants.get(..4).unwrap_or(&[])),
+    }
+}
+
+/// Names for so many places.
+fn places(alloc: Global, count: usize) -> Result<Vec<String>, AllocError> {
+    let mut names = Vec::new(alloc);
+    for place in 0..count {
+        names.push(format!(in alloc; "x{place}")?)?;
+    }
+    Ok(names)
+}
+
+/// The shape's value at a place, of what a variant holds by these names.
+fn seen_as(alloc: Global, place: Place, names: &[String]) -> Result<String, AllocError> {
+    let held = if names.is_empty() {
+        String::from_str(alloc, "tt")?
+    } else {
+        tuple_text(alloc, names)?
+    };
+    let inner = match place.kind {
+        Kind::OfFour(of) => format!(in alloc; "V{of} {held}")?,
+        Kind::This => format!(in alloc; "This {held}")?,
+        Kind::Last => format!(in alloc; "Last {held}")?,
+    };
+    let inner = within(alloc, place.ones, "Other (", inner.as_str())?;
+    within(alloc, place.fours, "More (", inner.as_str())
+}
+
 impl Printer {
-    /// Writes the alias of the shape.
-    fn alias(&mut self, name: &str, variants: &[VariantOf]) -> Result<(), AllocError> {
-        let alloc = self.alloc;
-        let shapes = shapes(alloc, variants)?;
-        let mut before = format!(in alloc; "type {name} = ")?;
-        let mut indent: usize = 0;
-        let mut index: usize = 0;
-        self.line(0, "")?;
-        for shape in &shapes {
-            let end = if indent == 0 { ";" } else { "," };
-            let whole = format!(in alloc; "{before}{shape}{end}")?;
-            let broken = !self.fits(indent, whole.len());
-            let (open, held) = match place_of(index, variants.len()).kind {
-                Kind::Last => ("Last<", 0),
-                Kind::This => ("Variant<", 1),
-                Kind::OfFour(_) => ("Variants4<", 4),
-            };
-            if !broken || held == 0 {
-                self.line(indent, whole.as_str())?;
-                break;
-            }
-            let first = format!(in alloc; "{before}{open}")?;
-            self.line(indent, first.as_str())?;
-            indent = indent.saturating_add(4);
-            for variant in variants.iter().skip(index).take(held) {
-                let held = payload(alloc, &variant.fields)?;
-                let line = format!(in alloc; "{held},")?;
-                self.line(indent, line.as_str())?;
-            }
-            index = index.saturating_add(held);
-            before = String::new(alloc);
-        }
-        for _ in 0..shapes.len() {
-            if indent == 0 {
-                break;
-            }
-            indent = indent.saturating_sub(4);
-            self.line(indent, if indent == 0 { ">;" } else { ">," })?;
+    /// Writes the parts of a shape that is broken over lines, between its opening and its rest.
+    fn opened(&mut self, indent: usize, first: &str, held: &[VariantOf]) -> Result<(), AllocError> {
+        self.line(indent, first)?;
+        for variant in held {
+            let mut line = payload(self.alloc, &variant.fields)?;
+            line.push(',')?;
+            self.line(indent.saturating_add(4), line.as_str())?;
         }
         Ok(())
     }
 
+    /// Closes so many shapes that were opened.
+    fn closed(&mut self, opened: usize) -> Result<(), AllocError> {
+        for behind in 0..opened {
+            let left = opened.saturating_sub(1).saturating_sub(behind);
+            self.line(left.saturating_mul(4), if left == 0 { ">;" } else { ">," })?;
+        }
+        Ok(())
+    }
+
+    /// Writes the alias of the shape.
+    fn alias(&mut self, name: &str, variants: &[VariantOf]) -> Result<(), AllocError> {
+        let shapes = shapes(self.alloc, variants)?;
+        let mut before = format!(in self.alloc; "type {name} = ")?;
+        let mut opened: usize = 0;
+        let mut rest = variants;
+        self.line(0, "")?;
+        for shape in &shapes {
+            let indent = opened.saturating_mul(4);
+            let end = if opened == 0 { ";" } else { "," };
+            let (open, held) = first_of(rest);
+            let length = before.len().saturating_add(shape.len()).saturating_add(1);
+            if held.is_empty() || self.fits(indent, length) {
+                let whole = format!(in self.alloc; "{before}{shape}{end}")?;
+                self.line(indent, whole.as_str())?;
+                break;
+            }
+            before.push_str(open)?;
+            self.opened(indent, before.as_str(), held)?;
+            before.clear();
+            opened = opened.saturating_add(1);
+            rest = rest.get(held.len()..).unwrap_or(&[]);
+        }
+        self.closed(opened)
+    }
+
     /// Writes the value of a variant as its shape.
     fn seen(&mut self, variant: &VariantOf, index: usize, count: usize) -> Result<(), AllocError> {
-        let alloc = self.alloc;
-        let mut names = Vec::new(alloc);
-        for place in 0..variant.fields.items.len() {
-            names.push(format!(in alloc; "x{place}")?)?;
-        }
-        let held = if names.is_empty() {
-            String::from_str(alloc, "tt")?
-        } else {
-            tuple_text(alloc, &names)?
-        };
-        let place = place_of(index, count);
-        let inner = match place.kind {
-            Kind::OfFour(of) => format!(in alloc; "V{of} {held}")?,
-            Kind::This => format!(in alloc; "This {held}")?,
-            Kind::Last => format!(in alloc; "Last {held}")?,
-        };
-        let inner = within(alloc, place.ones, "Other (", inner.as_str())?;
-        let inner = within(alloc, place.fours, "More (", inner.as_str())?;
-        let mut line = String::from_str(alloc, "| ")?;
-        let known = ghost_name(alloc, variant.name.as_str())?;
+        let names = places(self.alloc, variant.fields.items.len())?;
+        let mut line = String::from_str(self.alloc, "| ")?;
+        let known = ghost_name(self.alloc, variant.name.as_str())?;
         line.push_str(known.as_str())?;
         for name in &names {
             line.push(' ')?;
             line.push_str(name.as_str())?;
         }
         line.push_str(" ↦ ")?;
-        line.push_str(inner.as_str())?;
+        let shape = seen_as(self.alloc, place_of(index, count), &names)?;
+        line.push_str(shape.as_str())?;
         self.line(6, line.as_str())
     }
 

@@ -16,8 +16,8 @@ mod tokens;
 mod trouble;
 
 use crate::printer::write_all;
-use crate::tokens::read_line;
-use crate::trouble::Trouble;
+use crate::tokens::{Token, read_line};
+use crate::trouble::{Fault, Trouble};
 use std::alloc::Global;
 use std::io::{BufRead, BufReader, BufWriter, ErrorKind, Write};
 use std::process::ExitCode;
@@ -37,39 +37,67 @@ fn module_path(alloc: Global, words: &[String]) -> io::Result<Option<String>> {
     Ok(Some(path))
 }
 
-fn main(rt: HostRuntime) -> io::Result<ExitCode> {
-    let alloc = rt.alloc();
-    let mut words: Vec<String> = Vec::new(alloc);
-    for word in env::args(&rt)?.skip(1) {
+/// The words behind the program's name.
+fn arguments(rt: &HostRuntime) -> io::Result<Vec<String>> {
+    let mut words = Vec::new(rt.alloc());
+    for word in env::args(rt)?.skip(1) {
         words.push(word)?;
     }
-    let Some(path) = module_path(alloc, &words)? else {
-        eprintln!(rt; "usage: message_types CRATE [MODULE]..")?;
-        return Ok(ExitCode::from(2));
-    };
+    Ok(words)
+}
+
+/// The tokens of standard input.
+fn read_tokens(rt: &HostRuntime) -> io::Result<Vec<Token>> {
+    let alloc = rt.alloc();
     let mut tokens = Vec::new(alloc);
     let mut number: usize = 0;
     for line in BufReader::new(alloc, rt.reader())?.lines(alloc) {
         number = number.saturating_add(1);
         read_line(alloc, line?.as_str(), number, &mut tokens)?;
     }
+    Ok(tokens)
+}
+
+/// What is to be written, and what is wrong.
+fn written(alloc: Global, path: &str, tokens: &[Token]) -> io::Result<(String, Vec<Fault>)> {
     let mut faults = Vec::new(alloc);
-    let text = match write_all(alloc, path.as_str(), &tokens, &mut faults) {
-        Ok(text) => text,
+    match write_all(alloc, path, tokens, &mut faults) {
+        Ok(text) => Ok((text, faults)),
         Err(Trouble::Wrong(fault)) => {
             faults.push(fault)?;
-            String::new(alloc)
+            Ok((String::new(alloc), faults))
         }
-        Err(Trouble::NoMemory) => return Err(ErrorKind::OutOfMemory.into()),
-    };
-    for fault in &faults {
+        Err(Trouble::NoMemory) => Err(ErrorKind::OutOfMemory.into()),
+    }
+}
+
+/// Writes what is wrong to standard error.
+fn report(rt: &HostRuntime, faults: &[Fault]) -> io::Result<()> {
+    for fault in faults {
         eprintln!(rt; "line {}: {}", fault.line, fault.text)?;
     }
+    Ok(())
+}
+
+/// Writes a text to standard output.
+fn put_out(rt: &HostRuntime, text: &str) -> io::Result<()> {
+    let mut out = BufWriter::new(rt.alloc(), io::writer(rt))?;
+    out.write_all(text.as_bytes())?;
+    out.flush()
+}
+
+fn main(rt: HostRuntime) -> io::Result<ExitCode> {
+    let words = arguments(&rt)?;
+    let Some(path) = module_path(rt.alloc(), &words)? else {
+        eprintln!(rt; "usage: message_types CRATE [MODULE]..")?;
+        return Ok(ExitCode::from(2));
+    };
+    let tokens = read_tokens(&rt)?;
+    let (text, faults) = written(rt.alloc(), path.as_str(), &tokens)?;
+    report(&rt, &faults)?;
     if !faults.is_empty() {
         return Ok(ExitCode::from(1));
     }
-    let mut out = BufWriter::new(alloc, io::writer(&rt))?;
-    out.write_all(text.as_bytes())?;
-    out.flush()?;
+    put_out(&rt, text.as_str())?;
     Ok(ExitCode::from(0))
 }

@@ -17,6 +17,11 @@ const LITERAL: usize = 18;
 /// How many parts a tuple has at most; more stand in rows.
 const ROW: usize = 6;
 
+/// How what is written begins.
+const HEAD: &str = "//! How the message types of the module above are written and read.
+// Written by message_types from their declarations: change those, and write this anew.
+";
+
 /// Writes lines.
 #[derive(Drop)]
 pub struct Printer {
@@ -417,6 +422,35 @@ fn names_used(
     Ok((names, sizes))
 }
 
+impl Printer {
+    /// Writes what stands before the implementations.
+    fn top(&mut self, all: &[Declaration]) -> Result<(), AllocError> {
+        let (names, sizes) = names_used(self.alloc, all)?;
+        let above = names_above(self.alloc, all)?;
+        self.uses("super", &above)?;
+        if !sizes.is_empty() {
+            self.uses("postcard::experimental::max_size", &sizes)?;
+        }
+        self.line(0, "use postcard::ser_flavors::Flavor;")?;
+        self.uses("postcard", &names)
+    }
+
+    /// Writes the implementations of a declaration.
+    fn put(&mut self, declaration: &Declaration, path: &str) -> Result<(), AllocError> {
+        match &declaration.body {
+            Body::Struct(fields) => self.put_struct(declaration, fields)?,
+            Body::Enum(variants) => self.put_enum(declaration, variants, path)?,
+        }
+        if declaration.marks.max_size {
+            self.empty(declaration, "MaxSizeShape", "MaxSize")?;
+        }
+        if declaration.marks.exact {
+            self.empty(declaration, "ExactShape", "Exact")?;
+        }
+        Ok(())
+    }
+}
+
 /// Writes the implementations of the marked declarations among these tokens. `path` is that of the definitions of the
 /// module in which they stand.
 pub fn write_all(
@@ -428,38 +462,13 @@ pub fn write_all(
     let all = declarations(alloc, tokens, faults)?;
     let mut printer = Printer {
         alloc,
-        out: String::new(alloc),
+        out: String::from_str(alloc, HEAD)?,
     };
-    printer.line(
-        0,
-        "//! How the message types of the module above are written and read.",
-    )?;
-    printer.line(
-        0,
-        "// Written by message_types from their declarations: change those, and write this anew.",
-    )?;
-    if all.is_empty() {
-        return Ok(printer.out);
+    if !all.is_empty() {
+        printer.top(&all)?;
     }
-    let (names, sizes) = names_used(alloc, &all)?;
-    let above = names_above(alloc, &all)?;
-    printer.uses("super", &above)?;
-    if !sizes.is_empty() {
-        printer.uses("postcard::experimental::max_size", &sizes)?;
-    }
-    printer.line(0, "use postcard::ser_flavors::Flavor;")?;
-    printer.uses("postcard", &names)?;
     for declaration in &all {
-        match &declaration.body {
-            Body::Struct(fields) => printer.put_struct(declaration, fields)?,
-            Body::Enum(variants) => printer.put_enum(declaration, variants, path)?,
-        }
-        if declaration.marks.max_size {
-            printer.empty(declaration, "MaxSizeShape", "MaxSize")?;
-        }
-        if declaration.marks.exact {
-            printer.empty(declaration, "ExactShape", "Exact")?;
-        }
+        printer.put(declaration, path)?;
     }
     Ok(printer.out)
 }
