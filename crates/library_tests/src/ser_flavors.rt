@@ -21,7 +21,9 @@ fn fill(value: u32, room: &mut [u8]) -> Answer<usize>
     let mut slice = Slice::new(room);
     let mut serializer = Serializer { output: &mut slice };
     value.serialize(&mut serializer)?;
-    Ok(slice.held())
+    let n = slice.held();
+    slice.into_inner();
+    Ok(n)
 }
 
 /// Pushes a byte, changes it, and reads it.

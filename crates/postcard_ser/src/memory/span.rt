@@ -137,6 +137,20 @@ impl<'a> Span<'a, Writable> {
         (front, rest)
     }
 
+    /// All bytes, for good: once their `&mut` has ended, the caller's buffer is what it was then.
+    pub fn into_whole(self) -> &'a mut [u8]
+        ensures bytes { result.now ≡ behind_of self.entry ++ ahead_of self.entry }
+        ensures same_reference { result.ghost_name ≡ lent_as self.entry }
+    {
+        let Span {
+            start,
+            behind: _,
+            total,
+            memory,
+        } = self;
+        memory.into_slice(start, total)
+    }
+
     /// The bytes behind the cursor, for good.
     pub fn into_behind(self) -> &'a mut [u8]
         ensures { result.now ≡ behind_of self.entry }

@@ -15,7 +15,7 @@ pub struct Slice<'a> {
 }
 
 impl<'a> Slice<'a> {
-    ghost use Rattle.postcard_ser.specs.Slice.{held_of, room_of, lent_as};
+    ghost use Rattle.postcard_ser.specs.Slice.{held_of, left_of, room_of, lent_as};
 
     /// Over a slice that is to be filled. Nothing is held yet.
     pub fn new(room: &'a mut [u8]) -> Self
@@ -26,6 +26,24 @@ impl<'a> Slice<'a> {
         Slice {
             span: Span::new(room),
         }
+    }
+
+    /// The whole slice: the bytes that were pushed, and behind them those that weren't written. A caller that lent it, and
+    /// wants its own contract to say what it holds, ends the flavor so.
+    ///
+    /// ```
+    /// let mut slice = Slice::new(&mut room); // four bytes
+    /// slice.try_push(7)?;
+    /// let n = slice.held();
+    /// slice.into_inner();
+    /// assert!(room[..n] == [7]);
+    /// ```
+    pub fn into_inner(self) -> &'a mut [u8]
+        ensures bytes { result.now ≡ held_of self.entry ++ left_of self.entry }
+        ensures same_reference { result.ghost_name ≡ lent_as self.entry }
+    {
+        let Slice { span } = self;
+        span.into_whole()
     }
 }
 
