@@ -1,13 +1,18 @@
 -- What the bytes before the first zero are.
-use Rattle.std.proofs.Common.{◌≡◌, ℕ, zero, suc, pred, ◌+◌, ◌<◌, ◌≤◌, ◌==◌, nat_lt, if◌then◌else◌, Bool, true, false, List, [], ◌∷◌, ◌++◌, length, take, drop, get_or, refl, sym, ◌∙◌, ap, subst, arith, length-append, ◌⊎◌, inl, inr, Result, Ok, Err}
+use Rattle.std.proofs.Common.{◌≡◌, ℕ, zero, suc, pred, ◌+◌, ◌<◌, ◌≤◌, ◌==◌, nat_lt, if◌then◌else◌, Bool, true, false, List, [], ◌∷◌, ◌++◌, length, take, drop, get_or, refl, sym, ◌∙◌, ap, subst, arith, length-append, ◌⊎◌, inl, inr, min, Option, Some, None, Result, Ok, Err}
 use Rattle.std.proofs.lemmas.List.{length-take-le, take_at, take_all, take-append-le}
 use Rattle.std.proofs.lemmas.Slice.{drop-append-drop}
 use Rattle.std.proofs.Common.{append_assoc, ◌-◌, length-drop}
 use borrow.Rule.Slice.PartMut.{put_mid, post_of}
-use Rattle.std.proofs.lemmas.Bool.{ne_eqb}
+use Rattle.std.proofs.lemmas.Bool.{ne_eqb, eq-eqb, eqb-true, le-ltb}
 use Rattle.std.specs.List.{AllByRecursion}
+use Rattle.std.specs.Option.{unwrap_or}
+use Rattle.memchr.specs.Find.{IsFirstByte, is_byte}
 use Rattle.cobs.specs.Frames.{Frame, spelled, block, part, part_from, missing}
 use Rattle.cobs.specs.InPlace.{stretch, in_place, overwritten}
+use Rattle.cobs.specs.FrameLaws.{HasOneMessage, EndsWithItsBlock, IsFrameAtBlockEnd}
+use Rattle.cobs.specs.DecodingLaws.{DecodesFrames, RefusesSources}
+use Rattle.cobs.specs.Whole.{unpadded, frame_in, decoded_from}
 use Rattle.cobs.specs.Reports.{report, parsed_size, frame_size}
 use Rattle.cobs.specs.declared.dec.DecodeReport.{DecodeReport}
 use Rattle.cobs.specs.declared.dec.DecodeError.{DecodeError}
@@ -107,19 +112,6 @@ pub stretch_behind : (a s : List ℕ) → stretch a ≡ a → stretch (a ++ s) �
 stretch_behind [] s e = refl
 stretch_behind (b ∷ a) s e = behind_cons b a s (stretch_behind a s) e
 
-through_cons : (b : ℕ) (s : List ℕ) → (length (stretch s) < length s → stretch (take (length (stretch s) + 1) s) ≡ stretch s) → length (stretch (b ∷ s)) < length (b ∷ s) → stretch (take (length (stretch (b ∷ s)) + 1) (b ∷ s)) ≡ stretch (b ∷ s)
-through_cons zero s f h = refl
-through_cons (suc b) s f h =
-    let p = ne_eqb (suc b) 0 (λ e. omega (arith, e)) in
-    let h' = rw p at h in
-    let q : length (stretch (suc b ∷ s)) + 1 ≡ suc (length (stretch s) + 1) = rw p (omega arith) in
-    ap (λ n. stretch (take n (suc b ∷ s))) q ∙ rw p (ap (λ x. suc b ∷ x) (f (omega (arith, h'))))
-
--- the bytes through the first zero
-pub stretch_through : (s : List ℕ) → length (stretch s) < length s → stretch (take (length (stretch s) + 1) s) ≡ stretch s
-stretch_through [] h = refl
-stretch_through (b ∷ s) h = through_cons b s (stretch_through s) h
-
 -- bytes that were copied behind a front
 pub put_filled : (i k : ℕ) (xs ys : List ℕ) → i ≤ length xs → take (i + length ys) (put_mid i k xs ys) ≡ take i xs ++ ys
 put_filled i k xs ys h =
@@ -130,10 +122,6 @@ pub clear_filled : (i k : ℕ) (xs ys zs : List ℕ) → i ≤ length xs → str
 clear_filled i k xs ys zs h c e z =
     let p : take (i + length ys) (put_mid i k xs zs) ≡ take i xs ++ ys = rw z (put_filled i k xs ys h) in
     ap stretch p ∙ (stretch_behind (take i xs) ys c ∙ ap (λ x. take i xs ++ x) e) ∙ sym p
-
--- the same with a place of its own
-pub through : (s : List ℕ) (n : ℕ) → n ≡ length (stretch s) → (n ≡ length s → ⊥) → stretch (take (n + 1) s) ≡ stretch s
-through s n e h = rw e (stretch_through s (omega (arith, stretch_short s, e, h)))
 
 pub put_copied : (i k : ℕ) (xs ys zs : List ℕ) → i ≤ length xs → zs ≡ ys → take (i + length ys) (put_mid i k xs zs) ≡ take i xs ++ ys
 put_copied i k xs ys zs h z = rw z (put_filled i k xs ys h)
@@ -148,6 +136,95 @@ message_front size used s t rest f l h e =
     let n : size ≤ length t = omega (arith, h.0, h.1, stretch_short s, l) in
     (omega (arith, n, length-append t rest), subst (λ x. Frame (stretch x) (take size (t ++ rest))) e (subst (λ x. Frame (stretch s) x) (sym (take-append-le size t rest n)) h.2))
 
--- what is held, and the input through its first zero
-pub frame_behind : (held input : List ℕ) (n : ℕ) → stretch held ≡ held → n ≡ length (stretch input) → (n ≡ length input → ⊥) → stretch (held ++ take (n + 1) input) ≡ held ++ stretch input
-frame_behind held input n clear before e = stretch_behind held (take (n + 1) input) clear ∙ ap (λ x. held ++ x) (through input n before e)
+stretch_cons : (b : ℕ) (s : List ℕ) → (stretch (stretch s) ≡ stretch s) → (take (length (stretch s)) s ≡ stretch s) → (stretch (stretch (b ∷ s)) ≡ stretch (b ∷ s)) × (take (length (stretch (b ∷ s))) (b ∷ s) ≡ stretch (b ∷ s))
+stretch_cons zero s h k = (refl, refl)
+stretch_cons (suc b) s h k =
+    let p = ne_eqb (suc b) 0 (λ e. omega (arith, e)) in
+    let q : stretch (suc b ∷ s) ≡ suc b ∷ stretch s = rw p refl in
+    let again : stretch (suc b ∷ stretch s) ≡ suc b ∷ stretch s = rw p (ap (λ x. suc b ∷ x) h) in
+    (ap stretch q ∙ again ∙ sym q, ap (λ x. take (length x) (suc b ∷ s)) q ∙ ap (λ x. suc b ∷ x) k ∙ sym q)
+
+stretch_stays : (s : List ℕ) → (stretch (stretch s) ≡ stretch s) × (take (length (stretch s)) s ≡ stretch s)
+stretch_stays [] = (refl, refl)
+stretch_stays (b ∷ s) = let i = stretch_stays s in stretch_cons b s i.0 i.1
+
+-- where a search finds the first zero
+stretch_byte : (b : ℕ) (x : List ℕ) → (b ≡ 0 → ⊥) → stretch (b ∷ x) ≡ b ∷ stretch x
+stretch_byte b x n = rw (ne_eqb b 0 n) refl
+
+stretch_of_none : (s : List ℕ) → ((k : ℕ) → k < length s → get_or s k 0 ≡ 0 → ⊥) → length s ≡ length (stretch s)
+stretch_of_none [] h = refl
+stretch_of_none (b ∷ s) h = ap suc (stretch_of_none s (λ k l e. h (suc k) (omega (arith, l)) e)) ∙ sym (ap length (stretch_byte b s (h 0 (omega arith))))
+
+stretch_of_first : (s : List ℕ) (k : ℕ) → k < length s → get_or s k 0 ≡ 0 → ((j : ℕ) → j < k → get_or s j 0 ≡ 0 → ⊥) → k ≡ length (stretch s)
+stretch_of_first [] k l e h = absurd (omega (arith, l))
+stretch_of_first (b ∷ s) zero l e h = rw (eq-eqb b 0 e) refl
+stretch_of_first (b ∷ s) (suc k) l e h =
+    ap suc (stretch_of_first s k (omega (arith, l)) e (λ j m f. h (suc j) (omega (arith, m)) f)) ∙ sym (ap length (stretch_byte b s (h 0 (omega arith))))
+
+pub found_zero : (s : List ℕ) (r : Option ℕ) → IsFirstByte (is_byte 0) s r → unwrap_or r (length s) ≡ length (stretch s)
+found_zero s None h = stretch_of_none s (λ k l e. h k (omega arith) l (eq-eqb (get_or s k 0) 0 e))
+found_zero s (Some k) h = stretch_of_first s k h.0.high (eqb-true (get_or s k 0) 0 h.1) (λ j l e. h.0.before j (omega arith) l (eq-eqb (get_or s j 0) 0 e))
+
+-- what is held, and the input before its first zero
+take_before : (s : List ℕ) (n : ℕ) → n ≡ length (stretch s) → take n s ≡ stretch s
+take_before s n e = ap (λ k. take k s) e ∙ (stretch_stays s).1
+
+pub clear_before : (s : List ℕ) (n : ℕ) → n ≡ length (stretch s) → stretch (take n s) ≡ take n s
+clear_before s n e = ap stretch (take_before s n e) ∙ (stretch_stays s).0 ∙ sym (take_before s n e)
+
+pub frame_behind : (held input : List ℕ) (n : ℕ) → stretch held ≡ held → n ≡ length (stretch input) → stretch (held ++ take n input) ≡ held ++ stretch input
+frame_behind held input n clear before = stretch_behind held (take n input) clear ∙ ap (λ x. held ++ x) (clear_before input n before ∙ take_before input n before)
+
+-- a frame that is decoded from where it lies
+pub behind_nothing : (i : ℕ) (held f : List ℕ) → i ≡ 0 → stretch f ≡ f → stretch (take i held ++ f) ≡ f
+behind_nothing i held f z c = rw z c
+
+unpadded_clear : (f : List ℕ) → stretch f ≡ f → unpadded f ≡ f
+unpadded_clear [] c = refl
+unpadded_clear (zero ∷ f) c = absurd (omega (arith, ap length c))
+unpadded_clear (suc b ∷ f) c = rw (ne_eqb (suc b) 0 (λ e. omega (arith, e))) refl
+
+frame_clear : (f : List ℕ) → stretch f ≡ f → frame_in f ≡ f
+frame_clear f c = ap stretch (unpadded_clear f c) ∙ c
+
+small : (s : List ℕ) → ((k : ℕ) → get_or s k 0 < 256) → AllByRecursion (λ x. x < 256) s
+small [] h = tt
+small (b ∷ s) h = (h 0, small s (λ k. h (suc k)))
+
+is_zero : (n : ℕ) → (n ≡ 0) ⊎ (n ≡ 0 → ⊥)
+is_zero zero = inl refl
+is_zero (suc n) = inr (λ e. omega (arith, e))
+
+-- nonzero bytes are a frame or none
+frame_or_none : EndsWithItsBlock → IsFrameAtBlockEnd → (f : List ℕ) → IsClear f → Frame f (part f) ⊎ ((m : List ℕ) → Frame f m → ⊥)
+frame_or_none ends is [] h = inr (λ m k. never_empty [] m refl k)
+frame_or_none ends is (b ∷ f) h = elim (is_zero (missing (b ∷ f))) [ inl e ↦ inl (is (b ∷ f) h (λ n. omega (arith, ap length n)) e) | inr n ↦ inr (λ m k. n (ends (b ∷ f) m k)) ]
+
+decoded_frame : DecodesFrames → (room : ℕ) (f m : List ℕ) → stretch f ≡ f → length m ≤ room → Frame f m
+    → decoded_from room f ≡ Ok (report (min (length f - length (unpadded f) + length (frame_in f) + 1) (length f)) (length m))
+decoded_frame frames room f m c l h =
+    frames room f m (subst (λ x. Frame x m) (sym (frame_clear f c)) h) ∙ rw (le-ltb room (length m) l) refl
+
+pub whole_refused : HasOneMessage → DecodesFrames → (room : ℕ) (f : List ℕ) (x : DecodeError) → stretch f ≡ f → length f ≤ room → Err x ≡ decoded_from room f → (m : List ℕ) → Frame f m → ⊥
+whole_refused one frames room f x c l e m h =
+    let short : length m ≤ length f = rw (one f m h) (part_short 0 false f) in
+    let q = e ∙ decoded_frame frames room f m c (omega (arith, short, l)) h in absurd cc
+
+pub whole_decoded : EndsWithItsBlock → IsFrameAtBlockEnd → DecodesFrames → RefusesSources → (f old new : List ℕ) (r : DecodeReport) → stretch f ≡ f → ((k : ℕ) → get_or f k 0 < 256) → length f ≤ length old
+    → Ok r ≡ decoded_from (length old) f → new ≡ overwritten (part (frame_in f)) old → (frame_size r ≤ length new) × Frame f (take (frame_size r) new)
+whole_decoded ends is frames others f old new r c b l e t =
+    elim (frame_or_none ends is f (subst IsClear c (clear_stretch f b))) [
+      | inl h ↦
+          let m = part f in
+          let short : length m ≤ length f = part_short 0 false f in
+          let n : length m ≤ length old = omega (arith, short, l) in
+          let q : r ≡ report (min (length f - length (unpadded f) + length (frame_in f) + 1) (length f)) (length m) = let k = e ∙ decoded_frame frames (length old) f m c n h in cc in
+          let size : frame_size r ≡ length m = ap frame_size q in
+          let t' : new ≡ overwritten m old = t ∙ ap (λ x. overwritten (part x) old) (frame_clear f c) in
+          let whole : take (length old) m ≡ m = take_all (length old) m n in
+          let front : take (frame_size r) new ≡ m = rw (size, t', whole) (take_at m (drop (length m) old) (length m) refl) in
+          let long : length new ≡ length m + (length old - length m) = rw (t', whole) (length-append m (drop (length m) old) ∙ ap (λ k. length m + k) (length-drop (length m) old)) in
+          (omega (arith, size, long, n), subst (λ x. Frame f x) (sym front) h)
+      | inr none ↦ absurd (let k = e ∙ others (length old) f (subst (AllByRecursion (λ x. x < 256)) (sym (frame_clear f c)) (small f b)) (λ m h. none m (subst (λ x. Frame x m) (frame_clear f c) h)) in cc)
+    ]

@@ -6,7 +6,8 @@ ghost use Rattle.cobs.specs.InPlace.{stretch};
 ghost use Rattle.postcard.specs.Advances.{Answers};
 
 use crate::de::{from_bytes, from_bytes_owned};
-use crate::frames::unframe;
+use crate::frames::{all_bytes, unframe};
+use memchr::memchr;
 use postcard_de::{Deserialize, DeserializeOwned};
 use std::alloc::Global;
 
@@ -56,11 +57,17 @@ pub struct CobsAccumulator<const N: usize> {
     ghost clear: { stretch (take count buf) ≡ take count buf },
 }
 
+// So many bytes are looked through one by one, since a search costs more.
+const FEW: usize = 8;
+
 // How many bytes there are before the first zero.
 fn before_zero(s: &[u8]) -> usize
     ensures before { result ≡ length (stretch s.now) }
     ensures within { result ≤ length s.now }
 {
+    if FEW <= s.len() {
+        return memchr(0, s).unwrap_or(s.len());
+    }
     let mut count = 0;
     while count < s.len() && s[count] != 0 {
         count += 1;
@@ -119,7 +126,7 @@ impl<const N: usize> CobsAccumulator<N> {
         if N - held < used {
             return Gathered::Full(used);
         }
-        match decode_behind(&mut self.buf, held, &input[..used]) {
+        match decode_behind(&mut self.buf, held, &input[..count]) {
             Some(size) => Gathered::Whole { size, used },
             None => Gathered::Broken(used),
         }
@@ -226,18 +233,38 @@ impl<const N: usize> Default for CobsAccumulator<N> {
     }
 }
 
-// Puts bytes behind the first `count`, decodes all of these as a frame, and answers how long its message is, which
-// stands at the front then.
+// Decodes the bytes behind the first `count` and those as a frame, and answers how long its message is, which stands at the
+// front then.
 fn decode_behind(buf: &mut [u8], count: usize, input: &[u8]) -> Option<usize>
-    requires { count + length input.now ≤ length buf.old }
+    requires fits { count + length input.now ≤ length buf.old }
+    requires clear { stretch input.now ≡ input.now }
     ensures message { IfSome result (λ size. (size ≤ length buf.new) × Frame (stretch (take count buf.old ++ input.now))
         (take size buf.new)) }
     ensures damaged { IfNone result ((m : List ℕ) → Frame (stretch (take count buf.old ++ input.now)) m → ⊥) }
 {
+    if count == 0 {
+        return decode_whole(buf, input);
+    }
     let end = count + input.len();
     buf[count..end].copy_from_slice(input);
     match unframe(&mut buf[..end]) {
         Ok((_, size)) => Some(size),
+        Err(_) => None,
+    }
+}
+
+// The same of a frame that is whole: it goes straight from the input into the buffer.
+fn decode_whole(buf: &mut [u8], frame: &[u8]) -> Option<usize>
+    requires fits { length frame.now ≤ length buf.old }
+    requires clear { stretch frame.now ≡ frame.now }
+    ensures message { IfSome result (λ size. (size ≤ length buf.new) × Frame frame.now (take size buf.new)) }
+    ensures damaged { IfNone result ((m : List ℕ) → Frame frame.now m → ⊥) }
+{
+    cobs::laws::message_of_a_frame();
+    cobs::laws::sources();
+    all_bytes(frame);
+    match cobs::decode(frame, buf) {
+        Ok(report) => Some(report.frame_size()),
         Err(_) => None,
     }
 }

@@ -11,7 +11,7 @@ use postcard_tree::{Error, Result};
 use std::alloc::Global;
 
 // What a byte may be.
-fn all_bytes(s: &[u8])
+pub(crate) fn all_bytes(s: &[u8])
     ensures { (k : ℕ) → slice_index_or s.now k 0 < 256 }
 {}
 

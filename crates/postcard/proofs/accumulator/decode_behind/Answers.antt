@@ -1,8 +1,18 @@
-use Rattle.std.proofs.Common.{ℕ, List, ◌++◌, take, arith, subst}
+use Rattle.std.proofs.Common.{ℕ, List, ◌++◌, take, length, ◌≤◌, arith, sym, subst, IfSome, IfNone}
 use Rattle.cobs.specs.Frames.{Frame}
 use Rattle.cobs.specs.InPlace.{stretch}
-use Rattle.postcard.proofs.Stretches.{put_copied, message_front}
+use Rattle.postcard.proofs.Stretches.{put_copied, message_front, behind_nothing}
 use Rattle.postcard.proofs.accumulator.decode_behind.Goals as goal
+
+pub returns-then-count-eq0-clause-message : goal.returns-then-count-eq0-clause-message
+returns-then-count-eq0-clause-message c =
+    subst (λ (x : List ℕ). IfSome c.decode_whole.result (λ size. (size ≤ length c.decode_whole.new.buf) × Frame x (take size c.decode_whole.new.buf)))
+    (sym (behind_nothing c.args.count c.args.buf.now c.args.input.now c.if-count-eq0.true c.requires.clear)) c.decode_whole.ensures.message
+
+pub returns-then-count-eq0-clause-damaged : goal.returns-then-count-eq0-clause-damaged
+returns-then-count-eq0-clause-damaged c =
+    subst (λ (x : List ℕ). IfNone c.decode_whole.result ((m : List ℕ) → Frame x m → ⊥))
+    (sym (behind_nothing c.args.count c.args.buf.now c.args.input.now c.if-count-eq0.true c.requires.clear)) c.decode_whole.ensures.damaged
 
 pub returns-in-Ok-clause-message : goal.returns-in-Ok-clause-message
 returns-in-Ok-clause-message c =
