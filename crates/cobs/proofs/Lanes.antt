@@ -1,9 +1,9 @@
 -- The bits of the bytes that are zero.
-use Rattle.std.proofs.Common.{◌≡◌, ℕ, zero, suc, ◌+◌, ◌<◌, ◌≤◌, Bool, true, false, cond, eqb, List, [], ◌∷◌, ◌++◌, ◌-◌, length, drop, map, get_or, set, refl, length-drop, ap, sym, ◌∙◌, arith}
+use Rattle.std.proofs.Common.{◌≡◌, ℕ, zero, suc, ◌+◌, ◌^◌, ◌<◌, ◌≤◌, Bool, true, false, cond, eqb, List, [], ◌∷◌, ◌++◌, ◌-◌, length, drop, map, get_or, set, refl, length-drop, ap, sym, ◌∙◌, arith}
 use Rattle.std.proofs.lemmas.List.{get_or-map, length-map, get_or-drop, drop-drop}
 use Rattle.std.proofs.lemmas.Bool.{false≢true, eqb-true, eq-eqb}
 use Rattle.std.proofs.lemmas.Simd.{bit_mask_l}
-use Rattle.std.proofs.lemmas.Nat.Bits.{bit_at-zero}
+use Rattle.std.proofs.lemmas.Nat.Bits.{bit_at-zero, bit_at_ones}
 use Rattle.std.specs.Int.{bit_at}
 use Rattle.std.specs.Simd.Lanes.{mask_l}
 use Rattle.cobs.specs.Codes.{Marks, Coding}
@@ -80,3 +80,11 @@ going_on before code_before from bytes dest code zeros n others few set_ below r
           let front = front_at dest code (from + i) (from + n) m (drop i bytes) more (n - i) (omega (arith, long)) none (omega arith) (g.coding m more h) in
           zero_at dest code (from + n) (from + (n + 1)) m bytes more n high (g.marks.zeros n set_) (omega arith) (rw there at front);
     }
+
+-- a mask without a gap
+pub ones_of : (bytes : List ℕ) → length bytes ≡ 64 → mask_l (map (λ x. eqb x 1) bytes) ≡ 2 ^ 64 - 1 → (k : ℕ) → k < 64 → get_or bytes k 0 ≡ 1
+ones_of bytes long full k l =
+    let ms : List Bool = map (λ x. eqb x 1) bytes in
+    let bit : bit_at (mask_l ms) k ≡ 1 = ap (λ x. bit_at x k) full ∙ bit_at_ones 64 k l in
+    let set : get_or ms k false ≡ true = is_one _ (sym (bit_mask_l ms k) ∙ bit) in
+    eqb-true _ _ (sym (get_or-map (λ x. eqb x 1) bytes k 0 false (omega (arith, l, long))) ∙ set)

@@ -1,16 +1,16 @@
 -- Bytes of an open block that are taken in at once.
-use Rattle.std.proofs.Common.{◌≡◌, ◌≢◌, ℕ, zero, suc, pred, ◌+◌, ◌-◌, ◌^◌, ◌<◌, ◌≤◌, nat_lt, Bool, true, false, List, [], ◌∷◌, ◌++◌, length, take, drop, set, get_or, Option, Some, None, refl, ap, sym, ◌∙◌, arith, append_assoc, length-append, length-drop}
-use Rattle.std.proofs.lemmas.List.{append-nil, take_all, drop_all, drop_more, drop-drop, set_at, take-append-drop, take_more_set, drop-set-lt, length-set, length-take-le}
+use Rattle.std.proofs.Common.{◌≡◌, ◌≢◌, ℕ, zero, suc, pred, ◌+◌, ◌-◌, ◌^◌, ◌<◌, ◌≤◌, nat_lt, Bool, true, false, List, [], ◌∷◌, ◌++◌, length, take, drop, set, get_or, replicate, Option, Some, None, refl, ap, sym, ◌∙◌, arith, append_assoc, length-append, length-drop}
+use Rattle.std.proofs.lemmas.List.{append-nil, take_all, drop_all, drop_more, drop-drop, set_at, take-append-drop, take_more_set, drop-set-lt, length-set, length-take-le, get_or-take, take-take}
 use Rattle.std.proofs.lemmas.Bool.{ne_eqb, lt-ltb}
 use Rattle.cobs.specs.Frames.{NoZero, part, part_from, after}
 use Rattle.cobs.specs.Feeding.{told_by, fed, listed, stands_by, standing, placed, stored}
 use Rattle.cobs.specs.InPlace.{written_over}
 use Rattle.cobs.specs.Streaming.{Stands}
-use Rattle.cobs.specs.Taking.{TakesFront}
+use Rattle.cobs.specs.Taking.{TakesFront, left_in, left_behind}
 use Rattle.cobs.specs.declared.dec.Progress.{Progress}
 use borrow.Rule.Slice.PartMut.{put_mid}
 use Rattle.cobs.specs.declared.dec.DecoderState.{DecoderState}
-use Rattle.cobs.specs.declared.dec.DecoderState.TheVariants.{Grab, GrabChain}
+use Rattle.cobs.specs.declared.dec.DecoderState.TheVariants.{Idle, Grab, GrabChain}
 use Rattle.cobs.proofs.Decoding.{part_append, after_append}
 use Rattle.cobs.proofs.Feeds.{told_stands}
 use Rattle.cobs.proofs.Passing.{all_placed}
@@ -210,10 +210,37 @@ no_bytes : (bytes : List ℕ) → length bytes ≡ 0 → bytes ≡ []
 no_bytes [] e = refl
 no_bytes (b ∷ bytes) e = absurd (omega arith)
 
--- what was copied and decoded stands behind what p decided
-module _ (p piece old out : List ℕ) (d : Progress) (n k left : ℕ) (owed : Bool) (state : DecoderState) (s : Stands d p) (a : after 0 false p ≡ (left, owed)) (some : p ≢ [])
+-- a further byte of them
+pub written_next : (bytes buffer : List ℕ) (place x : ℕ) → place + length bytes < length buffer → set (written_over place bytes buffer) (place + length bytes) x ≡ written_over place (bytes ++ x ∷ []) buffer
+written_next bytes buffer place x l =
+    let n = place + length bytes in
+    let front : length (take place buffer ++ bytes) ≡ n = omega (arith, length-append (take place buffer) bytes, length-take-le place buffer (omega arith)) in
+    let next : n + 1 ≡ place + length (bytes ++ x ∷ []) = omega (arith, length-append bytes (x ∷ [])) in
+    ap (λ b. set b n x) (sym (append_assoc (take place buffer) bytes (drop n buffer)) ∙ ap (λ b. (take place buffer ++ bytes) ++ b) (drop_more buffer n 0 l))
+    ∙ set_at (take place buffer ++ bytes) (get_or buffer n 0) (drop (n + 1) buffer) x n front
+    ∙ append_assoc (take place buffer) bytes (x ∷ drop (n + 1) buffer)
+    ∙ ap (λ b. take place buffer ++ b) (sym (append_assoc bytes (x ∷ []) (drop (n + 1) buffer)))
+    ∙ ap (λ j. take place buffer ++ ((bytes ++ x ∷ []) ++ drop j buffer)) next
+
+pub one_written : (buffer : List ℕ) (place x : ℕ) → place < length buffer → set buffer place x ≡ written_over place (x ∷ []) buffer
+one_written buffer place x l =
+    ap (λ b. set b place x) (sym (take-append-drop place buffer) ∙ ap (λ b. take place buffer ++ b) (drop_more buffer place 0 l))
+    ∙ set_at (take place buffer) (get_or buffer place 0) (drop (place + 1) buffer) x place (length-take-le place buffer (omega arith))
+
+-- codes 01 are zeros
+pub of_ones : (bytes : List ℕ) → ((k : ℕ) → k < length bytes → get_or bytes k 0 ≡ 1) → (part_from 0 true bytes ≡ replicate (length bytes) 0) × (after 0 true bytes ≡ (0, true))
+of_ones [] h = (refl, refl)
+of_ones (b ∷ bytes) h =
+    let one : b ≡ 1 = h 0 (omega arith) in
+    let rest = of_ones bytes (λ k l. h (suc k) (omega arith)) in (
+      ap (λ c. 0 ∷ part_from (pred c) (nat_lt c 255) bytes) one ∙ ap (λ m. 0 ∷ m) rest.0,
+      ap (λ c. after (pred c) (nat_lt c 255) bytes) one ∙ rest.1,
+    )
+
+-- what was decoded is written behind what p decided
+module _ (p piece old out new : List ℕ) (d : Progress) (n left : ℕ) (owed : Bool) (state : DecoderState) (s : Stands d p) (a : after 0 false p ≡ (left, owed)) (some : p ≢ [])
     (within : n ≤ length piece) (nonzero : (j : ℕ) → j < n → 0 < get_or (take n piece) j 0) (room : d.len + n ≤ length old) (begun : d.len < length old) (small : length old < 2 ^ 64)
-    (decoded : out ≡ part_from left owed (take n piece)) (long : length out ≡ n) (k_is : k ≡ n) (stands : state ≡ stands_by (after left owed (take n piece))) where
+    (decoded : out ≡ part_from left owed (take n piece)) (long : length out ≡ n) (put : new ≡ written_over d.len out old) (stands : state ≡ stands_by (after left owed (take n piece))) where
   counted : d.len ≡ length (part p)
   counted = omega (arith, s.len, begun, small)
 
@@ -229,25 +256,50 @@ module _ (p piece old out : List ℕ) (d : Progress) (n k left : ℕ) (owed : Bo
   told : out ≡ tells p (take n piece)
   told = decoded ∙ sym (ap (λ (x : ℕ × Bool). part_from x.0 x.1 (take n piece)) a)
 
-  written : put_mid d.len k old out ≡ written_over (length (part p)) (tells p (take n piece)) old
-  written =
-      ap (λ b. take d.len old ++ (out ++ b)) (drop-drop k d.len old ∙ ap (λ j. drop j old) (omega (arith, k_is, long)))
-      ∙ ap (λ j. take j old ++ (out ++ drop (j + length out) old)) counted
-      ∙ ap (λ m. take (length (part p)) old ++ (m ++ drop (length (part p) + length m) old)) told
-
-  unchanged : n ≡ 0 → put_mid d.len k old out ≡ old
+  unchanged : n ≡ 0 → new ≡ old
   unchanged z =
-      let none : k ≡ 0 = omega (arith, k_is, z) in
-      ap (λ m. take d.len old ++ (m ++ drop k (drop d.len old))) (no_bytes out (omega (arith, z, long)))
-      ∙ ap (λ j. take d.len old ++ drop j (drop d.len old)) none
+      put
+      ∙ ap (λ m. take d.len old ++ (m ++ drop (d.len + length m) old)) (no_bytes out (omega (arith, z, long)))
+      ∙ ap (λ j. take d.len old ++ drop j old) (omega arith)
       ∙ take-append-drop d.len old
 
-  pub front_taken : TakesFront p piece old n (record { state = state; len = d.len + n }) (put_mid d.len k old out)
-  front_taken = record {
+  pub front_written : TakesFront p piece old n (record { state = state; len = d.len + n }) new
+  front_written = record {
     within = within;
     clear = clear;
     fits = λ _. omega (arith, longer, room);
     has = record { state = stands ∙ sym (stands_behind p (take n piece) left owed a some); len = omega (arith, longer, room, small) };
-    buffer = λ _. written;
+    buffer = λ _. put ∙ ap (λ j. take j old ++ (out ++ drop (j + length out) old)) counted ∙ ap (λ m. take (length (part p)) old ++ (m ++ drop (length (part p) + length m) old)) told;
     same = unchanged;
   }
+
+-- a part of a buffer that was written anew
+pub part_written : (old out : List ℕ) (place k : ℕ) → k ≡ length out → put_mid place k old out ≡ written_over place out old
+part_written old out place k e = ap (λ b. take place old ++ (out ++ b)) (drop-drop k place old ∙ ap (λ j. drop j old) (omega (arith, e)))
+
+-- bytes of the open block alone
+pub run_written : (p piece old new : List ℕ) (d : Progress) (n most left : ℕ) (owed : Bool) (state : DecoderState) → Stands d p → after 0 false p ≡ (left, owed) → p ≢ []
+    → most ≤ length piece → n ≤ most → ((j : ℕ) → j < n → 0 < get_or (take most piece) j 0) → d.len + n ≤ length old → d.len < length old → length old < 2 ^ 64 → n ≤ left
+    → new ≡ written_over d.len (take n (take most piece)) old → state ≡ stands_by (left - n, owed) → TakesFront p piece old n (record { state = state; len = d.len + n }) new
+run_written p piece old new d n most left owed state s a some few within nonzero room begun small inside put stands =
+    let whole : n ≤ length piece = omega arith in
+    let long : length (take n piece) ≡ n = length-take-le n piece whole in
+    let one : length (take n piece) ≤ left = omega arith in
+    let rest : left - n ≡ left - length (take n piece) = omega arith in
+    let same : take n (take most piece) ≡ take n piece = take-take n most piece within in
+    let clear : (j : ℕ) → j < n → 0 < get_or (take n piece) j 0 = λ j l.
+    omega (arith, get_or-take n piece j 0 l, get_or-take most piece j 0 (omega (arith, l, within)), nonzero j l) in
+    front_written p piece old (take n piece) new d n left owed state s a some whole clear room begun small (sym (one_part left owed (take n piece) one)) long
+    (put ∙ ap (λ m. written_over d.len m old) same) (stands ∙ ap (λ k. stands_by (k, owed)) rest ∙ sym (ap stands_by (one_after left owed (take n piece) one)))
+
+-- a block that is open
+pub record Inside (p : List ℕ) (state : DecoderState) (left : ℕ) : Type 0 where
+  pub owed : Bool
+  pub is : after 0 false p ≡ (left, owed)
+  pub some : p ≢ []
+  pub later : (n : ℕ) → left_behind state n ≡ stands_by (left - n, owed)
+
+pub inside : (p : List ℕ) (state : DecoderState) (left : ℕ) → state ≡ standing p → left ≡ left_in state → 0 < left → Inside p state left
+inside p Idle left e l z = absurd (omega arith)
+inside p (Grab n) left e l z = let at = at_grab p n e in record { owed = true; is = at.0 ∙ ap (λ k. (k, true)) (sym l); some = at.1; later = λ m. ap (λ k. Grab (k - m)) (sym l) }
+inside p (GrabChain n) left e l z = let at = at_chain p n e in record { owed = false; is = at.0 ∙ ap (λ k. (k, false)) (sym l); some = at.1; later = λ m. ap (λ k. GrabChain (k - m)) (sym l) }

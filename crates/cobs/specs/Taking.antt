@@ -1,5 +1,5 @@
 -- What the streaming decoders do with what they are given: what each keeps, and its buffer, before and afterwards.
-use Rattle.std.specs.Prelude.{◌≡◌, ℕ, ◌<◌, ◌≤◌, false, List, ◌++◌, length, take, Option, Result, IfOk, IfSome}
+use Rattle.std.specs.Prelude.{◌≡◌, ℕ, ◌-◌, ◌<◌, ◌≤◌, false, List, ◌++◌, length, take, Option, Result, IfOk, IfSome}
 use Rattle.cobs.specs.Frames.{NoZero, part, part_from, after}
 use Rattle.cobs.specs.Feeding.{answer_of, frame_after, placed}
 use Rattle.cobs.specs.InPlace.{written_over}
@@ -7,6 +7,8 @@ use Rattle.cobs.specs.Pieces.{first_answer, frame_left, frame_met, buffer_left}
 use Rattle.cobs.specs.Reports.{parsed_size, frame_size}
 use Rattle.cobs.specs.Streaming.{Stands, Decoded}
 use Rattle.cobs.specs.declared.dec.DecodeError.{DecodeError}
+use Rattle.cobs.specs.declared.dec.DecoderState.{DecoderState}
+use Rattle.cobs.specs.declared.dec.DecoderState.TheVariants.{Idle, Grab, GrabChain}
 use Rattle.cobs.specs.declared.dec.DecodeReport.{DecodeReport}
 use Rattle.cobs.specs.declared.dec.Progress.{Progress}
 
@@ -40,3 +42,14 @@ pub record TakesFront (p piece old : List ℕ) (n : ℕ) (behind : Progress) (ne
   pub has : Stands behind (p ++ take n piece)
   pub buffer : 0 < n → new ≡ written_over (length (part p)) (part_from (after 0 false p).0 (after 0 false p).1 (take n piece)) old
   pub same : n ≡ 0 → new ≡ old
+
+-- How many bytes of the open block are left, and where a decoder stands behind some of them (private contracts alone).
+abbrev pub left_in : DecoderState → ℕ
+left_in Idle = 0
+left_in (Grab left) = left
+left_in (GrabChain left) = left
+
+abbrev pub left_behind : DecoderState → ℕ → DecoderState
+left_behind Idle n = Idle
+left_behind (Grab left) n = Grab (left - n)
+left_behind (GrabChain left) n = GrabChain (left - n)

@@ -12,6 +12,7 @@ use crate::enc::mask;
 use arrayvec::ArrayVec;
 use memchr::memchr;
 use std::alloc::{AllocError, Global};
+use std::simd::prelude::*;
 use thiserror::Error;
 
 /// Where a decoder stands in a frame. Its user keeps the message.
@@ -117,6 +118,35 @@ impl DecoderState {
                 *self = DecoderState::GrabChain(left - 1);
                 Ok(DecodeResult::DataContinue(data))
             }
+        }
+    }
+}
+
+impl DecoderState {
+    ghost use Rattle.cobs.specs.Taking.{left_in, left_behind};
+
+    // How many bytes of the open block are left.
+    #[inline(always)]
+    fn left(self) -> u8
+        ensures { result ≡ left_in self }
+    {
+        match self {
+            DecoderState::Idle => 0,
+            DecoderState::Grab(left) => left,
+            DecoderState::GrabChain(left) => left,
+        }
+    }
+
+    // Where it stands behind so many of them.
+    #[inline(always)]
+    fn behind(self, n: u8) -> DecoderState
+        requires { n ≤ left_in self }
+        ensures { result ≡ left_behind self n }
+    {
+        match self {
+            DecoderState::Idle => DecoderState::Idle,
+            DecoderState::Grab(left) => DecoderState::Grab(left - n),
+            DecoderState::GrabChain(left) => DecoderState::GrabChain(left - n),
         }
     }
 }
@@ -272,6 +302,48 @@ fn copy(bytes: &[u8], out: &mut [u8])
     }
 }
 
+// Copies bytes up to a zero into a buffer, from a place on. Answers how many.
+#[inline(always)]
+fn copy_run(bytes: &[u8], buffer: &mut [u8], place: usize) -> usize
+    requires { place + length bytes.now ≤ length buffer.old }
+    ensures within { result ≤ length bytes.now }
+    ensures nonzero { (k : ℕ) → k < result → 0 < slice_index bytes.now k }
+    ensures buffer { buffer.new ≡ written_over place (take result bytes.now) buffer.old }
+{
+    for (i, byte) in bytes.iter().enumerate() {
+        if *byte == 0 {
+            return i;
+        }
+        buffer[place + i] = *byte;
+    }
+    bytes.len()
+}
+
+// Whether 64 bytes are codes 01.
+#[inline(always)]
+fn are_ones(bytes: &[u8]) -> bool
+    requires { length bytes.now ≡ 64 }
+    ensures { result ≡ true → (k : ℕ) → k < 64 → slice_index bytes.now k ≡ 1 }
+{
+    u8x64::from_slice(bytes)
+        .simd_eq(u8x64::splat(1))
+        .to_bitmask()
+        == u64::MAX
+}
+
+// How many bytes in front are codes 01, in steps of 64.
+#[inline(always)]
+fn ones_by_64(bytes: &[u8]) -> usize
+    ensures within { result ≤ length bytes.now }
+    ensures ones { (k : ℕ) → k < result → slice_index bytes.now k ≡ 1 }
+{
+    let mut end = 0;
+    while 64 <= bytes.len() - end && are_ones(&bytes[end..end + 64]) {
+        end += 64;
+    }
+    end
+}
+
 // Puts a zero for each code of bytes that were copied, where so many are left of a block. Answers where their last block
 // stands.
 #[inline(always)]
@@ -351,7 +423,7 @@ impl Progress {
     }
 
     // Takes in the next bytes at once, where they are of an open block and have room: up to a zero, or as many as a window
-    // may have. Answers how many.
+    // may have; codes 01, each of which is a zero of the message, in any number. Answers how many.
     #[inline(always)]
     fn take_window(&mut self, buffer: &mut [u8], piece: &[u8]) -> usize
         ensures within { result ≤ length piece.now }
@@ -365,6 +437,14 @@ impl Progress {
         match self.state {
             DecoderState::Idle => 0,
             DecoderState::Grab(left) => {
+                if left == 0 {
+                    let ones = ones_by_64(&piece[..room]);
+                    if 0 < ones {
+                        buffer[len..len + ones].fill(0);
+                        self.len = len + ones;
+                        return ones;
+                    }
+                }
                 let n = before_zero(&piece[..room.min(WINDOW)]);
                 let bytes = &piece[..n];
                 self.state = decode_window(bytes, &mut buffer[len..len + n], left);
@@ -378,6 +458,37 @@ impl Progress {
                 self.len = len + n;
                 n
             }
+        }
+    }
+
+    // The same of a few bytes: up to the next code, by a loop, since windows cost more.
+    #[inline(always)]
+    fn take_run(&mut self, buffer: &mut [u8], piece: &[u8]) -> usize
+        ensures within { result ≤ length piece.now }
+        ensures front { (p : List ℕ) → Stands self.old p → TakesFront p piece.now buffer.old result self.new buffer.new }
+    {
+        let Progress { state, len } = *self;
+        let left = state.left();
+        if left == 0 || buffer.len() <= len {
+            return 0;
+        }
+        let most = piece.len().min(buffer.len() - len).min(left as usize);
+        let n = copy_run(&piece[..most], buffer, len);
+        self.state = state.behind(n as u8);
+        self.len = len + n;
+        n
+    }
+
+    // Takes in the next bytes at once, by a run where they are few and else by a window.
+    #[inline(always)]
+    fn take_front(&mut self, buffer: &mut [u8], piece: &[u8], few: bool) -> usize
+        ensures within { result ≤ length piece.now }
+        ensures front { (p : List ℕ) → Stands self.old p → TakesFront p piece.now buffer.old result self.new buffer.new }
+    {
+        if few {
+            self.take_run(buffer, piece)
+        } else {
+            self.take_window(buffer, piece)
         }
     }
 
@@ -415,18 +526,19 @@ impl Progress {
         }
     }
 
-    // Takes in a piece up to the first answer: bytes of an open block by windows, and the others by themselves.
-    #[inline(never)]
-    fn push_windows(
+    // Takes in a piece up to the first answer: bytes of an open block at once, and codes and zeros by themselves.
+    #[inline(always)]
+    fn push_fronts(
         &mut self,
         buffer: &mut [u8],
         piece: &[u8],
+        few: bool,
     ) -> Result<Option<DecodeReport>, DecodeError>
         ensures { TakesPiece self.old buffer.old piece.now result self.new buffer.new }
     {
         let mut at = 0;
         while at < piece.len() {
-            let taken = self.take_window(buffer, &piece[at..]);
+            let taken = self.take_front(buffer, &piece[at..], few);
             if 0 < taken {
                 at += taken;
                 continue;
@@ -445,38 +557,65 @@ impl Progress {
         Ok(None)
     }
 
-    // The same of a few bytes, where windows cost more.
+    // The same of one byte, by itself.
     #[inline(always)]
-    fn push_few(
+    fn push_fed(&mut self, buffer: &mut [u8], byte: u8) -> Result<Option<DecodeReport>, DecodeError>
+        ensures { TakesPiece self.old buffer.old (byte ∷ []) result self.new buffer.new }
+    {
+        match self.feed(buffer, byte) {
+            Ok(None) => Ok(None),
+            Ok(Some(decoded)) => Ok(Some(DecodeReport { parsed: 1, decoded })),
+            Err(e) => Err(e),
+        }
+    }
+
+    // The same of one byte: a byte of an open block is copied as a run.
+    #[inline(always)]
+    fn push_byte(
+        &mut self,
+        buffer: &mut [u8],
+        byte: u8,
+    ) -> Result<Option<DecodeReport>, DecodeError>
+        ensures { TakesPiece self.old buffer.old (byte ∷ []) result self.new buffer.new }
+    {
+        let Progress { state, len } = *self;
+        if state.left() == 0 {
+            return self.push_fed(buffer, byte);
+        }
+        if byte == 0 || buffer.len() <= len {
+            return self.push_fed(buffer, byte);
+        }
+        buffer[len] = byte;
+        self.state = state.behind(1);
+        self.len = len + 1;
+        Ok(None)
+    }
+
+    // The same of any bytes: few by runs, more by windows.
+    #[inline(never)]
+    fn push_bytes(
         &mut self,
         buffer: &mut [u8],
         piece: &[u8],
     ) -> Result<Option<DecodeReport>, DecodeError>
         ensures { TakesPiece self.old buffer.old piece.now result self.new buffer.new }
     {
-        for (i, byte) in piece.iter().enumerate() {
-            match self.feed(buffer, *byte) {
-                Ok(None) => {}
-                Ok(Some(len)) => {
-                    return Ok(Some(DecodeReport {
-                        parsed: i + 1,
-                        decoded: len,
-                    }));
-                }
-                Err(e) => return Err(e),
-            }
+        if piece.len() < FEW {
+            self.push_fronts(buffer, piece, true)
+        } else {
+            self.push_fronts(buffer, piece, false)
         }
-        Ok(None)
     }
 
-    // Takes in a piece up to the first answer.
+    // Takes in a piece up to the first answer. One byte takes no call.
+    #[inline(always)]
     fn push(&mut self, buffer: &mut [u8], piece: &[u8]) -> Result<Option<DecodeReport>, DecodeError>
         ensures { TakesPiece self.old buffer.old piece.now result self.new buffer.new }
     {
-        if piece.len() < FEW {
-            self.push_few(buffer, piece)
+        if let [byte] = piece {
+            self.push_byte(buffer, *byte)
         } else {
-            self.push_windows(buffer, piece)
+            self.push_bytes(buffer, piece)
         }
     }
 }

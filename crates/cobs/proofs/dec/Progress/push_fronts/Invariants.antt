@@ -1,7 +1,7 @@
 use Rattle.std.proofs.Common.{List, ℕ, ◌-◌, length}
 use Rattle.cobs.specs.Streaming.{Stands}
 use Rattle.cobs.proofs.Turns.{Turn}
-use Rattle.cobs.proofs.dec.Progress.push_windows.Given as goal
+use Rattle.cobs.proofs.dec.Progress.push_fronts.Given as goal
 
 abbrev pub invariant-loop-at : goal.invariant-loop-at
 invariant-loop-at l = (p : List ℕ) → Stands l.fn.self p → Turn p l.piece l.fn.buffer l.at l.buffer l.self
