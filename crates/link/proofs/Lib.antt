@@ -8,6 +8,8 @@ pub mod Turning
 pub mod Betweens
 pub mod Answering
 pub mod Reading
+pub mod Nexts
+pub mod Keeping
 pub mod Sending
 pub mod Hearing
 pub mod Ending
