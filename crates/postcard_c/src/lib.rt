@@ -1,0 +1,160 @@
+//! The calls of `postcard` for one record as C functions, for the benchmark in `bench/`.
+//!
+//! The record is a `u32`, a `u64`, a text, perhaps a `u16`, and a list of `u16`.
+#![tactic(auto)]
+
+ghost use Rattle.std.specs.Prelude.{◌≤◌, length};
+
+use postcard::accumulator::{CobsAccumulator, FeedResult};
+use std::alloc::Global;
+
+/// The record as it is read from a frame.
+type Owned = (u32, u64, String, Option<u16>, Vec<u16>);
+
+/// What a call answers: whether it was done, and how many bytes it gave; 0 where it wasn't.
+#[repr(C)]
+#[derive(Clone, Copy)]
+pub struct Answer {
+    pub done: bool,
+    pub count: usize,
+}
+
+/// What a record holds, its text and its list by their lengths and the list's sum.
+#[repr(C)]
+#[derive(Clone, Copy)]
+pub struct Parts {
+    pub number: u32,
+    pub big: u64,
+    pub text_len: usize,
+    pub has: bool,
+    pub perhaps: u16,
+    pub list_len: usize,
+    pub sum: u64,
+}
+
+/// The sum of a list.
+fn total(list: &[u16]) -> u64 {
+    let mut sum = 0u64;
+    for item in list {
+        sum = sum.wrapping_add(u64::from(*item));
+    }
+    sum
+}
+
+/// Writes the record by `postcard::to_slice`. It isn't done where the text isn't UTF-8, nor where there is no room.
+#[unsafe(no_mangle)]
+pub extern "C" fn postcard_c_write(
+    number: u32,
+    big: u64,
+    text: &[u8],
+    has: bool,
+    perhaps: u16,
+    list: &[u16],
+    room: &mut [u8],
+) -> Answer
+    ensures within { result.count ≤ length room.old }
+{
+    let refused = Answer {
+        done: false,
+        count: 0,
+    };
+    let Ok(text) = std::str::from_utf8(text) else {
+        return refused;
+    };
+    let record = (
+        number,
+        big,
+        text,
+        if has { Some(perhaps) } else { None },
+        list,
+    );
+    match postcard::to_slice(&record, room) {
+        Ok(front) => Answer {
+            done: true,
+            count: front.len(),
+        },
+        Err(_) => refused,
+    }
+}
+
+/// Reads the record by `postcard::from_bytes`, and lets it go again. Answers whether there is one.
+#[unsafe(no_mangle)]
+pub extern "C" fn postcard_c_read(alloc: Global, source: &[u8], parts: &mut Parts) -> bool {
+    match postcard::from_bytes::<(u32, u64, &str, Option<u16>, Vec<u16>)>(alloc, source) {
+        Ok((number, big, text, perhaps, list)) => {
+            *parts = Parts {
+                number,
+                big,
+                text_len: text.len(),
+                has: perhaps.is_some(),
+                perhaps: perhaps.unwrap_or(0),
+                list_len: list.len(),
+                sum: total(&list),
+            };
+            true
+        }
+        Err(_) => false,
+    }
+}
+
+/// What was found in a stream: how many records, how many refusals, and a sum over the records.
+#[repr(C)]
+#[derive(Clone, Copy)]
+pub struct Found {
+    pub values: u64,
+    pub refused: u64,
+    pub sum: u64,
+}
+
+/// Counts a record: its number, its text's length and the sum of its list.
+fn count_record(record: Owned, found: &mut Found) {
+    let (number, _, text, _, list) = record;
+    found.values = found.values.wrapping_add(1);
+    found.sum = found.sum.wrapping_add(u64::from(number));
+    found.sum = found.sum.wrapping_add(text.len() as u64);
+    found.sum = found.sum.wrapping_add(total(&list));
+}
+
+/// Feeds a piece, then what is left of it after each answer.
+fn feed_piece(
+    alloc: Global,
+    accumulator: &mut CobsAccumulator<512>,
+    piece: &[u8],
+    found: &mut Found,
+) {
+    let mut rest = piece;
+    for _ in 0..piece.len() {
+        if rest.is_empty() {
+            return;
+        }
+        match accumulator.feed::<Owned>(alloc, rest) {
+            FeedResult::Consumed => return,
+            FeedResult::OverFull(after) | FeedResult::DeserError(after) => {
+                found.refused = found.refused.wrapping_add(1);
+                rest = after;
+            }
+            FeedResult::Success { value, remaining } => {
+                count_record(value, found);
+                rest = remaining;
+            }
+        }
+    }
+}
+
+/// Hands a stream in pieces of `piece` bytes to a `CobsAccumulator<512>`, and counts what it answers. Nothing is found
+/// where `piece` is 0.
+#[unsafe(no_mangle)]
+pub extern "C" fn postcard_c_stream(alloc: Global, stream: &[u8], piece: usize, found: &mut Found) {
+    let mut accumulator: CobsAccumulator<512> = CobsAccumulator::new();
+    let mut counts = Found {
+        values: 0,
+        refused: 0,
+        sum: 0,
+    };
+    if piece > 0 {
+        for bytes in stream.chunks(piece) {
+            feed_piece(alloc, &mut accumulator, bytes, &mut counts);
+        }
+    }
+    *found = counts;
+}
