@@ -1,0 +1,27 @@
+//! Links the proved static libraries; the script `run` says where they are.
+use std::env;
+
+fn main() {
+    for name in ["BENCH_LIBS", "BENCH_BEFORE", "BENCH_KIT", "BENCH_POSTCARD"] {
+        println!("cargo:rerun-if-env-changed={name}");
+    }
+    let libs = env::var("BENCH_LIBS").expect("run this by `bench/run`");
+    link(&libs, &["cobs_c", "postcard_c"]);
+    if let Ok(before) = env::var("BENCH_BEFORE") {
+        println!("cargo:rustc-cfg=before");
+        link(&before, &["before_cobs_c", "before_postcard_c"]);
+    }
+    let kit = env::var("BENCH_KIT").expect("run this by `bench/run`");
+    link(&kit, &["libc_c"]);
+    if env::var("BENCH_POSTCARD").is_ok() {
+        println!("cargo:rustc-cfg=real_postcard");
+    }
+}
+
+fn link(folder: &str, names: &[&str]) {
+    println!("cargo:rustc-link-search=native={folder}");
+    for name in names {
+        println!("cargo:rerun-if-changed={folder}/lib{name}.a");
+        println!("cargo:rustc-link-lib=static={name}");
+    }
+}

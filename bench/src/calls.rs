@@ -1,0 +1,207 @@
+//! The C functions of the proved libraries, as they stand and as they stood at an earlier commit.
+
+/// What a call answers: whether it was done, and how many bytes it gave.
+#[repr(C)]
+#[derive(Clone, Copy)]
+struct Answer {
+    done: bool,
+    count: usize,
+}
+
+/// What a record holds, its text and its list by their lengths and the list's sum.
+#[repr(C)]
+#[derive(Clone, Copy, Debug, Default, PartialEq)]
+pub struct Parts {
+    pub number: u32,
+    pub big: u64,
+    pub text_len: usize,
+    pub has: bool,
+    pub perhaps: u16,
+    pub list_len: usize,
+    pub sum: u64,
+}
+
+/// What was found in a stream: how many values, how many refusals, and a sum over the values.
+#[repr(C)]
+#[derive(Clone, Copy, Debug, Default, PartialEq)]
+pub struct Found {
+    pub values: u64,
+    pub refused: u64,
+    pub sum: u64,
+}
+
+type IntoBuffer = unsafe extern "C" fn(*const u8, usize, *mut u8, usize) -> Answer;
+type InPlace = unsafe extern "C" fn(*mut u8, usize) -> Answer;
+type Stream = unsafe extern "C" fn(*const u8, usize, usize, *mut Found);
+type Write = unsafe extern "C" fn(
+    u32,
+    u64,
+    *const u8,
+    usize,
+    bool,
+    u16,
+    *const u16,
+    usize,
+    *mut u8,
+    usize,
+) -> Answer;
+type Read = unsafe extern "C" fn(*const u8, usize, *mut Parts) -> bool;
+
+/// The functions of one state of the libraries.
+#[derive(Clone, Copy)]
+pub struct Calls {
+    pub name: &'static str,
+    try_encode: IntoBuffer,
+    push: IntoBuffer,
+    decode: IntoBuffer,
+    decode_in_place: InPlace,
+    messages: Stream,
+    write: Write,
+    read: Read,
+    records: Stream,
+}
+
+fn answered(answer: Answer) -> Option<usize> {
+    answer.done.then_some(answer.count)
+}
+
+fn into_buffer(call: IntoBuffer, source: &[u8], dest: &mut [u8]) -> Option<usize> {
+    // SAFETY: two slices that don't overlap, each by its pointer and its length.
+    answered(unsafe { call(source.as_ptr(), source.len(), dest.as_mut_ptr(), dest.len()) })
+}
+
+fn stream(call: Stream, stream: &[u8], piece: usize) -> Found {
+    let mut found = Found::default();
+    // SAFETY: a slice by its pointer and its length, and a struct of C's layout.
+    unsafe { call(stream.as_ptr(), stream.len(), piece, &mut found) };
+    found
+}
+
+impl Calls {
+    #[inline]
+    pub fn try_encode(&self, source: &[u8], dest: &mut [u8]) -> Option<usize> {
+        into_buffer(self.try_encode, source, dest)
+    }
+
+    /// `dest` must not be empty.
+    #[inline]
+    pub fn push(&self, source: &[u8], dest: &mut [u8]) -> Option<usize> {
+        into_buffer(self.push, source, dest)
+    }
+
+    #[inline]
+    pub fn decode(&self, source: &[u8], dest: &mut [u8]) -> Option<usize> {
+        into_buffer(self.decode, source, dest)
+    }
+
+    #[inline]
+    pub fn decode_in_place(&self, buf: &mut [u8]) -> Option<usize> {
+        // SAFETY: a slice by its pointer and its length.
+        answered(unsafe { (self.decode_in_place)(buf.as_mut_ptr(), buf.len()) })
+    }
+
+    /// The messages of a stream, by a decoder.
+    pub fn messages(&self, bytes: &[u8], piece: usize) -> Found {
+        stream(self.messages, bytes, piece)
+    }
+
+    /// The records of a stream, by an accumulator.
+    pub fn records(&self, bytes: &[u8], piece: usize) -> Found {
+        stream(self.records, bytes, piece)
+    }
+
+    #[inline]
+    pub fn write(&self, record: &crate::data::Record<'_>, room: &mut [u8]) -> Option<usize> {
+        let crate::data::Record {
+            number,
+            big,
+            text,
+            perhaps,
+            list,
+        } = record;
+        // SAFETY: three slices that don't overlap, each by its pointer and its length.
+        answered(unsafe {
+            (self.write)(
+                *number,
+                *big,
+                text.as_ptr(),
+                text.len(),
+                perhaps.is_some(),
+                perhaps.unwrap_or(0),
+                list.as_ptr(),
+                list.len(),
+                room.as_mut_ptr(),
+                room.len(),
+            )
+        })
+    }
+
+    #[inline]
+    pub fn read(&self, source: &[u8], parts: &mut Parts) -> bool {
+        // SAFETY: a slice by its pointer and its length, and a struct of C's layout.
+        unsafe { (self.read)(source.as_ptr(), source.len(), parts) }
+    }
+}
+
+macro_rules! calls {
+    ($module:ident, $name:literal, $prefix:literal) => {
+        mod $module {
+            use super::*;
+
+            extern "C" {
+                #[link_name = concat!($prefix, "cobs_c_try_encode")]
+                fn try_encode(s: *const u8, n: usize, d: *mut u8, m: usize) -> Answer;
+                #[link_name = concat!($prefix, "cobs_c_push")]
+                fn push(s: *const u8, n: usize, d: *mut u8, m: usize) -> Answer;
+                #[link_name = concat!($prefix, "cobs_c_decode")]
+                fn decode(s: *const u8, n: usize, d: *mut u8, m: usize) -> Answer;
+                #[link_name = concat!($prefix, "cobs_c_decode_in_place")]
+                fn decode_in_place(b: *mut u8, n: usize) -> Answer;
+                #[link_name = concat!($prefix, "cobs_c_stream")]
+                fn messages(s: *const u8, n: usize, piece: usize, found: *mut Found);
+                #[link_name = concat!($prefix, "postcard_c_write")]
+                fn write(
+                    number: u32,
+                    big: u64,
+                    text: *const u8,
+                    text_len: usize,
+                    has: bool,
+                    perhaps: u16,
+                    list: *const u16,
+                    list_len: usize,
+                    room: *mut u8,
+                    room_len: usize,
+                ) -> Answer;
+                #[link_name = concat!($prefix, "postcard_c_read")]
+                fn read(s: *const u8, n: usize, parts: *mut Parts) -> bool;
+                #[link_name = concat!($prefix, "postcard_c_stream")]
+                fn records(s: *const u8, n: usize, piece: usize, found: *mut Found);
+            }
+
+            pub const CALLS: Calls = Calls {
+                name: $name,
+                try_encode,
+                push,
+                decode,
+                decode_in_place,
+                messages,
+                write,
+                read,
+                records,
+            };
+        }
+    };
+}
+
+calls!(now, "ours", "");
+#[cfg(before)]
+calls!(earlier, "before", "before_");
+
+/// The libraries as they stand, and where there are some, as they stood before.
+pub fn all() -> Vec<Calls> {
+    vec![
+        now::CALLS,
+        #[cfg(before)]
+        earlier::CALLS,
+    ]
+}

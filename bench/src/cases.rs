@@ -1,0 +1,505 @@
+//! The cases: what is called on what.
+use crate::calls::{self, Calls, Found, Parts};
+use crate::data::{self, message, Numbers, Record, KINDS};
+use crate::frames::{bytes, first_zero, runs, wide};
+use crate::peers::{records as by_hand, streams as pieces};
+use crate::table::{duration, head, row, size, Report};
+use crate::timing::{best_peer, named, run, Side, Timed, Way, Work};
+use std::hint::black_box;
+
+const LENGTHS: [usize; 6] = [4, 16, 64, 200, 1024, 64 << 10];
+const LARGE: usize = 64 << 10;
+
+fn side(calls: &Calls) -> Side {
+    if calls.name == "ours" {
+        Side::Ours
+    } else {
+        Side::Before
+    }
+}
+
+fn way<'a>(side: Side, name: &'static str, work: Work<'a>) -> Way<'a> {
+    Way { side, name, work }
+}
+
+/// A call that makes bytes of bytes, called so many times.
+fn into_buffer<'a, T: 'a>(
+    source: &'a [u8],
+    room: usize,
+    call: impl Fn(&[u8], &mut [u8]) -> T + 'a,
+) -> Work<'a> {
+    let mut dest = vec![0; room];
+    Box::new(move |times| {
+        for _ in 0..times {
+            black_box(call(black_box(source), black_box(&mut dest)));
+        }
+    })
+}
+
+/// A call that works in place: each time the bytes are copied anew.
+fn in_place<'a, T: 'a>(source: &'a [u8], call: impl Fn(&mut [u8]) -> T + 'a) -> Work<'a> {
+    let mut buf = source.to_vec();
+    Box::new(move |times| {
+        for _ in 0..times {
+            buf.copy_from_slice(black_box(source));
+            black_box(call(black_box(&mut buf)));
+        }
+    })
+}
+
+/// The greatest length of a frame.
+fn room(len: usize) -> usize {
+    len + len.div_ceil(254).max(1)
+}
+
+type Encoder = fn(&[u8], &mut [u8]) -> usize;
+type Decoder = fn(&[u8], &mut [u8]) -> Option<usize>;
+type InPlace = fn(&mut [u8]) -> Option<usize>;
+
+const ENCODERS: [(&str, Encoder); 3] = [
+    ("byte by byte", bytes::encode),
+    ("by runs", runs::encode),
+    ("16 at a time", wide::encode),
+];
+const DECODERS: [(&str, Decoder); 3] = [
+    ("byte by byte", bytes::decode),
+    ("by runs", runs::decode),
+    ("16 at a time", wide::decode),
+];
+const IN_PLACE: [(&str, InPlace); 2] = [
+    ("byte by byte", bytes::decode_in_place),
+    ("by runs", runs::decode_in_place),
+];
+
+/// Sees that all encode alike, and that ours refuse where there is one byte too few.
+fn check_encoding(source: &[u8], frame: &[u8]) {
+    let mut dest = vec![0; room(source.len())];
+    for (name, encode) in ENCODERS {
+        let len = encode(source, &mut dest);
+        assert!(dest[..len] == *frame, "{name}");
+    }
+    for ours in calls::all() {
+        assert_eq!(ours.try_encode(source, &mut dest), Some(frame.len()));
+        assert!(dest[..frame.len()] == *frame);
+        assert_eq!(ours.push(source, &mut dest), Some(frame.len()));
+        assert!(dest[..frame.len()] == *frame);
+        let short = &mut dest[..frame.len() - 1];
+        assert_eq!(ours.try_encode(source, short), None);
+        assert_eq!(ours.push(source, short), None);
+    }
+}
+
+/// Sees that all decode alike.
+fn check_decoding(framed: &[u8], source: &[u8]) {
+    let mut dest = vec![0; source.len() + 1];
+    let decoded = |len: Option<usize>, dest: &[u8]| len.is_some_and(|n| dest[..n] == *source);
+    for (name, decode) in DECODERS {
+        let len = decode(framed, &mut dest);
+        assert!(decoded(len, &dest), "{name}");
+    }
+    for (name, decode) in IN_PLACE {
+        let mut buf = framed.to_vec();
+        let len = decode(&mut buf);
+        assert!(decoded(len, &buf), "{name}");
+    }
+    for ours in calls::all() {
+        let len = ours.decode(framed, &mut dest);
+        assert!(decoded(len, &dest));
+        let mut buf = framed.to_vec();
+        let len = ours.decode_in_place(&mut buf);
+        assert!(decoded(len, &buf));
+    }
+}
+
+fn time_encoding(samples: usize, source: &[u8]) -> Vec<Timed> {
+    let room = room(source.len());
+    let mut ways = Vec::new();
+    for ours in calls::all() {
+        let work = into_buffer(source, room, move |s, d| ours.try_encode(s, d));
+        ways.push(way(side(&ours), "try_encode", work));
+        let work = into_buffer(source, room, move |s, d| ours.push(s, d));
+        ways.push(way(side(&ours), "push", work));
+    }
+    for (name, encode) in ENCODERS {
+        ways.push(way(Side::Peer, name, into_buffer(source, room, encode)));
+    }
+    ways.push(way(Side::Bound, "memcpy", copying(source)));
+    ways.push(way(Side::Bound, "memchr", searching(source)));
+    run(samples, ways)
+}
+
+fn copying(source: &[u8]) -> Work<'_> {
+    into_buffer(source, source.len(), |s, d| d.copy_from_slice(s))
+}
+
+fn searching(source: &[u8]) -> Work<'_> {
+    into_buffer(source, 0, |s, _| first_zero(s))
+}
+
+fn time_decoding(samples: usize, framed: &[u8]) -> Vec<Timed> {
+    let room = framed.len();
+    let mut ways = Vec::new();
+    for ours in calls::all() {
+        let work = into_buffer(framed, room, move |s, d| ours.decode(s, d));
+        ways.push(way(side(&ours), "decode", work));
+    }
+    for (name, decode) in DECODERS {
+        ways.push(way(Side::Peer, name, into_buffer(framed, room, decode)));
+    }
+    run(samples, ways)
+}
+
+fn time_in_place(samples: usize, framed: &[u8]) -> Vec<Timed> {
+    let mut ways = Vec::new();
+    for ours in calls::all() {
+        let work = in_place(framed, move |b| ours.decode_in_place(b));
+        ways.push(way(side(&ours), "decode_in_place", work));
+    }
+    for (name, decode) in IN_PLACE {
+        ways.push(way(Side::Peer, name, in_place(framed, decode)));
+    }
+    run(samples, ways)
+}
+
+/// What is aimed at: the ratio of a call on so many bytes of a kind to the best peer.
+fn goal(call: &str, len: usize, kind: usize) -> Option<f64> {
+    match (call, len) {
+        ("try_encode" | "push", LARGE) => Some([0.9, 1.4, 0.8, 0.2][kind]),
+        ("decode", LARGE) => Some([1.2, 1.1, 0.9, 0.3][kind]),
+        ("try_encode" | "push" | "decode", 64..=1024) => Some(2.0),
+        _ => None,
+    }
+}
+
+/// The times of each length and kind of one call.
+type Grid = Vec<[Vec<Timed>; 4]>;
+
+fn print_grid(report: &mut Report, call: &str, grid: &Grid) {
+    head(
+        &format!("`{call}`: time / time of the best peer (goal)"),
+        &["Bytes", KINDS[0], KINDS[1], KINDS[2], KINDS[3]],
+    );
+    for (&len, times) in LENGTHS.iter().zip(grid) {
+        let mut cells = vec![size(len)];
+        for (kind, timed) in times.iter().enumerate() {
+            let what = format!("`{call}`, {}, {}", size(len), KINDS[kind]);
+            cells.push(report.cell(&what, timed, call, goal(call, len, kind)));
+            if len == LARGE {
+                report.change(&what, timed, call);
+            }
+        }
+        row(&cells);
+    }
+}
+
+/// Prints what each way takes on the longest messages.
+fn print_times(title: &str, times: &[Vec<Timed>; 4]) {
+    head(title, &["Way", KINDS[0], KINDS[1], KINDS[2], KINDS[3]]);
+    for (i, first) in times[0].iter().enumerate() {
+        let whose = match first.side {
+            Side::Ours => "ours, ",
+            Side::Before => "before, ",
+            Side::Peer => "peer, ",
+            Side::Bound => "",
+        };
+        let mut cells = vec![format!("{whose}{}", first.name)];
+        cells.extend(times.iter().map(|timed| duration(timed[i].median)));
+        row(&cells);
+    }
+}
+
+/// Messages to frames and back.
+pub fn encoding_and_decoding(samples: usize, report: &mut Report) {
+    let mut encoding: Grid = Vec::new();
+    let mut decoding: Grid = Vec::new();
+    let mut in_place: Grid = Vec::new();
+    for len in LENGTHS {
+        let sources = KINDS.map(|kind| message(kind, len));
+        let framed = sources.each_ref().map(|source| {
+            let mut frame = vec![0; room(len) + 1];
+            let count = runs::encode(source, &mut frame);
+            frame.truncate(count);
+            check_encoding(source, &frame);
+            frame.push(0);
+            check_decoding(&frame, source);
+            frame
+        });
+        encoding.push(sources.each_ref().map(|s| time_encoding(samples, s)));
+        decoding.push(framed.each_ref().map(|f| time_decoding(samples, f)));
+        in_place.push(framed.each_ref().map(|f| time_in_place(samples, f)));
+    }
+    print_grid(report, "try_encode", &encoding);
+    print_grid(report, "push", &encoding);
+    print_grid(report, "decode", &decoding);
+    print_grid(report, "decode_in_place", &in_place);
+    print_times("Encoding 64 KiB", &encoding[LENGTHS.len() - 1]);
+    print_times("Decoding 64 KiB", &decoding[LENGTHS.len() - 1]);
+    print_times(
+        "Decoding 64 KiB in place, with the copy of the frame",
+        &in_place[LENGTHS.len() - 1],
+    );
+}
+
+/// How a stream is taken in, in pieces of so many bytes.
+type Taking = fn(&[u8], usize) -> Found;
+
+fn time_stream(
+    samples: usize,
+    stream: &[u8],
+    piece: usize,
+    name: &'static str,
+    ours: fn(&Calls, &[u8], usize) -> Found,
+    peers: &[(&'static str, Taking)],
+) -> Vec<Timed> {
+    let want = peers[0].1(stream, piece);
+    assert!(want.values > 0 && want.refused == 0);
+    let work = |call: &'static str, take: Box<dyn Fn(&[u8]) -> Found>| -> Work<'_> {
+        assert_eq!(take(stream), want, "{call}");
+        Box::new(move |times| {
+            for _ in 0..times {
+                black_box(take(black_box(stream)));
+            }
+        })
+    };
+    let mut ways = Vec::new();
+    for calls in calls::all() {
+        let take = Box::new(move |s: &[u8]| ours(&calls, s, piece));
+        ways.push(way(side(&calls), name, work(calls.name, take)));
+    }
+    for &(peer, take) in peers {
+        let take = Box::new(move |s: &[u8]| take(s, piece));
+        ways.push(way(Side::Peer, peer, work(peer, take)));
+    }
+    run(samples, ways)
+}
+
+/// Prints what each way took.
+fn print_stream(report: &mut Report, what: &str, piece: usize, timed: &[Timed], goal: f64) {
+    let what = format!("{what}, pieces of {piece}");
+    let mut cells = vec![what.clone()];
+    let ours = &timed[0];
+    cells.push(duration(ours.median));
+    for peer in timed.iter().filter(|t| t.side == Side::Peer) {
+        cells.push(format!("{} ({})", duration(peer.median), peer.name));
+    }
+    cells.push(report.cell(&what, timed, ours.name, Some(goal)));
+    report.change(&what, timed, ours.name);
+    row(&cells);
+}
+
+/// Streams of frames in pieces: a decoder's messages, and an accumulator's records.
+pub fn streams(samples: usize, report: &mut Report) {
+    let stream = data::stream(1 << 20);
+    head(
+        "A stream of 1 MiB",
+        &[
+            "Call",
+            "Ours",
+            "Peer",
+            "Peer",
+            "Time / time of the best peer (goal)",
+        ],
+    );
+    let taking: [(&str, Taking); 2] = [
+        ("byte by byte", pieces::messages_by_bytes),
+        ("by runs", pieces::messages_by_runs),
+    ];
+    for (piece, goal) in [(1, 1.1), (64, 0.6), (4096, 0.4)] {
+        let timed = time_stream(samples, &stream, piece, "push", Calls::messages, &taking);
+        print_stream(report, "decoder's `push`", piece, &timed, goal);
+    }
+    let taking: [(&str, Taking); 2] = [
+        ("an accumulator", pieces::records_by_accumulator),
+        ("by runs", pieces::records_by_runs),
+    ];
+    for piece in [1, 64, 4096] {
+        let timed = time_stream(samples, &stream, piece, "feed", Calls::records, &taking);
+        print_stream(report, "accumulator's `feed`", piece, &timed, 0.8);
+    }
+}
+
+type Writing = fn(&Record<'_>, &mut [u8]) -> Option<usize>;
+type Reading = fn(&[u8]) -> Option<Parts>;
+
+fn time_writing(samples: usize, record: &Record<'_>, want: &[u8]) -> Vec<Timed> {
+    let mut ways = Vec::new();
+    let mut add = |side, name, write: Box<dyn Fn(&Record<'_>, &mut [u8]) -> Option<usize>>| {
+        let mut room = [0; 256];
+        let written = write(record, &mut room).expect("there is room");
+        assert!(room[..written] == *want, "{name}");
+        assert_eq!(write(record, &mut room[..want.len() - 1]), None, "{name}");
+        let work = move |times| {
+            for _ in 0..times {
+                black_box(write(black_box(record), black_box(&mut room)));
+            }
+        };
+        ways.push(way(side, name, Box::new(work)));
+    };
+    for ours in calls::all() {
+        add(
+            side(&ours),
+            "to_slice",
+            Box::new(move |r, room| ours.write(r, room)),
+        );
+    }
+    let peers: [(&str, Writing); 2] = [
+        ("as a crate does it", by_hand::crate_like::write),
+        ("straight", by_hand::write),
+    ];
+    for (name, write) in peers {
+        add(Side::Peer, name, Box::new(write));
+    }
+    #[cfg(real_postcard)]
+    add(Side::Peer, "postcard", Box::new(real::write));
+    run(samples, ways)
+}
+
+fn time_reading(samples: usize, bytes: &[u8], want: Parts) -> Vec<Timed> {
+    let mut ways = Vec::new();
+    let mut add = |side, name, read: Box<dyn Fn(&[u8]) -> Option<Parts>>| {
+        assert_eq!(read(bytes), Some(want), "{name}");
+        assert_eq!(read(&bytes[..bytes.len() - 1]), None, "{name}");
+        let work = move |times| {
+            for _ in 0..times {
+                black_box(read(black_box(bytes)));
+            }
+        };
+        ways.push(way(side, name, Box::new(work)));
+    };
+    for ours in calls::all() {
+        let read = move |bytes: &[u8]| {
+            let mut parts = Parts::default();
+            ours.read(bytes, &mut parts).then_some(parts)
+        };
+        add(side(&ours), "from_bytes", Box::new(read));
+    }
+    let peers: [(&str, Reading); 2] = [
+        ("as a crate does it", by_hand::crate_like::read),
+        ("straight", by_hand::read),
+    ];
+    for (name, read) in peers {
+        add(Side::Peer, name, Box::new(read));
+    }
+    #[cfg(real_postcard)]
+    add(Side::Peer, "postcard", Box::new(real::read));
+    run(samples, ways)
+}
+
+/// The Rust crate, where one is given.
+#[cfg(real_postcard)]
+mod real {
+    use super::{by_hand, Parts, Record};
+
+    pub fn write(record: &Record<'_>, room: &mut [u8]) -> Option<usize> {
+        let fields = (
+            record.number,
+            record.big,
+            record.text,
+            record.perhaps,
+            record.list,
+        );
+        postcard::to_slice(&fields, room)
+            .ok()
+            .map(|front| front.len())
+    }
+
+    pub fn read(bytes: &[u8]) -> Option<Parts> {
+        type Fields<'a> = (u32, u64, &'a str, Option<u16>, Vec<u16>);
+        let (number, big, text, perhaps, list) = postcard::from_bytes::<Fields<'_>>(bytes).ok()?;
+        Some(by_hand::parts(number, big, text, perhaps, &list))
+    }
+}
+
+fn print_record(report: &mut Report, call: &str, timed: &[Timed], goal: f64) {
+    let ours = &timed[0];
+    let mut cells = vec![format!("`{call}`"), duration(ours.median)];
+    let mut peers = Vec::new();
+    for peer in timed.iter().filter(|t| t.side == Side::Peer) {
+        let ratio = ours.median / peer.median;
+        peers.push(format!(
+            "{}: {} (ratio {ratio:.2})",
+            peer.name,
+            duration(peer.median)
+        ));
+    }
+    cells.push(peers.join("; "));
+    let what = format!("a record's `{call}`");
+    cells.push(report.cell(&what, timed, call, Some(goal)));
+    report.change(&what, timed, call);
+    row(&cells);
+}
+
+/// A record to bytes and back.
+pub fn records(samples: usize, report: &mut Report) {
+    let list = data::list(&mut Numbers(6), 32);
+    let record = Record {
+        number: 0xCDAB_3412,
+        big: 0x1234_5678_90AB_CDEF,
+        text: "twenty letters here!",
+        perhaps: Some(300),
+        list: &list,
+    };
+    let mut spelling = vec![0; 256];
+    let count = by_hand::write(&record, &mut spelling).expect("there is room");
+    spelling.truncate(count);
+    let parts = by_hand::parts(
+        record.number,
+        record.big,
+        record.text,
+        record.perhaps,
+        &list,
+    );
+    head(
+        &format!("A record of {count} bytes"),
+        &[
+            "Call",
+            "Ours",
+            "Peers",
+            "Time / time of the best peer (goal)",
+        ],
+    );
+    let timed = time_writing(samples, &record, &spelling);
+    print_record(report, "to_slice", &timed, 0.6);
+    let timed = time_reading(samples, &spelling, parts);
+    print_record(report, "from_bytes", &timed, 1.1);
+}
+
+/// What a byte costs as messages grow.
+pub fn growth(samples: usize) {
+    head(
+        "Growth: nanoseconds for 1000 bytes, ours (best peer)",
+        &[
+            "Bytes",
+            "Kind",
+            "`try_encode`",
+            "`decode`",
+            "`decode_in_place`",
+            "memcpy",
+        ],
+    );
+    for len in [64 << 10, 256 << 10, 1 << 20, 4 << 20] {
+        for kind in &KINDS[..2] {
+            let source = message(kind, len);
+            let mut frame = vec![0; room(len) + 1];
+            let count = runs::encode(&source, &mut frame);
+            let framed = &frame[..count + 1];
+            let encoding = time_encoding(samples, &source);
+            let decoding = time_decoding(samples, framed);
+            let in_place = time_in_place(samples, framed);
+            let per_byte = |ns: f64| format!("{:.0}", ns * 1000.0 / len as f64);
+            let cell = |timed: &[Timed], name| {
+                let ours = named(timed, Side::Ours, name).expect("our way is timed");
+                format!("{} ({})", per_byte(ours), per_byte(best_peer(timed).median))
+            };
+            let copy = named(&encoding, Side::Bound, "memcpy").expect("memcpy is timed");
+            row(&[
+                size(len),
+                kind.to_string(),
+                cell(&encoding, "try_encode"),
+                cell(&decoding, "decode"),
+                cell(&in_place, "decode_in_place"),
+                per_byte(copy),
+            ]);
+        }
+    }
+}
