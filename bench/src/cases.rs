@@ -119,6 +119,9 @@ fn time_encoding(samples: usize, source: &[u8]) -> Vec<Timed> {
         ways.push(way(side(&ours), "try_encode", work));
         let work = into_buffer(source, room, move |s, d| ours.push(s, d));
         ways.push(way(side(&ours), "push", work));
+        let length = bytes::encode(source, &mut vec![0; room]);
+        let work = into_buffer(source, length, move |s, d| ours.try_encode(s, d));
+        ways.push(way(side(&ours), "try_encode, no room to spare", work));
     }
     for (name, encode) in ENCODERS {
         ways.push(way(Side::Peer, name, into_buffer(source, room, encode)));

@@ -21,6 +21,6 @@ fn main() {
     streams(samples.min(11), &mut report);
     records(2 * samples, &mut report);
     growth(samples.min(11));
-    report.print_before();
     report.print_goals();
+    report.print_before();
 }
