@@ -1,5 +1,5 @@
 //! Decoding: byte by byte by a table, in streams into a buffer, and of whole sources.
-ghost use Rattle.std.specs.Prelude.{◌≡◌, ◌≢◌, ◌^◌, ℕ, ◌+◌, ◌-◌, ◌<◌, ◌≤◌, List, [], ◌∷◌, ◌++◌, length, take, drop, slice_index, true, replicate, IfOk, OnErr, MatchResult, IfSome, IsNone};
+ghost use Rattle.std.specs.Prelude.{◌≡◌, ◌≢◌, ◌^◌, ℕ, ◌+◌, ◌-◌, ◌<◌, ◌≤◌, List, [], ◌∷◌, ◌++◌, length, take, drop, slice_index, true, replicate, ◌↔◌, IsTrue, IsOk, IfOk, OnOk, OnErr, MatchResult, IfSome, IsNone};
 ghost use Rattle.std.specs.Borrow.{sem};
 ghost use Rattle.cobs.specs.Frames.{Frame, part, part_from, after};
 ghost use Rattle.cobs.specs.Feeding.{by_code as state_by_code, told_by as byte_told_by, fed, next, stands_by, placed};
@@ -398,6 +398,17 @@ impl Progress {
         ensures { Stands self.new [] }
     {
         *self = Progress::new();
+    }
+
+    fn is_new(&self) -> bool
+        ensures idle { IsTrue result ↔ Stands self.now [] }
+        ensures begun { (p : List ℕ) → Stands self.now p → (IsTrue result ↔ p ≡ []) }
+    {
+        match self.state {
+            DecoderState::Idle => self.len == 0,
+            DecoderState::Grab(_) => false,
+            DecoderState::GrabChain(_) => false,
+        }
     }
 
     // Takes in a byte of a frame.
@@ -885,6 +896,29 @@ impl CobsDecoderOwned {
         ensures buffer { owned_buffer self.new ≡ owned_buffer self.old }
     {
         self.progress.reset();
+    }
+
+    /// Whether no frame is begun.
+    pub fn is_idle(&self) -> bool
+        ensures idle { IsTrue result ↔ OwnedHas self.now [] }
+        ensures begun { (p : List ℕ) → OwnedHas self.now p → (IsTrue result ↔ p ≡ []) }
+    {
+        self.progress.is_new()
+    }
+
+    /// Makes the buffer so many bytes long: it keeps its bytes as far as there is room, and has zeros behind them.
+    ///
+    /// A refusal changes nothing, and a size that isn't greater is never refused.
+    ///
+    /// The caller owes that no frame is begun, which `is_idle` tells.
+    pub fn resize(&mut self, size: usize) -> Result<(), AllocError>
+        requires { OwnedHas self.old [] }
+        ensures idle { OwnedHas self.new [] }
+        ensures buffer { OnOk result (owned_buffer self.new ≡ take size (owned_buffer self.old) ++ replicate (size - length (owned_buffer self.old)) 0) }
+        ensures refused { OnErr result (owned_buffer self.new ≡ owned_buffer self.old) }
+        ensures granted { size ≤ length (owned_buffer self.old) → IsOk result }
+    {
+        self.buffer.resize(size, 0)
     }
 
     /// The buffer.
