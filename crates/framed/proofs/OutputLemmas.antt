@@ -1,7 +1,7 @@
 -- Bytes that are put one after another.
 use Rattle.std.proofs.Common.{◌≡◌, ℕ, List, [], ◌++◌, length, sym, ap, subst, ◌∙◌, arith, append_assoc, Option}
 use Rattle.std.proofs.lemmas.List.{append-nil, length-append}
-use Rattle.std.specs.Prelude.{Result, Ok, Err, OnErr}
+use Rattle.std.specs.Prelude.{Result, Ok, Err, IfOk, OnOk, OnErr}
 use Rattle.line_io.specs.Transfers.{WentOut, BrokeOff}
 use Rattle.framed.specs.Output.{Put}
 use Rattle.line_io.specs.Calls.{WentOut-none, WentOut-then, BrokeOff-then, BrokeOff-more}
@@ -62,6 +62,10 @@ put-flush {u = u} {w = w} {f = f} {h = h} {calls = calls} p q =
 pub on_err : {T E P : Type 0} (r : Result T E) → P → OnErr r P
 on_err (Ok x) p = tt
 on_err (Err e) p = p
+
+pub if_ok_and : {T E : Type 0} {P R : T → Type 0} {Q : Type 0} (r : Result T E) → ((x : T) → P x → Q → R x) → IfOk r P → OnOk r Q → IfOk r R
+if_ok_and (Ok x) f p q = f x p q
+if_ok_and (Err e) f p q = tt
 
 -- the first bytes went out, and then others
 pub went-done : {u v w : Option (List ℕ)} {f g h : ℕ} {a b : List ℕ} (all : List ℕ) → all ≡ a ++ b → WentOut u v f g a → WentOut v w g h b → WentOut u w f h all

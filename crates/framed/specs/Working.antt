@@ -55,21 +55,22 @@ Reports old new saying (Err stop.WriteFault) status = SaysLast saying write_fail
 Reports old new saying (Err stop.SayingFault) status = (status ≡ 3) × (new ≡ old)
 Reports old new saying (Err stop.NoMemory) status = SaysLast saying no_memory 4 status
 
--- What comes of the line with this number, by what is put of it and what standard error takes in vain: whether it is sent.
-abbrev pub SendsLine : List ℕ → ℕ → (Send → Type 0) → (List ℕ → Type 0) → (List ℕ → Type 0) → Result Bool Stop → Type 0
-SendsLine line number adds puts breaks (Ok sent) = (x : Send) × IsSendOf line x × (sent ≡ is_whole x) × adds x × puts (said_of number x)
-SendsLine line number adds puts breaks (Err stop.SayingFault) = (x : Send) × IsSendOf line x × breaks (said_of number x)
-SendsLine line number adds puts breaks (Err stop.NoMemory) = IsSendable line × puts []
-SendsLine line number adds puts breaks (Err stop.ReadFault) = ⊥
-SendsLine line number adds puts breaks (Err stop.WriteFault) = ⊥
+-- What comes of the line with this number, by what is put of it and what standard error takes in vain: whether it can be
+-- sent. The case of no memory is that of a sender that fails without a device.
+abbrev pub JudgesLine : List ℕ → ℕ → (List ℕ → Type 0) → (List ℕ → Type 0) → Result Bool Stop → Type 0
+JudgesLine line number puts breaks (Ok sendable) = (x : Send) × IsSendOf line x × (sendable ≡ is_whole x) × puts (said_of number x)
+JudgesLine line number puts breaks (Err stop.SayingFault) = (x : Send) × IsSendOf line x × breaks (said_of number x)
+JudgesLine line number puts breaks (Err stop.NoMemory) = IsSendable line × puts []
+JudgesLine line number puts breaks (Err stop.ReadFault) = ⊥
+JudgesLine line number puts breaks (Err stop.WriteFault) = ⊥
 
--- What comes of all lines of a text: whether all are sent.
-abbrev pub SendsLines : List ℕ → (List Send → Type 0) → (List ℕ → Type 0) → (List ℕ → Type 0) → Result Bool Stop → Type 0
-SendsLines text adds puts breaks (Ok good) = (sends : List Send) × AreSendsOf (lines_in text) sends × (good ≡ all_sent sends) × adds sends × puts (refusals 1 sends)
-SendsLines text adds puts breaks (Err stop.SayingFault) = (said : List ℕ) × SaysFirst text said × breaks said
-SendsLines text adds puts breaks (Err stop.NoMemory) = (said : List ℕ) × SaysBefore text said × puts said
-SendsLines text adds puts breaks (Err stop.ReadFault) = ⊥
-SendsLines text adds puts breaks (Err stop.WriteFault) = ⊥
+-- What comes of all lines of a text: whether all can be sent.
+abbrev pub JudgesLines : List ℕ → (List ℕ → Type 0) → (List ℕ → Type 0) → Result Bool Stop → Type 0
+JudgesLines text puts breaks (Ok good) = (sends : List Send) × AreSendsOf (lines_in text) sends × (good ≡ all_sent sends) × puts (refusals 1 sends)
+JudgesLines text puts breaks (Err stop.SayingFault) = (said : List ℕ) × SaysFirst text said × breaks said
+JudgesLines text puts breaks (Err stop.NoMemory) = (said : List ℕ) × SaysBefore text said × puts said
+JudgesLines text puts breaks (Err stop.ReadFault) = ⊥
+JudgesLines text puts breaks (Err stop.WriteFault) = ⊥
 
 -- how the work on answers ends, by how the reception ended, whether the lines were written, and whether all are values
 abbrev pub outcome_of : End → Result (Unit {0}) WriteFault → Bool → Result ℕ Stop

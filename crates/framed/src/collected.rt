@@ -1,8 +1,7 @@
-ghost use Rattle.std.specs.Prelude.{◌≡◌, ℕ, ◌+◌, ◌-◌, ◌≤◌, ◌<◌, ◌^◌, [], length, Option, None, Some, IfSome};
+ghost use Rattle.std.specs.Prelude.{◌≡◌, ℕ, ◌+◌, ◌-◌, ◌≤◌, ◌<◌, ◌^◌, length, Option, None, Some, IfSome};
 ghost use Rattle.line_io.specs.Device.{Wrote, moved_front, write_faults};
 
 use line_io::Outlet;
-use std::alloc::Global;
 
 /// An [`Outlet`](line_io::Outlet) into memory that grows. A growth that is refused is a fault.
 #[derive(Drop)]
@@ -16,12 +15,12 @@ pub struct Collected {
 impl Collected {
     ghost use Rattle.framed.specs.Collected.{collected_bytes};
 
-    /// Nothing.
-    pub fn new(alloc: Global) -> Collected
-        ensures { collected_bytes result ≡ [] }
+    /// These bytes, to which others are added.
+    pub fn over(bytes: Vec<u8>) -> Collected
+        ensures { collected_bytes result ≡ bytes.items }
     {
         Collected {
-            bytes: Vec::new(alloc),
+            bytes,
             faults: 0,
             calls: u64::MAX,
         }

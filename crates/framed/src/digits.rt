@@ -1,7 +1,7 @@
 ghost use Rattle.std.specs.Prelude.{◌≡◌, ℕ, ◌*◌, ◌≤◌, List, ◌++◌, length, OnOk, OnErr};
 ghost use Rattle.hex.specs.Hex.{encode_lower};
 ghost use Rattle.line_io.specs.Transfers.{Writing, whole, broken};
-ghost use Rattle.framed.specs.Program.{framed_text};
+ghost use Rattle.framed.specs.Program.{shown, shown_end};
 
 use crate::devices::{WriteFault, write_whole};
 use line_io::Outlet;
@@ -37,14 +37,22 @@ fn write_digits<W: Outlet>(writer: &mut W, bytes: &[u8]) -> Result<(), WriteFaul
     write_few(writer, rest, &mut room)
 }
 
-/// Writes framed bytes: as they are, or as hexadecimal digits and a line feed.
-pub fn write_framed<W: Outlet>(writer: &mut W, hex: bool, bytes: &[u8]) -> Result<(), WriteFault>
-    ensures ok { OnOk result (Writing W.written W.faults W.calls_left writer.old writer.new whole (framed_text hex bytes.now)) }
-    ensures err { OnErr result (Writing W.written W.faults W.calls_left writer.old writer.new broken (framed_text hex bytes.now)) }
+/// Writes some of the framed bytes: as they are, or as hexadecimal digits.
+pub fn write_part<W: Outlet>(writer: &mut W, hex: bool, bytes: &[u8]) -> Result<(), WriteFault>
+    ensures ok { OnOk result (Writing W.written W.faults W.calls_left writer.old writer.new whole (shown hex bytes.now)) }
+    ensures err { OnErr result (Writing W.written W.faults W.calls_left writer.old writer.new broken (shown hex bytes.now)) }
 {
     if !hex {
         return write_whole(writer, bytes);
     }
-    write_digits(writer, bytes)?;
-    write_whole(writer, b"\n")
+    write_digits(writer, bytes)
+}
+
+/// Writes what stands behind all framed bytes: the line feed behind hexadecimal digits.
+pub fn write_end<W: Outlet>(writer: &mut W, hex: bool) -> Result<(), WriteFault>
+    ensures ok { OnOk result (Writing W.written W.faults W.calls_left writer.old writer.new whole (shown_end hex)) }
+    ensures err { OnErr result (Writing W.written W.faults W.calls_left writer.old writer.new broken (shown_end hex)) }
+{
+    let end: &[u8] = if hex { b"\n" } else { b"" };
+    write_whole(writer, end)
 }

@@ -333,12 +333,17 @@ fn whole_or_no_memory<R: AllocGlobal + Abort>(rt: &R, given: Setting<'_>, out: &
 const TIMES: usize = 1600;
 
 /// The piece, so many times, behind another one.
-fn repeated(alloc: Global, first: &[u8], piece: &[u8]) -> Result<Vec<u8>, AllocError> {
+fn times(alloc: Global, first: &[u8], piece: &[u8], count: usize) -> Result<Vec<u8>, AllocError> {
     let mut bytes = Vec::from_slice(alloc, first)?;
-    for _ in 0..TIMES {
+    for _ in 0..count {
         bytes.extend_from_slice(piece)?;
     }
     Ok(bytes)
+}
+
+/// The piece, as often as the long tests have their line, behind another one.
+fn repeated(alloc: Global, first: &[u8], piece: &[u8]) -> Result<Vec<u8>, AllocError> {
+    times(alloc, first, piece, TIMES)
 }
 
 /// How many bytes a device of the long tests has room for.
@@ -420,6 +425,81 @@ fn long_streams_that_fail(rt: HostRuntime) -> Result<(), Fail> {
         b"read failed\n",
         3,
     );
+    Ok(())
+}
+
+/// Packs into a writer that fails after so many bytes, and compares what it has with the front of all that is to be
+/// written, and the status with that of its failing.
+fn expect_front<R: AllocGlobal + Abort>(
+    rt: &R,
+    given: Setting<'_>,
+    all: &[u8],
+) -> Result<(), Fail> {
+    let mut written = vec![in rt.alloc(); 0u8; all.len()]?;
+    let mut told = [0u8; ROOM];
+    let ran = run(
+        rt.alloc(),
+        given.mode,
+        given.hex,
+        In::new(given.text, 4096, None),
+        Out::new(&mut written, 5000, given.write_fault),
+        Out::new(&mut told, 4096, None),
+    );
+    let written_len = ran.writer.moved();
+    let told_len = ran.faults.moved();
+    let found = ran.status;
+    drop(ran);
+    assert!(rt; written_len <= all.len());
+    assert!(rt; told_len <= ROOM);
+    assert!(rt; &written[..written_len] == &all[..written_len]);
+    match given.write_fault {
+        Some((before, _)) => {
+            assert!(rt; found == 3);
+            assert!(rt; written_len == before);
+            assert!(rt; &told[..told_len] == b"write failed\n".as_slice());
+        }
+        None => {
+            assert!(rt; found == 0);
+            assert!(rt; written_len == all.len());
+            assert!(rt; told_len == 0);
+        }
+    }
+    Ok(())
+}
+
+/// So many lines that their frames are written some at a time: the first 40961 bytes, then 40960 bytes each time.
+const MANY: usize = 10_000;
+
+#[test]
+fn packs_some_at_a_time(rt: HostRuntime) -> Result<(), Fail> {
+    let text = times(rt.alloc(), b"", b"letters\n", MANY)?;
+    let framed = times(rt.alloc(), b"\0", b"\x09\x07letters\0", MANY)?;
+    expect_front(&rt, given(Mode::Pack, false, &text), &framed)?;
+    for before in [0, 1, 40960, 40961, 40962, 81921, 81922, 100_000] {
+        for fault in [Fault::Fail, Fault::Nothing] {
+            let failing = Setting {
+                write_fault: Some((before, fault)),
+                ..given(Mode::Pack, false, &text)
+            };
+            expect_front(&rt, failing, &framed)?;
+        }
+    }
+    Ok(())
+}
+
+#[test]
+fn packs_digits_some_at_a_time(rt: HostRuntime) -> Result<(), Fail> {
+    let text = times(rt.alloc(), b"", b"letters\n", MANY)?;
+    let mut digits = times(rt.alloc(), b"00", b"09076c65747465727300", MANY)?;
+    digits.push(b'\n')?;
+    expect_front(&rt, given(Mode::Pack, true, &text), &digits)?;
+    for before in [0, 1, 81921, 81922, 81923, 163_843, 200_002] {
+        let failing = Setting {
+            write_fault: Some((before, Fault::Fail)),
+            ..given(Mode::Pack, true, &text)
+        };
+        expect_front(&rt, failing, &digits)?;
+    }
     Ok(())
 }
 

@@ -1,12 +1,12 @@
 use Rattle.framed.specs.Sending.{refusals}
 use Rattle.framed.proofs.OutputLemmas.{put-flush}
 use Rattle.framed.proofs.SendingLemmas.{all-first, before-first}
-use Rattle.framed.proofs.pack.say_lines.Goals as goal
+use Rattle.framed.proofs.refusals.say_refusals.Goals as goal
 
 pub returns-in-Err-write_whole : goal.returns-in-Err-write_whole
 returns-in-Err-write_whole g c =
     let sent = c.in-Ok.ensures in
-    (refusals 1 sent.0, all-first c.args.text.now sent.0 sent.1, put-flush sent.4 (rw c.as_slice.ensures.value at c.in-Err-write_whole.ensures.err))
+    (refusals 1 sent.0, all-first c.args.text.now sent.0 sent.1, put-flush sent.3 (rw c.as_slice.ensures.value at c.in-Err-write_whole.ensures.err))
 
 pub returns-in-Err-write_whole-2 : goal.returns-in-Err-write_whole-2
 returns-in-Err-write_whole-2 g c =

@@ -2,7 +2,7 @@ use Rattle.std.proofs.Common.{◌≡◌, [], ◌∷◌, ◌++◌, refl, sym, ◌
 use Rattle.std.specs.Prelude.{codes, decimal}
 use Rattle.std.proofs.lemmas.Result.{on_ok_weaker, on_err_weaker}
 use Rattle.framed.proofs.OutputLemmas.{on_err, put-none, put-then, put-breaks}
-use Rattle.framed.proofs.pack.refuse.Goals as goal
+use Rattle.framed.proofs.refusals.refuse.Goals as goal
 
 pub returns-in_err-put-clause-err : goal.returns-in_err-put-clause-err
 returns-in_err-put-clause-err g c =
