@@ -103,6 +103,19 @@ fn packs_up_to_the_limit(rt: HostRuntime) {
     );
 }
 
+/// A zero takes one byte of a frame, wherever it stands: 1021 zeros have a frame of 1024 bytes, and 1022 one of 1025.
+#[test]
+fn packs_zeros_up_to_the_limit(rt: HostRuntime) {
+    let zeros = [0u8; 1022];
+    let mut framed = [1u8; 1026];
+    framed[..4].copy_from_slice(b"\x00\x03\xfd\x07");
+    framed[1025] = 0;
+    let fitting = given(Mode::Pack, false, &zeros[..1021]);
+    expect(&rt, fitting, &framed, b"", 0);
+    let said = b"line 1: refused\n";
+    expect(&rt, given(Mode::Pack, false, &zeros), b"", said, 1);
+}
+
 #[test]
 fn unpacks_hex(rt: HostRuntime) {
     let said = b"value hi\nvalue \nvalue A\n";
