@@ -14,16 +14,28 @@ use std::io;
 use std::io::{ErrorKind, Write};
 use std::test::Fail;
 
-/// Writes a number into a slice by a flavor that is lent, and reads the slice afterwards.
-fn fill(value: u32, room: &mut [u8]) -> Answer<usize>
-    ensures { IfOk result (λ n. take n room.new ≡ short (number 32 value)) }
+/// Writes a number into a slice by a flavor that is lent, and gives the whole slice back.
+fn fill_and_return<'a>(value: u32, room: &'a mut [u8]) -> (&'a mut [u8], Answer<usize>)
+    ensures same_reference { result.0.ghost_name ≡ room.entry.ghost_name }
+    ensures bytes { IfOk result.1 (λ n. take n result.0.now ≡ short (number 32 value)) }
 {
     let mut slice = Slice::new(room);
     let mut serializer = Serializer { output: &mut slice };
-    value.serialize(&mut serializer)?;
+    let answer = value.serialize(&mut serializer);
     let n = slice.held();
-    slice.into_inner();
-    Ok(n)
+    let whole = slice.into_inner();
+    match answer {
+        Ok(()) => (whole, Ok(n)),
+        Err(cause) => (whole, Err(cause)),
+    }
+}
+
+/// Writes a number into a slice. What the slice holds afterwards is known, since it was given back.
+fn fill(value: u32, room: &mut [u8]) -> Answer<usize>
+    ensures { IfOk result (λ n. take n room.new ≡ short (number 32 value)) }
+{
+    let (_, answer) = fill_and_return(value, room);
+    answer
 }
 
 /// Pushes a byte, changes it, and reads it.
