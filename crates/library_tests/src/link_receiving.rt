@@ -1,10 +1,13 @@
 //! `link`, receiving: answers to streams in pieces, from readers, and in place.
+ghost use Rattle.std.specs.Prelude.{◌≤◌, length};
+
 use line_io::memory::In;
 use link::{
     Answer, End, NoMemory, Pushed, Receiver, read_in_place, receive, receive_by_accumulator,
 };
 use std::alloc::Global;
 use std::collections::BTreeMap;
+use std::process::Abort;
 use std::test::Fail;
 
 // The one answer of a receiver of up to 256 bytes to these bytes.
@@ -137,6 +140,94 @@ fn either_frame(rt: HostRuntime) -> Result<(), Fail> {
         }
     }
     Ok(())
+}
+
+// Whether an answer is a damaged stretch, and else it is a value of 252 ones.
+fn is_damaged(rt: &impl Abort, answer: Answer<Vec<u8>>) -> bool {
+    match answer {
+        Answer::Value(bytes) => {
+            assert!(rt; bytes[..] == [1; 252]);
+            false
+        }
+        Answer::Damaged => true,
+        _ => {
+            assert!(rt; false);
+            false
+        }
+    }
+}
+
+// The next answer in a piece, ordinarily or strictly, and how many bytes it took.
+fn next(
+    rt: &impl Abort,
+    alloc: Global,
+    receiver: &mut Receiver<256>,
+    piece: &[u8],
+    strict: bool,
+) -> (usize, Option<bool>)
+    ensures { result.0 ≤ length piece.now }
+{
+    let Pushed { used, answer } = if strict {
+        receiver.push_strict::<Vec<u8>>(alloc, piece)
+    } else {
+        receiver.push::<Vec<u8>>(alloc, piece)
+    };
+    match answer {
+        Ok(Some(answer)) => (used, Some(is_damaged(rt, answer))),
+        Ok(None) => (used, None),
+        Err(_) => {
+            assert!(rt; false);
+            (used, None)
+        }
+    }
+}
+
+// Takes in a piece to its end. Answers how many answers came, and how many of them were damaged stretches.
+fn taken(
+    rt: &impl Abort,
+    alloc: Global,
+    receiver: &mut Receiver<256>,
+    piece: &[u8],
+    strict: bool,
+) -> (u8, u8) {
+    let mut rest = piece;
+    let mut damaged = 0u8;
+    for answers in 0..3 {
+        let (used, answer) = next(rt, alloc, receiver, rest, strict);
+        match answer {
+            Some(true) => damaged = damaged.saturating_add(1),
+            Some(false) => {}
+            None => return (answers, damaged),
+        }
+        rest = &rest[used..];
+    }
+    (3, damaged)
+}
+
+#[test]
+fn either_frame_cut_anywhere(rt: HostRuntime) {
+    let mut stream = [1u8; 513];
+    stream[0] = 255;
+    stream[1] = 252;
+    stream[256] = 0;
+    stream[257] = 255;
+    stream[258] = 252;
+    stream[512] = 0;
+    for cut in 0..514 {
+        let (before, behind) = match cut {
+            0..=256 => (0, 2),
+            257..=512 => (1, 1),
+            _ => (2, 0),
+        };
+        let (first, last) = stream.split_at(cut);
+        let mut receiver = Receiver::<256>::new();
+        assert!(rt; taken(&rt, rt.alloc(), &mut receiver, first, false) == (before, 0));
+        assert!(rt; taken(&rt, rt.alloc(), &mut receiver, last, false) == (behind, 0));
+        let mut receiver = Receiver::<256>::new();
+        let refused = if before == 0 { 0 } else { 1 };
+        assert!(rt; taken(&rt, rt.alloc(), &mut receiver, first, true) == (before, refused));
+        assert!(rt; taken(&rt, rt.alloc(), &mut receiver, last, true) == (behind, 1 - refused));
+    }
 }
 
 #[test]
