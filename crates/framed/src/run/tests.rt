@@ -168,6 +168,18 @@ fn refuses_bad_hex(rt: HostRuntime) {
     }
 }
 
+/// The digits are read some at a time: the last of many isn't one.
+#[test]
+fn refuses_late_bad_hex(rt: HostRuntime) -> Result<(), Fail> {
+    let mut digits = repeated(rt.alloc(), b"00", b"09076C65747465727300")?;
+    digits.push(b'g')?;
+    let said = b"bad hex\n";
+    expect_long(&rt, given(Mode::Unpack, true, &digits), b"", said, 2);
+    digits.push(b'0')?;
+    expect_long(&rt, given(Mode::Unpack, true, &digits), b"", said, 2);
+    Ok(())
+}
+
 /// Stretches that hold no text, one that is too long, and one that nothing ends.
 #[test]
 fn unpacks(rt: HostRuntime) {
