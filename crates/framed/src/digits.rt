@@ -7,7 +7,7 @@ use crate::devices::{WriteFault, write_whole};
 use line_io::Outlet;
 
 /// How many bytes are turned into digits at once.
-const AT_ONCE: usize = 2048;
+const AT_ONCE: usize = 16384;
 
 /// Writes the digits of a few bytes, by way of the room.
 fn write_few<W: Outlet>(writer: &mut W, bytes: &[u8], room: &mut [u8]) -> Result<(), WriteFault>

@@ -9,6 +9,7 @@ use crate::output::{Held, put};
 use arrayvec::ArrayVec;
 use line_io::Outlet;
 use link::Answer;
+use memchr::memchr2;
 
 /// The bytes before the first that is escaped, how that one is written, and the bytes after it.
 fn split_at_escape(text: &[u8]) -> Option<(&[u8], &[u8], &[u8])>
@@ -16,15 +17,13 @@ fn split_at_escape(text: &[u8]) -> Option<(&[u8], &[u8], &[u8])>
         (λ p. flat_map escape text.now ≡ p.0.now ++ (p.1.now ++ flat_map escape p.2.now)) }
     ensures shorter { IfSome result (λ p. length p.2.now < length text.now) }
 {
-    for (at, b) in text.iter().enumerate() {
-        if *b == b'\\' {
-            return Some((&text[..at], b"\\\\", &text[at + 1..]));
-        }
-        if *b == b'\n' {
-            return Some((&text[..at], b"\\n", &text[at + 1..]));
-        }
+    let Some(at) = memchr2(b'\\', b'\n', text) else {
+        return None;
+    };
+    if text[at] == b'\\' {
+        return Some((&text[..at], b"\\\\", &text[at + 1..]));
     }
-    None
+    Some((&text[..at], b"\\n", &text[at + 1..]))
 }
 
 /// Puts the text, with a backslash before each backslash, and each line feed as `\n`.

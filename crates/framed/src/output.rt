@@ -7,7 +7,7 @@ use arrayvec::ArrayVec;
 use line_io::Outlet;
 
 /// How many bytes are held back, to be written at once.
-pub const ROOM: usize = 4096;
+pub const ROOM: usize = 65536;
 
 /// Bytes on their way to an outlet.
 pub type Held = ArrayVec<u8, ROOM>;

@@ -453,7 +453,7 @@ fn long_streams_that_fail(rt: HostRuntime) -> Result<(), Fail> {
     Ok(())
 }
 
-/// Packs into a writer that fails after so many bytes, and compares what it has with the front of all that is to be
+/// Runs with a writer that fails after so many bytes, and compares what it has with the front of all that is to be
 /// written, and the status with that of its failing.
 fn expect_front<R: AllocGlobal + Abort>(
     rt: &R,
@@ -526,6 +526,24 @@ fn packs_digits_some_at_a_time(rt: HostRuntime) -> Result<(), Fail> {
         expect_front(&rt, failing, &digits)?;
     }
     Ok(())
+}
+
+/// So many answers that their lines are written some at a time.
+#[test]
+fn unpacks_some_at_a_time(rt: HostRuntime) -> Result<(), Fail> {
+    let said = times(rt.alloc(), b"", b"value letters\n", MANY)?;
+    let framed = times(rt.alloc(), b"\0", b"\x09\x07letters\0", MANY)?;
+    expect_front(&rt, given(Mode::Unpack, false, &framed), &said)?;
+    for before in [0, 1, 65534, 65535, 65536, 65537, 140_000 - 1] {
+        let failing = Setting {
+            write_fault: Some((before, Fault::Fail)),
+            ..given(Mode::Unpack, false, &framed)
+        };
+        expect_front(&rt, failing, &said)?;
+    }
+    let digits = times(rt.alloc(), b"00", b"09076C65747465727300", MANY)?;
+    expect_front(&rt, given(Mode::Unpack, true, &digits), &said)?;
+    expect_front(&rt, given(Mode::Strict, true, &digits), &said)
 }
 
 /// To be run with each growth refused in turn: `rt try --test --fail-alloc N`. The other tests ask for the whole.
