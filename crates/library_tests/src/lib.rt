@@ -15,11 +15,15 @@ mod line_io_memory;
 #[cfg(test)]
 mod line_io_streams;
 #[cfg(test)]
+mod link_faults;
+#[cfg(test)]
 mod link_lines;
 #[cfg(test)]
 mod link_receiving;
 #[cfg(test)]
 mod link_sending;
+#[cfg(test)]
+mod malicious;
 #[cfg(test)]
 mod messages;
 #[cfg(test)]
@@ -28,6 +32,8 @@ mod postcard_frames;
 mod postcard_reading;
 #[cfg(test)]
 mod postcard_writing;
+#[cfg(test)]
+mod refused_growths;
 #[cfg(test)]
 mod ser_calls;
 #[cfg(test)]

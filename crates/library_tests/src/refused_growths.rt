@@ -1,0 +1,376 @@
+//! Want of memory: in a run in which a growth is refused, each call answers so or gives its whole answer.
+//!
+//! The tests whose names begin with `said` are also run with each growth refused in turn, by `.ci/refusals`. In the gate
+//! none is refused, and `whole_answers` passes too.
+use cobs::{CobsDecoderOwned, DecodeVecError};
+use line_io::memory::{In, Out};
+use link::{
+    Answer, End, Fate, NoMemory, Pushed, Receiver, Sender, read_in_place, receive,
+    receive_by_accumulator, receive_strict, send_each,
+};
+use postcard::accumulator::{CobsAccumulator, FeedResult};
+use postcard::experimental::serialized_size;
+use postcard::{
+    Error, from_bytes, from_bytes_cobs, from_bytes_owned, from_io, take_from_bytes,
+    take_from_bytes_cobs, to_allocvec, to_allocvec_cobs, to_extend, to_io, to_slice, to_slice_cobs,
+    to_stdvec, to_stdvec_cobs, to_vec, to_vec_cobs,
+};
+use samples::Chain;
+use std::alloc::AllocError;
+use std::collections::BTreeMap;
+use std::process::Abort;
+use std::test::Fail;
+
+/// What was answered so far: how many calls found no memory.
+#[derive(Drop)]
+struct Wants {
+    count: usize,
+}
+
+impl Wants {
+    fn add(&mut self) {
+        self.count = self.count.saturating_add(1);
+    }
+
+    /// The value; nothing at want of memory, and no other refusal.
+    fn value<T: Drop>(&mut self, rt: &impl Abort, answer: postcard::Result<T>) -> Option<T> {
+        match answer {
+            Ok(value) => Some(value),
+            Err(cause) => {
+                assert!(rt; cause == Error::OutOfMemory);
+                self.add();
+                None
+            }
+        }
+    }
+
+    /// These bytes, or want of memory.
+    fn bytes(&mut self, rt: &impl Abort, answer: Option<Vec<u8>>, whole: &[u8]) {
+        match answer {
+            Some(bytes) => assert!(rt; bytes.as_slice() == whole),
+            None => self.add(),
+        }
+    }
+
+    /// These bytes, or want of memory, by a call of `postcard`.
+    fn written(&mut self, rt: &impl Abort, answer: postcard::Result<Vec<u8>>, whole: &[u8]) {
+        if let Some(bytes) = self.value(rt, answer) {
+            assert!(rt; bytes.as_slice() == whole);
+        }
+    }
+
+    /// These bytes, or want of memory, by a call of `cobs` that decodes.
+    fn decoded(&mut self, rt: &impl Abort, answer: Result<Vec<u8>, DecodeVecError>, whole: &[u8]) {
+        match answer {
+            Ok(bytes) => assert!(rt; bytes.as_slice() == whole),
+            Err(cause) => {
+                assert!(rt; cause == DecodeVecError::OutOfMemory);
+                self.add();
+            }
+        }
+    }
+
+    /// This value of a frame, or want of memory.
+    fn answered(
+        &mut self,
+        rt: &impl Abort,
+        answer: Result<Option<Answer<Vec<u8>>>, NoMemory>,
+        whole: &[u8],
+    ) {
+        match answer {
+            Ok(Some(Answer::Value(bytes))) => assert!(rt; bytes.as_slice() == whole),
+            Ok(_) => assert!(rt; false),
+            Err(NoMemory) => self.add(),
+        }
+    }
+}
+
+// 10, 11, 0, 12
+const MESSAGE: [u8; 4] = [10, 11, 0, 12];
+
+/// The vector forms of `cobs`, and the decoder that owns its room.
+fn frame<R: AllocGlobal + Abort>(rt: &R, wants: &mut Wants) {
+    let alloc = rt.alloc();
+    wants.bytes(
+        rt,
+        cobs::encode_vec(alloc, &MESSAGE).ok(),
+        &[3, 10, 11, 2, 12],
+    );
+    let between = cobs::encode_vec_including_sentinels(alloc, &MESSAGE).ok();
+    wants.bytes(rt, between, &[0, 3, 10, 11, 2, 12, 0]);
+    let masked = cobs::encode_vec_with_sentinel(alloc, &MESSAGE, 10).ok();
+    wants.bytes(rt, masked, &[9, 0, 1, 8, 6]);
+    wants.decoded(rt, cobs::decode_vec(alloc, &[3, 10, 11, 2, 12]), &MESSAGE);
+    let unmasked = cobs::decode_vec_with_sentinel(alloc, &[9, 0, 1, 8, 6], 10);
+    wants.decoded(rt, unmasked, &MESSAGE);
+    match CobsDecoderOwned::new(alloc, 3) {
+        Ok(mut decoder) => {
+            assert!(rt; decoder.dest() == [0, 0, 0].as_slice());
+            assert!(rt; decoder.push(&[2, 7, 0]).is_ok());
+            assert!(rt; decoder.dest() == [7, 0, 0].as_slice());
+        }
+        Err(AllocError) => wants.add(),
+    }
+}
+
+/// Calls that write into a vector.
+fn write<R: AllocGlobal + Abort>(rt: &R, wants: &mut Wants) {
+    let alloc = rt.alloc();
+    let value = (1u8, 10u32, "Hello!");
+    let whole = [1u8, 10, 6, 0x48, 0x65, 0x6C, 0x6C, 0x6F, 0x21];
+    wants.written(rt, to_allocvec(alloc, &value), &whole);
+    wants.written(rt, to_stdvec(alloc, &value), &whole);
+    wants.written(rt, to_extend(&value, Vec::new(alloc)), &whole);
+    let framed = [5u8, 3, 0x48, 0x69, 0x21, 0];
+    wants.written(rt, to_allocvec_cobs(alloc, &"Hi!"), &framed);
+    wants.written(rt, to_stdvec_cobs(alloc, &"Hi!"), &framed);
+    let ones = [1u8; 40];
+    let mut long = [1u8; 41];
+    long[0] = 40;
+    wants.written(rt, to_allocvec(alloc, &&ones[..]), &long);
+    wants.written(rt, to_extend(&&ones[..], Vec::new(alloc)), &long);
+}
+
+/// Values that ask for memory.
+fn read<R: AllocGlobal + Abort>(rt: &R, wants: &mut Wants) {
+    let alloc = rt.alloc();
+    if let Some(text) = wants.value(rt, from_bytes::<String>(alloc, &[3, 0x48, 0x69, 0x21])) {
+        assert!(rt; text.as_str() == "Hi!");
+    }
+    let mut long = [1u8; 41];
+    long[0] = 40;
+    wants.written(rt, from_bytes::<Vec<u8>>(alloc, &long), &[1; 40]);
+    if let Some(boxed) = wants.value(rt, from_bytes::<Box<u8>>(alloc, &[7])) {
+        assert!(rt; *boxed == 7);
+    }
+    if let Some(map) = wants.value(rt, from_bytes::<BTreeMap<u8, u8>>(alloc, &[2, 2, 6, 1, 5])) {
+        assert!(rt; map.len() == 2 && map.get(&1) == Some(&5) && map.get(&2) == Some(&6));
+    }
+    if let Some(chain) = wants.value(rt, from_bytes::<Chain>(alloc, &[1, 7, 1, 8, 0])) {
+        let bytes = to_vec::<_, 8>(&chain);
+        assert!(rt; matches!(&bytes, Ok(bytes) if bytes.as_slice() == [1, 7, 1, 8, 0].as_slice()));
+    }
+}
+
+/// Frames of values that ask for memory.
+fn read_frames<R: AllocGlobal + Abort>(rt: &R, wants: &mut Wants) {
+    let alloc = rt.alloc();
+    let mut line = [3u8, 1, 7, 0, 9];
+    wants.written(rt, from_bytes_cobs::<Vec<u8>>(alloc, &mut line), &[7]);
+    let mut line = [3u8, 1, 7, 0, 9];
+    if let Some((bytes, rest)) = wants.value(
+        rt,
+        take_from_bytes_cobs::<Vec<u8>>(alloc, &mut line),
+    ) {
+        assert!(rt; bytes.as_slice() == [7].as_slice());
+        assert!(rt; rest.len() == 1);
+    }
+    let mut line = [3u8, 1, 7, 0, 9];
+    match read_in_place::<Vec<u8>>(alloc, &mut line) {
+        Some((answer, rest)) => {
+            assert!(rt; rest.len() == 1);
+            wants.answered(rt, answer.map(Some), &[7]);
+        }
+        None => assert!(rt; false),
+    }
+}
+
+/// An accumulator answers a frame by `DeserError` where no memory is found, and goes on behind it.
+fn feed<R: AllocGlobal + Abort>(rt: &R, wants: &mut Wants) {
+    let mut accumulator: CobsAccumulator<8> = CobsAccumulator::new();
+    let line = [3u8, 1, 7, 0, 3, 1, 8, 0];
+    for (piece, left, whole) in [(&line[..], 4, 7u8), (&line[4..], 0, 8)] {
+        match accumulator.feed::<Vec<u8>>(rt.alloc(), piece) {
+            FeedResult::Success { value, remaining } => {
+                assert!(rt; value.as_slice() == [whole].as_slice() && remaining.len() == left);
+            }
+            FeedResult::DeserError(remaining) => {
+                assert!(rt; remaining.len() == left);
+                wants.add();
+            }
+            _ => assert!(rt; false),
+        }
+    }
+}
+
+/// A receiver is between stretches behind a frame for which no memory was found, and goes on.
+fn push<R: AllocGlobal + Abort>(rt: &R, wants: &mut Wants) {
+    let line = [3u8, 1, 7, 0, 3, 1, 8, 0];
+    let mut receiver = Receiver::<8>::new();
+    let Pushed { used, answer } = receiver.push::<Vec<u8>>(rt.alloc(), &line);
+    assert!(rt; used == 4 && receiver.is_between());
+    wants.answered(rt, answer, &[7]);
+    let Pushed { used, answer } = receiver.push::<Vec<u8>>(rt.alloc(), &line[4..]);
+    assert!(rt; used == 4 && receiver.is_between());
+    wants.answered(rt, answer, &[8]);
+    let Pushed { used, answer } = receiver.push_strict::<Vec<u8>>(rt.alloc(), &line);
+    assert!(rt; used == 4 && receiver.is_between());
+    wants.answered(rt, answer, &[7]);
+}
+
+// Six frames: the vectors of one byte, from 1 to 6.
+const LINE: [u8; 24] = [
+    3, 1, 1, 0, 3, 1, 2, 0, 3, 1, 3, 0, 3, 1, 4, 0, 3, 1, 5, 0, 3, 1, 6, 0,
+];
+
+impl Wants {
+    /// All six values, or the first ones and want of memory.
+    fn received(&mut self, rt: &impl Abort, answers: &[Answer<Vec<u8>>], end: End) {
+        let mut next = 1u8;
+        for answer in answers {
+            match answer {
+                Answer::Value(bytes) => assert!(rt; bytes.as_slice() == [next].as_slice()),
+                _ => assert!(rt; false),
+            }
+            next = next.saturating_add(1);
+        }
+        assert!(rt;
+            end == if answers.len() == 6 {
+                End::Ended
+            } else {
+                End::NoMemory
+            }
+        );
+        if end == End::NoMemory {
+            self.add();
+        }
+    }
+
+    /// The six values, but that one may be left out; or the first ones and want of memory.
+    fn gathered(&mut self, rt: &impl Abort, values: &[Vec<u8>], end: End) {
+        let mut last = 0u8;
+        for value in values {
+            assert!(rt; value.len() == 1);
+            assert!(rt; last < value[0] && value[0] <= 6);
+            last = value[0];
+        }
+        match end {
+            End::Ended => assert!(rt; values.len() >= 5),
+            End::NoMemory => assert!(rt; usize::from(last) == values.len()),
+            End::ReadFault => assert!(rt; false),
+        }
+        if values.len() < 6 {
+            self.add();
+        }
+    }
+}
+
+/// Receptions to the end, in pieces of some sizes.
+fn listen<R: AllocGlobal + Abort>(rt: &R, wants: &mut Wants) {
+    for each in [1, 7, 24] {
+        let got = receive::<Vec<u8>, _, 8>(rt.alloc(), In::new(&LINE, each, None));
+        wants.received(rt, &got.answers, got.end);
+        let got = receive_strict::<Vec<u8>, _, 8>(rt.alloc(), In::new(&LINE, each, None));
+        wants.received(rt, &got.answers, got.end);
+        let got = receive_by_accumulator::<Vec<u8>, _, 8>(rt.alloc(), In::new(&LINE, each, None));
+        wants.gathered(rt, &got.values, got.end);
+    }
+}
+
+#[test]
+fn said_by_frames(rt: HostRuntime) {
+    let mut wants = Wants { count: 0 };
+    frame(&rt, &mut wants);
+    assert!(rt; wants.count <= 1);
+}
+
+#[test]
+fn said_by_writing(rt: HostRuntime) {
+    let mut wants = Wants { count: 0 };
+    write(&rt, &mut wants);
+    assert!(rt; wants.count <= 1);
+}
+
+#[test]
+fn said_by_reading(rt: HostRuntime) {
+    let mut wants = Wants { count: 0 };
+    read(&rt, &mut wants);
+    read_frames(&rt, &mut wants);
+    assert!(rt; wants.count <= 1);
+}
+
+#[test]
+fn said_by_receiving(rt: HostRuntime) {
+    let mut wants = Wants { count: 0 };
+    feed(&rt, &mut wants);
+    push(&rt, &mut wants);
+    listen(&rt, &mut wants);
+    assert!(rt; wants.count <= 1);
+}
+
+#[test]
+fn whole_answers(rt: HostRuntime) {
+    let mut wants = Wants { count: 0 };
+    frame(&rt, &mut wants);
+    write(&rt, &mut wants);
+    read(&rt, &mut wants);
+    read_frames(&rt, &mut wants);
+    feed(&rt, &mut wants);
+    push(&rt, &mut wants);
+    listen(&rt, &mut wants);
+    assert!(rt; wants.count == 0);
+}
+
+/// No growth is asked for: with each one refused in turn this test meets none.
+#[test]
+fn none_asked_by_cobs_and_sending(rt: HostRuntime) -> Result<(), Fail> {
+    let mut room = [0u8; 8];
+    assert!(rt; cobs::encode(&MESSAGE, &mut room) == 5);
+    assert!(rt; cobs::try_encode(&MESSAGE, &mut room) == Ok(5));
+    let mut back = [0u8; 4];
+    assert!(rt; cobs::decode(&room[..5], &mut back).is_ok() && back == MESSAGE);
+    assert!(rt; cobs::decode_in_place(&mut room[..5]) == Ok(4));
+    let mut room = [0u8; 16];
+    let mut sender = Sender::<_, 8>::new(Out::new(&mut room, 1, None));
+    assert!(rt; sender.send(&300u32) == Ok(()));
+    assert!(rt; sender.into_inner().moved() == 5);
+    let mut fates = [Fate::Refused; 1];
+    let out = send_each::<u32, _, 8>(Out::new(&mut room, 1, None), &[300], &mut fates);
+    assert!(rt; out.moved() == 5 && fates == [Fate::Done]);
+    drop(out);
+    assert!(rt; to_slice(&"Hi!", &mut room)?.len() == 4);
+    assert!(rt; to_slice_cobs(&"Hi!", &mut room)?.len() == 6);
+    assert!(rt; to_vec::<_, 4>(&"Hi!")?.len() == 4 && to_vec_cobs::<_, 6>(&"Hi!")?.len() == 6);
+    to_io(&"Hi!", &mut room[..])?;
+    assert!(rt; serialized_size(&"Hi!") == Ok(4));
+    Ok(())
+}
+
+/// As above, for values that can't ask for memory.
+#[test]
+fn none_asked_by_receiving(rt: HostRuntime) -> Result<(), Fail> {
+    let alloc = rt.alloc();
+    let bytes = [3u8, 0x48, 0x69, 0x21];
+    assert!(rt; from_bytes::<&str>(alloc, &bytes)? == "Hi!");
+    assert!(rt; from_bytes_owned::<[u8; 4]>(alloc, &bytes)? == bytes);
+    assert!(rt; take_from_bytes::<u8>(alloc, &bytes)?.0 == 3);
+    let mut buffer = [0u8; 3];
+    assert!(rt; from_io::<&str, _>(alloc, (bytes.as_slice(), &mut buffer))?.0 == "Hi!");
+    let mut line = [2u8, 5, 0, 2, 6, 0];
+    let mut receiver = Receiver::<8>::new();
+    assert!(rt; receiver.push::<u32>(alloc, &line).answer == Ok(Some(Answer::Value(5))));
+    assert!(rt; receiver.push_strict::<u32>(alloc, &line).answer == Ok(Some(Answer::Value(5))));
+    assert!(rt; receiver.push_ref::<u32>(alloc, &line).answer == Ok(Some(Answer::Value(5))));
+    let mut accumulator: CobsAccumulator<8> = CobsAccumulator::new();
+    assert!(rt;
+        matches!(
+            &accumulator.feed::<u32>(alloc, &line),
+            FeedResult::Success { value: 5, .. }
+        )
+    );
+    assert!(rt;
+        matches!(
+            &accumulator.feed_ref::<u32>(alloc, &line),
+            FeedResult::Success { value: 5, .. }
+        )
+    );
+    let mut copy = line;
+    assert!(rt; take_from_bytes_cobs::<u32>(alloc, &mut copy)?.0 == 5);
+    let mut copy = line;
+    assert!(rt; from_bytes_cobs::<u32>(alloc, &mut copy) == Ok(5));
+    match read_in_place::<u32>(alloc, &mut line) {
+        Some((answer, rest)) => assert!(rt; answer == Ok(Answer::Value(5)) && rest.len() == 3),
+        None => assert!(rt; false),
+    }
+    Ok(())
+}
