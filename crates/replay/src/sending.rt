@@ -12,7 +12,7 @@ use crate::words::{Trouble, bytes_of, digits};
 use line_io::memory::{Fault, Out};
 use line_io::{Outlet, Reads};
 use link::{Fate, SendError, Sender, send_each};
-use postcard::{DeserializeOwned, Serialize};
+use postcard::{DeserializeOwned, Error, Serialize};
 use std::alloc::Global;
 
 /// How many bytes a stretch of the line has at most, where it is received.
@@ -116,8 +116,10 @@ fn values_of<T: DeserializeOwned + Shown>(
     for word in words.split(';') {
         let (wanted, bytes) = word.rsplit_once(':').ok_or(Trouble::Unreadable)?;
         let bytes = bytes_of(alloc, bytes)?;
-        let Ok(value) = postcard::from_bytes_owned::<T>(alloc, &bytes) else {
-            return Err(Trouble::Unreadable);
+        let value = match postcard::from_bytes_owned::<T>(alloc, &bytes) {
+            Ok(value) => value,
+            Err(Error::OutOfMemory) => return Err(Trouble::NoMemory),
+            Err(_) => return Err(Trouble::Unreadable),
         };
         let text = shown(alloc, &value)?;
         findings.compare("from_bytes_owned", text.as_str(), wanted)?;
