@@ -219,6 +219,50 @@ fn each_call_for_bytes(rt: HostRuntime) -> Tested {
     Ok(())
 }
 
+// More elements than get room before they are read, all of them and all but the last.
+#[test]
+fn a_long_vector(rt: HostRuntime) -> Tested {
+    let mut bytes = Vec::new(rt.alloc());
+    bytes.push(0x88)?;
+    bytes.push(0x27)?;
+    for i in 0..5000u16 {
+        bytes.push((i % 251) as u8)?;
+    }
+    let items = read::<Vec<u8>>(rt.alloc(), &bytes)?;
+    assert!(rt; items.len() == 5000);
+    assert!(rt; bytes.ends_with(&items));
+    let _ = bytes.pop();
+    assert!(rt; read::<Vec<u8>>(rt.alloc(), &bytes).is_err());
+    Ok(())
+}
+
+// Counts of elements that don't follow.
+#[test]
+fn counts_alone(rt: HostRuntime) -> Tested {
+    let mut bytes = [0xFFu8; 10];
+    bytes[9] = 1;
+    assert!(rt;
+        matches!(
+            &read::<Vec<u8>>(rt.alloc(), &bytes),
+            Err(Error::DeserializeUnexpectedEnd)
+        )
+    );
+    assert!(rt;
+        matches!(
+            &read::<Vec<u32>>(rt.alloc(), &[0xFF, 0x7F, 1, 2, 3, 4, 5, 6]),
+            Err(Error::DeserializeUnexpectedEnd)
+        )
+    );
+    bytes[9] = 2;
+    assert!(rt;
+        matches!(
+            &read::<Vec<u8>>(rt.alloc(), &bytes),
+            Err(Error::DeserializeBadVarint)
+        )
+    );
+    Ok(())
+}
+
 #[test]
 fn calls_that_never_answer_read_nothing(rt: HostRuntime) -> Tested {
     let mut d = Deserializer::from_bytes(rt.alloc(), &[3]);

@@ -60,6 +60,60 @@ fn pieces(rt: HostRuntime) -> Result<(), Fail> {
     Ok(())
 }
 
+// The frame of 300 times 01, whole and cut after each byte.
+#[test]
+fn a_frame_whole_and_in_two(rt: HostRuntime) -> Result<(), Fail> {
+    let mut frame = [1u8; 305];
+    frame[0] = 0xFF;
+    frame[1] = 0xAC;
+    frame[2] = 0x02;
+    frame[255] = 49;
+    frame[304] = 0;
+    for cut in 0..305 {
+        let (front, rest) = frame.split_at(cut);
+        let mut accumulator: CobsAccumulator<305> = CobsAccumulator::new();
+        assert!(rt;
+            matches!(
+                &accumulator.feed::<Vec<u8>>(rt.alloc(), front),
+                FeedResult::Consumed
+            )
+        );
+        match accumulator.feed::<Vec<u8>>(rt.alloc(), rest) {
+            FeedResult::Success { value, remaining } => {
+                assert!(rt; value.as_slice() == [1u8; 300].as_slice());
+                assert!(rt; remaining.is_empty());
+            }
+            _ => assert!(rt; false),
+        }
+    }
+    Ok(())
+}
+
+// Whole frames that are refused: one of a block that is cut, one of no bytes, one that doesn't fit.
+#[test]
+fn whole_frames_that_are_refused(rt: HostRuntime) -> Result<(), Fail> {
+    let mut accumulator: CobsAccumulator<10> = CobsAccumulator::new();
+    assert!(rt;
+        matches!(
+            &accumulator.feed::<u8>(rt.alloc(), &[11, 1, 1, 1, 1, 1, 1, 1, 1, 0, 5]),
+            FeedResult::DeserError([5])
+        )
+    );
+    assert!(rt;
+        matches!(
+            &accumulator.feed::<u8>(rt.alloc(), &[0, 2, 7, 0, 1, 1, 1, 1, 1]),
+            FeedResult::DeserError([2, 7, 0, 1, 1, 1, 1, 1])
+        )
+    );
+    assert!(rt;
+        matches!(
+            &accumulator.feed::<u8>(rt.alloc(), &[11, 1, 1, 1, 1, 1, 1, 1, 1, 1, 1, 0, 5]),
+            FeedResult::OverFull([5])
+        )
+    );
+    Ok(())
+}
+
 // What is answered is the front of the caller's own slice.
 #[test]
 fn the_front_of_the_room(rt: HostRuntime) -> Result<(), Fail> {

@@ -32,6 +32,58 @@ fn numbers(rt: HostRuntime) -> Result<(), Fail> {
     Ok(())
 }
 
+// The first and the last number of one, two and three groups, the first of four, and the longest of 64 bits.
+#[test]
+fn numbers_of_each_length(rt: HostRuntime) -> Result<(), Fail> {
+    let mut room = [0u8; 64];
+    let mut serializer = Serializer {
+        output: Slice::new(&mut room),
+    };
+    serializer.serialize_u16(127)?;
+    serializer.serialize_u16(128)?;
+    serializer.serialize_u16(16383)?;
+    serializer.serialize_u16(16384)?;
+    serializer.serialize_u32(2097151)?;
+    serializer.serialize_u32(2097152)?;
+    serializer.serialize_u64(u64::MAX)?;
+    serializer.serialize_u128(18446744073709551616)?;
+    assert!(rt;
+        &*serializer.output.finalize()?
+            == [
+                0x7F, 0x80, 0x01, 0xFF, 0x7F, 0x80, 0x80, 0x01, 0xFF, 0xFF, 0x7F, 0x80, 0x80, 0x80,
+                0x01, 0xFF, 0xFF, 0xFF, 0xFF, 0xFF, 0xFF, 0xFF, 0xFF, 0xFF, 0x01, 0x80, 0x80, 0x80,
+                0x80, 0x80, 0x80, 0x80, 0x80, 0x80, 0x02
+            ]
+            .as_slice()
+    );
+    Ok(())
+}
+
+// Nothing of a number stays where it doesn't fit.
+#[test]
+fn numbers_are_refused_whole(rt: HostRuntime) -> Result<(), Fail> {
+    let mut serializer = Serializer {
+        output: HVec::<2>::new(),
+    };
+    assert!(rt;
+        matches!(
+            &serializer.serialize_u16(16384),
+            Err(Error::SerializeBufferFull)
+        )
+    );
+    assert!(rt; serializer.output.held() == 0);
+    assert!(rt;
+        matches!(
+            &serializer.serialize_u64(u64::MAX),
+            Err(Error::SerializeBufferFull)
+        )
+    );
+    assert!(rt; serializer.output.held() == 0);
+    serializer.serialize_u16(16383)?;
+    assert!(rt; serializer.output.finalize()?.as_slice() == [0xFF, 0x7F].as_slice());
+    Ok(())
+}
+
 #[test]
 fn texts(rt: HostRuntime) -> Result<(), Fail> {
     let mut room = [0u8; 16];
