@@ -179,14 +179,16 @@ type Grid = Vec<[Vec<Timed>; 4]>;
 
 fn print_grid(report: &mut Report, call: &str, grid: &Grid) {
     head(
-        &format!("`{call}`: time / time of the best peer (goal)"),
+        &format!("`{call}`: time / time of the best peer (goal), time"),
         &["Bytes", KINDS[0], KINDS[1], KINDS[2], KINDS[3]],
     );
     for (&len, times) in LENGTHS.iter().zip(grid) {
         let mut cells = vec![size(len)];
         for (kind, timed) in times.iter().enumerate() {
             let what = format!("`{call}`, {}, {}", size(len), KINDS[kind]);
-            cells.push(report.cell(&what, timed, call, goal(call, len, kind)));
+            let ratio = report.ratio(&what, timed, call, goal(call, len, kind));
+            let ours = named(timed, Side::Ours, call).expect("our way is timed");
+            cells.push(format!("{ratio}, {}", duration(ours)));
             if len == LARGE {
                 report.change(&what, timed, call);
             }
@@ -285,7 +287,7 @@ fn print_stream(report: &mut Report, what: &str, piece: usize, timed: &[Timed], 
     for peer in timed.iter().filter(|t| t.side == Side::Peer) {
         cells.push(format!("{} ({})", duration(peer.median), peer.name));
     }
-    cells.push(report.cell(&what, timed, ours.name, Some(goal)));
+    cells.push(report.ratio(&what, timed, ours.name, Some(goal)));
     report.change(&what, timed, ours.name);
     row(&cells);
 }
@@ -427,7 +429,7 @@ fn print_record(report: &mut Report, call: &str, timed: &[Timed], goal: f64) {
     }
     cells.push(peers.join("; "));
     let what = format!("a record's `{call}`");
-    cells.push(report.cell(&what, timed, call, Some(goal)));
+    cells.push(report.ratio(&what, timed, call, Some(goal)));
     report.change(&what, timed, call);
     row(&cells);
 }

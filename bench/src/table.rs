@@ -60,7 +60,7 @@ impl Report {
     }
 
     /// The cell of our way with this name: its ratio to the quickest peer, and the goal. Keeps both.
-    pub fn cell(&mut self, what: &str, timed: &[Timed], name: &str, goal: Option<f64>) -> String {
+    pub fn ratio(&mut self, what: &str, timed: &[Timed], name: &str, goal: Option<f64>) -> String {
         let now = named(timed, Side::Ours, name).expect("our way is timed");
         let ratio = now / best_peer(timed).median;
         let Some(goal) = goal else {
