@@ -28,8 +28,8 @@ impl<'a> Slice<'a> {
         }
     }
 
-    /// The whole slice: the bytes that were pushed, and behind them those that weren't written. A caller that lent it, and
-    /// wants its own contract to say what it holds, ends the flavor so.
+    /// The whole slice: the bytes that were pushed, and behind them those that weren't written. A function that ends the
+    /// flavor so and returns the slice can tell, by its contract, whoever lent the slice what it holds afterwards.
     ///
     /// ```
     /// let mut slice = Slice::new(&mut room); // four bytes
