@@ -1,5 +1,5 @@
 -- The laws of frames.
-use Rattle.std.specs.Prelude.{◌≡◌, ◌≢◌, ◌↔◌, ◌⊎◌, ℕ, ◌+◌, ◌-◌, ◌<◌, ◌≤◌, List, [], ◌∷◌, ◌++◌, length}
+use Rattle.std.specs.Prelude.{◌≡◌, ◌≢◌, ◌↔◌, ◌⊎◌, ℕ, ◌+◌, ◌-◌, ◌<◌, ◌≤◌, List, [], ◌∷◌, ◌++◌, length, bit_xor}
 use Rattle.std.specs.List.{AllByRecursion}
 use Rattle.cobs.specs.Frames.{NoZero, Frame, Shortest, Longest, part, missing, shortest_frame, longest_frame, most_length}
 use Rattle.cobs.specs.Cases.{OneBlock, MoreBlocks, trailing, IsFull}
@@ -50,6 +50,17 @@ HoldsNoZero = (frame message : List ℕ) → Frame frame message → NoZero fram
 -- No byte of a frame that was XORed with a sentinel is that sentinel.
 abbrev pub HoldsNoSentinel : Type 0
 HoldsNoSentinel = (sentinel : ℕ) (frame message : List ℕ) → Frame frame message → AllByRecursion (λ b. b ≢ sentinel) (masked sentinel frame)
+
+-- For the sentinel zero nothing is masked.
+abbrev pub IsUnmaskedByZero : Type 0
+IsUnmaskedByZero = (bytes : List ℕ) → masked 0 bytes ≡ bytes
+
+abbrev pub KeepsByteByZero : Type 0
+KeepsByteByZero = (byte : ℕ) → bit_xor 0 byte ≡ byte
+
+-- What is masked twice is as it was.
+abbrev pub IsUnmaskedByTwo : Type 0
+IsUnmaskedByTwo = (sentinel : ℕ) (bytes : List ℕ) → masked sentinel (masked sentinel bytes) ≡ bytes
 
 -- The shortest frame is longer than its message, and no longer than `most_length` says.
 abbrev pub IsWithinLengths : Type 0

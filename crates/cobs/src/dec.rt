@@ -8,7 +8,7 @@ ghost use Rattle.cobs.specs.InPlace.{stretch, in_place, in_place_length, overwri
 ghost use Rattle.cobs.specs.Sentinel.{masked};
 ghost use Rattle.cobs.specs.Whole.{unpadded, frame_in, decoded_from, decoded_into, message_of_stretch, message_of_frame, Refuses};
 
-use crate::enc::mask;
+use crate::masks::mask;
 use arrayvec::ArrayVec;
 use memchr::memchr;
 use std::alloc::{AllocError, Global};
