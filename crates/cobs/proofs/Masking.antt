@@ -1,11 +1,14 @@
 -- Bytes that are XORed with a sentinel, and a slice that is changed byte by byte.
-use Rattle.std.proofs.Common.{◌≡◌, ◌≢◌, ℕ, ◌+◌, ◌<◌, List, [], ◌∷◌, ◌++◌, length, take, drop, set, get_or, map, refl, sym, ◌∙◌, ap, arith, append_assoc}
+use Rattle.std.proofs.Common.{◌≡◌, ◌≢◌, ℕ, zero, suc, replicate, ◌+◌, ◌<◌, List, [], ◌∷◌, ◌++◌, length, take, drop, set, get_or, map, refl, sym, ◌∙◌, ap, arith, append_assoc}
 use Rattle.std.proofs.lemmas.List.{drop_more, set_at, get_or_at, get_or-map, map_more, map-append, map-set, take-map, drop-map, length-map, length-take-le}
 use Rattle.std.specs.Prelude.{bit_xor}
 use Rattle.std.specs.Int.Bits.{xor_assoc, xor_self}
 use Rattle.std.specs.List.{AllByRecursion}
+use borrow.Rule.Slice.PartMut.{put_mid}
 use Rattle.cobs.specs.Frames.{NoZero}
-use Rattle.cobs.specs.Sentinel.{masked}
+use Rattle.cobs.specs.Held.{pushed, Laid, GoesOn, Holds}
+use Rattle.cobs.specs.Sentinel.{masked, frame_for}
+use Rattle.cobs.proofs.Holding.{holds_new, opens_next}
 
 pub map_on : (f : ℕ → ℕ) (xs old : List ℕ) (i : ℕ) → i < length old → xs ≡ map f (take i old) ++ drop i old → set xs i (f (get_or xs i 0)) ≡ map f (take (i + 1) old) ++ drop (i + 1) old
 map_on f xs old i l e =
@@ -61,6 +64,35 @@ masked_set s bytes i byte = map-set (λ b. bit_xor s b) bytes i byte
 -- a byte that is written masked
 pub masked_put : (sentinel : ℕ) (bytes : List ℕ) (i byte : ℕ) → masked sentinel (set bytes i (bit_xor sentinel byte)) ≡ set (masked sentinel bytes) i byte
 masked_put s bytes i byte = masked_set s bytes i (bit_xor s byte) ∙ ap (set (masked s bytes) i) (xor_twice s byte)
+
+-- a row of one byte that is written masked
+pub masked_row : (sentinel n byte : ℕ) → masked sentinel (replicate n (bit_xor sentinel byte)) ≡ replicate n byte
+masked_row s zero byte = refl
+masked_row s (suc n) byte = ap (λ x. x ∷ masked s (replicate n (bit_xor s byte))) (xor_twice s byte) ∙ ap (λ x. byte ∷ x) (masked_row s n byte)
+
+-- bytes that are written over a part
+pub masked_mid : (sentinel at long : ℕ) (bytes new : List ℕ) → masked sentinel (put_mid at long bytes new) ≡ put_mid at long (masked sentinel bytes) (masked sentinel new)
+masked_mid s at long bytes new =
+    masked_append s (take at bytes) (new ++ drop long (drop at bytes)) ∙ ap (λ x. masked s (take at bytes) ++ x) (masked_append s new (drop long (drop at bytes)))
+    ∙ ap (λ x. x ++ (masked s new ++ masked s (drop long (drop at bytes)))) (sym (masked_take s at bytes))
+    ∙ ap (λ x. take at (masked s bytes) ++ (masked s new ++ x)) (sym (masked_drop s long (drop at bytes)) ∙ ap (drop long) (sym (masked_drop s at bytes)))
+
+-- a piece that is copied masked
+pub masked_piece : (sentinel at long : ℕ) (bytes piece out : List ℕ) → out ≡ masked sentinel piece → masked sentinel (put_mid at long bytes out) ≡ put_mid at long (masked sentinel bytes) piece
+masked_piece s at long bytes piece out e = masked_mid s at long bytes out ∙ ap (put_mid at long (masked s bytes)) (ap (masked s) e ∙ masked_twice s piece)
+
+-- a new encoder's buffer
+pub begins_masked : (sentinel : ℕ) (bytes : List ℕ) → 0 < length bytes → Holds (masked sentinel (set bytes 0 (bit_xor sentinel 1))) 0 1 × (pushed (masked sentinel (set bytes 0 (bit_xor sentinel 1))) 1 ≡ [])
+begins_masked s bytes h = rw (masked_put s bytes 0 1) (holds_new (masked s bytes) (omega (arith, masked_length s bytes, h)))
+
+-- a block opens behind a full one
+pub opens_masked : (sentinel : ℕ) (bytes : List ℕ) (code_at len : ℕ) → Laid (masked sentinel bytes) code_at len → len < length bytes → len ≡ code_at + 255 → GoesOn (masked sentinel bytes) code_at len (pushed (masked sentinel bytes) len)
+    → Laid (masked sentinel (set bytes len (bit_xor sentinel 1))) len (len + 1) × GoesOn (masked sentinel (set bytes len (bit_xor sentinel 1))) len (len + 1) (pushed (masked sentinel bytes) len)
+opens_masked s bytes code_at len l r o g = rw (masked_put s bytes len 1) (opens_next (masked s bytes) code_at len l (omega (arith, masked_length s bytes, r)) o g)
+
+-- the buffer's front is the frame for the sentinel
+pub front_masked : (sentinel : ℕ) (bytes : List ℕ) (code_at len : ℕ) → Holds (masked sentinel bytes) code_at len → take len bytes ≡ frame_for sentinel (pushed (masked sentinel bytes) len)
+front_masked s bytes code_at len h = sym (ap (masked s) (h.is ∙ masked_take s len bytes) ∙ masked_twice s (take len bytes))
 
 -- only zero becomes the sentinel
 becomes_sentinel : (sentinel byte : ℕ) → bit_xor sentinel byte ≡ sentinel → byte ≡ 0

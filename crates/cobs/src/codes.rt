@@ -1,24 +1,26 @@
 //! The codes of a piece that was copied into an open block: each zero of it becomes the code of the block that it begins.
 //!
 //! The first zero of a long piece is found by `memchr`, further ones by masks of 64 or 16 bytes, and a row of zeros is filled at
-//! once. Every function here has one contract, for pieces of its own length.
+//! once. Every function here has one contract, for pieces of its own length. A code is written XORed with the sentinel, as all
+//! of a frame is; the pieces are bytes of the message.
 ghost use Rattle.std.specs.Prelude.{◌≡◌, ◌≢◌, ℕ, ◌+◌, ◌<◌, ◌≤◌, List, ◌++◌, length, slice_index};
 ghost use Rattle.std.specs.Int.{bit_at};
 ghost use Rattle.cobs.specs.Codes.{InBlock, Coded, Marks};
+ghost use Rattle.cobs.specs.Sentinel.{masked};
 
 use memchr::memchr;
 use std::simd::prelude::*;
 
 // Writes a code at each zero of bytes that stand in the open block, from a place on, and answers where the last code is to be.
-fn put_codes_near(dest: &mut [u8], code_at: usize, from: usize, bytes: &[u8]) -> usize
+fn put_codes_near(dest: &mut [u8], code_at: usize, from: usize, bytes: &[u8], sentinel: u8) -> usize
     requires { InBlock dest.old code_at from bytes.now }
-    ensures { Coded dest.old code_at from bytes.now dest.new result }
+    ensures { Coded (masked sentinel dest.old) code_at from bytes.now (masked sentinel dest.new) result }
 {
     let mut code = code_at;
     for (i, byte) in bytes.iter().enumerate() {
         if *byte == 0 {
             let at = from + i;
-            dest[code] = (at - code) as u8;
+            dest[code] = sentinel ^ (at - code) as u8;
             code = at;
         }
     }
@@ -64,18 +66,25 @@ fn lowest(bits: u64) -> (usize, u64)
 
 // The same as `put_codes_near`, of at most 64 bytes, from the marks of their zeros.
 #[inline(always)]
-fn put_codes_marked(dest: &mut [u8], code_at: usize, from: usize, bytes: &[u8], marks: u64) -> usize
+fn put_codes_marked(
+    dest: &mut [u8],
+    code_at: usize,
+    from: usize,
+    bytes: &[u8],
+    marks: u64,
+    sentinel: u8,
+) -> usize
     requires block { InBlock dest.old code_at from bytes.now }
     requires few { length bytes.now ≤ 64 }
     requires marks { Marks marks 0 bytes.now }
-    ensures { Coded dest.old code_at from bytes.now dest.new result }
+    ensures { Coded (masked sentinel dest.old) code_at from bytes.now (masked sentinel dest.new) result }
 {
     let mut code = code_at;
     let mut zeros = marks;
     while zeros != 0 {
         let (n, others) = lowest(zeros);
         let at = from + n;
-        dest[code] = (at - code) as u8;
+        dest[code] = sentinel ^ (at - code) as u8;
         code = at;
         zeros = others;
     }
@@ -84,93 +93,129 @@ fn put_codes_marked(dest: &mut [u8], code_at: usize, from: usize, bytes: &[u8], 
 
 // The same as `put_codes_near`, of bytes that are all zero.
 #[inline(always)]
-fn put_codes_of_zeros(dest: &mut [u8], code_at: usize, from: usize, bytes: &[u8]) -> usize
+fn put_codes_of_zeros(
+    dest: &mut [u8],
+    code_at: usize,
+    from: usize,
+    bytes: &[u8],
+    sentinel: u8,
+) -> usize
     requires block { InBlock dest.old code_at from bytes.now }
     requires some { 0 < length bytes.now }
     requires zeros { (k : ℕ) → k < length bytes.now → slice_index bytes.now k ≡ 0 }
-    ensures { Coded dest.old code_at from bytes.now dest.new result }
+    ensures { Coded (masked sentinel dest.old) code_at from bytes.now (masked sentinel dest.new) result }
 {
     let end = from + bytes.len();
-    dest[code_at] = (from - code_at) as u8;
-    dest[from..end].fill(1);
+    dest[code_at] = sentinel ^ (from - code_at) as u8;
+    dest[from..end].fill(sentinel ^ 1);
     end - 1
 }
 
 // The same as `put_codes_near`, of 16 bytes.
 #[inline(always)]
-fn put_codes_of_16(dest: &mut [u8], code_at: usize, from: usize, bytes: &[u8]) -> usize
+fn put_codes_of_16(
+    dest: &mut [u8],
+    code_at: usize,
+    from: usize,
+    bytes: &[u8],
+    sentinel: u8,
+) -> usize
     requires block { InBlock dest.old code_at from bytes.now }
     requires long { length bytes.now ≡ 16 }
-    ensures { Coded dest.old code_at from bytes.now dest.new result }
+    ensures { Coded (masked sentinel dest.old) code_at from bytes.now (masked sentinel dest.new) result }
 {
     let marks = zeros_of_16(bytes);
     if marks == 0xffff {
-        put_codes_of_zeros(dest, code_at, from, bytes)
+        put_codes_of_zeros(dest, code_at, from, bytes, sentinel)
     } else {
-        put_codes_marked(dest, code_at, from, bytes, marks)
+        put_codes_marked(dest, code_at, from, bytes, marks, sentinel)
     }
 }
 
 // The same as `put_codes_near`, in steps of 16 bytes.
 #[inline(always)]
-fn put_codes_by_16(dest: &mut [u8], code_at: usize, from: usize, bytes: &[u8]) -> usize
+fn put_codes_by_16(
+    dest: &mut [u8],
+    code_at: usize,
+    from: usize,
+    bytes: &[u8],
+    sentinel: u8,
+) -> usize
     requires { InBlock dest.old code_at from bytes.now }
-    ensures { Coded dest.old code_at from bytes.now dest.new result }
+    ensures { Coded (masked sentinel dest.old) code_at from bytes.now (masked sentinel dest.new) result }
 {
     let mut code = code_at;
     let mut at = from;
     let mut rest = bytes;
     while rest.len() >= 16 {
         let (front, after) = rest.split_at(16);
-        code = put_codes_of_16(dest, code, at, front);
+        code = put_codes_of_16(dest, code, at, front, sentinel);
         at += 16;
         rest = after;
     }
-    put_codes_near(dest, code, at, rest)
+    put_codes_near(dest, code, at, rest, sentinel)
 }
 
 // The same as `put_codes_near`, of 64 bytes.
 #[inline(always)]
-fn put_codes_of_64(dest: &mut [u8], code_at: usize, from: usize, bytes: &[u8]) -> usize
+fn put_codes_of_64(
+    dest: &mut [u8],
+    code_at: usize,
+    from: usize,
+    bytes: &[u8],
+    sentinel: u8,
+) -> usize
     requires block { InBlock dest.old code_at from bytes.now }
     requires long { length bytes.now ≡ 64 }
-    ensures { Coded dest.old code_at from bytes.now dest.new result }
+    ensures { Coded (masked sentinel dest.old) code_at from bytes.now (masked sentinel dest.new) result }
 {
     let marks = zeros_of_64(bytes);
     if marks == u64::MAX {
-        put_codes_of_zeros(dest, code_at, from, bytes)
+        put_codes_of_zeros(dest, code_at, from, bytes, sentinel)
     } else {
-        put_codes_marked(dest, code_at, from, bytes, marks)
+        put_codes_marked(dest, code_at, from, bytes, marks, sentinel)
     }
 }
 
 // The same as `put_codes_near`, in steps of 64 bytes.
-fn put_codes_by_64(dest: &mut [u8], code_at: usize, from: usize, bytes: &[u8]) -> usize
+fn put_codes_by_64(
+    dest: &mut [u8],
+    code_at: usize,
+    from: usize,
+    bytes: &[u8],
+    sentinel: u8,
+) -> usize
     requires { InBlock dest.old code_at from bytes.now }
-    ensures { Coded dest.old code_at from bytes.now dest.new result }
+    ensures { Coded (masked sentinel dest.old) code_at from bytes.now (masked sentinel dest.new) result }
 {
     let mut code = code_at;
     let mut at = from;
     let mut rest = bytes;
     while rest.len() >= 64 {
         let (front, after) = rest.split_at(64);
-        code = put_codes_of_64(dest, code, at, front);
+        code = put_codes_of_64(dest, code, at, front, sentinel);
         at += 64;
         rest = after;
     }
-    put_codes_by_16(dest, code, at, rest)
+    put_codes_by_16(dest, code, at, rest, sentinel)
 }
 
 // The same as `put_codes_near`, of many bytes from the first zero on.
-pub(crate) fn put_codes(dest: &mut [u8], code_at: usize, from: usize, bytes: &[u8]) -> usize
+pub(crate) fn put_codes(
+    dest: &mut [u8],
+    code_at: usize,
+    from: usize,
+    bytes: &[u8],
+    sentinel: u8,
+) -> usize
     requires { InBlock dest.old code_at from bytes.now }
-    ensures { Coded dest.old code_at from bytes.now dest.new result }
+    ensures { Coded (masked sentinel dest.old) code_at from bytes.now (masked sentinel dest.new) result }
 {
     if bytes.len() < 128 {
-        return put_codes_by_64(dest, code_at, from, bytes);
+        return put_codes_by_64(dest, code_at, from, bytes, sentinel);
     }
     match memchr(0, bytes) {
-        Some(first) => put_codes_by_64(dest, code_at, from + first, &bytes[first..]),
+        Some(first) => put_codes_by_64(dest, code_at, from + first, &bytes[first..], sentinel),
         None => code_at,
     }
 }

@@ -1,5 +1,6 @@
 use Rattle.std.proofs.Common.{◌≡◌, ℕ, List, ◌+◌, ◌<◌, ◌≤◌, ◌++◌, length}
 use Rattle.cobs.specs.Codes.{Coding}
+use Rattle.cobs.specs.Sentinel.{masked}
 use Rattle.cobs.proofs.codes.put_codes_by_16.Given as goal
 
 abbrev pub invariant-loop-rest : goal.invariant-loop-rest
@@ -7,7 +8,7 @@ invariant-loop-rest l = record {
   later : l.fn.code_at ≤ l.code;
   begins : l.code < l.at;
   end : l.at + length l.rest ≡ l.fn.from + length l.fn.bytes;
-  coding : (m more : List ℕ) → Coding l.fn.dest l.fn.code_at l.fn.from m (l.fn.bytes ++ more) → Coding l.dest l.code l.at m (l.rest ++ more);
+  coding : (m more : List ℕ) → Coding (masked l.sentinel l.fn.dest) l.fn.code_at l.fn.from m (l.fn.bytes ++ more) → Coding (masked l.sentinel l.dest) l.code l.at m (l.rest ++ more);
 }
 
 abbrev pub decreases-loop-rest : goal.decreases-loop-rest

@@ -1,11 +1,12 @@
 use Rattle.std.proofs.Common.{arith}
 use Rattle.cobs.proofs.Lanes.{going_on, going_end}
+use Rattle.cobs.proofs.Masking.{masked_put}
 use Rattle.cobs.proofs.codes.put_codes_marked.Goals as goal
 
 pub loop-zeros-preserved : goal.loop-zeros-preserved
 loop-zeros-preserved c =
     let f = c.lowest-n.ensures in
-    going_on _ _ _ _ _ _ _ _ _ c.requires.few f.set f.below f.others f.no_more c.loop-zeros.invariant
+    rw (masked_put c.args.sentinel c.loop-zeros.dest c.loop-zeros.code _) (going_on _ _ _ _ _ _ _ _ _ c.requires.few f.set f.below f.others f.no_more c.loop-zeros.invariant)
 
 pub returns : goal.returns
 returns c =

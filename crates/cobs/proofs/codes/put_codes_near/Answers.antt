@@ -1,6 +1,7 @@
 use Rattle.std.proofs.Common.{◌≡◌, ◌+◌, ◌++◌, length, drop, ap, arith}
 use Rattle.std.proofs.lemmas.List.{drop_all}
 use Rattle.cobs.proofs.Coding.{zero_at, byte_at}
+use Rattle.cobs.proofs.Masking.{masked_put}
 use Rattle.cobs.proofs.codes.put_codes_near.Goals as goal
 use Rattle.cobs.proofs.codes.put_codes_near.Goals.{then-byte-eq0, else-byte-eq0}
 
@@ -9,7 +10,7 @@ loop-i-preserved c = elim c.if-byte-eq0.branch [
   | then-byte-eq0 w ↦ record {
     later = omega arith;
     begins = omega arith;
-    coding = λ m more h. rw (w.dest-is, w.code-is) (zero_at _ _ _ _ m _ more c.loop-i.i c.loop-i-test.true w.if-byte-eq0.true (omega arith) (c.loop-i.invariant.coding m more h));
+    coding = λ m more h. rw (w.dest-is, w.code-is, masked_put c.args.sentinel c.loop-i.dest c.loop-i.code _) (zero_at _ _ _ _ m _ more c.loop-i.i c.loop-i-test.true w.if-byte-eq0.true (omega arith) (c.loop-i.invariant.coding m more h));
   }
   | else-byte-eq0 w ↦ record {
     later = omega arith;

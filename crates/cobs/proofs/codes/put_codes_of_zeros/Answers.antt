@@ -1,6 +1,9 @@
+use Rattle.std.specs.Prelude.{bit_xor}
+use Rattle.cobs.specs.Sentinel.{masked}
 use Rattle.std.proofs.Common.{◌≡◌, ◌+◌, ◌-◌, length, take, drop, set, replicate, ap, ◌∙◌, arith, length-take, length-drop}
 use Rattle.std.proofs.lemmas.List.{length-set}
 use Rattle.cobs.proofs.Coding.{zeros_at}
+use Rattle.cobs.proofs.Masking.{masked_put, masked_mid, masked_row}
 use Rattle.cobs.proofs.codes.put_codes_of_zeros.Goals as goal
 
 pub returns : goal.returns
@@ -8,9 +11,11 @@ returns c = record {
   begins = omega (arith, c.requires.some);
   later = omega (arith, c.requires.some, c.requires.block.begins);
   coding = λ m more h.
+      let s = c.args.sentinel in
       let from = c.args.from in
-      let coded = set c.args.dest.now c.args.code_at (from - c.args.code_at) in
+      let coded = set c.args.dest.now c.args.code_at (bit_xor s (from - c.args.code_at)) in
       let long : length (take (from + length c.args.bytes.now - from) (drop from coded)) ≡ length c.args.bytes.now =
-      length-take (from + length c.args.bytes.now - from) (drop from coded) ∙ omega (arith, length-drop from coded, length-set c.args.dest.now c.args.code_at (from - c.args.code_at)) in
-      zeros_at _ _ _ _ _ _ m c.args.bytes.now more _ c.requires.some c.requires.zeros (c.fill.ensures.after (λ y e. e) ∙ ap (λ n. replicate n 1) long) (omega arith) (omega arith) (omega arith) h;
+      length-take (from + length c.args.bytes.now - from) (drop from coded) ∙ omega (arith, length-drop from coded, length-set c.args.dest.now c.args.code_at (bit_xor s (from - c.args.code_at))) in
+      rw (masked_mid s _ _ coded _, masked_put s c.args.dest.now c.args.code_at (from - c.args.code_at))
+      (zeros_at _ _ _ _ _ _ m c.args.bytes.now more _ c.requires.some c.requires.zeros (ap (masked s) (c.fill.ensures.after (λ y e. e)) ∙ ap (λ n. masked s (replicate n (bit_xor s 1))) long ∙ masked_row s _ 1) (omega arith) (omega arith) (omega arith) h);
 }

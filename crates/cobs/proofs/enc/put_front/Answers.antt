@@ -1,24 +1,34 @@
 use Rattle.std.proofs.Common.{arith}
 use Rattle.cobs.specs.Held.{pushed}
-use Rattle.cobs.proofs.Holding.{opens_next}
+use Rattle.cobs.specs.Sentinel.{masked}
 use Rattle.cobs.proofs.Coding.{no_room, no_room_next}
+use Rattle.cobs.proofs.Masking.{opens_masked}
 use Rattle.cobs.proofs.enc.put_front.Goals as goal
 
 pub returns-then-dest-at-clause-none : goal.returns-then-dest-at-clause-none
 returns-then-dest-at-clause-none c =
-    no_room_next c.args.dest.now c.args.at.code_at c.args.at.len _ (pushed c.args.dest.now c.args.at.len) _ c.requires.holds.laid c.requires.holds.goes_on c.requires.some c.if-at.true (omega arith)
+    let before = masked c.args.sentinel c.args.dest.now in
+    no_room_next before c.args.at.code_at c.args.at.len _ (pushed before c.args.at.len) _ c.requires.holds.laid c.requires.holds.goes_on c.requires.some c.if-at.true (omega arith)
 
 pub returns-then-dest-at-2-clause-none : goal.returns-then-dest-at-2-clause-none
 returns-then-dest-at-2-clause-none c =
-    no_room c.args.dest.now c.args.at.code_at c.args.at.len _ (pushed c.args.dest.now c.args.at.len) _ c.requires.holds.laid c.requires.holds.goes_on c.requires.some (omega arith)
+    let before = masked c.args.sentinel c.args.dest.now in
+    no_room before c.args.at.code_at c.args.at.len _ (pushed before c.args.at.len) _ c.requires.holds.laid c.requires.holds.goes_on c.requires.some (omega arith)
 
 pub returns-else-dest-at-clause-holds : goal.returns-else-dest-at-clause-holds
 returns-else-dest-at-clause-holds c =
-    (c.put_piece.ensures.holds (pushed c.args.dest.now c.args.at.len) (opens_next c.args.dest.now c.args.at.code_at c.args.at.len c.requires.holds.laid (omega arith) c.if-at.true c.requires.holds.goes_on).1).0
+    let before = masked c.args.sentinel c.args.dest.now in
+    (c.put_piece.ensures.holds (pushed before c.args.at.len) (opens_masked c.args.sentinel c.args.dest.now c.args.at.code_at c.args.at.len c.requires.holds.laid (omega arith) c.if-at.true c.requires.holds.goes_on).1).0
 
 pub returns-else-dest-at-clause-pushed : goal.returns-else-dest-at-clause-pushed
 returns-else-dest-at-clause-pushed c =
-    (c.put_piece.ensures.holds (pushed c.args.dest.now c.args.at.len) (opens_next c.args.dest.now c.args.at.code_at c.args.at.len c.requires.holds.laid (omega arith) c.if-at.true c.requires.holds.goes_on).1).1
+    let before = masked c.args.sentinel c.args.dest.now in
+    (c.put_piece.ensures.holds (pushed before c.args.at.len) (opens_masked c.args.sentinel c.args.dest.now c.args.at.code_at c.args.at.len c.requires.holds.laid (omega arith) c.if-at.true c.requires.holds.goes_on).1).1
 
 pub returns-else-dest-at-2-clause-holds : goal.returns-else-dest-at-2-clause-holds
-returns-else-dest-at-2-clause-holds c = (c.put_piece-else-at.ensures.holds (pushed c.args.dest.now c.args.at.len) c.requires.holds.goes_on).0
+returns-else-dest-at-2-clause-holds c =
+    let before = masked c.args.sentinel c.args.dest.now in
+    (c.put_piece-else-at.ensures.holds (pushed before c.args.at.len) c.requires.holds.goes_on).0
+
+pub put_piece-requires-clause-laid : goal.put_piece-requires-clause-laid
+put_piece-requires-clause-laid c = (opens_masked c.args.sentinel c.args.dest.now c.args.at.code_at c.args.at.len c.requires.holds.laid (omega arith) c.if-at.true c.requires.holds.goes_on).0
