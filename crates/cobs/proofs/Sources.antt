@@ -34,11 +34,6 @@ before_on s bytes i l n e =
     opens : (x : ℕ) (xs : List ℕ) → 0 < x → stretch (x ∷ xs) ≡ x ∷ stretch xs
     opens x xs p = rw (ne_eqb x 0 (λ z. omega arith)) refl
 
--- the sentinel zero changes nothing
-pub masked_zero : (bytes : List ℕ) → masked 0 bytes ≡ bytes
-masked_zero [] = refl
-masked_zero (b ∷ bytes) = ap (λ r. b ∷ r) (masked_zero bytes)
-
 -- no byte of a stretch is zero
 pub stretch_clear : (bytes : List ℕ) → NoZero (stretch bytes)
 stretch_clear [] = tt

@@ -13,7 +13,8 @@ use Rattle.cobs.specs.declared.dec.DecodeError.{DecodeError}
 use Rattle.cobs.specs.declared.dec.DecodeError.TheVariants.{EmptyFrame, InvalidFrame}
 use Rattle.cobs.specs.declared.dec.Progress.{Progress}
 use Rattle.cobs.specs.Streaming.{Stands}
-use Rattle.cobs.proofs.Sources.{masked_zero, stretch_clear, clear_at, stretch_of}
+use Rattle.cobs.proofs.Masking.{masked_zero}
+use Rattle.cobs.proofs.Sources.{stretch_clear, clear_at, stretch_of}
 use Rattle.cobs.proofs.Decoding.{part_shorter}
 use Rattle.cobs.proofs.Overwriting.{placed_on, front}
 use Rattle.cobs.proofs.Reading.{ends_broken}

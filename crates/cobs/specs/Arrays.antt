@@ -16,7 +16,11 @@ module _ {N : ℕ} where
   abbrev pub array_progress : CobsDecoderHeapless N → Progress
   array_progress d = d.progress
 
-  -- The bytes of this frame so far were taken in.
+  -- the byte that ends frames on the line, and that every byte of a frame there is XORed with
+  abbrev pub array_sentinel : CobsDecoderHeapless N → ℕ
+  array_sentinel d = d.sentinel
+
+  -- The bytes of this frame so far, as they are for the sentinel zero, were taken in.
   abbrev pub ArrayHas : CobsDecoderHeapless N → List ℕ → Type 0
   ArrayHas d bytes = Stands (array_progress d) bytes
 

@@ -1,5 +1,5 @@
 //! Decoding: byte by byte by a table, in streams into a buffer, and of whole sources.
-ghost use Rattle.std.specs.Prelude.{◌≡◌, ◌≢◌, ◌^◌, ℕ, ◌+◌, ◌-◌, ◌<◌, ◌≤◌, List, [], ◌∷◌, ◌++◌, length, take, drop, slice_index, true, replicate, ◌↔◌, IsTrue, IsOk, IfOk, OnOk, OnErr, MatchResult, IfSome, IsNone};
+ghost use Rattle.std.specs.Prelude.{bit_xor, ◌≡◌, ◌≢◌, ◌^◌, ℕ, ◌+◌, ◌-◌, ◌<◌, ◌≤◌, List, [], ◌∷◌, ◌++◌, length, take, drop, slice_index, true, replicate, ◌↔◌, IsTrue, IsOk, IfOk, OnOk, OnErr, MatchResult, IfSome, IsNone};
 ghost use Rattle.std.specs.Borrow.{sem};
 ghost use Rattle.cobs.specs.Frames.{Frame, part, part_from, after};
 ghost use Rattle.cobs.specs.Feeding.{by_code as state_by_code, told_by as byte_told_by, fed, next, stands_by, placed};
@@ -204,10 +204,35 @@ pub fn decode_in_place_report(buf: &mut [u8]) -> Result<DecodeReport, DecodeErro
     ensures buffer { buf.new ≡ overwritten (part (stretch buf.old)) buf.old }
     ensures rest { drop (length (stretch buf.old)) buf.new ≡ drop (length (stretch buf.old)) buf.old }
 {
+    decode_in_place_report_with_sentinel(buf, 0)
+}
+
+/// As `decode_in_place_report`, of the bytes before the first sentinel, or all where there is none, each XORed with the
+/// sentinel.
+///
+/// The bytes from `parsed_size` on are as they were: the sentinel, and those behind it, aren't XORed. After a refusal the
+/// same holds from the first sentinel on.
+///
+/// ```
+/// let mut bytes = [9, 0, 1, 8, 6, 10, 7];
+/// let report = decode_in_place_report_with_sentinel(&mut bytes, 10)?;
+/// assert_eq!((report.parsed_size(), report.frame_size()), (5, 4)); // bytes is 10, 11, 0, 12, 6, 10, 7
+/// ```
+#[inline(always)]
+pub fn decode_in_place_report_with_sentinel(
+    buf: &mut [u8],
+    sentinel: u8,
+) -> Result<DecodeReport, DecodeError>
+    ensures answer { result ≡ in_place (stretch (masked sentinel buf.old)) }
+    ensures frame { let p = stretch (masked sentinel buf.old) in IfOk result (λ r. p ≢ [] → Frame p (take (frame_size r) buf.new)) }
+    ensures no_frame { OnErr result ((m : List ℕ) → Frame (stretch (masked sentinel buf.old)) m → ⊥) }
+    ensures buffer { buf.new ≡ overwritten (part (stretch (masked sentinel buf.old))) buf.old }
+    ensures rest { let n = length (stretch (masked sentinel buf.old)) in drop n buf.new ≡ drop n buf.old }
+{
     let mut progress = Progress::new();
     let mut read: usize = 0;
-    while read < buf.len() && buf[read] != 0 {
-        let byte = buf[read];
+    while read < buf.len() && buf[read] != sentinel {
+        let byte = sentinel ^ buf[read];
         let _ = progress.take_in(buf, byte);
         read += 1;
     }
@@ -629,6 +654,46 @@ impl Progress {
             self.push_bytes(buffer, piece)
         }
     }
+
+    // The same of bytes that are each XORed with the sentinel first.
+    fn push_masked(
+        &mut self,
+        buffer: &mut [u8],
+        piece: &[u8],
+        sentinel: u8,
+    ) -> Result<Option<DecodeReport>, DecodeError>
+        ensures { TakesPiece self.old buffer.old (masked sentinel piece.now) result self.new buffer.new }
+    {
+        let mut at = 0;
+        while at < piece.len() {
+            match self.feed(buffer, sentinel ^ piece[at]) {
+                Ok(None) => at += 1,
+                Ok(Some(decoded)) => {
+                    let parsed = at + 1;
+                    return Ok(Some(DecodeReport { parsed, decoded }));
+                }
+                Err(e) => return Err(e),
+            }
+        }
+        Ok(None)
+    }
+
+    // The same for any sentinel.
+    #[inline(always)]
+    fn push_for(
+        &mut self,
+        buffer: &mut [u8],
+        piece: &[u8],
+        sentinel: u8,
+    ) -> Result<Option<DecodeReport>, DecodeError>
+        ensures { TakesPiece self.old buffer.old (masked sentinel piece.now) result self.new buffer.new }
+    {
+        if sentinel == 0 {
+            self.push(buffer, piece)
+        } else {
+            self.push_masked(buffer, piece, sentinel)
+        }
+    }
 }
 
 // Writes bytes over those of a buffer, from a place on.
@@ -779,44 +844,59 @@ pub fn decode_vec_with_sentinel(
 pub struct CobsDecoder<'a> {
     dest: &'a mut [u8],
     progress: Progress,
+    sentinel: u8,
 }
 
 impl<'a> CobsDecoder<'a> {
-    ghost use Rattle.cobs.specs.Decoder.{Has, progress_of, buffer_of, lent_name, LendsBuffer};
+    ghost use Rattle.cobs.specs.Decoder.{Has, progress_of, buffer_of, sentinel_of, lent_name, LendsBuffer};
     ghost use Rattle.cobs.specs.Taking.{TakesByte, TakesPiece};
 
-    /// A decoder between frames.
+    /// A decoder between frames that end in zeros.
     pub fn new(dest: &'a mut [u8]) -> CobsDecoder<'a>
         ensures idle { Has result [] }
         ensures buffer { buffer_of result ≡ dest.old }
+        ensures sentinel { sentinel_of result ≡ 0 }
+        ensures lent { lent_name result ≡ dest.entry.ghost_name }
+    {
+        CobsDecoder::new_with_sentinel(dest, 0)
+    }
+
+    /// A decoder between frames that end in this byte, and whose bytes are each XORed with it.
+    pub fn new_with_sentinel(dest: &'a mut [u8], sentinel: u8) -> CobsDecoder<'a>
+        ensures idle { Has result [] }
+        ensures buffer { buffer_of result ≡ dest.old }
+        ensures sentinel { sentinel_of result ≡ sentinel }
         ensures lent { lent_name result ≡ dest.entry.ghost_name }
     {
         CobsDecoder {
             dest,
             progress: Progress::new(),
+            sentinel,
         }
     }
 
-    /// Takes in a byte. At the zero of a whole frame it gives the length n of the message, which is `dest()[..n]`; until
-    /// then, and at a zero between frames, nothing.
+    /// Takes in a byte. At the sentinel behind a whole frame it gives the length n of the message, which is `dest()[..n]`;
+    /// until then, and at a sentinel between frames, nothing.
     ///
-    /// `TargetBufTooSmall` at each byte whose byte of the message has no room, and again at the zero of such a frame.
-    /// `InvalidFrame` at a zero inside a block, with how many bytes were decoded and had room. After every zero the
+    /// `TargetBufTooSmall` at each byte whose byte of the message has no room, and again at the sentinel of such a frame.
+    /// `InvalidFrame` at a sentinel inside a block, with how many bytes were decoded and had room. After every sentinel the
     /// decoder is between frames.
     pub fn feed(&mut self, data: u8) -> Result<Option<usize>, DecodeError>
-        ensures takes { TakesByte (progress_of self.old) (buffer_of self.old) «data» result (progress_of self.new) (buffer_of self.new) }
+        ensures takes { TakesByte (progress_of self.old) (buffer_of self.old) (bit_xor (sentinel_of self.old) «data») result (progress_of self.new) (buffer_of self.new) }
+        ensures sentinel { sentinel_of self.new ≡ sentinel_of self.old }
         ensures lent { lent_name self.new ≡ lent_name self.old }
     {
-        self.progress.feed(self.dest, data)
+        self.progress.feed(self.dest, self.sentinel ^ data)
     }
 
-    /// Takes in bytes up to the first answer that `feed` gives. `parsed_size` counts the bytes of this piece, the zero
+    /// Takes in bytes up to the first answer that `feed` gives. `parsed_size` counts the bytes of this piece, the sentinel
     /// included. Where a byte is refused, the decoder stands behind it.
     pub fn push(&mut self, data: &[u8]) -> Result<Option<DecodeReport>, DecodeError>
-        ensures takes { TakesPiece (progress_of self.old) (buffer_of self.old) «data».now result (progress_of self.new) (buffer_of self.new) }
+        ensures takes { TakesPiece (progress_of self.old) (buffer_of self.old) (masked (sentinel_of self.old) «data».now) result (progress_of self.new) (buffer_of self.new) }
+        ensures sentinel { sentinel_of self.new ≡ sentinel_of self.old }
         ensures lent { lent_name self.new ≡ lent_name self.old }
     {
-        self.progress.push(self.dest, data)
+        self.progress.push_for(self.dest, data, self.sentinel)
     }
 
     /// The buffer.
@@ -842,6 +922,7 @@ impl<'a> CobsDecoder<'a> {
         requires { place + length bytes.now ≤ length (buffer_of self.old) }
         ensures buffer { buffer_of self.new ≡ written_over place bytes.now (buffer_of self.old) }
         ensures progress { progress_of self.new ≡ progress_of self.old }
+        ensures sentinel { sentinel_of self.new ≡ sentinel_of self.old }
         ensures lent { lent_name self.new ≡ lent_name self.old }
     {
         write_over(self.dest, place, bytes);
@@ -853,47 +934,69 @@ impl<'a> CobsDecoder<'a> {
 pub struct CobsDecoderOwned {
     buffer: Vec<u8>,
     progress: Progress,
+    sentinel: u8,
 }
 
 impl CobsDecoderOwned {
-    ghost use Rattle.cobs.specs.Owners.{OwnedHas, owned_progress, owned_buffer, LendsOwnedBuffer};
+    ghost use Rattle.cobs.specs.Owners.{OwnedHas, owned_progress, owned_buffer, owned_sentinel, LendsOwnedBuffer};
     ghost use Rattle.cobs.specs.Taking.{TakesByte, TakesPiece};
 
-    /// An idle decoder over a buffer of `size` zeros.
+    /// An idle decoder of frames that end in zeros, over a buffer of `size` zeros.
     pub fn new(alloc: Global, size: usize) -> Result<CobsDecoderOwned, AllocError>
         ensures idle { IfOk result (λ d. OwnedHas d []) }
         ensures buffer { IfOk result (λ d. owned_buffer d ≡ replicate size 0) }
+        ensures sentinel { IfOk result (λ d. owned_sentinel d ≡ 0) }
+    {
+        CobsDecoderOwned::new_with_sentinel(alloc, size, 0)
+    }
+
+    /// An idle decoder of frames that end in this byte, and whose bytes are each XORed with it, over a buffer of `size`
+    /// zeros.
+    pub fn new_with_sentinel(
+        alloc: Global,
+        size: usize,
+        sentinel: u8,
+    ) -> Result<CobsDecoderOwned, AllocError>
+        ensures idle { IfOk result (λ d. OwnedHas d []) }
+        ensures buffer { IfOk result (λ d. owned_buffer d ≡ replicate size 0) }
+        ensures sentinel { IfOk result (λ d. owned_sentinel d ≡ sentinel) }
     {
         Ok(CobsDecoderOwned {
             buffer: vec![in alloc; 0; size]?,
             progress: Progress::new(),
+            sentinel,
         })
     }
 
-    /// Takes in a byte. At the zero of a whole frame it gives the length n of the message, which is `dest()[..n]`; until
-    /// then, and at a zero between frames, nothing.
+    /// Takes in a byte. At the sentinel behind a whole frame it gives the length n of the message, which is `dest()[..n]`;
+    /// until then, and at a sentinel between frames, nothing.
     ///
-    /// `TargetBufTooSmall` at each byte whose byte of the message has no room, and again at the zero of such a frame.
-    /// `InvalidFrame` at a zero inside a block, with how many bytes were decoded and had room. After every zero the
+    /// `TargetBufTooSmall` at each byte whose byte of the message has no room, and again at the sentinel of such a frame.
+    /// `InvalidFrame` at a sentinel inside a block, with how many bytes were decoded and had room. After every sentinel the
     /// decoder is between frames.
     pub fn feed(&mut self, data: u8) -> Result<Option<usize>, DecodeError>
-        ensures { TakesByte (owned_progress self.old) (owned_buffer self.old) «data» result (owned_progress self.new) (owned_buffer self.new) }
+        ensures takes { TakesByte (owned_progress self.old) (owned_buffer self.old) (bit_xor (owned_sentinel self.old) «data») result (owned_progress self.new) (owned_buffer self.new) }
+        ensures sentinel { owned_sentinel self.new ≡ owned_sentinel self.old }
     {
-        self.progress.feed(self.buffer.as_mut_slice(), data)
+        self.progress
+            .feed(self.buffer.as_mut_slice(), self.sentinel ^ data)
     }
 
-    /// Takes in bytes up to the first answer that `feed` gives. `parsed_size` counts the bytes of this piece, the zero
+    /// Takes in bytes up to the first answer that `feed` gives. `parsed_size` counts the bytes of this piece, the sentinel
     /// included. Where a byte is refused, the decoder stands behind it.
     pub fn push(&mut self, data: &[u8]) -> Result<Option<DecodeReport>, DecodeError>
-        ensures { TakesPiece (owned_progress self.old) (owned_buffer self.old) «data».now result (owned_progress self.new) (owned_buffer self.new) }
+        ensures takes { TakesPiece (owned_progress self.old) (owned_buffer self.old) (masked (owned_sentinel self.old) «data».now) result (owned_progress self.new) (owned_buffer self.new) }
+        ensures sentinel { owned_sentinel self.new ≡ owned_sentinel self.old }
     {
-        self.progress.push(self.buffer.as_mut_slice(), data)
+        self.progress
+            .push_for(self.buffer.as_mut_slice(), data, self.sentinel)
     }
 
-    /// Makes the decoder idle. What was taken in of a frame is forgotten.
+    /// Makes the decoder idle. What was taken in of a frame is forgotten; the sentinel stays.
     pub fn reset(&mut self)
         ensures idle { OwnedHas self.new [] }
         ensures buffer { owned_buffer self.new ≡ owned_buffer self.old }
+        ensures sentinel { owned_sentinel self.new ≡ owned_sentinel self.old }
     {
         self.progress.reset();
     }
@@ -914,6 +1017,7 @@ impl CobsDecoderOwned {
     pub fn resize(&mut self, size: usize) -> Result<(), AllocError>
         requires { OwnedHas self.old [] }
         ensures idle { OwnedHas self.new [] }
+        ensures sentinel { owned_sentinel self.new ≡ owned_sentinel self.old }
         ensures buffer { OnOk result (owned_buffer self.new ≡ take size (owned_buffer self.old) ++ replicate (size - length (owned_buffer self.old)) 0) }
         ensures refused { OnErr result (owned_buffer self.new ≡ owned_buffer self.old) }
         ensures granted { size ≤ length (owned_buffer self.old) → IsOk result }
@@ -944,6 +1048,7 @@ impl CobsDecoderOwned {
         requires { place + length bytes.now ≤ length (owned_buffer self.old) }
         ensures buffer { owned_buffer self.new ≡ written_over place bytes.now (owned_buffer self.old) }
         ensures progress { owned_progress self.new ≡ owned_progress self.old }
+        ensures sentinel { owned_sentinel self.new ≡ owned_sentinel self.old }
     {
         write_over(self.buffer.as_mut_slice(), place, bytes);
     }
@@ -954,24 +1059,46 @@ impl CobsDecoderOwned {
 pub struct CobsDecoderHeapless<const N: usize> {
     array: ArrayVec<u8, N>,
     progress: Progress,
+    sentinel: u8,
 }
 
 impl<const N: usize> CobsDecoderHeapless<N> {
-    ghost use Rattle.cobs.specs.Arrays.{ArrayHas, array_progress, array_buffer, LendsArrayBuffer};
+    ghost use Rattle.cobs.specs.Arrays.{ArrayHas, array_progress, array_buffer, array_sentinel, LendsArrayBuffer};
     ghost use Rattle.cobs.specs.Taking.{TakesByte, TakesPiece};
 
-    /// An idle decoder over a buffer of zeros.
+    /// An idle decoder of frames that end in zeros, over a buffer of zeros.
     pub fn new() -> CobsDecoderHeapless<N>
         ensures idle { ArrayHas result [] }
         ensures buffer { array_buffer result ≡ replicate N 0 }
+        ensures sentinel { array_sentinel result ≡ 0 }
     {
-        CobsDecoderHeapless::new_with_vec(ArrayVec::new())
+        CobsDecoderHeapless::new_with_sentinel(0)
     }
 
-    /// An idle decoder, whose buffer has the vector's bytes, and then zeros.
+    /// An idle decoder of frames that end in this byte, and whose bytes are each XORed with it, over a buffer of zeros.
+    pub fn new_with_sentinel(sentinel: u8) -> CobsDecoderHeapless<N>
+        ensures idle { ArrayHas result [] }
+        ensures buffer { array_buffer result ≡ replicate N 0 }
+        ensures sentinel { array_sentinel result ≡ sentinel }
+    {
+        CobsDecoderHeapless::filled(ArrayVec::new(), sentinel)
+    }
+
+    /// An idle decoder of frames that end in zeros, whose buffer has the vector's bytes, and then zeros.
     pub fn new_with_vec(vec: ArrayVec<u8, N>) -> CobsDecoderHeapless<N>
         ensures idle { ArrayHas result [] }
         ensures buffer { array_buffer result ≡ vec.entry.items ++ replicate (N - length vec.entry.items) 0 }
+        ensures sentinel { array_sentinel result ≡ 0 }
+        ensures room { length (array_buffer result) ≡ N }
+    {
+        CobsDecoderHeapless::filled(vec, 0)
+    }
+
+    // The same for any sentinel.
+    fn filled(vec: ArrayVec<u8, N>, sentinel: u8) -> CobsDecoderHeapless<N>
+        ensures idle { ArrayHas result [] }
+        ensures buffer { array_buffer result ≡ vec.entry.items ++ replicate (N - length vec.entry.items) 0 }
+        ensures sentinel { array_sentinel result ≡ sentinel }
         ensures room { length (array_buffer result) ≡ N }
     {
         let mut array = vec;
@@ -981,33 +1108,39 @@ impl<const N: usize> CobsDecoderHeapless<N> {
         CobsDecoderHeapless {
             array,
             progress: Progress::new(),
+            sentinel,
         }
     }
 
-    /// Takes in a byte. At the zero of a whole frame it gives the length n of the message, which is `dest()[..n]`; until
-    /// then, and at a zero between frames, nothing.
+    /// Takes in a byte. At the sentinel behind a whole frame it gives the length n of the message, which is `dest()[..n]`;
+    /// until then, and at a sentinel between frames, nothing.
     ///
-    /// `TargetBufTooSmall` at each byte whose byte of the message has no room, and again at the zero of such a frame.
-    /// `InvalidFrame` at a zero inside a block, with how many bytes were decoded and had room. After every zero the
+    /// `TargetBufTooSmall` at each byte whose byte of the message has no room, and again at the sentinel of such a frame.
+    /// `InvalidFrame` at a sentinel inside a block, with how many bytes were decoded and had room. After every sentinel the
     /// decoder is between frames.
     pub fn feed(&mut self, data: u8) -> Result<Option<usize>, DecodeError>
-        ensures { TakesByte (array_progress self.old) (array_buffer self.old) «data» result (array_progress self.new) (array_buffer self.new) }
+        ensures takes { TakesByte (array_progress self.old) (array_buffer self.old) (bit_xor (array_sentinel self.old) «data») result (array_progress self.new) (array_buffer self.new) }
+        ensures sentinel { array_sentinel self.new ≡ array_sentinel self.old }
     {
-        self.progress.feed(self.array.as_mut_slice(), data)
+        self.progress
+            .feed(self.array.as_mut_slice(), self.sentinel ^ data)
     }
 
-    /// Takes in bytes up to the first answer that `feed` gives. `parsed_size` counts the bytes of this piece, the zero
+    /// Takes in bytes up to the first answer that `feed` gives. `parsed_size` counts the bytes of this piece, the sentinel
     /// included. Where a byte is refused, the decoder stands behind it.
     pub fn push(&mut self, data: &[u8]) -> Result<Option<DecodeReport>, DecodeError>
-        ensures { TakesPiece (array_progress self.old) (array_buffer self.old) «data».now result (array_progress self.new) (array_buffer self.new) }
+        ensures takes { TakesPiece (array_progress self.old) (array_buffer self.old) (masked (array_sentinel self.old) «data».now) result (array_progress self.new) (array_buffer self.new) }
+        ensures sentinel { array_sentinel self.new ≡ array_sentinel self.old }
     {
-        self.progress.push(self.array.as_mut_slice(), data)
+        self.progress
+            .push_for(self.array.as_mut_slice(), data, self.sentinel)
     }
 
-    /// Makes the decoder idle. What was taken in of a frame is forgotten.
+    /// Makes the decoder idle. What was taken in of a frame is forgotten; the sentinel stays.
     pub fn reset(&mut self)
         ensures idle { ArrayHas self.new [] }
         ensures buffer { array_buffer self.new ≡ array_buffer self.old }
+        ensures sentinel { array_sentinel self.new ≡ array_sentinel self.old }
     {
         self.progress.reset();
     }
@@ -1035,15 +1168,16 @@ impl<const N: usize> CobsDecoderHeapless<N> {
         requires { place + length bytes.now ≤ length (array_buffer self.old) }
         ensures buffer { array_buffer self.new ≡ written_over place bytes.now (array_buffer self.old) }
         ensures progress { array_progress self.new ≡ array_progress self.old }
+        ensures sentinel { array_sentinel self.new ≡ array_sentinel self.old }
     {
         write_over(self.array.as_mut_slice(), place, bytes);
     }
 }
 
 impl<const N: usize> Default for CobsDecoderHeapless<N> {
-    ghost use Rattle.cobs.specs.Arrays.{ArrayHas, array_buffer};
+    ghost use Rattle.cobs.specs.Arrays.{ArrayHas, array_buffer, array_sentinel};
 
-    ghost is_default = { λ d. ArrayHas d [] × (array_buffer d ≡ replicate N 0) };
+    ghost is_default = { λ d. ArrayHas d [] × (array_buffer d ≡ replicate N 0) × (array_sentinel d ≡ 0) };
 
     fn default() -> CobsDecoderHeapless<N> {
         CobsDecoderHeapless::new()

@@ -1,44 +1,17 @@
-use Rattle.std.proofs.Common.{inl, inr, arith, sym, ◌∙◌}
-use Rattle.cobs.proofs.Reading.{reading_on, reading_done, reading_holds, reading_rest, reading_short, whole, broken, is_frame, no_frame, Ends}
+use Rattle.cobs.proofs.Masking.{masked_zero}
 use Rattle.cobs.proofs.dec.decode_in_place_report.Goals as goal
-use Rattle.cobs.proofs.dec.decode_in_place_report.Goals.{After-feed, then-loop-read-test+else-buf-read-ne0, else-loop-read-test}
 
-pub loop-read-preserved : goal.loop-read-preserved
-loop-read-preserved c = reading_on c.args.buf.now c.loop-read.buf c.loop-read.read c.loop-read.progress _ _ c.loop-read.invariant c.loop-read-test.true (omega arith) (omega arith) c.take_in.ensures.stands c.take_in.ensures.buffer
+pub returns-clause-answer : goal.returns-clause-answer
+returns-clause-answer c = rw (masked_zero c.args.buf.now) at c.decode_in_place_report_with_sentinel.ensures.answer
 
-ends : (c : After-feed) → Ends c.loop-read.buf c.loop-read.read
-ends c = elim c.loop-read-test.branch [
-  | then-loop-read-test+else-buf-read-ne0 w ↦ inr (w.loop-read-test.true, omega arith)
-  | else-loop-read-test w ↦ inl (omega arith)
-]
+pub returns-clause-frame : goal.returns-clause-frame
+returns-clause-frame c = rw (masked_zero c.args.buf.now) at c.decode_in_place_report_with_sentinel.ensures.frame
 
-pub returns-in-Ok-clause-answer : goal.returns-in-Ok-clause-answer
-returns-in-Ok-clause-answer c =
-    whole c.args.buf.now _ _ (reading_done c.args.buf.now _ _ _ c.loop-read.invariant (ends (goal.at.returns-in-Ok-clause-answer c).After-feed)) c.in-Ok.field-0 (sym c.feed.ensures.answer ∙ c.in-Ok.is)
+pub returns-clause-no_frame : goal.returns-clause-no_frame
+returns-clause-no_frame c = rw (masked_zero c.args.buf.now) at c.decode_in_place_report_with_sentinel.ensures.no_frame
 
-pub returns-in-Ok-clause-buffer : goal.returns-in-Ok-clause-buffer
-returns-in-Ok-clause-buffer c = reading_holds _ _ _ _ c.loop-read.invariant (ends (goal.at.returns-in-Ok-clause-buffer c).After-feed)
+pub returns-clause-buffer : goal.returns-clause-buffer
+returns-clause-buffer c = rw (masked_zero c.args.buf.now) at c.decode_in_place_report_with_sentinel.ensures.buffer
 
-pub returns-in-Err-clause-answer : goal.returns-in-Err-clause-answer
-returns-in-Err-clause-answer c =
-    broken c.args.buf.now _ _ (reading_done c.args.buf.now _ _ _ c.loop-read.invariant (ends (goal.at.returns-in-Err-clause-answer c).After-feed)) c.in-Err.field-0 (sym c.feed.ensures.answer ∙ c.in-Err.is)
-
-pub returns-in-Err-clause-buffer : goal.returns-in-Err-clause-buffer
-returns-in-Err-clause-buffer c = reading_holds _ _ _ _ c.loop-read.invariant (ends (goal.at.returns-in-Err-clause-buffer c).After-feed)
-
-pub returns-in-Ok-clause-frame : goal.returns-in-Ok-clause-frame
-returns-in-Ok-clause-frame c =
-    let e = ends (goal.at.returns-in-Ok-clause-frame c).After-feed in
-    let i = c.loop-read.invariant in
-    is_frame c.args.buf.now _ _ (reading_done c.args.buf.now _ _ _ i e) c.in-Ok.field-0 (sym c.feed.ensures.answer ∙ c.in-Ok.is) c.loop-read.buf (reading_holds _ _ _ _ i e) (reading_short c.args.buf.now _ _ _ i e)
-
-pub returns-in-Err-clause-no_frame : goal.returns-in-Err-clause-no_frame
-returns-in-Err-clause-no_frame c =
-    let e = ends (goal.at.returns-in-Err-clause-no_frame c).After-feed in
-    no_frame c.args.buf.now _ _ (reading_done c.args.buf.now _ _ _ c.loop-read.invariant e) c.in-Err.field-0 (sym c.feed.ensures.answer ∙ c.in-Err.is)
-
-pub returns-in-Ok-clause-rest : goal.returns-in-Ok-clause-rest
-returns-in-Ok-clause-rest c = reading_rest _ _ _ _ c.loop-read.invariant (ends (goal.at.returns-in-Ok-clause-rest c).After-feed)
-
-pub returns-in-Err-clause-rest : goal.returns-in-Err-clause-rest
-returns-in-Err-clause-rest c = reading_rest _ _ _ _ c.loop-read.invariant (ends (goal.at.returns-in-Err-clause-rest c).After-feed)
+pub returns-clause-rest : goal.returns-clause-rest
+returns-clause-rest c = rw (masked_zero c.args.buf.now) at c.decode_in_place_report_with_sentinel.ensures.rest

@@ -1,7 +1,7 @@
 use Rattle.std.proofs.Common.{◌≡◌, ◌≤◌, ◌-◌, ◌++◌, length}
 use Rattle.std.proofs.Math.ListN.{replicate}
 use Rattle.arrayvec.specs.ArrayVec.{array_vec_len}
-use Rattle.cobs.proofs.dec.CobsDecoderHeapless.new_with_vec.Given as goal
+use Rattle.cobs.proofs.dec.CobsDecoderHeapless.filled.Given as goal
 
 abbrev pub invariant-loop-array : goal.invariant-loop-array
 invariant-loop-array g l = record {
