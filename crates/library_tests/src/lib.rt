@@ -1,5 +1,5 @@
-//! Tests of the libraries, by their public calls alone: outside vectors and worked rows, texts, each call once on
-//! its happy path, each generic one at a concrete type, writers and readers that fail, and memory that isn't found.
+//! Tests of the libraries below `link`, by their public calls alone: outside vectors and worked rows, texts, each call
+//! once on its happy path, each generic one at a concrete type, writers and readers that fail.
 //!
 //! They stand in a crate of their own because a crate with tests is proved twice, once with and once without them.
 #![tactic(auto)]
@@ -11,20 +11,6 @@ mod cobs_encoding;
 #[cfg(test)]
 mod de;
 #[cfg(test)]
-mod line_io_memory;
-#[cfg(test)]
-mod line_io_streams;
-#[cfg(test)]
-mod link_faults;
-#[cfg(test)]
-mod link_lines;
-#[cfg(test)]
-mod link_receiving;
-#[cfg(test)]
-mod link_sending;
-#[cfg(test)]
-mod malicious;
-#[cfg(test)]
 mod messages;
 #[cfg(test)]
 mod postcard_frames;
@@ -32,8 +18,6 @@ mod postcard_frames;
 mod postcard_reading;
 #[cfg(test)]
 mod postcard_writing;
-#[cfg(test)]
-mod refused_growths;
 #[cfg(test)]
 mod ser_calls;
 #[cfg(test)]
@@ -44,7 +28,5 @@ mod ser_frames;
 mod ser_span;
 #[cfg(test)]
 mod ser_texts;
-#[cfg(test)]
-mod station_messages;
 #[cfg(test)]
 mod tree;

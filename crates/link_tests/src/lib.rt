@@ -1,0 +1,25 @@
+//! Tests of what stands on lines and devices, by its public calls alone: `line_io`, `link`, whatever a stranger may
+//! send, memory that isn't found in every call that asks for it, and the message types of `station`.
+//!
+//! They stand in a crate of their own because a crate with tests is proved twice, once with and once without them, and
+//! beside `library_tests` because one process proves a crate's tests as a whole.
+#![tactic(auto)]
+
+#[cfg(test)]
+mod line_io_memory;
+#[cfg(test)]
+mod line_io_streams;
+#[cfg(test)]
+mod link_faults;
+#[cfg(test)]
+mod link_lines;
+#[cfg(test)]
+mod link_receiving;
+#[cfg(test)]
+mod link_sending;
+#[cfg(test)]
+mod malicious;
+#[cfg(test)]
+mod refused_growths;
+#[cfg(test)]
+mod station_messages;
