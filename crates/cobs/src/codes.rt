@@ -3,7 +3,7 @@
 //! The first zero of a long piece is found by `memchr`, further ones by masks of 64 or 16 bytes, and a row of zeros is filled at
 //! once. Every function here has one contract, for pieces of its own length. A code is written XORed with the sentinel, as all
 //! of a frame is; the pieces are bytes of the message.
-ghost use Rattle.std.specs.Prelude.{◌≡◌, ◌≢◌, ℕ, ◌+◌, ◌<◌, ◌≤◌, List, ◌++◌, length, slice_index};
+ghost use Rattle.std.specs.Prelude.{◌≡◌, ◌≢◌, ℕ, ◌+◌, ◌<◌, ◌≤◌, List, ◌++◌, length, slice_index, IfSome, IfNone};
 ghost use Rattle.std.specs.Int.{bit_at};
 ghost use Rattle.cobs.specs.Codes.{InBlock, Coded, Marks};
 ghost use Rattle.cobs.specs.Sentinel.{masked};
@@ -178,6 +178,7 @@ fn put_codes_of_64(
 }
 
 // The same as `put_codes_near`, in steps of 64 bytes.
+#[inline(always)]
 fn put_codes_by_64(
     dest: &mut [u8],
     code_at: usize,
@@ -200,7 +201,21 @@ fn put_codes_by_64(
     put_codes_by_16(dest, code, at, rest, sentinel)
 }
 
+// Where the search for zeros begins: of many bytes at the first zero, if they have one.
+#[inline(always)]
+fn search_from(bytes: &[u8]) -> Option<usize>
+    ensures within { IfSome result (λ n. n ≤ length bytes.now) }
+    ensures before { IfSome result (λ n. (k : ℕ) → k < n → 0 < slice_index bytes.now k) }
+    ensures none { IfNone result ((k : ℕ) → k < length bytes.now → 0 < slice_index bytes.now k) }
+{
+    if bytes.len() < 128 {
+        return Some(0);
+    }
+    memchr(0, bytes)
+}
+
 // The same as `put_codes_near`, of many bytes from the first zero on.
+#[inline(always)]
 pub(crate) fn put_codes(
     dest: &mut [u8],
     code_at: usize,
@@ -211,10 +226,7 @@ pub(crate) fn put_codes(
     requires { InBlock dest.old code_at from bytes.now }
     ensures { Coded (masked sentinel dest.old) code_at from bytes.now (masked sentinel dest.new) result }
 {
-    if bytes.len() < 128 {
-        return put_codes_by_64(dest, code_at, from, bytes, sentinel);
-    }
-    match memchr(0, bytes) {
+    match search_from(bytes) {
         Some(first) => put_codes_by_64(dest, code_at, from + first, &bytes[first..], sentinel),
         None => code_at,
     }
