@@ -82,9 +82,9 @@ going_on before code_before from bytes dest code zeros n others few set_ below r
     }
 
 -- a mask without a gap
-pub ones_of : (bytes : List ℕ) → length bytes ≡ 64 → mask_l (map (λ x. eqb x 1) bytes) ≡ 2 ^ 64 - 1 → (k : ℕ) → k < 64 → get_or bytes k 0 ≡ 1
-ones_of bytes long full k l =
-    let ms : List Bool = map (λ x. eqb x 1) bytes in
+pub same_of : (byte : ℕ) (bytes : List ℕ) → length bytes ≡ 64 → mask_l (map (λ x. eqb x byte) bytes) ≡ 2 ^ 64 - 1 → (k : ℕ) → k < 64 → get_or bytes k 0 ≡ byte
+same_of byte bytes long full k l =
+    let ms : List Bool = map (λ x. eqb x byte) bytes in
     let bit : bit_at (mask_l ms) k ≡ 1 = ap (λ x. bit_at x k) full ∙ bit_at_ones 64 k l in
     let set : get_or ms k false ≡ true = is_one _ (sym (bit_mask_l ms k) ∙ bit) in
-    eqb-true _ _ (sym (get_or-map (λ x. eqb x 1) bytes k 0 false (omega (arith, l, long))) ∙ set)
+    eqb-true _ _ (sym (get_or-map (λ x. eqb x byte) bytes k 0 false (omega (arith, l, long))) ∙ set)

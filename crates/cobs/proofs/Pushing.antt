@@ -16,7 +16,7 @@ use Rattle.cobs.specs.declared.dec.DecodeError.TheVariants.{EmptyFrame, InvalidF
 use Rattle.cobs.proofs.Cuts.{first_moved}
 use Rattle.cobs.proofs.Messages.{placed_zero}
 use Rattle.cobs.proofs.Passing.{passes, all_placed, placed_over, refuses}
-use Rattle.cobs.proofs.Sources.{stretch_clear}
+use Rattle.cobs.proofs.Sources.{stretch_clear, stretch_of}
 
 -- all is before the first zero, or that comes
 abbrev Splits : List ℕ → List ℕ → Type 0
@@ -208,3 +208,28 @@ module _ (source rest dest : List ℕ) (r : rest ≡ unpadded source) where
 
     pub then_whole : (n : ℕ) → at_zero (length dest) (frame_left (length dest) [] rest) ≡ Ok (Some n) → length rest ≤ length source → Ok (report (length source) n) ≡ decoded_from (length dest) source
     then_whole n e w = ap (λ k. Ok (report k n)) (omega (arith, ap length no_end.0, w)) ∙ sym (then_is (Ok (Some n)) e)
+
+-- bytes of which none is zero
+unpadded_clear : (bytes : List ℕ) → NoZero bytes → unpadded bytes ≡ bytes
+unpadded_clear [] h = refl
+unpadded_clear (b ∷ bytes) h = rw (ne_eqb b 0 (λ e. omega (arith, h.0))) refl
+
+module _ (bytes dest : List ℕ) (h : NoZero bytes) where
+  alone_is : bytes ≡ unpadded bytes
+  alone_is = sym (unpadded_clear bytes h)
+
+  -- what stands in the buffer
+  pub clear_over : buffer_left (length dest) [] bytes dest ≡ overwritten (part bytes) dest
+  clear_over = pushed_over bytes bytes dest alone_is ∙ ap (λ f. overwritten (part f) dest) (ap stretch (sym alone_is) ∙ stretch_of bytes h)
+
+  -- all of them are taken in where none is refused
+  pub clear_taken : (o : Option DecodeReport) → first_answer (length dest) [] bytes 0 ≡ Ok o → frame_left (length dest) [] bytes ≡ bytes
+  clear_taken o a =
+      let same : bytes ≡ stretch bytes = sym (stretch_of bytes h) in
+      let split : bytes ≡ stretch bytes ++ [] = same ∙ sym (append-nil (stretch bytes)) in
+      elim (cases_lt (length dest) (length (part (stretch bytes)))) [
+        | inl l ↦
+            let never : ◌≡◌ {A = Result (Option DecodeReport) DecodeError} (Err TargetBufTooSmall) (Ok o) = sym (over bytes bytes dest alone_is l [] 0).0 ∙ ap (λ s. first_answer (length dest) [] s 0) (sym split) ∙ a in
+            absurd (cc)
+        | inr l ↦ ap (frame_left (length dest) []) split ∙ (fits bytes bytes dest alone_is l [] 0).2 ∙ sym same
+      ]

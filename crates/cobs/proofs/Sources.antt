@@ -1,7 +1,7 @@
 -- The bytes of a source that are decoded.
-use Rattle.std.proofs.Common.{◌≡◌, ◌≢◌, ℕ, zero, suc, ◌+◌, ◌<◌, List, [], ◌∷◌, ◌++◌, length, take, drop, get_or, inl, inr, refl, ap, sym, ◌∙◌, arith, append_assoc}
-use Rattle.std.proofs.lemmas.List.{drop_more, map_more}
-use Rattle.std.proofs.lemmas.Bool.{ne_eqb}
+use Rattle.std.proofs.Common.{◌≡◌, ◌≢◌, ℕ, zero, suc, ◌<◌, ◌≤◌, List, [], ◌∷◌, length, take, get_or, inl, inr, refl, ap, sym, ◌∙◌, arith}
+use Rattle.std.proofs.lemmas.List.{get_or-take, length-take-le}
+use Rattle.std.proofs.lemmas.Bool.{eq-eqb, ne_eqb}
 use Rattle.std.proofs.lemmas.Bool.Decides.{eqb_tells}
 use Rattle.std.proofs.lemmas.Nat.{xor_comm}
 use Rattle.std.specs.Prelude.{bit_xor}
@@ -9,6 +9,7 @@ use Rattle.std.specs.Int.Bits.{xor_assoc, xor_self}
 use Rattle.cobs.specs.Frames.{NoZero}
 use Rattle.cobs.specs.InPlace.{stretch}
 use Rattle.cobs.specs.Sentinel.{masked}
+use Rattle.cobs.proofs.Masking.{masked_get, masked_take}
 
 -- only the sentinel becomes zero
 becomes_zero : (sentinel byte : ℕ) → bit_xor sentinel byte ≡ 0 → byte ≡ sentinel
@@ -20,19 +21,35 @@ masked_positive s b n = elim (eqb_tells (bit_xor s b) 0) [
   | inr t ↦ omega (arith, t.1)
 ]
 
--- a byte before the first sentinel
-pub before_on : (sentinel : ℕ) (bytes : List ℕ) (i : ℕ) → i < length bytes → get_or bytes i 0 ≢ sentinel
-    → stretch (masked sentinel bytes) ≡ masked sentinel (take i bytes) ++ stretch (masked sentinel (drop i bytes))
-    → stretch (masked sentinel bytes) ≡ masked sentinel (take (i + 1) bytes) ++ stretch (masked sentinel (drop (i + 1) bytes))
-before_on s bytes i l n e =
-    let b = get_or bytes i 0 in
-    let later = stretch (masked s (drop (i + 1) bytes)) in
-    let one : stretch (masked s (drop i bytes)) ≡ bit_xor s b ∷ later =
-    ap (λ d. stretch (masked s d)) (drop_more bytes i 0 l) ∙ opens (bit_xor s b) (masked s (drop (i + 1) bytes)) (masked_positive s b n) in
-    e ∙ ap (λ d. masked s (take i bytes) ++ d) one ∙ sym (ap (λ m. m ++ later) (map_more (bit_xor s) bytes i 0 l) ∙ append_assoc (masked s (take i bytes)) (bit_xor s b ∷ []) later)
-  where
-    opens : (x : ℕ) (xs : List ℕ) → 0 < x → stretch (x ∷ xs) ≡ x ∷ stretch xs
-    opens x xs p = rw (ne_eqb x 0 (λ z. omega arith)) refl
+-- the bytes before the first sentinel
+pub stretch_front : (sentinel : ℕ) (bytes : List ℕ) (n : ℕ) → n ≤ length bytes → ((k : ℕ) → k < n → get_or bytes k 0 ≢ sentinel) → (n < length bytes → get_or bytes n 0 ≡ sentinel)
+    → masked sentinel (take n bytes) ≡ stretch (masked sentinel bytes)
+stretch_front s [] zero l none end = refl
+stretch_front s [] (suc n) l none end = absurd (omega arith)
+stretch_front s (b ∷ bytes) zero l none end =
+    let z : bit_xor s b ≡ 0 = ap (bit_xor s) (end (omega arith)) ∙ xor_self s in
+    rw (eq-eqb (bit_xor s b) 0 z) refl
+stretch_front s (b ∷ bytes) (suc n) l none end =
+    let p : 0 < bit_xor s b = masked_positive s b (none 0 (omega arith)) in
+    rw (ne_eqb (bit_xor s b) 0 (λ z. omega (arith, p))) (ap (λ r. bit_xor s b ∷ r) (stretch_front s bytes n (omega arith) (λ k q. none (suc k) (omega arith)) (λ q. end (omega arith))))
+
+-- none of them becomes zero
+pub nonzero_front : (sentinel n most : ℕ) (piece : List ℕ) → most ≤ length piece → n ≤ most → ((k : ℕ) → k < n → get_or (take most piece) k 0 ≢ sentinel)
+    → (j : ℕ) → j < n → 0 < get_or (take most (masked sentinel piece)) j 0
+nonzero_front s n most piece l w none j q =
+    let byte : get_or (take most (masked s piece)) j 0 ≡ bit_xor s (get_or piece j 0) = get_or-take most (masked s piece) j 0 (omega arith) ∙ masked_get s piece j (omega arith) in
+    let other : get_or piece j 0 ≢ s = λ e. none j q (get_or-take most piece j 0 (omega arith) ∙ e) in
+    omega (arith, byte, masked_positive s (get_or piece j 0) other)
+
+pub nonzero_bytes : (sentinel n most : ℕ) (piece : List ℕ) → most ≤ length piece → n ≤ most → ((k : ℕ) → k < n → get_or (take most piece) k 0 ≢ sentinel)
+    → (j : ℕ) → j < length (take n piece) → 0 < get_or (masked sentinel (take n piece)) j 0
+nonzero_bytes s n most piece l w none j q =
+    let inside : j < n = omega (arith, q, length-take-le n piece (omega arith)) in
+    let byte : get_or (masked s (take n piece)) j 0 ≡ get_or (take most (masked s piece)) j 0 =
+    ap (λ b. get_or b j 0) (sym (masked_take s n piece))
+    ∙ get_or-take n (masked s piece) j 0 inside
+    ∙ sym (get_or-take most (masked s piece) j 0 (omega arith)) in
+    omega (arith, byte, nonzero_front s n most piece l w none j inside)
 
 -- no byte of a stretch is zero
 pub stretch_clear : (bytes : List ℕ) → NoZero (stretch bytes)

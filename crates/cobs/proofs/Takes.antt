@@ -5,12 +5,14 @@ use Rattle.cobs.specs.Frames.{part}
 use Rattle.cobs.specs.Feeding.{at_zero, at_byte, answer_of, frame_after, placed}
 use Rattle.cobs.specs.Pieces.{frame_met}
 use Rattle.cobs.specs.Reports.{parsed_size, frame_size}
+use Rattle.cobs.specs.Sentinel.{masked}
 use Rattle.cobs.specs.Streaming.{Stands}
 use Rattle.cobs.specs.Taking.{TakesByte, TakesPiece}
 use Rattle.cobs.specs.declared.dec.DecodeError.{DecodeError}
 use Rattle.cobs.specs.declared.dec.DecodeReport.{DecodeReport}
 use Rattle.cobs.specs.declared.dec.Progress.{Progress}
 use Rattle.cobs.proofs.Feeds.{frame_byte, answer_byte}
+use Rattle.cobs.proofs.Masking.{masked_zero}
 use Rattle.cobs.proofs.Messages.{decoded_next, decoded_left, placed_zero, message_here, message_met}
 use Rattle.cobs.proofs.Turns.{Came}
 
@@ -63,3 +65,7 @@ takes_piece d old piece result d' new c w r = record {
   within = w;
   room = r;
 }
+
+-- for the sentinel zero
+pub unmasked : {d : Progress} {old piece : List ℕ} {result : Result (Option DecodeReport) DecodeError} {d' : Progress} {new : List ℕ} → TakesPiece d old (masked 0 piece) result d' new → TakesPiece d old piece result d' new
+unmasked {d} {old} {piece} {result} {d'} {new} t = subst (λ (b : List ℕ). TakesPiece d old b result d' new) (masked_zero piece) t

@@ -1,14 +1,15 @@
 //! Decoding: byte by byte by a table, in streams into a buffer, and of whole sources.
 ghost use Rattle.std.specs.Prelude.{bit_xor, ◌≡◌, ◌≢◌, ◌^◌, ℕ, ◌+◌, ◌-◌, ◌<◌, ◌≤◌, List, [], ◌∷◌, ◌++◌, length, take, drop, slice_index, true, replicate, ◌↔◌, IsTrue, IsOk, IfOk, OnOk, OnErr, MatchResult, IfSome, IsNone};
 ghost use Rattle.std.specs.Borrow.{sem};
-ghost use Rattle.cobs.specs.Frames.{Frame, part, part_from, after};
+ghost use Rattle.cobs.specs.Frames.{NoZero, Frame, part, part_from, after};
 ghost use Rattle.cobs.specs.Feeding.{by_code as state_by_code, told_by as byte_told_by, fed, next, stands_by, placed};
 ghost use Rattle.cobs.specs.Reports.{parsed_size, frame_size};
 ghost use Rattle.cobs.specs.InPlace.{stretch, in_place, in_place_length, overwritten, written_over};
 ghost use Rattle.cobs.specs.Sentinel.{masked};
+ghost use Rattle.cobs.specs.Streaming.{Stands};
 ghost use Rattle.cobs.specs.Whole.{unpadded, frame_in, decoded_from, decoded_into, message_of_stretch, message_of_frame, Refuses};
 
-use crate::masks::mask;
+use crate::masks::{copy_masked, mask};
 use arrayvec::ArrayVec;
 use memchr::memchr;
 use std::alloc::{AllocError, Global};
@@ -295,75 +296,76 @@ const WINDOW: usize = 254;
 // How many bytes are searched and copied by a loop, since a call costs more.
 const FEW: usize = 8;
 
-// How many bytes come before the first zero.
+// How many bytes come before the first sentinel.
 #[inline(always)]
-fn before_zero(bytes: &[u8]) -> usize
+fn before_sentinel(bytes: &[u8], sentinel: u8) -> usize
     ensures within { result ≤ length bytes.now }
-    ensures nonzero { (k : ℕ) → k < result → 0 < slice_index bytes.now k }
+    ensures none { (k : ℕ) → k < result → slice_index bytes.now k ≢ sentinel }
+    ensures end { result < length bytes.now → slice_index bytes.now result ≡ sentinel }
 {
     if FEW <= bytes.len() {
-        return memchr(0, bytes).unwrap_or(bytes.len());
+        return memchr(sentinel, bytes).unwrap_or(bytes.len());
     }
     for (end, byte) in bytes.iter().enumerate() {
-        if *byte == 0 {
+        if *byte == sentinel {
             return end;
         }
     }
     bytes.len()
 }
 
-// Copies bytes into a part that is as long.
+// Copies bytes, each XORed with the sentinel, into a part that is as long.
 #[inline(always)]
-fn copy(bytes: &[u8], out: &mut [u8])
+fn copy(bytes: &[u8], out: &mut [u8], sentinel: u8)
     requires { length bytes.now ≡ length out.old }
-    ensures { out.new ≡ bytes.now }
+    ensures { out.new ≡ masked sentinel bytes.now }
 {
     if FEW <= bytes.len() {
-        out.copy_from_slice(bytes);
+        copy_masked(bytes, out, sentinel);
         return;
     }
     for (place, byte) in bytes.iter().enumerate() {
-        out[place] = *byte;
+        out[place] = sentinel ^ *byte;
     }
 }
 
-// Copies bytes up to a zero into a buffer, from a place on. Answers how many.
+// Copies bytes up to a sentinel, each XORed with it, into a buffer, from a place on. Answers how many.
 #[inline(always)]
-fn copy_run(bytes: &[u8], buffer: &mut [u8], place: usize) -> usize
+fn copy_run(bytes: &[u8], buffer: &mut [u8], place: usize, sentinel: u8) -> usize
     requires { place + length bytes.now ≤ length buffer.old }
     ensures within { result ≤ length bytes.now }
-    ensures nonzero { (k : ℕ) → k < result → 0 < slice_index bytes.now k }
-    ensures buffer { buffer.new ≡ written_over place (take result bytes.now) buffer.old }
+    ensures none { (k : ℕ) → k < result → slice_index bytes.now k ≢ sentinel }
+    ensures buffer { buffer.new ≡ written_over place (take result (masked sentinel bytes.now)) buffer.old }
 {
     for (i, byte) in bytes.iter().enumerate() {
-        if *byte == 0 {
+        if *byte == sentinel {
             return i;
         }
-        buffer[place + i] = *byte;
+        buffer[place + i] = sentinel ^ *byte;
     }
     bytes.len()
 }
 
-// Whether 64 bytes are codes 01.
+// Whether 64 bytes are this one.
 #[inline(always)]
-fn are_ones(bytes: &[u8]) -> bool
+fn are_all(byte: u8, bytes: &[u8]) -> bool
     requires { length bytes.now ≡ 64 }
-    ensures { result ≡ true → (k : ℕ) → k < 64 → slice_index bytes.now k ≡ 1 }
+    ensures { result ≡ true → (k : ℕ) → k < 64 → slice_index bytes.now k ≡ byte }
 {
     u8x64::from_slice(bytes)
-        .simd_eq(u8x64::splat(1))
+        .simd_eq(u8x64::splat(byte))
         .to_bitmask()
         == u64::MAX
 }
 
-// How many bytes in front are codes 01, in steps of 64.
+// How many bytes in front are this one, in steps of 64.
 #[inline(always)]
-fn ones_by_64(bytes: &[u8]) -> usize
+fn same_by_64(byte: u8, bytes: &[u8]) -> usize
     ensures within { result ≤ length bytes.now }
-    ensures ones { (k : ℕ) → k < result → slice_index bytes.now k ≡ 1 }
+    ensures same { (k : ℕ) → k < result → slice_index bytes.now k ≡ byte }
 {
     let mut end = 0;
-    while 64 <= bytes.len() - end && are_ones(&bytes[end..end + 64]) {
+    while 64 <= bytes.len() - end && are_all(byte, &bytes[end..end + 64]) {
         end += 64;
     }
     end
@@ -372,16 +374,16 @@ fn ones_by_64(bytes: &[u8]) -> usize
 // Puts a zero for each code of bytes that were copied, where so many are left of a block. Answers where their last block
 // stands.
 #[inline(always)]
-fn put_zeros(bytes: &[u8], out: &mut [u8], left: u8) -> DecoderState
-    requires copied { out.old ≡ bytes.now }
+fn put_zeros(bytes: &[u8], out: &mut [u8], left: u8, sentinel: u8) -> DecoderState
+    requires copied { out.old ≡ masked sentinel bytes.now }
     requires short { length bytes.now ≤ 254 }
-    requires nonzero { (k : ℕ) → k < length bytes.now → 0 < slice_index bytes.now k }
-    ensures out { out.new ≡ part_from left true bytes.now }
-    ensures state { result ≡ stands_by (after left true bytes.now) }
+    requires nonzero { (k : ℕ) → k < length bytes.now → 0 < slice_index out.old k }
+    ensures out { out.new ≡ part_from left true (masked sentinel bytes.now) }
+    ensures state { result ≡ stands_by (after left true (masked sentinel bytes.now)) }
 {
     let mut at = left as usize;
     while at < bytes.len() {
-        let code = bytes[at];
+        let code = sentinel ^ bytes[at];
         out[at] = 0;
         if code == u8::MAX {
             return DecoderState::GrabChain((255 + at - bytes.len()) as u8);
@@ -394,20 +396,19 @@ fn put_zeros(bytes: &[u8], out: &mut [u8], left: u8) -> DecoderState
 // Copies bytes of a frame, where so many are left of a block, and puts a zero for each code. Answers where their last block
 // stands.
 #[inline(always)]
-fn decode_window(bytes: &[u8], out: &mut [u8], left: u8) -> DecoderState
+fn decode_window(bytes: &[u8], out: &mut [u8], left: u8, sentinel: u8) -> DecoderState
     requires long { length bytes.now ≡ length out.old }
     requires short { length bytes.now ≤ 254 }
-    requires nonzero { (k : ℕ) → k < length bytes.now → 0 < slice_index bytes.now k }
-    ensures out { out.new ≡ part_from left true bytes.now }
-    ensures state { result ≡ stands_by (after left true bytes.now) }
+    requires nonzero { (k : ℕ) → k < length bytes.now → 0 < slice_index (masked sentinel bytes.now) k }
+    ensures out { out.new ≡ part_from left true (masked sentinel bytes.now) }
+    ensures state { result ≡ stands_by (after left true (masked sentinel bytes.now)) }
 {
-    copy(bytes, out);
-    put_zeros(bytes, out, left)
+    copy(bytes, out, sentinel);
+    put_zeros(bytes, out, left, sentinel)
 }
 
 impl Progress {
     ghost use Rattle.cobs.specs.Feeding.{at_zero, at_byte};
-    ghost use Rattle.cobs.specs.Streaming.{Stands};
     ghost use Rattle.cobs.specs.Taking.{TakesByte, TakesPiece, TakesFront};
 
     fn new() -> Progress
@@ -458,12 +459,13 @@ impl Progress {
         }
     }
 
-    // Takes in the next bytes at once, where they are of an open block and have room: up to a zero, or as many as a window
-    // may have; codes 01, each of which is a zero of the message, in any number. Answers how many.
+    // Takes in the next bytes at once, each XORed with the sentinel, where they are of an open block and have room: up to a
+    // sentinel, or as many as a window may have; codes 01, each of which is a zero of the message, in any number. Answers
+    // how many.
     #[inline(always)]
-    fn take_window(&mut self, buffer: &mut [u8], piece: &[u8]) -> usize
+    fn take_window(&mut self, buffer: &mut [u8], piece: &[u8], sentinel: u8) -> usize
         ensures within { result ≤ length piece.now }
-        ensures front { (p : List ℕ) → Stands self.old p → TakesFront p piece.now buffer.old result self.new buffer.new }
+        ensures front { (p : List ℕ) → Stands self.old p → TakesFront p (masked sentinel piece.now) buffer.old result self.new buffer.new }
     {
         let len = self.len;
         if buffer.len() <= len {
@@ -474,22 +476,22 @@ impl Progress {
             DecoderState::Idle => 0,
             DecoderState::Grab(left) => {
                 if left == 0 {
-                    let ones = ones_by_64(&piece[..room]);
+                    let ones = same_by_64(sentinel ^ 1, &piece[..room]);
                     if 0 < ones {
                         buffer[len..len + ones].fill(0);
                         self.len = len + ones;
                         return ones;
                     }
                 }
-                let n = before_zero(&piece[..room.min(WINDOW)]);
+                let n = before_sentinel(&piece[..room.min(WINDOW)], sentinel);
                 let bytes = &piece[..n];
-                self.state = decode_window(bytes, &mut buffer[len..len + n], left);
+                self.state = decode_window(bytes, &mut buffer[len..len + n], left, sentinel);
                 self.len = len + n;
                 n
             }
             DecoderState::GrabChain(left) => {
-                let n = before_zero(&piece[..room.min(left as usize)]);
-                copy(&piece[..n], &mut buffer[len..len + n]);
+                let n = before_sentinel(&piece[..room.min(left as usize)], sentinel);
+                copy(&piece[..n], &mut buffer[len..len + n], sentinel);
                 self.state = DecoderState::GrabChain(left - n as u8);
                 self.len = len + n;
                 n
@@ -499,9 +501,9 @@ impl Progress {
 
     // The same of a few bytes: up to the next code, by a loop, since windows cost more.
     #[inline(always)]
-    fn take_run(&mut self, buffer: &mut [u8], piece: &[u8]) -> usize
+    fn take_run(&mut self, buffer: &mut [u8], piece: &[u8], sentinel: u8) -> usize
         ensures within { result ≤ length piece.now }
-        ensures front { (p : List ℕ) → Stands self.old p → TakesFront p piece.now buffer.old result self.new buffer.new }
+        ensures front { (p : List ℕ) → Stands self.old p → TakesFront p (masked sentinel piece.now) buffer.old result self.new buffer.new }
     {
         let Progress { state, len } = *self;
         let left = state.left();
@@ -509,7 +511,7 @@ impl Progress {
             return 0;
         }
         let most = piece.len().min(buffer.len() - len).min(left as usize);
-        let n = copy_run(&piece[..most], buffer, len);
+        let n = copy_run(&piece[..most], buffer, len, sentinel);
         self.state = state.behind(n as u8);
         self.len = len + n;
         n
@@ -517,14 +519,14 @@ impl Progress {
 
     // Takes in the next bytes at once, by a run where they are few and else by a window.
     #[inline(always)]
-    fn take_front(&mut self, buffer: &mut [u8], piece: &[u8], few: bool) -> usize
+    fn take_front(&mut self, buffer: &mut [u8], piece: &[u8], sentinel: u8, few: bool) -> usize
         ensures within { result ≤ length piece.now }
-        ensures front { (p : List ℕ) → Stands self.old p → TakesFront p piece.now buffer.old result self.new buffer.new }
+        ensures front { (p : List ℕ) → Stands self.old p → TakesFront p (masked sentinel piece.now) buffer.old result self.new buffer.new }
     {
         if few {
-            self.take_run(buffer, piece)
+            self.take_run(buffer, piece, sentinel)
         } else {
-            self.take_window(buffer, piece)
+            self.take_window(buffer, piece, sentinel)
         }
     }
 
@@ -562,24 +564,26 @@ impl Progress {
         }
     }
 
-    // Takes in a piece up to the first answer: bytes of an open block at once, and codes and zeros by themselves.
+    // Takes in a piece, of which each byte is XORed with the sentinel, up to the first answer: bytes of an open block at
+    // once, and codes and sentinels by themselves.
     #[inline(always)]
     fn push_fronts(
         &mut self,
         buffer: &mut [u8],
         piece: &[u8],
+        sentinel: u8,
         few: bool,
     ) -> Result<Option<DecodeReport>, DecodeError>
-        ensures { TakesPiece self.old buffer.old piece.now result self.new buffer.new }
+        ensures { TakesPiece self.old buffer.old (masked sentinel piece.now) result self.new buffer.new }
     {
         let mut at = 0;
         while at < piece.len() {
-            let taken = self.take_front(buffer, &piece[at..], few);
+            let taken = self.take_front(buffer, &piece[at..], sentinel, few);
             if 0 < taken {
                 at += taken;
                 continue;
             }
-            match self.feed(buffer, piece[at]) {
+            match self.feed(buffer, sentinel ^ piece[at]) {
                 Ok(None) => at += 1,
                 Ok(Some(len)) => {
                     return Ok(Some(DecodeReport {
@@ -627,71 +631,40 @@ impl Progress {
         Ok(None)
     }
 
-    // The same of any bytes: few by runs, more by windows.
+    // The same of any bytes: few by runs, more by windows. What stands for the sentinel zero is made by itself, where no
+    // byte is XORed.
     #[inline(never)]
     fn push_bytes(
         &mut self,
         buffer: &mut [u8],
         piece: &[u8],
+        sentinel: u8,
     ) -> Result<Option<DecodeReport>, DecodeError>
-        ensures { TakesPiece self.old buffer.old piece.now result self.new buffer.new }
+        ensures { TakesPiece self.old buffer.old (masked sentinel piece.now) result self.new buffer.new }
     {
         if piece.len() < FEW {
-            self.push_fronts(buffer, piece, true)
+            self.push_fronts(buffer, piece, sentinel, true)
+        } else if sentinel == 0 {
+            self.push_fronts(buffer, piece, 0, false)
         } else {
-            self.push_fronts(buffer, piece, false)
+            self.push_fronts(buffer, piece, sentinel, false)
         }
     }
 
     // Takes in a piece up to the first answer. One byte takes no call.
     #[inline(always)]
-    fn push(&mut self, buffer: &mut [u8], piece: &[u8]) -> Result<Option<DecodeReport>, DecodeError>
-        ensures { TakesPiece self.old buffer.old piece.now result self.new buffer.new }
+    fn push(
+        &mut self,
+        buffer: &mut [u8],
+        piece: &[u8],
+        sentinel: u8,
+    ) -> Result<Option<DecodeReport>, DecodeError>
+        ensures { TakesPiece self.old buffer.old (masked sentinel piece.now) result self.new buffer.new }
     {
         if let [byte] = piece {
-            self.push_byte(buffer, *byte)
+            self.push_byte(buffer, sentinel ^ *byte)
         } else {
-            self.push_bytes(buffer, piece)
-        }
-    }
-
-    // The same of bytes that are each XORed with the sentinel first.
-    fn push_masked(
-        &mut self,
-        buffer: &mut [u8],
-        piece: &[u8],
-        sentinel: u8,
-    ) -> Result<Option<DecodeReport>, DecodeError>
-        ensures { TakesPiece self.old buffer.old (masked sentinel piece.now) result self.new buffer.new }
-    {
-        let mut at = 0;
-        while at < piece.len() {
-            match self.feed(buffer, sentinel ^ piece[at]) {
-                Ok(None) => at += 1,
-                Ok(Some(decoded)) => {
-                    let parsed = at + 1;
-                    return Ok(Some(DecodeReport { parsed, decoded }));
-                }
-                Err(e) => return Err(e),
-            }
-        }
-        Ok(None)
-    }
-
-    // The same for any sentinel.
-    #[inline(always)]
-    fn push_for(
-        &mut self,
-        buffer: &mut [u8],
-        piece: &[u8],
-        sentinel: u8,
-    ) -> Result<Option<DecodeReport>, DecodeError>
-        ensures { TakesPiece self.old buffer.old (masked sentinel piece.now) result self.new buffer.new }
-    {
-        if sentinel == 0 {
-            self.push(buffer, piece)
-        } else {
-            self.push_masked(buffer, piece, sentinel)
+            self.push_bytes(buffer, piece, sentinel)
         }
     }
 }
@@ -708,12 +681,32 @@ fn write_over(buffer: &mut [u8], place: usize, bytes: &[u8])
 fn before(bytes: &[u8], sentinel: u8) -> &[u8]
     ensures { masked sentinel result.now ≡ stretch (masked sentinel bytes.now) }
 {
-    for (end, byte) in bytes.iter().enumerate() {
-        if *byte == sentinel {
-            return &bytes[..end];
-        }
+    &bytes[..before_sentinel(bytes, sentinel)]
+}
+
+// How far the bytes of a frame, each XORed with the sentinel, are taken in where none has room.
+fn count_frame(frame: &[u8], sentinel: u8) -> Progress
+    requires { NoZero (masked sentinel frame.now) }
+    ensures { Stands result (masked sentinel frame.now) }
+{
+    let mut progress = Progress::new();
+    for byte in frame {
+        let _ = progress.take_in(&mut [], sentinel ^ *byte);
     }
-    bytes
+    progress
+}
+
+// Takes in the bytes of a frame, each XORed with the sentinel, and also counts those that have no room.
+fn take_frame(frame: &[u8], dest: &mut [u8], sentinel: u8) -> Progress
+    requires { NoZero (masked sentinel frame.now) }
+    ensures stands { Stands result (masked sentinel frame.now) }
+    ensures dest { dest.new ≡ overwritten (part (masked sentinel frame.now)) dest.old }
+{
+    let mut progress = Progress::new();
+    match progress.push(dest, frame, sentinel) {
+        Ok(_) => progress,
+        Err(_) => count_frame(frame, sentinel),
+    }
 }
 
 // The bytes behind leading zeros.
@@ -743,7 +736,7 @@ pub fn decode(source: &[u8], dest: &mut [u8]) -> Result<DecodeReport, DecodeErro
 {
     let rest = behind_zeros(source);
     let mut progress = Progress::new();
-    if let Some(DecodeReport { parsed, decoded }) = progress.push(dest, rest)? {
+    if let Some(DecodeReport { parsed, decoded }) = progress.push(dest, rest, 0)? {
         return Ok(DecodeReport {
             parsed: source.len() - rest.len() + parsed,
             decoded,
@@ -772,12 +765,7 @@ pub fn decode_with_sentinel(
     ensures answer { result ≡ decoded_into (length dest.old) (stretch (masked sentinel source.now)) }
     ensures dest { dest.new ≡ overwritten (part (stretch (masked sentinel source.now))) dest.old }
 {
-    let mut progress = Progress::new();
-    let frame = before(source, sentinel);
-    for byte in frame {
-        let _ = progress.take_in(dest, sentinel ^ *byte);
-    }
-    let Progress { mut state, len } = progress;
+    let Progress { mut state, len } = take_frame(before(source, sentinel), dest, sentinel);
     match state.feed(0) {
         Err(_) => Err(DecodeError::InvalidFrame { decoded_bytes: len }),
         Ok(_) if dest.len() < len => Err(DecodeError::TargetBufTooSmall),
@@ -785,14 +773,15 @@ pub fn decode_with_sentinel(
     }
 }
 
-// Decodes the bytes of a vector before its first zero over themselves.
-fn decode_vector(bytes: Vec<u8>) -> Result<Vec<u8>, DecodeVecError>
-    ensures { MatchResult result (λ v. message_of_stretch (stretch bytes.items) ≡ Ok v.items) (λ e. Refuses e (message_of_stretch (stretch bytes.items))) }
+// Decodes the bytes of a vector before its first sentinel, each XORed with it, over themselves.
+fn decode_vector(bytes: Vec<u8>, sentinel: u8) -> Result<Vec<u8>, DecodeVecError>
+    ensures { MatchResult result (λ v. message_of_stretch (stretch (masked sentinel bytes.items)) ≡ Ok v.items)
+        (λ e. Refuses e (message_of_stretch (stretch (masked sentinel bytes.items)))) }
 {
     let mut bytes = bytes;
-    match decode_in_place(bytes.as_mut_slice()) {
-        Ok(len) => {
-            bytes.truncate(len);
+    match decode_in_place_report_with_sentinel(bytes.as_mut_slice(), sentinel) {
+        Ok(report) => {
+            bytes.truncate(report.frame_size());
             Ok(bytes)
         }
         Err(error) => Err(DecodeVecError::Decode(error)),
@@ -812,7 +801,7 @@ pub fn decode_vec(alloc: Global, source: &[u8]) -> Result<Vec<u8>, DecodeVecErro
     let bytes = frame
         .to_vec(alloc)
         .map_err(|_| DecodeVecError::OutOfMemory)?;
-    decode_vector(bytes)
+    decode_vector(bytes, 0)
 }
 
 /// As `decode_with_sentinel` with room for every message, into a vector of its own.
@@ -826,11 +815,10 @@ pub fn decode_vec_with_sentinel(
     ensures { MatchResult result (λ v. message_of_stretch (stretch (masked sentinel source.now)) ≡ Ok v.items)
         (λ e. Refuses e (message_of_stretch (stretch (masked sentinel source.now)))) }
 {
-    let mut bytes = before(source, sentinel)
+    let bytes = before(source, sentinel)
         .to_vec(alloc)
         .map_err(|_| DecodeVecError::OutOfMemory)?;
-    mask(bytes.as_mut_slice(), sentinel);
-    decode_vector(bytes)
+    decode_vector(bytes, sentinel)
 }
 
 /// Decodes frames that come byte by byte, into a buffer.
@@ -896,7 +884,7 @@ impl<'a> CobsDecoder<'a> {
         ensures sentinel { sentinel_of self.new ≡ sentinel_of self.old }
         ensures lent { lent_name self.new ≡ lent_name self.old }
     {
-        self.progress.push_for(self.dest, data, self.sentinel)
+        self.progress.push(self.dest, data, self.sentinel)
     }
 
     /// The buffer.
@@ -989,7 +977,7 @@ impl CobsDecoderOwned {
         ensures sentinel { owned_sentinel self.new ≡ owned_sentinel self.old }
     {
         self.progress
-            .push_for(self.buffer.as_mut_slice(), data, self.sentinel)
+            .push(self.buffer.as_mut_slice(), data, self.sentinel)
     }
 
     /// Makes the decoder idle. What was taken in of a frame is forgotten; the sentinel stays.
@@ -1133,7 +1121,7 @@ impl<const N: usize> CobsDecoderHeapless<N> {
         ensures sentinel { array_sentinel self.new ≡ array_sentinel self.old }
     {
         self.progress
-            .push_for(self.array.as_mut_slice(), data, self.sentinel)
+            .push(self.array.as_mut_slice(), data, self.sentinel)
     }
 
     /// Makes the decoder idle. What was taken in of a frame is forgotten; the sentinel stays.

@@ -5,25 +5,26 @@ use Rattle.cobs.specs.Frames.{part}
 use Rattle.cobs.specs.Pieces.{first_answer, frame_left}
 use Rattle.cobs.specs.Whole.{frame_in}
 use Rattle.cobs.proofs.Pushing.{pushed_over, pushed_refused, pushed_whole, then_refused, then_empty, then_whole}
+use Rattle.cobs.proofs.Takes.{unmasked}
 use Rattle.cobs.proofs.Wholes.{passed_on}
 use Rattle.cobs.proofs.dec.decode.Goals as goal
 use Rattle.cobs.proofs.dec.decode.Goals.{After-push, After-end}
 
 -- what stands in the room behind the push
 over : (c : After-push) → c.push.new.buffer ≡ overwritten (part (frame_in c.args.source.now)) c.args.dest.now
-over c = c.push.ensures.buffer [] c.new-progress.ensures ∙ pushed_over c.args.source.now c.behind_zeros-rest.result.now c.args.dest.now c.behind_zeros-rest.ensures.value
+over c = (unmasked c.push.ensures).buffer [] c.new-progress.ensures ∙ pushed_over c.args.source.now c.behind_zeros-rest.result.now c.args.dest.now c.behind_zeros-rest.ensures.value
 
 answered : (c : After-push) → c.push.result ≡ first_answer (length c.args.dest.now) [] c.behind_zeros-rest.result.now 0
-answered c = c.push.ensures.answer [] c.new-progress.ensures
+answered c = (unmasked c.push.ensures).answer [] c.new-progress.ensures
 
 -- nothing was answered, and then the zero
 nothing : (c : After-end) → first_answer (length c.args.dest.now) [] c.behind_zeros-rest.result.now 0 ≡ Ok None
-nothing c = sym (c.push.ensures.answer [] c.new-progress.ensures) ∙ c.in_ok-parsed.was ∙ ap (λ o. Ok o) c.in_default.is
+nothing c = sym ((unmasked c.push.ensures).answer [] c.new-progress.ensures) ∙ c.in_ok-parsed.was ∙ ap (λ o. Ok o) c.in_default.is
 
 ended : (c : After-end) → c.end.result ≡ at_zero (length c.args.dest.now) (frame_left (length c.args.dest.now) [] c.behind_zeros-rest.result.now)
 ended c =
-    c.end.ensures.answer _ (c.push.ensures.has [] c.new-progress.ensures)
-    ∙ ap (λ n. at_zero n (frame_left (length c.args.dest.now) [] c.behind_zeros-rest.result.now)) c.push.ensures.room
+    c.end.ensures.answer _ ((unmasked c.push.ensures).has [] c.new-progress.ensures)
+    ∙ ap (λ n. at_zero n (frame_left (length c.args.dest.now) [] c.behind_zeros-rest.result.now)) (unmasked c.push.ensures).room
 
 pub returns-in_err-parsed-clause-answer : goal.returns-in_err-parsed-clause-answer
 returns-in_err-parsed-clause-answer c =
@@ -36,7 +37,7 @@ returns-in_err-parsed-clause-dest c = over (goal.at.returns-in_err-parsed-clause
 pub returns-in-Some-clause-answer : goal.returns-in-Some-clause-answer
 returns-in-Some-clause-answer c =
     let whole : c.push.result ≡ Ok (Some c.in-Some.field-0) = c.in_ok-parsed.was ∙ ap (λ o. Ok o) c.in-Some.is in
-    let within = rw whole at c.push.ensures.within in
+    let within = rw whole at (unmasked c.push.ensures).within in
     pushed_whole c.args.source.now c.behind_zeros-rest.result.now c.args.dest.now c.behind_zeros-rest.ensures.value c.in-Some.field-0 (sym (answered (goal.at.returns-in-Some-clause-answer c).After-push) ∙ whole) within.0 c.behind_zeros-rest.ensures.within
 
 pub returns-in-Some-clause-dest : goal.returns-in-Some-clause-dest

@@ -1,5 +1,6 @@
 use Rattle.std.proofs.Common.{◌≡◌, ◌<◌, length, rules}
 use Rattle.cobs.specs.Whole.{frame_in}
+use Rattle.cobs.proofs.Masking.{masked_zero}
 use Rattle.cobs.proofs.Wholes.{found, empty_frame, other_frame}
 use Rattle.cobs.proofs.dec.decode_vec.Goals as goal
 use Rattle.cobs.proofs.dec.decode_vec.Goals.{After-before-frame}
@@ -14,4 +15,4 @@ pub returns : goal.returns
 returns c =
     let same : c.in_ok-bytes.bytes.items ≡ c.before-frame.result.now = search rules in
     let some : 0 < length c.before-frame.result.now = search rules in
-    rw (← other_frame c.args.source.now c.before-frame.result.now c.in_ok-bytes.bytes.items (frame_is (goal.at.returns c).After-before-frame) some same) c.decode_vector.ensures
+    rw (← other_frame c.args.source.now c.before-frame.result.now c.in_ok-bytes.bytes.items (frame_is (goal.at.returns c).After-before-frame) some same) (rw (masked_zero c.in_ok-bytes.bytes.items) at c.decode_vector.ensures)

@@ -1,10 +1,10 @@
 use Rattle.std.proofs.Common.{◌≡◌, ℕ, ◌-◌, ◌<◌, ◌≤◌, get_or, length}
-use Rattle.cobs.proofs.dec.ones_by_64.Given as goal
+use Rattle.cobs.proofs.dec.same_by_64.Given as goal
 
 abbrev pub invariant-loop-end : goal.invariant-loop-end
 invariant-loop-end l = record {
   within : l.end ≤ length l.bytes;
-  ones : (k : ℕ) → k < l.end → get_or l.bytes k 0 ≡ 1;
+  same : (k : ℕ) → k < l.end → get_or l.bytes k 0 ≡ l.byte;
 }
 
 abbrev pub decreases-loop-end : goal.decreases-loop-end

@@ -1,7 +1,7 @@
 use Rattle.std.proofs.Common.{◌≡◌, ◌+◌, ◌-◌, inl, inr, drop, get_or, ap, ◌∙◌, sym, arith}
 use Rattle.std.proofs.lemmas.List.{get_or-take, get_or-drop}
 use Rattle.std.proofs.lemmas.Bool.{cases_lt}
-use Rattle.cobs.proofs.dec.ones_by_64.Goals as goal
+use Rattle.cobs.proofs.dec.same_by_64.Goals as goal
 
 pub loop-end-preserved : goal.loop-end-preserved
 loop-end-preserved c =
@@ -9,10 +9,10 @@ loop-end-preserved c =
     let end = c.loop-end.end in
     record {
       within = omega arith;
-      ones = λ k l. elim (cases_lt k end) [
-        | inl b ↦ c.loop-end.invariant.ones k b
+      same = λ k l. elim (cases_lt k end) [
+        | inl b ↦ c.loop-end.invariant.same k b
         | inr b ↦
             let at : end + (k - end) ≡ k = omega arith in
-            ap (λ j. get_or bytes j 0) (sym at) ∙ sym (get_or-drop end bytes (k - end) 0) ∙ sym (get_or-take (end + 64 - end) (drop end bytes) (k - end) 0 (omega arith)) ∙ c.are_ones.ensures c.if-are_ones.true (k - end) (omega arith)
+            ap (λ j. get_or bytes j 0) (sym at) ∙ sym (get_or-drop end bytes (k - end) 0) ∙ sym (get_or-take (end + 64 - end) (drop end bytes) (k - end) 0 (omega arith)) ∙ c.are_all.ensures c.if-are_all.true (k - end) (omega arith)
       ];
     }
