@@ -1,6 +1,6 @@
 -- What one byte does to a receiver.
 use Rattle.std.proofs.Common.{◌≡◌, ℕ, ◌<◌, ◌≤◌, Bool, true, false, List, [], ◌∷◌, length, take, min, Option, Some, None, Ok, Err, refl, sym, ap, subst, inl, inr, arith}
-use Rattle.std.specs.Prelude.{IfSome}
+use Rattle.std.specs.Prelude.{bit_xor, Result, IfSome}
 use Rattle.std.specs.List.{AllByRecursion}
 use Rattle.std.proofs.lemmas.List.{take_all}
 use Rattle.std.proofs.lemmas.Bool.{cases_eq, cases_lt, eq-eqb, ne_eqb, lt-ltb, le-ltb}
@@ -8,19 +8,17 @@ use Rattle.cobs.specs.Frames.{Frame, part, missing}
 use Rattle.cobs.specs.FrameLaws.{HasOneMessage, IsFrameAtBlockEnd, DecidesLess}
 use Rattle.cobs.specs.DecodingLaws.{AnswersFrames}
 use Rattle.cobs.specs.Feeding.{at_zero}
-use Rattle.cobs.specs.declared.dec.CobsDecoderHeapless.{CobsDecoderHeapless}
+use Rattle.cobs.specs.Taking.{TakesByte}
+use Rattle.cobs.specs.declared.dec.Progress.{Progress}
 use Rattle.cobs.specs.declared.dec.DecodeError.{DecodeError}
 use Rattle.cobs.specs.declared.dec.DecodeError.TheVariants.{InvalidFrame}
 use Rattle.link.specs.Stream.{Begun, kept, over}
-use Rattle.link.specs.Receivers.{Has}
+use Rattle.link.specs.Decoding.{Inside}
+use Rattle.link.specs.Receivers.{Has, IsAtBy}
+use Rattle.link.proofs.Masks.{zero_of}
 
--- where a receiver with these fields stands
-module _ {N : ℕ} (d : CobsDecoderHeapless N) (count : ℕ) (past : Bool) where
-  abbrev pub Stands : Begun → Type 0
-  Stands (kept p) = (past ≡ false) × Has d count p
-  Stands over = (past ≡ true) × Has d count []
-
-  pub kept_is : (b : Begun) → past ≡ false → Stands b → (p : List ℕ) × (b ≡ kept p) × Has d count p
+module _ (limit s : ℕ) (inside : Inside) (count : ℕ) (past : Bool) where
+  pub kept_is : (b : Begun) → past ≡ false → IsAtBy limit s inside count past b → (p : List ℕ) × (b ≡ kept p) × Has limit s inside count p
   kept_is (kept p) e i = (p, refl, i.1)
   kept_is over e i = let h : past ≡ true = i.0 in cc
 
@@ -58,3 +56,8 @@ module _ (room : ℕ) (p : List ℕ) (some : 0 < length p) (bytes : AllByRecursi
 
 pub take_nothing : (n : ℕ) → take {A = ℕ} n [] ≡ []
 take_nothing n = take_all n [] (omega arith)
+
+-- a sentinel that is fed is a zero
+pub ended_byte : (before behind : Progress) (old new : List ℕ) (own mark : ℕ) (result : Result (Option ℕ) DecodeError) (s : ℕ) → own ≡ s → mark ≡ s
+    → TakesByte before old (bit_xor own mark) result behind new → TakesByte before old 0 result behind new
+ended_byte before behind old new own mark result s d e t = subst (λ b. TakesByte before old b result behind new) (zero_of own mark s d e) t

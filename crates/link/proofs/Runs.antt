@@ -1,7 +1,9 @@
--- What runs without zeros do to a receiver, and where they end.
-use Rattle.std.proofs.Common.{◌≡◌, ℕ, zero, suc, ◌+◌, ◌-◌, ◌<◌, ◌≤◌, Bool, true, false, List, [], ◌∷◌, ◌++◌, length, take, drop, get_or, Option, Some, None, Ok, refl, sym, ap, ◌∙◌, subst, inl, inr, arith, append_assoc}
+-- What runs without sentinels do to a receiver, and where they end.
+use Rattle.std.proofs.Common.{◌≡◌, ℕ, zero, suc, ◌+◌, ◌-◌, ◌<◌, ◌≤◌, Bool, true, false, List, [], ◌∷◌, ◌++◌, length, take, drop, get_or, Option, Some, None, Result, Ok, refl, sym, ap, ◌∙◌, subst, inl, inr, arith, append_assoc}
+use Rattle.std.specs.Prelude.{bit_xor}
 use Rattle.std.specs.List.{AllByRecursion}
-use Rattle.std.proofs.lemmas.Bool.{cases_lt, ne_eqb, eq-eqb, eqb-true, lt-ltb, le-ltb}
+use Rattle.std.proofs.lemmas.Nat.{xor_lt}
+use Rattle.std.proofs.lemmas.Bool.{cases_eq, cases_lt, ne_eqb, eq-eqb, eqb-true, lt-ltb, le-ltb}
 use Rattle.std.proofs.lemmas.List.{append-nil, length-append, length-drop}
 use Rattle.memchr.specs.Find.{IsFirstByte, is_byte}
 use Rattle.std.specs.Option.{unwrap_or}
@@ -10,35 +12,45 @@ use Rattle.cobs.specs.FrameLaws.{DecidesLess}
 use Rattle.cobs.specs.InPlace.{stretch}
 use Rattle.cobs.specs.Pieces.{frame_left, ended}
 use Rattle.cobs.specs.Feeding.{answer_of, frame_after}
-use Rattle.cobs.specs.Streaming.{Decoded}
-use Rattle.cobs.specs.Arrays.{ArrayHas, array_buffer}
-use Rattle.cobs.specs.declared.dec.CobsDecoderHeapless.{CobsDecoderHeapless}
+use Rattle.cobs.specs.Streaming.{Stands, Decoded}
+use Rattle.cobs.specs.Sentinel.{masked}
+use Rattle.cobs.specs.Taking.{TakesPiece}
+use Rattle.cobs.specs.declared.dec.DecodeError.{DecodeError}
+use Rattle.cobs.specs.declared.dec.DecodeReport.{DecodeReport}
 use Rattle.link.specs.Stream.{Begun, kept, over}
 use Rattle.link.specs.Steps.{Event, quiet, passed, event_at, begun_at, Course, course_on, course_of, ahead, RunsOn, RunsPast}
-use Rattle.link.specs.Receivers.{Has}
+use Rattle.link.specs.Decoding.{Inside}
+use Rattle.link.specs.Receivers.{Has, IsAtBy}
 use Rattle.link.specs.Finds.{Finds, BringsNothing, BringsAbout, Brings}
-use Rattle.link.specs.declared.receiver.Found.{Found}
-use Rattle.link.specs.declared.receiver.Found.TheVariants.{Nothing, TooMuch, Broken, Whole}
-use Rattle.link.proofs.Receiving.{Stands}
+use Rattle.link.specs.declared.reception.Found.{Found}
+use Rattle.link.specs.declared.reception.Found.TheVariants.{Nothing, TooMuch, Broken, Whole}
+use Rattle.link.proofs.Masks.{sentinel_is_zero, no_sentinel, masked_length}
+use Rattle.link.proofs.Streams.{nonzero as unlike}
 use Rattle.link.proofs.Turning.{nothing_found, some_found}
 
--- the first zero
-stretch_byte : (b : ℕ) (x : List ℕ) → (b ≡ 0 → ⊥) → stretch (b ∷ x) ≡ b ∷ stretch x
-stretch_byte b x n = rw (ne_eqb b 0 n) refl
+above : (b : ℕ) → 0 < b → b ≡ 0 → ⊥
+above b l e = omega (arith, l, e)
 
-pub stretch_of_none : (s : List ℕ) → ((k : ℕ) → k < length s → get_or s k 0 ≡ 0 → ⊥) → length s ≡ length (stretch s)
-stretch_of_none [] h = refl
-stretch_of_none (b ∷ s) h = ap suc (stretch_of_none s (λ k l e. h (suc k) (omega (arith, l)) e)) ∙ sym (ap length (stretch_byte b s (h 0 (omega arith))))
+-- the first sentinel
+stretch_none : (s b : ℕ) (x : List ℕ) → b ≡ s → stretch (masked s (b ∷ x)) ≡ []
+stretch_none s b x e = rw (eq-eqb (bit_xor s b) 0 (sentinel_is_zero s b e)) refl
 
-pub stretch_of_first : (s : List ℕ) (k : ℕ) → k < length s → get_or s k 0 ≡ 0 → ((j : ℕ) → j < k → get_or s j 0 ≡ 0 → ⊥) → k ≡ length (stretch s)
-stretch_of_first [] k l e h = absurd (omega (arith, l))
-stretch_of_first (b ∷ s) zero l e h = rw (eq-eqb b 0 e) refl
-stretch_of_first (b ∷ s) (suc k) l e h =
-    ap suc (stretch_of_first s k (omega (arith, l)) e (λ j m f. h (suc j) (omega (arith, m)) f)) ∙ sym (ap length (stretch_byte b s (h 0 (omega arith))))
+stretch_byte : (s b : ℕ) (x : List ℕ) → (b ≡ s → ⊥) → stretch (masked s (b ∷ x)) ≡ bit_xor s b ∷ stretch (masked s x)
+stretch_byte s b x n = rw (ne_eqb (bit_xor s b) 0 (above (bit_xor s b) (unlike s b n))) refl
 
-pub found_zero : (s : List ℕ) (r : Option ℕ) → IsFirstByte (is_byte 0) s r → unwrap_or r (length s) ≡ length (stretch s)
-found_zero s None h = stretch_of_none s (λ k l e. h k (omega arith) l (eq-eqb (get_or s k 0) 0 e))
-found_zero s (Some k) h = stretch_of_first s k h.0.high (eqb-true (get_or s k 0) 0 h.1) (λ j l e. h.0.before j (omega arith) l (eq-eqb (get_or s j 0) 0 e))
+pub stretch_of_none : (s : ℕ) (x : List ℕ) → ((k : ℕ) → k < length x → get_or x k 0 ≡ s → ⊥) → length x ≡ length (stretch (masked s x))
+stretch_of_none s [] h = refl
+stretch_of_none s (b ∷ x) h = ap suc (stretch_of_none s x (λ k l e. h (suc k) (omega (arith, l)) e)) ∙ sym (ap length (stretch_byte s b x (h 0 (omega arith))))
+
+pub stretch_of_first : (s : ℕ) (x : List ℕ) (k : ℕ) → k < length x → get_or x k 0 ≡ s → ((j : ℕ) → j < k → get_or x j 0 ≡ s → ⊥) → k ≡ length (stretch (masked s x))
+stretch_of_first s [] k l e h = absurd (omega (arith, l))
+stretch_of_first s (b ∷ x) zero l e h = sym (ap length (stretch_none s b x e))
+stretch_of_first s (b ∷ x) (suc k) l e h =
+    ap suc (stretch_of_first s x k (omega (arith, l)) e (λ j m f. h (suc j) (omega (arith, m)) f)) ∙ sym (ap length (stretch_byte s b x (h 0 (omega arith))))
+
+pub found_sentinel : (s : ℕ) (x : List ℕ) (r : Option ℕ) → IsFirstByte (is_byte s) x r → unwrap_or r (length x) ≡ length (stretch (masked s x))
+found_sentinel s x None h = stretch_of_none s x (λ k l e. h k (omega arith) l (eq-eqb (get_or x k 0) s e))
+found_sentinel s x (Some k) h = stretch_of_first s x k h.0.high (eqb-true (get_or x k 0) s h.1) (λ j l e. h.0.before j (omega arith) l (eq-eqb (get_or x j 0) s e))
 
 -- courses over runs
 course_as : (used later : ℕ) (e : Event) (c : Begun) → used ≡ later → (let k : Course = record { used = used; event = e; begun = c } in k) ≡ record { used = later; event = e; begun = c }
@@ -47,35 +59,34 @@ course_as used later e c h = ap (λ n. let k : Course = record { used = n; event
 ahead_more : (n : ℕ) (k : Course) → course_on quiet over (ahead n k) ≡ ahead (suc n) k
 ahead_more n k = course_as ((n + k.used) + 1) (suc n + k.used) k.event k.begun (omega arith)
 
-nonzero : (b : ℕ) → 0 < b → b ≡ 0 → ⊥
-nonzero b l e = omega (arith, l, e)
+over_on : (limit s : ℕ) (x later : List ℕ) → NoZero (masked s x) → course_of limit s over (x ++ later) ≡ ahead (length x) (course_of limit s over later)
+over_on limit s [] later z = let k = course_of limit s over later in course_as k.used (0 + k.used) k.event k.begun (omega arith)
+over_on limit s (b ∷ x) later z =
+    let k = course_of limit s over later in
+    rw (ne_eqb b s (no_sentinel s b z.0)) (ap (course_on quiet over) (over_on limit s x later z.1) ∙ ahead_more (length x) k)
 
-over_on : (limit : ℕ) (x later : List ℕ) → NoZero x → course_of limit 0 over (x ++ later) ≡ ahead (length x) (course_of limit 0 over later)
-over_on limit [] later z = let k = course_of limit 0 over later in course_as k.used (0 + k.used) k.event k.begun (omega arith)
-over_on limit (b ∷ x) later z =
-    let k = course_of limit 0 over later in
-    rw (ne_eqb b 0 (nonzero b z.0)) (ap (course_on quiet over) (over_on limit x later z.1) ∙ ahead_more (length x) k)
-
-kept_on : (limit : ℕ) (p x later : List ℕ) → NoZero x → length p + length x ≤ limit → course_of limit 0 (kept p) (x ++ later) ≡ ahead (length x) (course_of limit 0 (kept (p ++ x)) later)
-kept_on limit p [] later z l =
-    let k = course_of limit 0 (kept p) later in
-    course_as k.used (0 + k.used) k.event k.begun (omega arith) ∙ ap (λ q. ahead 0 (course_of limit 0 (kept q) later)) (sym (append-nil p))
-kept_on limit p (b ∷ x) later z l =
-    let k = course_of limit 0 (kept (p ++ (b ∷ x))) later in
+kept_on : (limit s : ℕ) (p x later : List ℕ) → NoZero (masked s x) → length p + length x ≤ limit → course_of limit s (kept p) (x ++ later) ≡ ahead (length x) (course_of limit s (kept (p ++ masked s x)) later)
+kept_on limit s p [] later z l =
+    let k = course_of limit s (kept p) later in
+    course_as k.used (0 + k.used) k.event k.begun (omega arith) ∙ ap (λ q. ahead 0 (course_of limit s (kept q) later)) (sym (append-nil p))
+kept_on limit s p (b ∷ x) later z l =
+    let c = bit_xor s b in
+    let k = course_of limit s (kept (p ++ (c ∷ masked s x))) later in
     let short : length p < limit = omega (arith, l) in
-    let behind : length (p ++ b ∷ []) + length x ≤ limit = omega (arith, l, length-append p (b ∷ [])) in
-    rw (ne_eqb b 0 (nonzero b z.0), lt-ltb (length p) limit short)
-    (ap (course_on quiet over) (kept_on limit (p ++ b ∷ []) x later z.1 behind ∙ ap (λ q. ahead (length x) (course_of limit 0 (kept q) later)) (append_assoc p (b ∷ []) x)) ∙ ahead_more (length x) k)
+    let behind : length (p ++ c ∷ []) + length x ≤ limit = omega (arith, l, length-append p (c ∷ [])) in
+    rw (ne_eqb b s (no_sentinel s b z.0), lt-ltb (length p) limit short)
+    (ap (course_on quiet over) (kept_on limit s (p ++ c ∷ []) x later z.1 behind ∙ ap (λ q. ahead (length x) (course_of limit s (kept q) later)) (append_assoc p (c ∷ []) (masked s x))) ∙ ahead_more (length x) k)
 
-kept_past : (limit : ℕ) (p x later : List ℕ) → NoZero x → length p ≤ limit → limit < length p + length x → course_of limit 0 (kept p) (x ++ later) ≡ record { used = (limit - length p) + 1; event = passed; begun = over }
-kept_past limit p [] later z l m = absurd (omega (arith, l, m))
-kept_past limit p (b ∷ x) later z l m = elim (cases_lt (length p) limit) [
+kept_past : (limit s : ℕ) (p x later : List ℕ) → NoZero (masked s x) → length p ≤ limit → limit < length p + length x → course_of limit s (kept p) (x ++ later) ≡ record { used = (limit - length p) + 1; event = passed; begun = over }
+kept_past limit s p [] later z l m = absurd (omega (arith, l, m))
+kept_past limit s p (b ∷ x) later z l m = elim (cases_lt (length p) limit) [
   | inl short ↦ (
-      let behind = length-append p (b ∷ []) in
-      let rest = kept_past limit (p ++ b ∷ []) x later z.1 (omega (arith, short, behind)) (omega (arith, m, behind)) in
-      rw (ne_eqb b 0 (nonzero b z.0), lt-ltb (length p) limit short)
-      (ap (course_on quiet over) rest ∙ course_as (((limit - length (p ++ b ∷ [])) + 1) + 1) ((limit - length p) + 1) passed over (omega (arith, short, behind))))
-  | inr full ↦ rw (ne_eqb b 0 (nonzero b z.0), le-ltb (length p) limit full) (course_as 1 ((limit - length p) + 1) passed over (omega (arith, full)))
+      let c = bit_xor s b in
+      let behind = length-append p (c ∷ []) in
+      let rest = kept_past limit s (p ++ c ∷ []) x later z.1 (omega (arith, short, behind)) (omega (arith, m, behind)) in
+      rw (ne_eqb b s (no_sentinel s b z.0), lt-ltb (length p) limit short)
+      (ap (course_on quiet over) rest ∙ course_as (((limit - length (p ++ c ∷ [])) + 1) + 1) ((limit - length p) + 1) passed over (omega (arith, short, behind))))
+  | inr full ↦ rw (ne_eqb b s (no_sentinel s b z.0), le-ltb (length p) limit full) (course_as 1 ((limit - length p) + 1) passed over (omega (arith, full)))
 ]
 
 -- what a decoder keeps of a run
@@ -87,74 +98,77 @@ quiet_byte : (room b : ℕ) (p : List ℕ) → DecidesLess → 0 < b → length 
 quiet_byte room b p less z l =
     let w = less (p ++ b ∷ []) in
     let n = length-append p (b ∷ []) in
-    rw (ne_eqb b 0 (nonzero b z), le-ltb room (length (part (p ++ b ∷ []))) (omega (arith, w, n, l))) refl
+    rw (ne_eqb b 0 (above b z), le-ltb room (length (part (p ++ b ∷ []))) (omega (arith, w, n, l))) refl
 
 left_on : (room : ℕ) (p x : List ℕ) → DecidesLess → NoZero x → length p + length x ≤ room → frame_left room p x ≡ p ++ x
 left_on room p [] less z l = sym (append-nil p)
 left_on room p (b ∷ x) less z l =
-    let behind : frame_after p b ≡ p ++ b ∷ [] = rw (ne_eqb b 0 (nonzero b z.0)) refl in
+    let behind : frame_after p b ≡ p ++ b ∷ [] = rw (ne_eqb b 0 (above b z.0)) refl in
     ap (λ r. ended r (frame_after p b) (frame_left room (frame_after p b) x)) (quiet_byte room b p less z.0 (omega (arith, l)))
     ∙ ap (λ q. frame_left room q x) behind ∙ left_on room (p ++ b ∷ []) x less z.1 (omega (arith, l, length-append p (b ∷ []))) ∙ append_assoc p (b ∷ []) x
 
-pub has_run : {N : ℕ} (d e : CobsDecoderHeapless N) (count : ℕ) (p x : List ℕ) → Has d count p → DecidesLess → NoZero x → AllByRecursion (λ b. (0 < b) × (b < 256)) x → count + length x ≤ N
-    → ArrayHas e (frame_left (length (array_buffer d)) p x) → Decoded (array_buffer e) (frame_left (length (array_buffer d)) p x) → length (array_buffer e) ≡ length (array_buffer d) → Has e (count + length x) (p ++ x)
-has_run {N} d e count p x h less z bytes l t k r =
-    let behind = left_on (length (array_buffer d)) p x less z (omega (arith, l, h.room, h.counted)) in
+pub has_run : (limit s : ℕ) (old new : Inside) (count : ℕ) (p x : List ℕ) (result : Result (Option DecodeReport) DecodeError) → Has limit s old count p → DecidesLess → NoZero (masked s x)
+    → AllByRecursion (λ b. (0 < b) × (b < 256)) (masked s x) → count + length x ≤ limit
+    → TakesPiece old.progress old.buffer (masked old.sentinel x) result new.progress new.buffer → new.sentinel ≡ old.sentinel → Has limit s new (count + length x) (p ++ masked s x)
+has_run limit s old new count p x result h less z bytes l t m =
+    let k : TakesPiece old.progress old.buffer (masked s x) result new.progress new.buffer = subst (λ n. TakesPiece old.progress old.buffer (masked n x) result new.progress new.buffer) h.sentinel t in
+    let n = masked_length s x in
+    let behind = left_on (length old.buffer) p (masked s x) less z (omega (arith, l, h.room, h.counted, n)) in
     record {
-      room = r ∙ h.room;
-      taken = subst (λ q. ArrayHas e q) behind t;
-      decoded = subst (λ q. Decoded (array_buffer e) q) behind k;
-      counted = omega (arith, h.counted, length-append p x);
-      within = omega (arith, l, h.counted, length-append p x);
-      bytes = all_joined (λ b. (0 < b) × (b < 256)) p x h.bytes bytes;
+      room = k.room ∙ h.room;
+      sentinel = m ∙ h.sentinel;
+      byte = h.byte;
+      taken = subst (λ q. Stands new.progress q) behind (k.has p h.taken);
+      decoded = subst (λ q. Decoded new.buffer q) behind (k.decoded p h.taken h.decoded);
+      counted = omega (arith, h.counted, length-append p (masked s x), n);
+      within = omega (arith, l, h.counted, length-append p (masked s x), n);
+      bytes = all_joined (λ b. (0 < b) × (b < 256)) p (masked s x) h.bytes bytes;
     }
 
-module _ {N : ℕ} (d : CobsDecoderHeapless N) (count : ℕ) (past : Bool) where
-  -- of a stretch that is too long nothing is said
-  pub runs_over : (limit : ℕ) (b : Begun) (x : List ℕ) (At : Begun → Type 0) → past ≡ true → Stands d count past b → At b → NoZero x → RunsOn limit 0 b x At
-  runs_over limit (kept p) x At e i h z = absurd (let no : past ≡ false = i.0 in let w : true ≡ false = sym e ∙ no in cc)
-  runs_over limit over x At e i h z = record { now = over; at = h; rest = λ later. over_on limit x later z }
+-- of a stretch that is too long nothing is said
+pub runs_over : (limit s : ℕ) (inside : Inside) (count : ℕ) (past : Bool) (b : Begun) (x : List ℕ) (At : Begun → Type 0) → past ≡ true → IsAtBy limit s inside count past b → At b → NoZero (masked s x) → RunsOn limit s b x At
+runs_over limit s inside count past (kept p) x At e i h z = absurd (let no : past ≡ false = i.0 in let w : true ≡ false = sym e ∙ no in cc)
+runs_over limit s inside count past over x At e i h z = record { now = over; at = h; rest = λ later. over_on limit s x later z }
 
-pub runs_on : (limit : ℕ) (b : Begun) (p x : List ℕ) (At : Begun → Type 0) → b ≡ kept p → NoZero x → length p + length x ≤ limit → At (kept (p ++ x)) → RunsOn limit 0 b x At
-runs_on limit b p x At e z l h = record { now = kept (p ++ x); at = h; rest = λ later. ap (λ c. course_of limit 0 c (x ++ later)) e ∙ kept_on limit p x later z l }
+pub runs_on : (limit s : ℕ) (b : Begun) (p x : List ℕ) (At : Begun → Type 0) → b ≡ kept p → NoZero (masked s x) → length p + length x ≤ limit → At (kept (p ++ masked s x)) → RunsOn limit s b x At
+runs_on limit s b p x At e z l h = record { now = kept (p ++ masked s x); at = h; rest = λ later. ap (λ c. course_of limit s c (x ++ later)) e ∙ kept_on limit s p x later z l }
 
-pub runs_past : (limit : ℕ) (b : Begun) (p x : List ℕ) (used : ℕ) (At : Begun → Type 0) → b ≡ kept p → NoZero x → length p ≤ limit → limit < length p + length x → used ≡ (limit - length p) + 1 → At over → RunsPast limit 0 b x used At
-runs_past limit b p x used At e z l m u h = record {
+pub runs_past : (limit s : ℕ) (b : Begun) (p x : List ℕ) (used : ℕ) (At : Begun → Type 0) → b ≡ kept p → NoZero (masked s x) → length p ≤ limit → limit < length p + length x → used ≡ (limit - length p) + 1 → At over → RunsPast limit s b x used At
+runs_past limit s b p x used At e z l m u h = record {
   at = h;
-  rest = λ later. ap (λ c. course_of limit 0 c (x ++ later)) e ∙ kept_past limit p x later z l m ∙ course_as ((limit - length p) + 1) used passed over (sym u);
+  rest = λ later. ap (λ c. course_of limit s c (x ++ later)) e ∙ kept_past limit s p x later z l m ∙ course_as ((limit - length p) + 1) used passed over (sym u);
 }
 
-pub nonzero_bytes : (x : List ℕ) → NoZero x → ((k : ℕ) → get_or x k 0 < 256) → AllByRecursion (λ b. (0 < b) × (b < 256)) x
-nonzero_bytes [] z h = tt
-nonzero_bytes (b ∷ x) z h = ((z.0, h 0), nonzero_bytes x z.1 (λ k. h (suc k)))
+pub nonzero_bytes : (s : ℕ) (x : List ℕ) → s < 256 → NoZero (masked s x) → ((k : ℕ) → get_or x k 0 < 256) → AllByRecursion (λ b. (0 < b) × (b < 256)) (masked s x)
+nonzero_bytes s [] l z h = tt
+nonzero_bytes s (b ∷ x) l z h = ((z.0, xor_lt 8 s b l (h 0)), nonzero_bytes s x l z.1 (λ k. h (suc k)))
 
--- a stretch, and the zero behind it
-stretch_in_front : (s : List ℕ) → take (length (stretch s)) s ≡ stretch s
-stretch_in_front [] = refl
-stretch_in_front (zero ∷ s) = refl
-stretch_in_front (suc b ∷ s) = rw (ne_eqb (suc b) 0 (λ e. omega arith)) (ap (λ x. suc b ∷ x) (stretch_in_front s))
+-- a stretch, and the sentinel behind it
+no_zero_in : (s : ℕ) (x : List ℕ) → NoZero (masked s (take (length (stretch (masked s x))) x))
+no_zero_in s [] = tt
+no_zero_in s (b ∷ x) = elim (cases_eq b s) [
+  | inl e ↦ subst (λ y. NoZero (masked s (take (length y) (b ∷ x)))) (sym (stretch_none s b x e)) tt
+  | inr n ↦ subst (λ y. NoZero (masked s (take (length y) (b ∷ x)))) (sym (stretch_byte s b x n)) (unlike s b n, no_zero_in s x)
+]
 
-no_zero_in : (s : List ℕ) → NoZero (stretch s)
-no_zero_in [] = tt
-no_zero_in (zero ∷ s) = tt
-no_zero_in (suc b ∷ s) = rw (ne_eqb (suc b) 0 (λ e. omega arith)) (omega arith, no_zero_in s)
+pub run_of : (s : ℕ) (x run : List ℕ) (size : ℕ) → size ≡ length (stretch (masked s x)) → run ≡ take size x → NoZero (masked s run)
+run_of s x run size e f = subst (λ y. NoZero (masked s y)) (sym (f ∙ ap (λ n. take n x) e)) (no_zero_in s x)
 
-pub run_of : (s run : List ℕ) (size : ℕ) → size ≡ length (stretch s) → run ≡ take size s → NoZero run
-run_of s run size e f = subst NoZero (sym (f ∙ ap (λ n. take n s) e ∙ stretch_in_front s)) (no_zero_in s)
+sentinel_follows : (s : ℕ) (x : List ℕ) → length (stretch (masked s x)) < length x → drop (length (stretch (masked s x))) x ≡ s ∷ drop (suc (length (stretch (masked s x)))) x
+sentinel_follows s [] l = absurd (omega (arith, l))
+sentinel_follows s (b ∷ x) l = elim (cases_eq b s) [
+  | inl e ↦ rw (ap length (stretch_none s b x e)) (ap (λ c. c ∷ x) e)
+  | inr n ↦ (
+      let e : length (stretch (masked s (b ∷ x))) ≡ suc (length (stretch (masked s x))) = ap length (stretch_byte s b x n) in
+      rw e (sentinel_follows s x (omega (arith, l, e))))
+]
 
-zero_follows : (s : List ℕ) → length (stretch s) < length s → drop (length (stretch s)) s ≡ 0 ∷ drop (suc (length (stretch s))) s
-zero_follows [] l = absurd (omega (arith, l))
-zero_follows (zero ∷ s) l = refl
-zero_follows (suc b ∷ s) l =
-    let e : length (stretch (suc b ∷ s)) ≡ suc (length (stretch s)) = ap length (stretch_byte (suc b) s (λ z. omega arith)) in
-    rw e (zero_follows s (omega (arith, l, e)))
-
-pub zero_behind : (s behind : List ℕ) (size : ℕ) → size ≡ length (stretch s) → behind ≡ drop size s → 0 < length behind → behind ≡ 0 ∷ drop (size + 1) s
-zero_behind s behind size e f l =
-    let g : behind ≡ drop (length (stretch s)) s = f ∙ ap (λ n. drop n s) e in
-    let short : length (stretch s) < length s = omega (arith, l, ap length g, length-drop (length (stretch s)) s) in
-    let n : suc (length (stretch s)) ≡ size + 1 = omega (arith, e) in
-    g ∙ zero_follows s short ∙ ap (λ n. 0 ∷ drop n s) n
+pub sentinel_behind : (s : ℕ) (x behind : List ℕ) (size : ℕ) → size ≡ length (stretch (masked s x)) → behind ≡ drop size x → 0 < length behind → behind ≡ s ∷ drop (size + 1) x
+sentinel_behind s x behind size e f l =
+    let g : behind ≡ drop (length (stretch (masked s x))) x = f ∙ ap (λ n. drop n x) e in
+    let short : length (stretch (masked s x)) < length x = omega (arith, l, ap length g, length-drop (length (stretch (masked s x))) x) in
+    let n : suc (length (stretch (masked s x))) ≡ size + 1 = omega (arith, e) in
+    g ∙ sentinel_follows s x short ∙ ap (λ n. s ∷ drop n x) n
 
 -- what a course brings
 about : (limit s : ℕ) (b : Begun) (bytes : List ℕ) (used : ℕ) (buffer : List ℕ) (found : Found) (At : Begun → Type 0) (e : Event) (c : Begun)
@@ -168,35 +182,35 @@ about limit s b bytes used buffer found At e c q f h = record {
 ahead_on : (n : ℕ) (c : Begun) (k : Course) → ahead n (course_on quiet c k) ≡ ahead (n + 1) k
 ahead_on n c k = course_as (n + (k.used + 1)) ((n + 1) + k.used) k.event k.begun (omega arith)
 
-module _ (limit : ℕ) (b : Begun) (bytes run behind : List ℕ) (size : ℕ) (parts : bytes ≡ run ++ behind) where
-  pub past_brings : (used : ℕ) (buffer : List ℕ) (At : Begun → Type 0) → RunsPast limit 0 b run used At → BringsAbout limit 0 b bytes used buffer TooMuch At
-  past_brings used buffer At r = about limit 0 b bytes used buffer TooMuch At passed over (ap (course_of limit 0 b) parts ∙ r.rest behind) refl r.at
+module _ (limit s : ℕ) (b : Begun) (bytes run behind : List ℕ) (size : ℕ) (parts : bytes ≡ run ++ behind) where
+  pub past_brings : (used : ℕ) (buffer : List ℕ) (At : Begun → Type 0) → RunsPast limit s b run used At → BringsAbout limit s b bytes used buffer TooMuch At
+  past_brings used buffer At r = about limit s b bytes used buffer TooMuch At passed over (ap (course_of limit s b) parts ∙ r.rest behind) refl r.at
 
-  module _ (sized : length run ≡ size) (Before : Begun → Type 0) (r : RunsOn limit 0 b run Before) where
-    to_here : course_of limit 0 b bytes ≡ ahead size (course_of limit 0 r.now behind)
-    to_here = ap (course_of limit 0 b) parts ∙ r.rest behind ∙ ap (λ n. ahead n (course_of limit 0 r.now behind)) sized
+  module _ (sized : length run ≡ size) (Before : Begun → Type 0) (r : RunsOn limit s b run Before) where
+    to_here : course_of limit s b bytes ≡ ahead size (course_of limit s r.now behind)
+    to_here = ap (course_of limit s b) parts ∙ r.rest behind ∙ ap (λ n. ahead n (course_of limit s r.now behind)) sized
 
-    pub run_brings : behind ≡ drop size bytes → BringsNothing limit 0 b bytes size Before
-    run_brings e = record { now = r.now; at = r.at; rest = to_here ∙ ap (λ x. ahead size (course_of limit 0 r.now x)) e }
+    pub run_brings : behind ≡ drop size bytes → BringsNothing limit s b bytes size Before
+    run_brings e = record { now = r.now; at = r.at; rest = to_here ∙ ap (λ x. ahead size (course_of limit s r.now x)) e }
 
-    module _ (At : Begun → Type 0) (buffer : List ℕ) (zeroed : behind ≡ 0 ∷ drop (size + 1) bytes) (h : At (begun_at limit 0 r.now 0)) where
-      to_zero : course_of limit 0 b bytes ≡ ahead size (course_on (event_at limit 0 r.now 0) (begun_at limit 0 r.now 0) (course_of limit 0 (begun_at limit 0 r.now 0) (drop (size + 1) bytes)))
-      to_zero = to_here ∙ ap (λ x. ahead size (course_of limit 0 r.now x)) zeroed
+    module _ (At : Begun → Type 0) (buffer : List ℕ) (marked : behind ≡ s ∷ drop (size + 1) bytes) (h : At (begun_at limit s r.now s)) where
+      to_sentinel : course_of limit s b bytes ≡ ahead size (course_on (event_at limit s r.now s) (begun_at limit s r.now s) (course_of limit s (begun_at limit s r.now s) (drop (size + 1) bytes)))
+      to_sentinel = to_here ∙ ap (λ x. ahead size (course_of limit s r.now x)) marked
 
-      zero_nothing : Finds (event_at limit 0 r.now 0) buffer Nothing → BringsNothing limit 0 b bytes (size + 1) At
-      zero_nothing f =
-          let k = course_of limit 0 (begun_at limit 0 r.now 0) (drop (size + 1) bytes) in
-          let q = nothing_found (event_at limit 0 r.now 0) buffer Nothing f refl in
-          record { now = begun_at limit 0 r.now 0; at = h; rest = to_zero ∙ ap (λ e. ahead size (course_on e (begun_at limit 0 r.now 0) k)) q ∙ ahead_on size (begun_at limit 0 r.now 0) k }
+      ends_nothing : Finds (event_at limit s r.now s) buffer Nothing → BringsNothing limit s b bytes (size + 1) At
+      ends_nothing f =
+          let k = course_of limit s (begun_at limit s r.now s) (drop (size + 1) bytes) in
+          let q = nothing_found (event_at limit s r.now s) buffer Nothing f refl in
+          record { now = begun_at limit s r.now s; at = h; rest = to_sentinel ∙ ap (λ e. ahead size (course_on e (begun_at limit s r.now s) k)) q ∙ ahead_on size (begun_at limit s r.now s) k }
 
-      zero_about : (found : Found) → Finds (event_at limit 0 r.now 0) buffer found → (found ≡ Nothing → ⊥) → BringsAbout limit 0 b bytes (size + 1) buffer found At
-      zero_about found f n =
-          let k = course_of limit 0 (begun_at limit 0 r.now 0) (drop (size + 1) bytes) in
-          about limit 0 b bytes (size + 1) buffer found At (event_at limit 0 r.now 0) (begun_at limit 0 r.now 0)
-          (to_zero ∙ ap (ahead size) (some_found (event_at limit 0 r.now 0) buffer found (begun_at limit 0 r.now 0) k f n)) f h
+      ends_about : (found : Found) → Finds (event_at limit s r.now s) buffer found → (found ≡ Nothing → ⊥) → BringsAbout limit s b bytes (size + 1) buffer found At
+      ends_about found f n =
+          let k = course_of limit s (begun_at limit s r.now s) (drop (size + 1) bytes) in
+          about limit s b bytes (size + 1) buffer found At (event_at limit s r.now s) (begun_at limit s r.now s)
+          (to_sentinel ∙ ap (ahead size) (some_found (event_at limit s r.now s) buffer found (begun_at limit s r.now s) k f n)) f h
 
-      pub zero_brings : (found : Found) → Finds (event_at limit 0 r.now 0) buffer found → Brings limit 0 b bytes (size + 1) buffer found At
-      zero_brings Nothing f = zero_nothing f
-      zero_brings TooMuch f = zero_about TooMuch f (λ e. cc)
-      zero_brings Broken f = zero_about Broken f (λ e. cc)
-      zero_brings (Whole n stretch) f = zero_about (Whole n stretch) f (λ e. cc)
+      pub sentinel_brings : (found : Found) → Finds (event_at limit s r.now s) buffer found → Brings limit s b bytes (size + 1) buffer found At
+      sentinel_brings Nothing f = ends_nothing f
+      sentinel_brings TooMuch f = ends_about TooMuch f (λ e. cc)
+      sentinel_brings Broken f = ends_about Broken f (λ e. cc)
+      sentinel_brings (Whole n stretch) f = ends_about (Whole n stretch) f (λ e. cc)

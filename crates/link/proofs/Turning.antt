@@ -3,8 +3,8 @@ use Rattle.std.proofs.Common.{◌≡◌, ℕ, List, drop, refl}
 use Rattle.link.specs.Stream.{Begun}
 use Rattle.link.specs.Steps.{Event, quiet, ended, passed, Course, course_on, course_of, ahead}
 use Rattle.link.specs.Finds.{Finds}
-use Rattle.link.specs.declared.receiver.Found.{Found}
-use Rattle.link.specs.declared.receiver.Found.TheVariants.{Nothing, TooMuch, Broken, Whole}
+use Rattle.link.specs.declared.reception.Found.{Found}
+use Rattle.link.specs.declared.reception.Found.TheVariants.{Nothing, TooMuch, Broken, Whole}
 
 -- The first i bytes of the piece brought nothing about, and this is begun now.
 pub record Turn (limit s : ℕ) (b : Begun) (piece : List ℕ) (i : ℕ) (At : Begun → Type 0) : Type 0 where

@@ -7,8 +7,8 @@ use Rattle.link.specs.Steps.{Event, quiet, ended, passed, ahead, course_of}
 use Rattle.link.specs.declared.receiver.Answer.{Answer}
 use Rattle.link.specs.declared.receiver.Answer.TheVariants.{Value, Damaged, TooLong}
 use Rattle.link.specs.declared.receiver.NoMemory.{NoMemory}
-use Rattle.link.specs.declared.receiver.Found.{Found}
-use Rattle.link.specs.declared.receiver.Found.TheVariants.{Nothing, TooMuch, Broken, Whole}
+use Rattle.link.specs.declared.reception.Found.{Found}
+use Rattle.link.specs.declared.reception.Found.TheVariants.{Nothing, TooMuch, Broken, Whole}
 
 -- What is found is this event; the message of a frame stands in front of the buffer, and how long the stretch was is told.
 abbrev pub Finds : Event → List ℕ → Found → Type 0

@@ -5,6 +5,7 @@ pub mod Steps
 pub mod Pushes
 pub mod Finds
 pub mod Judged
+pub mod Decoding
 pub mod Receivers
 pub mod Framing
 pub mod Framed

@@ -6,7 +6,9 @@ ghost use Rattle.postcard.specs.Frames.{Holds};
 ghost use Rattle.link.specs.Lending.{Reads};
 ghost use Rattle.link.specs.Finds.{AnswersStretch};
 
-use crate::receiver::{Answer, Found, NoMemory, Pushed, Receiver, Taken};
+use crate::decoding::Decoding;
+use crate::receiver::{Answer, NoMemory, Pushed, Receiver};
+use crate::reception::{Found, Reception, Taken};
 use postcard::{Deserialize, Error, from_bytes};
 use std::alloc::Global;
 
@@ -26,16 +28,16 @@ pub(crate) struct Advanced<'de> {
     pub found: Lent<'de>,
 }
 
-impl<const N: usize> Receiver<N> {
-    ghost use Rattle.link.specs.contracts.receiver.Receiver.{the_row};
+impl<D: Decoding> Reception<D> {
+    ghost use Rattle.link.specs.contracts.reception.Reception.{the_row};
     ghost use mathlib.Core.Option.{none};
     ghost use denote.Follow.{follows_so};
-    ghost use Rattle.link.specs.Lending.{Advances, Leads, Answers, Stands};
+    ghost use Rattle.link.specs.Lending.{Advances, Leads};
 
     // Takes bytes of a piece, up to the first that brings something about, and lends the message of a frame.
     pub(crate) fn advance<'de>(&'de mut self, piece: &[u8]) -> Advanced<'de>
-        ensures answer { Advances self.entry.now piece.now result }
-        ensures* after { sem 𝓛 (follows_so (the_row N.row) (the_row N.row) self.entry.ghost_name none (λ _ _. ⊤) (λ n. Leads self.entry.now piece.now n)) }
+        ensures answer { Advances D.inside self.entry.now piece.now result }
+        ensures* after { sem 𝓛 (follows_so (the_row D.row) (the_row D.row) self.entry.ghost_name none (λ _ _. ⊤) (λ n. Leads D.inside self.entry.now piece.now n)) }
     {
         let Taken { used, found } = self.take(piece);
         match found {
@@ -56,6 +58,22 @@ impl<const N: usize> Receiver<N> {
                 found: Lent::Message(&self.buffer()[..size]),
             },
         }
+    }
+}
+
+impl<const N: usize> Receiver<N> {
+    ghost use Rattle.link.specs.contracts.receiver.Receiver.{the_row};
+    ghost use mathlib.Core.Option.{none};
+    ghost use denote.Follow.{follows_so};
+    ghost use Rattle.link.specs.Decoding.{in_array};
+    ghost use Rattle.link.specs.Lending.{Advances, Leads, Answers, Stands};
+
+    // As that of what it shares.
+    fn advance<'de>(&'de mut self, piece: &[u8]) -> Advanced<'de>
+        ensures answer { Advances in_array self.entry.now.reception piece.now result }
+        ensures* after { sem 𝓛 (follows_so (the_row N.row) (the_row N.row) self.entry.ghost_name none (λ _ _. ⊤) (λ n. Leads in_array self.entry.now.reception piece.now n.reception)) }
+    {
+        self.reception.advance(piece)
     }
 
     /// As `push`, of a value that may borrow from the receiver: its bytes lie there. The receiver is free again once the value is

@@ -45,6 +45,7 @@
 //! is answered, `specs/Run.antt` what is sent and what is to be told of it, and `laws` what holds of these.
 #![tactic(auto)]
 
+mod decoding;
 mod framed;
 mod gathering;
 pub mod headline;
@@ -54,6 +55,7 @@ pub mod laws;
 mod lent;
 mod listening;
 mod receiver;
+mod reception;
 pub mod rows;
 mod sender;
 mod session;

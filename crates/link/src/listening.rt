@@ -2,10 +2,14 @@
 ghost use Rattle.std.specs.Prelude.{◌≡◌, ℕ, ◌<◌, List, [], ◌++◌, Ok, None, OnOk, OnErr};
 ghost use Rattle.postcard.specs.Frames.{Holds};
 ghost use Rattle.link.specs.Stream.{HoldsExactly};
+ghost use Rattle.link.specs.Receivers.{IsBehind};
 ghost use Rattle.link.specs.Listening.{IsConcluded, Keeps, ReceiverFitsInMemory, HasRead, IsReceived, IsKept, Hears, IsHeard, Stopped};
 
+use crate::decoding::Decoding;
 use crate::judging::{Judging, Ordinary, Strict};
 use crate::receiver::{Answer, NoMemory, Pushed, Receiver};
+use crate::reception::Reception;
+use cobs::CobsDecoderHeapless;
 use line_io::Inlet;
 use postcard::{DeserializeOwned, Exact};
 use postcard_tree::Readable;
@@ -58,16 +62,16 @@ fn keep<T: Drop>(
 }
 
 // Pushes a piece until it is used up, and keeps the answers.
-fn hear<T: Readable + Drop, J: Judging<T>, const N: usize>(
+fn hear<T: Readable + Drop, J: Judging<T>, D: Decoding>(
     alloc: Global,
-    receiver: &mut Receiver<N>,
+    receiver: &mut Reception<D>,
     answers: &mut Vec<Answer<T>>,
     piece: &[u8],
 ) -> Result<(), NoMemory>
-    ensures ok { OnOk result ((stream : List ℕ) → Hears J.holds T.reads receiver.old answers.old.items stream
-        → Hears J.holds T.reads receiver.new answers.new.items (stream ++ piece.now)) }
-    ensures err { OnErr result ((stream : List ℕ) → Hears J.holds T.reads receiver.old answers.old.items stream
-        → Stopped J.holds T.reads N 0 answers.new.items (stream ++ piece.now)) }
+    ensures ok { OnOk result ((limit s : ℕ) (stream : List ℕ) → Hears D.inside J.holds T.reads limit s receiver.old answers.old.items stream
+        → Hears D.inside J.holds T.reads limit s receiver.new answers.new.items (stream ++ piece.now)) }
+    ensures err { OnErr result ((limit s : ℕ) (stream : List ℕ) → Hears D.inside J.holds T.reads limit s receiver.old answers.old.items stream
+        → Stopped J.holds T.reads limit s answers.new.items (stream ++ piece.now)) }
 {
     let mut rest = piece;
     while !rest.is_empty() {
@@ -82,15 +86,15 @@ fn hear<T: Readable + Drop, J: Judging<T>, const N: usize>(
 }
 
 // Hears what a reader gives, to its end.
-fn listen<T: Readable + Drop, J: Judging<T>, R: Inlet, const N: usize>(
+fn listen<T: Readable + Drop, J: Judging<T>, R: Inlet, D: Decoding>(
     alloc: Global,
     reader: &mut R,
-    receiver: &mut Receiver<N>,
+    receiver: &mut Reception<D>,
     answers: &mut Vec<Answer<T>>,
 ) -> End
-    ensures { (stream : List ℕ) → Hears J.holds T.reads receiver.old answers.old.items stream
+    ensures { (limit s : ℕ) (stream : List ℕ) → Hears D.inside J.holds T.reads limit s receiver.old answers.old.items stream
         → (bytes : List ℕ) × HasRead (R.to_come reader.old) (R.to_come reader.new) (R.faults reader.old) (R.faults reader.new) (R.calls_left reader.new) result bytes
-        × IsHeard J.holds T.reads result receiver.new answers.new.items (stream ++ bytes) }
+        × IsHeard D.inside J.holds T.reads limit s result receiver.new answers.new.items (stream ++ bytes) }
 {
     let mut room = [0u8; ROOM];
     loop {
@@ -98,7 +102,7 @@ fn listen<T: Readable + Drop, J: Judging<T>, R: Inlet, const N: usize>(
             None => return End::ReadFault,
             Some(0) => return End::Ended,
             Some(n) => {
-                if hear::<T, J, N>(alloc, receiver, answers, &room[..n]).is_err() {
+                if hear::<T, J, D>(alloc, receiver, answers, &room[..n]).is_err() {
                     return End::NoMemory;
                 }
             }
@@ -107,13 +111,13 @@ fn listen<T: Readable + Drop, J: Judging<T>, R: Inlet, const N: usize>(
 }
 
 // Ends the stream where the reader has ended.
-fn conclude<T: Readable + Drop, J: Judging<T>, const N: usize>(
-    receiver: Receiver<N>,
+fn conclude<T: Readable + Drop, J: Judging<T>, D: Decoding>(
+    receiver: &Reception<D>,
     answers: &mut Vec<Answer<T>>,
     end: End,
 ) -> End
-    ensures received { (stream : List ℕ) → IsHeard J.holds T.reads end receiver.entry answers.old.items stream
-        → IsKept J.holds T.reads N 0 result answers.new.items stream }
+    ensures received { (limit s : ℕ) (stream : List ℕ) → IsHeard D.inside J.holds T.reads limit s end receiver.now answers.old.items stream
+        → IsKept J.holds T.reads limit s result answers.new.items stream }
     ensures end { IsConcluded end result }
 {
     match end {
@@ -126,21 +130,21 @@ fn conclude<T: Readable + Drop, J: Judging<T>, const N: usize>(
     }
 }
 
-// The answers to all that a reader gives, by a way of judging frames.
-fn receive_by<T: Readable + Drop, J: Judging<T>, R: Inlet, const N: usize>(
+// The answers to all that a reader gives, by a receiver that was given nothing and a way of judging frames.
+fn receive_by<T: Readable + Drop, J: Judging<T>, R: Inlet, D: Decoding>(
     alloc: Global,
     reader: R,
+    receiver: &mut Reception<D>,
 ) -> Received<T, R>
-    requires { ReceiverFitsInMemory N.row }
-    ensures { (bytes : List ℕ) × HasRead (R.to_come reader) (R.to_come result.reader) (R.faults reader) (R.faults result.reader) (R.calls_left result.reader) result.end bytes
-        × IsReceived J.holds T.reads N 0 result.end result.answers.items bytes }
+    ensures { (limit s : ℕ) → IsBehind D.inside limit s receiver.old []
+        → (bytes : List ℕ) × HasRead (R.to_come reader) (R.to_come result.reader) (R.faults reader) (R.faults result.reader) (R.calls_left result.reader) result.end bytes
+        × IsReceived J.holds T.reads limit s result.end result.answers.items bytes }
 {
     J::show();
     let mut reader = reader;
-    let mut receiver = Receiver::<N>::new();
     let mut answers = Vec::new(alloc);
-    let end = listen::<T, J, R, N>(alloc, &mut reader, &mut receiver, &mut answers);
-    let end = conclude::<T, J, N>(receiver, &mut answers, end);
+    let end = listen::<T, J, R, D>(alloc, &mut reader, receiver, &mut answers);
+    let end = conclude::<T, J, D>(receiver, &mut answers, end);
     Received {
         answers,
         end,
@@ -159,7 +163,8 @@ pub fn receive<T: DeserializeOwned, R: Inlet, const N: usize>(
     ensures { (bytes : List ℕ) × HasRead (R.to_come reader) (R.to_come result.reader) (R.faults reader) (R.faults result.reader) (R.calls_left result.reader) result.end bytes
         × IsReceived (Holds T.takes) T.reads N 0 result.end result.answers.items bytes }
 {
-    receive_by::<T, Ordinary, R, N>(alloc, reader)
+    let mut receiver = Receiver::<N>::new();
+    receive_by::<T, Ordinary, R, CobsDecoderHeapless<N>>(alloc, reader, &mut receiver.reception)
 }
 
 /// As `receive`, but a stretch within the limit is a `Value` only where it is the very frame that sending that value makes, and
@@ -172,5 +177,6 @@ pub fn receive_strict<T: DeserializeOwned + Exact, R: Inlet, const N: usize>(
     ensures { (bytes : List ℕ) × HasRead (R.to_come reader) (R.to_come result.reader) (R.faults reader) (R.faults result.reader) (R.calls_left result.reader) result.end bytes
         × IsReceived (HoldsExactly T.takes) T.reads N 0 result.end result.answers.items bytes }
 {
-    receive_by::<T, Strict, R, N>(alloc, reader)
+    let mut receiver = Receiver::<N>::new();
+    receive_by::<T, Strict, R, CobsDecoderHeapless<N>>(alloc, reader, &mut receiver.reception)
 }

@@ -1,0 +1,9 @@
+use Rattle.link.specs.Stream.{begun}
+use Rattle.link.proofs.Betweens.{between_counted, never_between}
+use Rattle.link.proofs.reception.Reception.is_between.Goals as goal
+
+pub returns-then-not-self : goal.returns-then-not-self
+returns-then-not-self g c limit s stream h = between_counted limit s _ _ _ (begun limit s stream) c.if-not-self.true h.state
+
+pub returns-else-not-self : goal.returns-else-not-self
+returns-else-not-self g c limit s stream h = (λ t. absurd (cc (c.if-not-self.false, t)), λ k. absurd (never_between limit s _ _ _ (begun limit s stream) c.if-not-self.false h.state k))

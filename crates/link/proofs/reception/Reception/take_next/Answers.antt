@@ -1,0 +1,44 @@
+use Rattle.std.proofs.Common.{◌≡◌, ℕ, length, ◌++◌, drop, sym, ap, ◌∙◌, subst}
+use Rattle.std.proofs.lemmas.List.{take-append-drop}
+use Rattle.cobs.specs.InPlace.{stretch}
+use Rattle.cobs.specs.Sentinel.{masked}
+use Rattle.link.specs.Receivers.{IsAt, buffer_in}
+use Rattle.link.proofs.Fetching.{has_bytes}
+use Rattle.link.proofs.Runs.{run_of, past_brings, run_brings, sentinel_brings, sentinel_behind}
+use Rattle.link.proofs.reception.Reception.take_next.Goals as goal
+
+pub returns-in-Some-clause-brings : goal.returns-in-Some-clause-brings
+returns-in-Some-clause-brings g c limit s b i =
+    let bytes = c.args.bytes.now in
+    let size = c.before_sentinel-size.result in
+    let run = c.split_at.result.0.now in
+    let behind = c.split_at.result.1.now in
+    let parts : bytes ≡ run ++ behind = sym (take-append-drop size bytes) ∙ ap (λ x. x ++ drop size bytes) (sym c.split_at.ensures.front) ∙ ap (λ x. run ++ x) (sym c.split_at.ensures.back) in
+    let before : size ≡ length (stretch (masked s bytes)) = c.before_sentinel-size.ensures.before ∙ ap (λ n. length (stretch (masked n bytes))) i.sentinel_is in
+    let z = run_of s bytes run size before c.split_at.ensures.front in
+    past_brings limit s b bytes run behind size parts c.in-Some.used _ _ (c.in-Some.ensures.runs limit s b z i)
+
+pub returns-then-is_empty-clause-brings : goal.returns-then-is_empty-clause-brings
+returns-then-is_empty-clause-brings g c limit s b i =
+    let bytes = c.args.bytes.now in
+    let size = c.before_sentinel-size.result in
+    let run = c.split_at.result.0.now in
+    let behind = c.split_at.result.1.now in
+    let parts : bytes ≡ run ++ behind = sym (take-append-drop size bytes) ∙ ap (λ x. x ++ drop size bytes) (sym c.split_at.ensures.front) ∙ ap (λ x. run ++ x) (sym c.split_at.ensures.back) in
+    let before : size ≡ length (stretch (masked s bytes)) = c.before_sentinel-size.ensures.before ∙ ap (λ n. length (stretch (masked n bytes))) i.sentinel_is in
+    let z = run_of s bytes run size before c.split_at.ensures.front in
+    run_brings limit s b bytes run behind size parts c.split_at.ensures.front_len _ (c.in-None.ensures.runs limit s b z i) c.split_at.ensures.back
+
+pub returns-clause-brings : goal.returns-clause-brings
+returns-clause-brings g c limit s b i =
+    let bytes = c.args.bytes.now in
+    let size = c.before_sentinel-size.result in
+    let run = c.split_at.result.0.now in
+    let behind = c.split_at.result.1.now in
+    let parts : bytes ≡ run ++ behind = sym (take-append-drop size bytes) ∙ ap (λ x. x ++ drop size bytes) (sym c.split_at.ensures.front) ∙ ap (λ x. run ++ x) (sym c.split_at.ensures.back) in
+    let before : size ≡ length (stretch (masked s bytes)) = c.before_sentinel-size.ensures.before ∙ ap (λ n. length (stretch (masked n bytes))) i.sentinel_is in
+    let z = run_of s bytes run size before c.split_at.ensures.front in
+    let some = has_bytes behind c.is_empty.result c.is_empty.ensures c.if-is_empty.false in
+    let r = c.in-None.ensures.runs limit s b z i in
+    sentinel_brings limit s b bytes run behind size parts c.split_at.ensures.front_len _ r (IsAt g.D.Decoding.inside limit s c.take_sentinel.new.self) (buffer_in g.D.Decoding.inside c.take_sentinel.new.self)
+    (sentinel_behind s bytes behind size before c.split_at.ensures.back some) (c.take_sentinel.ensures.at limit s r.now r.at) c.take_sentinel.result (c.take_sentinel.ensures.finds limit s r.now r.at)

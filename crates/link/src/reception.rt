@@ -1,0 +1,227 @@
+//! What all receivers share: taking bytes up to the first that brings something about, and the answer to it.
+ghost use Rattle.std.specs.Prelude.{◌≡◌, ℕ, ◌<◌, ◌≤◌, ◌↔◌, length, List, [], ◌++◌, take, true, OnErr, IsTrue, IfSome, MatchOption};
+ghost use Rattle.cobs.specs.Frames.{NoZero};
+ghost use Rattle.cobs.specs.Sentinel.{masked};
+ghost use Rattle.link.specs.Stream.{Begun, kept, begun};
+ghost use Rattle.link.specs.Steps.{Event, event_at, begun_at, course_of, RunsOn, RunsPast};
+ghost use Rattle.link.specs.Pushes.{Answered, finished};
+ghost use Rattle.link.specs.Finds.{Finds, IsWithin, Brings, Replies};
+
+use crate::decoding::Decoding;
+use crate::judging::Judging;
+use crate::receiver::{Answer, NoMemory, Pushed};
+use crate::zeros::before_sentinel;
+use postcard_tree::Readable;
+use std::alloc::Global;
+
+// What is found in a piece.
+#[derive(Clone, Copy)]
+pub(crate) enum Found {
+    Nothing,
+    TooMuch,
+    Broken,
+    // a frame: how long its message is, which stands in front of the buffer, and how long the stretch was
+    Whole { size: usize, stretch: usize },
+}
+
+// How many bytes of a piece were used, and what was found in them.
+#[derive(Clone, Copy)]
+pub(crate) struct Taken {
+    pub used: usize,
+    pub found: Found,
+}
+
+// A receiver over a decoder, whose buffer has as many bytes as the limit and whose sentinel is the same.
+#[derive(Drop)]
+pub(crate) struct Reception<D> {
+    pub(crate) decoder: D,
+    pub(crate) count: usize,
+    pub(crate) past: bool,
+    pub(crate) limit: usize,
+    pub(crate) sentinel: u8,
+    ghost within: { count ≤ limit },
+}
+
+impl<D: Decoding> Reception<D> {
+    ghost use Rattle.link.specs.Receivers.{IsAt, IsBehind, SameTerms, buffer_in};
+
+    // Ends a stretch.
+    fn close(&mut self) -> Found
+        ensures found { (limit s : ℕ) (p : List ℕ) → IsAt D.inside limit s self.old (kept p) → 0 < length p
+            → IsAt D.inside limit s self.new (kept []) × Finds (Event.ended p) (buffer_in D.inside self.new) result }
+        ensures within { IsWithin (length (buffer_in D.inside self.new)) result }
+        ensures same { SameTerms self.old self.new }
+    {
+        cobs::laws::message_of_a_frame();
+        cobs::laws::shorter();
+        cobs::laws::answers();
+        let stretch = self.count;
+        self.count = 0;
+        match self.decoder.decode_byte(self.sentinel) {
+            Ok(Some(size)) => Found::Whole { size, stretch },
+            Ok(None) => Found::Nothing,
+            Err(_) => Found::Broken,
+        }
+    }
+
+    // Takes a sentinel.
+    fn take_sentinel(&mut self) -> Found
+        ensures at { (limit s : ℕ) (b : Begun) → IsAt D.inside limit s self.old b → IsAt D.inside limit s self.new (begun_at limit s b s) }
+        ensures finds { (limit s : ℕ) (b : Begun) → IsAt D.inside limit s self.old b → Finds (event_at limit s b s) (buffer_in D.inside self.new) result }
+        ensures within { IsWithin (length (buffer_in D.inside self.new)) result }
+        ensures same { SameTerms self.old self.new }
+    {
+        if self.past {
+            self.past = false;
+            return Found::Nothing;
+        }
+        if self.count == 0 {
+            return Found::Nothing;
+        }
+        self.close()
+    }
+
+    // Takes a run without sentinels. Where it goes past the limit, how many bytes of it do.
+    fn take_run(&mut self, run: &[u8]) -> Option<usize>
+        ensures runs { (limit s : ℕ) (b : Begun) → NoZero (masked s run.now) → IsAt D.inside limit s self.old b
+            → MatchOption result (RunsOn limit s b run.now (IsAt D.inside limit s self.new)) (λ used. RunsPast limit s b run.now used (IsAt D.inside limit s self.new)) }
+        ensures within { IfSome result (λ used. (0 < used) × (used ≤ length run.now)) }
+        ensures same { SameTerms self.old self.new }
+    {
+        cobs::laws::shorter();
+        if self.past {
+            return None;
+        }
+        let left = self.limit - self.count;
+        if run.len() > left {
+            self.past = true;
+            self.count = 0;
+            self.decoder.forget();
+            return Some(left + 1);
+        }
+        self.count += run.len();
+        let _ = self.decoder.decode_bytes(run);
+        None
+    }
+
+    // Takes bytes through the first sentinel, or up to the byte past the limit.
+    fn take_next(&mut self, bytes: &[u8]) -> Taken
+        ensures brings { (limit s : ℕ) (b : Begun) → IsAt D.inside limit s self.old b → Brings limit s b bytes.now result.used (buffer_in D.inside self.new) result.found (IsAt D.inside limit s self.new) }
+        ensures within { IsWithin (length (buffer_in D.inside self.new)) result.found }
+        ensures bound { result.used ≤ length bytes.now }
+        ensures forward { 0 < length bytes.now → 0 < result.used }
+        ensures same { SameTerms self.old self.new }
+    {
+        let size = before_sentinel(bytes, self.sentinel);
+        let (run, behind) = bytes.split_at(size);
+        match self.take_run(run) {
+            Some(used) => {
+                return Taken {
+                    used,
+                    found: Found::TooMuch,
+                };
+            }
+            None => {}
+        }
+        if behind.is_empty() {
+            return Taken {
+                used: size,
+                found: Found::Nothing,
+            };
+        }
+        Taken {
+            used: size + 1,
+            found: self.take_sentinel(),
+        }
+    }
+
+    // Takes bytes of a piece, up to the first that brings something about.
+    pub(crate) fn take(&mut self, piece: &[u8]) -> Taken
+        ensures used { (limit s : ℕ) (b : Begun) → IsAt D.inside limit s self.old b → result.used ≡ (course_of limit s b piece.now).used }
+        ensures at { (limit s : ℕ) (b : Begun) → IsAt D.inside limit s self.old b → IsAt D.inside limit s self.new (course_of limit s b piece.now).begun }
+        ensures finds { (limit s : ℕ) (b : Begun) → IsAt D.inside limit s self.old b → Finds (course_of limit s b piece.now).event (buffer_in D.inside self.new) result.found }
+        ensures within { IsWithin (length (buffer_in D.inside self.new)) result.found }
+        ensures bound { result.used ≤ length piece.now }
+        ensures forward { 0 < length piece.now → 0 < result.used }
+        ensures same { SameTerms self.old self.new }
+    {
+        let mut at = 0;
+        while at < piece.len() {
+            let (_, rest) = piece.split_at(at);
+            let Taken { used, found } = self.take_next(rest);
+            at += used;
+            match found {
+                Found::Nothing => {}
+                found => return Taken { used: at, found },
+            }
+        }
+        Taken {
+            used: piece.len(),
+            found: Found::Nothing,
+        }
+    }
+
+    // Where the message of a frame stands.
+    pub(crate) fn buffer(&self) -> &[u8]
+        ensures { result.now ≡ buffer_in D.inside self.now }
+    {
+        self.decoder.decoded()
+    }
+
+    // The answer to what was found.
+    fn read<T: Readable + Drop, J: Judging<T>>(
+        &self,
+        alloc: Global,
+        found: Found,
+    ) -> Result<Option<Answer<T>>, NoMemory>
+        requires { IsWithin (length (buffer_in D.inside self.now)) found }
+        ensures replies { (e : Event) → Finds e (buffer_in D.inside self.now) found → Replies J.holds T.reads e result }
+        ensures memory { OnErr result (T.growing ≡ true) }
+    {
+        J::show();
+        match found {
+            Found::Nothing => Ok(None),
+            Found::TooMuch => Ok(Some(Answer::TooLong)),
+            Found::Broken => Ok(Some(Answer::Damaged)),
+            Found::Whole { size, stretch } => J::judge(alloc, &self.buffer()[..size], stretch),
+        }
+    }
+
+    // Takes bytes of the piece up to the first answer.
+    pub(crate) fn push_by<T: Readable + Drop, J: Judging<T>>(
+        &mut self,
+        alloc: Global,
+        piece: &[u8],
+    ) -> Pushed<T>
+        ensures within { result.used ≤ length piece.now }
+        ensures forward { 0 < length piece.now → 0 < result.used }
+        ensures stands { (limit s : ℕ) (stream : List ℕ) → IsBehind D.inside limit s self.old stream → IsBehind D.inside limit s self.new (stream ++ take result.used piece.now) }
+        ensures answers { (limit s : ℕ) (stream : List ℕ) → IsBehind D.inside limit s self.old stream → Answered J.holds T.reads limit s stream piece.now result.used result.answer }
+        ensures memory { OnErr result.answer (T.growing ≡ true) }
+        ensures same { SameTerms self.old self.new }
+    {
+        let Taken { used, found } = self.take(piece);
+        let answer = self.read::<T, J>(alloc, found);
+        Pushed { used, answer }
+    }
+
+    // Whether no stretch is begun.
+    pub(crate) fn is_between(&self) -> bool
+        ensures { (limit s : ℕ) (stream : List ℕ) → IsBehind D.inside limit s self.now stream → (IsTrue result ↔ (begun limit s stream ≡ kept [])) }
+    {
+        !self.past && self.count == 0
+    }
+
+    // What the end of the stream adds.
+    pub(crate) fn finish<T>(&self) -> Option<Answer<T>>
+        ensures { (limit s : ℕ) (stream : List ℕ) → IsBehind D.inside limit s self.now stream → result ≡ finished (begun limit s stream) }
+    {
+        if self.past {
+            return None;
+        }
+        if self.count == 0 {
+            return None;
+        }
+        Some(Answer::Cut)
+    }
+}
