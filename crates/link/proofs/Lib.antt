@@ -7,6 +7,7 @@ pub mod Receiving
 pub mod Turning
 pub mod Betweens
 pub mod Answering
+pub mod LentOwned
 pub mod Reading
 pub mod Nexts
 pub mod Keeping
@@ -27,6 +28,7 @@ pub mod Sentness
 pub mod Roads
 pub mod Valued
 pub mod Pushing
+pub mod Renewing
 pub mod Fetching
 pub mod Fully
 pub mod Crashes

@@ -8,13 +8,14 @@ use Rattle.cobs.specs.Frames.{Frame, part, missing}
 use Rattle.cobs.specs.FrameLaws.{HasOneMessage, IsFrameAtBlockEnd, DecidesLess}
 use Rattle.cobs.specs.DecodingLaws.{AnswersFrames}
 use Rattle.cobs.specs.Feeding.{at_zero}
+use Rattle.cobs.specs.Streaming.{Stands as Progressed}
 use Rattle.cobs.specs.Taking.{TakesByte}
 use Rattle.cobs.specs.declared.dec.Progress.{Progress}
 use Rattle.cobs.specs.declared.dec.DecodeError.{DecodeError}
 use Rattle.cobs.specs.declared.dec.DecodeError.TheVariants.{InvalidFrame}
 use Rattle.link.specs.Stream.{Begun, kept, over}
 use Rattle.link.specs.Decoding.{Inside}
-use Rattle.link.specs.Receivers.{Has, IsAtBy}
+use Rattle.link.specs.Receivers.{Has, IsAtBy, IsAtWith}
 use Rattle.link.proofs.Masks.{zero_of}
 
 module _ (limit s : ℕ) (inside : Inside) (count : ℕ) (past : Bool) where
@@ -61,3 +62,19 @@ take_nothing n = take_all n [] (omega arith)
 pub ended_byte : (before behind : Progress) (old new : List ℕ) (own mark : ℕ) (result : Result (Option ℕ) DecodeError) (s : ℕ) → own ≡ s → mark ≡ s
     → TakesByte before old (bit_xor own mark) result behind new → TakesByte before old 0 result behind new
 ended_byte before behind old new own mark result s d e t = subst (λ b. TakesByte before old b result behind new) (zero_of own mark s d e) t
+
+-- a decoder that was given nothing
+pub has_nothing : (limit s : ℕ) (inside : Inside) → length inside.buffer ≡ limit → inside.sentinel ≡ s → s < 256 → Progressed inside.progress [] → Has limit s inside 0 []
+has_nothing limit s inside room sentinel byte taken = record {
+  room = room;
+  sentinel = sentinel;
+  byte = byte;
+  taken = taken;
+  decoded = sym (take_nothing _);
+  counted = refl;
+  within = omega arith;
+  bytes = tt;
+}
+
+pub nothing_at : (limit s : ℕ) (inside : Inside) → length inside.buffer ≡ limit → inside.sentinel ≡ s → s < 256 → Progressed inside.progress [] → IsAtWith limit s s inside 0 false (kept [])
+nothing_at limit s inside room sentinel byte taken = record { sentinel_is = refl; state = (refl, has_nothing limit s inside room sentinel byte taken) }

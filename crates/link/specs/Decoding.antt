@@ -1,8 +1,10 @@
 -- What a receiver sees of its decoder.
 use Rattle.std.specs.Prelude.{ℕ, List}
-use Rattle.cobs.specs.Arrays.{array_progress, array_buffer}
+use Rattle.cobs.specs.Arrays.{array_progress, array_buffer, array_sentinel}
+use Rattle.cobs.specs.Owners.{owned_progress, owned_buffer, owned_sentinel}
 use Rattle.cobs.specs.declared.dec.Progress.{Progress}
 use Rattle.cobs.specs.declared.dec.CobsDecoderHeapless.{CobsDecoderHeapless}
+use Rattle.cobs.specs.declared.dec.CobsDecoderOwned.{CobsDecoderOwned}
 
 -- how far its frame was taken in, its buffer, and its sentinel
 pub record Inside : Type 0 where
@@ -12,4 +14,8 @@ pub record Inside : Type 0 where
 
 -- of one that holds an array
 abbrev pub in_array : {N : ℕ} → CobsDecoderHeapless N → Inside
-in_array d = record { progress = array_progress d; buffer = array_buffer d; sentinel = 0 }
+in_array d = record { progress = array_progress d; buffer = array_buffer d; sentinel = array_sentinel d }
+
+-- of one that owns its buffer
+abbrev pub in_owner : CobsDecoderOwned → Inside
+in_owner d = record { progress = owned_progress d; buffer = owned_buffer d; sentinel = owned_sentinel d }

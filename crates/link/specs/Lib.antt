@@ -7,6 +7,7 @@ pub mod Finds
 pub mod Judged
 pub mod Decoding
 pub mod Receivers
+pub mod Owned
 pub mod Framing
 pub mod Framed
 pub mod Run
@@ -14,6 +15,7 @@ pub mod Senders
 pub mod Writings
 pub mod Listening
 pub mod Lending
+pub mod LendingOwned
 pub mod InPlace
 pub mod Fates
 pub mod Answered
@@ -22,5 +24,6 @@ pub mod Roads
 pub mod Crashes
 pub mod Values
 pub mod Pieced
+pub mod Limits
 pub mod Gathering
 pub mod Together

@@ -5,7 +5,7 @@ ghost use Rattle.cobs.specs.Streaming.{Stands};
 ghost use Rattle.cobs.specs.Taking.{TakesByte, TakesPiece};
 ghost use Rattle.link.specs.Decoding.{Inside};
 
-use cobs::{CobsDecoderHeapless, DecodeError, DecodeReport};
+use cobs::{CobsDecoderHeapless, CobsDecoderOwned, DecodeError, DecodeReport};
 
 // A streaming decoder of cobs over a buffer of its own.
 pub(crate) trait Decoding {
@@ -37,6 +37,28 @@ impl<const N: usize> Decoding for CobsDecoderHeapless<N> {
     ghost use Rattle.link.specs.Decoding.{in_array};
 
     ghost inside = { in_array };
+
+    fn decode_byte(&mut self, byte: u8) -> Result<Option<usize>, DecodeError> {
+        self.feed(byte)
+    }
+
+    fn decode_bytes(&mut self, bytes: &[u8]) -> Result<Option<DecodeReport>, DecodeError> {
+        self.push(bytes)
+    }
+
+    fn forget(&mut self) {
+        self.reset();
+    }
+
+    fn decoded(&self) -> &[u8] {
+        self.dest()
+    }
+}
+
+impl Decoding for CobsDecoderOwned {
+    ghost use Rattle.link.specs.Decoding.{in_owner};
+
+    ghost inside = { in_owner };
 
     fn decode_byte(&mut self, byte: u8) -> Result<Option<usize>, DecodeError> {
         self.feed(byte)

@@ -9,6 +9,7 @@ ghost use Rattle.link.specs.Relational.{IsHeardStepwise, IsUnfinishedPart};
 ghost use Rattle.link.specs.Roads.{IsSameInPlace, IsSameByAccumulator};
 ghost use Rattle.link.specs.Values.{IsToldByValues, AreGivenBack};
 ghost use Rattle.link.specs.Pieced.{AreOfTheWhole};
+ghost use Rattle.link.specs.Limits.{IsSetAnew};
 ghost use Rattle.link.specs.Fates.{IsCarried};
 ghost use Rattle.link.specs.Crashes.{IsHeardBetween, IsLeft, GoesOn};
 ghost use Rattle.link.specs.Laws.{IsRunWithin, IsTold, HasOneAnswer, Appends, IsLocal, StartsAnywhere, IsDamagedInFronts, HasRoom, IsInjective, IsLeast, IsToldByLengths, DiffersByBlock};
@@ -85,6 +86,12 @@ pub fn within<T: Readable>()
 pub fn over_pieces<T: Readable>()
     ensures ordinary { (limit s : ℕ) → AreOfTheWhole (Holds T.takes) limit s }
     ensures strict { (limit s : ℕ) → AreOfTheWhole (HoldsExactly T.takes) limit s }
+{}
+
+/// Where a limit is set anew between stretches, what comes before is answered by the old limit and what comes behind by the new one.
+pub fn set_anew<T: Readable>()
+    ensures ordinary { (s : ℕ) → IsSetAnew (Holds T.takes) s }
+    ensures strict { (s : ℕ) → IsSetAnew (HoldsExactly T.takes) s }
 {}
 
 /// A stream has at most one list of answers.

@@ -7,6 +7,7 @@ ghost use Rattle.link.specs.Lending.{Reads};
 ghost use Rattle.link.specs.Finds.{AnswersStretch};
 
 use crate::decoding::Decoding;
+use crate::owned::OwnedReceiver;
 use crate::receiver::{Answer, NoMemory, Pushed, Receiver};
 use crate::reception::{Found, Reception, Taken};
 use postcard::{Deserialize, Error, from_bytes};
@@ -85,6 +86,37 @@ impl<const N: usize> Receiver<N> {
     ) -> Pushed<T>
         ensures answer { Answers T.takes T.reads T.growing self.entry.now piece.now result }
         ensures* after { sem 𝓛 (follows_so (the_row N.row) (the_row N.row) self.entry.ghost_name none (λ _ _. ⊤) (λ n. Stands self.entry.now piece.now result n)) }
+    {
+        let advanced = self.advance(piece);
+        read_lent(alloc, advanced)
+    }
+}
+
+impl OwnedReceiver {
+    ghost use Rattle.link.specs.contracts.owned.OwnedReceiver.{the_row};
+    ghost use mathlib.Core.Option.{none};
+    ghost use denote.Follow.{follows_so};
+    ghost use Rattle.link.specs.Decoding.{in_owner};
+    ghost use Rattle.link.specs.Lending.{Advances, Leads};
+    ghost use Rattle.link.specs.LendingOwned.{Answers, Stands};
+
+    // As that of what it shares.
+    fn advance<'de>(&'de mut self, piece: &[u8]) -> Advanced<'de>
+        ensures answer { Advances in_owner self.entry.now.reception piece.now result }
+        ensures* after { sem 𝓛 (follows_so the_row the_row self.entry.ghost_name none (λ _ _. ⊤) (λ n. Leads in_owner self.entry.now.reception piece.now n.reception)) }
+    {
+        self.reception.advance(piece)
+    }
+
+    /// As `push`, of a value that may borrow from the receiver: its bytes lie there. The receiver is free again once the value is
+    /// gone, and then stands behind the bytes that were used, as after `push`.
+    pub fn push_ref<'de, T: Deserialize<&'de [u8]>>(
+        &'de mut self,
+        alloc: Global,
+        piece: &[u8],
+    ) -> Pushed<T>
+        ensures answer { Answers T.takes T.reads T.growing self.entry.now piece.now result }
+        ensures* after { sem 𝓛 (follows_so the_row the_row self.entry.ghost_name none (λ _ _. ⊤) (λ n. Stands self.entry.now piece.now result n)) }
     {
         let advanced = self.advance(piece);
         read_lent(alloc, advanced)

@@ -54,6 +54,7 @@ mod judging;
 pub mod laws;
 mod lent;
 mod listening;
+mod owned;
 mod receiver;
 mod reception;
 pub mod rows;
@@ -65,7 +66,11 @@ mod zeros;
 pub use framed::Framed;
 pub use gathering::{Gathered, receive_by_accumulator};
 pub use in_place::read_in_place;
-pub use listening::{End, Received, receive, receive_strict};
+pub use listening::{
+    End, Received, receive, receive_owned, receive_owned_strict, receive_strict,
+    receive_strict_with_sentinel, receive_with_sentinel,
+};
+pub use owned::OwnedReceiver;
 pub use receiver::{Answer, NoMemory, Pushed, Receiver};
 pub use sender::{SendError, Sender};
 pub use session::{Fate, send_each};

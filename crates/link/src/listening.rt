@@ -1,15 +1,16 @@
 //! Receiving all that a reader gives.
-ghost use Rattle.std.specs.Prelude.{◌≡◌, ℕ, ◌<◌, List, [], ◌++◌, Ok, None, OnOk, OnErr};
+ghost use Rattle.std.specs.Prelude.{◌≡◌, ℕ, ◌<◌, ◌⊎◌, List, [], ◌++◌, Ok, None, OnOk, OnErr};
 ghost use Rattle.postcard.specs.Frames.{Holds};
 ghost use Rattle.link.specs.Stream.{HoldsExactly};
 ghost use Rattle.link.specs.Receivers.{IsBehind};
-ghost use Rattle.link.specs.Listening.{IsConcluded, Keeps, ReceiverFitsInMemory, HasRead, IsReceived, IsKept, Hears, IsHeard, Stopped};
+ghost use Rattle.link.specs.Listening.{IsConcluded, Keeps, ReceiverFitsInMemory, HasRead, IsReceived, IsKept, Hears, IsHeard, Stopped, IsUnmade};
 
 use crate::decoding::Decoding;
 use crate::judging::{Judging, Ordinary, Strict};
 use crate::receiver::{Answer, NoMemory, Pushed, Receiver};
 use crate::reception::Reception;
-use cobs::CobsDecoderHeapless;
+use crate::owned::OwnedReceiver;
+use cobs::{CobsDecoderHeapless, CobsDecoderOwned};
 use line_io::Inlet;
 use postcard::{DeserializeOwned, Exact};
 use postcard_tree::Readable;
@@ -163,7 +164,20 @@ pub fn receive<T: DeserializeOwned, R: Inlet, const N: usize>(
     ensures { (bytes : List ℕ) × HasRead (R.to_come reader) (R.to_come result.reader) (R.faults reader) (R.faults result.reader) (R.calls_left result.reader) result.end bytes
         × IsReceived (Holds T.takes) T.reads N 0 result.end result.answers.items bytes }
 {
-    let mut receiver = Receiver::<N>::new();
+    receive_with_sentinel::<T, R, N>(alloc, reader, 0)
+}
+
+/// As `receive`, of a line with this sentinel.
+pub fn receive_with_sentinel<T: DeserializeOwned, R: Inlet, const N: usize>(
+    alloc: Global,
+    reader: R,
+    sentinel: u8,
+) -> Received<T, R>
+    requires { ReceiverFitsInMemory N.row }
+    ensures { (bytes : List ℕ) × HasRead (R.to_come reader) (R.to_come result.reader) (R.faults reader) (R.faults result.reader) (R.calls_left result.reader) result.end bytes
+        × IsReceived (Holds T.takes) T.reads N sentinel result.end result.answers.items bytes }
+{
+    let mut receiver = Receiver::<N>::new_with_sentinel(sentinel);
     receive_by::<T, Ordinary, R, CobsDecoderHeapless<N>>(alloc, reader, &mut receiver.reception)
 }
 
@@ -177,6 +191,74 @@ pub fn receive_strict<T: DeserializeOwned + Exact, R: Inlet, const N: usize>(
     ensures { (bytes : List ℕ) × HasRead (R.to_come reader) (R.to_come result.reader) (R.faults reader) (R.faults result.reader) (R.calls_left result.reader) result.end bytes
         × IsReceived (HoldsExactly T.takes) T.reads N 0 result.end result.answers.items bytes }
 {
-    let mut receiver = Receiver::<N>::new();
+    receive_strict_with_sentinel::<T, R, N>(alloc, reader, 0)
+}
+
+/// As `receive_strict`, of a line with this sentinel.
+pub fn receive_strict_with_sentinel<T: DeserializeOwned + Exact, R: Inlet, const N: usize>(
+    alloc: Global,
+    reader: R,
+    sentinel: u8,
+) -> Received<T, R>
+    requires { ReceiverFitsInMemory N.row }
+    ensures { (bytes : List ℕ) × HasRead (R.to_come reader) (R.to_come result.reader) (R.faults reader) (R.faults result.reader) (R.calls_left result.reader) result.end bytes
+        × IsReceived (HoldsExactly T.takes) T.reads N sentinel result.end result.answers.items bytes }
+{
+    let mut receiver = Receiver::<N>::new_with_sentinel(sentinel);
     receive_by::<T, Strict, R, CobsDecoderHeapless<N>>(alloc, reader, &mut receiver.reception)
+}
+
+// What is received where no receiver could be made: nothing was read.
+fn unmade<T, R>(alloc: Global, reader: R) -> Received<T, R>
+    ensures { IsUnmade reader result.reader result.end result.answers.items }
+{
+    Received {
+        answers: Vec::new(alloc),
+        end: End::NoMemory,
+        reader,
+    }
+}
+
+/// As `receive_with_sentinel`, with stretches of at most `limit` bytes. Where no memory is found for a receiver of that limit,
+/// nothing is read and nothing answered, and the end is `NoMemory`.
+pub fn receive_owned<T: DeserializeOwned, R: Inlet>(
+    alloc: Global,
+    reader: R,
+    limit: usize,
+    sentinel: u8,
+) -> Received<T, R>
+    ensures { IsUnmade reader result.reader result.end result.answers.items
+        ⊎ ((bytes : List ℕ) × HasRead (R.to_come reader) (R.to_come result.reader) (R.faults reader) (R.faults result.reader) (R.calls_left result.reader) result.end bytes
+        × IsReceived (Holds T.takes) T.reads limit sentinel result.end result.answers.items bytes) }
+{
+    match OwnedReceiver::new(alloc, limit, sentinel) {
+        Ok(mut receiver) => receive_by::<T, Ordinary, R, CobsDecoderOwned>(
+            alloc,
+            reader,
+            &mut receiver.reception,
+        ),
+        Err(NoMemory) => unmade(alloc, reader),
+    }
+}
+
+/// As `receive_strict_with_sentinel`, with stretches of at most `limit` bytes. Where no memory is found for a receiver of that
+/// limit, nothing is read and nothing answered, and the end is `NoMemory`.
+pub fn receive_owned_strict<T: DeserializeOwned + Exact, R: Inlet>(
+    alloc: Global,
+    reader: R,
+    limit: usize,
+    sentinel: u8,
+) -> Received<T, R>
+    ensures { IsUnmade reader result.reader result.end result.answers.items
+        ⊎ ((bytes : List ℕ) × HasRead (R.to_come reader) (R.to_come result.reader) (R.faults reader) (R.faults result.reader) (R.calls_left result.reader) result.end bytes
+        × IsReceived (HoldsExactly T.takes) T.reads limit sentinel result.end result.answers.items bytes) }
+{
+    match OwnedReceiver::new(alloc, limit, sentinel) {
+        Ok(mut receiver) => receive_by::<T, Strict, R, CobsDecoderOwned>(
+            alloc,
+            reader,
+            &mut receiver.reception,
+        ),
+        Err(NoMemory) => unmade(alloc, reader),
+    }
 }

@@ -35,8 +35,8 @@ pub struct NoMemory;
 pub struct Pushed<T> {
     /// How many bytes of the piece were used: all of them where they brought about no answer. Push the rest next.
     pub used: usize,
-    /// The answer that they brought about, if any. After `NoMemory` that frame is gone, its zero is used, and no stretch is
-    /// begun.
+    /// The answer that they brought about, if any. After `NoMemory` that frame is gone, its sentinel is used, and no stretch
+    /// is begun.
     pub answer: Result<Option<Answer<T>>, NoMemory>,
 }
 
@@ -52,23 +52,30 @@ pub struct Receiver<const N: usize> {
 impl<const N: usize> Receiver<N> {
     ghost use Rattle.link.specs.Receivers.{IsAfter, sentinel_of};
 
-    /// A receiver that was given nothing.
+    /// A receiver that was given nothing. Its sentinel is zero.
     pub fn new() -> Receiver<N>
         ensures after { IsAfter result [] }
         ensures sentinel { sentinel_of result ≡ 0 }
     {
+        Receiver::new_with_sentinel(0)
+    }
+
+    /// A receiver that was given nothing, for a line with this sentinel.
+    pub fn new_with_sentinel(sentinel: u8) -> Receiver<N>
+        ensures after { IsAfter result [] }
+        ensures sentinel { sentinel_of result ≡ sentinel }
+    {
         Receiver {
             reception: Reception {
-                decoder: CobsDecoderHeapless::new(),
+                decoder: CobsDecoderHeapless::new_with_sentinel(sentinel),
                 count: 0,
                 past: false,
-                limit: N,
-                sentinel: 0,
+                sentinel,
             },
         }
     }
 
-    /// Takes bytes of the piece up to the first answer: through the zero of an ended stretch, or through the byte past the limit;
+    /// Takes bytes of the piece up to the first answer: through the sentinel of an ended stretch, or through the byte past the limit;
     /// where there is none, all of them. An answer is to the stretch as a whole, also where earlier pushes took its beginning.
     pub fn push<T: DeserializeOwned>(&mut self, alloc: Global, piece: &[u8]) -> Pushed<T>
         ensures within { result.used ≤ length piece.now }
@@ -98,7 +105,7 @@ impl<const N: usize> Receiver<N> {
         self.reception.push_by::<T, Strict>(alloc, piece)
     }
 
-    /// Whether no stretch is begun. After a `TooLong` one is, until its zero.
+    /// Whether no stretch is begun. After a `TooLong` one is, until its sentinel.
     pub fn is_between(&self) -> bool
         ensures { (stream : List ℕ) → IsAfter self.now stream → (IsTrue result ↔ (begun N (sentinel_of self.now) stream ≡ kept [])) }
     {

@@ -31,26 +31,31 @@ pub(crate) struct Taken {
     pub found: Found,
 }
 
-// A receiver over a decoder, whose buffer has as many bytes as the limit and whose sentinel is the same.
+// A receiver over a decoder whose sentinel is the same. The decoder's buffer has as many bytes as the limit.
 #[derive(Drop)]
 pub(crate) struct Reception<D> {
     pub(crate) decoder: D,
     pub(crate) count: usize,
     pub(crate) past: bool,
-    pub(crate) limit: usize,
     pub(crate) sentinel: u8,
-    ghost within: { count ≤ limit },
 }
 
 impl<D: Decoding> Reception<D> {
-    ghost use Rattle.link.specs.Receivers.{IsAt, IsBehind, SameTerms, buffer_in};
+    ghost use Rattle.link.specs.Receivers.{IsAt, IsBehind, SameTerms, buffer_in, limit_in, IsIdle};
+
+    // How many bytes a stretch may have.
+    pub(crate) fn limit(&self) -> usize
+        ensures { result ≡ limit_in D.inside self.now }
+    {
+        self.decoder.decoded().len()
+    }
 
     // Ends a stretch.
     fn close(&mut self) -> Found
         ensures found { (limit s : ℕ) (p : List ℕ) → IsAt D.inside limit s self.old (kept p) → 0 < length p
             → IsAt D.inside limit s self.new (kept []) × Finds (Event.ended p) (buffer_in D.inside self.new) result }
         ensures within { IsWithin (length (buffer_in D.inside self.new)) result }
-        ensures same { SameTerms self.old self.new }
+        ensures same { SameTerms D.inside self.old self.new }
     {
         cobs::laws::message_of_a_frame();
         cobs::laws::shorter();
@@ -69,7 +74,7 @@ impl<D: Decoding> Reception<D> {
         ensures at { (limit s : ℕ) (b : Begun) → IsAt D.inside limit s self.old b → IsAt D.inside limit s self.new (begun_at limit s b s) }
         ensures finds { (limit s : ℕ) (b : Begun) → IsAt D.inside limit s self.old b → Finds (event_at limit s b s) (buffer_in D.inside self.new) result }
         ensures within { IsWithin (length (buffer_in D.inside self.new)) result }
-        ensures same { SameTerms self.old self.new }
+        ensures same { SameTerms D.inside self.old self.new }
     {
         if self.past {
             self.past = false;
@@ -86,13 +91,13 @@ impl<D: Decoding> Reception<D> {
         ensures runs { (limit s : ℕ) (b : Begun) → NoZero (masked s run.now) → IsAt D.inside limit s self.old b
             → MatchOption result (RunsOn limit s b run.now (IsAt D.inside limit s self.new)) (λ used. RunsPast limit s b run.now used (IsAt D.inside limit s self.new)) }
         ensures within { IfSome result (λ used. (0 < used) × (used ≤ length run.now)) }
-        ensures same { SameTerms self.old self.new }
+        ensures same { SameTerms D.inside self.old self.new }
     {
         cobs::laws::shorter();
         if self.past {
             return None;
         }
-        let left = self.limit - self.count;
+        let left = self.limit().saturating_sub(self.count);
         if run.len() > left {
             self.past = true;
             self.count = 0;
@@ -110,7 +115,7 @@ impl<D: Decoding> Reception<D> {
         ensures within { IsWithin (length (buffer_in D.inside self.new)) result.found }
         ensures bound { result.used ≤ length bytes.now }
         ensures forward { 0 < length bytes.now → 0 < result.used }
-        ensures same { SameTerms self.old self.new }
+        ensures same { SameTerms D.inside self.old self.new }
     {
         let size = before_sentinel(bytes, self.sentinel);
         let (run, behind) = bytes.split_at(size);
@@ -143,7 +148,7 @@ impl<D: Decoding> Reception<D> {
         ensures within { IsWithin (length (buffer_in D.inside self.new)) result.found }
         ensures bound { result.used ≤ length piece.now }
         ensures forward { 0 < length piece.now → 0 < result.used }
-        ensures same { SameTerms self.old self.new }
+        ensures same { SameTerms D.inside self.old self.new }
     {
         let mut at = 0;
         while at < piece.len() {
@@ -198,7 +203,7 @@ impl<D: Decoding> Reception<D> {
         ensures stands { (limit s : ℕ) (stream : List ℕ) → IsBehind D.inside limit s self.old stream → IsBehind D.inside limit s self.new (stream ++ take result.used piece.now) }
         ensures answers { (limit s : ℕ) (stream : List ℕ) → IsBehind D.inside limit s self.old stream → Answered J.holds T.reads limit s stream piece.now result.used result.answer }
         ensures memory { OnErr result.answer (T.growing ≡ true) }
-        ensures same { SameTerms self.old self.new }
+        ensures same { SameTerms D.inside self.old self.new }
     {
         let Taken { used, found } = self.take(piece);
         let answer = self.read::<T, J>(alloc, found);
@@ -207,7 +212,8 @@ impl<D: Decoding> Reception<D> {
 
     // Whether no stretch is begun.
     pub(crate) fn is_between(&self) -> bool
-        ensures { (limit s : ℕ) (stream : List ℕ) → IsBehind D.inside limit s self.now stream → (IsTrue result ↔ (begun limit s stream ≡ kept [])) }
+        ensures state { IsTrue result ↔ IsIdle self.now }
+        ensures begun { (limit s : ℕ) (stream : List ℕ) → IsBehind D.inside limit s self.now stream → (IsTrue result ↔ (begun limit s stream ≡ kept [])) }
     {
         !self.past && self.count == 0
     }

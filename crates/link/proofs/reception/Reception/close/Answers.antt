@@ -7,7 +7,6 @@ returns-in-Ok-Some-clause-found g c limit s p h l =
     let k = h.state.1 in
     let t = ended_byte _ _ _ _ _ _ _ s k.sentinel h.sentinel_is c.decode_byte.ensures.takes in (
       record {
-        limit_is = h.limit_is;
         sentinel_is = h.sentinel_is;
         state = (
           h.state.0,
@@ -34,7 +33,6 @@ returns-in-Err-clause-found g c limit s p h l =
     let k = h.state.1 in
     let t = ended_byte _ _ _ _ _ _ _ s k.sentinel h.sentinel_is c.decode_byte.ensures.takes in (
       record {
-        limit_is = h.limit_is;
         sentinel_is = h.sentinel_is;
         state = (
           h.state.0,

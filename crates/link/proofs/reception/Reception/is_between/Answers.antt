@@ -2,8 +2,8 @@ use Rattle.link.specs.Stream.{begun}
 use Rattle.link.proofs.Betweens.{between_counted, never_between}
 use Rattle.link.proofs.reception.Reception.is_between.Goals as goal
 
-pub returns-then-not-self : goal.returns-then-not-self
-returns-then-not-self g c limit s stream h = between_counted limit s _ _ _ (begun limit s stream) c.if-not-self.true h.state
+pub returns-then-not-self-clause-begun : goal.returns-then-not-self-clause-begun
+returns-then-not-self-clause-begun g c limit s stream h = between_counted limit s _ _ _ (begun limit s stream) c.if-not-self.true h.state
 
-pub returns-else-not-self : goal.returns-else-not-self
-returns-else-not-self g c limit s stream h = (λ t. absurd (cc (c.if-not-self.false, t)), λ k. absurd (never_between limit s _ _ _ (begun limit s stream) c.if-not-self.false h.state k))
+pub returns-else-not-self-clause-begun : goal.returns-else-not-self-clause-begun
+returns-else-not-self-clause-begun g c limit s stream h = (λ t. absurd (cc t), λ k. absurd (never_between limit s _ _ _ (begun limit s stream) c.if-not-self.false h.state k))

@@ -8,7 +8,7 @@ abbrev pub invariant-loop-at : goal.invariant-loop-at
 invariant-loop-at g l = record {
   within : l.at ≤ length l.piece;
   turns : (limit s : ℕ) (b : Begun) → IsAt g.D.Decoding.inside limit s l.fn.self b → Turn limit s b l.piece l.at (IsAt g.D.Decoding.inside limit s l.self);
-  same : SameTerms l.fn.self l.self;
+  same : SameTerms g.D.Decoding.inside l.fn.self l.self;
 }
 
 abbrev pub decreases-loop-at : goal.decreases-loop-at

@@ -1,5 +1,5 @@
 use Rattle.std.proofs.Common.{◌≡◌, ◌+◌, ◌-◌, ◌<◌, ◌≤◌, length, refl, ap, ◌∙◌, sym, arith}
-use Rattle.link.proofs.Receiving.{kept_is, take_nothing}
+use Rattle.link.proofs.Receiving.{kept_is, has_nothing}
 use Rattle.link.proofs.Runs.{runs_over, runs_on, runs_past, has_run, nonzero_bytes}
 use Rattle.link.proofs.reception.Reception.take_run.Goals as goal
 
@@ -9,35 +9,24 @@ returns-then-self-clause-runs g c limit s b z i = runs_over limit s _ c.args.sel
 pub returns-then-run-left-clause-runs : goal.returns-then-run-left-clause-runs
 returns-then-run-left-clause-runs g c limit s b z i =
     let k = kept_is limit s _ c.args.self.now.count c.args.self.now.past b c.if-self.false i.state in
-    let own : c.args.self.now.limit ≡ limit = i.limit_is in
-    let far : limit < length k.0 + length c.args.run.now = omega (arith, c.if-run-left.true, k.2.counted, k.2.within, own) in
-    let used : (c.args.self.now.limit - c.args.self.now.count) + 1 ≡ (limit - length k.0) + 1 = omega (arith, k.2.counted, own) in
+    let own = c.limit.ensures ∙ k.2.room in
+    let far : limit < length k.0 + length c.args.run.now = omega (arith, c.if-run-left.true, c.saturating_sub-left.ensures, k.2.counted, k.2.within, own) in
+    let used : c.saturating_sub-left.result + 1 ≡ (limit - length k.0) + 1 = omega (arith, c.saturating_sub-left.ensures, k.2.counted, own) in
     runs_past limit s b k.0 c.args.run.now _ _ k.1 z k.2.within far used record {
-      limit_is = i.limit_is;
       sentinel_is = i.sentinel_is;
       state = (
         refl,
-        record {
-          room = ap length c.forget.ensures.buffer ∙ k.2.room;
-          sentinel = c.forget.ensures.sentinel ∙ k.2.sentinel;
-          byte = k.2.byte;
-          taken = c.forget.ensures.idle;
-          decoded = sym (take_nothing _);
-          counted = refl;
-          within = omega arith;
-          bytes = tt;
-        },
+        has_nothing limit s _ (ap length c.forget.ensures.buffer ∙ k.2.room) (c.forget.ensures.sentinel ∙ k.2.sentinel) k.2.byte c.forget.ensures.idle,
       );
     }
 
 pub returns-clause-runs : goal.returns-clause-runs
 returns-clause-runs g c limit s b z i =
     let k = kept_is limit s _ c.args.self.now.count c.args.self.now.past b c.if-self.false i.state in
-    let own : c.args.self.now.limit ≡ limit = i.limit_is in
-    let near : length k.0 + length c.args.run.now ≤ limit = omega (arith, c.if-run-left.false, k.2.counted, k.2.within, own) in
+    let own = c.limit.ensures ∙ k.2.room in
+    let near : length k.0 + length c.args.run.now ≤ limit = omega (arith, c.if-run-left.false, c.saturating_sub-left.ensures, k.2.counted, k.2.within, own) in
     let count : c.args.self.now.count + length c.args.run.now ≤ limit = omega (arith, near, k.2.counted) in
     runs_on limit s b k.0 c.args.run.now _ k.1 z near record {
-      limit_is = i.limit_is;
       sentinel_is = i.sentinel_is;
       state = (
         c.if-self.false,
