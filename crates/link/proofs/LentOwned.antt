@@ -1,5 +1,5 @@
 -- What a receiver with a limit of its own lends.
-use Rattle.std.proofs.Common.{ℕ, ◌<◌, ◌≤◌, List, ◌++◌, length, take, refl, sym, ap, ◌∙◌, subst}
+use Rattle.std.proofs.Common.{ℕ, ◌<◌, ◌≤◌, List, ◌++◌, length, take, refl, sym, ◌∙◌, subst}
 use Rattle.std.specs.Prelude.{Bool}
 use Rattle.postcard_tree.specs.Tree.{Tree}
 use Rattle.postcard.specs.Frames.{Holds}

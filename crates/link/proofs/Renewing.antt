@@ -1,9 +1,9 @@
 -- A limit that is set anew between stretches.
-use Rattle.std.proofs.Common.{◌≡◌, ℕ, List, [], ◌++◌, refl, sym}
+use Rattle.std.proofs.Common.{ℕ, List, ◌++◌, refl}
 use Rattle.postcard_tree.specs.Tree.{Tree}
-use Rattle.link.specs.Stream.{Verdict, unfinished, cut_answers}
+use Rattle.link.specs.Stream.{unfinished, cut_answers}
 use Rattle.link.specs.Roads.{joined}
-use Rattle.link.specs.Limits.{HeardAnew, IsSetAnew}
+use Rattle.link.specs.Limits.{IsSetAnew}
 use Rattle.link.proofs.Pushing.{of_the_whole}
 use Rattle.link.proofs.Proved.{appends}
 

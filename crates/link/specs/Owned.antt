@@ -1,5 +1,5 @@
 -- Where a receiver with a limit of its own stands.
-use Rattle.std.specs.Prelude.{◌≡◌, ℕ, List}
+use Rattle.std.specs.Prelude.{ℕ, List}
 use Rattle.link.specs.Decoding.{in_owner}
 use Rattle.link.specs.Receivers.{IsBehind, limit_in, IsIdle}
 use Rattle.link.specs.declared.owned.OwnedReceiver.{OwnedReceiver}

@@ -7,9 +7,9 @@ ghost use Rattle.link.specs.Listening.{IsConcluded, Keeps, ReceiverFitsInMemory,
 
 use crate::decoding::Decoding;
 use crate::judging::{Judging, Ordinary, Strict};
+use crate::owned::OwnedReceiver;
 use crate::receiver::{Answer, NoMemory, Pushed, Receiver};
 use crate::reception::Reception;
-use crate::owned::OwnedReceiver;
 use cobs::{CobsDecoderHeapless, CobsDecoderOwned};
 use line_io::Inlet;
 use postcard::{DeserializeOwned, Exact};

@@ -1,4 +1,4 @@
-use Rattle.std.proofs.Common.{refl, arith, ◌∙◌, ap, sym, length}
+use Rattle.std.proofs.Common.{arith, ◌∙◌, ap, sym, length}
 use Rattle.std.proofs.lemmas.List.{length-replicate}
 use Rattle.link.proofs.Feeding.{none_begun}
 use Rattle.link.proofs.Receiving.{nothing_at}
