@@ -11,6 +11,7 @@ use denote.RattleType.{RattleType}
 use denote.Follow.{follows, follows_by, such_by, follows_so, both_if_by}
 use Rattle.postcard_tree.specs.Tree.{Tree}
 use Rattle.cobs.specs.InPlace.{stretch}
+use Rattle.cobs.specs.Sentinel.{masked}
 use Rattle.cobs.specs.Whole.{unpadded}
 use Rattle.link.specs.InPlace.{AnswersEnded, IsCutBehind, IsUnfinished, IsNext, AnswersNext, KeptIfCut, lent_by, lent_unless_cut}
 use Rattle.link.specs.declared.receiver.Answer.{Answer}
@@ -26,16 +27,16 @@ module _ {V : Type 0} (takes : Tree → Type 0) (reads : Tree → V → Type 0) 
   not_cut p (Err e) h = refl
 
   -- an ended stretch isn't `Cut`
-  ended_is_lent : (bytes front after : List ℕ) (result : Option (Result (Answer V) NoMemory × MutBor (List ℕ))) → IsCutBehind bytes front after → AnswersNext takes reads grows bytes result → lent_by name result ≡ maybe.some name
-  ended_is_lent bytes front after None cut answers = refl
-  ended_is_lent bytes front after (Some p) cut answers =
-      let some : unpadded bytes ≡ [] → ⊥ = answers.some.some in
-      not_cut (stretch (unpadded bytes)) p.0 (answers.some.ended (cut.ended (λ u. some (cut.blank u)))).0
+  ended_is_lent : (s : ℕ) (bytes front after : List ℕ) (result : Option (Result (Answer V) NoMemory × MutBor (List ℕ))) → IsCutBehind (masked s bytes) front after → AnswersNext takes reads grows s bytes result → lent_by name result ≡ maybe.some name
+  ended_is_lent s bytes front after None cut answers = refl
+  ended_is_lent s bytes front after (Some p) cut answers =
+      let some : unpadded (masked s bytes) ≡ [] → ⊥ = answers.some.some in
+      not_cut (stretch (unpadded (masked s bytes))) p.0 (answers.some.ended (cut.ended (λ u. some (cut.blank u)))).0
 
   -- an unfinished one is
-  unfinished_is_free : (bytes : List ℕ) (result : Option (Result (Answer V) NoMemory × MutBor (List ℕ))) → IsUnfinished bytes → AnswersNext takes reads grows bytes result → lent_by name result ≡ maybe.none
-  unfinished_is_free bytes None unfinished answers = absurd (unfinished.some answers.none)
-  unfinished_is_free bytes (Some p) unfinished answers = ap (lent_unless_cut name) (answers.some.unfinished unfinished.unended).0
+  unfinished_is_free : (s : ℕ) (bytes : List ℕ) (result : Option (Result (Answer V) NoMemory × MutBor (List ℕ))) → IsUnfinished (masked s bytes) → AnswersNext takes reads grows s bytes result → lent_by name result ≡ maybe.none
+  unfinished_is_free s bytes None unfinished answers = absurd (unfinished.some answers.none)
+  unfinished_is_free s bytes (Some p) unfinished answers = ap (lent_unless_cut name) (answers.some.unfinished unfinished.unended).0
 
 module _ {M : Type 1} {𝓤 : Ura M} (𝓛 : Logic 𝓤) (R : RattleType) (γ : GName) where
   open 𝓛 use {A}
@@ -60,11 +61,11 @@ module _ {M : Type 1} {𝓤 : Ura M} (𝓛 : Logic 𝓤) (R : RattleType) (γ : 
 abbrev Bytes : RattleType
 Bytes = Array u8 0
 
-pub kept_if_cut : {M : Type 1} {𝓤 : Ura M} (𝓛 : Logic 𝓤) {V : Type 0} (takes : Tree → Type 0) (reads : Tree → V → Type 0) (grows : Bool) (s : MutBor (List ℕ)) (parts : Option (MutBor (List ℕ) × MutBor (List ℕ)))
-    (result : Option (Result (Answer V) NoMemory × MutBor (List ℕ))) → IsNext s.now parts → AnswersNext takes reads grows s.now result
+pub kept_if_cut : {M : Type 1} {𝓤 : Ura M} (𝓛 : Logic 𝓤) {V : Type 0} (takes : Tree → Type 0) (reads : Tree → V → Type 0) (grows : Bool) (sentinel : ℕ) (s : MutBor (List ℕ)) (parts : Option (MutBor (List ℕ) × MutBor (List ℕ)))
+    (result : Option (Result (Answer V) NoMemory × MutBor (List ℕ))) → IsNext sentinel s.now parts → AnswersNext takes reads grows sentinel s.now result
     → ent 𝓤 (sem 𝓛 (LendsBothIf Bytes Bytes Bytes s parts ◌++◌ s.now)) (sem 𝓛 (KeptIfCut s result))
 unfolding both_if_by
-kept_if_cut {𝓤 = 𝓤} 𝓛 takes reads grows s None result next answers =
-    subst (λ m. ent 𝓤 (𝓛.A.res s.ghost_name (Bytes.coded.code s.now)) (sem 𝓛 (follows_so Bytes Bytes s.ghost_name m (λ _ _. Unit {0}) (λ n. n ≡ s.now)))) (sym (unfinished_is_free takes reads grows s.ghost_name s.now result next answers)) (over 𝓛 Bytes s.ghost_name s.now)
-kept_if_cut {𝓤 = 𝓤} 𝓛 takes reads grows s (Some p) result next answers =
-    subst (λ m. ent 𝓤 (sem 𝓛 (LendsBothIf Bytes Bytes Bytes s (Some p) ◌++◌ s.now)) (sem 𝓛 (follows_so Bytes Bytes s.ghost_name m (λ _ _. Unit {0}) (λ n. n ≡ s.now)))) (sym (ended_is_lent takes reads grows s.ghost_name s.now _ _ result next answers)) (still 𝓛 Bytes s.ghost_name _ s.now)
+kept_if_cut {𝓤 = 𝓤} 𝓛 takes reads grows sentinel s None result next answers =
+    subst (λ m. ent 𝓤 (𝓛.A.res s.ghost_name (Bytes.coded.code s.now)) (sem 𝓛 (follows_so Bytes Bytes s.ghost_name m (λ _ _. Unit {0}) (λ n. n ≡ s.now)))) (sym (unfinished_is_free takes reads grows s.ghost_name sentinel s.now result next answers)) (over 𝓛 Bytes s.ghost_name s.now)
+kept_if_cut {𝓤 = 𝓤} 𝓛 takes reads grows sentinel s (Some p) result next answers =
+    subst (λ m. ent 𝓤 (sem 𝓛 (LendsBothIf Bytes Bytes Bytes s (Some p) ◌++◌ s.now)) (sem 𝓛 (follows_so Bytes Bytes s.ghost_name m (λ _ _. Unit {0}) (λ n. n ≡ s.now)))) (sym (ended_is_lent takes reads grows s.ghost_name sentinel s.now _ _ result next answers)) (still 𝓛 Bytes s.ghost_name _ s.now)

@@ -1,4 +1,5 @@
 pub mod Masks
+pub mod Sentinels
 pub mod Streams
 pub mod Unique
 pub mod Feeding

@@ -1,10 +1,17 @@
 -- Where the first stretch of a buffer ends.
-use Rattle.std.proofs.Common.{◌≡◌, ◌≢◌, ◌==◌, if◌then◌else◌, ℕ, zero, suc, ◌+◌, ◌<◌, ◌≤◌, false, List, [], ◌∷◌, length, take, drop, inl, inr, ◌⊎◌, arith, refl, sym, ◌∙◌, ap, subst}
+use Rattle.std.proofs.Common.{◌≡◌, ◌≢◌, ◌==◌, if◌then◌else◌, ℕ, zero, suc, ◌+◌, ◌<◌, ◌≤◌, false, List, [], ◌∷◌, length, take, drop, Option, Some, None, Result, MutBor, inl, inr, ◌⊎◌, arith, refl, sym, ◌∙◌, ap, subst}
 use mathlib.Core.Bool.{true≢false}
+use Rattle.std.specs.Prelude.{bit_xor, IfSome, IfNone}
 use Rattle.std.proofs.lemmas.Bool.{cases_eq, eq-eqb, ne_eqb}
+use Rattle.std.proofs.lemmas.List.{length-map, take-map, drop-map}
 use Rattle.cobs.specs.InPlace.{stretch}
+use Rattle.cobs.specs.Sentinel.{masked}
 use Rattle.cobs.specs.Whole.{unpadded}
-use Rattle.link.specs.InPlace.{IsCutBehind, IsUnfinished}
+use Rattle.postcard_tree.specs.Tree.{Tree}
+use Rattle.link.specs.InPlace.{IsCutBehind, IsUnfinished, ReadsNext}
+use Rattle.link.specs.declared.receiver.Answer.{Answer}
+use Rattle.link.specs.declared.receiver.NoMemory.{NoMemory}
+use Rattle.link.proofs.Sentinels.{masked_zero}
 use Rattle.link.proofs.Reading.{stretch_taken, stretch_short, unpadded_some}
 
 take_none : (n : ℕ) → take {A = ℕ} n [] ≡ []
@@ -90,13 +97,13 @@ cut_at bytes n blank behind within = elim (is_blank (unpadded bytes)) [
 ]
 
 -- no zero ends the first stretch
-pub is_unfinished : (bytes : List ℕ) (n : ℕ) → (unpadded bytes ≡ [] → n ≡ length bytes) → ((unpadded bytes ≡ [] → ⊥) → n + length (unpadded bytes) ≡ length bytes + length (stretch (unpadded bytes)) + 1) → length bytes < n → IsUnfinished bytes
+is_unfinished : (bytes : List ℕ) (n : ℕ) → (unpadded bytes ≡ [] → n ≡ length bytes) → ((unpadded bytes ≡ [] → ⊥) → n + length (unpadded bytes) ≡ length bytes + length (stretch (unpadded bytes)) + 1) → length bytes < n → IsUnfinished bytes
 is_unfinished bytes n blank behind short =
     let some : unpadded bytes ≡ [] → ⊥ = λ u. absurd (omega (arith, short, blank u)) in
     record { some = some; unended = omega (arith, short, behind some, stretch_short (unpadded bytes)) }
 
 -- cut at its end
-pub is_cut_behind : (bytes front after : List ℕ) (n : ℕ) → (unpadded bytes ≡ [] → n ≡ length bytes) → ((unpadded bytes ≡ [] → ⊥) → n + length (unpadded bytes) ≡ length bytes + length (stretch (unpadded bytes)) + 1)
+is_cut_behind : (bytes front after : List ℕ) (n : ℕ) → (unpadded bytes ≡ [] → n ≡ length bytes) → ((unpadded bytes ≡ [] → ⊥) → n + length (unpadded bytes) ≡ length bytes + length (stretch (unpadded bytes)) + 1)
     → n ≤ length bytes → front ≡ take n bytes → after ≡ drop n bytes → IsCutBehind bytes front after
 is_cut_behind bytes front after n blank behind within f a = subst (λ x. IsCutBehind bytes x after) (sym f) (subst (λ x. IsCutBehind bytes (take n bytes) x) (sym a) (cut_at bytes n blank behind within))
 
@@ -105,5 +112,41 @@ not_empty : (s : List ℕ) → false ≡ (length s == 0) → s ≡ [] → ⊥
 not_empty [] e z = true≢false (sym e)
 not_empty (b ∷ s) e z = cc
 
-pub stretch_some : (front ended : List ℕ) → ended ≡ unpadded front → false ≡ (length ended == 0) → stretch ended ≡ [] → ⊥
+stretch_some : (front ended : List ℕ) → ended ≡ unpadded front → false ≡ (length ended == 0) → stretch ended ≡ [] → ⊥
 stretch_some front ended e there q = unpadded_some front (λ u. not_empty ended there (e ∙ u)) (ap stretch (sym e) ∙ q)
+
+-- the same of bytes on a line with a sentinel
+module _ (s : ℕ) (line : List ℕ) (n : ℕ) (blank : unpadded (masked s line) ≡ [] → n ≡ length line)
+    (behind : (unpadded (masked s line) ≡ [] → ⊥) → n + length (unpadded (masked s line)) ≡ length line + length (stretch (unpadded (masked s line))) + 1) where
+  as_long : length (masked s line) ≡ length line
+  as_long = length-map line (bit_xor s)
+
+  ends_blank : unpadded (masked s line) ≡ [] → n ≡ length (masked s line)
+  ends_blank u = blank u ∙ sym as_long
+
+  ends_behind : (unpadded (masked s line) ≡ [] → ⊥) → n + length (unpadded (masked s line)) ≡ length (masked s line) + length (stretch (unpadded (masked s line))) + 1
+  ends_behind some = behind some ∙ ap (λ k. k + length (stretch (unpadded (masked s line))) + 1) (sym as_long)
+
+  pub line_unfinished : length line < n → IsUnfinished (masked s line)
+  line_unfinished short = is_unfinished (masked s line) n ends_blank ends_behind (omega (arith, short, as_long))
+
+  pub line_cut : (front after : List ℕ) → n ≤ length line → front ≡ take n line → after ≡ drop n line → IsCutBehind (masked s line) (masked s front) (masked s after)
+  line_cut front after within f a =
+      is_cut_behind (masked s line) (masked s front) (masked s after) n ends_blank ends_behind (omega (arith, within, as_long))
+      (ap (masked s) f ∙ sym (take-map (bit_xor s) n line)) (ap (masked s) a ∙ sym (drop-map (bit_xor s) n line))
+
+pub line_some : (s n : ℕ) (front ended : List ℕ) → ended ≡ drop n front → drop n (masked s front) ≡ unpadded (masked s front) → false ≡ (length ended == 0) → stretch (masked s ended) ≡ [] → ⊥
+line_some s n front ended e behind there =
+    stretch_some (masked s front) (masked s ended) (ap (masked s) e ∙ sym (drop-map (bit_xor s) n front) ∙ behind) (there ∙ ap (λ k. k == 0) (sym (length-map ended (bit_xor s))))
+
+-- at the sentinel zero
+module _ {V : Type 0} (bytes : List ℕ) where
+  pub zero_blank : (r : Option (Result (Answer V) NoMemory × MutBor (List ℕ))) → IfNone r (unpadded (masked 0 bytes) ≡ []) → IfNone r (unpadded bytes ≡ [])
+  zero_blank None h = ap unpadded (sym (masked_zero bytes)) ∙ h
+  zero_blank (Some q) h = h
+
+pub zero_reads : {V : Type 0} (takes : Tree → Type 0) (reads : Tree → V → Type 0) (bytes : List ℕ) (r : Option (Result (Answer V) NoMemory × MutBor (List ℕ)))
+    → IfSome r (λ q. ReadsNext takes reads (unpadded (masked 0 bytes)) q.0 (masked 0 q.1.now)) → IfSome r (λ q. ReadsNext takes reads (unpadded bytes) q.0 q.1.now)
+zero_reads takes reads bytes None h = h
+zero_reads takes reads bytes (Some q) h =
+    subst (λ x. ReadsNext takes reads (unpadded x) q.0 q.1.now) (masked_zero bytes) (subst (λ y. ReadsNext takes reads (unpadded (masked 0 bytes)) q.0 y) (masked_zero q.1.now) h)

@@ -2,38 +2,48 @@
 ghost use Rattle.std.specs.Prelude.{◌≡◌, ℕ, ◌+◌, ◌<◌, ◌≤◌, List, [], ◌++◌, length, drop, true, OnErr, IfSome, IfNone};
 ghost use Rattle.std.specs.Borrow.{sem, LendsBothIf, Array, u8};
 ghost use Rattle.cobs.specs.InPlace.{stretch};
+ghost use Rattle.cobs.specs.Sentinel.{masked};
 ghost use Rattle.cobs.specs.Whole.{unpadded};
 ghost use Rattle.link.specs.InPlace.{AnswersEnded, ReadsNext, IsNext, AnswersNext, KeptIfCut};
 
 use crate::receiver::{Answer, NoMemory};
-use crate::zeros::before_zero;
+use memchr::memchr;
 use postcard::{Deserialize, Error, from_bytes};
 use std::alloc::Global;
 
-// How many zeros stand in front.
-fn leading_zeros(bytes: &[u8]) -> usize
-    ensures rest { drop result bytes.now ≡ unpadded bytes.now }
+// How many sentinels stand in front.
+fn leading_sentinels(bytes: &[u8], sentinel: u8) -> usize
+    ensures rest { drop result (masked sentinel bytes.now) ≡ unpadded (masked sentinel bytes.now) }
     ensures within { result ≤ length bytes.now }
 {
     let mut count = 0;
-    while count < bytes.len() && bytes[count] == 0 {
+    while count < bytes.len() && bytes[count] == sentinel {
         count += 1;
     }
     count
 }
 
-// The answer to the stretch in front, which a zero ends. It is decoded over itself.
+// How many bytes stand before the first sentinel; all where there is none.
+fn before_sentinel(bytes: &[u8], sentinel: u8) -> usize
+    ensures before { result ≡ length (stretch (masked sentinel bytes.now)) }
+    ensures within { result ≤ length bytes.now }
+{
+    memchr(sentinel, bytes).unwrap_or(bytes.len())
+}
+
+// The answer to the stretch in front, which a sentinel ends. It is decoded over itself.
 fn read_stretch<'a, T: Deserialize<&'a [u8]>>(
     alloc: Global,
     bytes: &'a mut [u8],
+    sentinel: u8,
 ) -> Result<Answer<T>, NoMemory>
-    requires { stretch bytes.now ≡ [] → ⊥ }
-    ensures answer { AnswersEnded T.takes T.reads (stretch bytes.entry.now) result }
+    requires { stretch (masked sentinel bytes.now) ≡ [] → ⊥ }
+    ensures answer { AnswersEnded T.takes T.reads (stretch (masked sentinel bytes.entry.now)) result }
     ensures memory { OnErr result (T.growing ≡ true) }
 {
     cobs::laws::message_of_a_frame();
     cobs::laws::shorter();
-    match cobs::decode_in_place(bytes) {
+    match cobs::decode_in_place_with_sentinel(bytes, sentinel) {
         Ok(size) => match from_bytes(alloc, &bytes[..size]) {
             Ok(value) => Ok(Answer::Value(value)),
             Err(error) => match error {
@@ -45,27 +55,27 @@ fn read_stretch<'a, T: Deserialize<&'a [u8]>>(
     }
 }
 
-// How many bytes there are through the zero that ends the next stretch: one more than there are where no zero does, and all where
-// they are zeros alone.
-fn end_of_stretch(bytes: &[u8]) -> usize
-    ensures blank { unpadded bytes.now ≡ [] → result ≡ length bytes.now }
-    ensures behind { (unpadded bytes.now ≡ [] → ⊥) → result + length (unpadded bytes.now) ≡ length bytes.now + length (stretch (unpadded bytes.now)) + 1 }
+// How many bytes there are through the sentinel that ends the next stretch: one more than there are where none does, and all where
+// they are sentinels alone.
+fn end_of_stretch(bytes: &[u8], sentinel: u8) -> usize
+    ensures blank { unpadded (masked sentinel bytes.now) ≡ [] → result ≡ length bytes.now }
+    ensures behind { let behind = unpadded (masked sentinel bytes.now) in (behind ≡ [] → ⊥) → result + length behind ≡ length bytes.now + length (stretch behind) + 1 }
 {
-    let zeros = leading_zeros(bytes);
-    let (_, rest) = bytes.split_at(zeros);
+    let leading = leading_sentinels(bytes, sentinel);
+    let (_, rest) = bytes.split_at(leading);
     if rest.is_empty() {
-        return zeros;
+        return leading;
     }
-    zeros + before_zero(rest) + 1
+    leading + before_sentinel(rest, sentinel) + 1
 }
 
-// The bytes through the zero that ends the next stretch, and those behind it; nothing where no zero does. (Zeros alone are all in
-// front.)
-fn next_stretch(bytes: &mut [u8]) -> Option<(&mut [u8], &mut [u8])>
-    ensures parts { IsNext bytes.entry.now result }
+// The bytes through the sentinel that ends the next stretch, and those behind it; nothing where none does. (Sentinels alone are all
+// in front.)
+fn next_stretch(bytes: &mut [u8], sentinel: u8) -> Option<(&mut [u8], &mut [u8])>
+    ensures parts { IsNext sentinel bytes.entry.now result }
     ensures* lent { sem 𝓛 (LendsBothIf (Array u8 0) (Array u8 0) (Array u8 0) bytes.entry result ◌++◌ bytes.entry.now) }
 {
-    let end = end_of_stretch(bytes);
+    let end = end_of_stretch(bytes, sentinel);
     if bytes.len() < end {
         return None;
     }
@@ -76,18 +86,19 @@ fn next_stretch(bytes: &mut [u8]) -> Option<(&mut [u8], &mut [u8])>
 fn read_next<'a, T: Deserialize<&'a [u8]>>(
     alloc: Global,
     parts: Option<(&'a mut [u8], &'a mut [u8])>,
+    sentinel: u8,
 ) -> Option<(Result<Answer<T>, NoMemory>, &'a mut [u8])>
-    ensures { (bytes : List ℕ) → IsNext bytes parts.entry → AnswersNext T.takes T.reads T.growing bytes result }
+    ensures { (bytes : List ℕ) → IsNext sentinel bytes parts.entry → AnswersNext T.takes T.reads T.growing sentinel bytes result }
 {
     match parts {
         None => Some((Ok(Answer::Cut), &mut [])),
         Some((front, after)) => {
-            let zeros = leading_zeros(front);
-            let (_, ended) = front.split_at_mut(zeros);
+            let leading = leading_sentinels(front, sentinel);
+            let (_, ended) = front.split_at_mut(leading);
             if ended.is_empty() {
                 return None;
             }
-            Some((read_stretch(alloc, ended), after))
+            Some((read_stretch(alloc, ended, sentinel), after))
         }
     }
 }
@@ -106,6 +117,20 @@ pub fn read_in_place<'a, T: Deserialize<&'a [u8]>>(
     ensures memory { IfSome result (λ p. OnErr p.0 (T.growing ≡ true)) }
     ensures* unchanged { sem 𝓛 (KeptIfCut bytes.entry result) }
 {
-    let parts = next_stretch(bytes);
-    read_next(alloc, parts)
+    read_in_place_with_sentinel(alloc, bytes, 0)
+}
+
+/// The same with a sentinel in place of zero; a stretch is what its bytes are XORed with the sentinel.
+pub fn read_in_place_with_sentinel<'a, T: Deserialize<&'a [u8]>>(
+    alloc: Global,
+    bytes: &'a mut [u8],
+    sentinel: u8,
+) -> Option<(Result<Answer<T>, NoMemory>, &'a mut [u8])>
+    ensures some { IfSome result (λ p. ReadsNext T.takes T.reads (unpadded (masked sentinel bytes.entry.now)) p.0 (masked sentinel p.1.now)) }
+    ensures none { IfNone result (unpadded (masked sentinel bytes.entry.now) ≡ []) }
+    ensures memory { IfSome result (λ p. OnErr p.0 (T.growing ≡ true)) }
+    ensures* unchanged { sem 𝓛 (KeptIfCut bytes.entry result) }
+{
+    let parts = next_stretch(bytes, sentinel);
+    read_next(alloc, parts, sentinel)
 }

@@ -65,7 +65,7 @@ mod zeros;
 
 pub use framed::Framed;
 pub use gathering::{Gathered, receive_by_accumulator};
-pub use in_place::read_in_place;
+pub use in_place::{read_in_place, read_in_place_with_sentinel};
 pub use listening::{
     End, Received, receive, receive_owned, receive_owned_strict, receive_strict,
     receive_strict_with_sentinel, receive_with_sentinel,

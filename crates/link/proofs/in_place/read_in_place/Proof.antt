@@ -1,6 +1,5 @@
--- The bytes of an unfinished stretch are free again once it is answered: `next_stretch` says what they hold then.
--- The proof is by hand, since none is generated where the result holds a value of a bound's type. Assumes `Logic`.
-use Rattle.std.proofs.Common.{◌≡◌, ℕ, List, [], ◌∷◌, ◌++◌, length, refl, sym, subst, true, IfSome, IfNone, OnErr}
+-- The same at the sentinel zero. The proof is by hand for the same reason. Assumes `Logic`.
+use Rattle.std.proofs.Common.{◌≡◌, ℕ, List, [], ◌∷◌, ◌++◌, length, w8, lit<, refl, sym, subst, true, IfSome, IfNone, OnErr}
 use Rattle.std.specs.Borrow.{LendsBothIf, Array}
 use seplogic.Ra.Ura.{Ura}
 use mir.Syntax.{Fn, Args as TypeArgs, a_type, dcons, dnil, named, erased}
@@ -10,7 +9,7 @@ use base.Logic.{id⊢, emp}
 use types.Logic.{Logic}
 use types.Kit.{‵, raw, ◌⊛◌, some, later, ◌$◌, ◌∵◌, !, qed, by, move, keep, drop, split, join, fjoin, pick, use0, use1, await}
 use types.Part.{whole, sub, agg}
-use types.Run.{stop, fld, hop, from, addr, of_opd, no_more, and_then, returns, enter}
+use types.Run.{stop, fld, hop, from, addr, lit, no_more, and_then, returns, enter}
 use types.ByLocal.{alloc_all, pass_all, free_all, look_at, look_in_at, get, get_in, sets, lands_as}
 use contract.Monad.{fact, fact_i}
 use contract.Lifetimes.{Lfts}
@@ -19,15 +18,16 @@ use contract.Running.{tables}
 use denote.Builtin.{u8}
 use denote.Exit.{yes, no}
 use denote.RattleType.{RattleType}
+use denote.Plain.{uint_Makes, uint_vals}
 use denote.Ref.{NamedLft}
 use denote.Slice.{MutSlice, Room, mut_slice_vals, mut_slice_Tells}
 use denote.Signature.{plain, mut_slice_of}
-use denote.Laws.{Lawful, shows}
+use denote.Laws.{Is, Lawful, shows}
 use denote.Struct.Field.{shr_slice_field, mut_slice_field, u8-field}
 use denote.Struct.Laws as struct_law
 use denote.Struct.Loose as struct_loose
 use denote.Struct.Tuple.{Tuple, tuple_laws}
-use denote.Steps.{nothing, heard, peeks}
+use denote.Steps.{nothing, owned, heard, peeks}
 use denote.Param.{param, bounded}
 use denote.Param.Laws.{Laws, param_laws, of_field, row_shared}
 use denote.Param.Shared.{mut_slice_shared, copy_shared}
@@ -45,23 +45,22 @@ use Rattle.std.specs.contracts.alloc.Global.{the_row as Global, the_type as glob
 use Rattle.std.proofs.alloc.Global.TheLaws as global
 use Rattle.postcard_de.specs.contracts.deserialize.Deserialize.TheBound as bound
 use Rattle.postcard_de.specs.contracts.de_flavors.RefSliceU8Bytes.TheImpl as shared
+use Rattle.cobs.specs.Sentinel.{masked}
 use Rattle.cobs.specs.Whole.{unpadded}
-use Rattle.link.specs.InPlace.{ReadsNext, IsNext, AnswersNext, KeptIfCut}
-use Rattle.link.proofs.Keeping.{kept_if_cut}
+use Rattle.link.specs.InPlace.{ReadsNext, KeptIfCut}
+use Rattle.link.proofs.Nexts.{zero_reads, zero_blank}
 use Rattle.link.specs.contracts.receiver.Answer.{the_row as Answer}
 use Rattle.link.proofs.receiver.Answer.TheLaws.{the_row_laws as answer_laws}
 use Rattle.link.specs.contracts.receiver.NoMemory.{the_row as NoMemory}
 use Rattle.link.proofs.receiver.NoMemory.TheLaws.{the_row_laws as no_memory_laws}
-use Rattle.link.specs.contracts.in_place.next_stretch as nexts
-use Rattle.link.proofs.in_place.next_stretch.Met as next_met
-use Rattle.link.specs.contracts.in_place.read_next as reads
-use Rattle.link.proofs.in_place.read_next.Met as read_met
+use Rattle.link.specs.contracts.in_place.read_in_place_with_sentinel as reads
+use Rattle.link.proofs.in_place.read_in_place_with_sentinel.Met as read_met
 use Rattle.link.specs.contracts.in_place.read_in_place as self
 use Rattle.link.specs.contracts.in_place.read_in_place.Key.{name as #self}
 use Rattle.link.proofs.in_place.read_in_place.Statement.{statement}
 use Rattle.link.proofs.in_place.read_in_place.Code as code
 
--- a slice, the two parts, and the answer with the rest
+-- a slice, and the answer with the rest
 abbrev Slice : NamedLft → RattleType
 Slice α = MutSlice α.mir α.lft u8
 
@@ -70,16 +69,10 @@ slice_laws α =
     of_field (mut_slice_field α u8-field.row tt) (struct_law.mut_slice_laws α u8-field.row tt) refl
     (mut_slice_shared α u8-field.row tt (row_shared u8-field.row (of_field u8-field struct_law.u8-laws refl (copy_shared u8-field struct_law.u8-copy))))
 
-abbrev Parts : NamedLft → RattleType
-Parts α = Option (Tuple (Slice α ∷ Slice α ∷ []))
-
 abbrev Found : NamedLft → RattleType → RattleType
 Found α T = Option (Tuple (Result (Answer (param 0 T)) NoMemory ∷ Slice α ∷ []))
 
--- a value of either type has that type in memory
-lawful_parts : {M : Type 1} {𝓤 : Ura M} (𝓛 : Logic 𝓤) (α : NamedLft) → Lawful 𝓛 (Parts α)
-lawful_parts 𝓛 α = (option_laws (Tuple (Slice α ∷ Slice α ∷ [])) (tuple_laws (Slice α ∷ Slice α ∷ []) (slice_laws α, (slice_laws α, tt)))).lawful 𝓛
-
+-- a value of its type has that type in memory
 lawful_found : {M : Type 1} {𝓤 : Ura M} (𝓛 : Logic 𝓤) (α : NamedLft) (T : RattleType) → Laws T → Lawful 𝓛 (Found α T)
 lawful_found 𝓛 α T L =
     let Got : RattleType = Result (Answer (param 0 T)) NoMemory in
@@ -100,22 +93,19 @@ read_in_place_spec 𝓤 𝓛 𝓜 𝓡 wired T L gd dd gr dr dx P met_d met_r me
     (λ κs. (struct_law.tells global_type global.the_laws, (mut_slice_Tells (named 0) κs.0 u8, tt)))
     (λ κs qs bounds a g are.
     let alloc = a.0 in let me = a.1.0 in
-    let gs = struct_law.val global_type global.the_laws alloc ∷ [] in let us = mut_slice_vals me in
+    let gs = struct_law.val global_type global.the_laws alloc ∷ [] in let us = mut_slice_vals me in let ss = uint_vals w8 0 in
     let W = walk_of 𝓛 En hs c in
     let y : W.Ghost = ((κs, qs, bounds, a, (gs, (us, tt))), tt) in
     let t₀ = ‵ (flft κs.0 qs.0) in let t₁ = ‵ (flft κs.1.0 qs.1.0) in
     let α : NamedLft = record { mir = named 0; lft = κs.0 } in
-    let Cut : RattleType = Parts α in let Res : RattleType = Found α T in
+    let Res : RattleType = Found α T in
     let room : Room u8 (length me.now) = are.1.0.0.1 in
-    -- the call of `next_stretch`
-    let E₁ = nexts.ended in
-    let G₁ = triple_of 𝓛 nexts.signature (nexts.spec 𝓛 𝓜.mem 𝓡.returns) in
-    let z₁ : G₁.Ghost = (((κs.0, tt), (qs.0, tt), tt, (me, tt), (us, tt)), tt) in
-    -- the call of `read_next`
-    let P₂ : Lfts 2 → Type 0 = λ κs'. κs'.0 ≡ κs.0 in
+    -- the call of `read_in_place_with_sentinel`
+    let P₁ : Lfts 2 → Type 0 = λ κs'. κs'.0 ≡ κs.0 in
     let Bound : Lft → Type 2 = λ κ. bound.Met 𝓛 𝓜 𝓡 𝓡.env T (shr_slice_field (record { mir = erased; lft = κ }) u8 tt).row gd dd gr dr shared.ghosts shared.dict in
-    let E₂ = reads.ended T gd dd gr dr dx P₂ in
-    let G₂ = triple_of 𝓛 (reads.signature T) (reads.spec T gd dd gr dr dx P₂ 𝓛 𝓜.mem 𝓡.returns) in
+    let E₁ = reads.ended T gd dd gr dr dx P₁ in
+    let G₁ = triple_of 𝓛 (reads.signature T) (reads.spec T gd dd gr dr dx P₁ 𝓛 𝓜.mem 𝓡.returns) in
+    let z₁ : G₁.Ghost = (((κs.0, (κs.1.0, tt)), (qs.0, (qs.1.0, tt)), tt, (alloc, (me, (0, tt))), (gs, (us, (ss, tt)))), tt) in
     qed 𝓛 (((t₀ ⊛ t₁ ⊛ ‵ ftrue) ⊛ ‵ (Global.own_val alloc gs) ⊛ ‵ ((Slice α).own_val me us) ⊛ ‵ ftrue)
     ∷ (raw (fact 𝓤 (κs.1.0 ⊑ T.lives)) ⊛ raw (fact 𝓤 (P κs)) ⊛ ‵ ftrue) ∷ []) ∵
     move ! (1 ∷ []) $ split ! $ heard ! _ (λ t_lives. split ! $ heard ! _ (λ p. drop ! $
@@ -124,36 +114,25 @@ read_in_place_spec 𝓤 𝓛 𝓜 𝓡 wired T L gd dd gr dr dx P met_d met_r me
     enter ! _ _ _ _ _ $ alloc_all ! (λ l. pass_all ! refl (((struct_loose.loose_lawful global_type global.the_loose 𝓛).typed alloc gs are.0).0, ((tt, (tt, (record { fits = room.0 }, tt))), tt)) $
     sets ! (addr ! (from ! (fld ! refl (hop ! (look_in_at ! 2 (sub ! 0 refl (whole !))) (stop !))))) refl (tt, tt) $
     sets ! (agg ! (and_then ! (get ! refl) (and_then ! (get_in ! (fld ! refl (stop !)) (sub ! 1 refl (whole !))) (no_more !)))) refl (tt, (tt, (record { fits = room.0 }, tt))) $
-    -- what `next_stretch` asks: its token and the slice
-    nothing ! $ move ! (1 ∷ 0 ∷ []) $ join ! $ nothing ! $ move ! (4 ∷ 0 ∷ []) $ join ! $ move ! (1 ∷ 0 ∷ []) $ join ! $
-    nothing ! $ move ! (1 ∷ 0 ∷ []) $ join ! $ use1 𝓛 (raw (G₁.pre z₁)) (id⊢ 𝓤 _) $
-    calls_at ! (framed 𝓤 H 𝓜 𝓣) G₁ (next_met.met 𝓤 𝓛 𝓜 𝓡 (code.calls-link::in_place::next_stretch 𝓡.env wired)) z₁ (and_then ! (get ! refl) (no_more !)) (λ v.
-    use1 𝓛 (later (some (λ (x : Cut.Denot). ((t₀ ⊛ ‵ ftrue) ⊛ ‵ (Cut.own_val x (v ∷ []))) ⊛
-    some (λ (ls : Lasts E₁ z₁.0.0 z₁.0.3). ‵ (lasts E₁ z₁.0.0 z₁.0.3 ls) ⊛ raw (fact 𝓤 (IsNext me.now x)) ⊛ ‵ (LendsBothIf (Array u8 0) (Array u8 0) (Array u8 0) me x ◌++◌ me.now))))) (id⊢ 𝓤 _) $
-    await ! tt $ pick ! (λ x. split ! $ move ! (1 ∷ []) $ pick ! (λ ls. split ! $ drop ! $ split ! $ heard ! _ (λ next.
-    move ! (1 ∷ []) $ split ! $ split ! $ move ! (2 ∷ []) $
-    -- [the parts; a token; nothing; what they lend; the other token; the allocator]
-    peeks ! Cut _ (shows 𝓛 Cut) x (v ∷ []) (λ has.
-    let z₂ : G₂.Ghost = (((κs.0, (κs.1.0, tt)), (qs.0, (qs.1.0, tt)), tt, (alloc, (x, tt)), (gs, (v ∷ [], tt))), tt) in
-    let typed = ((lawful_parts 𝓛 α).typed x (v ∷ []) has).0 in
-    lands_as ! refl refl typed $ sets ! (of_opd ! (get ! refl)) refl typed $
-    -- what `read_next` asks, likewise, and its facts
-    nothing ! $ move ! (5 ∷ 0 ∷ []) $ join ! $ move ! (2 ∷ 0 ∷ []) $ join ! $
-    nothing ! $ move ! (2 ∷ 0 ∷ []) $ join ! $ move ! (4 ∷ 0 ∷ []) $ join ! $ move ! (1 ∷ 0 ∷ []) $ join ! $
+    -- what the call asks: the tokens, the parameters and the sentinel zero, and its facts
+    nothing ! $ move ! (2 ∷ 0 ∷ []) $ join ! $ move ! (1 ∷ 0 ∷ []) $ join ! $
+    nothing ! $ owned ! u8 (Is u8) (uint_Makes 𝓛 w8) 0 ss (refl, lit< tt) $ join ! $ move ! (3 ∷ 0 ∷ []) $ join ! $ move ! (2 ∷ 0 ∷ []) $ join ! $ move ! (1 ∷ 0 ∷ []) $ join ! $
     nothing ! $ use0 𝓛 (raw (fact 𝓤 (κs.0 ≡ κs.0))) (fact_i 𝓤 _ (emp 𝓤) refl) $ join ! $ use0 𝓛 (raw (fact 𝓤 (κs.1.0 ⊑ T.lives))) (fact_i 𝓤 _ (emp 𝓤) t_lives) $ join ! $
-    move ! (1 ∷ 0 ∷ []) $ join ! $ use1 𝓛 (raw (G₂.pre z₂)) (id⊢ 𝓤 _) $
-    calls_at ! (framed 𝓤 H 𝓜 𝓣) G₂ (read_met.met 𝓤 𝓛 𝓜 𝓡 (code.calls-link::in_place::read_next 𝓡.env wired) T L gd dd gr dr dx P₂ (λ κs' e. subst Bound (sym e) (met_d κs p)) met_r met_x) z₂ (and_then ! (get ! refl) (and_then ! (get ! refl) (no_more !))) (λ u.
+    move ! (1 ∷ 0 ∷ []) $ join ! $ use1 𝓛 (raw (G₁.pre z₁)) (id⊢ 𝓤 _) $
+    calls_at ! (framed 𝓤 H 𝓜 𝓣) G₁ (read_met.met 𝓤 𝓛 𝓜 𝓡 (code.calls-link::in_place::read_in_place_with_sentinel 𝓡.env wired) T L gd dd gr dr dx P₁ (λ κs' e. subst Bound (sym e) (met_d κs p)) met_r met_x) z₁
+    (and_then ! (get ! refl) (and_then ! (get ! refl) (and_then ! (lit ! tt) (no_more !)))) (λ u.
     use1 𝓛 (later (some (λ (r : Res.Denot). ((t₀ ⊛ t₁ ⊛ ‵ ftrue) ⊛ ‵ (Res.own_val r (u ∷ []))) ⊛
-    some (λ (ls : Lasts E₂ z₂.0.0 z₂.0.3). ‵ (lasts E₂ z₂.0.0 z₂.0.3 ls) ⊛ raw (fact 𝓤 ((bytes : List ℕ) → IsNext bytes x → AnswersNext gr.takes gr.reads gr.growing bytes r)))))) (id⊢ 𝓤 _) $
-    await ! tt $ pick ! (λ r. split ! $ move ! (1 ∷ []) $ pick ! (λ ls'. split ! $ drop ! $ heard ! _ (λ answers. split ! $ move ! (1 ∷ []) $
-    -- [the answer; the tokens; nothing; what is lent]
-    peeks ! Res _ (shows 𝓛 Res) r (u ∷ []) (λ has'.
-    let told : AnswersNext gr.takes gr.reads gr.growing me.now r = answers me.now next in
-    lands_as ! refl refl ((lawful_found 𝓛 α T L).typed r (u ∷ []) has').0 $ returns ! (look_at ! 0 refl) $ free_all ! refl $
+    some (λ (ls : Lasts E₁ z₁.0.0 z₁.0.3). ‵ (lasts E₁ z₁.0.0 z₁.0.3 ls) ⊛ raw (fact 𝓤 (IfSome r (λ q. ReadsNext gr.takes gr.reads (unpadded (masked 0 me.now)) q.0 (masked 0 q.1.now))))
+    ⊛ raw (fact 𝓤 (IfNone r (unpadded (masked 0 me.now) ≡ []))) ⊛ raw (fact 𝓤 (IfSome r (λ q. OnErr q.0 (gr.growing ≡ true)))) ⊛ ‵ (KeptIfCut me r))))) (id⊢ 𝓤 _) $
+    await ! tt $ pick ! (λ r. split ! $ move ! (1 ∷ []) $ pick ! (λ ls. split ! $ drop ! $ split ! $ heard ! _ (λ some'. split ! $ heard ! _ (λ none'. split ! $ heard ! _ (λ memory.
+    move ! (1 ∷ []) $ split ! $ move ! (1 ∷ []) $
+    -- [the answer; the tokens; what is lent]
+    peeks ! Res _ (shows 𝓛 Res) r (u ∷ []) (λ has.
+    lands_as ! refl refl ((lawful_found 𝓛 α T L).typed r (u ∷ []) has).0 $ returns ! (look_at ! 0 refl) $ free_all ! refl $
     -- what is owed: the tokens, nothing of the parameters, the result, and the four clauses
-    move ! (3 ∷ []) $ use1 𝓛 (‵ (KeptIfCut me r)) (kept_if_cut 𝓛 gr.takes gr.reads gr.growing me x r next told) $
-    use0 𝓛 (raw (fact 𝓤 (IfSome r (λ q. OnErr q.0 (gr.growing ≡ true))))) (fact_i 𝓤 _ (emp 𝓤) told.memory) $ join ! $
-    use0 𝓛 (raw (fact 𝓤 (IfNone r (unpadded me.now ≡ [])))) (fact_i 𝓤 _ (emp 𝓤) told.none) $ join ! $
-    use0 𝓛 (raw (fact 𝓤 (IfSome r (λ q. ReadsNext gr.takes gr.reads (unpadded me.now) q.0 q.1.now)))) (fact_i 𝓤 _ (emp 𝓤) told.some) $ join ! $
+    move ! (2 ∷ []) $
+    use0 𝓛 (raw (fact 𝓤 (IfSome r (λ q. OnErr q.0 (gr.growing ≡ true))))) (fact_i 𝓤 _ (emp 𝓤) memory) $ join ! $
+    use0 𝓛 (raw (fact 𝓤 (IfNone r (unpadded me.now ≡ [])))) (fact_i 𝓤 _ (emp 𝓤) (zero_blank me.now r none')) $ join ! $
+    use0 𝓛 (raw (fact 𝓤 (IfSome r (λ q. ReadsNext gr.takes gr.reads (unpadded me.now) q.0 q.1.now)))) (fact_i 𝓤 _ (emp 𝓤) (zero_reads gr.takes gr.reads me.now r some')) $ join ! $
     nothing ! $ nothing ! $ fjoin ! $ nothing ! $ fjoin ! $ keep ! (3 ∷ 0 ∷ 2 ∷ 1 ∷ []) $
-    by ! (leaves 𝓛 En hs c y u r (tt, (tt, tt)) (tt, (tt, tt)))))))))))))))))
+    by ! (leaves 𝓛 En hs c y u r (tt, (tt, tt)) (tt, (tt, tt))))))))))))))

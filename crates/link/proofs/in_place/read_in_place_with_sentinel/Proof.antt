@@ -1,0 +1,161 @@
+-- The bytes of an unfinished stretch are free again once it is answered: `next_stretch` says what they hold then.
+-- The proof is by hand, since none is generated where the result holds a value of a bound's type. Assumes `Logic`.
+use Rattle.std.proofs.Common.{◌≡◌, ℕ, List, [], ◌∷◌, ◌++◌, length, w8, refl, sym, subst, true, IfSome, IfNone, OnErr}
+use Rattle.std.specs.Borrow.{LendsBothIf, Array}
+use seplogic.Ra.Ura.{Ura}
+use mir.Syntax.{Fn, Args as TypeArgs, a_type, dcons, dnil, named, erased}
+use mir.MapTy.{inst_fn}
+use base.Fml.{Lft, ftrue, flft}
+use base.Logic.{id⊢, emp}
+use types.Logic.{Logic}
+use types.Kit.{‵, raw, ◌⊛◌, some, later, ◌$◌, ◌∵◌, !, qed, by, move, keep, drop, split, join, fjoin, pick, use0, use1, await}
+use types.Part.{whole, sub, agg}
+use types.Run.{stop, fld, hop, from, addr, of_opd, no_more, and_then, returns, enter}
+use types.ByLocal.{alloc_all, pass_all, free_all, look_at, look_in_at, get, get_in, sets, lands_as}
+use contract.Monad.{fact, fact_i}
+use contract.Lifetimes.{Lfts}
+use contract.BorrowLft.{◌⊑◌}
+use contract.Running.{tables}
+use denote.Builtin.{u8}
+use denote.Exit.{yes, no}
+use denote.RattleType.{RattleType}
+use denote.Plain.{uint_Makes, uint_vals, uint_Tells}
+use denote.Ref.{NamedLft}
+use denote.Slice.{MutSlice, Room, mut_slice_vals, mut_slice_Tells}
+use denote.Signature.{plain, mut_slice_of}
+use denote.Laws.{Is, Lawful, shows}
+use denote.Struct.Field.{shr_slice_field, mut_slice_field, u8-field}
+use denote.Struct.Laws as struct_law
+use denote.Struct.Loose as struct_loose
+use denote.Struct.Tuple.{Tuple, tuple_laws}
+use denote.Steps.{nothing, owned, heard, peeks}
+use denote.Param.{param, bounded}
+use denote.Param.Laws.{Laws, param_laws, of_field, row_shared}
+use denote.Param.Shared.{mut_slice_shared, copy_shared}
+use denote.Triple.Clauses.{Lasts, lasts}
+use denote.Triple.Spec.{triple_of}
+use denote.Triple.Call.{calls_at}
+use denote.Triple.Table.{framed}
+use denote.Triple.Walked.{Stays, stay_dropped, walk_of, Goes-dropped, Goes-spent_slice}
+use Rattle.std.proofs.raw_atomic.Walks.{proved, leaves}
+use Rattle.std.specs.contracts.option.Option.{the_row as Option}
+use Rattle.std.proofs.option.Option.TheLaws.{the_row_laws as option_laws}
+use Rattle.std.specs.contracts.result.Result.{the_row as Result}
+use Rattle.std.proofs.result.Result.TheLaws.{the_row_laws as result_laws}
+use Rattle.std.specs.contracts.alloc.Global.{the_row as Global, the_type as global_type}
+use Rattle.std.proofs.alloc.Global.TheLaws as global
+use Rattle.postcard_de.specs.contracts.deserialize.Deserialize.TheBound as bound
+use Rattle.postcard_de.specs.contracts.de_flavors.RefSliceU8Bytes.TheImpl as shared
+use Rattle.cobs.specs.Sentinel.{masked}
+use Rattle.cobs.specs.Whole.{unpadded}
+use Rattle.link.specs.InPlace.{ReadsNext, IsNext, AnswersNext, KeptIfCut}
+use Rattle.link.proofs.Keeping.{kept_if_cut}
+use Rattle.link.specs.contracts.receiver.Answer.{the_row as Answer}
+use Rattle.link.proofs.receiver.Answer.TheLaws.{the_row_laws as answer_laws}
+use Rattle.link.specs.contracts.receiver.NoMemory.{the_row as NoMemory}
+use Rattle.link.proofs.receiver.NoMemory.TheLaws.{the_row_laws as no_memory_laws}
+use Rattle.link.specs.contracts.in_place.next_stretch as nexts
+use Rattle.link.proofs.in_place.next_stretch.Met as next_met
+use Rattle.link.specs.contracts.in_place.read_next as reads
+use Rattle.link.proofs.in_place.read_next.Met as read_met
+use Rattle.link.specs.contracts.in_place.read_in_place_with_sentinel as self
+use Rattle.link.specs.contracts.in_place.read_in_place_with_sentinel.Key.{name as #self}
+use Rattle.link.proofs.in_place.read_in_place_with_sentinel.Statement.{statement}
+use Rattle.link.proofs.in_place.read_in_place_with_sentinel.Code as code
+
+-- a slice, the two parts, and the answer with the rest
+abbrev Slice : NamedLft → RattleType
+Slice α = MutSlice α.mir α.lft u8
+
+slice_laws : (α : NamedLft) → Laws (Slice α)
+slice_laws α =
+    of_field (mut_slice_field α u8-field.row tt) (struct_law.mut_slice_laws α u8-field.row tt) refl
+    (mut_slice_shared α u8-field.row tt (row_shared u8-field.row (of_field u8-field struct_law.u8-laws refl (copy_shared u8-field struct_law.u8-copy))))
+
+abbrev Parts : NamedLft → RattleType
+Parts α = Option (Tuple (Slice α ∷ Slice α ∷ []))
+
+abbrev Found : NamedLft → RattleType → RattleType
+Found α T = Option (Tuple (Result (Answer (param 0 T)) NoMemory ∷ Slice α ∷ []))
+
+-- a value of either type has that type in memory
+lawful_parts : {M : Type 1} {𝓤 : Ura M} (𝓛 : Logic 𝓤) (α : NamedLft) → Lawful 𝓛 (Parts α)
+lawful_parts 𝓛 α = (option_laws (Tuple (Slice α ∷ Slice α ∷ [])) (tuple_laws (Slice α ∷ Slice α ∷ []) (slice_laws α, (slice_laws α, tt)))).lawful 𝓛
+
+lawful_found : {M : Type 1} {𝓤 : Ura M} (𝓛 : Logic 𝓤) (α : NamedLft) (T : RattleType) → Laws T → Lawful 𝓛 (Found α T)
+lawful_found 𝓛 α T L =
+    let Got : RattleType = Result (Answer (param 0 T)) NoMemory in
+    let got : Laws Got = result_laws (Answer (param 0 T)) NoMemory (answer_laws (param 0 T) (param_laws 0 T L)) no_memory_laws in
+    (option_laws (Tuple (Got ∷ Slice α ∷ [])) (tuple_laws (Got ∷ Slice α ∷ []) (got, (slice_laws α, tt)))).lawful 𝓛
+
+pub read_in_place_with_sentinel_spec : {M : Type 1} → statement M
+read_in_place_with_sentinel_spec 𝓤 𝓛 𝓜 𝓡 wired T L gd dd gr dr dx P met_d met_r met_x =
+    let H = 𝓛.H in let 𝓣 = tables 𝓤 H 𝓜 𝓡 𝓡.env in
+    let En = self.ended T gd dd gr dr dx P in let c = self.clauses T gd dd gr dr dx P 𝓛 𝓜.mem 𝓡.returns in
+    let at : TypeArgs = bounded (a_type ∷ []) (T, tt) (dcons dd (dcons dr (dcons dx dnil))) in
+    let fn : Fn = inst_fn at code.function in
+    let hs : Stays En.signature.params En.kept = (stay_dropped (plain (λ _. Global)) yes, (stay_dropped (mut_slice_of (0 ∷ []) tt (plain (λ _. u8))) no, (stay_dropped (plain (λ _. u8)) yes, tt))) in
+    proved 𝓛 En hs c 𝓜 𝓡
+    (Goes-dropped 𝓛 2 (plain (λ _. Global)) yes (λ κs x w. refl), (Goes-spent_slice 𝓛 2 (0 ∷ []) tt (plain (λ _. u8)), (Goes-dropped 𝓛 2 (plain (λ _. u8)) yes (λ κs x w. refl), tt)))
+    (#self at) fn (code.unfolded 𝓤 H 𝓜 𝓡 wired (T, tt) dd dr dx)
+    (λ κs. ((λ x. struct_law.val global_type global.the_laws x ∷ []), (mut_slice_vals, (uint_vals w8, tt))))
+    (λ κs. (struct_law.tells global_type global.the_laws, (mut_slice_Tells (named 0) κs.0 u8, (uint_Tells w8, tt))))
+    (λ κs qs bounds a g are.
+    let alloc = a.0 in let me = a.1.0 in let sentinel = a.1.1.0 in
+    let gs = struct_law.val global_type global.the_laws alloc ∷ [] in let us = mut_slice_vals me in let ss = uint_vals w8 sentinel in
+    let W = walk_of 𝓛 En hs c in
+    let y : W.Ghost = ((κs, qs, bounds, a, (gs, (us, (ss, tt)))), tt) in
+    let t₀ = ‵ (flft κs.0 qs.0) in let t₁ = ‵ (flft κs.1.0 qs.1.0) in
+    let α : NamedLft = record { mir = named 0; lft = κs.0 } in
+    let Cut : RattleType = Parts α in let Res : RattleType = Found α T in
+    let room : Room u8 (length me.now) = are.1.0.0.1 in
+    -- the call of `next_stretch`
+    let E₁ = nexts.ended in
+    let G₁ = triple_of 𝓛 nexts.signature (nexts.spec 𝓛 𝓜.mem 𝓡.returns) in
+    let z₁ : G₁.Ghost = (((κs.0, tt), (qs.0, tt), tt, (me, (sentinel, tt)), (us, (ss, tt))), tt) in
+    -- the call of `read_next`
+    let P₂ : Lfts 2 → Type 0 = λ κs'. κs'.0 ≡ κs.0 in
+    let Bound : Lft → Type 2 = λ κ. bound.Met 𝓛 𝓜 𝓡 𝓡.env T (shr_slice_field (record { mir = erased; lft = κ }) u8 tt).row gd dd gr dr shared.ghosts shared.dict in
+    let E₂ = reads.ended T gd dd gr dr dx P₂ in
+    let G₂ = triple_of 𝓛 (reads.signature T) (reads.spec T gd dd gr dr dx P₂ 𝓛 𝓜.mem 𝓡.returns) in
+    qed 𝓛 (((t₀ ⊛ t₁ ⊛ ‵ ftrue) ⊛ ‵ (Global.own_val alloc gs) ⊛ ‵ ((Slice α).own_val me us) ⊛ ‵ (u8.own_val sentinel ss) ⊛ ‵ ftrue)
+    ∷ (raw (fact 𝓤 (κs.1.0 ⊑ T.lives)) ⊛ raw (fact 𝓤 (P κs)) ⊛ ‵ ftrue) ∷ []) ∵
+    move ! (1 ∷ []) $ split ! $ heard ! _ (λ t_lives. split ! $ heard ! _ (λ p. drop ! $
+    split ! $ split ! $ move ! (1 ∷ []) $ split ! $ move ! (3 ∷ []) $ split ! $ move ! (1 ∷ []) $ split ! $ keep ! (5 ∷ 3 ∷ 2 ∷ 0 ∷ []) $
+    -- [the two tokens; the two parameters]
+    enter ! _ _ _ _ _ $ alloc_all ! (λ l. pass_all ! refl (((struct_loose.loose_lawful global_type global.the_loose 𝓛).typed alloc gs are.0).0, ((tt, (tt, (record { fits = room.0 }, tt))), ((tt, record { fits = are.1.1.0.1 }), tt))) $
+    sets ! (addr ! (from ! (fld ! refl (hop ! (look_in_at ! 2 (sub ! 0 refl (whole !))) (stop !))))) refl (tt, tt) $
+    sets ! (agg ! (and_then ! (get ! refl) (and_then ! (get_in ! (fld ! refl (stop !)) (sub ! 1 refl (whole !))) (no_more !)))) refl (tt, (tt, (record { fits = room.0 }, tt))) $
+    -- what `next_stretch` asks: its token, the slice and the sentinel
+    nothing ! $ move ! (1 ∷ 0 ∷ []) $ join ! $ nothing ! $ owned ! u8 (Is u8) (uint_Makes 𝓛 w8) sentinel ss (refl, are.1.1.0.1) $ join ! $ move ! (4 ∷ 0 ∷ []) $ join ! $ move ! (1 ∷ 0 ∷ []) $ join ! $
+    nothing ! $ move ! (1 ∷ 0 ∷ []) $ join ! $ use1 𝓛 (raw (G₁.pre z₁)) (id⊢ 𝓤 _) $
+    calls_at ! (framed 𝓤 H 𝓜 𝓣) G₁ (next_met.met 𝓤 𝓛 𝓜 𝓡 (code.calls-link::in_place::next_stretch 𝓡.env wired)) z₁ (and_then ! (get ! refl) (and_then ! (get ! refl) (no_more !))) (λ v.
+    use1 𝓛 (later (some (λ (x : Cut.Denot). ((t₀ ⊛ ‵ ftrue) ⊛ ‵ (Cut.own_val x (v ∷ []))) ⊛
+    some (λ (ls : Lasts E₁ z₁.0.0 z₁.0.3). ‵ (lasts E₁ z₁.0.0 z₁.0.3 ls) ⊛ raw (fact 𝓤 (IsNext sentinel me.now x)) ⊛ ‵ (LendsBothIf (Array u8 0) (Array u8 0) (Array u8 0) me x ◌++◌ me.now))))) (id⊢ 𝓤 _) $
+    await ! tt $ pick ! (λ x. split ! $ move ! (1 ∷ []) $ pick ! (λ ls. split ! $ drop ! $ split ! $ heard ! _ (λ next.
+    move ! (1 ∷ []) $ split ! $ split ! $ move ! (2 ∷ []) $
+    -- [the parts; a token; nothing; what they lend; the other token; the allocator]
+    peeks ! Cut _ (shows 𝓛 Cut) x (v ∷ []) (λ has.
+    let z₂ : G₂.Ghost = (((κs.0, (κs.1.0, tt)), (qs.0, (qs.1.0, tt)), tt, (alloc, (x, (sentinel, tt))), (gs, (v ∷ [], (ss, tt)))), tt) in
+    let typed = ((lawful_parts 𝓛 α).typed x (v ∷ []) has).0 in
+    lands_as ! refl refl typed $ sets ! (of_opd ! (get ! refl)) refl typed $
+    -- what `read_next` asks, likewise, and its facts
+    nothing ! $ move ! (5 ∷ 0 ∷ []) $ join ! $ move ! (2 ∷ 0 ∷ []) $ join ! $
+    nothing ! $ owned ! u8 (Is u8) (uint_Makes 𝓛 w8) sentinel ss (refl, are.1.1.0.1) $ join ! $ move ! (2 ∷ 0 ∷ []) $ join ! $ move ! (4 ∷ 0 ∷ []) $ join ! $ move ! (1 ∷ 0 ∷ []) $ join ! $
+    nothing ! $ use0 𝓛 (raw (fact 𝓤 (κs.0 ≡ κs.0))) (fact_i 𝓤 _ (emp 𝓤) refl) $ join ! $ use0 𝓛 (raw (fact 𝓤 (κs.1.0 ⊑ T.lives))) (fact_i 𝓤 _ (emp 𝓤) t_lives) $ join ! $
+    move ! (1 ∷ 0 ∷ []) $ join ! $ use1 𝓛 (raw (G₂.pre z₂)) (id⊢ 𝓤 _) $
+    calls_at ! (framed 𝓤 H 𝓜 𝓣) G₂ (read_met.met 𝓤 𝓛 𝓜 𝓡 (code.calls-link::in_place::read_next 𝓡.env wired) T L gd dd gr dr dx P₂ (λ κs' e. subst Bound (sym e) (met_d κs p)) met_r met_x) z₂ (and_then ! (get ! refl) (and_then ! (get ! refl) (and_then ! (get ! refl) (no_more !)))) (λ u.
+    use1 𝓛 (later (some (λ (r : Res.Denot). ((t₀ ⊛ t₁ ⊛ ‵ ftrue) ⊛ ‵ (Res.own_val r (u ∷ []))) ⊛
+    some (λ (ls : Lasts E₂ z₂.0.0 z₂.0.3). ‵ (lasts E₂ z₂.0.0 z₂.0.3 ls) ⊛ raw (fact 𝓤 ((bytes : List ℕ) → IsNext sentinel bytes x → AnswersNext gr.takes gr.reads gr.growing sentinel bytes r)))))) (id⊢ 𝓤 _) $
+    await ! tt $ pick ! (λ r. split ! $ move ! (1 ∷ []) $ pick ! (λ ls'. split ! $ drop ! $ heard ! _ (λ answers. split ! $ move ! (1 ∷ []) $
+    -- [the answer; the tokens; nothing; what is lent]
+    peeks ! Res _ (shows 𝓛 Res) r (u ∷ []) (λ has'.
+    let told : AnswersNext gr.takes gr.reads gr.growing sentinel me.now r = answers me.now next in
+    lands_as ! refl refl ((lawful_found 𝓛 α T L).typed r (u ∷ []) has').0 $ returns ! (look_at ! 0 refl) $ free_all ! refl $
+    -- what is owed: the tokens, nothing of the parameters, the result, and the four clauses
+    move ! (3 ∷ []) $ use1 𝓛 (‵ (KeptIfCut me r)) (kept_if_cut 𝓛 gr.takes gr.reads gr.growing sentinel me x r next told) $
+    use0 𝓛 (raw (fact 𝓤 (IfSome r (λ q. OnErr q.0 (gr.growing ≡ true))))) (fact_i 𝓤 _ (emp 𝓤) told.memory) $ join ! $
+    use0 𝓛 (raw (fact 𝓤 (IfNone r (unpadded (masked sentinel me.now) ≡ [])))) (fact_i 𝓤 _ (emp 𝓤) told.none) $ join ! $
+    use0 𝓛 (raw (fact 𝓤 (IfSome r (λ q. ReadsNext gr.takes gr.reads (unpadded (masked sentinel me.now)) q.0 (masked sentinel q.1.now))))) (fact_i 𝓤 _ (emp 𝓤) told.some) $ join ! $
+    nothing ! $ nothing ! $ fjoin ! $ nothing ! $ fjoin ! $ nothing ! $ fjoin ! $ keep ! (3 ∷ 0 ∷ 2 ∷ 1 ∷ []) $
+    by ! (leaves 𝓛 En hs c y u r (tt, (tt, (tt, tt))) (tt, (tt, (tt, tt))))))))))))))))))
