@@ -43,8 +43,8 @@ fn read_stretch<'a, T: Deserialize<&'a [u8]>>(
 {
     cobs::laws::message_of_a_frame();
     cobs::laws::shorter();
-    match cobs::decode_in_place_with_sentinel(bytes, sentinel) {
-        Ok(size) => match from_bytes(alloc, &bytes[..size]) {
+    match cobs::decode_in_place_report_with_sentinel(bytes, sentinel) {
+        Ok(report) => match from_bytes(alloc, &bytes[..report.frame_size()]) {
             Ok(value) => Ok(Answer::Value(value)),
             Err(error) => match error {
                 Error::OutOfMemory => Err(NoMemory),
