@@ -3,6 +3,7 @@ ghost use Rattle.std.specs.Prelude.{◌≡◌, ℕ, ◌<◌, ◌≤◌, [], true
 ghost use Rattle.postcard.specs.Written.{WrittenAs, UnlessRefused};
 ghost use Rattle.postcard_tree.specs.declared.error.Error.TheVariants.{SerializeBufferFull};
 ghost use Rattle.cobs.specs.Frames.{shortest_frame};
+ghost use Rattle.cobs.specs.Sentinel.{frame_for};
 ghost use Rattle.cobs.specs.Fronts.{StandsIn};
 ghost use Rattle.link.specs.Framing.{Framing, told_of, Took, Refuses, HasRoom, Finishes};
 
@@ -10,11 +11,11 @@ use cobs::FrameFront;
 use postcard::ser_flavors::Flavor;
 use postcard::{Error, Result, Serialize, Serializer};
 
-/// A flavor of postcard's that writes the shortest frame of what is pushed, in any pushes, to the front of a buffer. Its end answers
-/// how long the frame is.
+/// A flavor of postcard's that writes the shortest frame of what is pushed, in any pushes, to the front of a buffer, each byte XORed
+/// with the sentinel. Its end answers how long the frame is.
 ///
 /// A push that the buffer has no room for is `SerializeBufferFull`; every later one that brings a byte is then too, and so is the
-/// end. No zero is written behind the frame.
+/// end. No sentinel is written behind the frame.
 #[derive(Drop)]
 pub struct Framed<'a> {
     buffer: &'a mut [u8],
@@ -23,21 +24,32 @@ pub struct Framed<'a> {
 }
 
 impl<'a> Framed<'a> {
-    ghost use Rattle.link.specs.Framed.{framing_of, lent_as};
+    ghost use Rattle.link.specs.Framed.{framing_of, lent_as, sentinel_of};
 
-    /// Over a buffer, with nothing pushed. The caller owes that the buffer isn't empty.
+    /// Over a buffer, with nothing pushed and the sentinel zero. The caller owes that the buffer isn't empty.
     pub fn new(buffer: &'a mut [u8]) -> Framed<'a>
         requires { 0 < length buffer.old }
         ensures ready { framing_of result ≡ record { message = []; room = length buffer.old; spent = false } }
         ensures lent { lent_as result ≡ buffer.entry.ghost_name }
+        ensures sentinel { sentinel_of result ≡ 0 }
     {
-        let front = FrameFront::begin(buffer);
+        Framed::new_with_sentinel(buffer, 0)
+    }
+
+    /// The same with a sentinel of the caller's choice.
+    pub fn new_with_sentinel(buffer: &'a mut [u8], sentinel: u8) -> Framed<'a>
+        requires { 0 < length buffer.old }
+        ensures ready { framing_of result ≡ record { message = []; room = length buffer.old; spent = false } }
+        ensures lent { lent_as result ≡ buffer.entry.ghost_name }
+        ensures sentinel { sentinel_of result ≡ sentinel }
+    {
+        let front = FrameFront::begin_with_sentinel(buffer, sentinel);
         Framed { buffer, front }
     }
 }
 
 impl<'a> Flavor for Framed<'a> {
-    ghost use Rattle.link.specs.Framed.{framing_of, SameBuffer, framed_laws};
+    ghost use Rattle.link.specs.Framed.{framing_of, sentinel_of, SameBuffer, framed_laws};
 
     type Output = usize;
 
@@ -71,7 +83,7 @@ impl<'a> Flavor for Framed<'a> {
 
     fn finalize(self) -> Result<usize>
         ensures ends { Finishes (framing_of self.entry) result }
-        ensures frame { IfOk result (λ n. take n self.exit.0.now ≡ shortest_frame (framing_of self.entry).message) }
+        ensures frame { IfOk result (λ n. take n self.exit.0.now ≡ frame_for (sentinel_of self.entry) (framing_of self.entry).message) }
     {
         let Framed { buffer: _, front } = self;
         let length = front.length();
@@ -82,15 +94,15 @@ impl<'a> Flavor for Framed<'a> {
     }
 }
 
-/// Writes the frame of a value to the front of a buffer, and answers how long it is.
-pub(crate) fn frame_into<T: Serialize>(value: &T, buffer: &mut [u8]) -> Result<usize>
+/// Writes the frame of a value for a sentinel to the front of a buffer, and answers how long it is.
+pub(crate) fn frame_into<T: Serialize>(value: &T, buffer: &mut [u8], sentinel: u8) -> Result<usize>
     requires { 0 < length buffer.old }
-    ensures ok { IfOk result (λ n. WrittenAs (T.writes value.now) (λ bytes. (n ≡ length (shortest_frame bytes)) × (take n buffer.new ≡ shortest_frame bytes))) }
+    ensures ok { IfOk result (λ n. WrittenAs (T.writes value.now) (λ bytes. (n ≡ length (shortest_frame bytes)) × (take n buffer.new ≡ frame_for sentinel bytes))) }
     ensures err { IfErr result (λ e. UnlessRefused (T.writes value.now) (λ bytes. (e ≡ SerializeBufferFull) × (length buffer.old < length (shortest_frame bytes)))) }
     ensures valid { OnOk result (T.valid value.now) }
 {
     cobs::laws::longer();
-    let mut framed = Framed::new(buffer);
+    let mut framed = Framed::new_with_sentinel(buffer, sentinel);
     {
         let mut serializer = Serializer {
             output: &mut framed,

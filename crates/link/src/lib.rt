@@ -73,4 +73,4 @@ pub use listening::{
 pub use owned::OwnedReceiver;
 pub use receiver::{Answer, NoMemory, Pushed, Receiver};
 pub use sender::{SendError, Sender};
-pub use session::{Fate, send_each};
+pub use session::{Fate, send_each, send_each_with_sentinel};

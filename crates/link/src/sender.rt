@@ -24,36 +24,50 @@ pub enum SendError {
     Line,
 }
 
-/// Sends values over a line, each as a frame of at most N bytes and a zero.
+/// Sends values over a line, each as a frame of at most N bytes and a sentinel, which is zero where none is chosen.
 ///
-/// A sender that isn't clean writes a zero first, so that what an earlier send has left on the line ends there. It owns the line
-/// while it lives: what others write between two of its sends, it doesn't know of.
+/// Every byte of a frame is XORed with the sentinel, so that none is it. A sender that isn't clean writes a sentinel first, so that
+/// what an earlier send has left on the line ends there. It owns the line while it lives: what others write between two of its
+/// sends, it doesn't know of.
 #[derive(Drop)]
 pub struct Sender<W, const N: usize> {
     writer: W,
     clean: bool,
+    sentinel: u8,
     buffer: [u8; N],
     ghost some: { 0 < N },
 }
 
 impl<W: Outlet, const N: usize> Sender<W, N> {
-    ghost use Rattle.link.specs.Senders.{writer_of, clean_of, IsSent, UnlessRefusal, OnRefusal, OnLine, Failed};
+    ghost use Rattle.link.specs.Senders.{writer_of, clean_of, sentinel_of, IsSent, UnlessRefusal, OnRefusal, OnLine, Failed};
 
     /// A sender that hasn't written anything, and isn't clean. The caller owes that N is at least 1.
     pub fn new(writer: W) -> Sender<W, N>
         requires { 0 < N }
         ensures writer { writer_of result ≡ writer }
         ensures clean { clean_of result ≡ false }
+        ensures sentinel { sentinel_of result ≡ 0 }
+    {
+        Sender::new_with_sentinel(writer, 0)
+    }
+
+    /// The same with a sentinel in place of zero.
+    pub fn new_with_sentinel(writer: W, sentinel: u8) -> Sender<W, N>
+        requires { 0 < N }
+        ensures writer { writer_of result ≡ writer }
+        ensures clean { clean_of result ≡ false }
+        ensures sentinel { sentinel_of result ≡ sentinel }
     {
         Sender {
             writer,
             clean: false,
+            sentinel,
             buffer: [0; N],
         }
     }
 
     /// Whether the last send that wasn't refused completed. Where it didn't, or none was made, the next send that writes begins
-    /// with a zero.
+    /// with a sentinel.
     pub fn is_clean(&self) -> bool
         ensures { result ≡ clean_of self.now }
     {
@@ -67,30 +81,38 @@ impl<W: Outlet, const N: usize> Sender<W, N> {
         let Sender {
             writer,
             clean: _,
+            sentinel: _,
             buffer: _,
         } = self;
         writer
     }
 
-    /// Sends a value: a zero where the sender isn't clean, the shortest frame of the value's shortest spelling, and a zero.
+    /// Sends a value: a sentinel where the sender isn't clean, the shortest frame of the value's shortest spelling, each byte XORed
+    /// with the sentinel, and a sentinel.
     ///
     /// The frame is whole in the sender's own buffer before its first byte goes out. No memory is taken, and nothing is tried
     /// twice: after `Line` the caller may send the value again, and a receiver may then hear it twice.
     pub fn send<T: Serialize>(&mut self, value: &T) -> Result<(), SendError>
-        ensures sent { (x : Send) × IsSend IsTree N 0 (clean_of self.old) x × IsSent N (T.writes value.now) result x
-            × Wrote (W.written (writer_of self.old)) (W.written (writer_of self.new)) (W.faults (writer_of self.old)) (W.faults (writer_of self.new)) (written 0 (clean_of self.old) x)
+        ensures sent { (x : Send) × IsSend IsTree N (sentinel_of self.old) (clean_of self.old) x × IsSent N (T.writes value.now) result x
+            × Wrote (W.written (writer_of self.old)) (W.written (writer_of self.new)) (W.faults (writer_of self.old)) (W.faults (writer_of self.new)) (written (sentinel_of self.old) (clean_of self.old) x)
             × (clean_of self.new ≡ clean_after (clean_of self.old) x) }
+        ensures sentinel { sentinel_of self.new ≡ sentinel_of self.old }
         ensures valid { UnlessRefusal result (T.valid value.now) }
         ensures refused { OnRefusal result (writer_of self.new ≡ writer_of self.old) }
         ensures calls { W.calls_left (writer_of self.new) ≤ W.calls_left (writer_of self.old) }
         ensures done { OnOk result (W.faults (writer_of self.new) ≡ W.faults (writer_of self.old)) }
         ensures line { OnLine result (Failed (W.faults (writer_of self.old)) (W.faults (writer_of self.new)) (W.calls_left (writer_of self.new))) }
     {
-        let n = match frame_into(value, &mut self.buffer) {
+        let n = match frame_into(value, &mut self.buffer, self.sentinel) {
             Ok(n) => n,
             Err(e) => return Err(SendError::Refused(e)),
         };
-        match put_frame(&mut self.writer, self.clean, &self.buffer[..n]) {
+        match put_frame(
+            &mut self.writer,
+            self.clean,
+            &self.buffer[..n],
+            self.sentinel,
+        ) {
             None => {
                 self.clean = true;
                 Ok(())

@@ -1,6 +1,6 @@
 //! Sending values in turn.
 ghost use Rattle.std.specs.Prelude.{◌≡◌, ◌<◌, ℕ, Bool, false, length};
-ghost use Rattle.link.specs.Senders.{writer_of, clean_of};
+ghost use Rattle.link.specs.Senders.{writer_of, clean_of, sentinel_of};
 ghost use Rattle.link.specs.Fates.{SendsOne, SendsAll, SenderFitsInMemory};
 
 use crate::sender::{SendError, Sender};
@@ -20,9 +20,10 @@ pub enum Fate {
 
 // Sends a value.
 fn send_one<T: Serialize, W: Outlet, const N: usize>(sender: &mut Sender<W, N>, value: &T) -> Fate
-    ensures { SendsOne N 0 (T.writes value.now) (T.valid value.now) (clean_of sender.old) (clean_of sender.new)
+    ensures one { SendsOne N (sentinel_of sender.old) (T.writes value.now) (T.valid value.now) (clean_of sender.old) (clean_of sender.new)
         (W.written (writer_of sender.old)) (W.written (writer_of sender.new)) (W.faults (writer_of sender.old)) (W.faults (writer_of sender.new))
         (W.calls_left (writer_of sender.old)) (W.calls_left (writer_of sender.new)) result }
+    ensures sentinel { sentinel_of sender.new ≡ sentinel_of sender.old }
 {
     match sender.send(value) {
         Ok(()) => Fate::Done,
@@ -40,7 +41,7 @@ fn send_all<T: Serialize, W: Outlet, const N: usize>(
     fates: &mut [Fate],
 )
     requires { length values.now ≡ length fates.old }
-    ensures { SendsAll N 0 T.writes T.valid (clean_of sender.old) (clean_of sender.new)
+    ensures { SendsAll N (sentinel_of sender.old) T.writes T.valid (clean_of sender.old) (clean_of sender.new)
         (W.written (writer_of sender.old)) (W.written (writer_of sender.new)) (W.faults (writer_of sender.old)) (W.faults (writer_of sender.new))
         (W.calls_left (writer_of sender.old)) (W.calls_left (writer_of sender.new)) values.now fates.new }
 {
@@ -66,7 +67,24 @@ pub fn send_each<T: Serialize, W: Outlet, const N: usize>(
         (W.written writer) (W.written result) (W.faults writer) (W.faults result)
         (W.calls_left writer) (W.calls_left result) values.now fates.new }
 {
-    let mut sender = Sender::<W, N>::new(writer);
+    send_each_with_sentinel::<T, W, N>(writer, values, fates, 0)
+}
+
+/// The same by a sender with a sentinel in place of zero.
+pub fn send_each_with_sentinel<T: Serialize, W: Outlet, const N: usize>(
+    writer: W,
+    values: &[T],
+    fates: &mut [Fate],
+    sentinel: u8,
+) -> W
+    requires places { length values.now ≡ length fates.old }
+    requires some { 0 < N }
+    requires fits { SenderFitsInMemory W.row N.row }
+    ensures { (later : Bool) × SendsAll N sentinel T.writes T.valid false later
+        (W.written writer) (W.written result) (W.faults writer) (W.faults result)
+        (W.calls_left writer) (W.calls_left result) values.now fates.new }
+{
+    let mut sender = Sender::<W, N>::new_with_sentinel(writer, sentinel);
     send_all(&mut sender, values, fates);
     sender.into_inner()
 }

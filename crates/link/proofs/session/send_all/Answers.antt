@@ -8,5 +8,10 @@ loop-i-preserved g c =
     let i = c.loop-i.i in
     let value = c.index-values-i.result in
     let short : i < length c.loop-i.fates = omega (arith, c.loop-i-test.true, c.loop-i.auto.fates, c.requires) in
-    rw (take_more c.args.values.now i value c.loop-i-test.true ∙ ap (λ v. take i c.args.values.now ++ v ∷ []) (sym c.index-values-i.is), take_more_set c.loop-i.fates i c.send_one.result short)
-    (one_sent _ _ _ _ _ _ _ _ _ _ _ _ _ _ _ _ _ _ _ _ c.loop-i.invariant c.send_one.ensures)
+    let kept = c.loop-i.invariant.sentinel in
+    let one = rw kept at c.send_one.ensures.one in record {
+      sentinel = c.send_one.ensures.sentinel ∙ kept;
+      sent =
+          rw (take_more c.args.values.now i value c.loop-i-test.true ∙ ap (λ v. take i c.args.values.now ++ v ∷ []) (sym c.index-values-i.is), take_more_set c.loop-i.fates i c.send_one.result short)
+          (one_sent _ _ _ _ _ _ _ _ _ _ _ _ _ _ _ _ _ _ _ _ c.loop-i.invariant.sent one);
+    }
