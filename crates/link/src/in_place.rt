@@ -7,7 +7,7 @@ ghost use Rattle.cobs.specs.Whole.{unpadded};
 ghost use Rattle.link.specs.InPlace.{AnswersEnded, ReadsNext, IsNext, AnswersNext, KeptIfCut};
 
 use crate::receiver::{Answer, NoMemory};
-use memchr::memchr;
+use crate::zeros::before_sentinel;
 use postcard::{Deserialize, Error, from_bytes};
 use std::alloc::Global;
 
@@ -21,14 +21,6 @@ fn leading_sentinels(bytes: &[u8], sentinel: u8) -> usize
         count += 1;
     }
     count
-}
-
-// How many bytes stand before the first sentinel; all where there is none.
-fn before_sentinel(bytes: &[u8], sentinel: u8) -> usize
-    ensures before { result ≡ length (stretch (masked sentinel bytes.now)) }
-    ensures within { result ≤ length bytes.now }
-{
-    memchr(sentinel, bytes).unwrap_or(bytes.len())
 }
 
 // The answer to the stretch in front, which a sentinel ends. It is decoded over itself.

@@ -5,14 +5,6 @@ ghost use Rattle.cobs.specs.Sentinel.{masked};
 
 use memchr::memchr;
 
-// How many bytes stand before the first zero; all where there is none.
-pub(crate) fn before_zero(bytes: &[u8]) -> usize
-    ensures before { result ≡ length (stretch bytes.now) }
-    ensures within { result ≤ length bytes.now }
-{
-    memchr(0, bytes).unwrap_or(bytes.len())
-}
-
 // How many bytes stand before the first sentinel; all where there is none.
 pub(crate) fn before_sentinel(bytes: &[u8], sentinel: u8) -> usize
     ensures before { result ≡ length (stretch (masked sentinel bytes.now)) }

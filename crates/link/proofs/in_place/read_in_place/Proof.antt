@@ -1,6 +1,5 @@
 -- The same at the sentinel zero. The proof is by hand for the same reason. Assumes `Logic`.
-use Rattle.std.proofs.Common.{◌≡◌, ℕ, List, [], ◌∷◌, ◌++◌, length, w8, lit<, refl, sym, subst, true, IfSome, IfNone, OnErr}
-use Rattle.std.specs.Borrow.{LendsBothIf, Array}
+use Rattle.std.proofs.Common.{◌≡◌, [], ◌∷◌, length, w8, lit<, refl, sym, subst, true, IfSome, IfNone, OnErr}
 use seplogic.Ra.Ura.{Ura}
 use mir.Syntax.{Fn, Args as TypeArgs, a_type, dcons, dnil, named, erased}
 use mir.MapTy.{inst_fn}
