@@ -21,19 +21,19 @@ all_read stream bytes None before after g e h = absurd (let l : before < after =
 all_read stream bytes (Some rest) before after g e h = let w : stream ≡ bytes ++ rest = g.came in sym (w ∙ ap (λ x. bytes ++ x) h ∙ append-nil bytes)
 
 -- a send of a value that wasn't refused is one of a tree that its type takes
-pub takes_send : {V : Type 0} (takes : Tree → Type 0) (writes : V → Option Tree) (valid : V → Type 0) → ((v : V) (t : Tree) → valid v → writes v ≡ Some t → takes t) → (limit : ℕ) (v : V) (r : Result (Unit {0}) SendError) (x : Send)
-    → IsSend IsTree limit 0 false x → IsSent limit (writes v) r x → UnlessRefusal r (valid v) → IsSend takes limit 0 false x
-takes_send takes writes valid taken limit v r (completed t) h k l = record { taken = taken v t (subst (λ z. UnlessRefusal z (valid v)) k.0 l) k.1; within = h.within }
-takes_send takes writes valid taken limit v r refused h k l = tt
-takes_send takes writes valid taken limit v r (broken t n) h k l = (record { taken = taken v t (subst (λ z. UnlessRefusal z (valid v)) k.0 l) k.1; within = h.0.within }, h.1)
+pub takes_send : {V : Type 0} (takes : Tree → Type 0) (writes : V → Option Tree) (valid : V → Type 0) → ((v : V) (t : Tree) → valid v → writes v ≡ Some t → takes t) → (limit s : ℕ) (v : V) (r : Result (Unit {0}) SendError) (x : Send)
+    → IsSend IsTree limit s false x → IsSent limit (writes v) r x → UnlessRefusal r (valid v) → IsSend takes limit s false x
+takes_send takes writes valid taken limit s v r (completed t) h k l = record { taken = taken v t (subst (λ z. UnlessRefusal z (valid v)) k.0 l) k.1; within = h.within }
+takes_send takes writes valid taken limit s v r refused h k l = tt
+takes_send takes writes valid taken limit s v r (broken t n) h k l = (record { taken = taken v t (subst (λ z. UnlessRefusal z (valid v)) k.0 l) k.1; within = h.0.within }, h.1)
 
 -- what two senders in turn wrote is the line of their run
-pub wrote_in_turn : (u v w : Option (List ℕ)) (f g h : ℕ) (x y : Send) (bytes : List ℕ) → Wrote u v f g (written 0 false x) → Wrote v w g h (written 0 false y) → u ≡ Some [] → w ≡ Some bytes → bytes ≡ line 0 (in_turn x y)
-wrote_in_turn u v w f g h x y bytes p q e d =
-    let both = Wrote-then u v w f g h (written 0 false x) (written 0 false y) p q in
-    let told = subst (λ z. Wrote (Some []) z f h (written 0 false x ++ written 0 false y)) d (subst (λ z. Wrote z w f h (written 0 false x ++ written 0 false y)) e both) in
-    let grew : bytes ≡ written 0 false x ++ written 0 false y = told.grew in
-    grew ∙ sym (ap (λ z. z ++ ((written 0 false y ++ []) ++ [])) (append-nil (written 0 false x)) ∙ ap (λ z. written 0 false x ++ z) (append-nil (written 0 false y ++ []) ∙ append-nil (written 0 false y)))
+pub wrote_in_turn : (s : ℕ) (u v w : Option (List ℕ)) (f g h : ℕ) (x y : Send) (bytes : List ℕ) → Wrote u v f g (written s false x) → Wrote v w g h (written s false y) → u ≡ Some [] → w ≡ Some bytes → bytes ≡ line s (in_turn x y)
+wrote_in_turn s u v w f g h x y bytes p q e d =
+    let both = Wrote-then u v w f g h (written s false x) (written s false y) p q in
+    let told = subst (λ z. Wrote (Some []) z f h (written s false x ++ written s false y)) d (subst (λ z. Wrote z w f h (written s false x ++ written s false y)) e both) in
+    let grew : bytes ≡ written s false x ++ written s false y = told.grew in
+    grew ∙ sym (ap (λ z. z ++ ((written s false y ++ []) ++ [])) (append-nil (written s false x)) ∙ ap (λ z. written s false x ++ z) (append-nil (written s false y ++ []) ∙ append-nil (written s false y)))
 
 -- what two writers one after another wrote on an empty line
 pub wrote_both : (u v w : Option (List ℕ)) (f g h : ℕ) (a b bytes : List ℕ) → Wrote u v f g a → Wrote v w g h b → u ≡ Some [] → w ≡ Some bytes → bytes ≡ a ++ (b ++ [])

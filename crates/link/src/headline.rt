@@ -5,7 +5,7 @@
 //! of which may have broken off at any byte.
 ghost use Rattle.std.specs.Prelude.{◌≡◌, ◌<◌, ◌≤◌, List, length, Some};
 ghost use Rattle.link.specs.Fates.{SenderFitsInMemory};
-ghost use Rattle.link.specs.Together.{HearsTwo, HearsSessions};
+ghost use Rattle.link.specs.Together.{HearsTwo, HearsTwoFor, HearsSessions, HearsSessionsFor};
 ghost use Rattle.std.specs.List.{AllZip};
 ghost use Rattle.link.specs.Pushes.{Matches};
 ghost use Rattle.link.specs.Run.{Send, IsRun, line, told};
@@ -13,15 +13,15 @@ ghost use Rattle.link.specs.Listening.{ReceiverFitsInMemory};
 ghost use Rattle.link.specs.declared.listening.End.TheVariants.{Ended};
 
 use crate::laws;
-use crate::listening::{Received, receive};
+use crate::listening::{Received, receive_with_sentinel};
 use crate::sender::{SendError, Sender};
-use crate::session::{Fate, send_each};
+use crate::session::{Fate, send_each_with_sentinel};
 use line_io::{Inlet, Outlet};
 use postcard::DeserializeOwned;
 use postcard_de::Lawful;
 use std::alloc::Global;
 
-/// As [`receive`], of a reader that gives the line of a run: the answers are what is to be told of the run.
+/// As `receive`, of a reader that gives the line of a run: the answers are what is to be told of the run.
 pub fn receive_run<T: DeserializeOwned, R: Inlet, const N: usize>(
     alloc: Global,
     reader: R,
@@ -30,8 +30,21 @@ pub fn receive_run<T: DeserializeOwned, R: Inlet, const N: usize>(
     ensures { (run : List (List Send)) → IsRun T.takes N 0 run → R.to_come reader ≡ Some (line 0 run) → result.end ≡ Ended
         → AllZip (Matches T.reads) result.answers.items (told 0 run) }
 {
+    receive_run_with_sentinel::<T, R, N>(alloc, reader, 0)
+}
+
+/// The same of a line with a sentinel in place of zero.
+pub fn receive_run_with_sentinel<T: DeserializeOwned, R: Inlet, const N: usize>(
+    alloc: Global,
+    reader: R,
+    sentinel: u8,
+) -> Received<T, R>
+    requires { ReceiverFitsInMemory N.row }
+    ensures { (run : List (List Send)) → IsRun T.takes N sentinel run → R.to_come reader ≡ Some (line sentinel run) → result.end ≡ Ended
+        → AllZip (Matches T.reads) result.answers.items (told sentinel run) }
+{
     laws::told::<T>();
-    receive::<T, R, N>(alloc, reader)
+    receive_with_sentinel::<T, R, N>(alloc, reader, sentinel)
 }
 
 /// What two senders in turn answered, what they wrote to, and what was received.
@@ -64,12 +77,30 @@ pub fn send_in_turn<
     ensures { HearsTwo N T.takes T.reads T.alike T.writes first.now second.now (W.written writer) (W.written result.writer) (R.to_come reader)
         result.first result.second result.received.end result.received.answers.items }
 {
-    let mut one = Sender::<W, N>::new(writer);
+    send_in_turn_with_sentinel::<T, W, R, N, L>(alloc, writer, reader, first, second, 0)
+}
+
+/// The same with a sentinel in place of zero.
+pub fn send_in_turn_with_sentinel<
+    T: Lawful + DeserializeOwned,
+    W: Outlet,
+    R: Inlet,
+    const N: usize,
+    const L: usize,
+>(alloc: Global, writer: W, reader: R, first: &T, second: &T, sentinel: u8) -> InTurn<T, W, R>
+    requires some { 0 < N }
+    requires sender { SenderFitsInMemory W.row N.row }
+    requires receiver { ReceiverFitsInMemory L.row }
+    requires within { N ≤ L }
+    ensures { HearsTwoFor N sentinel T.takes T.reads T.alike T.writes first.now second.now (W.written writer) (W.written result.writer) (R.to_come reader)
+        result.first result.second result.received.end result.received.answers.items }
+{
+    let mut one = Sender::<W, N>::new_with_sentinel(writer, sentinel);
     let first = one.send(first);
-    let mut other = Sender::<W, N>::new(one.into_inner());
+    let mut other = Sender::<W, N>::new_with_sentinel(one.into_inner(), sentinel);
     let second = other.send(second);
     let writer = other.into_inner();
-    let received = receive::<T, R, L>(alloc, reader);
+    let received = receive_with_sentinel::<T, R, L>(alloc, reader, sentinel);
     laws::within::<T>();
     laws::told_as(&received.answers);
     laws::told_by_values(&received.answers);
@@ -108,11 +139,54 @@ pub fn send_each_in_turn<
     ensures { HearsSessions N T.takes T.reads T.alike T.writes T.valid (W.written writer) (W.written result.0) (R.to_come reader)
         firsts.now seconds.now first_fates.new second_fates.new result.1.end result.1.answers.items }
 {
-    let after_first = send_each::<T, W, N>(writer, firsts, first_fates);
-    let after_second = send_each::<T, W, N>(after_first, seconds, second_fates);
+    send_each_in_turn_with_sentinel::<T, W, R, N, L>(
+        alloc,
+        writer,
+        reader,
+        firsts,
+        first_fates,
+        seconds,
+        second_fates,
+        0,
+    )
+}
+
+/// The same with a sentinel in place of zero.
+pub fn send_each_in_turn_with_sentinel<
+    T: Lawful + DeserializeOwned,
+    W: Outlet,
+    R: Inlet,
+    const N: usize,
+    const L: usize,
+>(
+    alloc: Global,
+    writer: W,
+    reader: R,
+    firsts: &[T],
+    first_fates: &mut [Fate],
+    seconds: &[T],
+    second_fates: &mut [Fate],
+    sentinel: u8,
+) -> (W, Received<T, R>)
+    requires first_places { length firsts.now ≡ length first_fates.old }
+    requires second_places { length seconds.now ≡ length second_fates.old }
+    requires some { 0 < N }
+    requires sender { SenderFitsInMemory W.row N.row }
+    requires receiver { ReceiverFitsInMemory L.row }
+    requires within { N ≤ L }
+    ensures { HearsSessionsFor N sentinel T.takes T.reads T.alike T.writes T.valid (W.written writer) (W.written result.0) (R.to_come reader)
+        firsts.now seconds.now first_fates.new second_fates.new result.1.end result.1.answers.items }
+{
+    let after_first = send_each_with_sentinel::<T, W, N>(writer, firsts, first_fates, sentinel);
+    let after_second = send_each_with_sentinel::<T, W, N>(
+        after_first,
+        seconds,
+        second_fates,
+        sentinel,
+    );
     laws::carried(firsts);
     laws::carried(seconds);
-    let received = receive::<T, R, L>(alloc, reader);
+    let received = receive_with_sentinel::<T, R, L>(alloc, reader, sentinel);
     laws::within::<T>();
     laws::told_as(&received.answers);
     laws::told_by_values(&received.answers);
