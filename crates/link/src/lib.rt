@@ -27,19 +27,23 @@
 //! | send the values of a slice, and know what became of each | `send_each` |
 //! | write a frame into a buffer of the caller's | `Framed`, a flavor of postcard's |
 //! | receive from pieces | `Receiver`: `push`, `push_ref` of values that borrow, `push_strict` of what sending makes alone |
-//! | receive all that a reader gives | `receive`, `receive_strict`, `receive_by_accumulator` |
+//! | receive with a limit that is a value, and set it anew | `OwnedReceiver` |
+//! | receive all that a reader gives | `receive`, `receive_strict`, `receive_owned`, `receive_by_accumulator` |
 //! | read a buffer where it lies | `read_in_place` |
 //!
 //! A **stretch** is a longest run of bytes that aren't zero. One that a zero ends is answered by the value of its frame, or
 //! `Damaged`, or `TooLong` where it has more bytes than the receiver's N; one that is still unfinished at the end is `Cut`.
 //! Zeros in a row answer nothing. So every answer is by its own stretch alone: damage in one reaches no other.
 //!
+//! The zero is the line's **sentinel**. A call that ends in `with_sentinel` takes another byte in its place: there a stretch is a
+//! longest run of bytes that aren't this one, and each byte of a frame is XORed with it. Both ends have to name the same.
+//!
 //! A send that the line breaks off leaves a beginning of its bytes. The next send that writes, of this sender or of another one,
 //! begins with a zero and so ends what was left of it: that is `Damaged`, or the value where its whole frame had gone out. No
 //! other value is ever made of it. `laws::told` says this of every run of sends; `headline` says it of the calls.
 //!
-//! What allocates takes the allocator first. Only `receive`, `receive_strict` and `receive_by_accumulator` take memory
-//! themselves, for their lists; the other calls take some only where a value's type does.
+//! What allocates takes the allocator first. Only those that receive all that a reader gives take memory themselves, for their
+//! lists, and an `OwnedReceiver` for its buffer; the other calls take some only where a value's type does.
 //!
 //! The contracts speak of bytes as lists and of values by the trees that postcard writes them as: `specs/Stream.antt` says what
 //! is answered, `specs/Run.antt` what is sent and what is to be told of it, and `laws` what holds of these.

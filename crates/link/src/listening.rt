@@ -26,7 +26,7 @@ pub enum End {
     Ended,
     /// A read failed, or the reader has no call left.
     ReadFault,
-    /// No memory was found, for a value or for the list of what was received.
+    /// No memory was found, for a value, for the list of what was received, or for a receiver whose limit is a value.
     NoMemory,
 }
 
@@ -35,8 +35,9 @@ pub enum End {
 pub struct Received<T, R> {
     /// The answers, in the order of their stretches.
     ///
-    /// At `Ended` they are those of all bytes that were read, with `Cut` for a stretch that no zero ended. At `ReadFault` they
-    /// are these without `Cut`. At `NoMemory` they are the first of them, and at least one is missing.
+    /// At `Ended` they are those of all bytes that were read, with `Cut` for a stretch that no sentinel ended. At `ReadFault`
+    /// they are these without `Cut`. At `NoMemory` they are the first of them, and at least one is missing; where there was none
+    /// for a receiver of `receive_owned`, nothing was read.
     pub answers: Vec<Answer<T>>,
     /// How the reception ended.
     pub end: End,

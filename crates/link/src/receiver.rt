@@ -24,8 +24,8 @@ pub enum Answer<T> {
     Cut,
 }
 
-/// No memory was found for a value. Only types whose values can ask for memory (`Readable::grows`) are answered by this, and only
-/// for a stretch that is a frame within the limit.
+/// No memory was found for a value, or for the buffer of an `OwnedReceiver`. Only types whose values can ask for memory
+/// (`Readable::grows`) are answered by this, and only for a stretch that is a frame within the limit.
 #[derive(Clone, Copy, PartialEq, Eq, Debug, Drop, Error)]
 #[error("no memory")]
 pub struct NoMemory;
@@ -40,7 +40,8 @@ pub struct Pushed<T> {
     pub answer: Result<Option<Answer<T>>, NoMemory>,
 }
 
-/// Receives values from a stream that comes in pieces, with stretches of at most N bytes; N may be 0.
+/// Receives values from a stream that comes in pieces, with stretches of at most N bytes; N may be 0. A stretch ends at its
+/// sentinel, which is zero where none was named.
 ///
 /// It answers what the stream's bytes determine, however they are cut into pieces. It takes no memory of its own, and each push may
 /// name another type.
