@@ -30,6 +30,7 @@ pub mod Roads
 pub mod Valued
 pub mod Pushing
 pub mod Renewing
+pub mod RunHeard
 pub mod Fetching
 pub mod Fully
 pub mod Crashes

@@ -13,7 +13,7 @@ ghost use Rattle.link.specs.Listening.{ReceiverFitsInMemory};
 ghost use Rattle.link.specs.declared.listening.End.TheVariants.{Ended};
 
 use crate::laws;
-use crate::listening::{Received, receive_with_sentinel};
+use crate::listening::{Received, receive_owned, receive_with_sentinel};
 use crate::sender::{SendError, Sender};
 use crate::session::{Fate, send_each_with_sentinel};
 use line_io::{Inlet, Outlet};
@@ -45,6 +45,20 @@ pub fn receive_run_with_sentinel<T: DeserializeOwned, R: Inlet, const N: usize>(
 {
     laws::told::<T>();
     receive_with_sentinel::<T, R, N>(alloc, reader, sentinel)
+}
+
+/// The same by `receive_owned`, with a limit that is a value.
+pub fn receive_owned_run<T: DeserializeOwned, R: Inlet>(
+    alloc: Global,
+    reader: R,
+    limit: usize,
+    sentinel: u8,
+) -> Received<T, R>
+    ensures { (run : List (List Send)) → IsRun T.takes limit sentinel run → R.to_come reader ≡ Some (line sentinel run) → result.end ≡ Ended
+        → AllZip (Matches T.reads) result.answers.items (told sentinel run) }
+{
+    laws::told::<T>();
+    receive_owned(alloc, reader, limit, sentinel)
 }
 
 /// What two senders in turn answered, what they wrote to, and what was received.
