@@ -21,20 +21,20 @@ framed-is false a = sym (append-nil a)
 framed-is true a = refl
 
 -- the frames of the first lines, and of the others
-framed-parts : (hex : Bool) (done later : List Send)
-    → framed_text hex (session_line 0 false (done ++ later))
-    ≡ shown hex (session_line 0 false done) ++ (shown hex (session_line 0 (clean_after_all false done) later) ++ shown_end hex)
-framed-parts hex done later =
-    framed-is hex (session_line 0 false (done ++ later))
-    ∙ (ap (λ x. shown hex x ++ shown_end hex) (session-join done later)
-    ∙ (ap (λ x. x ++ shown_end hex) (shown-append hex (session_line 0 false done) (session_line 0 (clean_after_all false done) later))
-    ∙ append_assoc (shown hex (session_line 0 false done)) (shown hex (session_line 0 (clean_after_all false done) later)) (shown_end hex)))
+framed-parts : (hex : Bool) (sentinel : ℕ) (done later : List Send)
+    → framed_text hex (session_line sentinel false (done ++ later))
+    ≡ shown hex (session_line sentinel false done) ++ (shown hex (session_line sentinel (clean_after_all false done) later) ++ shown_end hex)
+framed-parts hex sentinel done later =
+    framed-is hex (session_line sentinel false (done ++ later))
+    ∙ (ap (λ x. shown hex x ++ shown_end hex) (session-join sentinel done later)
+    ∙ (ap (λ x. x ++ shown_end hex) (shown-append hex (session_line sentinel false done) (session_line sentinel (clean_after_all false done) later))
+    ∙ append_assoc (shown hex (session_line sentinel false done)) (shown hex (session_line sentinel (clean_after_all false done) later)) (shown_end hex)))
 
 -- what a batch brings
-batch-is : (clean : Bool) (done b : List Send) (mid rest bytes : List ℕ) → clean ≡ clean_after_all false done → Sent mid rest b → bytes ≡ session_line 0 false b
-    → behind_lead clean bytes ≡ session_line 0 (clean_after_all false done) b
-batch-is clean done b mid rest bytes c p e =
-    ap (λ x. behind_lead clean x) e ∙ (behind-lead clean p.seen b p.are ∙ ap (λ x. session_line 0 x b) c)
+batch-is : (sentinel : ℕ) (clean : Bool) (done b : List Send) (mid rest bytes : List ℕ) → clean ≡ clean_after_all false done → Sent mid rest b → bytes ≡ session_line sentinel false b
+    → behind_lead clean bytes ≡ session_line sentinel (clean_after_all false done) b
+batch-is sentinel clean done b mid rest bytes c p e =
+    ap (λ x. behind_lead clean x) e ∙ (behind-lead sentinel clean p.seen b p.are ∙ ap (λ x. session_line sentinel x b) c)
 
 pub none-shown : (w : Option (List ℕ)) (f : ℕ) (hex : Bool) → WentOut w w f f (shown hex [])
 unfolding encode_with
@@ -49,34 +49,34 @@ batch-clean clean sent done b mid rest c p s =
     ∙ (sym (clean-join (clean_after_all false done) p.seen b p.are) ∙ sym (clean-after done b)))
 
 -- a batch went out
-pub batch-went : {u v w : Option (List ℕ)} {f g h : ℕ} (hex clean : Bool) (done b : List Send) (mid rest bytes : List ℕ)
-    → clean ≡ clean_after_all false done → Sent mid rest b → bytes ≡ session_line 0 false b
-    → WentOut u v f g (shown hex (session_line 0 false done)) → WentOut v w g h (shown hex (behind_lead clean bytes))
-    → WentOut u w f h (shown hex (session_line 0 false (done ++ b)))
-batch-went hex clean done b mid rest bytes c p e old new =
+pub batch-went : {u v w : Option (List ℕ)} {f g h : ℕ} (hex clean : Bool) (sentinel : ℕ) (done b : List Send) (mid rest bytes : List ℕ)
+    → clean ≡ clean_after_all false done → Sent mid rest b → bytes ≡ session_line sentinel false b
+    → WentOut u v f g (shown hex (session_line sentinel false done)) → WentOut v w g h (shown hex (behind_lead clean bytes))
+    → WentOut u w f h (shown hex (session_line sentinel false (done ++ b)))
+batch-went hex clean sentinel done b mid rest bytes c p e old new =
     went-done _
-    (ap (λ x. shown hex x) (session-join done b ∙ ap (λ x. session_line 0 false done ++ x) (sym (batch-is clean done b mid rest bytes c p e)))
-    ∙ shown-append hex (session_line 0 false done) (behind_lead clean bytes))
+    (ap (λ x. shown hex x) (session-join sentinel done b ∙ ap (λ x. session_line sentinel false done ++ x) (sym (batch-is sentinel clean done b mid rest bytes c p e)))
+    ∙ shown-append hex (session_line sentinel false done) (behind_lead clean bytes))
     old new
 
 -- the writer failed on the way
-pub batch-broke : {u v w : Option (List ℕ)} {f g h calls : ℕ} (hex clean : Bool) (done b : List Send) (text mid rest bytes : List ℕ)
-    → clean ≡ clean_after_all false done → Sent text mid done → Sent mid rest b → bytes ≡ session_line 0 false b
-    → WentOut u v f g (shown hex (session_line 0 false done)) → BrokeOff v w g h calls (shown hex (behind_lead clean bytes))
-    → (sends : List Send) → AreSendsOf (lines_in text) sends → BrokeOff u w f h calls (framed_text hex (session_line 0 false sends))
-batch-broke {u = u} {w = w} {f = f} {h = h} {calls = calls} hex clean done b text mid rest bytes c p q e old new sends a =
+pub batch-broke : {u v w : Option (List ℕ)} {f g h calls : ℕ} (hex clean : Bool) (sentinel : ℕ) (done b : List Send) (text mid rest bytes : List ℕ)
+    → clean ≡ clean_after_all false done → Sent text mid done → Sent mid rest b → bytes ≡ session_line sentinel false b
+    → WentOut u v f g (shown hex (session_line sentinel false done)) → BrokeOff v w g h calls (shown hex (behind_lead clean bytes))
+    → (sends : List Send) → AreSendsOf (lines_in text) sends → BrokeOff u w f h calls (framed_text hex (session_line sentinel false sends))
+batch-broke {u = u} {w = w} {f = f} {h = h} {calls = calls} hex clean sentinel done b text mid rest bytes c p q e old new sends a =
     let d = Sent-split text mid done sends p a in
     let m = Sent-split mid rest b d.0 q d.2 in
     let k = clean_after_all false done in
-    let later = shown hex (session_line 0 (clean_after_all k b) m.0) in
-    let parts : shown hex (session_line 0 k d.0) ++ shown_end hex ≡ shown hex (behind_lead clean bytes) ++ (later ++ shown_end hex) =
-    ap (λ x. shown hex (session_line 0 k x) ++ shown_end hex) m.1
-    ∙ (ap (λ x. shown hex x ++ shown_end hex) (session-after k b m.0)
-    ∙ (ap (λ x. x ++ shown_end hex) (shown-append hex (session_line 0 k b) (session_line 0 (clean_after_all k b) m.0))
-    ∙ (append_assoc (shown hex (session_line 0 k b)) later (shown_end hex)
-    ∙ ap (λ x. shown hex x ++ (later ++ shown_end hex)) (sym (batch-is clean done b mid rest bytes c q e))))) in
+    let later = shown hex (session_line sentinel (clean_after_all k b) m.0) in
+    let parts : shown hex (session_line sentinel k d.0) ++ shown_end hex ≡ shown hex (behind_lead clean bytes) ++ (later ++ shown_end hex) =
+    ap (λ x. shown hex (session_line sentinel k x) ++ shown_end hex) m.1
+    ∙ (ap (λ x. shown hex x ++ shown_end hex) (session-after sentinel k b m.0)
+    ∙ (ap (λ x. x ++ shown_end hex) (shown-append hex (session_line sentinel k b) (session_line sentinel (clean_after_all k b) m.0))
+    ∙ (append_assoc (shown hex (session_line sentinel k b)) later (shown_end hex)
+    ∙ ap (λ x. shown hex x ++ (later ++ shown_end hex)) (sym (batch-is sentinel clean done b mid rest bytes c q e))))) in
     went-breaks _ (later ++ shown_end hex)
-    (ap (λ x. framed_text hex (session_line 0 false x)) d.1 ∙ (framed-parts hex done d.0 ∙ ap (λ x. shown hex (session_line 0 false done) ++ x) parts))
+    (ap (λ x. framed_text hex (session_line sentinel false x)) d.1 ∙ (framed-parts hex sentinel done d.0 ∙ ap (λ x. shown hex (session_line sentinel false done) ++ x) parts))
     old new
 
 shown-some : (hex : Bool) (a : List ℕ) → 0 < length a → 0 < length (shown hex a ++ shown_end hex)
@@ -84,17 +84,17 @@ shown-some false a l = omega (arith, length-append a [])
 shown-some true a l = omega (arith, length-append (encode_lower a) (10 ∷ []))
 
 -- a batch wasn't made, and the writer has failed
-pub unmade-broke : {u v w : Option (List ℕ)} {f g h calls : ℕ} (hex : Bool) (done : List Send) (text mid said : List ℕ)
-    → Sent text mid done → SaysBefore mid said → WentOut u v f g (shown hex (session_line 0 false done))
+pub unmade-broke : {u v w : Option (List ℕ)} {f g h calls : ℕ} (hex : Bool) (sentinel : ℕ) (done : List Send) (text mid said : List ℕ)
+    → Sent text mid done → SaysBefore mid said → WentOut u v f g (shown hex (session_line sentinel false done))
     → ((bytes : List ℕ) → 0 < length bytes → BrokeOff v w g h calls bytes)
-    → (sends : List Send) → AreSendsOf (lines_in text) sends → BrokeOff u w f h calls (framed_text hex (session_line 0 false sends))
-unmade-broke hex done text mid said p before old new sends a =
+    → (sends : List Send) → AreSendsOf (lines_in text) sends → BrokeOff u w f h calls (framed_text hex (session_line sentinel false sends))
+unmade-broke hex sentinel done text mid said p before old new sends a =
     let d = Sent-split text mid done sends p a in
     let k = clean_after_all false done in
-    let left = shown hex (session_line 0 k d.0) ++ shown_end hex in
+    let left = shown hex (session_line sentinel k d.0) ++ shown_end hex in
     went-breaks _ []
-    (ap (λ x. framed_text hex (session_line 0 false x)) d.1 ∙ (framed-parts hex done d.0 ∙ ap (λ x. shown hex (session_line 0 false done) ++ x) (sym (append-nil left))))
-    old (new left (shown-some hex (session_line 0 k d.0) (before-some k mid said d.0 before d.2)))
+    (ap (λ x. framed_text hex (session_line sentinel false x)) d.1 ∙ (framed-parts hex sentinel done d.0 ∙ ap (λ x. shown hex (session_line sentinel false done) ++ x) (sym (append-nil left))))
+    old (new left (shown-some hex (session_line sentinel k d.0) (before-some sentinel k mid said d.0 before d.2)))
 
 all-sent : (text rest : List ℕ) (done sends : List Send) → Sent text rest done → length rest ≡ 0 → AreSendsOf (lines_in text) sends → sends ≡ done
 all-sent text rest done sends p l a =
@@ -102,17 +102,17 @@ all-sent text rest done sends p l a =
     d.1 ∙ (ap (λ x. done ++ x) (none-sent rest d.0 l d.2) ∙ append-nil done)
 
 -- all went out
-pub end-went : {u v w : Option (List ℕ)} {f g h : ℕ} (hex : Bool) (done : List Send) (text rest : List ℕ) → Sent text rest done → length rest ≡ 0
-    → WentOut u v f g (shown hex (session_line 0 false done)) → WentOut v w g h (shown_end hex)
-    → (sends : List Send) → AreSendsOf (lines_in text) sends → WentOut u w f h (framed_text hex (session_line 0 false sends))
-end-went hex done text rest p l old new sends a =
-    went-done _ (ap (λ x. framed_text hex (session_line 0 false x)) (all-sent text rest done sends p l a) ∙ framed-is hex (session_line 0 false done)) old new
+pub end-went : {u v w : Option (List ℕ)} {f g h : ℕ} (hex : Bool) (sentinel : ℕ) (done : List Send) (text rest : List ℕ) → Sent text rest done → length rest ≡ 0
+    → WentOut u v f g (shown hex (session_line sentinel false done)) → WentOut v w g h (shown_end hex)
+    → (sends : List Send) → AreSendsOf (lines_in text) sends → WentOut u w f h (framed_text hex (session_line sentinel false sends))
+end-went hex sentinel done text rest p l old new sends a =
+    went-done _ (ap (λ x. framed_text hex (session_line sentinel false x)) (all-sent text rest done sends p l a) ∙ framed-is hex (session_line sentinel false done)) old new
 
-pub end-broke : {u v w : Option (List ℕ)} {f g h calls : ℕ} (hex : Bool) (done : List Send) (text rest : List ℕ) → Sent text rest done → length rest ≡ 0
-    → WentOut u v f g (shown hex (session_line 0 false done)) → BrokeOff v w g h calls (shown_end hex)
-    → (sends : List Send) → AreSendsOf (lines_in text) sends → BrokeOff u w f h calls (framed_text hex (session_line 0 false sends))
-end-broke hex done text rest p l old new sends a =
+pub end-broke : {u v w : Option (List ℕ)} {f g h calls : ℕ} (hex : Bool) (sentinel : ℕ) (done : List Send) (text rest : List ℕ) → Sent text rest done → length rest ≡ 0
+    → WentOut u v f g (shown hex (session_line sentinel false done)) → BrokeOff v w g h calls (shown_end hex)
+    → (sends : List Send) → AreSendsOf (lines_in text) sends → BrokeOff u w f h calls (framed_text hex (session_line sentinel false sends))
+end-broke hex sentinel done text rest p l old new sends a =
     went-breaks _ []
-    (ap (λ x. framed_text hex (session_line 0 false x)) (all-sent text rest done sends p l a)
-    ∙ (framed-is hex (session_line 0 false done) ∙ ap (λ x. shown hex (session_line 0 false done) ++ x) (sym (append-nil (shown_end hex)))))
+    (ap (λ x. framed_text hex (session_line sentinel false x)) (all-sent text rest done sends p l a)
+    ∙ (framed-is hex (session_line sentinel false done) ∙ ap (λ x. shown hex (session_line sentinel false done) ++ x) (sym (append-nil (shown_end hex)))))
     old new

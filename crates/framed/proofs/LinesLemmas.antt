@@ -114,8 +114,8 @@ reach_of ReadFault = failed
 reach_of NoMemory = stopped
 
 -- the answers that were received, as those of the stream
-pub received : {A : Type 0} → (strict : Bool) (e : End) (answers : List (Answer (String A))) (stream : List ℕ) → IsReceived (holds_text strict) reads_text 1024 0 e answers stream
-    → (verdicts : List Verdict) × AreAnswers strict (reach_of e) stream verdicts × AllZip (Matches reads_text) answers verdicts
-received strict Ended answers stream h = (h.verdicts, h.all, h.matching)
-received strict ReadFault answers stream h = (h.verdicts, h.given, h.matching)
-received strict NoMemory answers stream h = (h.verdicts, h.begins, h.matching)
+pub received : {A : Type 0} → (strict : Bool) (sentinel : ℕ) (e : End) (answers : List (Answer (String A))) (stream : List ℕ) → IsReceived (holds_text strict) reads_text 1024 sentinel e answers stream
+    → (verdicts : List Verdict) × AreAnswers strict sentinel (reach_of e) stream verdicts × AllZip (Matches reads_text) answers verdicts
+received strict sentinel Ended answers stream h = (h.verdicts, h.all, h.matching)
+received strict sentinel ReadFault answers stream h = (h.verdicts, h.given, h.matching)
+received strict sentinel NoMemory answers stream h = (h.verdicts, h.begins, h.matching)

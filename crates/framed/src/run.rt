@@ -32,7 +32,7 @@ pub struct Ran<R, W, E> {
 /// answer to the framed bytes: `value` and the text, with a backslash as `\\` and a line feed as `\n`; `damaged`;
 /// `too long`, of a stretch of more than 1024 bytes; or `cut`. `Mode::Strict` does the same, but a stretch that isn't
 /// exactly what sending its text makes is `damaged`. With `hex` the framed side is hexadecimal text, in lower case where it
-/// is written.
+/// is written. The sentinel stands on the line round each frame, whose bytes are XORed with it.
 ///
 /// The status is 0; 1 where a line was refused or an answer isn't a value; 2 where the text isn't hexadecimal; 3 where a
 /// device failed; 4 where memory ran out. Statuses 2 to 4 end the run, and the last line on `faults` says why.
@@ -40,31 +40,32 @@ pub fn run<R: Inlet, W: Outlet, E: Outlet>(
     alloc: Global,
     mode: Mode,
     hex: bool,
+    sentinel: u8,
     reader: R,
     mut writer: W,
     mut faults: E,
 ) -> Ran<R, W, E>
     // The text was read to its end, and all that the program writes and says for it went out.
-    ensures finished { result.status < 3 → Finishes mode hex result.status
+    ensures finished { result.status < 3 → Finishes mode hex sentinel result.status
         (Reading R.to_come R.faults R.calls_left reader result.reader)
         (Writing W.written W.faults W.calls_left writer result.writer)
         (Writing E.written E.faults E.calls_left faults result.faults) }
 
     // A device failed.
-    ensures failed { result.status ≡ 3 → Fails mode hex
+    ensures failed { result.status ≡ 3 → Fails mode hex sentinel
         (Reading R.to_come R.faults R.calls_left reader result.reader)
         (Writing W.written W.faults W.calls_left writer result.writer)
         (Writing E.written E.faults E.calls_left faults result.faults) }
 
     // Memory ran out, and no device failed: the lines of the first answers went out.
-    ensures memory { result.status ≡ 4 → LacksMemory mode hex
+    ensures memory { result.status ≡ 4 → LacksMemory mode hex sentinel
         (Reading R.to_come R.faults R.calls_left reader result.reader)
         (Writing W.written W.faults W.calls_left writer result.writer)
         (Writing E.written E.faults E.calls_left faults result.faults whole) }
 
     ensures range { result.status ≤ 4 }
 {
-    let (reader, worked) = work(alloc, mode, hex, reader, &mut writer, &mut faults);
+    let (reader, worked) = work(alloc, mode, hex, sentinel, reader, &mut writer, &mut faults);
     let status = report(&mut faults, worked);
     Ran {
         status,
@@ -79,22 +80,23 @@ fn work<R: Inlet, W: Outlet, E: Outlet>(
     alloc: Global,
     mode: Mode,
     hex: bool,
+    sentinel: u8,
     reader: R,
     writer: &mut W,
     faults: &mut E,
 ) -> (R, Result<u8, Stop>)
-    ensures { Worked mode hex (Reading R.to_come R.faults R.calls_left reader result.0)
+    ensures { Worked mode hex sentinel (Reading R.to_come R.faults R.calls_left reader result.0)
         (Writing W.written W.faults W.calls_left writer.old writer.new)
         (Writing E.written E.faults E.calls_left faults.old faults.new) result.1 }
 {
     match mode {
         Mode::Pack => {
             let mut reader = reader;
-            let worked = pack(alloc, hex, &mut reader, writer, faults);
+            let worked = pack(alloc, hex, sentinel, &mut reader, writer, faults);
             (reader, worked)
         }
-        Mode::Unpack => unpack(alloc, false, hex, reader, writer, faults),
-        Mode::Strict => unpack(alloc, true, hex, reader, writer, faults),
+        Mode::Unpack => unpack(alloc, false, hex, sentinel, reader, writer, faults),
+        Mode::Strict => unpack(alloc, true, hex, sentinel, reader, writer, faults),
     }
 }
 

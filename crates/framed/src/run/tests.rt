@@ -14,6 +14,7 @@ const ROOM: usize = 1100;
 struct Setting<'a> {
     mode: Mode,
     hex: bool,
+    sentinel: u8,
     text: &'a [u8],
     read_fault: Option<usize>,
     write_fault: Option<(usize, Fault)>,
@@ -24,6 +25,7 @@ fn given(mode: Mode, hex: bool, text: &[u8]) -> Setting<'_> {
     Setting {
         mode,
         hex,
+        sentinel: 0,
         text,
         read_fault: None,
         write_fault: None,
@@ -39,6 +41,7 @@ fn expect<R: AllocGlobal + Abort>(rt: &R, given: Setting<'_>, out: &[u8], said: 
         rt.alloc(),
         given.mode,
         given.hex,
+        given.sentinel,
         In::new(given.text, 3, given.read_fault),
         Out::new(&mut written, 5, given.write_fault),
         Out::new(&mut told, 2, given.saying_fault),
@@ -85,6 +88,7 @@ fn packs_up_to_the_limit(rt: HostRuntime) {
         rt.alloc(),
         Mode::Pack,
         false,
+        0,
         In::new(&letters[..1017], 4096, None),
         Out::new(&mut written, 4096, None),
         Out::new(&mut told, 1, None),
@@ -159,6 +163,48 @@ fn unpacks_strictly(rt: HostRuntime) {
     let said = b"damaged\nvalue hi\n";
     expect(&rt, given(Mode::Strict, false, padded), said, b"", 1);
     expect(&rt, given(Mode::Strict, true, b"0g"), b"", b"bad hex\n", 2);
+}
+
+/// The same with a sentinel in place of zero.
+fn with_sentinel(sentinel: u8, given: Setting<'_>) -> Setting<'_> {
+    Setting { sentinel, ..given }
+}
+
+#[test]
+fn packs_with_sentinel(rt: HostRuntime) {
+    let framed = b"0a0e0862630a\n";
+    let hi = given(Mode::Pack, true, b"hi");
+    expect(&rt, with_sentinel(0x0a, hi), framed, b"", 0);
+    let framed = b"~}\x7f\x00~z|\x16\x17~";
+    let two = given(Mode::Pack, false, b"~\nhi");
+    expect(&rt, with_sentinel(0x7e, two), framed, b"", 0);
+}
+
+#[test]
+fn unpacks_with_sentinel(rt: HostRuntime) {
+    let hi = given(Mode::Unpack, true, b"0a0e0862630a");
+    expect(&rt, with_sentinel(0x0a, hi), b"value hi\n", b"", 0);
+    let two = given(Mode::Unpack, false, b"~}\x7f\x00~z|\x16\x17~");
+    let said = b"value ~\nvalue hi\n";
+    expect(&rt, with_sentinel(0x7e, two), said, b"", 0);
+}
+
+/// A frame that lacks bytes, one behind it, and one that nothing ends.
+#[test]
+fn unpacks_damage_with_sentinel(rt: HostRuntime) {
+    let stream = b"\n\x0f\x62\n\x0e\x08\x62\x63\n\x0e";
+    let said = b"damaged\nvalue hi\ncut\n";
+    let given = given(Mode::Unpack, false, stream);
+    expect(&rt, with_sentinel(0x0a, given), said, b"", 1);
+}
+
+/// A text with a byte behind it that is no part of it, and one that sending spells so.
+#[test]
+fn unpacks_strictly_with_sentinel(rt: HostRuntime) {
+    let stream = b"0e0b68690a0e0862630a";
+    let said = b"damaged\nvalue hi\n";
+    let given = given(Mode::Strict, true, stream);
+    expect(&rt, with_sentinel(0x0a, given), said, b"", 1);
 }
 
 #[test]
@@ -334,6 +380,7 @@ fn whole_or_no_memory<R: AllocGlobal + Abort>(rt: &R, given: Setting<'_>, out: &
         rt.alloc(),
         given.mode,
         given.hex,
+        given.sentinel,
         In::new(given.text, 3, None),
         Out::new(&mut written, 5, None),
         Out::new(&mut told, 2, None),
@@ -388,6 +435,7 @@ fn expect_long<R: AllocGlobal + Abort>(
         rt.alloc(),
         given.mode,
         given.hex,
+        given.sentinel,
         In::new(given.text, 4096, given.read_fault),
         Out::new(&mut written, 4096, None),
         Out::new(&mut told, 4096, None),
@@ -466,6 +514,7 @@ fn expect_front<R: AllocGlobal + Abort>(
         rt.alloc(),
         given.mode,
         given.hex,
+        given.sentinel,
         In::new(given.text, 4096, None),
         Out::new(&mut written, 5000, given.write_fault),
         Out::new(&mut told, 4096, None),
@@ -555,4 +604,13 @@ fn memory_runs_out(rt: HostRuntime) {
     whole_or_no_memory(&rt, given(Mode::Unpack, true, framed), said);
     let raw = b"\x00\x04\x02hi\x00\x01\x01\x00\x03\x01A\x00";
     whole_or_no_memory(&rt, given(Mode::Unpack, false, raw), said);
+}
+
+#[test]
+fn memory_runs_out_with_sentinel(rt: HostRuntime) {
+    let framed = b"0a0e0862630a\n";
+    let hi = given(Mode::Pack, true, b"hi");
+    whole_or_no_memory(&rt, with_sentinel(0x0a, hi), framed);
+    let hi = given(Mode::Strict, true, framed);
+    whole_or_no_memory(&rt, with_sentinel(0x0a, hi), b"value hi\n");
 }

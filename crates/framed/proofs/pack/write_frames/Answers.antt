@@ -15,7 +15,7 @@ pub returns-in_default-clause-err : goal.returns-in_default-clause-err
 returns-in_default-clause-err g c =
     let i = c.loop-rest.invariant in
     let before = c.in_default.ensures.err in
-    unmade-broke c.args.hex i.0 c.args.text.now c.loop-rest.rest.now before.0 i.1 before.1 i.4 c.use_up.ensures
+    unmade-broke c.args.hex c.args.sentinel i.0 c.args.text.now c.loop-rest.rest.now before.0 i.1 before.1 i.4 c.use_up.ensures
 
 pub returns-in_err-write_part-clause-err : goal.returns-in_err-write_part-clause-err
 returns-in_err-write_part-clause-err g c =
@@ -26,7 +26,7 @@ returns-in_err-write_part-clause-err g c =
     c.without_lead.ensures
     ∙ ap (λ x. behind_lead c.loop-rest.clean x) (c.deref.ensures.value ∙ c.into_bytes-room.ensures ∙ ap collected_bytes c.into_inner.ensures) in
     on_err _
-    (batch-broke c.args.hex c.loop-rest.clean i.0 front.0 c.args.text.now c.loop-rest.rest.now c.in-Ok.after.now bytes i.2 i.1 front.1 front.2 i.4
+    (batch-broke c.args.hex c.loop-rest.clean c.args.sentinel i.0 front.0 c.args.text.now c.loop-rest.rest.now c.in-Ok.after.now bytes i.2 i.1 front.1 (rw c.new_with_sentinel-sender.ensures.sentinel at front.2) i.4
     (rw e at c.in_err-write_part.ensures.err))
 
 pub loop-rest-preserved : goal.loop-rest-preserved
@@ -41,7 +41,7 @@ loop-rest-preserved g c =
       Sent-join c.args.text.now c.loop-rest.rest.now c.in-Ok.after.now i.0 front.0 i.1 front.1,
       batch-clean c.loop-rest.clean c.is_clean-sent.result i.0 front.0 c.loop-rest.rest.now c.in-Ok.after.now i.2 front.1 (c.is_clean-sent.ensures ∙ front.3),
       c.clear.ensures.items,
-      batch-went c.args.hex c.loop-rest.clean i.0 front.0 c.loop-rest.rest.now c.in-Ok.after.now bytes i.2 front.1 front.2 i.4
+      batch-went c.args.hex c.loop-rest.clean c.args.sentinel i.0 front.0 c.loop-rest.rest.now c.in-Ok.after.now bytes i.2 front.1 (rw c.new_with_sentinel-sender.ensures.sentinel at front.2) i.4
           (rw e at c.in_ok-write_part.ensures.ok),
     )
 
@@ -49,10 +49,10 @@ pub returns-clause-ok : goal.returns-clause-ok
 returns-clause-ok g c =
     let i = c.loop-rest.invariant in
     let none : length c.loop-rest.rest.now ≡ 0 = grind arith in
-    on_ok_weaker c.write_end.result (λ p. end-went c.args.hex i.0 c.args.text.now c.loop-rest.rest.now i.1 none i.4 p) c.write_end.ensures.ok
+    on_ok_weaker c.write_end.result (λ p. end-went c.args.hex c.args.sentinel i.0 c.args.text.now c.loop-rest.rest.now i.1 none i.4 p) c.write_end.ensures.ok
 
 pub returns-clause-err : goal.returns-clause-err
 returns-clause-err g c =
     let i = c.loop-rest.invariant in
     let none : length c.loop-rest.rest.now ≡ 0 = grind arith in
-    on_err_weaker c.write_end.result (λ p. end-broke c.args.hex i.0 c.args.text.now c.loop-rest.rest.now i.1 none i.4 p) c.write_end.ensures.err
+    on_err_weaker c.write_end.result (λ p. end-broke c.args.hex c.args.sentinel i.0 c.args.text.now c.loop-rest.rest.now i.1 none i.4 p) c.write_end.ensures.err

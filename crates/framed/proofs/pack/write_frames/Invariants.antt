@@ -11,7 +11,7 @@ abbrev pub invariant-loop-rest : goal.invariant-loop-rest
 invariant-loop-rest g l =
     (done : List Send) × Sent l.text l.rest done × (l.clean ≡ clean_after_all false done) × (l.room.items ≡ [])
     × WentOut (g.W.Outlet.written l.fn.writer) (g.W.Outlet.written l.writer) (g.W.Outlet.faults l.fn.writer) (g.W.Outlet.faults l.writer)
-    (shown l.hex (session_line 0 false done))
+    (shown l.hex (session_line l.sentinel false done))
 
 abbrev pub decreases-loop-rest : goal.decreases-loop-rest
 decreases-loop-rest g l = length l.rest

@@ -5,7 +5,7 @@ use Rattle.framed.proofs.run.run.Goals as goal
 
 pub returns : goal.returns
 returns g c =
-    let e = ends c.work-reader.new.faults c.report-status.new.faults c.args.mode c.args.hex _
+    let e = ends c.work-reader.new.faults c.report-status.new.faults c.args.mode c.args.hex c.args.sentinel _
     (Reading g.R.Inlet.to_come g.R.Inlet.faults g.R.Inlet.calls_left c.args.reader c.work-reader.result.0)
     (Writing g.W.Outlet.written g.W.Outlet.faults g.W.Outlet.calls_left c.args.writer c.work-reader.new.writer)
     (Writing g.E.Outlet.written g.E.Outlet.faults g.E.Outlet.calls_left c.args.faults)

@@ -9,7 +9,7 @@ pub returns : goal.returns
 returns g c =
     let h = c.receive_texts-answers.ensures in
     rw c.outcome.ensures
-    (bytes-worked c.args.strict c.receive_texts-answers.result.answers.items h.0
+    (bytes-worked c.args.strict c.args.sentinel c.receive_texts-answers.result.answers.items h.0
     (Reading g.R.Inlet.to_come g.R.Inlet.faults g.R.Inlet.calls_left c.args.reader c.receive_texts-answers.result.reader)
     (Writing g.W.Outlet.written g.W.Outlet.faults g.W.Outlet.calls_left c.args.writer.now c.write_answers-written.new.writer)
     c.receive_texts-answers.result.end c.write_answers-written.result c.are_values.result h.2

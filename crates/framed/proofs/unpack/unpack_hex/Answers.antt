@@ -7,7 +7,7 @@ use Rattle.framed.proofs.unpack.unpack_hex.Goals as goal
 
 pub returns-in-Ended : goal.returns-in-Ended
 returns-in-Ended g c =
-    Worked-read (unpacking c.args.strict) true (IsWhole c.read_whole.new.bytes.items)
+    Worked-read (unpacking c.args.strict) true c.args.sentinel (IsWhole c.read_whole.new.bytes.items)
     (Reading g.R.Inlet.to_come g.R.Inlet.faults g.R.Inlet.calls_left c.args.reader.now c.read_whole.new.inlet)
     (Writing g.W.Outlet.written g.W.Outlet.faults g.W.Outlet.calls_left c.args.writer.now c.unpack_digits.new.writer)
     (Writing g.E.Outlet.written g.E.Outlet.faults g.E.Outlet.calls_left c.args.faults.now c.unpack_digits.new.faults)
@@ -16,8 +16,8 @@ returns-in-Ended g c =
 pub returns-in-NoMemory : goal.returns-in-NoMemory
 returns-in-NoMemory g c =
     let lost = c.in-NoMemory.ensures.memory refl in
-    unheld (unpacking c.args.strict) true (c.read_whole.new.bytes.items ++ lost.0)
+    unheld (unpacking c.args.strict) true c.args.sentinel (c.read_whole.new.bytes.items ++ lost.0)
     (Reading g.R.Inlet.to_come g.R.Inlet.faults g.R.Inlet.calls_left c.args.reader.now c.read_whole.new.inlet)
     (Writing g.W.Outlet.written g.W.Outlet.faults g.W.Outlet.calls_left c.args.writer.now c.args.writer.now)
     (Writing g.E.Outlet.written g.E.Outlet.faults g.E.Outlet.calls_left c.args.faults.now c.args.faults.now)
-    (lacks c.args.strict true stopped (c.read_whole.new.bytes.items ++ lost.0) [] [] (refl, refl)) lost.1 (WentOut-none _ _) (WentOut-none _ _)
+    (lacks c.args.strict true c.args.sentinel stopped (c.read_whole.new.bytes.items ++ lost.0) [] [] (refl, refl)) lost.1 (WentOut-none _ _) (WentOut-none _ _)
