@@ -2,6 +2,8 @@
 ghost use Rattle.std.specs.Prelude.{◌≡◌, ◌⊎◌, ◌+◌, ◌<◌, ◌++◌, length, true, Some, IfOk, IfErr, OnOk};
 ghost use Rattle.postcard_tree.specs.declared.error.Error.TheVariants.{OutOfMemory, SerializeBufferFull};
 ghost use Rattle.postcard_tree.specs.Tree.{Tree};
+ghost use Rattle.postcard.specs.Advances.{AdvancesByZeros};
+ghost use Rattle.postcard.specs.Feeds.{IsFedByZeros};
 ghost use Rattle.postcard.specs.Spellings.{HasNoBeginning, KeepsItsPattern};
 ghost use Rattle.postcard.specs.Written.{WrittenAs, UnlessRefused};
 
@@ -71,4 +73,10 @@ pub fn beginnings<T: Readable>()
 /// The zeros and the other bytes of a tree's short spelling are, in order, some of those of each of its spellings.
 pub fn patterns()
     ensures { KeepsItsPattern }
+{}
+
+/// An accumulator whose sentinel is zero, as `new` makes it, goes by the zeros of its input.
+pub fn fed_by_zeros<T: Readable>()
+    ensures feeds { IsFedByZeros T.takes T.reads T.growing }
+    ensures advances { AdvancesByZeros }
 {}
