@@ -18,6 +18,8 @@ mod link_receiving;
 #[cfg(test)]
 mod link_sending;
 #[cfg(test)]
+mod link_texts;
+#[cfg(test)]
 mod malicious;
 #[cfg(test)]
 mod refused_growths;

@@ -2,7 +2,6 @@
 use line_io::{Inlet, Outlet, Reads, Writes};
 use std::io;
 use std::io::{Read, Write};
-use std::test::Fail;
 
 // Gives a byte a call of three, and fails once, after `before` bytes.
 #[derive(Drop)]
@@ -27,7 +26,7 @@ impl Read for Failing {
 }
 
 #[test]
-fn a_failed_read_is_a_fault(rt: HostRuntime) -> Result<(), Fail> {
+fn a_failed_read_is_a_fault(rt: HostRuntime) {
     for before in 0..4 {
         let mut line = Reads::new(Failing { given: 0, before });
         let mut room = [0u8; 2];
@@ -35,11 +34,12 @@ fn a_failed_read_is_a_fault(rt: HostRuntime) -> Result<(), Fail> {
             let want = if call == before { None } else { Some(1) };
             assert!(rt; line.read(&mut room) == want, "call {call} of {before}");
         }
-        assert!(rt; line.read(&mut room) == Some(0));
-        assert!(rt; line.read(&mut []) == Some(0));
-        assert!(rt; line.into_inner().given == 3);
+        assert!(rt;
+            line.read(&mut room) == Some(0)
+                && line.read(&mut []) == Some(0)
+                && line.into_inner().given == 3
+        );
     }
-    Ok(())
 }
 
 // Takes a byte a call, and is interrupted once, after `before` bytes.
@@ -66,28 +66,27 @@ impl Write for Interrupted {
 }
 
 #[test]
-fn an_interrupted_write_is_a_fault(rt: HostRuntime) -> Result<(), Fail> {
+fn an_interrupted_write_is_a_fault(rt: HostRuntime) {
     for before in 0..4 {
         let mut line = Writes::new(Interrupted { taken: 0, before });
         for call in 0..6 {
             let want = if call == before { None } else { Some(1) };
             assert!(rt; line.write(b"ab") == want, "call {call} of {before}");
         }
-        assert!(rt; line.write(b"") == Some(0));
-        assert!(rt; line.into_inner().taken == 5);
+        assert!(rt; line.write(b"") == Some(0) && line.into_inner().taken == 5);
     }
-    Ok(())
 }
 
 #[test]
-fn a_full_writer_takes_nothing(rt: HostRuntime) -> Result<(), Fail> {
+fn a_full_writer_takes_nothing(rt: HostRuntime) {
     let mut room = [0u8; 3];
     let mut line = Writes::new(room.as_mut_slice());
-    assert!(rt; line.write(b"ab") == Some(2));
-    assert!(rt; line.write(b"cd") == Some(1));
-    assert!(rt; line.write(b"d") == Some(0));
-    assert!(rt; line.write(b"") == Some(0));
-    assert!(rt; line.into_inner().len() == 0);
-    assert!(rt; room == *b"abc");
-    Ok(())
+    assert!(rt;
+        line.write(b"ab") == Some(2)
+            && line.write(b"cd") == Some(1)
+            && line.write(b"d") == Some(0)
+            && line.write(b"") == Some(0)
+            && line.into_inner().len() == 0
+            && room == *b"abc"
+    );
 }

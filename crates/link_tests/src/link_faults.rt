@@ -1,10 +1,8 @@
-//! `link`, over writers and readers that fail at each byte: what goes out, and what is heard of it.
+//! `link`, over writers and readers that fail at each byte: what goes out, and what is heard of it before a reader fails.
+//! What is heard of it all, in pieces of each size, are lines of `replay`.
 use line_io::memory::{Fault, In, Out};
 use line_io::{Outlet, Reads, Writes};
-use link::{
-    Answer, End, Fate, SendError, Sender, receive, receive_by_accumulator, receive_strict,
-    send_each,
-};
+use link::{Answer, End, Fate, SendError, Sender, receive, receive_strict, send_each};
 use std::io;
 use std::io::{ErrorKind, Read, Write};
 use std::process::Abort;
@@ -108,11 +106,9 @@ impl Read for Slow<'_> {
 
 /// Sends 300 over a line that breaks it off, and again where asked to.
 fn send_broken<W: Outlet>(rt: &impl Abort, sender: &mut Sender<W, 8>, again: bool) {
-    assert!(rt; sender.send(&300u32) == Err(SendError::Line));
-    assert!(rt; !sender.is_clean());
+    assert!(rt; sender.send(&300u32) == Err(SendError::Line) && !sender.is_clean());
     if again {
-        assert!(rt; sender.send(&300u32) == Ok(()));
-        assert!(rt; sender.is_clean());
+        assert!(rt; sender.send(&300u32) == Ok(()) && sender.is_clean());
     }
 }
 
@@ -155,8 +151,9 @@ fn sends_over_memory(rt: HostRuntime) {
                 let mut fates = [Fate::Refused; 2];
                 let out = Out::new(&mut room, each, fault);
                 let count = send_each::<u32, _, 8>(out, &[300, 300], &mut fates).moved();
-                assert!(rt; room.get(..count) == Some(row.line));
-                assert!(rt; fates == [Fate::Broken, Fate::Done]);
+                assert!(rt;
+                    room.get(..count) == Some(row.line) && fates == [Fate::Broken, Fate::Done]
+                );
             }
         }
     }
@@ -181,35 +178,13 @@ fn sends_over_writers(rt: HostRuntime) {
 }
 
 #[test]
-fn hears_in_pieces(rt: HostRuntime) {
-    for row in rows() {
-        for each in 1..10 {
-            let got = receive::<u32, _, 8>(rt.alloc(), In::new(row.line, each, None));
-            assert!(rt; got.end == End::Ended);
-            expect(&rt, row, row.line.len(), &got.answers);
-            let got = receive_strict::<u32, _, 8>(rt.alloc(), In::new(row.line, each, None));
-            assert!(rt; got.end == End::Ended);
-            expect(&rt, row, row.line.len(), &got.answers);
-            let got = receive_by_accumulator::<u32, _, 8>(
-                rt.alloc(),
-                In::new(row.line, each, None),
-            );
-            assert!(rt; got.end == End::Ended);
-            assert!(rt; got.values.len() == if row.broken == 4 { 2 } else { 1 });
-            assert!(rt; got.values.iter().all(|value| *value == 300));
-        }
-    }
-}
-
-#[test]
 fn hears_until_a_fault(rt: HostRuntime) {
     for row in rows() {
         for count in 0..=row.line.len() {
             for each in 1..10 {
                 let reader = In::new(row.line, each, Some(count));
                 let got = receive::<u32, _, 8>(rt.alloc(), reader);
-                assert!(rt; got.end == End::ReadFault);
-                assert!(rt; got.reader.moved() == count);
+                assert!(rt; got.end == End::ReadFault && got.reader.moved() == count);
                 expect(&rt, row, count, &got.answers);
                 let reader = In::new(row.line, each, Some(count));
                 let got = receive_strict::<u32, _, 8>(rt.alloc(), reader);
@@ -228,23 +203,6 @@ fn hears_until_a_fault(rt: HostRuntime) {
     }
 }
 
-/// Nothing comes after the send that broke off.
-#[test]
-fn hears_what_broke_off(rt: HostRuntime) {
-    for count in 0..5 {
-        for each in 1..6 {
-            let reader = In::new(b"\x00\x03\xAC\x02".get(..count).unwrap_or(b""), each, None);
-            let got = receive::<u32, _, 8>(rt.alloc(), reader);
-            assert!(rt; got.end == End::Ended);
-            if count < 2 {
-                assert!(rt; got.answers.is_empty());
-            } else {
-                assert!(rt; got.answers[..] == [Answer::Cut]);
-            }
-        }
-    }
-}
-
 /// A frame of one byte, and one that is longer, by a sender of one byte.
 #[test]
 fn sends_by_the_least_sender(rt: HostRuntime) {
@@ -257,9 +215,7 @@ fn sends_by_the_least_sender(rt: HostRuntime) {
     let mut sender = Sender::<_, 1>::new(Writes::new(narrow));
     assert!(rt; sender.send(&()) == Ok(()));
     let refused = SendError::Refused(postcard::Error::SerializeBufferFull);
-    assert!(rt; sender.send(&true) == Err(refused));
-    assert!(rt; sender.is_clean());
+    assert!(rt; sender.send(&true) == Err(refused) && sender.is_clean());
     let narrow = sender.into_inner().into_inner();
-    assert!(rt; narrow.taken[..3] == [0, 1, 0]);
-    assert!(rt; narrow.count == 3);
+    assert!(rt; narrow.taken[..3] == [0, 1, 0] && narrow.count == 3);
 }

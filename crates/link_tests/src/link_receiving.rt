@@ -1,145 +1,68 @@
-//! `link`, receiving: answers to streams in pieces, from readers, and in place.
+//! `link`, receiving: what is lent, stretches cut anywhere, readers that fail, and what is left in place. Answers to plain
+//! streams are lines of `replay`.
 ghost use Rattle.std.specs.Prelude.{◌≤◌, length};
 
 use line_io::memory::In;
-use link::{
-    Answer, End, NoMemory, Pushed, Receiver, read_in_place, receive, receive_by_accumulator,
-};
+use link::{Answer, End, Pushed, Receiver, read_in_place, receive, receive_by_accumulator};
 use std::alloc::Global;
-use std::collections::BTreeMap;
 use std::process::Abort;
-use std::test::Fail;
 
-// The one answer of a receiver of up to 256 bytes to these bytes.
-fn one<T: postcard::DeserializeOwned>(
-    alloc: Global,
-    bytes: &[u8],
-) -> Result<Option<Answer<T>>, NoMemory> {
-    let mut receiver = Receiver::<256>::new();
-    let Pushed { used: _, answer } = receiver.push(alloc, bytes);
-    answer
-}
-
+/// A stretch that is too long by one byte, and then ends.
 #[test]
-fn damage_stays_in_its_stretch(rt: HostRuntime) -> Result<(), Fail> {
-    let mut receiver = Receiver::<8>::new();
-    let line = [3u8, 1, 0, 0, 0, 2, 1, 0];
-    let pushed = receiver.push::<bool>(rt.alloc(), &line);
-    assert!(rt; pushed.used == 3);
-    assert!(rt; pushed.answer == Ok(Some(Answer::Damaged)));
-    let pushed = receiver.push::<bool>(rt.alloc(), &line[3..]);
-    assert!(rt; pushed.used == 5);
-    assert!(rt; pushed.answer == Ok(Some(Answer::Value(true))));
-    assert!(rt; receiver.is_between());
-    Ok(())
-}
-
-#[test]
-fn too_long_once(rt: HostRuntime) -> Result<(), Fail> {
-    let mut receiver = Receiver::<3>::new();
-    let line = [5u8, 1, 1, 1, 1, 0, 2, 1, 0];
-    for (i, byte) in line.iter().enumerate() {
-        let pushed = receiver.push::<bool>(rt.alloc(), &[*byte]);
-        assert!(rt; pushed.used == 1);
-        let want = match i {
-            3 => Some(Answer::TooLong),
-            8 => Some(Answer::Value(true)),
-            _ => None,
-        };
-        assert!(rt; pushed.answer == Ok(want));
-    }
-    assert!(rt; receiver.is_between());
-    let pushed = receiver.push::<bool>(rt.alloc(), &line);
-    assert!(rt; pushed.used == 4);
-    assert!(rt; pushed.answer == Ok(Some(Answer::TooLong)));
-    assert!(rt; !receiver.is_between());
-    let pushed = receiver.push::<bool>(rt.alloc(), &line[4..]);
-    assert!(rt; pushed.used == 5);
-    assert!(rt; pushed.answer == Ok(Some(Answer::Value(true))));
+fn too_long_by_one(rt: HostRuntime) {
     let mut receiver = Receiver::<4>::new();
-    let pushed = receiver.push::<()>(rt.alloc(), &line[..5]);
-    assert!(rt; pushed.used == 5);
-    assert!(rt; pushed.answer == Ok(Some(Answer::TooLong)));
-    let pushed = receiver.push::<()>(rt.alloc(), &[0]);
-    assert!(rt; pushed.answer == Ok(None));
-    assert!(rt; receiver.finish::<()>() == None);
-    let mut receiver = Receiver::<1>::new();
-    let pushed = receiver.push::<bool>(rt.alloc(), &[2, 1]);
-    assert!(rt; pushed.used == 2);
-    assert!(rt; pushed.answer == Ok(Some(Answer::TooLong)));
-    assert!(rt; receiver.finish::<bool>() == None);
-    Ok(())
+    let pushed = receiver.push::<()>(rt.alloc(), &[5, 1, 1, 1, 1]);
+    assert!(rt;
+        pushed.used == 5
+            && pushed.answer == Ok(Some(Answer::TooLong))
+            && !receiver.is_between()
+            && receiver.push::<()>(rt.alloc(), &[0]).answer == Ok(None)
+            && receiver.is_between()
+            && receiver.finish::<()>() == None
+    );
 }
 
 #[test]
-fn lends(rt: HostRuntime) -> Result<(), Fail> {
+fn lends(rt: HostRuntime) {
     let mut receiver = Receiver::<8>::new();
-    let line = [4u8, 2, 104, 105, 0, 2, 5];
-    let pushed = receiver.push_ref::<&str>(rt.alloc(), &line);
-    assert!(rt; pushed.used == 5);
-    match pushed.answer {
+    let Pushed { used, answer } = receiver.push_ref::<&str>(rt.alloc(), &[4, 2, 104, 105, 0, 2, 5]);
+    assert!(rt; used == 5);
+    match answer {
         Ok(Some(Answer::Value(text))) => assert!(rt; text == "hi"),
         _ => assert!(rt; false),
     }
-    let pushed = receiver.push_ref::<&str>(rt.alloc(), &line[5..]);
-    assert!(rt; pushed.used == 2);
-    assert!(rt; !receiver.is_between());
-    assert!(rt; receiver.finish::<u8>() == Some(Answer::Cut));
-    Ok(())
 }
 
 #[test]
-fn ends_of_readers(rt: HostRuntime) -> Result<(), Fail> {
-    let got = receive::<bool, _, 8>(rt.alloc(), In::new(&[2, 1], 1, None));
-    assert!(rt; got.answers[..] == [Answer::Cut]);
-    assert!(rt; got.end == End::Ended);
+fn stands_in_a_lent_stretch(rt: HostRuntime) {
+    let mut receiver = Receiver::<8>::new();
+    assert!(rt;
+        receiver.push_ref::<&str>(rt.alloc(), &[2, 5]).used == 2
+            && !receiver.is_between()
+            && receiver.finish::<u8>() == Some(Answer::Cut)
+    );
+}
+
+/// Two bytes of a stretch, and then a read that fails.
+#[test]
+fn ends_at_a_fault(rt: HostRuntime) {
     let got = receive::<bool, _, 8>(rt.alloc(), In::new(&[2, 1], 1, Some(2)));
-    assert!(rt; got.answers.is_empty());
-    assert!(rt; got.end == End::ReadFault);
-    let got = receive::<bool, _, 0>(rt.alloc(), In::new(&[1, 0], 1, None));
-    assert!(rt; got.answers[..] == [Answer::TooLong]);
-    let got = receive::<(), _, 1>(rt.alloc(), In::new(&[1, 0], 1, None));
-    assert!(rt; got.answers[..] == [Answer::Value(())]);
-    let got = receive::<(), _, 1>(rt.alloc(), In::new(&[0, 0], 1, None));
-    assert!(rt; got.answers.is_empty());
-    Ok(())
+    assert!(rt; got.answers.is_empty() && got.end == End::ReadFault);
 }
 
+/// A stretch that isn't ended stays as it was.
 #[test]
-fn reads_in_place(rt: HostRuntime) -> Result<(), Fail> {
+fn leaves_the_unfinished(rt: HostRuntime) {
     let mut bytes = [0u8, 2, 1, 0, 3, 1];
-    let Some((answer, rest)) = read_in_place::<bool>(rt.alloc(), &mut bytes) else {
-        return Ok(assert!(rt; false));
-    };
-    assert!(rt; answer == Ok(Answer::Value(true)));
-    assert!(rt; *rest == *[3u8, 1].as_slice());
-    let Some((answer, rest)) = read_in_place::<bool>(rt.alloc(), rest) else {
-        return Ok(assert!(rt; false));
-    };
-    assert!(rt; answer == Ok(Answer::Cut));
-    assert!(rt; rest.is_empty());
-    assert!(rt; read_in_place::<bool>(rt.alloc(), rest).is_none());
-    assert!(rt; bytes[3..] == [0, 3, 1]);
-    Ok(())
-}
-
-#[test]
-fn either_frame(rt: HostRuntime) -> Result<(), Fail> {
-    let mut longer = [1u8; 257];
-    longer[0] = 255;
-    longer[1] = 252;
-    longer[256] = 0;
-    let mut shorter = [1u8; 256];
-    shorter[0] = 255;
-    shorter[1] = 252;
-    shorter[255] = 0;
-    for line in [&longer[..], &shorter[..]] {
-        match one::<Vec<u8>>(rt.alloc(), line) {
-            Ok(Some(Answer::Value(bytes))) => assert!(rt; bytes[..] == [1; 252]),
-            _ => assert!(rt; false),
-        }
+    match read_in_place::<bool>(rt.alloc(), &mut bytes) {
+        Some((answer, rest)) => assert!(rt; answer == Ok(Answer::Value(true)) && rest.len() == 2),
+        None => assert!(rt; false),
     }
-    Ok(())
+    match read_in_place::<bool>(rt.alloc(), &mut bytes[4..]) {
+        Some((answer, rest)) => assert!(rt; answer == Ok(Answer::Cut) && rest.is_empty()),
+        None => assert!(rt; false),
+    }
+    assert!(rt; bytes[3..] == [0, 3, 1] && read_in_place::<bool>(rt.alloc(), &mut []).is_none());
 }
 
 // Whether an answer is a damaged stretch, and else it is a value of 252 ones.
@@ -221,52 +144,26 @@ fn either_frame_cut_anywhere(rt: HostRuntime) {
         };
         let (first, last) = stream.split_at(cut);
         let mut receiver = Receiver::<256>::new();
-        assert!(rt; taken(&rt, rt.alloc(), &mut receiver, first, false) == (before, 0));
-        assert!(rt; taken(&rt, rt.alloc(), &mut receiver, last, false) == (behind, 0));
+        assert!(rt;
+            taken(&rt, rt.alloc(), &mut receiver, first, false) == (before, 0)
+                && taken(&rt, rt.alloc(), &mut receiver, last, false) == (behind, 0)
+        );
         let mut receiver = Receiver::<256>::new();
         let refused = if before == 0 { 0 } else { 1 };
-        assert!(rt; taken(&rt, rt.alloc(), &mut receiver, first, true) == (before, refused));
-        assert!(rt; taken(&rt, rt.alloc(), &mut receiver, last, true) == (behind, 1 - refused));
+        assert!(rt;
+            taken(&rt, rt.alloc(), &mut receiver, first, true) == (before, refused)
+                && taken(&rt, rt.alloc(), &mut receiver, last, true) == (behind, 1 - refused)
+        );
     }
 }
 
 #[test]
-fn ordinary_answers(rt: HostRuntime) -> Result<(), Fail> {
-    assert!(rt; one::<u16>(rt.alloc(), &[3, 128, 128, 1, 0]) == Ok(Some(Answer::Value(0))));
-    assert!(rt; one::<u16>(rt.alloc(), &[2, 128, 1, 0]) == Ok(Some(Answer::Value(0))));
-    assert!(rt; one::<char>(rt.alloc(), &[4, 2, 97, 98, 0]) == Ok(Some(Answer::Value('a'))));
-    assert!(rt; one::<bool>(rt.alloc(), &[3, 1, 9, 0]) == Ok(Some(Answer::Value(true))));
-    match one::<BTreeMap<u8, u8>>(rt.alloc(), &[6, 2, 2, 6, 1, 5, 0]) {
-        Ok(Some(Answer::Value(map))) => {
-            assert!(rt; map.len() == 2);
-            assert!(rt; map.get(&1) == Some(&5));
-            assert!(rt; map.get(&2) == Some(&6));
-        }
-        _ => assert!(rt; false),
-    }
-    Ok(())
-}
-
-#[test]
-fn by_accumulator(rt: HostRuntime) -> Result<(), Fail> {
+fn by_accumulator(rt: HostRuntime) {
     let line = [0u8, 3, 0, 3, 0xAC, 2, 0, 2, 5, 0, 3, 0xAC];
     for each in 1..12 {
         let got = receive_by_accumulator::<u32, _, 4>(rt.alloc(), In::new(&line, each, None));
-        assert!(rt; got.values[..] == [300, 5]);
-        assert!(rt; got.end == End::Ended);
+        assert!(rt; got.end == End::Ended && got.values[..] == [300, 5]);
     }
     let got = receive_by_accumulator::<u32, _, 4>(rt.alloc(), In::new(&line, 3, Some(8)));
-    assert!(rt; got.values[..] == [300]);
-    assert!(rt; got.end == End::ReadFault);
-    Ok(())
-}
-
-#[test]
-fn texts(rt: HostRuntime) -> Result<(), Fail> {
-    let answer = Answer::Value(true);
-    assert!(rt; format!(in rt.alloc(); "{answer:?}")?.as_str() == "Value(true)");
-    let cut: Answer<bool> = Answer::Cut;
-    assert!(rt; format!(in rt.alloc(); "{cut:?}")?.as_str() == "Cut");
-    assert!(rt; format!(in rt.alloc(); "{:?}", End::ReadFault)?.as_str() == "ReadFault");
-    Ok(())
+    assert!(rt; got.end == End::ReadFault && got.values[..] == [300]);
 }

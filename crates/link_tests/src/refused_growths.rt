@@ -19,7 +19,6 @@ use samples::Chain;
 use std::alloc::AllocError;
 use std::collections::BTreeMap;
 use std::process::Abort;
-use std::test::Fail;
 
 /// What was answered so far: how many calls found no memory.
 #[derive(Drop)]
@@ -88,29 +87,44 @@ impl Wants {
 // 10, 11, 0, 12
 const MESSAGE: [u8; 4] = [10, 11, 0, 12];
 
-/// The vector forms of `cobs`, and the decoder that owns its room.
-fn frame<R: AllocGlobal + Abort>(rt: &R, wants: &mut Wants) {
+/// The vector forms of `cobs` that encode.
+fn encode<R: AllocGlobal + Abort>(rt: &R, wants: &mut Wants) {
     let alloc = rt.alloc();
-    wants.bytes(
-        rt,
-        cobs::encode_vec(alloc, &MESSAGE).ok(),
-        &[3, 10, 11, 2, 12],
-    );
+    let plain = cobs::encode_vec(alloc, &MESSAGE).ok();
+    wants.bytes(rt, plain, &[3, 10, 11, 2, 12]);
     let between = cobs::encode_vec_including_sentinels(alloc, &MESSAGE).ok();
     wants.bytes(rt, between, &[0, 3, 10, 11, 2, 12, 0]);
     let masked = cobs::encode_vec_with_sentinel(alloc, &MESSAGE, 10).ok();
     wants.bytes(rt, masked, &[9, 0, 1, 8, 6]);
+}
+
+/// The vector forms of `cobs` that decode.
+fn decode<R: AllocGlobal + Abort>(rt: &R, wants: &mut Wants) {
+    let alloc = rt.alloc();
     wants.decoded(rt, cobs::decode_vec(alloc, &[3, 10, 11, 2, 12]), &MESSAGE);
     let unmasked = cobs::decode_vec_with_sentinel(alloc, &[9, 0, 1, 8, 6], 10);
     wants.decoded(rt, unmasked, &MESSAGE);
-    match CobsDecoderOwned::new(alloc, 3) {
+}
+
+/// The decoder of `cobs` that owns its room.
+fn own<R: AllocGlobal + Abort>(rt: &R, wants: &mut Wants) {
+    match CobsDecoderOwned::new(rt.alloc(), 3) {
         Ok(mut decoder) => {
-            assert!(rt; decoder.dest() == [0, 0, 0].as_slice());
-            assert!(rt; decoder.push(&[2, 7, 0]).is_ok());
-            assert!(rt; decoder.dest() == [7, 0, 0].as_slice());
+            assert!(rt;
+                decoder.dest() == [0, 0, 0].as_slice()
+                    && decoder.push(&[2, 7, 0]).is_ok()
+                    && decoder.dest() == [7, 0, 0].as_slice()
+            );
         }
         Err(AllocError) => wants.add(),
     }
+}
+
+/// Frames of `cobs`.
+fn frame<R: AllocGlobal + Abort>(rt: &R, wants: &mut Wants) {
+    encode(rt, wants);
+    decode(rt, wants);
+    own(rt, wants);
 }
 
 /// Calls that write into a vector.
@@ -131,8 +145,8 @@ fn write<R: AllocGlobal + Abort>(rt: &R, wants: &mut Wants) {
     wants.written(rt, to_extend(&&ones[..], Vec::new(alloc)), &long);
 }
 
-/// Values that ask for memory.
-fn read<R: AllocGlobal + Abort>(rt: &R, wants: &mut Wants) {
+/// A text, bytes and a box.
+fn read_parts<R: AllocGlobal + Abort>(rt: &R, wants: &mut Wants) {
     let alloc = rt.alloc();
     if let Some(text) = wants.value(rt, from_bytes::<String>(alloc, &[3, 0x48, 0x69, 0x21])) {
         assert!(rt; text.as_str() == "Hi!");
@@ -143,36 +157,64 @@ fn read<R: AllocGlobal + Abort>(rt: &R, wants: &mut Wants) {
     if let Some(boxed) = wants.value(rt, from_bytes::<Box<u8>>(alloc, &[7])) {
         assert!(rt; *boxed == 7);
     }
-    if let Some(map) = wants.value(rt, from_bytes::<BTreeMap<u8, u8>>(alloc, &[2, 2, 6, 1, 5])) {
+}
+
+/// A map.
+fn read_map<R: AllocGlobal + Abort>(rt: &R, wants: &mut Wants) {
+    let read = from_bytes::<BTreeMap<u8, u8>>(rt.alloc(), &[2, 2, 6, 1, 5]);
+    if let Some(map) = wants.value(rt, read) {
         assert!(rt; map.len() == 2 && map.get(&1) == Some(&5) && map.get(&2) == Some(&6));
-    }
-    if let Some(chain) = wants.value(rt, from_bytes::<Chain>(alloc, &[1, 7, 1, 8, 0])) {
-        let bytes = to_vec::<_, 8>(&chain);
-        assert!(rt; matches!(&bytes, Ok(bytes) if bytes.as_slice() == [1, 7, 1, 8, 0].as_slice()));
     }
 }
 
-/// Frames of values that ask for memory.
-fn read_frames<R: AllocGlobal + Abort>(rt: &R, wants: &mut Wants) {
-    let alloc = rt.alloc();
-    let mut line = [3u8, 1, 7, 0, 9];
-    wants.written(rt, from_bytes_cobs::<Vec<u8>>(alloc, &mut line), &[7]);
-    let mut line = [3u8, 1, 7, 0, 9];
-    if let Some((bytes, rest)) = wants.value(
-        rt,
-        take_from_bytes_cobs::<Vec<u8>>(alloc, &mut line),
-    ) {
-        assert!(rt; bytes.as_slice() == [7].as_slice());
-        assert!(rt; rest.len() == 1);
+/// A value that holds itself.
+fn read_chain<R: AllocGlobal + Abort>(rt: &R, wants: &mut Wants) {
+    let bytes = [1u8, 7, 1, 8, 0];
+    if let Some(chain) = wants.value(rt, from_bytes::<Chain>(rt.alloc(), &bytes)) {
+        let written = to_vec::<_, 8>(&chain);
+        assert!(rt; matches!(&written, Ok(written) if written.as_slice() == bytes.as_slice()));
     }
+}
+
+/// Values that ask for memory.
+fn read<R: AllocGlobal + Abort>(rt: &R, wants: &mut Wants) {
+    read_parts(rt, wants);
+    read_map(rt, wants);
+    read_chain(rt, wants);
+}
+
+/// A frame of a value that asks for memory.
+fn read_frame<R: AllocGlobal + Abort>(rt: &R, wants: &mut Wants) {
     let mut line = [3u8, 1, 7, 0, 9];
-    match read_in_place::<Vec<u8>>(alloc, &mut line) {
+    wants.written(rt, from_bytes_cobs::<Vec<u8>>(rt.alloc(), &mut line), &[7]);
+}
+
+/// As above, with the bytes behind it.
+fn take_frame<R: AllocGlobal + Abort>(rt: &R, wants: &mut Wants) {
+    let mut line = [3u8, 1, 7, 0, 9];
+    let taken = take_from_bytes_cobs::<Vec<u8>>(rt.alloc(), &mut line);
+    if let Some((bytes, rest)) = wants.value(rt, taken) {
+        assert!(rt; bytes.as_slice() == [7].as_slice() && rest.len() == 1);
+    }
+}
+
+/// As above, by `link`.
+fn read_stretch<R: AllocGlobal + Abort>(rt: &R, wants: &mut Wants) {
+    let mut line = [3u8, 1, 7, 0, 9];
+    match read_in_place::<Vec<u8>>(rt.alloc(), &mut line) {
         Some((answer, rest)) => {
             assert!(rt; rest.len() == 1);
             wants.answered(rt, answer.map(Some), &[7]);
         }
         None => assert!(rt; false),
     }
+}
+
+/// Frames of values that ask for memory.
+fn read_frames<R: AllocGlobal + Abort>(rt: &R, wants: &mut Wants) {
+    read_frame(rt, wants);
+    take_frame(rt, wants);
+    read_stretch(rt, wants);
 }
 
 /// An accumulator answers a frame by `DeserError` where no memory is found, and goes on behind it.
@@ -240,8 +282,7 @@ impl Wants {
     fn gathered(&mut self, rt: &impl Abort, values: &[Vec<u8>], end: End) {
         let mut last = 0u8;
         for value in values {
-            assert!(rt; value.len() == 1);
-            assert!(rt; last < value[0] && value[0] <= 6);
+            assert!(rt; value.len() == 1 && last < value[0] && value[0] <= 6);
             last = value[0];
         }
         match end {
@@ -311,66 +352,109 @@ fn whole_answers(rt: HostRuntime) {
     assert!(rt; wants.count == 0);
 }
 
-/// No growth is asked for: with each one refused in turn this test meets none.
+// With each growth refused in turn the tests below meet none.
+
 #[test]
-fn none_asked_by_cobs_and_sending(rt: HostRuntime) -> Result<(), Fail> {
+fn none_asked_by_cobs(rt: HostRuntime) {
     let mut room = [0u8; 8];
-    assert!(rt; cobs::encode(&MESSAGE, &mut room) == 5);
-    assert!(rt; cobs::try_encode(&MESSAGE, &mut room) == Ok(5));
+    assert!(rt;
+        cobs::encode(&MESSAGE, &mut room) == 5 && cobs::try_encode(&MESSAGE, &mut room) == Ok(5)
+    );
     let mut back = [0u8; 4];
-    assert!(rt; cobs::decode(&room[..5], &mut back).is_ok() && back == MESSAGE);
-    assert!(rt; cobs::decode_in_place(&mut room[..5]) == Ok(4));
+    assert!(rt;
+        cobs::decode(&room[..5], &mut back).is_ok()
+            && back == MESSAGE
+            && cobs::decode_in_place(&mut room[..5]) == Ok(4)
+    );
+}
+
+#[test]
+fn none_asked_by_sending(rt: HostRuntime) {
     let mut room = [0u8; 16];
     let mut sender = Sender::<_, 8>::new(Out::new(&mut room, 1, None));
-    assert!(rt; sender.send(&300u32) == Ok(()));
-    assert!(rt; sender.into_inner().moved() == 5);
+    assert!(rt; sender.send(&300u32) == Ok(()) && sender.into_inner().moved() == 5);
     let mut fates = [Fate::Refused; 1];
     let out = send_each::<u32, _, 8>(Out::new(&mut room, 1, None), &[300], &mut fates);
     assert!(rt; out.moved() == 5 && fates == [Fate::Done]);
-    drop(out);
-    assert!(rt; to_slice(&"Hi!", &mut room)?.len() == 4);
-    assert!(rt; to_slice_cobs(&"Hi!", &mut room)?.len() == 6);
-    assert!(rt; to_vec::<_, 4>(&"Hi!")?.len() == 4 && to_vec_cobs::<_, 6>(&"Hi!")?.len() == 6);
-    to_io(&"Hi!", &mut room[..])?;
-    assert!(rt; serialized_size(&"Hi!") == Ok(4));
-    Ok(())
 }
 
-/// As above, for values that can't ask for memory.
 #[test]
-fn none_asked_by_receiving(rt: HostRuntime) -> Result<(), Fail> {
-    let alloc = rt.alloc();
+fn none_asked_by_writing(rt: HostRuntime) {
+    let mut room = [0u8; 16];
+    assert!(rt;
+        matches!(&to_slice(&"Hi!", &mut room), Ok(it) if it.len() == 4)
+            && matches!(&to_slice_cobs(&"Hi!", &mut room), Ok(it) if it.len() == 6)
+            && to_io(&"Hi!", &mut room[..]).is_ok()
+            && serialized_size(&"Hi!") == Ok(4)
+    );
+}
+
+#[test]
+fn none_asked_by_arrays(rt: HostRuntime) {
+    assert!(rt;
+        matches!(&to_vec::<_, 4>(&"Hi!"), Ok(it) if it.len() == 4)
+            && matches!(&to_vec_cobs::<_, 6>(&"Hi!"), Ok(it) if it.len() == 6)
+    );
+}
+
+#[test]
+fn none_asked_by_reading(rt: HostRuntime) {
     let bytes = [3u8, 0x48, 0x69, 0x21];
-    assert!(rt; from_bytes::<&str>(alloc, &bytes)? == "Hi!");
-    assert!(rt; from_bytes_owned::<[u8; 4]>(alloc, &bytes)? == bytes);
-    assert!(rt; take_from_bytes::<u8>(alloc, &bytes)?.0 == 3);
+    assert!(rt;
+        from_bytes::<&str>(rt.alloc(), &bytes) == Ok("Hi!")
+            && from_bytes_owned::<[u8; 4]>(rt.alloc(), &bytes) == Ok(bytes)
+            && matches!(&take_from_bytes::<u8>(rt.alloc(), &bytes), Ok((3, _)))
+    );
     let mut buffer = [0u8; 3];
-    assert!(rt; from_io::<&str, _>(alloc, (bytes.as_slice(), &mut buffer))?.0 == "Hi!");
-    let mut line = [2u8, 5, 0, 2, 6, 0];
+    let read = from_io::<&str, _>(rt.alloc(), (bytes.as_slice(), &mut buffer));
+    assert!(rt; matches!(&read, Ok((text, _)) if *text == "Hi!"));
+}
+
+// The frame of 5, twice.
+const FIVES: [u8; 6] = [2, 5, 0, 2, 5, 0];
+
+#[test]
+fn none_asked_by_receiving(rt: HostRuntime) {
+    let five = Ok(Some(Answer::Value(5)));
     let mut receiver = Receiver::<8>::new();
-    assert!(rt; receiver.push::<u32>(alloc, &line).answer == Ok(Some(Answer::Value(5))));
-    assert!(rt; receiver.push_strict::<u32>(alloc, &line).answer == Ok(Some(Answer::Value(5))));
-    assert!(rt; receiver.push_ref::<u32>(alloc, &line).answer == Ok(Some(Answer::Value(5))));
+    assert!(rt;
+        receiver.push::<u32>(rt.alloc(), &FIVES).answer == five
+            && receiver.push_strict::<u32>(rt.alloc(), &FIVES).answer == five
+            && receiver.push_ref::<u32>(rt.alloc(), &FIVES).answer == five
+    );
+}
+
+// Whether an accumulator answered 5.
+fn is_five(answer: FeedResult<'_, u32>) -> bool {
+    match answer {
+        FeedResult::Success { value, .. } => value == 5,
+        _ => false,
+    }
+}
+
+#[test]
+fn none_asked_by_accumulators(rt: HostRuntime) {
     let mut accumulator: CobsAccumulator<8> = CobsAccumulator::new();
     assert!(rt;
-        matches!(
-            &accumulator.feed::<u32>(alloc, &line),
-            FeedResult::Success { value: 5, .. }
-        )
+        is_five(accumulator.feed::<u32>(rt.alloc(), &FIVES))
+            && is_five(accumulator.feed_ref::<u32>(rt.alloc(), &FIVES))
     );
+}
+
+#[test]
+fn none_asked_by_frames(rt: HostRuntime) {
+    let mut line = FIVES;
     assert!(rt;
         matches!(
-            &accumulator.feed_ref::<u32>(alloc, &line),
-            FeedResult::Success { value: 5, .. }
+            &take_from_bytes_cobs::<u32>(rt.alloc(), &mut line),
+            Ok((5, _))
         )
     );
-    let mut copy = line;
-    assert!(rt; take_from_bytes_cobs::<u32>(alloc, &mut copy)?.0 == 5);
-    let mut copy = line;
-    assert!(rt; from_bytes_cobs::<u32>(alloc, &mut copy) == Ok(5));
-    match read_in_place::<u32>(alloc, &mut line) {
+    let mut line = FIVES;
+    assert!(rt; from_bytes_cobs::<u32>(rt.alloc(), &mut line) == Ok(5));
+    let mut line = FIVES;
+    match read_in_place::<u32>(rt.alloc(), &mut line) {
         Some((answer, rest)) => assert!(rt; answer == Ok(Answer::Value(5)) && rest.len() == 3),
         None => assert!(rt; false),
     }
-    Ok(())
 }

@@ -1,11 +1,10 @@
 //! `station`: each message type is written as these bytes, and read back.
 use postcard::experimental::max_size::MaxSize;
-use postcard::{from_bytes, from_bytes_owned, to_slice};
+use postcard::{Deserialize, Serialize, from_bytes, from_bytes_owned, to_slice};
 use station::messages::{
     Address, Command, Config, Event, Level, LogRecord, Packet, Ping, Report, SensorReading,
 };
-use std::collections::BTreeMap;
-use std::test::Fail;
+use std::alloc::Global;
 
 fn reading() -> SensorReading {
     SensorReading {
@@ -16,96 +15,143 @@ fn reading() -> SensorReading {
     }
 }
 
-#[test]
-fn readings_and_records(rt: HostRuntime) -> Result<(), Fail> {
-    let alloc = rt.alloc();
+// Whether a value is written as these bytes.
+fn writes<T: Serialize>(value: &T, bytes: &[u8]) -> bool {
     let mut room = [0u8; 64];
-    assert!(rt; &*to_slice(&reading(), &mut room)? == [0xAC, 2, 1, 1, 1].as_slice());
-    assert!(rt; from_bytes::<SensorReading>(alloc, &[0xAC, 2, 1, 1, 1])? == reading());
-    assert!(rt; from_bytes::<SensorReading>(alloc, &[0xAC, 2, 1, 1, 2]).is_err());
-    let record = LogRecord {
-        level: Level::Warning,
-        at: 5,
-        text: String::from_str(alloc, "A")?,
-        source: Some(7),
-    };
-    assert!(rt; &*to_slice(&record, &mut room)? == [1, 5, 1, 65, 1, 7].as_slice());
-    assert!(rt; from_bytes::<LogRecord>(alloc, &[1, 5, 1, 65, 1, 7])? == record);
-    assert!(rt; &*to_slice(&Address(300), &mut room)? == [0xAC, 2].as_slice());
-    assert!(rt; from_bytes_owned::<Address>(alloc, &[0xAC, 2])? == Address(300));
-    assert!(rt; to_slice(&Ping, &mut room)?.is_empty());
-    assert!(rt; from_bytes::<Ping>(alloc, &[])? == Ping);
-    Ok(())
+    match to_slice(value, &mut room) {
+        Ok(written) => *written == *bytes,
+        Err(_) => false,
+    }
+}
+
+// The value of these bytes, if it is written as they are.
+fn reread<'a, T: Serialize + Deserialize<&'a [u8]>>(alloc: Global, bytes: &'a [u8]) -> Option<T> {
+    match from_bytes::<T>(alloc, bytes) {
+        Ok(value) if writes(&value, bytes) => Some(value),
+        _ => None,
+    }
 }
 
 #[test]
-fn packets_and_reports(rt: HostRuntime) -> Result<(), Fail> {
-    let alloc = rt.alloc();
-    let mut room = [0u8; 64];
-    let packet = Packet {
-        to: Address(7),
-        text: "Hi",
-        body: &[9],
-    };
-    assert!(rt; &*to_slice(&packet, &mut room)? == [7, 2, 72, 105, 1, 9].as_slice());
-    let packet = from_bytes::<Packet>(alloc, &[7, 2, 72, 105, 1, 9])?;
-    assert!(rt; packet.to == Address(7) && packet.text == "Hi" && packet.body == [9].as_slice());
-    let bytes = [1, 2, 3, 4, 5, 6, 7, 8, 1, 1, 122, 1, 9, 10, 11];
-    let report = from_bytes::<Report>(alloc, &bytes)?;
-    assert!(rt; report.e == 5 && report.f == 3 && report.h == 4 && report.j == 'z');
-    assert!(rt; report.k == Some(9) && report.l == (10, 11));
-    assert!(rt; &*to_slice(&report, &mut room)? == bytes.as_slice());
-    Ok(())
+fn readings(rt: HostRuntime) {
+    assert!(rt;
+        reread(rt.alloc(), &[0xAC, 2, 1, 1, 1]) == Some(reading())
+            && from_bytes::<SensorReading>(rt.alloc(), &[0xAC, 2, 1, 1, 2]).is_err()
+    );
 }
 
 #[test]
-fn enums(rt: HostRuntime) -> Result<(), Fail> {
-    let alloc = rt.alloc();
-    let mut room = [0u8; 64];
-    assert!(rt; &*to_slice(&Level::Info, &mut room)? == [2].as_slice());
-    assert!(rt; from_bytes::<Level>(alloc, &[2])? == Level::Info);
-    assert!(rt; from_bytes::<Level>(alloc, &[3]).is_err());
-    assert!(rt; &*to_slice(&Event::Moved { x: -1, y: 1 }, &mut room)? == [3, 1, 2].as_slice());
-    assert!(rt; from_bytes::<Event>(alloc, &[3, 1, 2])? == Event::Moved { x: -1, y: 1 });
-    assert!(rt; &*to_slice(&Event::Paired((1, 300)), &mut room)? == [10, 1, 0xAC, 2].as_slice());
-    assert!(rt; from_bytes::<Event>(alloc, &[9])? == Event::Cleared);
-    assert!(rt; from_bytes::<Event>(alloc, &[11, 1])? == Event::Reset(true));
-    assert!(rt; from_bytes::<Event>(alloc, &[12]).is_err());
-    let say = Command::Say(String::from_str(alloc, "Hi")?);
-    assert!(rt; &*to_slice(&say, &mut room)? == [4, 2, 72, 105].as_slice());
-    assert!(rt; from_bytes::<Command>(alloc, &[4, 2, 72, 105])? == say);
-    assert!(rt; from_bytes::<Command>(alloc, &[2, 1, 2])? == Command::Move { x: -1, y: 1 });
-    Ok(())
+fn records(rt: HostRuntime) {
+    match reread::<LogRecord>(rt.alloc(), &[1, 5, 1, 65, 1, 7]) {
+        Some(record) => {
+            assert!(rt;
+                record.level == Level::Warning
+                    && record.at == 5
+                    && record.text.as_str() == "A"
+                    && record.source == Some(7)
+            );
+        }
+        None => assert!(rt; false),
+    }
 }
 
 #[test]
-fn configurations(rt: HostRuntime) -> Result<(), Fail> {
+fn addresses(rt: HostRuntime) {
+    assert!(rt;
+        writes(&Address(300), &[0xAC, 2])
+            && from_bytes_owned::<Address>(rt.alloc(), &[0xAC, 2]) == Ok(Address(300))
+            && reread(rt.alloc(), &[]) == Some(Ping)
+    );
+}
+
+#[test]
+fn packets(rt: HostRuntime) {
+    match reread::<Packet>(rt.alloc(), &[7, 2, 72, 105, 1, 9]) {
+        Some(packet) => {
+            assert!(rt;
+                packet.to == Address(7) && packet.text == "Hi" && packet.body == [9].as_slice()
+            );
+        }
+        None => assert!(rt; false),
+    }
+}
+
+#[test]
+fn reports(rt: HostRuntime) {
+    match reread::<Report>(
+        rt.alloc(),
+        &[1, 2, 3, 4, 5, 6, 7, 8, 1, 1, 122, 1, 9, 10, 11],
+    ) {
+        Some(it) => {
+            assert!(rt;
+                it.e == 5
+                    && it.f == 3
+                    && it.h == 4
+                    && it.j == 'z'
+                    && it.k == Some(9)
+                    && it.l == (10, 11)
+            );
+        }
+        None => assert!(rt; false),
+    }
+}
+
+#[test]
+fn levels(rt: HostRuntime) {
+    assert!(rt;
+        reread(rt.alloc(), &[2]) == Some(Level::Info)
+            && from_bytes::<Level>(rt.alloc(), &[3]).is_err()
+    );
+}
+
+#[test]
+fn events(rt: HostRuntime) {
     let alloc = rt.alloc();
-    let mut room = [0u8; 64];
+    assert!(rt;
+        reread(alloc, &[3, 1, 2]) == Some(Event::Moved { x: -1, y: 1 })
+            && reread(alloc, &[10, 1, 0xAC, 2]) == Some(Event::Paired((1, 300)))
+            && reread(alloc, &[9]) == Some(Event::Cleared)
+            && reread(alloc, &[11, 1]) == Some(Event::Reset(true))
+            && from_bytes::<Event>(alloc, &[12]).is_err()
+    );
+}
+
+#[test]
+fn commands(rt: HostRuntime) {
+    let said = reread::<Command>(rt.alloc(), &[4, 2, 72, 105]);
+    assert!(rt;
+        matches!(&said, Some(Command::Say(text)) if text.as_str() == "Hi")
+            && reread(rt.alloc(), &[2, 1, 2]) == Some(Command::Move { x: -1, y: 1 })
+    );
+}
+
+#[test]
+fn configurations(rt: HostRuntime) {
     let bytes = [1, 65, 1, 0xAC, 2, 1, 1, 1, 1, 2, 1, 2, 3, 4, 1, 9, 1, 66];
-    let mut labels = BTreeMap::new(alloc);
-    labels.insert(9, String::from_str(alloc, "B")?)?;
-    let config = Config {
-        name: String::from_str(alloc, "A")?,
-        readings: vec![in alloc; reading()]?,
-        fallback: Some(Level::Info),
-        gains: [1, 2, 3, 4],
-        labels,
-    };
-    assert!(rt; &*to_slice(&config, &mut room)? == bytes.as_slice());
-    let config = from_bytes::<Config>(alloc, &bytes)?;
-    assert!(rt; config.name.as_str() == "A" && config.readings.len() == 1);
-    assert!(rt; config.fallback == Some(Level::Info) && config.gains == [1, 2, 3, 4]);
-    assert!(rt; config.labels.len() == 1);
-    Ok(())
+    match reread::<Config>(rt.alloc(), &bytes) {
+        Some(it) => {
+            assert!(rt;
+                it.name.as_str() == "A"
+                    && it.readings[..] == [reading()]
+                    && it.fallback == Some(Level::Info)
+                    && it.gains == [1, 2, 3, 4]
+                    && it.labels.len() == 1
+                    && matches!(it.labels.get(&9), Some(label) if label.as_str() == "B")
+            );
+        }
+        None => assert!(rt; false),
+    }
 }
 
 #[test]
 fn greatest_sizes(rt: HostRuntime) {
-    assert!(rt; SensorReading::postcard_max_size() == Some(17));
-    assert!(rt; Level::postcard_max_size() == Some(1));
-    assert!(rt; Address::postcard_max_size() == Some(5));
-    assert!(rt; Ping::postcard_max_size() == Some(0));
-    assert!(rt; Event::postcard_max_size() == Some(18));
-    assert!(rt; Report::postcard_max_size() == Some(50));
+    let sizes = [
+        SensorReading::postcard_max_size(),
+        Level::postcard_max_size(),
+        Address::postcard_max_size(),
+        Ping::postcard_max_size(),
+        Event::postcard_max_size(),
+        Report::postcard_max_size(),
+    ];
+    assert!(rt; sizes == [Some(17), Some(1), Some(5), Some(0), Some(18), Some(50)]);
 }
