@@ -1,6 +1,6 @@
-//! `cobs`, encoding: greatest lengths, refusals, and the text of its error.
+//! `cobs`, encoding: greatest lengths, pieces and refusals.
 use cobs::*;
-use std::test::Fail;
+use std::process::Abort;
 
 // 10, 11, 0, 12
 const MESSAGE: [u8; 4] = [10, 11, 0, 12];
@@ -23,8 +23,10 @@ fn greatest_lengths(rt: HostRuntime) {
 #[test]
 fn no_room_between_zeros(rt: HostRuntime) {
     let mut small = [9u8; 6];
-    assert!(rt; try_encode_including_sentinels(&MESSAGE, &mut small) == Err(DestBufTooSmallError));
-    assert!(rt; small == [9; 6]);
+    assert!(rt;
+        try_encode_including_sentinels(&MESSAGE, &mut small) == Err(DestBufTooSmallError)
+            && small == [9; 6]
+    );
 }
 
 #[test]
@@ -32,41 +34,46 @@ fn a_byte_more_than_a_full_block(rt: HostRuntime) {
     let ones = [1u8; 254];
     let mut dest = [0u8; 255];
     let mut encoder = CobsEncoder::new(&mut dest);
-    assert!(rt; encoder.push(&ones) == Ok(()));
-    assert!(rt; encoder.push(&[]) == Ok(()));
-    assert!(rt; encoder.push(&[1]) == Err(DestBufTooSmallError));
-    assert!(rt; encoder.push(&[]) == Err(DestBufTooSmallError));
-    assert!(rt; encoder.frame_length() == 0);
-    assert!(rt; encoder.finalize() == 0);
+    assert!(rt;
+        encoder.push(&ones) == Ok(())
+            && encoder.push(&[]) == Ok(())
+            && encoder.push(&[1]) == Err(DestBufTooSmallError)
+            && encoder.push(&[]) == Err(DestBufTooSmallError)
+            && encoder.frame_length() == 0
+            && encoder.finalize() == 0
+    );
 }
 
-#[test]
-fn error_text(rt: HostRuntime) -> Result<(), Fail> {
-    let text = format!(in rt.alloc(); "{}", DestBufTooSmallError)?;
-    assert!(rt; text.as_str() == "destination buffer too small");
-    Ok(())
+// Pushes 300 ones in pieces, the last of them as it is answered.
+fn push_pieces(rt: &impl Abort, encoder: &mut CobsEncoder<'_>) -> Result<(), DestBufTooSmallError> {
+    let ones = [1u8; 154];
+    assert!(rt;
+        encoder.push(&ones[..100]) == Ok(())
+            && encoder.push(&ones) == Ok(())
+            && encoder.push(&[]) == Ok(())
+    );
+    encoder.push(&ones[..46])
 }
 
 #[test]
 fn pieces_across_blocks(rt: HostRuntime) {
-    let ones = [1u8; 154];
     let mut dest = [0u8; 302];
     let mut encoder = CobsEncoder::new(&mut dest);
-    assert!(rt; encoder.push(&ones[..100]) == Ok(()));
-    assert!(rt; encoder.push(&ones) == Ok(()));
-    assert!(rt; encoder.push(&[]) == Ok(()));
-    assert!(rt; encoder.push(&ones[..46]) == Ok(()));
-    assert!(rt; encoder.finalize() == 302);
-    assert!(rt; dest[0] == 0xFF);
-    assert!(rt; dest[255] == 0x2F);
-    for i in 0..302 {
-        assert!(rt; i == 0 || i == 255 || dest[i] == 1, "at {i}");
-    }
+    assert!(rt;
+        push_pieces(&rt, &mut encoder) == Ok(())
+            && encoder.finalize() == 302
+            && dest[0] == 0xFF
+            && dest[255] == 0x2F
+            && dest[1..255] == [1; 254]
+            && dest[256..] == [1; 46]
+    );
+}
+
+#[test]
+fn pieces_without_room(rt: HostRuntime) {
     let mut dest = [0u8; 301];
     let mut encoder = CobsEncoder::new(&mut dest);
-    assert!(rt; encoder.push(&ones[..100]) == Ok(()));
-    assert!(rt; encoder.push(&ones) == Ok(()));
-    assert!(rt; encoder.push(&[]) == Ok(()));
-    assert!(rt; encoder.push(&ones[..46]) == Err(DestBufTooSmallError));
-    assert!(rt; encoder.finalize() == 0);
+    assert!(rt;
+        push_pieces(&rt, &mut encoder) == Err(DestBufTooSmallError) && encoder.finalize() == 0
+    );
 }

@@ -29,4 +29,6 @@ mod ser_span;
 #[cfg(test)]
 mod ser_texts;
 #[cfg(test)]
+mod texts;
+#[cfg(test)]
 mod tree;

@@ -1,68 +1,81 @@
 //! `postcard`, frames: a long value, exact room, and an accumulator that is fed by itself.
 use postcard::accumulator::{CobsAccumulator, FeedResult};
 use postcard::{from_bytes_cobs, to_allocvec_cobs, to_slice_cobs, to_stdvec_cobs, to_vec_cobs};
-use std::test::Fail;
+use std::alloc::Global;
+
+// A number, many of them, and the greatest.
+type Long = (u32, [u32; 32], u64);
+
+const LONG: Long = (0xABCDEF00, [0x01234567; 32], u64::MAX);
 
 #[test]
-fn long_value(rt: HostRuntime) -> Result<(), Fail> {
-    let value = (0xABCDEF00u32, [0x01234567u32; 32], u64::MAX);
-    assert!(rt; to_allocvec_cobs(rt.alloc(), &value)?.len() == 145);
-    let mut written = to_stdvec_cobs(rt.alloc(), &value)?;
-    let read = from_bytes_cobs::<(u32, [u32; 32], u64)>(rt.alloc(), &mut written)?;
-    assert!(rt; read == value);
-    Ok(())
+fn long_value(rt: HostRuntime) {
+    assert!(rt; matches!(&to_allocvec_cobs(rt.alloc(), &LONG), Ok(frame) if frame.len() == 145));
 }
 
 #[test]
-fn exact_room(rt: HostRuntime) -> Result<(), Fail> {
-    let frame = to_vec_cobs::<_, 12>(&[0xCCu8; 10])?;
-    assert!(rt; frame.len() == 12);
+fn long_value_and_back(rt: HostRuntime) {
+    match to_stdvec_cobs(rt.alloc(), &LONG) {
+        Ok(mut written) => {
+            assert!(rt; from_bytes_cobs::<Long>(rt.alloc(), &mut written) == Ok(LONG));
+        }
+        Err(_) => assert!(rt; false),
+    }
+}
+
+#[test]
+fn exact_room(rt: HostRuntime) {
+    assert!(rt; matches!(&to_vec_cobs::<_, 12>(&[0xCCu8; 10]), Ok(frame) if frame.len() == 12));
     assert!(rt; to_vec_cobs::<_, 11>(&[0xCCu8; 10]).is_err());
-    Ok(())
+}
+
+// What an accumulator answered, in short: C, O, D or S, how many bytes are left, and the value.
+fn told(answer: FeedResult<'_, u8>) -> (char, usize, u8) {
+    match answer {
+        FeedResult::Consumed => ('C', 0, 0),
+        FeedResult::OverFull(rest) => ('O', rest.len(), 0),
+        FeedResult::DeserError(rest) => ('D', rest.len(), 0),
+        FeedResult::Success { value, remaining } => ('S', remaining.len(), value),
+    }
 }
 
 #[test]
-fn pieces(rt: HostRuntime) -> Result<(), Fail> {
+fn pieces(rt: HostRuntime) {
     let mut accumulator: CobsAccumulator<4> = CobsAccumulator::default();
     assert!(rt;
-        matches!(
-            &accumulator.feed::<u8>(rt.alloc(), &[2]),
-            FeedResult::Consumed
-        )
+        told(accumulator.feed(rt.alloc(), &[2])) == ('C', 0, 0)
+            && told(accumulator.feed(rt.alloc(), &[])) == ('C', 0, 0)
+            && told(accumulator.feed(rt.alloc(), &[7, 0, 1])) == ('S', 1, 7)
+            && told(accumulator.feed_ref(rt.alloc(), &[3, 1, 0, 9])) == ('D', 1, 0)
     );
-    assert!(rt;
-        matches!(
-            &accumulator.feed::<u8>(rt.alloc(), &[]),
-            FeedResult::Consumed
-        )
-    );
-    assert!(rt;
-        matches!(
-            &accumulator.feed::<u8>(rt.alloc(), &[7, 0, 1]),
-            FeedResult::Success {
-                value: 7,
-                remaining: [1]
-            }
-        )
-    );
+}
+
+#[test]
+fn lent_bytes(rt: HostRuntime) {
+    let mut accumulator: CobsAccumulator<4> = CobsAccumulator::new();
     match accumulator.feed_ref::<&[u8]>(rt.alloc(), &[3, 1, 8, 0]) {
         FeedResult::Success { value, remaining } => {
             assert!(rt; value == [8].as_slice() && remaining.is_empty());
         }
         _ => assert!(rt; false),
     }
-    assert!(rt;
-        matches!(
-            &accumulator.feed_ref::<u8>(rt.alloc(), &[3, 1, 0, 9]),
-            FeedResult::DeserError([9])
-        )
-    );
-    Ok(())
 }
 
-// The frame of 300 times 01, whole and cut after each byte.
+// Whether the frame of 300 times 01, in two pieces, is answered behind the second.
+fn is_gathered(alloc: Global, front: &[u8], rest: &[u8]) -> bool {
+    let mut accumulator: CobsAccumulator<305> = CobsAccumulator::new();
+    match accumulator.feed::<Vec<u8>>(alloc, front) {
+        FeedResult::Consumed => {}
+        _ => return false,
+    }
+    match accumulator.feed::<Vec<u8>>(alloc, rest) {
+        FeedResult::Success { value, remaining } => value[..] == [1; 300] && remaining.is_empty(),
+        _ => false,
+    }
+}
+
 #[test]
-fn a_frame_whole_and_in_two(rt: HostRuntime) -> Result<(), Fail> {
+fn a_frame_whole_and_in_two(rt: HostRuntime) {
     let mut frame = [1u8; 305];
     frame[0] = 0xFF;
     frame[1] = 0xAC;
@@ -70,56 +83,28 @@ fn a_frame_whole_and_in_two(rt: HostRuntime) -> Result<(), Fail> {
     frame[255] = 49;
     frame[304] = 0;
     for cut in 0..305 {
-        let (front, rest) = frame.split_at(cut);
-        let mut accumulator: CobsAccumulator<305> = CobsAccumulator::new();
-        assert!(rt;
-            matches!(
-                &accumulator.feed::<Vec<u8>>(rt.alloc(), front),
-                FeedResult::Consumed
-            )
-        );
-        match accumulator.feed::<Vec<u8>>(rt.alloc(), rest) {
-            FeedResult::Success { value, remaining } => {
-                assert!(rt; value.as_slice() == [1u8; 300].as_slice());
-                assert!(rt; remaining.is_empty());
-            }
-            _ => assert!(rt; false),
-        }
+        assert!(rt; is_gathered(rt.alloc(), &frame[..cut], &frame[cut..]));
     }
-    Ok(())
 }
 
 // Whole frames that are refused: one of a block that is cut, one of no bytes, one that doesn't fit.
 #[test]
-fn whole_frames_that_are_refused(rt: HostRuntime) -> Result<(), Fail> {
+fn whole_frames_that_are_refused(rt: HostRuntime) {
     let mut accumulator: CobsAccumulator<10> = CobsAccumulator::new();
-    assert!(rt;
-        matches!(
-            &accumulator.feed::<u8>(rt.alloc(), &[11, 1, 1, 1, 1, 1, 1, 1, 1, 0, 5]),
-            FeedResult::DeserError([5])
-        )
-    );
-    assert!(rt;
-        matches!(
-            &accumulator.feed::<u8>(rt.alloc(), &[0, 2, 7, 0, 1, 1, 1, 1, 1]),
-            FeedResult::DeserError([2, 7, 0, 1, 1, 1, 1, 1])
-        )
-    );
-    assert!(rt;
-        matches!(
-            &accumulator.feed::<u8>(rt.alloc(), &[11, 1, 1, 1, 1, 1, 1, 1, 1, 1, 1, 0, 5]),
-            FeedResult::OverFull([5])
-        )
-    );
-    Ok(())
+    let cut = [11, 1, 1, 1, 1, 1, 1, 1, 1, 0, 5];
+    assert!(rt; told(accumulator.feed(rt.alloc(), &cut)) == ('D', 1, 0));
+    let none = [0, 2, 7, 0, 1, 1, 1, 1, 1];
+    assert!(rt; told(accumulator.feed(rt.alloc(), &none)) == ('D', 8, 0));
+    let long = [11, 1, 1, 1, 1, 1, 1, 1, 1, 1, 1, 0, 5];
+    assert!(rt; told(accumulator.feed(rt.alloc(), &long)) == ('O', 1, 0));
 }
 
 // What is answered is the front of the caller's own slice.
 #[test]
-fn the_front_of_the_room(rt: HostRuntime) -> Result<(), Fail> {
+fn the_front_of_the_room(rt: HostRuntime) {
     let mut room = [0xEEu8; 8];
-    let count = to_slice_cobs(&"Hi!", &mut room)?.len();
-    assert!(rt; count == 6);
-    assert!(rt; &room[..count] == [5, 3, 0x48, 0x69, 0x21, 0].as_slice());
-    Ok(())
+    assert!(rt;
+        matches!(&to_slice_cobs(&"Hi!", &mut room), Ok(front) if front.len() == 6)
+            && room[..6] == [5, 3, 0x48, 0x69, 0x21, 0]
+    );
 }

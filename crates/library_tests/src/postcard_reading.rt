@@ -2,66 +2,81 @@
 use postcard::fixint::{BE, LE, be, le};
 use postcard::laws::round_trip;
 use postcard::{Deserializer, Error, from_bytes, from_bytes_owned, from_io};
-use std::test::Fail;
 
 #[test]
-fn variants(rt: HostRuntime) -> Result<(), Fail> {
-    let read = from_bytes::<Result<i16, bool>>(rt.alloc(), &[0, 3])?;
-    assert!(rt; read.unwrap_or(0) == -2);
-    Ok(())
+fn variants(rt: HostRuntime) {
+    assert!(rt; from_bytes::<Result<i16, bool>>(rt.alloc(), &[0, 3]) == Ok(Ok(-2)));
 }
 
 #[test]
-fn owned(rt: HostRuntime) -> Result<(), Fail> {
-    let pair = from_bytes_owned::<(String, u8)>(rt.alloc(), &[2, 0x61, 0x62, 9])?;
-    assert!(rt; pair.0.as_str() == "ab" && pair.1 == 9);
-    Ok(())
+fn owned(rt: HostRuntime) {
+    match from_bytes_owned::<(String, u8)>(rt.alloc(), &[2, 0x61, 0x62, 9]) {
+        Ok((text, number)) => assert!(rt; text.as_str() == "ab" && number == 9),
+        Err(_) => assert!(rt; false),
+    }
+}
+
+// 0xABCD from its last byte on, and -2 from its first.
+const FIXED: [u8; 4] = [0xCD, 0xAB, 0xFF, 0xFE];
+
+#[test]
+fn fixed(rt: HostRuntime) {
+    match from_bytes::<(LE<u16>, BE<i16>)>(rt.alloc(), &FIXED) {
+        Ok((little, big)) => assert!(rt; little.0 == 0xABCD && big.0 == -2),
+        Err(_) => assert!(rt; false),
+    }
 }
 
 #[test]
-fn fixed(rt: HostRuntime) -> Result<(), Fail> {
-    let (little, big) = from_bytes::<(LE<u16>, BE<i16>)>(rt.alloc(), &[0xCD, 0xAB, 0xFF, 0xFE])?;
-    assert!(rt; little.0 == 0xABCD && big.0 == -2);
-    let mut d = Deserializer::from_bytes(rt.alloc(), &[0xCD, 0xAB, 0xFF, 0xFE]);
-    assert!(rt; le::deserialize::<u16, _>(&mut d)? == 0xABCD);
-    assert!(rt; be::deserialize::<i16, _>(&mut d)? == -2);
-    Ok(())
+fn fixed_by_function(rt: HostRuntime) {
+    let mut d = Deserializer::from_bytes(rt.alloc(), &FIXED);
+    assert!(rt; le::deserialize::<u16, _>(&mut d) == Ok(0xABCD));
+    assert!(rt; be::deserialize::<i16, _>(&mut d) == Ok(-2));
 }
 
+// Two texts, "ab" and "cd".
+const TEXTS: [u8; 6] = [2, 0x61, 0x62, 2, 0x63, 0x64];
+
 #[test]
-fn by_reader(rt: HostRuntime) -> Result<(), Fail> {
-    let bytes: [u8; 6] = [2, 0x61, 0x62, 2, 0x63, 0x64];
+fn by_reader(rt: HostRuntime) {
     let mut buffer = [0u8; 4];
-    let ((a, b), (_, rest)) = from_io::<(&str, &str), _>(rt.alloc(), (&bytes[..], &mut buffer))?;
-    assert!(rt; a == "ab" && b == "cd" && rest.is_empty());
-    let mut small = [0u8; 3];
-    assert!(rt;
-        matches!(
-            &from_io::<(&str, &str), _>(rt.alloc(), (&bytes[..], &mut small)),
-            Err(Error::DeserializeUnexpectedEnd)
-        )
-    );
-    let mut two = [0u8; 2];
-    let ((c, d), (left, rest)) = from_io::<(String, String), _>(
-        rt.alloc(),
-        (&bytes[..], &mut two),
-    )?;
-    assert!(rt; c.as_str() == "ab" && d.as_str() == "cd" && left.is_empty());
-    assert!(rt; rest.len() == 2);
-    Ok(())
+    match from_io::<(&str, &str), _>(rt.alloc(), (&TEXTS[..], &mut buffer)) {
+        Ok(((a, b), (_, rest))) => assert!(rt; a == "ab" && b == "cd" && rest.is_empty()),
+        Err(_) => assert!(rt; false),
+    }
 }
 
 #[test]
-fn written_and_read(rt: HostRuntime) -> Result<(), Fail> {
-    let mut room = [0u8; 12];
-    let ((number, text), rest) = round_trip(rt.alloc(), &(42439u16, Some("Hi!")), &[7], &mut room)?;
-    assert!(rt; number == 42439 && text.unwrap_or("") == "Hi!" && rest == [7].as_slice());
+fn by_reader_without_room(rt: HostRuntime) {
     let mut small = [0u8; 3];
-    assert!(rt;
-        matches!(
-            &round_trip(rt.alloc(), &(1u8, 'z'), &[7], &mut small),
-            Err(Error::SerializeBufferFull)
-        )
-    );
-    Ok(())
+    let read = from_io::<(&str, &str), _>(rt.alloc(), (&TEXTS[..], &mut small));
+    assert!(rt; read.err() == Some(Error::DeserializeUnexpectedEnd));
+}
+
+#[test]
+fn owned_by_reader(rt: HostRuntime) {
+    let mut two = [0u8; 2];
+    match from_io::<(String, String), _>(rt.alloc(), (&TEXTS[..], &mut two)) {
+        Ok(((a, b), (left, rest))) => {
+            assert!(rt;
+                a.as_str() == "ab" && b.as_str() == "cd" && left.is_empty() && rest.len() == 2
+            );
+        }
+        Err(_) => assert!(rt; false),
+    }
+}
+
+#[test]
+fn written_and_read(rt: HostRuntime) {
+    let mut room = [0u8; 12];
+    let value = (42439u16, Some("Hi!"));
+    let read = round_trip(rt.alloc(), &value, &[7], &mut room);
+    assert!(rt; read == Ok((value, [7].as_slice())));
+}
+
+#[test]
+fn written_without_room(rt: HostRuntime) {
+    let mut small = [0u8; 3];
+    let read = round_trip(rt.alloc(), &(1u8, 'z'), &[7], &mut small);
+    assert!(rt; read == Err(Error::SerializeBufferFull));
 }

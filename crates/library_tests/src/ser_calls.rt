@@ -1,190 +1,184 @@
 //! `postcard_ser`: what the serializer's calls push.
-use postcard_ser::ser_flavors::{Flavor, HVec, IndexByte, Slice};
+use postcard_ser::ser_flavors::{Flavor, HVec, IndexByte};
 use postcard_ser::{Serialize, Serializer};
 use postcard_tree::Error;
-use std::test::Fail;
+
+// A serializer over an array.
+fn serializer<const N: usize>() -> Serializer<HVec<N>> {
+    Serializer {
+        output: HVec::new(),
+    }
+}
+
+// Whether a serializer's array holds these bytes in the end.
+fn holds<const N: usize>(serializer: Serializer<HVec<N>>, bytes: &[u8]) -> bool {
+    matches!(&serializer.output.finalize(), Ok(held) if held.as_slice() == bytes)
+}
+
+fn push_numbers<F: Flavor>(serializer: &mut Serializer<F>) -> bool {
+    serializer.serialize_bool(true).is_ok()
+        && serializer.serialize_u8(255).is_ok()
+        && serializer.serialize_u16(42439).is_ok()
+        && serializer.serialize_u32(3450549266).is_ok()
+        && serializer.serialize_u64(300).is_ok()
+        && serializer.serialize_u128(300).is_ok()
+}
+
+fn push_signed_numbers<F: Flavor>(serializer: &mut Serializer<F>) -> bool {
+    serializer.serialize_i8(-1).is_ok()
+        && serializer.serialize_i16(-32768).is_ok()
+        && serializer.serialize_i32(-1).is_ok()
+        && serializer.serialize_i64(-2).is_ok()
+        && serializer.serialize_i128(1).is_ok()
+}
 
 #[test]
-fn numbers(rt: HostRuntime) -> Result<(), Fail> {
-    let mut room = [0u8; 64];
-    let mut serializer = Serializer {
-        output: Slice::new(&mut room),
-    };
-    serializer.serialize_bool(true)?;
-    serializer.serialize_u8(255)?;
-    serializer.serialize_i8(-1)?;
-    serializer.serialize_u16(42439)?;
-    serializer.serialize_u32(3450549266)?;
-    serializer.serialize_u64(300)?;
-    serializer.serialize_u128(300)?;
-    serializer.serialize_i16(-32768)?;
-    serializer.serialize_i32(-1)?;
-    serializer.serialize_i64(-2)?;
-    serializer.serialize_i128(1)?;
+fn numbers(rt: HostRuntime) {
+    let mut serializer = serializer::<32>();
+    assert!(rt; push_numbers(&mut serializer) && push_signed_numbers(&mut serializer));
     assert!(rt;
-        &*serializer.output.finalize()?
-            == [
-                1, 255, 0xFF, 0xC7, 0xCB, 0x02, 0x92, 0xE8, 0xAC, 0xED, 0x0C, 0xAC, 0x02, 0xAC,
-                0x02, 0xFF, 0xFF, 0x03, 1, 3, 2
+        holds(
+            serializer,
+            &[
+                1, 255, 0xC7, 0xCB, 0x02, 0x92, 0xE8, 0xAC, 0xED, 0x0C, 0xAC, 0x02, 0xAC, 0x02,
+                0xFF, 0xFF, 0xFF, 0x03, 1, 3, 2
             ]
-            .as_slice()
+        )
     );
-    Ok(())
 }
 
 // The first and the last number of one, two and three groups, the first of four, and the longest of 64 bits.
+fn push_each_length<F: Flavor>(serializer: &mut Serializer<F>) -> bool {
+    serializer.serialize_u16(127).is_ok()
+        && serializer.serialize_u16(128).is_ok()
+        && serializer.serialize_u16(16383).is_ok()
+        && serializer.serialize_u16(16384).is_ok()
+        && serializer.serialize_u32(2097151).is_ok()
+        && serializer.serialize_u32(2097152).is_ok()
+        && serializer.serialize_u64(u64::MAX).is_ok()
+        && serializer.serialize_u128(18446744073709551616).is_ok()
+}
+
 #[test]
-fn numbers_of_each_length(rt: HostRuntime) -> Result<(), Fail> {
-    let mut room = [0u8; 64];
-    let mut serializer = Serializer {
-        output: Slice::new(&mut room),
-    };
-    serializer.serialize_u16(127)?;
-    serializer.serialize_u16(128)?;
-    serializer.serialize_u16(16383)?;
-    serializer.serialize_u16(16384)?;
-    serializer.serialize_u32(2097151)?;
-    serializer.serialize_u32(2097152)?;
-    serializer.serialize_u64(u64::MAX)?;
-    serializer.serialize_u128(18446744073709551616)?;
+fn numbers_of_each_length(rt: HostRuntime) {
+    let mut serializer = serializer::<64>();
+    assert!(rt; push_each_length(&mut serializer));
     assert!(rt;
-        &*serializer.output.finalize()?
-            == [
+        holds(
+            serializer,
+            &[
                 0x7F, 0x80, 0x01, 0xFF, 0x7F, 0x80, 0x80, 0x01, 0xFF, 0xFF, 0x7F, 0x80, 0x80, 0x80,
                 0x01, 0xFF, 0xFF, 0xFF, 0xFF, 0xFF, 0xFF, 0xFF, 0xFF, 0xFF, 0x01, 0x80, 0x80, 0x80,
                 0x80, 0x80, 0x80, 0x80, 0x80, 0x80, 0x02
             ]
-            .as_slice()
+        )
     );
-    Ok(())
 }
 
 // Nothing of a number stays where it doesn't fit.
 #[test]
-fn numbers_are_refused_whole(rt: HostRuntime) -> Result<(), Fail> {
-    let mut serializer = Serializer {
-        output: HVec::<2>::new(),
-    };
+fn numbers_are_refused_whole(rt: HostRuntime) {
+    let mut serializer = serializer::<2>();
     assert!(rt;
-        matches!(
-            &serializer.serialize_u16(16384),
-            Err(Error::SerializeBufferFull)
-        )
+        serializer.serialize_u16(16384) == Err(Error::SerializeBufferFull)
+            && serializer.output.held() == 0
+            && serializer.serialize_u64(u64::MAX) == Err(Error::SerializeBufferFull)
+            && serializer.output.held() == 0
+            && serializer.serialize_u16(16383) == Ok(())
     );
-    assert!(rt; serializer.output.held() == 0);
-    assert!(rt;
-        matches!(
-            &serializer.serialize_u64(u64::MAX),
-            Err(Error::SerializeBufferFull)
-        )
-    );
-    assert!(rt; serializer.output.held() == 0);
-    serializer.serialize_u16(16383)?;
-    assert!(rt; serializer.output.finalize()?.as_slice() == [0xFF, 0x7F].as_slice());
-    Ok(())
+    assert!(rt; holds(serializer, &[0xFF, 0x7F]));
+}
+
+fn push_texts<F: Flavor>(serializer: &mut Serializer<F>) -> bool {
+    serializer.serialize_char('\u{A2}').is_ok()
+        && serializer.serialize_str("Hi!").is_ok()
+        && serializer.serialize_bytes(&[1, 0]).is_ok()
 }
 
 #[test]
-fn texts(rt: HostRuntime) -> Result<(), Fail> {
-    let mut room = [0u8; 16];
-    let mut serializer = Serializer {
-        output: Slice::new(&mut room),
-    };
-    serializer.serialize_char('\u{A2}')?;
-    serializer.serialize_str("Hi!")?;
-    serializer.serialize_bytes(&[1, 0])?;
+fn texts(rt: HostRuntime) {
+    let mut serializer = serializer::<16>();
     assert!(rt;
-        &*serializer.output.finalize()? == [2, 0xC2, 0xA2, 3, 0x48, 0x69, 0x21, 2, 1, 0].as_slice()
+        push_texts(&mut serializer)
+            && holds(serializer, &[2, 0xC2, 0xA2, 3, 0x48, 0x69, 0x21, 2, 1, 0])
     );
-    Ok(())
+}
+
+fn push_options<F: Flavor>(serializer: &mut Serializer<F>) -> bool {
+    serializer.serialize_none().is_ok()
+        && serializer.serialize_some(&5u8).is_ok()
+        && serializer.serialize_unit().is_ok()
+        && serializer.serialize_unit_struct().is_ok()
+        && serializer.serialize_newtype_struct(&6u8).is_ok()
+}
+
+fn push_structs<F: Flavor>(serializer: &mut Serializer<F>) -> bool {
+    serializer.serialize_struct(1).is_ok()
+        && serializer.serialize_field(&7u8).is_ok()
+        && serializer.end().is_ok()
+        && serializer.serialize_tuple(1).is_ok()
+        && serializer.serialize_element(&8u8).is_ok()
+        && serializer.serialize_tuple_struct(1).is_ok()
+        && serializer.serialize_field(&9u8).is_ok()
 }
 
 #[test]
-fn options_and_structs(rt: HostRuntime) -> Result<(), Fail> {
-    let mut room = [0u8; 16];
-    let mut serializer = Serializer {
-        output: Slice::new(&mut room),
-    };
-    serializer.serialize_none()?;
-    serializer.serialize_some(&5u8)?;
-    serializer.serialize_unit()?;
-    serializer.serialize_unit_struct()?;
-    serializer.serialize_newtype_struct(&6u8)?;
-    serializer.serialize_struct(1)?;
-    serializer.serialize_field(&7u8)?;
-    serializer.end()?;
-    serializer.serialize_tuple(1)?;
-    serializer.serialize_element(&8u8)?;
-    serializer.serialize_tuple_struct(1)?;
-    serializer.serialize_field(&9u8)?;
-    assert!(rt; &*serializer.output.finalize()? == [0, 1, 5, 6, 7, 8, 9].as_slice());
-    Ok(())
-}
-
-#[test]
-fn variants(rt: HostRuntime) -> Result<(), Fail> {
-    let mut room = [0u8; 32];
-    let mut serializer = Serializer {
-        output: Slice::new(&mut room),
-    };
-    serializer.serialize_unit_variant(300)?;
-    serializer.serialize_newtype_variant(1, &u64::MAX)?;
-    serializer.serialize_tuple_variant(5, 2)?;
-    serializer.serialize_field(&0x6969u16)?;
-    serializer.serialize_field(&7u8)?;
-    serializer.serialize_struct_variant(3, 1)?;
-    serializer.serialize_field(&0u8)?;
-    serializer.end()?;
+fn options_and_structs(rt: HostRuntime) {
+    let mut serializer = serializer::<16>();
     assert!(rt;
-        &*serializer.output.finalize()?
-            == [
+        push_options(&mut serializer)
+            && push_structs(&mut serializer)
+            && holds(serializer, &[0, 1, 5, 6, 7, 8, 9])
+    );
+}
+
+fn push_variants<F: Flavor>(serializer: &mut Serializer<F>) -> bool {
+    serializer.serialize_unit_variant(300).is_ok()
+        && serializer.serialize_newtype_variant(1, &u64::MAX).is_ok()
+        && serializer.serialize_tuple_variant(5, 2).is_ok()
+        && serializer.serialize_field(&0x6969u16).is_ok()
+        && serializer.serialize_field(&7u8).is_ok()
+        && serializer.serialize_struct_variant(3, 1).is_ok()
+        && serializer.serialize_field(&0u8).is_ok()
+        && serializer.end().is_ok()
+}
+
+#[test]
+fn variants(rt: HostRuntime) {
+    let mut serializer = serializer::<32>();
+    assert!(rt; push_variants(&mut serializer));
+    assert!(rt;
+        holds(
+            serializer,
+            &[
                 0xAC, 2, 1, 0xFF, 0xFF, 0xFF, 0xFF, 0xFF, 0xFF, 0xFF, 0xFF, 0xFF, 1, 5, 0xE9, 0xD2,
                 0x01, 7, 3, 0
             ]
-            .as_slice()
+        )
     );
-    Ok(())
+}
+
+fn push_counts<F: Flavor>(serializer: &mut Serializer<F>) -> bool {
+    serializer.serialize_seq(None) == Err(Error::SerializeSeqLengthUnknown)
+        && serializer.serialize_map(None) == Err(Error::SerializeSeqLengthUnknown)
+        && serializer.serialize_seq(Some(200)).is_ok()
+        && serializer.serialize_map(Some(1)).is_ok()
+        && serializer.serialize_key(&2u8).is_ok()
+        && serializer.serialize_value(&3u8).is_ok()
+        && !serializer.is_human_readable()
 }
 
 #[test]
-fn counts(rt: HostRuntime) -> Result<(), Fail> {
-    let mut serializer = Serializer {
-        output: HVec::<16>::new(),
-    };
-    assert!(rt;
-        matches!(
-            &serializer.serialize_seq(None),
-            Err(Error::SerializeSeqLengthUnknown)
-        )
-    );
-    assert!(rt;
-        matches!(
-            &serializer.serialize_map(None),
-            Err(Error::SerializeSeqLengthUnknown)
-        )
-    );
-    assert!(rt; serializer.output.held() == 0);
-    serializer.serialize_seq(Some(200))?;
-    serializer.serialize_map(Some(1))?;
-    serializer.serialize_key(&2u8)?;
-    serializer.serialize_value(&3u8)?;
-    assert!(rt; !serializer.is_human_readable());
-    assert!(rt; serializer.output.finalize()?.as_slice() == [0xC8, 1, 1, 2, 3].as_slice());
-    Ok(())
+fn counts(rt: HostRuntime) {
+    let mut serializer = serializer::<16>();
+    assert!(rt; push_counts(&mut serializer) && holds(serializer, &[0xC8, 1, 1, 2, 3]));
 }
 
 #[test]
-fn refusals(rt: HostRuntime) -> Result<(), Fail> {
-    let mut serializer = Serializer {
-        output: HVec::<2>::new(),
-    };
-    let value = (1u8, 300u16);
+fn refusals(rt: HostRuntime) {
+    let mut serializer = serializer::<2>();
     assert!(rt;
-        matches!(
-            &value.serialize(&mut serializer),
-            Err(Error::SerializeBufferFull)
-        )
+        (1u8, 300u16).serialize(&mut serializer) == Err(Error::SerializeBufferFull)
+            && serializer.output.held() == 1
     );
-    assert!(rt; serializer.output.held() == 1);
-    Ok(())
 }

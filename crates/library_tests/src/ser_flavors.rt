@@ -12,7 +12,6 @@ use postcard_ser::{Serialize, Serializer};
 use postcard_tree::{Error, Result as Answer};
 use std::io;
 use std::io::{ErrorKind, Write};
-use std::test::Fail;
 
 /// Writes a number into a slice by a flavor that is lent, and gives the whole slice back.
 fn fill_and_return<'a>(value: u32, room: &'a mut [u8]) -> (&'a mut [u8], Answer<usize>)
@@ -50,91 +49,109 @@ fn patch<B: IndexByte>(flavor: &mut B) -> Answer<u8> {
 }
 
 #[test]
-fn slices(rt: HostRuntime) -> Result<(), Fail> {
+fn slices(rt: HostRuntime) {
     let mut room = [0u8; 4];
     let mut slice = Slice::new(&mut room);
-    slice.try_extend(&[1, 2, 3])?;
-    assert!(rt; matches!(&slice.try_extend(&[4, 5]), Err(Error::SerializeBufferFull)));
-    assert!(rt; slice.held() == 3);
+    assert!(rt;
+        slice.try_extend(&[1, 2, 3]) == Ok(())
+            && slice.try_extend(&[4, 5]) == Err(Error::SerializeBufferFull)
+            && slice.held() == 3
+    );
     slice.set_byte(0, 9);
-    slice.try_push(4)?;
-    assert!(rt; matches!(&slice.try_push(5), Err(Error::SerializeBufferFull)));
-    assert!(rt; &*slice.finalize()? == [9, 2, 3, 4].as_slice());
-    let n = fill(300, &mut room)?;
-    assert!(rt; n == 2);
-    assert!(rt; room == [0xAC, 0x02, 3, 4]);
-    Ok(())
+    assert!(rt;
+        slice.try_push(4) == Ok(()) && slice.try_push(5) == Err(Error::SerializeBufferFull)
+    );
+    match slice.finalize() {
+        Ok(held) => assert!(rt; *held == *[9, 2, 3, 4].as_slice()),
+        Err(_) => assert!(rt; false),
+    }
 }
 
 #[test]
-fn fixed_vectors(rt: HostRuntime) -> Result<(), Fail> {
+fn slices_that_are_given_back(rt: HostRuntime) {
+    let mut room = [9, 2, 3, 4];
+    assert!(rt; fill(300, &mut room) == Ok(2) && room == [0xAC, 0x02, 3, 4]);
+}
+
+#[test]
+fn fixed_vectors(rt: HostRuntime) {
     let mut vec: HVec<2> = HVec::default();
-    vec.try_push(1)?;
-    assert!(rt; matches!(&vec.try_extend(&[2, 3]), Err(Error::SerializeBufferFull)));
-    assert!(rt; vec.held() == 1);
-    assert!(rt; patch(&mut vec)? == 9);
-    assert!(rt; matches!(&vec.try_push(3), Err(Error::SerializeBufferFull)));
-    assert!(rt; vec.finalize()?.as_slice() == [1, 9].as_slice());
+    assert!(rt;
+        vec.try_push(1) == Ok(())
+            && vec.try_extend(&[2, 3]) == Err(Error::SerializeBufferFull)
+            && vec.held() == 1
+            && patch(&mut vec) == Ok(9)
+            && vec.try_push(3) == Err(Error::SerializeBufferFull)
+    );
+    assert!(rt; matches!(&vec.finalize(), Ok(held) if held.as_slice() == [1, 9].as_slice()));
+}
+
+#[test]
+fn extended_arrays(rt: HostRuntime) {
     let mut full: ArrayVec<u8, 2> = ArrayVec::new();
     full.push(7);
     let mut extended = ExtendFlavor::new(full);
     assert!(rt;
-        matches!(
-            &extended.try_extend(&[8, 9]),
-            Err(Error::SerializeBufferFull)
-        )
+        extended.try_extend(&[8, 9]) == Err(Error::SerializeBufferFull)
+            && extended.try_push(8) == Ok(())
     );
-    extended.try_push(8)?;
-    assert!(rt; extended.finalize()?.as_slice() == [7, 8].as_slice());
-    Ok(())
+    assert!(rt; matches!(&extended.finalize(), Ok(held) if held.as_slice() == [7, 8].as_slice()));
+}
+
+// Whether a vector was given back, and is this one.
+fn is_held(given: Answer<Vec<u8>>, bytes: &[u8]) -> bool {
+    matches!(&given, Ok(held) if held.as_slice() == bytes)
 }
 
 #[test]
-fn growing_vectors(rt: HostRuntime) -> Result<(), Fail> {
+fn growing_vectors(rt: HostRuntime) {
     let mut vec: StdVec = AllocVec::new(rt.alloc());
-    vec.try_extend(&[1, 2])?;
-    assert!(rt; patch(&mut vec)? == 9);
-    assert!(rt; vec.finalize()?.as_slice() == [1, 2, 9].as_slice());
+    assert!(rt;
+        vec.try_extend(&[1, 2]) == Ok(())
+            && patch(&mut vec) == Ok(9)
+            && is_held(vec.finalize(), &[1, 2, 9])
+    );
+}
+
+#[test]
+fn extended_vectors(rt: HostRuntime) {
     let mut begun = Vec::new(rt.alloc());
-    begun.push(7)?;
+    assert!(rt; begun.push(7).is_ok());
     let mut extended = ExtendFlavor::new(begun);
-    extended.try_push(8)?;
-    assert!(rt; extended.finalize()?.as_slice() == [7, 8].as_slice());
-    Ok(())
+    assert!(rt; extended.try_push(8) == Ok(()) && is_held(extended.finalize(), &[7, 8]));
 }
 
 /// Where a growth is refused, the flavor holds what it held.
 #[test]
-fn want_of_memory(rt: HostRuntime) -> Result<(), Fail> {
+fn want_of_memory(rt: HostRuntime) {
     let mut vec = AllocVec::new(rt.alloc());
     for round in 1..5 {
         let held = vec.held();
         match vec.try_extend(&[round; 40]) {
             Ok(()) => assert!(rt; vec.held() == held + 40),
-            Err(cause) => {
-                assert!(rt; cause == Error::OutOfMemory);
-                assert!(rt; vec.held() == held);
-            }
+            Err(cause) => assert!(rt; cause == Error::OutOfMemory && vec.held() == held),
         }
     }
+}
+
+/// As above, of a vector that is extended.
+#[test]
+fn want_of_memory_for_more(rt: HostRuntime) {
     let mut extended = ExtendFlavor::new(Vec::new(rt.alloc()));
     match extended.try_extend(&[1; 40]) {
-        Ok(()) => assert!(rt; extended.finalize()?.len() == 40),
-        Err(cause) => {
-            assert!(rt; cause == Error::OutOfMemory);
-            assert!(rt; extended.finalize()?.len() == 0);
-        }
+        Ok(()) => assert!(rt; is_held(extended.finalize(), &[1; 40])),
+        Err(cause) => assert!(rt; cause == Error::OutOfMemory && is_held(extended.finalize(), &[])),
     }
-    Ok(())
 }
 
 #[test]
-fn sizes(rt: HostRuntime) -> Result<(), Fail> {
+fn sizes(rt: HostRuntime) {
     let mut size = Size::default();
-    size.try_extend(&[0; 300])?;
-    size.try_push(0)?;
-    assert!(rt; size.finalize()? == 301);
-    Ok(())
+    assert!(rt;
+        size.try_extend(&[0; 300]) == Ok(())
+            && size.try_push(0) == Ok(())
+            && size.finalize() == Ok(301)
+    );
 }
 
 /// Takes so many bytes, one a call, and then fails.
@@ -168,13 +185,16 @@ impl Write for Narrow {
 }
 
 #[test]
-fn writers(rt: HostRuntime) -> Result<(), Fail> {
+fn writers(rt: HostRuntime) {
     let mut serializer = Serializer {
         output: WriteFlavor::new(Vec::new(rt.alloc())),
     };
-    serializer.serialize_u32(300)?;
-    serializer.output.try_push(5)?;
-    assert!(rt; serializer.output.finalize()?.as_slice() == [0xAC, 0x02, 5].as_slice());
+    assert!(rt; serializer.serialize_u32(300) == Ok(()) && serializer.output.try_push(5) == Ok(()));
+    assert!(rt; is_held(serializer.output.finalize(), &[0xAC, 0x02, 5]));
+}
+
+#[test]
+fn writers_that_fail(rt: HostRuntime) {
     let mut narrow = Narrow {
         left: 3,
         taken: 0,
@@ -183,21 +203,22 @@ fn writers(rt: HostRuntime) -> Result<(), Fail> {
     let mut serializer = Serializer {
         output: WriteFlavor::new(&mut narrow),
     };
-    serializer.serialize_u32(300)?;
     assert!(rt;
-        matches!(
-            &serializer.serialize_u32(300),
-            Err(Error::SerializeBufferFull)
-        )
+        serializer.serialize_u32(300) == Ok(())
+            && serializer.serialize_u32(300) == Err(Error::SerializeBufferFull)
     );
-    assert!(rt; serializer.output.finalize()?.taken == 3);
+    assert!(rt; matches!(&serializer.output.finalize(), Ok(narrow) if narrow.taken == 3));
+}
+
+#[test]
+fn writers_that_do_not_flush(rt: HostRuntime) {
     let stuck = Narrow {
         left: 3,
         taken: 0,
         flushes: false,
     };
     let mut flavor = WriteFlavor::new(stuck);
-    flavor.try_push(5)?;
-    assert!(rt; matches!(&flavor.finalize(), Err(Error::SerializeBufferFull)));
-    Ok(())
+    assert!(rt;
+        flavor.try_push(5) == Ok(()) && flavor.finalize().err() == Some(Error::SerializeBufferFull)
+    );
 }
