@@ -90,32 +90,54 @@ fn pattern(
     }
 }
 
+/// The shape that was made of the last variants so far.
+#[derive(Drop)]
+struct Made {
+    alloc: Global,
+    /// The shape from the last place on at which one stands.
+    rest: String,
+    /// The parts before it that wait for the first of their four.
+    four: String,
+}
+
+impl Made {
+    /// Puts what a variant holds before all, and says whether a shape stands there.
+    fn put(&mut self, kind: Kind, held: &str) -> Result<bool, AllocError> {
+        let (alloc, rest, four) = (self.alloc, self.rest.as_str(), self.four.as_str());
+        let text = match kind {
+            Kind::Last => format!(in alloc; "Last<{held}>"),
+            Kind::This => format!(in alloc; "Variant<{held}, {rest}>"),
+            Kind::OfFour(3) => format!(in alloc; "{held}, {rest}"),
+            Kind::OfFour(0) => format!(in alloc; "Variants4<{held}, {four}>"),
+            Kind::OfFour(_) => format!(in alloc; "{held}, {four}"),
+        };
+        let text = text?;
+        match kind {
+            Kind::Last | Kind::This | Kind::OfFour(0) => {
+                self.rest = text;
+                Ok(true)
+            }
+            Kind::OfFour(_) => {
+                self.four = text;
+                Ok(false)
+            }
+        }
+    }
+}
+
 /// The shapes from each place on at which a shape of others stands, the whole first.
 fn shapes(alloc: Global, variants: &[VariantOf]) -> Result<Vec<String>, AllocError> {
     let mut shapes: Vec<String> = Vec::new(alloc);
-    let mut rest = String::new(alloc);
-    let mut four = String::new(alloc);
-    let count = variants.len();
-    for behind in 0..count {
-        let index = count.saturating_sub(1).saturating_sub(behind);
-        let Some(variant) = variants.get(index) else {
-            continue;
-        };
+    let mut made = Made {
+        alloc,
+        rest: String::new(alloc),
+        four: String::new(alloc),
+    };
+    for (index, variant) in variants.iter().enumerate().rev() {
         let held = payload(alloc, &variant.fields)?;
-        match place_of(index, count).kind {
-            Kind::Last => rest = format!(in alloc; "Last<{held}>")?,
-            Kind::This => rest = format!(in alloc; "Variant<{held}, {rest}>")?,
-            Kind::OfFour(3) => {
-                four = format!(in alloc; "{held}, {rest}")?;
-                continue;
-            }
-            Kind::OfFour(0) => rest = format!(in alloc; "Variants4<{held}, {four}>")?,
-            Kind::OfFour(_) => {
-                four = format!(in alloc; "{held}, {four}")?;
-                continue;
-            }
+        if made.put(place_of(index, variants.len()).kind, held.as_str())? {
+            shapes.push(String::from_str(alloc, made.rest.as_str())?)?;
         }
-        shapes.push(String::from_str(alloc, rest.as_str())?)?;
     }
     shapes.reverse();
     Ok(shapes)
@@ -130,6 +152,14 @@ fn first_of(variants: &[VariantOf]) -> (&str, &[VariantOf]) {
     }
 }
 
+/// What stands before a shape: the alias that it has by its name, or nothing.
+fn alias_before(alloc: Global, name: &str) -> Result<String, AllocError> {
+    if name.is_empty() {
+        return Ok(String::new(alloc));
+    }
+    format!(in alloc; "type {name} = ")
+}
+
 /// Names for so many places.
 fn places(alloc: Global, count: usize) -> Result<Vec<String>, AllocError> {
     let mut names = Vec::new(alloc);
@@ -139,30 +169,85 @@ fn places(alloc: Global, count: usize) -> Result<Vec<String>, AllocError> {
     Ok(names)
 }
 
+/// What a variant holds by these names, as ghost text.
+fn held_text(alloc: Global, names: &[String]) -> Result<String, AllocError> {
+    if names.is_empty() {
+        return String::from_str(alloc, "tt");
+    }
+    tuple_text(alloc, names)
+}
+
 /// The shape's value at a place, of what a variant holds by these names.
 fn seen_as(alloc: Global, place: Place, names: &[String]) -> Result<String, AllocError> {
-    let held = if names.is_empty() {
-        String::from_str(alloc, "tt")?
-    } else {
-        tuple_text(alloc, names)?
-    };
+    let held = held_text(alloc, names)?;
     let inner = match place.kind {
-        Kind::OfFour(of) => format!(in alloc; "V{of} {held}")?,
-        Kind::This => format!(in alloc; "This {held}")?,
-        Kind::Last => format!(in alloc; "Last {held}")?,
+        Kind::OfFour(of) => format!(in alloc; "V{of} {held}"),
+        Kind::This => format!(in alloc; "This {held}"),
+        Kind::Last => format!(in alloc; "Last {held}"),
     };
-    let inner = within(alloc, place.ones, "Other (", inner.as_str())?;
-    within(alloc, place.fours, "More (", inner.as_str())
+    placed(alloc, place, "Other (", "More (", inner)
+}
+
+/// A text that was just made, at its place.
+fn placed(
+    alloc: Global,
+    place: Place,
+    other: &str,
+    more: &str,
+    inner: Result<String, AllocError>,
+) -> Result<String, AllocError> {
+    let inner = inner?;
+    let inner = within(alloc, place.ones, other, inner.as_str())?;
+    within(alloc, place.fours, more, inner.as_str())
+}
+
+/// A variant as its names for ghost text bring it in.
+fn brought_in(alloc: Global, name: &str) -> Result<String, AllocError> {
+    let known = ghost_name(alloc, name)?;
+    if is_of_shapes(name) {
+        return format!(in alloc; "{name} as {known}");
+    }
+    Ok(known)
+}
+
+/// The variants as their names for ghost text bring them in.
+fn all_brought_in(alloc: Global, variants: &[VariantOf]) -> Result<String, AllocError> {
+    let mut names = Vec::new(alloc);
+    for variant in variants {
+        names.push(brought_in(alloc, variant.name.as_str())?)?;
+    }
+    joined(alloc, &names, ", ")
+}
+
+/// What stands before the value of a variant's shape.
+fn seen_before(alloc: Global, name: &str, places: &[String]) -> Result<String, AllocError> {
+    let known = ghost_name(alloc, name)?;
+    let mut line = format!(in alloc; "| {known}")?;
+    for place in places {
+        line.push(' ')?;
+        line.push_str(place.as_str())?;
+    }
+    Ok(line)
+}
+
+/// The pattern for the shape at a place, of what a variant holds by these names.
+fn shape_pattern(alloc: Global, place: Place, names: &[String]) -> Result<String, AllocError> {
+    let held = tuple_text(alloc, names)?;
+    let inner = match place.kind {
+        Kind::OfFour(of) => format!(in alloc; "Variants4::V{of}({held})"),
+        Kind::This => format!(in alloc; "Variant::This({held})"),
+        Kind::Last => format!(in alloc; "Last::Last({held})"),
+    };
+    let inner = inner?;
+    within(alloc, place.ones, "Variant::Other(", inner.as_str())
 }
 
 impl Printer {
     /// Writes the parts of a shape that is broken over lines, between its opening and its rest.
-    fn opened(&mut self, indent: usize, first: &str, held: &[VariantOf]) -> Result<(), AllocError> {
-        self.line(indent, first)?;
+    fn opened(&mut self, indent: usize, held: &[VariantOf]) -> Result<(), AllocError> {
         for variant in held {
-            let mut line = payload(self.alloc, &variant.fields)?;
-            line.push(',')?;
-            self.line(indent.saturating_add(4), line.as_str())?;
+            let part = payload(self.alloc, &variant.fields)?;
+            self.made(indent.saturating_add(4), format!(in self.alloc; "{part},"))?;
         }
         Ok(())
     }
@@ -179,70 +264,62 @@ impl Printer {
     /// Writes the alias of the shape.
     fn alias(&mut self, name: &str, variants: &[VariantOf]) -> Result<(), AllocError> {
         let shapes = shapes(self.alloc, variants)?;
-        let mut before = format!(in self.alloc; "type {name} = ")?;
+        self.line(0, "")?;
         let mut opened: usize = 0;
         let mut rest = variants;
-        self.line(0, "")?;
         for shape in &shapes {
-            let indent = opened.saturating_mul(4);
-            let end = if opened == 0 { ";" } else { "," };
             let (open, held) = first_of(rest);
-            let length = before.len().saturating_add(shape.len()).saturating_add(1);
-            if held.is_empty() || self.fits(indent, length) {
-                let whole = format!(in self.alloc; "{before}{shape}{end}")?;
-                self.line(indent, whole.as_str())?;
+            let before = if opened == 0 { name } else { "" };
+            if !self.broken(opened, before, shape.as_str(), open, held)? {
                 break;
             }
-            before.push_str(open)?;
-            self.opened(indent, before.as_str(), held)?;
-            before.clear();
             opened = opened.saturating_add(1);
             rest = rest.get(held.len()..).unwrap_or(&[]);
         }
         self.closed(opened)
     }
 
-    /// Writes the value of a variant as its shape.
-    fn seen(&mut self, variant: &VariantOf, index: usize, count: usize) -> Result<(), AllocError> {
-        let names = places(self.alloc, variant.fields.items.len())?;
-        let mut line = String::from_str(self.alloc, "| ")?;
-        let known = ghost_name(self.alloc, variant.name.as_str())?;
-        line.push_str(known.as_str())?;
-        for name in &names {
-            line.push(' ')?;
-            line.push_str(name.as_str())?;
+    /// Writes a shape in one line where it fits, and else how it begins, behind so many that are open. Says whether it is broken.
+    fn broken(
+        &mut self,
+        opened: usize,
+        name: &str,
+        shape: &str,
+        open: &str,
+        held: &[VariantOf],
+    ) -> Result<bool, AllocError> {
+        let indent = opened.saturating_mul(4);
+        let before = alias_before(self.alloc, name)?;
+        let end = if opened == 0 { ";" } else { "," };
+        let length = before.len().saturating_add(shape.len()).saturating_add(1);
+        if held.is_empty() || self.fits(indent, length) {
+            self.made(indent, format!(in self.alloc; "{before}{shape}{end}"))?;
+            return Ok(false);
         }
-        line.push_str(" ↦ ")?;
-        let shape = seen_as(self.alloc, place_of(index, count), &names)?;
-        line.push_str(shape.as_str())?;
-        self.line(6, line.as_str())
+        self.made(indent, format!(in self.alloc; "{before}{open}"))?;
+        self.opened(indent, held)?;
+        Ok(true)
     }
 
-    /// Writes what the shape is.
-    fn enum_shape(
+    /// Writes the value of a variant as its shape.
+    fn seen(&mut self, variant: &VariantOf, index: usize, count: usize) -> Result<(), AllocError> {
+        let alloc = self.alloc;
+        let names = places(alloc, variant.fields.items.len())?;
+        let before = seen_before(alloc, variant.name.as_str(), &names)?;
+        let shape = seen_as(alloc, place_of(index, count), &names)?;
+        self.made(6, format!(in alloc; "{before} ↦ {shape}"))
+    }
+
+    /// Writes what ghost text brings in.
+    fn enum_uses(
         &mut self,
-        it: &Declaration,
+        name: &str,
         variants: &[VariantOf],
         path: &str,
     ) -> Result<(), AllocError> {
-        let alloc = self.alloc;
-        let name = it.name.as_str();
-        let shape = whole_name(alloc, it, "Shape")?;
-        self.alias(shape.as_str(), variants)?;
-        self.open(it, "Shaped", "")?;
-        let mut names = Vec::new(alloc);
-        for variant in variants {
-            let name = variant.name.as_str();
-            let known = ghost_name(alloc, name)?;
-            names.push(if is_of_shapes(name) {
-                format!(in alloc; "{name} as {known}")?
-            } else {
-                known
-            })?;
-        }
-        let names = joined(alloc, &names, ", ")?;
-        let own = format!(in alloc; "ghost use Rattle.{path}.{name}.TheVariants.{{{names}}};")?;
-        self.line(4, own.as_str())?;
+        let names = all_brought_in(self.alloc, variants)?;
+        let own = format!(in self.alloc; "ghost use Rattle.{path}.{name}.TheVariants.{{{names}}};");
+        self.made(4, own)?;
         if variants.len() > 4 {
             self.line(
                 4,
@@ -258,10 +335,11 @@ impl Printer {
         self.line(
             4,
             "ghost use Rattle.postcard_tree.specs.declared.variants.Last.TheVariants.{Last};",
-        )?;
-        self.line(0, "")?;
-        let line = format!(in alloc; "type Shape = {shape};")?;
-        self.line(4, line.as_str())?;
+        )
+    }
+
+    /// Writes the value of the shape, variant by variant.
+    fn all_seen(&mut self, variants: &[VariantOf]) -> Result<(), AllocError> {
         self.line(0, "")?;
         self.line(4, "ghost shape = { λ v. elim v [")?;
         for (index, variant) in variants.iter().enumerate() {
@@ -271,6 +349,22 @@ impl Printer {
         self.line(0, "}")
     }
 
+    /// Writes what the shape is.
+    fn enum_shape(
+        &mut self,
+        it: &Declaration,
+        variants: &[VariantOf],
+        path: &str,
+    ) -> Result<(), AllocError> {
+        let shape = whole_name(self.alloc, it, "Shape")?;
+        self.alias(shape.as_str(), variants)?;
+        self.open(it, "Shaped", "")?;
+        self.enum_uses(it.name.as_str(), variants, path)?;
+        self.line(0, "")?;
+        self.made(4, format!(in self.alloc; "type Shape = {shape};"))?;
+        self.all_seen(variants)
+    }
+
     /// Writes how a variant is written.
     fn arm_written(
         &mut self,
@@ -278,28 +372,47 @@ impl Printer {
         index: usize,
         variant: &VariantOf,
     ) -> Result<(), AllocError> {
-        let alloc = self.alloc;
-        let names = names_of(alloc, &variant.fields)?;
-        let pattern = pattern(alloc, name, variant, &names)?;
+        let names = names_of(self.alloc, &variant.fields)?;
+        let pattern = pattern(self.alloc, name, variant, &names)?;
         if names.is_empty() {
-            let line = format!(in alloc;
+            let line = format!(in self.alloc;
                 "{pattern} => serializer.serialize_unit_variant({index}),"
-            )?;
-            return self.line(12, line.as_str());
+            );
+            return self.made(12, line);
         }
-        let held = tuple_text(alloc, &names)?;
+        self.payload_written(index, pattern.as_str(), &names)
+    }
+
+    /// As [`arm_written`](Printer::arm_written), of a variant with fields.
+    fn payload_written(
+        &mut self,
+        index: usize,
+        pattern: &str,
+        names: &[String],
+    ) -> Result<(), AllocError> {
+        let held = tuple_text(self.alloc, names)?;
         let lent = if names.len() == 1 { "" } else { "&" };
-        let line = format!(in alloc;
+        let line = format!(in self.alloc;
             "{pattern} => serializer.serialize_newtype_variant({index}, {lent}{held}),"
         )?;
         if self.fits(12, line.len()) {
             return self.line(12, line.as_str());
         }
-        let line = format!(in alloc; "{pattern} => serializer.serialize_newtype_variant(")?;
-        self.line(12, line.as_str())?;
-        let line = format!(in alloc; "{index},")?;
-        self.line(16, line.as_str())?;
-        self.tuple(16, lent, &names, ",", "")?;
+        self.long_payload_written(index, pattern, lent, names)
+    }
+
+    /// As [`payload_written`](Printer::payload_written), over lines.
+    fn long_payload_written(
+        &mut self,
+        index: usize,
+        pattern: &str,
+        lent: &str,
+        names: &[String],
+    ) -> Result<(), AllocError> {
+        let line = format!(in self.alloc; "{pattern} => serializer.serialize_newtype_variant(");
+        self.made(12, line)?;
+        self.made(16, format!(in self.alloc; "{index},"))?;
+        self.tuple(16, lent, names, ",", "")?;
         self.line(12, "),")
     }
 
@@ -329,16 +442,10 @@ impl Printer {
     ) -> Result<(), AllocError> {
         let alloc = self.alloc;
         let names = names_of(alloc, &variant.fields)?;
-        let held = tuple_text(alloc, &names)?;
-        let inner = match place.kind {
-            Kind::OfFour(of) => format!(in alloc; "Variants4::V{of}({held})")?,
-            Kind::This => format!(in alloc; "Variant::This({held})")?,
-            Kind::Last => format!(in alloc; "Last::Last({held})")?,
-        };
-        let inner = within(alloc, place.ones, "Variant::Other(", inner.as_str())?;
-        let before = format!(in alloc; "{inner} => ")?;
+        let pattern = shape_pattern(alloc, place, &names)?;
         let of = variant.name.as_str();
         let value = format!(in alloc; "{name}::{of}")?;
+        let before = format!(in alloc; "{pattern} => ")?;
         self.literal(
             indent,
             before.as_str(),
@@ -349,24 +456,24 @@ impl Printer {
         )
     }
 
-    /// Writes which value a shape stands for.
-    fn enum_read(&mut self, it: &Declaration, variants: &[VariantOf]) -> Result<(), AllocError> {
-        let shape = whole_name(self.alloc, it, "Shape")?;
-        let whole = whole_name(self.alloc, it, "")?;
-        self.open(it, "DeserializeShape", "Readable")?;
-        let first = format!(in self.alloc; "fn from_shape(it: {shape}) -> {whole} {{")?;
-        self.line(4, first.as_str())?;
-        self.line(8, "match it {")?;
+    /// Writes the arms of the matches on a shape, and says how far the last are indented.
+    fn arms_read(&mut self, name: &str, variants: &[VariantOf]) -> Result<usize, AllocError> {
         let mut indent: usize = 12;
         for (index, variant) in variants.iter().enumerate() {
             let place = place_of(index, variants.len());
-            self.arm_read(indent, it.name.as_str(), place, variant)?;
+            self.arm_read(indent, name, place, variant)?;
             if place.kind == Kind::OfFour(3) {
                 self.line(indent, "Variants4::More(it) => match it {")?;
                 indent = indent.saturating_add(4);
             }
         }
-        for _ in 0..variants.len() {
+        Ok(indent)
+    }
+
+    /// Closes the matches whose last arms are indented so far.
+    fn arms_closed(&mut self, indent: usize) -> Result<(), AllocError> {
+        let mut indent = indent;
+        for _ in 0..indent {
             if indent <= 12 {
                 break;
             }
@@ -376,6 +483,20 @@ impl Printer {
         self.line(8, "}")?;
         self.line(4, "}")?;
         self.line(0, "}")
+    }
+
+    /// Writes which value a shape stands for.
+    fn enum_read(&mut self, it: &Declaration, variants: &[VariantOf]) -> Result<(), AllocError> {
+        let shape = whole_name(self.alloc, it, "Shape")?;
+        let whole = whole_name(self.alloc, it, "")?;
+        self.open(it, "DeserializeShape", "Readable")?;
+        self.made(
+            4,
+            format!(in self.alloc; "fn from_shape(it: {shape}) -> {whole} {{"),
+        )?;
+        self.line(8, "match it {")?;
+        let indent = self.arms_read(it.name.as_str(), variants)?;
+        self.arms_closed(indent)
     }
 
     /// Writes the implementations of an enum.

@@ -71,6 +71,32 @@ fn is_parted(before: &str, word: &str) -> bool {
     !closes && (before == "," || before == ";" || before.starts_with('\''))
 }
 
+/// Whether a type has no greatest size.
+fn has_no_greatest_size(word: &str) -> bool {
+    match word {
+        "&" | "String" | "Vec" | "BTreeMap" => true,
+        _ => false,
+    }
+}
+
+/// Within how many marks that are open the words behind this one stand; nothing where the type has ended before it.
+fn depth_behind(word: &str, depth: usize) -> Option<usize> {
+    match word {
+        "," | ";" | "}" | "=" | "" | ")" | "]" | ">" if depth == 0 => None,
+        "(" | "[" | "<" => Some(depth.saturating_add(1)),
+        ")" | "]" | ">" => Some(depth.saturating_sub(1)),
+        _ => Some(depth),
+    }
+}
+
+/// Appends a word of a type behind another one.
+fn put_word(text: &mut String, before: &str, word: &str) -> Result<(), AllocError> {
+    if is_parted(before, word) {
+        text.push(' ')?;
+    }
+    text.push_str(word)
+}
+
 impl<'a> Parser<'a> {
     /// The next token, which stays; nothing at the end.
     fn peek(&self) -> &'a str {
@@ -183,34 +209,39 @@ impl<'a> Parser<'a> {
         }
     }
 
-    /// Refuses a word that can't stand in the type of a field.
-    fn check(&self, word: &str, before: &str) -> Result<(), Trouble> {
-        let alloc = self.alloc;
+    /// Refuses a reference without a lifetime, and what the marks don't allow in a field.
+    fn check_marks(&self, word: &str) -> Result<(), Trouble> {
         if word == "&" && !self.peek_second().starts_with('\'') {
-            return self.wrong(format!(in alloc;
+            return self.wrong(format!(in self.alloc;
                 "a reference has a lifetime of its type: `&'a str`"
             ));
         }
-        if self.marks.max_size
-            && (word == "&" || word == "String" || word == "Vec" || word == "BTreeMap")
-        {
-            return self.wrong(format!(in alloc;
+        if self.marks.max_size && has_no_greatest_size(word) {
+            return self.wrong(format!(in self.alloc;
                 "`{word}` has no greatest size: leave `MaxSize` out"
             ));
         }
         if self.marks.exact && word == "BTreeMap" {
-            return self.wrong(format!(in alloc;
+            return self.wrong(format!(in self.alloc;
                 "`{word}` is read in any order and written in its own: leave `Exact` out"
             ));
         }
+        Ok(())
+    }
+
+    /// Refuses a word that can't stand in the type of a field.
+    fn check(&self, word: &str, before: &str) -> Result<(), Trouble> {
+        self.check_marks(word)?;
         if is_no_type(word) || is_plain(word) {
             return Ok(());
         }
         if word == self.name {
-            return self.wrong(format!(in alloc; "`{word}` holds itself: write it by hand"));
+            return self.wrong(format!(in self.alloc; "`{word}` holds itself: write it by hand"));
         }
         if is_small(word) || is_no_message(word) || before == ":" {
-            return self.wrong(format!(in alloc; "`{word}` can't stand in the type of a field"));
+            return self.wrong(format!(in self.alloc;
+                "`{word}` can't stand in the type of a field"
+            ));
         }
         Ok(())
     }
@@ -218,28 +249,52 @@ impl<'a> Parser<'a> {
     /// Takes the type of a field, up to a comma or a closing mark.
     fn type_text(&mut self) -> Result<String, Trouble> {
         let mut text = String::new(self.alloc);
-        let mut depth: usize = 0;
-        let mut before = "";
-        for _ in 0..self.rest.len() {
-            let word = self.peek();
-            match word {
-                "," | ";" | "}" | "=" | "" if depth == 0 => break,
-                ")" | "]" | ">" if depth == 0 => break,
-                "(" | "[" | "<" => depth = depth.saturating_add(1),
-                ")" | "]" | ">" => depth = depth.saturating_sub(1),
-                _ => {}
-            }
-            self.check(word, before)?;
-            if is_parted(before, word) {
-                text.push(' ')?;
-            }
-            text.push_str(word)?;
-            before = self.step();
-        }
+        self.put_type(&mut text)?;
         if text.is_empty() {
             return self.wrong(format!(in self.alloc; "a type is wanted"));
         }
         Ok(text)
+    }
+
+    /// Takes the words of a type, and appends them.
+    fn put_type(&mut self, text: &mut String) -> Result<(), Trouble> {
+        let mut depth: usize = 0;
+        let mut before = "";
+        for _ in 0..self.rest.len() {
+            let word = self.peek();
+            let Some(within) = depth_behind(word, depth) else {
+                break;
+            };
+            depth = within;
+            self.check(word, before)?;
+            put_word(text, before, word)?;
+            before = self.step();
+        }
+        Ok(())
+    }
+
+    /// Takes the name of a field, which is its place where it has none.
+    fn field_name(&mut self, place: usize, named: bool) -> Result<String, Trouble> {
+        if !named {
+            return Ok(format!(in self.alloc; "{place}")?);
+        }
+        let name = self.word()?;
+        self.owe(":")?;
+        Ok(String::from_str(self.alloc, name)?)
+    }
+
+    /// Takes a field.
+    fn item(&mut self, place: usize, named: bool) -> Result<Field, Trouble> {
+        if place == MOST_FIELDS {
+            return self.wrong(format!(in self.alloc;
+                "more than {MOST_FIELDS} fields: make some of them a struct"
+            ));
+        }
+        self.attributes()?;
+        self.visibility();
+        let name = self.field_name(place, named)?;
+        let of = self.type_text()?;
+        Ok(Field { name, of })
     }
 
     /// Takes the fields up to this mark.
@@ -249,22 +304,7 @@ impl<'a> Parser<'a> {
             if self.take(close) {
                 return Ok(items);
             }
-            if place == MOST_FIELDS {
-                return self.wrong(format!(in self.alloc;
-                    "more than {MOST_FIELDS} fields: make some of them a struct"
-                ));
-            }
-            self.attributes()?;
-            self.visibility();
-            let name = if named {
-                let name = self.word()?;
-                self.owe(":")?;
-                String::from_str(self.alloc, name)?
-            } else {
-                format!(in self.alloc; "{place}")?
-            };
-            let of = self.type_text()?;
-            items.push(Field { name, of })?;
+            items.push(self.item(place, named)?)?;
             if !self.take(",") {
                 self.owe(close)?;
                 return Ok(items);
@@ -295,29 +335,32 @@ impl<'a> Parser<'a> {
         })
     }
 
-    /// Takes the variants of an enum.
+    /// Takes a variant of an enum.
+    fn variant(&mut self) -> Result<VariantOf, Trouble> {
+        self.attributes()?;
+        let name = self.word()?;
+        let fields = self.fields()?;
+        if self.take("=") {
+            return self.wrong(format!(in self.alloc;
+                "the bytes have a variant's place, not its number: leave the number out"
+            ));
+        }
+        let name = String::from_str(self.alloc, name)?;
+        Ok(VariantOf { name, fields })
+    }
+
+    /// Takes the variants of an enum, which has one at least.
     fn variants(&mut self) -> Result<Vec<VariantOf>, Trouble> {
-        let mut variants = Vec::new(self.alloc);
         self.owe("{")?;
-        for place in 0..self.rest.len() {
+        if self.take("}") {
+            return self.wrong(format!(in self.alloc; "an enum without variants has no values"));
+        }
+        let mut variants = Vec::new(self.alloc);
+        for _ in 0..self.rest.len() {
             if self.take("}") {
-                if place == 0 {
-                    return self.wrong(format!(in self.alloc;
-                        "an enum without variants has no values"
-                    ));
-                }
                 return Ok(variants);
             }
-            self.attributes()?;
-            let name = self.word()?;
-            let fields = self.fields()?;
-            if self.take("=") {
-                return self.wrong(format!(in self.alloc;
-                    "the bytes have a variant's place, not its number: leave the number out"
-                ));
-            }
-            let name = String::from_str(self.alloc, name)?;
-            variants.push(VariantOf { name, fields })?;
+            variants.push(self.variant()?)?;
             if !self.take(",") {
                 self.owe("}")?;
                 return Ok(variants);

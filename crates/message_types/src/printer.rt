@@ -1,7 +1,7 @@
 //! From declarations to implementations, laid out as `rt fmt` leaves them.
 use crate::declarations::{Body, Declaration, Field, Fields, Form};
 use crate::parser::declarations;
-use crate::tokens::Token;
+use crate::tokens::{Token, is_of_word};
 use crate::trouble::{Fault, Trouble};
 use std::alloc::{AllocError, Global};
 
@@ -100,11 +100,20 @@ impl Printer {
         self.out.push('\n')
     }
 
+    /// As [`line`](Printer::line), of a text that was just made.
+    pub fn made(
+        &mut self,
+        indent: usize,
+        text: Result<String, AllocError>,
+    ) -> Result<(), AllocError> {
+        let text = text?;
+        self.line(indent, text.as_str())
+    }
+
     /// Writes texts a line each, with a comma behind.
     pub fn lines(&mut self, indent: usize, texts: &[String]) -> Result<(), AllocError> {
         for text in texts {
-            let text = format!(in self.alloc; "{text},")?;
-            self.line(indent, text.as_str())?;
+            self.made(indent, format!(in self.alloc; "{text},"))?;
         }
         Ok(())
     }
@@ -118,12 +127,27 @@ impl Printer {
     fn row(&mut self, indent: usize, items: &[String]) -> Result<(), AllocError> {
         let text = row_text(self.alloc, items)?;
         if text.len() <= PARTS && self.fits(indent, text.len().saturating_add(1)) {
-            let text = format!(in self.alloc; "{text},")?;
-            return self.line(indent, text.as_str());
+            return self.made(indent, format!(in self.alloc; "{text},"));
         }
+        self.long_row(indent, items)
+    }
+
+    /// Writes a row of a tuple over lines, with a comma behind.
+    fn long_row(&mut self, indent: usize, items: &[String]) -> Result<(), AllocError> {
         self.line(indent, "(")?;
         self.lines(indent.saturating_add(4), items)?;
         self.line(indent, "),")
+    }
+
+    /// Writes the parts of a tuple a line each; more than six stand in rows.
+    fn parts(&mut self, indent: usize, items: &[String]) -> Result<(), AllocError> {
+        if items.len() <= ROW {
+            return self.lines(indent, items);
+        }
+        for row in items.chunks(ROW) {
+            self.row(indent, row)?;
+        }
+        Ok(())
     }
 
     /// Writes a tuple between two texts, and then a call of it.
@@ -136,22 +160,27 @@ impl Printer {
         call: &str,
     ) -> Result<(), AllocError> {
         let text = tuple_text(self.alloc, items)?;
+        let is_short = items.len() < 2 || text.len() <= PARTS;
         let whole = format!(in self.alloc; "{before}{text}{after}{call}")?;
-        if items.len() < 2 || text.len() <= PARTS && self.fits(indent, whole.len()) {
+        if is_short && (items.len() < 2 || self.fits(indent, whole.len())) {
             return self.line(indent, whole.as_str());
         }
-        let open = format!(in self.alloc; "{before}(")?;
-        self.line(indent, open.as_str())?;
+        self.long_tuple(indent, before, items, after, call)
+    }
+
+    /// As [`tuple`](Printer::tuple), over lines.
+    fn long_tuple(
+        &mut self,
+        indent: usize,
+        before: &str,
+        items: &[String],
+        after: &str,
+        call: &str,
+    ) -> Result<(), AllocError> {
         let deeper = indent.saturating_add(4);
-        if items.len() <= ROW {
-            self.lines(deeper, items)?;
-        } else {
-            for row in items.chunks(ROW) {
-                self.row(deeper, row)?;
-            }
-        }
-        let close = format!(in self.alloc; "){after}")?;
-        self.line(indent, close.as_str())?;
+        self.made(indent, format!(in self.alloc; "{before}("))?;
+        self.parts(deeper, items)?;
+        self.made(indent, format!(in self.alloc; "){after}"))?;
         if call.is_empty() {
             return Ok(());
         }
@@ -169,60 +198,56 @@ impl Printer {
         after: &str,
     ) -> Result<(), AllocError> {
         let inner = joined(self.alloc, names, ", ")?;
-        let text = match fields.form {
-            Form::Unit => format!(in self.alloc; "{before}{name}{after}")?,
-            Form::Tuple => format!(in self.alloc; "{before}{name}({inner}){after}")?,
-            Form::Named if names.is_empty() => format!(in self.alloc;
-                "{before}{name} {{}}{after}"
-            )?,
-            Form::Named => format!(in self.alloc; "{before}{name} {{ {inner} }}{after}")?,
-        };
-        let short = match fields.form {
-            Form::Unit => true,
-            Form::Tuple => inner.len().saturating_add(2) <= PARTS,
-            Form::Named => inner.len() <= LITERAL,
-        };
-        if short && self.fits(indent, text.len()) || names.is_empty() {
+        let is_short = is_short(fields.form, inner.len());
+        let text = literal_text(self.alloc, before, name, fields.form, inner.as_str(), after)?;
+        if names.is_empty() || is_short && self.fits(indent, text.len()) {
             return self.line(indent, text.as_str());
         }
-        let (open, close) = match fields.form {
+        self.long_literal(indent, before, name, fields.form, names, after)
+    }
+
+    /// As [`literal`](Printer::literal), over lines.
+    fn long_literal(
+        &mut self,
+        indent: usize,
+        before: &str,
+        name: &str,
+        form: Form,
+        names: &[String],
+        after: &str,
+    ) -> Result<(), AllocError> {
+        let (open, close) = match form {
             Form::Tuple => ("(", ")"),
             _ => (" {", "}"),
         };
-        let open = format!(in self.alloc; "{before}{name}{open}")?;
-        self.line(indent, open.as_str())?;
+        self.made(indent, format!(in self.alloc; "{before}{name}{open}"))?;
         self.lines(indent.saturating_add(4), names)?;
-        let close = format!(in self.alloc; "{close}{after}")?;
-        self.line(indent, close.as_str())
+        self.made(indent, format!(in self.alloc; "{close}{after}"))
     }
 
     /// Writes the names that are used of a module.
     pub fn uses(&mut self, module: &str, names: &[String]) -> Result<(), AllocError> {
-        let inner = joined(self.alloc, names, ", ")?;
-        let text = match names.len() {
-            1 => format!(in self.alloc; "use {module}::{inner};")?,
-            _ => format!(in self.alloc; "use {module}::{{{inner}}};")?,
-        };
+        let text = used_text(self.alloc, module, names)?;
         if self.fits(0, text.len()) {
             return self.line(0, text.as_str());
         }
-        let open = format!(in self.alloc; "use {module}::{{")?;
-        self.line(0, open.as_str())?;
+        self.made(0, format!(in self.alloc; "use {module}::{{"))?;
+        self.wrapped(4, names)?;
+        self.line(0, "};")
+    }
+
+    /// Writes names with a comma behind each, as many a line as fit.
+    fn wrapped(&mut self, indent: usize, names: &[String]) -> Result<(), AllocError> {
         let mut line = String::new(self.alloc);
         for name in names {
             let length = line.len().saturating_add(name.len()).saturating_add(2);
-            if !line.is_empty() && !self.fits(4, length) {
-                self.line(4, line.as_str())?;
+            if !line.is_empty() && !self.fits(indent, length) {
+                self.line(indent, line.as_str())?;
                 line.clear();
             }
-            if !line.is_empty() {
-                line.push(' ')?;
-            }
-            line.push_str(name.as_str())?;
-            line.push(',')?;
+            put_after(&mut line, name.as_str())?;
         }
-        self.line(4, line.as_str())?;
-        self.line(0, "};")
+        self.line(indent, line.as_str())
     }
 
     /// Writes an implementation without members.
@@ -233,9 +258,8 @@ impl Printer {
         bound: &str,
     ) -> Result<(), AllocError> {
         let head = head(self.alloc, declaration, name, bound)?;
-        let text = format!(in self.alloc; "{head} {{}}")?;
         self.line(0, "")?;
-        self.line(0, text.as_str())
+        self.made(0, format!(in self.alloc; "{head} {{}}"))
     }
 
     /// Opens an implementation.
@@ -246,10 +270,53 @@ impl Printer {
         bound: &str,
     ) -> Result<(), AllocError> {
         let head = head(self.alloc, declaration, name, bound)?;
-        let text = format!(in self.alloc; "{head} {{")?;
         self.line(0, "")?;
-        self.line(0, text.as_str())
+        self.made(0, format!(in self.alloc; "{head} {{"))
     }
+}
+
+/// A value made of its fields in one line, between two texts.
+fn literal_text(
+    alloc: Global,
+    before: &str,
+    name: &str,
+    form: Form,
+    inner: &str,
+    after: &str,
+) -> Result<String, AllocError> {
+    match form {
+        Form::Unit => format!(in alloc; "{before}{name}{after}"),
+        Form::Tuple => format!(in alloc; "{before}{name}({inner}){after}"),
+        Form::Named if inner.is_empty() => format!(in alloc; "{before}{name} {{}}{after}"),
+        Form::Named => format!(in alloc; "{before}{name} {{ {inner} }}{after}"),
+    }
+}
+
+/// Whether fields that are so long with their commas may stand in one line.
+fn is_short(form: Form, length: usize) -> bool {
+    match form {
+        Form::Unit => true,
+        Form::Tuple => length.saturating_add(2) <= PARTS,
+        Form::Named => length <= LITERAL,
+    }
+}
+
+/// The names that are used of a module, in one line.
+fn used_text(alloc: Global, module: &str, names: &[String]) -> Result<String, AllocError> {
+    let inner = joined(alloc, names, ", ")?;
+    if names.len() == 1 {
+        return format!(in alloc; "use {module}::{inner};");
+    }
+    format!(in alloc; "use {module}::{{{inner}}};")
+}
+
+/// Puts a name behind others, with a comma behind it.
+fn put_after(line: &mut String, name: &str) -> Result<(), AllocError> {
+    if !line.is_empty() {
+        line.push(' ')?;
+    }
+    line.push_str(name)?;
+    line.push(',')
 }
 
 /// A type's name with its parameters.
@@ -266,6 +333,23 @@ pub fn whole_name(
     format!(in alloc; "{name}{suffix}<{inner}>")
 }
 
+/// A type parameter with its bound; a lifetime has none.
+fn bounded(alloc: Global, parameter: &str, bound: &str) -> Result<String, AllocError> {
+    if bound.is_empty() || parameter.starts_with('\'') {
+        return String::from_str(alloc, parameter);
+    }
+    format!(in alloc; "{parameter}: {bound}")
+}
+
+/// The type parameters with this bound.
+fn all_bounded(alloc: Global, parameters: &[String], bound: &str) -> Result<String, AllocError> {
+    let mut texts = Vec::new(alloc);
+    for parameter in parameters {
+        texts.push(bounded(alloc, parameter.as_str(), bound)?)?;
+    }
+    joined(alloc, &texts, ", ")
+}
+
 /// The first line of an implementation, whose type parameters have this bound.
 fn head(
     alloc: Global,
@@ -277,15 +361,7 @@ fn head(
     if declaration.parameters.is_empty() {
         return format!(in alloc; "impl {name} for {whole}");
     }
-    let mut bounded = Vec::new(alloc);
-    for parameter in &declaration.parameters {
-        bounded.push(if bound.is_empty() || parameter.as_str().starts_with('\'') {
-            String::from_str(alloc, parameter.as_str())?
-        } else {
-            format!(in alloc; "{parameter}: {bound}")?
-        })?;
-    }
-    let inner = joined(alloc, &bounded, ", ")?;
+    let inner = all_bounded(alloc, &declaration.parameters, bound)?;
     format!(in alloc; "impl<{inner}> {name} for {whole}")
 }
 
@@ -317,6 +393,19 @@ fn is_brought_in(declaration: &Declaration, word: &str) -> bool {
     }
 }
 
+/// Puts a word of a type among the names, where it must be brought in.
+fn put_word(
+    alloc: Global,
+    declaration: &Declaration,
+    word: &str,
+    names: &mut Vec<String>,
+) -> Result<(), AllocError> {
+    if is_brought_in(declaration, word) {
+        put_name(alloc, names, word)?;
+    }
+    Ok(())
+}
+
 /// Puts the names in a type.
 fn put_names(
     alloc: Global,
@@ -326,19 +415,14 @@ fn put_names(
 ) -> Result<(), AllocError> {
     let mut word = String::new(alloc);
     for character in field.of.as_str().chars() {
-        if character.is_alphanumeric() || character == '_' || character == '\'' {
+        if is_of_word(character) {
             word.push(character)?;
-            continue;
+        } else {
+            put_word(alloc, declaration, word.as_str(), names)?;
+            word.clear();
         }
-        if is_brought_in(declaration, word.as_str()) {
-            put_name(alloc, names, word.as_str())?;
-        }
-        word.clear();
     }
-    if is_brought_in(declaration, word.as_str()) {
-        put_name(alloc, names, word.as_str())?;
-    }
-    Ok(())
+    put_word(alloc, declaration, word.as_str(), names)
 }
 
 /// Puts the names in the types of fields.
@@ -354,17 +438,105 @@ fn put_fields(
     Ok(())
 }
 
+/// Puts the names of a type and of what its fields are.
+fn put_above(
+    alloc: Global,
+    declaration: &Declaration,
+    names: &mut Vec<String>,
+) -> Result<(), AllocError> {
+    put_name(alloc, names, declaration.name.as_str())?;
+    match &declaration.body {
+        Body::Struct(fields) => put_fields(alloc, declaration, fields, names)?,
+        Body::Enum(variants) => {
+            for variant in variants {
+                put_fields(alloc, declaration, &variant.fields, names)?;
+            }
+        }
+    }
+    Ok(())
+}
+
 /// The names that stand in the module above: the types, and what their fields are.
 fn names_above(alloc: Global, all: &[Declaration]) -> Result<Vec<String>, AllocError> {
     let mut names = Vec::new(alloc);
     for declaration in all {
-        put_name(alloc, &mut names, declaration.name.as_str())?;
-        match &declaration.body {
-            Body::Struct(fields) => put_fields(alloc, declaration, fields, &mut names)?,
-            Body::Enum(variants) => {
-                for variant in variants {
-                    put_fields(alloc, declaration, &variant.fields, &mut names)?;
-                }
+        put_above(alloc, declaration, &mut names)?;
+    }
+    names.sort()?;
+    Ok(names)
+}
+
+/// Whether a type has a parameter that is no lifetime.
+fn is_generic(declaration: &Declaration) -> bool {
+    declaration
+        .parameters
+        .iter()
+        .any(|p| !p.as_str().starts_with('\''))
+}
+
+/// Puts these names.
+fn put_all(alloc: Global, names: &mut Vec<String>, more: &[&str]) -> Result<(), AllocError> {
+    for name in more {
+        put_name(alloc, names, name)?;
+    }
+    Ok(())
+}
+
+/// Puts the names that the shape of a body uses.
+fn put_of_shape(alloc: Global, body: &Body, names: &mut Vec<String>) -> Result<(), AllocError> {
+    let count = match body {
+        Body::Struct(_) => return put_name(alloc, names, "Serialize"),
+        Body::Enum(variants) => variants.len(),
+    };
+    put_name(alloc, names, "Last")?;
+    if count > 4 {
+        put_name(alloc, names, "Variants4")?;
+    }
+    if count % 4 != 1 {
+        put_name(alloc, names, "Variant")?;
+    }
+    Ok(())
+}
+
+/// Puts the names that a declaration uses of `postcard`.
+fn put_used(
+    alloc: Global,
+    declaration: &Declaration,
+    names: &mut Vec<String>,
+) -> Result<(), AllocError> {
+    let generic = is_generic(declaration);
+    if generic {
+        put_all(alloc, names, &["Readable", "Serialize"])?;
+    }
+    if declaration.marks.exact {
+        put_name(alloc, names, "ExactShape")?;
+        if generic {
+            put_name(alloc, names, "Exact")?;
+        }
+    }
+    put_of_shape(alloc, &declaration.body, names)
+}
+
+/// The names that are used of `postcard`.
+fn names_used(alloc: Global, all: &[Declaration]) -> Result<Vec<String>, AllocError> {
+    let mut names = Vec::new(alloc);
+    let each = ["DeserializeShape", "SerializeShape", "Serializer", "Shaped"];
+    put_all(alloc, &mut names, &each)?;
+    for declaration in all {
+        put_used(alloc, declaration, &mut names)?;
+    }
+    names.sort()?;
+    Ok(names)
+}
+
+/// The names that are used of `postcard`'s greatest sizes.
+fn sizes_used(alloc: Global, all: &[Declaration]) -> Result<Vec<String>, AllocError> {
+    let mut names = Vec::new(alloc);
+    for declaration in all {
+        if declaration.marks.max_size {
+            put_name(alloc, &mut names, "MaxSizeShape")?;
+            if is_generic(declaration) {
+                put_name(alloc, &mut names, "MaxSize")?;
             }
         }
     }
@@ -372,66 +544,23 @@ fn names_above(alloc: Global, all: &[Declaration]) -> Result<Vec<String>, AllocE
     Ok(names)
 }
 
-/// The names that are used of `postcard`, and of its greatest sizes.
-fn names_used(
-    alloc: Global,
-    all: &[Declaration],
-) -> Result<(Vec<String>, Vec<String>), AllocError> {
-    let mut names = Vec::new(alloc);
-    let mut sizes = Vec::new(alloc);
-    for name in ["DeserializeShape", "SerializeShape", "Serializer", "Shaped"] {
-        put_name(alloc, &mut names, name)?;
-    }
-    for declaration in all {
-        let generic = declaration
-            .parameters
-            .iter()
-            .any(|p| !p.as_str().starts_with('\''));
-        if generic {
-            put_name(alloc, &mut names, "Readable")?;
-            put_name(alloc, &mut names, "Serialize")?;
-        }
-        if declaration.marks.max_size {
-            put_name(alloc, &mut sizes, "MaxSizeShape")?;
-            if generic {
-                put_name(alloc, &mut sizes, "MaxSize")?;
-            }
-        }
-        if declaration.marks.exact {
-            put_name(alloc, &mut names, "ExactShape")?;
-            if generic {
-                put_name(alloc, &mut names, "Exact")?;
-            }
-        }
-        match &declaration.body {
-            Body::Struct(_) => put_name(alloc, &mut names, "Serialize")?,
-            Body::Enum(variants) => {
-                let count = variants.len();
-                put_name(alloc, &mut names, "Last")?;
-                if count > 4 {
-                    put_name(alloc, &mut names, "Variants4")?;
-                }
-                if count % 4 != 1 {
-                    put_name(alloc, &mut names, "Variant")?;
-                }
-            }
-        }
-    }
-    names.sort()?;
-    sizes.sort()?;
-    Ok((names, sizes))
-}
-
 impl Printer {
+    /// Writes the names that are used of greatest sizes.
+    fn uses_sizes(&mut self, all: &[Declaration]) -> Result<(), AllocError> {
+        let sizes = sizes_used(self.alloc, all)?;
+        if sizes.is_empty() {
+            return Ok(());
+        }
+        self.uses("postcard::experimental::max_size", &sizes)
+    }
+
     /// Writes what stands before the implementations.
     fn top(&mut self, all: &[Declaration]) -> Result<(), AllocError> {
-        let (names, sizes) = names_used(self.alloc, all)?;
         let above = names_above(self.alloc, all)?;
         self.uses("super", &above)?;
-        if !sizes.is_empty() {
-            self.uses("postcard::experimental::max_size", &sizes)?;
-        }
+        self.uses_sizes(all)?;
         self.line(0, "use postcard::ser_flavors::Flavor;")?;
+        let names = names_used(self.alloc, all)?;
         self.uses("postcard", &names)
     }
 

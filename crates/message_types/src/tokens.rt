@@ -9,7 +9,7 @@ pub struct Token {
 }
 
 /// Whether a character can stand in a word, a lifetime or a number.
-fn is_of_word(character: char) -> bool {
+pub fn is_of_word(character: char) -> bool {
     character.is_alphanumeric() || character == '_' || character == '\''
 }
 
@@ -19,6 +19,19 @@ fn put(alloc: Global, text: &str, line: usize, tokens: &mut Vec<Token>) -> Resul
         return Ok(());
     }
     let text = String::from_str(alloc, text)?;
+    tokens.push(Token { text, line })?;
+    Ok(())
+}
+
+/// Appends a mark as a token.
+fn put_mark(
+    alloc: Global,
+    mark: char,
+    line: usize,
+    tokens: &mut Vec<Token>,
+) -> Result<(), AllocError> {
+    let mut text = String::new(alloc);
+    text.push(mark)?;
     tokens.push(Token { text, line })?;
     Ok(())
 }
@@ -34,10 +47,24 @@ pub fn read_line(
     if line == "// message" || line.starts_with("// message:") {
         return put(alloc, line, number, tokens);
     }
-    let code = match line.split_once("//") {
+    read_code(alloc, without_comment(line), number, tokens)
+}
+
+/// A line up to a comment.
+fn without_comment(line: &str) -> &str {
+    match line.split_once("//") {
         Some((code, _)) => code,
         None => line,
-    };
+    }
+}
+
+/// Appends the tokens of a line's code.
+fn read_code(
+    alloc: Global,
+    code: &str,
+    number: usize,
+    tokens: &mut Vec<Token>,
+) -> Result<(), AllocError> {
     let mut word = String::new(alloc);
     for character in code.chars() {
         if is_of_word(character) {
@@ -47,9 +74,7 @@ pub fn read_line(
         put(alloc, word.as_str(), number, tokens)?;
         word.clear();
         if !character.is_whitespace() {
-            word.push(character)?;
-            put(alloc, word.as_str(), number, tokens)?;
-            word.clear();
+            put_mark(alloc, character, number, tokens)?;
         }
     }
     put(alloc, word.as_str(), number, tokens)
