@@ -1,19 +1,20 @@
 -- The three ways to receive values give the same.
-use Rattle.std.proofs.Common.{◌≡◌, ◌≢◌, ℕ, zero, suc, ◌+◌, ◌-◌, ◌<◌, Bool, true, false, List, [], ◌∷◌, ◌++◌, length, drop, refl, sym, ap, ◌∙◌, subst, inl, inr, ◌⊎◌, arith, append_assoc, length-append}
+use Rattle.std.proofs.Common.{◌≡◌, ◌≢◌, ℕ, zero, suc, ◌+◌, ◌-◌, ◌<◌, Bool, true, false, List, [], ◌∷◌, ◌++◌, length, map, drop, refl, sym, ap, ◌∙◌, subst, inl, inr, ◌⊎◌, arith, append_assoc, length-append}
 use Rattle.std.specs.List.{AllZip, AllByRecursion}
-use Rattle.std.specs.Int.Bits.{xor_zero_l}
+use Rattle.std.specs.Prelude.{bit_xor}
+use Rattle.std.specs.Int.Bits.{xor_zero_l, xor_self}
 use Rattle.std.proofs.lemmas.Bool.{ne_eqb, cases_lt}
-use Rattle.std.proofs.lemmas.List.{append-nil}
+use Rattle.std.proofs.lemmas.List.{append-nil, map-append}
 use Rattle.cobs.specs.Frames.{NoZero}
 use Rattle.cobs.specs.InPlace.{stretch}
 use Rattle.cobs.specs.Sentinel.{masked}
 use Rattle.postcard_tree.specs.Tree.{Tree}
 use Rattle.postcard.specs.Frames.{Holds}
-use Rattle.link.specs.Stream.{Verdict, value, damaged, too_long, cut, IsContent, IsAnswer, Heard, ended, unfinished}
+use Rattle.link.specs.Stream.{Verdict, value, damaged, too_long, cut, IsContent, IsAnswer, Heard, Answers, pieces, ended_of, unfinished_of, ended, unfinished, begun_answers, cut_answers}
 use Rattle.link.specs.Roads.{values_of, AllFit, ReadsInPlace, nothing, skipped, answered, unanswered, IsSameInPlace, Loops, done, stopped, used_up, consumed, overfull, failed, success, joined, AreValues, AreFirst, IsSameByAccumulator}
 use Rattle.link.proofs.Facts.{some_bytes}
 use Rattle.link.proofs.HeardLemmas.{IsOne, zip_once, heard_of, heard_skip, heard_ended, heard_alone}
-use Rattle.link.proofs.Pieces.{ended_skip, ended_at, ended_alone}
+use Rattle.link.proofs.Pieces.{Parted, alone, more, parted, masked_twice, pieces_at, pieces_alone, ended_skip, ended_at, ended_alone}
 use Rattle.link.proofs.Telling.{at_end}
 
 values_joined : (us vs : List Verdict) → values_of vs ≡ [] → values_of (us ++ vs) ≡ values_of us
@@ -286,8 +287,44 @@ module _ {A : Type 0} (takes : Tree → Type 0) (reads : Tree → A → Type 0) 
         ]
       ]
 
-pub same_by_accumulator : {A : Type 0} (takes : Tree → Type 0) (reads : Tree → A → Type 0) (growing : Bool) (values : List A) → IsOne (Holds takes) → IsSameByAccumulator takes reads growing values
-same_by_accumulator takes reads growing values one may_stop room pieces answers l f h k =
+at_zero : {A : Type 0} (takes : Tree → Type 0) (reads : Tree → A → Type 0) (growing : Bool) (values : List A) → IsOne (Holds takes)
+    → (may_stop : Bool) (room : ℕ) (pieces : List (List ℕ)) (answers : List Verdict) → 0 < room → AllFit room 0 (joined pieces)
+    → Answers (Holds takes) room 0 (joined pieces) answers → Loops takes reads growing may_stop room [] pieces values → AreFirst reads growing may_stop (values_of answers) values
+at_zero takes reads growing values one may_stop room pieces answers l f h k =
     let g = gathered takes reads growing may_stop room l one h.done k tt f (contents (Holds takes) room (ended 0 (joined pieces)) h.done f h.each) in
     let same : values_of answers ≡ values_of h.done = ap values_of h.whole ∙ values_joined h.done (at_end room (unfinished 0 (joined pieces))) (no_values_at_end room (unfinished 0 (joined pieces))) in
     subst (λ ts. AreFirst reads growing may_stop ts values) (sym same) g
+
+-- XORed with the sentinel a stream has the same stretches, by zeros
+module _ (s : ℕ) where
+  unmasked_pieces : {x : List ℕ} → Parted s x → pieces 0 (masked s x) ≡ pieces s x
+  unmasked_pieces {x} (alone p z e) =
+      ap (λ y. pieces 0 (masked s y)) e ∙ ap (pieces 0) (masked_twice s p ∙ sym (plain p)) ∙ pieces_alone 0 p z ∙ sym (ap (pieces s) e ∙ pieces_alone s p z)
+  unmasked_pieces {x} (more p rest z e k) =
+      let line : masked s (masked s p ++ (s ∷ rest)) ≡ masked 0 p ++ (0 ∷ masked s rest) =
+      map-append (bit_xor s) (masked s p) (s ∷ rest) ∙ ap (λ y. y ++ masked s (s ∷ rest)) (masked_twice s p ∙ sym (plain p)) ∙ ap (λ b. masked 0 p ++ (b ∷ masked s rest)) (xor_self s) in
+      ap (λ y. pieces 0 (masked s y)) e ∙ ap (pieces 0) line ∙ pieces_at 0 p (masked s rest) z ∙ ap (λ y. p ∷ y) (unmasked_pieces k) ∙ sym (ap (pieces s) e ∙ pieces_at s p rest z)
+
+  same_ended : (x : List ℕ) → ended s x ≡ ended 0 (masked s x)
+  same_ended x = ap ended_of (sym (unmasked_pieces (parted s x)))
+
+  same_unfinished : (x : List ℕ) → unfinished s x ≡ unfinished 0 (masked s x)
+  same_unfinished x = ap unfinished_of (sym (unmasked_pieces (parted s x)))
+
+  same_heard : (R : List ℕ → Verdict → Type 0) (said : List ℕ → List Verdict) (x : List ℕ) (us : List Verdict) → Heard R said s x us → Heard R said 0 (masked s x) us
+  same_heard R said x us h = record {
+    done = h.done;
+    each = subst (λ ps. AllZip R ps h.done) (same_ended x) h.each;
+    whole = h.whole ∙ ap (λ u. h.done ++ said u) (same_unfinished x);
+  }
+
+  joined_masked : (ps : List (List ℕ)) → masked s (joined ps) ≡ joined (map (masked s) ps)
+  joined_masked [] = refl
+  joined_masked (p ∷ ps) = map-append (bit_xor s) p (joined ps) ∙ ap (λ y. masked s p ++ y) (joined_masked ps)
+
+pub same_by_accumulator : {A : Type 0} (takes : Tree → Type 0) (reads : Tree → A → Type 0) (growing : Bool) (values : List A) (s : ℕ) → IsOne (Holds takes) → IsSameByAccumulator takes reads growing values s
+same_by_accumulator takes reads growing values s one may_stop room pieces answers l f h k =
+    let x = joined pieces in
+    let line = joined_masked s pieces in
+    at_zero takes reads growing values one may_stop room (map (masked s) pieces) answers l (subst (AllFit room 0) line (subst (AllByRecursion (λ q. length q < room)) (same_ended s x) f))
+    (subst (λ y. Answers (Holds takes) room 0 y answers) line (same_heard s (IsAnswer (Holds takes) room) (λ q. begun_answers room q ++ cut_answers room q) x answers h)) k

@@ -1,7 +1,8 @@
--- What the loop over an accumulator does with a piece.
-use Rattle.std.specs.Prelude.{◌≡◌, ℕ, Bool, true, List, [], ◌∷◌, ◌++◌}
+-- What the loop over an accumulator does with pieces, each byte of which is XORed with the sentinel.
+use Rattle.std.specs.Prelude.{◌≡◌, ℕ, Bool, true, List, [], ◌∷◌, ◌++◌, map}
 use Rattle.std.specs.Borrow.{RattleType}
 use Rattle.std.specs.Mem.{FitsInMemory}
+use Rattle.cobs.specs.Sentinel.{masked}
 use Rattle.postcard_tree.specs.Tree.{Tree}
 use Rattle.postcard.specs.contracts.accumulator.CobsAccumulator as accumulator
 use Rattle.postcard.specs.Frames.{Holds}
@@ -38,7 +39,7 @@ pub record LacksPlace {V : Type 0} (takes : Tree → Type 0) (reads : Tree → V
 
 -- `roads`' law of an accumulator, of any values
 abbrev pub AreSameByAccumulator : {V : Type 0} → (Tree → Type 0) → (Tree → V → Type 0) → Bool → Type 0
-AreSameByAccumulator {V} takes reads growing = (values : List V) → IsSameByAccumulator takes reads growing values
+AreSameByAccumulator {V} takes reads growing = (values : List V) (s : ℕ) → IsSameByAccumulator takes reads growing values s
 
 -- a byte or none
 abbrev pub some_held : List ℕ → ℕ
@@ -51,37 +52,42 @@ pub record GathersPieces {V : Type 0} (takes : Tree → Type 0) (reads : Tree �
   pub values : new ≡ old ++ got
   pub goes_on : (may_stop : Bool) (later : List (List ℕ)) (vs : List V) → Loops takes reads growing may_stop room kept later vs → Loops takes reads growing may_stop room held (pieces ++ later) (got ++ vs)
 
--- pieces of these bytes
-pub record Gathers {V : Type 0} (takes : Tree → Type 0) (reads : Tree → V → Type 0) (growing : Bool) (room : ℕ) (held bytes kept : List ℕ) (old new : List V) : Type 0 where
+-- pieces of these bytes on the line
+pub record Gathers {V : Type 0} (takes : Tree → Type 0) (reads : Tree → V → Type 0) (growing : Bool) (room s : ℕ) (held bytes kept : List ℕ) (old new : List V) : Type 0 where
   pub pieces : List (List ℕ)
   pub are : joined pieces ≡ bytes
-  pub gathers : GathersPieces takes reads growing room held pieces kept old new
+  pub gathers : GathersPieces takes reads growing room held (map (masked s) pieces) kept old new
 
--- pieces of these bytes; then a further value had no place in the list
-pub record Lacks {V : Type 0} (takes : Tree → Type 0) (reads : Tree → V → Type 0) (growing : Bool) (room : ℕ) (held bytes : List ℕ) (old new : List V) : Type 0 where
+-- pieces of these bytes on the line; then a further value had no place in the list
+pub record Lacks {V : Type 0} (takes : Tree → Type 0) (reads : Tree → V → Type 0) (growing : Bool) (room s : ℕ) (held bytes : List ℕ) (old new : List V) : Type 0 where
   pub pieces : List (List ℕ)
   pub are : joined pieces ≡ bytes
   pub got : List V
   pub lost : V
   pub values : new ≡ old ++ got
-  pub loops : Loops takes reads growing true room held pieces (got ++ lost ∷ [])
+  pub loops : Loops takes reads growing true room held (map (masked s) pieces) (got ++ lost ∷ [])
 
 -- what was gathered, by how the reading ended
-abbrev pub IsGathered : {V : Type 0} → (Tree → Type 0) → (Tree → V → Type 0) → Bool → ℕ → List ℕ → List ℕ → List ℕ → List V → List V → End → Type 0
-IsGathered takes reads growing room held bytes kept old new Ended = Gathers takes reads growing room held bytes kept old new
-IsGathered takes reads growing room held bytes kept old new ReadFault = Gathers takes reads growing room held bytes kept old new
-IsGathered takes reads growing room held bytes kept old new NoMemory = Lacks takes reads growing room held bytes old new
+abbrev pub IsGathered : {V : Type 0} → (Tree → Type 0) → (Tree → V → Type 0) → Bool → ℕ → ℕ → List ℕ → List ℕ → List ℕ → List V → List V → End → Type 0
+IsGathered takes reads growing room s held bytes kept old new Ended = Gathers takes reads growing room s held bytes kept old new
+IsGathered takes reads growing room s held bytes kept old new ReadFault = Gathers takes reads growing room s held bytes kept old new
+IsGathered takes reads growing room s held bytes kept old new NoMemory = Lacks takes reads growing room s held bytes old new
 
 -- Where the stretches of the bytes fit, the values are those of the answers.
-abbrev pub AreThose : {V : Type 0} → (Tree → Type 0) → (Tree → V → Type 0) → Bool → ℕ → List ℕ → List V → Type 0
-AreThose takes reads growing room bytes values = (answers : List Verdict) → AllFit room 0 bytes → Answers (Holds takes) room 0 bytes answers → AreValues reads growing (values_of answers) values
+abbrev pub AreThose : {V : Type 0} → (Tree → Type 0) → (Tree → V → Type 0) → Bool → ℕ → ℕ → List ℕ → List V → Type 0
+AreThose takes reads growing room s bytes values = (answers : List Verdict) → AllFit room s bytes → Answers (Holds takes) room s bytes answers → AreValues reads growing (values_of answers) values
 
 -- The same of these values and one more, which had no place in the list, and of the first of the answers.
-pub record AreBefore {V : Type 0} (takes : Tree → Type 0) (reads : Tree → V → Type 0) (growing : Bool) (room : ℕ) (bytes : List ℕ) (values : List V) : Type 0 where
+pub record AreBefore {V : Type 0} (takes : Tree → Type 0) (reads : Tree → V → Type 0) (growing : Bool) (room s : ℕ) (bytes : List ℕ) (values : List V) : Type 0 where
   pub lost : V
-  pub those : (answers : List Verdict) → AllFit room 0 bytes → Answers (Holds takes) room 0 bytes answers → AreFirst reads growing true (values_of answers) (values ++ lost ∷ [])
+  pub those : (answers : List Verdict) → AllFit room s bytes → Answers (Holds takes) room s bytes answers → AreFirst reads growing true (values_of answers) (values ++ lost ∷ [])
 
+-- by how the reading ended
+abbrev pub AreThoseFor : {V : Type 0} → (Tree → Type 0) → (Tree → V → Type 0) → Bool → ℕ → ℕ → List ℕ → List V → End → Type 0
+AreThoseFor takes reads growing room s bytes values Ended = AreThose takes reads growing room s bytes values
+AreThoseFor takes reads growing room s bytes values ReadFault = AreThose takes reads growing room s bytes values
+AreThoseFor takes reads growing room s bytes values NoMemory = AreBefore takes reads growing room s bytes values
+
+-- the same at the sentinel zero
 abbrev pub AreThoseBy : {V : Type 0} → (Tree → Type 0) → (Tree → V → Type 0) → Bool → ℕ → List ℕ → List V → End → Type 0
-AreThoseBy takes reads growing room bytes values Ended = AreThose takes reads growing room bytes values
-AreThoseBy takes reads growing room bytes values ReadFault = AreThose takes reads growing room bytes values
-AreThoseBy takes reads growing room bytes values NoMemory = AreBefore takes reads growing room bytes values
+AreThoseBy takes reads growing room bytes values end = AreThoseFor takes reads growing room 0 bytes values end

@@ -1,5 +1,5 @@
 -- The three ways to receive values: stretch by stretch under a limit, in place, and by an accumulator.
-use Rattle.std.specs.Prelude.{◌≡◌, ◌≢◌, ◌⊎◌, ℕ, ◌<◌, Bool, true, false, List, [], ◌∷◌, ◌++◌, length}
+use Rattle.std.specs.Prelude.{◌≡◌, ◌≢◌, ◌⊎◌, ℕ, ◌<◌, Bool, true, false, List, [], ◌∷◌, ◌++◌, length, map}
 use Rattle.std.specs.List.{AllZip, AllByRecursion}
 use Rattle.postcard_tree.specs.Tree.{Tree}
 use Rattle.postcard.specs.Frames.{Holds, HoldsValue}
@@ -34,7 +34,8 @@ abbrev pub IsSameInPlace : (List ℕ → Tree → Type 0) → ℕ → Type 0
 IsSameInPlace holds s = (room : ℕ) (stream : List ℕ) (us vs : List Verdict) → AllFit room s stream → Answers holds room s stream us → ReadsInPlace holds s stream vs → values_of us ≡ values_of vs
 
 -- The loop that an accumulator's documentation has: each piece is fed until nothing is left of it or nothing was answered.
--- From these held bytes, over these pieces, these values. Where `may_stop`, the loop may be left early.
+-- From these held bytes, over these pieces, these values; the bytes are those on the line, each XORed with the sentinel. Where
+-- `may_stop`, the loop may be left early.
 pub data Loops {A : Type 0} (takes : Tree → Type 0) (reads : Tree → A → Type 0) (growing may_stop : Bool) (room : ℕ) : List ℕ → List (List ℕ) → List A → Type 0 where
   done : {held : List ℕ} → Loops takes reads growing may_stop room held [] []
   stopped : {held : List ℕ} {pieces : List (List ℕ)} → may_stop ≡ true → Loops takes reads growing may_stop room held pieces []
@@ -74,6 +75,6 @@ pub record AreFirst {A : Type 0} (reads : Tree → A → Type 0) (growing may_st
   pub whole : may_stop ≡ false → more ≡ []
 
 -- Where the stretches fit the accumulator, the values are those of the answers under its size, however the stream is cut.
-abbrev pub IsSameByAccumulator : {A : Type 0} → (Tree → Type 0) → (Tree → A → Type 0) → Bool → List A → Type 0
-IsSameByAccumulator takes reads growing values = (may_stop : Bool) (room : ℕ) (pieces : List (List ℕ)) (answers : List Verdict) → 0 < room → AllFit room 0 (joined pieces)
-    → Answers (Holds takes) room 0 (joined pieces) answers → Loops takes reads growing may_stop room [] pieces values → AreFirst reads growing may_stop (values_of answers) values
+abbrev pub IsSameByAccumulator : {A : Type 0} → (Tree → Type 0) → (Tree → A → Type 0) → Bool → List A → ℕ → Type 0
+IsSameByAccumulator takes reads growing values s = (may_stop : Bool) (room : ℕ) (pieces : List (List ℕ)) (answers : List Verdict) → 0 < room → AllFit room s (joined pieces)
+    → Answers (Holds takes) room s (joined pieces) answers → Loops takes reads growing may_stop room [] (map (masked s) pieces) values → AreFirst reads growing may_stop (values_of answers) values

@@ -1,8 +1,9 @@
 //! Receiving by postcard's accumulator.
-ghost use Rattle.std.specs.Prelude.{◌<◌, OnOk, OnErr, List, ℕ};
-ghost use Rattle.postcard.specs.Gathers.{held_of};
+ghost use Rattle.std.specs.Prelude.{◌≡◌, ◌<◌, OnOk, OnErr, List, ℕ};
+ghost use Rattle.cobs.specs.Sentinel.{masked};
+ghost use Rattle.postcard.specs.Gathers.{held_of, sentinel_of};
 ghost use Rattle.link.specs.Listening.{HasRead};
-ghost use Rattle.link.specs.Gathering.{GathersPiece, LacksPlace, AreSameByAccumulator, IsGathered, AreThoseBy, AccumulatorFitsInMemory};
+ghost use Rattle.link.specs.Gathering.{GathersPiece, LacksPlace, AreSameByAccumulator, IsGathered, AreThoseBy, AreThoseFor, AccumulatorFitsInMemory};
 
 use crate::listening::End;
 use crate::receiver::NoMemory;
@@ -34,8 +35,9 @@ fn gather<T: DeserializeOwned, const N: usize>(
     piece: &[u8],
 ) -> Result<(), NoMemory>
     requires { 0 < N }
-    ensures ok { OnOk result (GathersPiece T.takes T.reads T.growing N (held_of accumulator.old) piece.now (held_of accumulator.new) values.old.items values.new.items) }
-    ensures err { OnErr result (LacksPlace T.takes T.reads T.growing N (held_of accumulator.old) piece.now values.old.items values.new.items) }
+    ensures ok { OnOk result (GathersPiece T.takes T.reads T.growing N (held_of accumulator.old) (masked (sentinel_of accumulator.old) piece.now) (held_of accumulator.new) values.old.items values.new.items) }
+    ensures err { OnErr result (LacksPlace T.takes T.reads T.growing N (held_of accumulator.old) (masked (sentinel_of accumulator.old) piece.now) values.old.items values.new.items) }
+    ensures sentinel { sentinel_of accumulator.new ≡ sentinel_of accumulator.old }
 {
     let mut rest = piece;
     while !rest.is_empty() {
@@ -63,7 +65,7 @@ fn collect<T: DeserializeOwned, R: Inlet, const N: usize>(
 ) -> End
     requires { 0 < N }
     ensures { (bytes : List ℕ) × HasRead (R.to_come reader.old) (R.to_come reader.new) (R.faults reader.old) (R.faults reader.new) (R.calls_left reader.new) result bytes
-        × IsGathered T.takes T.reads T.growing N (held_of accumulator.old) bytes (held_of accumulator.new) values.old.items values.new.items result }
+        × IsGathered T.takes T.reads T.growing N (sentinel_of accumulator.old) (held_of accumulator.old) bytes (held_of accumulator.new) values.old.items values.new.items result }
 {
     let mut room = [0u8; ROOM];
     loop {
@@ -103,8 +105,22 @@ pub fn receive_by_accumulator<T: DeserializeOwned, R: Inlet, const N: usize>(
     ensures { (bytes : List ℕ) × HasRead (R.to_come reader) (R.to_come result.reader) (R.faults reader) (R.faults result.reader) (R.calls_left result.reader) result.end bytes
         × AreThoseBy T.takes T.reads T.growing N bytes result.values.items result.end }
 {
+    receive_by_accumulator_with_sentinel::<T, R, N>(alloc, reader, 0)
+}
+
+/// The same with a sentinel in place of zero.
+pub fn receive_by_accumulator_with_sentinel<T: DeserializeOwned, R: Inlet, const N: usize>(
+    alloc: Global,
+    reader: R,
+    sentinel: u8,
+) -> Gathered<T, R>
+    requires some { 0 < N }
+    requires fits { AccumulatorFitsInMemory N.row }
+    ensures { (bytes : List ℕ) × HasRead (R.to_come reader) (R.to_come result.reader) (R.faults reader) (R.faults result.reader) (R.calls_left result.reader) result.end bytes
+        × AreThoseFor T.takes T.reads T.growing N sentinel bytes result.values.items result.end }
+{
     let mut reader = reader;
-    let mut accumulator = CobsAccumulator::<N>::new();
+    let mut accumulator = CobsAccumulator::<N>::new_with_sentinel(sentinel);
     let mut values = Vec::new(alloc);
     let end = collect::<T, R, N>(alloc, &mut reader, &mut accumulator, &mut values);
     gathered_alike::<T>();

@@ -212,7 +212,7 @@ pub fn zero_sentinel()
 /// those of an accumulator of that size are the same; for a type that can ask for memory the last may lack some.
 pub fn roads<T: Readable>(values: &[T])
     ensures in_place { (s : ℕ) → IsSameInPlace (Holds T.takes) s }
-    ensures accumulator { IsSameByAccumulator T.takes T.reads T.growing values.now }
+    ensures accumulator { (s : ℕ) → IsSameByAccumulator T.takes T.reads T.growing values.now s }
 {
     cobs::laws::message_of_a_frame();
     cobs::laws::frames_of_a_message();

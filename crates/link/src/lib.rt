@@ -68,7 +68,7 @@ mod writing;
 mod zeros;
 
 pub use framed::Framed;
-pub use gathering::{Gathered, receive_by_accumulator};
+pub use gathering::{Gathered, receive_by_accumulator, receive_by_accumulator_with_sentinel};
 pub use in_place::{read_in_place, read_in_place_with_sentinel};
 pub use listening::{
     End, Received, receive, receive_owned, receive_owned_strict, receive_strict,

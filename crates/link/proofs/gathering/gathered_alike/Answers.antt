@@ -3,7 +3,7 @@ use Rattle.link.proofs.Roads.{same_by_accumulator}
 use Rattle.link.proofs.gathering.gathered_alike.Goals as goal
 
 pub returns : goal.returns
-returns g c values = same_by_accumulator g.T.Readable.takes g.T.Readable.reads g.T.Readable.growing values (one_tree g.T.Readable.takes record {
+returns g c values s = same_by_accumulator g.T.Readable.takes g.T.Readable.reads g.T.Readable.growing values s (one_tree g.T.Readable.takes record {
   one_message = c.message_of_a_frame.ensures.one;
   one_shortest = c.frames_of_a_message.ensures.shortest;
   apart = g.met.T.Readable.laws.once;

@@ -1,7 +1,0 @@
-use Rattle.link.proofs.Fetching.{those_by}
-use Rattle.link.proofs.gathering.receive_by_accumulator.Goals as goal
-
-pub returns : goal.returns
-returns g c =
-    let h = c.collect-end.ensures in
-    (h.0, h.1, those_by _ _ _ _ _ h.0 _ _ _ c.collect-end.result c.requires.some c.new-accumulator.ensures c.new-values.ensures.items c.gathered_alike.ensures h.2)
