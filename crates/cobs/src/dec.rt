@@ -631,10 +631,9 @@ impl Progress {
         Ok(None)
     }
 
-    // The same of any bytes: few by runs, more by windows. What stands for the sentinel zero is made by itself, where no
-    // byte is XORed.
-    #[inline(never)]
-    fn push_bytes(
+    // The same of any bytes: few by runs, more by windows.
+    #[inline(always)]
+    fn push_any(
         &mut self,
         buffer: &mut [u8],
         piece: &[u8],
@@ -644,11 +643,34 @@ impl Progress {
     {
         if piece.len() < FEW {
             self.push_fronts(buffer, piece, sentinel, true)
-        } else if sentinel == 0 {
-            self.push_fronts(buffer, piece, 0, false)
         } else {
             self.push_fronts(buffer, piece, sentinel, false)
         }
+    }
+
+    // The same for the sentinel zero, where no byte is XORed: compiled by itself.
+    #[inline(never)]
+    fn push_unmasked(
+        &mut self,
+        buffer: &mut [u8],
+        piece: &[u8],
+    ) -> Result<Option<DecodeReport>, DecodeError>
+        ensures { TakesPiece self.old buffer.old (masked 0 piece.now) result self.new buffer.new }
+    {
+        self.push_any(buffer, piece, 0)
+    }
+
+    // The same for other sentinels.
+    #[inline(never)]
+    fn push_masked(
+        &mut self,
+        buffer: &mut [u8],
+        piece: &[u8],
+        sentinel: u8,
+    ) -> Result<Option<DecodeReport>, DecodeError>
+        ensures { TakesPiece self.old buffer.old (masked sentinel piece.now) result self.new buffer.new }
+    {
+        self.push_any(buffer, piece, sentinel)
     }
 
     // Takes in a piece up to the first answer. One byte takes no call.
@@ -663,8 +685,10 @@ impl Progress {
     {
         if let [byte] = piece {
             self.push_byte(buffer, sentinel ^ *byte)
+        } else if sentinel == 0 {
+            self.push_unmasked(buffer, piece)
         } else {
-            self.push_bytes(buffer, piece, sentinel)
+            self.push_masked(buffer, piece, sentinel)
         }
     }
 }
@@ -1130,7 +1154,7 @@ impl<const N: usize> CobsDecoderHeapless<N> {
         ensures buffer { array_buffer self.new ≡ array_buffer self.old }
         ensures sentinel { array_sentinel self.new ≡ array_sentinel self.old }
     {
-        self.progress.reset();
+        self.progress = Progress::new();
     }
 
     /// The buffer.
