@@ -5,6 +5,8 @@
 #![tactic(auto)]
 
 #[cfg(test)]
+mod any_sentinel;
+#[cfg(test)]
 mod cobs_decoding;
 #[cfg(test)]
 mod cobs_encoding;

@@ -6,6 +6,8 @@
 #![tactic(auto)]
 
 #[cfg(test)]
+mod any_sentinel;
+#[cfg(test)]
 mod line_io_memory;
 #[cfg(test)]
 mod line_io_streams;
@@ -21,6 +23,8 @@ mod link_sending;
 mod link_texts;
 #[cfg(test)]
 mod malicious;
+#[cfg(test)]
+mod owned_receiver;
 #[cfg(test)]
 mod refused_growths;
 #[cfg(test)]

@@ -5,15 +5,18 @@
 use cobs::{CobsDecoderOwned, DecodeVecError};
 use line_io::memory::{In, Out};
 use link::{
-    Answer, End, Fate, NoMemory, Pushed, Receiver, Sender, read_in_place, receive,
-    receive_by_accumulator, receive_strict, send_each,
+    Answer, End, Fate, NoMemory, OwnedReceiver, Pushed, Received, Receiver, Sender, read_in_place,
+    read_in_place_with_sentinel, receive, receive_by_accumulator,
+    receive_by_accumulator_with_sentinel, receive_owned, receive_owned_strict, receive_strict,
+    receive_strict_with_sentinel, receive_with_sentinel, send_each,
 };
 use postcard::accumulator::{CobsAccumulator, FeedResult};
 use postcard::experimental::serialized_size;
 use postcard::{
-    Error, from_bytes, from_bytes_cobs, from_bytes_owned, from_io, take_from_bytes,
-    take_from_bytes_cobs, to_allocvec, to_allocvec_cobs, to_extend, to_io, to_slice, to_slice_cobs,
-    to_stdvec, to_stdvec_cobs, to_vec, to_vec_cobs,
+    Error, from_bytes, from_bytes_cobs, from_bytes_cobs_with_sentinel, from_bytes_owned, from_io,
+    take_from_bytes, take_from_bytes_cobs, take_from_bytes_cobs_with_sentinel, to_allocvec,
+    to_allocvec_cobs, to_allocvec_cobs_with_sentinel, to_extend, to_io, to_slice, to_slice_cobs,
+    to_stdvec, to_stdvec_cobs, to_stdvec_cobs_with_sentinel, to_vec, to_vec_cobs,
 };
 use samples::Chain;
 use std::alloc::AllocError;
@@ -308,6 +311,151 @@ fn listen<R: AllocGlobal + Abort>(rt: &R, wants: &mut Wants) {
     }
 }
 
+// The same six frames where the line's mark is FF.
+const MARKED: [u8; 24] = [
+    252, 254, 254, 255, 252, 254, 253, 255, 252, 254, 252, 255, 252, 254, 251, 255, 252, 254, 250,
+    255, 252, 254, 249, 255,
+];
+
+/// Calls for a line whose mark is FF.
+fn mark<R: AllocGlobal + Abort>(rt: &R, wants: &mut Wants) {
+    let alloc = rt.alloc();
+    // 5, 3, "Hi!", 0
+    let framed = [0xFAu8, 0xFC, 0xB7, 0x96, 0xDE, 0xFF];
+    wants.written(rt, to_allocvec_cobs_with_sentinel(alloc, &"Hi!", 0xFF), &framed);
+    wants.written(rt, to_stdvec_cobs_with_sentinel(alloc, &"Hi!", 0xFF), &framed);
+    match CobsDecoderOwned::new_with_sentinel(alloc, 3, 0xFF) {
+        Ok(mut decoder) => {
+            assert!(rt; decoder.push(&[0xFD, 0xF8, 0xFF]).is_ok());
+            assert!(rt; decoder.dest() == [7, 0, 0].as_slice());
+        }
+        Err(AllocError) => wants.add(),
+    }
+    // 3, 1, 7, 0, and a byte more
+    let mut line = [0xFCu8, 0xFE, 0xF8, 0xFF, 9];
+    let answer = from_bytes_cobs_with_sentinel::<Vec<u8>>(alloc, &mut line, 0xFF);
+    wants.written(rt, answer, &[7]);
+    let mut line = [0xFCu8, 0xFE, 0xF8, 0xFF, 9];
+    let answer = take_from_bytes_cobs_with_sentinel::<Vec<u8>>(alloc, &mut line, 0xFF);
+    if let Some((bytes, rest)) = wants.value(rt, answer) {
+        assert!(rt; bytes.as_slice() == [7].as_slice());
+        assert!(rt; rest.len() == 1);
+    }
+    let mut line = [0xFCu8, 0xFE, 0xF8, 0xFF, 9];
+    match read_in_place_with_sentinel::<Vec<u8>>(alloc, &mut line, 0xFF) {
+        Some((answer, rest)) => {
+            assert!(rt; rest.len() == 1);
+            wants.answered(rt, answer.map(Some), &[7]);
+        }
+        None => assert!(rt; false),
+    }
+}
+
+/// Receptions of a line whose mark is FF, and by receivers whose limit is a value.
+fn listen_for_mark<R: AllocGlobal + Abort>(rt: &R, wants: &mut Wants) {
+    let alloc = rt.alloc();
+    for each in [7, 24] {
+        let from = In::new(&MARKED, each, None);
+        let got = receive_with_sentinel::<Vec<u8>, _, 8>(alloc, from, 0xFF);
+        wants.received(rt, &got.answers, got.end);
+        let from = In::new(&MARKED, each, None);
+        let got = receive_strict_with_sentinel::<Vec<u8>, _, 8>(alloc, from, 0xFF);
+        wants.received(rt, &got.answers, got.end);
+        let from = In::new(&MARKED, each, None);
+        let got = receive_by_accumulator_with_sentinel::<Vec<u8>, _, 8>(alloc, from, 0xFF);
+        wants.gathered(rt, &got.values, got.end);
+        let from = In::new(&MARKED, each, None);
+        let got = receive_owned::<Vec<u8>, _>(alloc, from, 8, 0xFF);
+        wants.received(rt, &got.answers, got.end);
+        let from = In::new(&LINE, each, None);
+        let got = receive_owned_strict::<Vec<u8>, _>(alloc, from, 8, 0);
+        wants.received(rt, &got.answers, got.end);
+    }
+}
+
+impl Wants {
+    /// These answers, or the first of them and want of memory.
+    fn heard<T: PartialEq + Drop>(
+        &mut self,
+        rt: &impl Abort,
+        got: Received<T, In<'_>>,
+        whole: &[Answer<T>],
+    ) {
+        match got.end {
+            End::Ended => assert!(rt; got.answers[..] == *whole),
+            End::NoMemory => {
+                assert!(rt; got.answers.len() < whole.len());
+                assert!(rt; whole.starts_with(&got.answers));
+                self.add();
+            }
+            End::ReadFault => assert!(rt; false),
+        }
+    }
+}
+
+/// Short lines, by a receiver whose limit is a value.
+fn own<R: AllocGlobal + Abort>(rt: &R, wants: &mut Wants) {
+    let alloc = rt.alloc();
+    let line = [5u8, 1, 1, 1, 1, 0, 2, 1, 0];
+    let got = receive_owned::<bool, _>(alloc, In::new(&line, 2, None), 3, 0);
+    wants.heard(rt, got, &[Answer::TooLong, Answer::Value(true)]);
+    let got = receive_owned::<(), _>(alloc, In::new(&[1, 0], 2, None), 0, 0);
+    wants.heard(rt, got, &[Answer::TooLong]);
+    let got = receive_owned::<(), _>(alloc, In::new(&[1, 0], 2, None), 1, 0);
+    wants.heard(rt, got, &[Answer::Value(())]);
+}
+
+/// A frame of 1025 bytes, within the limit and past it.
+fn own_long<R: AllocGlobal + Abort>(rt: &R, wants: &mut Wants) {
+    let alloc = rt.alloc();
+    let letters = [b'a'; 1018];
+    let text = str::from_utf8(&letters).unwrap_or("");
+    let mut room = [0u8; 1027];
+    let mut sender = Sender::<_, 1025>::new(Out::new(&mut room, 1027, None));
+    assert!(rt; sender.send(&text).is_ok());
+    drop(sender);
+    for (limit, whole) in [(1025, Answer::Value(letters.len())), (1024, Answer::TooLong)] {
+        let got = receive_owned::<String, _>(alloc, In::new(&room, 500, None), limit, 0);
+        wants.text(rt, got, &whole);
+        let got = receive_owned_strict::<String, _>(alloc, In::new(&room, 500, None), limit, 0);
+        wants.text(rt, got, &whole);
+    }
+}
+
+impl Wants {
+    /// One answer: a text so long, or the same as this one; or none and want of memory.
+    fn text(&mut self, rt: &impl Abort, got: Received<String, In<'_>>, whole: &Answer<usize>) {
+        if got.end == End::NoMemory {
+            assert!(rt; got.answers.is_empty());
+            self.add();
+            return;
+        }
+        assert!(rt; got.end == End::Ended);
+        match got.answers.as_slice() {
+            [Answer::Value(text)] => assert!(rt; *whole == Answer::Value(text.len())),
+            [Answer::TooLong] => assert!(rt; *whole == Answer::TooLong),
+            _ => assert!(rt; false),
+        }
+    }
+}
+
+/// A limit that can't be raised stays as it is.
+fn raise<R: AllocGlobal + Abort>(rt: &R, wants: &mut Wants) {
+    let Ok(mut receiver) = OwnedReceiver::new(rt.alloc(), 1, 0) else {
+        wants.add();
+        return;
+    };
+    match receiver.set_limit(64) {
+        Ok(()) => assert!(rt; receiver.limit() == 64),
+        Err(NoMemory) => {
+            assert!(rt; receiver.limit() == 1);
+            wants.add();
+        }
+    }
+    let pushed = receiver.push::<()>(rt.alloc(), &[1, 0]);
+    assert!(rt; pushed.answer == Ok(Some(Answer::Value(()))));
+}
+
 #[test]
 fn said_by_frames(rt: HostRuntime) {
     let mut wants = Wants { count: 0 };
@@ -340,6 +488,23 @@ fn said_by_receiving(rt: HostRuntime) {
 }
 
 #[test]
+fn said_with_a_mark(rt: HostRuntime) {
+    let mut wants = Wants { count: 0 };
+    mark(&rt, &mut wants);
+    listen_for_mark(&rt, &mut wants);
+    assert!(rt; wants.count <= 1);
+}
+
+#[test]
+fn said_by_owning(rt: HostRuntime) {
+    let mut wants = Wants { count: 0 };
+    own(&rt, &mut wants);
+    own_long(&rt, &mut wants);
+    raise(&rt, &mut wants);
+    assert!(rt; wants.count <= 1);
+}
+
+#[test]
 fn whole_answers(rt: HostRuntime) {
     let mut wants = Wants { count: 0 };
     frame(&rt, &mut wants);
@@ -349,6 +514,11 @@ fn whole_answers(rt: HostRuntime) {
     feed(&rt, &mut wants);
     push(&rt, &mut wants);
     listen(&rt, &mut wants);
+    mark(&rt, &mut wants);
+    listen_for_mark(&rt, &mut wants);
+    own(&rt, &mut wants);
+    own_long(&rt, &mut wants);
+    raise(&rt, &mut wants);
     assert!(rt; wants.count == 0);
 }
 
