@@ -97,7 +97,9 @@ fn values(rt: HostRuntime) -> Result<(), Fail> {
     assert!(rt; &*to_slice_cobs_with_sentinel(&false, &mut room, 1)? == [0, 0, 1].as_slice());
     let frame = to_vec_cobs_with_sentinel::<_, 4>(&300u32, 0x0A)?;
     assert!(rt; frame.as_slice() == [0x09, 0xA6, 0x08, 0x0A].as_slice());
-    assert!(rt; to_vec_cobs_with_sentinel::<_, 3>(&300u32, 0x0A) == Err(Error::SerializeBufferFull));
+    assert!(rt;
+        to_vec_cobs_with_sentinel::<_, 3>(&300u32, 0x0A) == Err(Error::SerializeBufferFull)
+    );
     let frame = to_allocvec_cobs_with_sentinel(rt.alloc(), &300u32, 0x0A)?;
     assert!(rt; frame.as_slice() == [0x09, 0xA6, 0x08, 0x0A].as_slice());
     let mut frame = to_stdvec_cobs_with_sentinel(rt.alloc(), &300u32, 0x0A)?;
@@ -121,7 +123,12 @@ fn accumulator(rt: HostRuntime) {
             }
         )
     );
-    assert!(rt; matches!(&accumulator.feed::<bool>(rt.alloc(), &[0xFD]), FeedResult::Consumed));
+    assert!(rt;
+        matches!(
+            &accumulator.feed::<bool>(rt.alloc(), &[0xFD]),
+            FeedResult::Consumed
+        )
+    );
     assert!(rt;
         matches!(
             &accumulator.feed_ref::<bool>(rt.alloc(), &[0xFF, 0]),

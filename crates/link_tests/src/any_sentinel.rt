@@ -50,7 +50,9 @@ fn pushes(rt: HostRuntime) -> Result<(), Fail> {
     let pushed = receiver.push_strict::<bool>(rt.alloc(), &[0, 0, 1]);
     assert!(rt; pushed.answer == Ok(Some(Answer::Value(false))));
     let pushed = receiver.push_ref::<&[u8]>(rt.alloc(), &[2, 0, 8, 1]);
-    assert!(rt; matches!(&pushed.answer, Ok(Some(Answer::Value(bytes))) if **bytes == *[9u8].as_slice()));
+    assert!(rt;
+        matches!(&pushed.answer, Ok(Some(Answer::Value(bytes))) if **bytes == *[9u8].as_slice())
+    );
     assert!(rt; receiver.is_between());
     assert!(rt; receiver.push::<bool>(rt.alloc(), &[0]).answer == Ok(None));
     assert!(rt; receiver.finish::<bool>() == Some(Answer::Cut));
@@ -64,8 +66,11 @@ fn receives(rt: HostRuntime) {
     assert!(rt; got.end == End::Ended);
     let got = receive_strict_with_sentinel::<u32, _, 8>(rt.alloc(), In::new(&LINE, 3, None), 0x0A);
     assert!(rt; got.answers[..] == [Answer::Damaged, Answer::Value(300)]);
-    let got =
-        receive_by_accumulator_with_sentinel::<u32, _, 8>(rt.alloc(), In::new(&LINE, 3, None), 0x0A);
+    let got = receive_by_accumulator_with_sentinel::<u32, _, 8>(
+        rt.alloc(),
+        In::new(&LINE, 3, None),
+        0x0A,
+    );
     assert!(rt; got.values[..] == [300]);
     assert!(rt; got.end == End::Ended);
 }

@@ -1,8 +1,6 @@
 //! `link`, a receiver whose limit is a value.
 use line_io::memory::{In, Out};
-use link::{
-    Answer, End, OwnedReceiver, Pushed, Sender, receive_owned, receive_owned_strict,
-};
+use link::{Answer, End, OwnedReceiver, Pushed, Sender, receive_owned, receive_owned_strict};
 use std::test::Fail;
 
 #[test]
@@ -52,7 +50,12 @@ fn at_the_limit(rt: HostRuntime) {
             [Answer::TooLong] => assert!(rt; !fits),
             _ => assert!(rt; false),
         }
-        let got = receive_owned_strict::<String, _>(rt.alloc(), In::new(&room, 500, None), limit, 0);
+        let got = receive_owned_strict::<String, _>(
+            rt.alloc(),
+            In::new(&room, 500, None),
+            limit,
+            0,
+        );
         assert!(rt; matches!(got.answers.as_slice(), [Answer::Value(_)]) == fits);
     }
 }
@@ -79,7 +82,10 @@ fn raised_and_lowered(rt: HostRuntime) -> Result<(), Fail> {
 #[test]
 fn lends(rt: HostRuntime) -> Result<(), Fail> {
     let mut receiver = OwnedReceiver::new(rt.alloc(), 4, 0x0A)?;
-    let Pushed { used, answer } = receiver.push_ref::<&str>(rt.alloc(), &[0x0E, 0x08, 0x62, 0x63, 0x0A]);
+    let Pushed { used, answer } = receiver.push_ref::<&str>(
+        rt.alloc(),
+        &[0x0E, 0x08, 0x62, 0x63, 0x0A],
+    );
     assert!(rt; used == 5);
     assert!(rt; matches!(&answer, Ok(Some(Answer::Value(text))) if *text == "hi"));
     assert!(rt; receiver.is_between());

@@ -317,32 +317,55 @@ const MARKED: [u8; 24] = [
     255, 252, 254, 249, 255,
 ];
 
-/// Calls for a line whose mark is FF.
-fn mark<R: AllocGlobal + Abort>(rt: &R, wants: &mut Wants) {
+/// Calls that write for a line whose mark is FF.
+fn write_marked<R: AllocGlobal + Abort>(rt: &R, wants: &mut Wants) {
     let alloc = rt.alloc();
     // 5, 3, "Hi!", 0
     let framed = [0xFAu8, 0xFC, 0xB7, 0x96, 0xDE, 0xFF];
-    wants.written(rt, to_allocvec_cobs_with_sentinel(alloc, &"Hi!", 0xFF), &framed);
-    wants.written(rt, to_stdvec_cobs_with_sentinel(alloc, &"Hi!", 0xFF), &framed);
-    match CobsDecoderOwned::new_with_sentinel(alloc, 3, 0xFF) {
+    wants.written(
+        rt,
+        to_allocvec_cobs_with_sentinel(alloc, &"Hi!", 0xFF),
+        &framed,
+    );
+    wants.written(
+        rt,
+        to_stdvec_cobs_with_sentinel(alloc, &"Hi!", 0xFF),
+        &framed,
+    );
+}
+
+/// The decoder that owns its room, of such a line.
+fn own_marked<R: AllocGlobal + Abort>(rt: &R, wants: &mut Wants) {
+    match CobsDecoderOwned::new_with_sentinel(rt.alloc(), 3, 0xFF) {
         Ok(mut decoder) => {
-            assert!(rt; decoder.push(&[0xFD, 0xF8, 0xFF]).is_ok());
-            assert!(rt; decoder.dest() == [7, 0, 0].as_slice());
+            assert!(rt;
+                decoder.push(&[0xFD, 0xF8, 0xFF]).is_ok() && decoder.dest() == [7, 0, 0].as_slice()
+            );
         }
         Err(AllocError) => wants.add(),
     }
-    // 3, 1, 7, 0, and a byte more
-    let mut line = [0xFCu8, 0xFE, 0xF8, 0xFF, 9];
+}
+
+// 3, 1, 7, 0, and a byte more
+const ONE_MARKED: [u8; 5] = [0xFC, 0xFE, 0xF8, 0xFF, 9];
+
+/// Frames of such a line.
+fn read_marked<R: AllocGlobal + Abort>(rt: &R, wants: &mut Wants) {
+    let alloc = rt.alloc();
+    let mut line = ONE_MARKED;
     let answer = from_bytes_cobs_with_sentinel::<Vec<u8>>(alloc, &mut line, 0xFF);
     wants.written(rt, answer, &[7]);
-    let mut line = [0xFCu8, 0xFE, 0xF8, 0xFF, 9];
+    let mut line = ONE_MARKED;
     let answer = take_from_bytes_cobs_with_sentinel::<Vec<u8>>(alloc, &mut line, 0xFF);
     if let Some((bytes, rest)) = wants.value(rt, answer) {
-        assert!(rt; bytes.as_slice() == [7].as_slice());
-        assert!(rt; rest.len() == 1);
+        assert!(rt; bytes.as_slice() == [7].as_slice() && rest.len() == 1);
     }
-    let mut line = [0xFCu8, 0xFE, 0xF8, 0xFF, 9];
-    match read_in_place_with_sentinel::<Vec<u8>>(alloc, &mut line, 0xFF) {
+}
+
+/// A frame of such a line where it lies.
+fn read_marked_in_place<R: AllocGlobal + Abort>(rt: &R, wants: &mut Wants) {
+    let mut line = ONE_MARKED;
+    match read_in_place_with_sentinel::<Vec<u8>>(rt.alloc(), &mut line, 0xFF) {
         Some((answer, rest)) => {
             assert!(rt; rest.len() == 1);
             wants.answered(rt, answer.map(Some), &[7]);
@@ -351,26 +374,33 @@ fn mark<R: AllocGlobal + Abort>(rt: &R, wants: &mut Wants) {
     }
 }
 
-/// Receptions of a line whose mark is FF, and by receivers whose limit is a value.
+/// All calls for such a line but those that receive.
+fn mark<R: AllocGlobal + Abort>(rt: &R, wants: &mut Wants) {
+    write_marked(rt, wants);
+    own_marked(rt, wants);
+    read_marked(rt, wants);
+    read_marked_in_place(rt, wants);
+}
+
+/// Receptions of such a line.
 fn listen_for_mark<R: AllocGlobal + Abort>(rt: &R, wants: &mut Wants) {
     let alloc = rt.alloc();
-    for each in [7, 24] {
-        let from = In::new(&MARKED, each, None);
-        let got = receive_with_sentinel::<Vec<u8>, _, 8>(alloc, from, 0xFF);
-        wants.received(rt, &got.answers, got.end);
-        let from = In::new(&MARKED, each, None);
-        let got = receive_strict_with_sentinel::<Vec<u8>, _, 8>(alloc, from, 0xFF);
-        wants.received(rt, &got.answers, got.end);
-        let from = In::new(&MARKED, each, None);
-        let got = receive_by_accumulator_with_sentinel::<Vec<u8>, _, 8>(alloc, from, 0xFF);
-        wants.gathered(rt, &got.values, got.end);
-        let from = In::new(&MARKED, each, None);
-        let got = receive_owned::<Vec<u8>, _>(alloc, from, 8, 0xFF);
-        wants.received(rt, &got.answers, got.end);
-        let from = In::new(&LINE, each, None);
-        let got = receive_owned_strict::<Vec<u8>, _>(alloc, from, 8, 0);
-        wants.received(rt, &got.answers, got.end);
-    }
+    let got = receive_with_sentinel::<Vec<u8>, _, 8>(alloc, In::new(&MARKED, 7, None), 0xFF);
+    wants.received(rt, &got.answers, got.end);
+    let got = receive_strict_with_sentinel::<Vec<u8>, _, 8>(alloc, In::new(&MARKED, 7, None), 0xFF);
+    wants.received(rt, &got.answers, got.end);
+    let from = In::new(&MARKED, 7, None);
+    let got = receive_by_accumulator_with_sentinel::<Vec<u8>, _, 8>(alloc, from, 0xFF);
+    wants.gathered(rt, &got.values, got.end);
+}
+
+/// Receptions with a limit that is a value.
+fn listen_owned<R: AllocGlobal + Abort>(rt: &R, wants: &mut Wants) {
+    let alloc = rt.alloc();
+    let got = receive_owned::<Vec<u8>, _>(alloc, In::new(&MARKED, 7, None), 8, 0xFF);
+    wants.received(rt, &got.answers, got.end);
+    let got = receive_owned_strict::<Vec<u8>, _>(alloc, In::new(&LINE, 7, None), 8, 0);
+    wants.received(rt, &got.answers, got.end);
 }
 
 impl Wants {
@@ -384,8 +414,7 @@ impl Wants {
         match got.end {
             End::Ended => assert!(rt; got.answers[..] == *whole),
             End::NoMemory => {
-                assert!(rt; got.answers.len() < whole.len());
-                assert!(rt; whole.starts_with(&got.answers));
+                assert!(rt; got.answers.len() < whole.len() && whole.starts_with(&got.answers));
                 self.add();
             }
             End::ReadFault => assert!(rt; false),
@@ -394,7 +423,7 @@ impl Wants {
 }
 
 /// Short lines, by a receiver whose limit is a value.
-fn own<R: AllocGlobal + Abort>(rt: &R, wants: &mut Wants) {
+fn own_short<R: AllocGlobal + Abort>(rt: &R, wants: &mut Wants) {
     let alloc = rt.alloc();
     let line = [5u8, 1, 1, 1, 1, 0, 2, 1, 0];
     let got = receive_owned::<bool, _>(alloc, In::new(&line, 2, None), 3, 0);
@@ -414,7 +443,10 @@ fn own_long<R: AllocGlobal + Abort>(rt: &R, wants: &mut Wants) {
     let mut sender = Sender::<_, 1025>::new(Out::new(&mut room, 1027, None));
     assert!(rt; sender.send(&text).is_ok());
     drop(sender);
-    for (limit, whole) in [(1025, Answer::Value(letters.len())), (1024, Answer::TooLong)] {
+    for (limit, whole) in [
+        (1025, Answer::Value(letters.len())),
+        (1024, Answer::TooLong),
+    ] {
         let got = receive_owned::<String, _>(alloc, In::new(&room, 500, None), limit, 0);
         wants.text(rt, got, &whole);
         let got = receive_owned_strict::<String, _>(alloc, In::new(&room, 500, None), limit, 0);
@@ -454,6 +486,14 @@ fn raise<R: AllocGlobal + Abort>(rt: &R, wants: &mut Wants) {
     }
     let pushed = receiver.push::<()>(rt.alloc(), &[1, 0]);
     assert!(rt; pushed.answer == Ok(Some(Answer::Value(()))));
+}
+
+/// Receivers whose limit is a value.
+fn own_values<R: AllocGlobal + Abort>(rt: &R, wants: &mut Wants) {
+    listen_owned(rt, wants);
+    own_short(rt, wants);
+    own_long(rt, wants);
+    raise(rt, wants);
 }
 
 #[test]
@@ -498,9 +538,7 @@ fn said_with_a_mark(rt: HostRuntime) {
 #[test]
 fn said_by_owning(rt: HostRuntime) {
     let mut wants = Wants { count: 0 };
-    own(&rt, &mut wants);
-    own_long(&rt, &mut wants);
-    raise(&rt, &mut wants);
+    own_values(&rt, &mut wants);
     assert!(rt; wants.count <= 1);
 }
 
@@ -516,9 +554,7 @@ fn whole_answers(rt: HostRuntime) {
     listen(&rt, &mut wants);
     mark(&rt, &mut wants);
     listen_for_mark(&rt, &mut wants);
-    own(&rt, &mut wants);
-    own_long(&rt, &mut wants);
-    raise(&rt, &mut wants);
+    own_values(&rt, &mut wants);
     assert!(rt; wants.count == 0);
 }
 
