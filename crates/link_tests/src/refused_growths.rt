@@ -412,7 +412,7 @@ impl Wants {
         whole: &[Answer<T>],
     ) {
         match got.end {
-            End::Ended => assert!(rt; got.answers[..] == *whole),
+            End::Ended => assert!(rt; got.answers.as_slice() == whole),
             End::NoMemory => {
                 assert!(rt; got.answers.len() < whole.len() && whole.starts_with(&got.answers));
                 self.add();
