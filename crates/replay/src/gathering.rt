@@ -6,7 +6,7 @@ use crate::pieces::{Pieces, pieces_of};
 use crate::values::Shown;
 use crate::words::Trouble;
 use line_io::Reads;
-use link::{Gathered, receive_by_accumulator};
+use link::{Gathered, receive_by_accumulator_with_sentinel};
 use postcard::DeserializeOwned;
 use std::alloc::Global;
 
@@ -21,7 +21,7 @@ pub(crate) fn compare_gathered<T: DeserializeOwned + Shown>(
     let pieces = pieces_of(line.alloc, line.given)?;
     for each in [usize::MAX, 1] {
         let reader = Reads::new(Pieces::new(&pieces, each));
-        let answer = gather::<T>(line.alloc, line.limit, reader)?;
+        let answer = gather::<T>(line, reader)?;
         findings.compare("receive_by_accumulator", answer.as_str(), line.wanted)?;
     }
     Ok(())
@@ -29,19 +29,23 @@ pub(crate) fn compare_gathered<T: DeserializeOwned + Shown>(
 
 /// The values that an accumulator of so many bytes gives.
 fn gather<T: DeserializeOwned + Shown>(
-    alloc: Global,
-    limit: usize,
+    line: Line<'_>,
     reader: From<'_>,
 ) -> Result<String, Trouble> {
-    match limit {
-        1 => show(alloc, receive_by_accumulator::<T, _, 1>(alloc, reader)),
-        3 => show(alloc, receive_by_accumulator::<T, _, 3>(alloc, reader)),
-        8 => show(alloc, receive_by_accumulator::<T, _, 8>(alloc, reader)),
-        16 => show(alloc, receive_by_accumulator::<T, _, 16>(alloc, reader)),
-        64 => show(alloc, receive_by_accumulator::<T, _, 64>(alloc, reader)),
-        256 => show(alloc, receive_by_accumulator::<T, _, 256>(alloc, reader)),
-        512 => show(alloc, receive_by_accumulator::<T, _, 512>(alloc, reader)),
-        1025 => show(alloc, receive_by_accumulator::<T, _, 1025>(alloc, reader)),
+    let Line {
+        alloc,
+        sentinel: s,
+        ..
+    } = line;
+    match line.limit {
+        1 => show(alloc, receive_by_accumulator_with_sentinel::<T, _, 1>(alloc, reader, s)),
+        3 => show(alloc, receive_by_accumulator_with_sentinel::<T, _, 3>(alloc, reader, s)),
+        8 => show(alloc, receive_by_accumulator_with_sentinel::<T, _, 8>(alloc, reader, s)),
+        16 => show(alloc, receive_by_accumulator_with_sentinel::<T, _, 16>(alloc, reader, s)),
+        64 => show(alloc, receive_by_accumulator_with_sentinel::<T, _, 64>(alloc, reader, s)),
+        256 => show(alloc, receive_by_accumulator_with_sentinel::<T, _, 256>(alloc, reader, s)),
+        512 => show(alloc, receive_by_accumulator_with_sentinel::<T, _, 512>(alloc, reader, s)),
+        1025 => show(alloc, receive_by_accumulator_with_sentinel::<T, _, 1025>(alloc, reader, s)),
         _ => Err(Trouble::Unreadable),
     }
 }

@@ -4,7 +4,7 @@ use crate::findings::Findings;
 use crate::linked::Line;
 use crate::values::Shown;
 use crate::words::Trouble;
-use link::read_in_place;
+use link::read_in_place_with_sentinel;
 use postcard::Deserialize;
 
 /// Compares the answers to stretch after stretch, each with the count of bytes that are left.
@@ -30,7 +30,7 @@ fn read_all<'a, T: Deserialize<&'a [u8]> + Shown>(
 ) -> Result<(), Trouble> {
     let mut rest = room;
     for turn in 0..=line.given.len() {
-        let Some((answer, after)) = read_in_place::<T>(line.alloc, rest) else {
+        let Some((answer, after)) = read_in_place_with_sentinel::<T>(line.alloc, rest, line.sentinel) else {
             break;
         };
         let Ok(answer) = answer else {

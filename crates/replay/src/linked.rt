@@ -29,6 +29,8 @@ enum Task {
 #[derive(Clone, Copy, Drop)]
 pub(crate) struct Line<'a> {
     pub alloc: Global,
+    /// The byte that ends a stretch.
+    pub sentinel: u8,
     /// How many bytes a stretch or a frame has at most.
     pub limit: usize,
     /// The type's name.
@@ -45,14 +47,14 @@ pub(crate) fn replay_stream(
     mut words: Words<'_>,
     findings: &mut Findings,
 ) -> Result<(), Trouble> {
-    need_zero(&mut words)?;
+    let sentinel = words.byte(alloc)?;
     let limit = words.number()?;
     let (task, is_strict) = match words.next()? {
         "any" => (Task::Receive, false),
         "strict" => (Task::ReceiveStrictly, true),
         _ => return Err(Trouble::Unreadable),
     };
-    let line = read_line(alloc, limit, words)?;
+    let line = read_line(alloc, sentinel, limit, words)?;
     let pieces = pieces_of(alloc, line.given)?;
     compare_pushes(line, &pieces, is_strict, findings)?;
     ask_number(line, task, &mut [], findings)
@@ -64,8 +66,8 @@ pub(crate) fn replay_stretches(
     mut words: Words<'_>,
     findings: &mut Findings,
 ) -> Result<(), Trouble> {
-    need_zero(&mut words)?;
-    let line = read_line(alloc, 0, words)?;
+    let sentinel = words.byte(alloc)?;
+    let line = read_line(alloc, sentinel, 0, words)?;
     let mut room = bytes_of(alloc, line.given)?;
     ask_number(line, Task::ReadInPlace, room.as_mut_slice(), findings)
 }
@@ -76,9 +78,9 @@ pub(crate) fn replay_gathered(
     mut words: Words<'_>,
     findings: &mut Findings,
 ) -> Result<(), Trouble> {
-    need_zero(&mut words)?;
+    let sentinel = words.byte(alloc)?;
     let limit = words.number()?;
-    let line = read_line(alloc, limit, words)?;
+    let line = read_line(alloc, sentinel, limit, words)?;
     ask_number(line, Task::Gather, &mut [], findings)
 }
 
@@ -89,27 +91,25 @@ pub(crate) fn replay_sends(
     mut words: Words<'_>,
     findings: &mut Findings,
 ) -> Result<(), Trouble> {
-    need_zero(&mut words)?;
+    let sentinel = words.byte(alloc)?;
     let limit = words.number()?;
-    let line = read_line(alloc, limit, words)?;
+    let line = read_line(alloc, sentinel, limit, words)?;
     ask_number(line, Task::Send, &mut [], findings)
 }
 
-/// Takes the sentinel, which is a zero.
-fn need_zero(words: &mut Words<'_>) -> Result<(), Trouble> {
-    match words.next()? {
-        "00" => Ok(()),
-        _ => Err(Trouble::Unreadable),
-    }
-}
-
 /// The type, what is given and the answer.
-fn read_line(alloc: Global, limit: usize, mut words: Words<'_>) -> Result<Line<'_>, Trouble> {
+fn read_line(
+    alloc: Global,
+    sentinel: u8,
+    limit: usize,
+    mut words: Words<'_>,
+) -> Result<Line<'_>, Trouble> {
     let name = words.next()?;
     let given = words.next()?;
     let wanted = words.answer()?;
     Ok(Line {
         alloc,
+        sentinel,
         limit,
         name,
         given,

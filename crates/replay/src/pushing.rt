@@ -43,16 +43,17 @@ pub(crate) fn compare_pushes(
 
 /// What a new receiver of the line's limit answers.
 fn push_all(line: Line<'_>, call: Call, pieces: &[Vec<u8>]) -> Result<String, Trouble> {
+    let s = line.sentinel;
     match line.limit {
-        0 => push_to(line, call, Receiver::<0>::new(), pieces),
-        1 => push_to(line, call, Receiver::<1>::new(), pieces),
-        3 => push_to(line, call, Receiver::<3>::new(), pieces),
-        8 => push_to(line, call, Receiver::<8>::new(), pieces),
-        16 => push_to(line, call, Receiver::<16>::new(), pieces),
-        64 => push_to(line, call, Receiver::<64>::new(), pieces),
-        256 => push_to(line, call, Receiver::<256>::new(), pieces),
-        512 => push_to(line, call, Receiver::<512>::new(), pieces),
-        1025 => push_to(line, call, Receiver::<1025>::new(), pieces),
+        0 => push_to(line, call, Receiver::<0>::new_with_sentinel(s), pieces),
+        1 => push_to(line, call, Receiver::<1>::new_with_sentinel(s), pieces),
+        3 => push_to(line, call, Receiver::<3>::new_with_sentinel(s), pieces),
+        8 => push_to(line, call, Receiver::<8>::new_with_sentinel(s), pieces),
+        16 => push_to(line, call, Receiver::<16>::new_with_sentinel(s), pieces),
+        64 => push_to(line, call, Receiver::<64>::new_with_sentinel(s), pieces),
+        256 => push_to(line, call, Receiver::<256>::new_with_sentinel(s), pieces),
+        512 => push_to(line, call, Receiver::<512>::new_with_sentinel(s), pieces),
+        1025 => push_to(line, call, Receiver::<1025>::new_with_sentinel(s), pieces),
         _ => Err(Trouble::Unreadable),
     }
 }

@@ -6,7 +6,7 @@ use crate::pieces::{Pieces, pieces_of};
 use crate::values::Shown;
 use crate::words::Trouble;
 use line_io::Reads;
-use link::{Received, receive, receive_strict};
+use link::{Received, receive_strict_with_sentinel, receive_with_sentinel};
 use postcard::{DeserializeOwned, Exact};
 use std::alloc::Global;
 
@@ -22,7 +22,7 @@ pub(crate) fn compare_received<T: DeserializeOwned + Shown>(
     let wanted = without_places(line.alloc, line.wanted)?;
     for each in [usize::MAX, 1] {
         let reader = Reads::new(Pieces::new(&pieces, each));
-        let answer = receive_all::<T>(line.alloc, line.limit, reader)?;
+        let answer = receive_all::<T>(line, line.limit, reader)?;
         findings.compare("receive", answer.as_str(), wanted.as_str())?;
     }
     Ok(())
@@ -37,7 +37,7 @@ pub(crate) fn compare_received_strictly<T: DeserializeOwned + Exact + Shown>(
     let wanted = without_places(line.alloc, line.wanted)?;
     for each in [usize::MAX, 1] {
         let reader = Reads::new(Pieces::new(&pieces, each));
-        let answer = receive_all_strictly::<T>(line.alloc, line.limit, reader)?;
+        let answer = receive_all_strictly::<T>(line, reader)?;
         findings.compare("receive_strict", answer.as_str(), wanted.as_str())?;
     }
     Ok(())
@@ -45,40 +45,49 @@ pub(crate) fn compare_received_strictly<T: DeserializeOwned + Exact + Shown>(
 
 /// The answers of a receiver of so many bytes.
 pub(crate) fn receive_all<T: DeserializeOwned + Shown>(
-    alloc: Global,
+    line: Line<'_>,
     limit: usize,
     reader: From<'_>,
 ) -> Result<String, Trouble> {
+    let Line {
+        alloc,
+        sentinel: s,
+        ..
+    } = line;
     match limit {
-        0 => show(alloc, receive::<T, _, 0>(alloc, reader)),
-        1 => show(alloc, receive::<T, _, 1>(alloc, reader)),
-        3 => show(alloc, receive::<T, _, 3>(alloc, reader)),
-        8 => show(alloc, receive::<T, _, 8>(alloc, reader)),
-        16 => show(alloc, receive::<T, _, 16>(alloc, reader)),
-        64 => show(alloc, receive::<T, _, 64>(alloc, reader)),
-        256 => show(alloc, receive::<T, _, 256>(alloc, reader)),
-        512 => show(alloc, receive::<T, _, 512>(alloc, reader)),
-        1025 => show(alloc, receive::<T, _, 1025>(alloc, reader)),
+        0 => show(alloc, receive_with_sentinel::<T, _, 0>(alloc, reader, s)),
+        1 => show(alloc, receive_with_sentinel::<T, _, 1>(alloc, reader, s)),
+        3 => show(alloc, receive_with_sentinel::<T, _, 3>(alloc, reader, s)),
+        8 => show(alloc, receive_with_sentinel::<T, _, 8>(alloc, reader, s)),
+        16 => show(alloc, receive_with_sentinel::<T, _, 16>(alloc, reader, s)),
+        64 => show(alloc, receive_with_sentinel::<T, _, 64>(alloc, reader, s)),
+        256 => show(alloc, receive_with_sentinel::<T, _, 256>(alloc, reader, s)),
+        512 => show(alloc, receive_with_sentinel::<T, _, 512>(alloc, reader, s)),
+        1025 => show(alloc, receive_with_sentinel::<T, _, 1025>(alloc, reader, s)),
         _ => Err(Trouble::Unreadable),
     }
 }
 
 /// The strict answers of a receiver of so many bytes.
 fn receive_all_strictly<T: DeserializeOwned + Exact + Shown>(
-    alloc: Global,
-    limit: usize,
+    line: Line<'_>,
     reader: From<'_>,
 ) -> Result<String, Trouble> {
-    match limit {
-        0 => show(alloc, receive_strict::<T, _, 0>(alloc, reader)),
-        1 => show(alloc, receive_strict::<T, _, 1>(alloc, reader)),
-        3 => show(alloc, receive_strict::<T, _, 3>(alloc, reader)),
-        8 => show(alloc, receive_strict::<T, _, 8>(alloc, reader)),
-        16 => show(alloc, receive_strict::<T, _, 16>(alloc, reader)),
-        64 => show(alloc, receive_strict::<T, _, 64>(alloc, reader)),
-        256 => show(alloc, receive_strict::<T, _, 256>(alloc, reader)),
-        512 => show(alloc, receive_strict::<T, _, 512>(alloc, reader)),
-        1025 => show(alloc, receive_strict::<T, _, 1025>(alloc, reader)),
+    let Line {
+        alloc,
+        sentinel: s,
+        ..
+    } = line;
+    match line.limit {
+        0 => show(alloc, receive_strict_with_sentinel::<T, _, 0>(alloc, reader, s)),
+        1 => show(alloc, receive_strict_with_sentinel::<T, _, 1>(alloc, reader, s)),
+        3 => show(alloc, receive_strict_with_sentinel::<T, _, 3>(alloc, reader, s)),
+        8 => show(alloc, receive_strict_with_sentinel::<T, _, 8>(alloc, reader, s)),
+        16 => show(alloc, receive_strict_with_sentinel::<T, _, 16>(alloc, reader, s)),
+        64 => show(alloc, receive_strict_with_sentinel::<T, _, 64>(alloc, reader, s)),
+        256 => show(alloc, receive_strict_with_sentinel::<T, _, 256>(alloc, reader, s)),
+        512 => show(alloc, receive_strict_with_sentinel::<T, _, 512>(alloc, reader, s)),
+        1025 => show(alloc, receive_strict_with_sentinel::<T, _, 1025>(alloc, reader, s)),
         _ => Err(Trouble::Unreadable),
     }
 }

@@ -11,7 +11,7 @@ use crate::values::Shown;
 use crate::words::{Trouble, bytes_of, digits};
 use line_io::memory::{Fault, Out};
 use line_io::{Outlet, Reads};
-use link::{Fate, SendError, Sender, send_each};
+use link::{Fate, SendError, Sender, send_each_with_sentinel};
 use postcard::{DeserializeOwned, Error, Serialize};
 use std::alloc::Global;
 
@@ -57,17 +57,17 @@ fn send_sessions<T: Serialize + DeserializeOwned + Shown>(
     }
     let mut text = digits(alloc, &taken)?;
     write!(text, " {fates} ")?;
-    let heard = hear::<T>(alloc, taken)?;
+    let heard = hear::<T>(line, taken)?;
     text.push_str(heard.as_str())?;
     Ok(text)
 }
 
 /// What is received of a line.
-fn hear<T: DeserializeOwned + Shown>(alloc: Global, taken: Vec<u8>) -> Result<String, Trouble> {
-    let mut pieces = Vec::new(alloc);
+fn hear<T: DeserializeOwned + Shown>(line: Line<'_>, taken: Vec<u8>) -> Result<String, Trouble> {
+    let mut pieces = Vec::new(line.alloc);
     pieces.push(taken)?;
     let reader = Reads::new(Pieces::new(&pieces, usize::MAX));
-    receive_all::<T>(alloc, HEARD, reader)
+    receive_all::<T>(line, HEARD, reader)
 }
 
 /// `K@VALUE:BYTES;VALUE:BYTES;..`: adds what the writer of a session took, and what became of each send.
@@ -85,8 +85,8 @@ fn send_session<T: Serialize + DeserializeOwned + Shown>(
     let mut room = vec![in line.alloc; 0; line.wanted.len()]?;
     let out = Out::new(room.as_mut_slice(), EACH, fault);
     let out = match call {
-        Call::Send => send_by_turns(line.limit, out, &values, fates)?,
-        Call::SendEach => send_at_once(line.alloc, line.limit, out, &values, fates)?,
+        Call::Send => send_by_turns(line, out, &values, fates)?,
+        Call::SendEach => send_at_once(line, out, &values, fates)?,
     };
     let count = out.moved();
     drop(out);
@@ -130,20 +130,21 @@ fn values_of<T: DeserializeOwned + Shown>(
 
 /// Sends the values by `send` of a new sender of so many bytes.
 fn send_by_turns<'a, T: Serialize>(
-    limit: usize,
+    line: Line<'_>,
     out: Out<'a>,
     values: &[T],
     fates: &mut String,
 ) -> Result<Out<'a>, Trouble> {
-    match limit {
-        1 => send_by(Sender::<_, 1>::new(out), values, fates),
-        3 => send_by(Sender::<_, 3>::new(out), values, fates),
-        8 => send_by(Sender::<_, 8>::new(out), values, fates),
-        16 => send_by(Sender::<_, 16>::new(out), values, fates),
-        64 => send_by(Sender::<_, 64>::new(out), values, fates),
-        256 => send_by(Sender::<_, 256>::new(out), values, fates),
-        512 => send_by(Sender::<_, 512>::new(out), values, fates),
-        1025 => send_by(Sender::<_, 1025>::new(out), values, fates),
+    let s = line.sentinel;
+    match line.limit {
+        1 => send_by(Sender::<_, 1>::new_with_sentinel(out, s), values, fates),
+        3 => send_by(Sender::<_, 3>::new_with_sentinel(out, s), values, fates),
+        8 => send_by(Sender::<_, 8>::new_with_sentinel(out, s), values, fates),
+        16 => send_by(Sender::<_, 16>::new_with_sentinel(out, s), values, fates),
+        64 => send_by(Sender::<_, 64>::new_with_sentinel(out, s), values, fates),
+        256 => send_by(Sender::<_, 256>::new_with_sentinel(out, s), values, fates),
+        512 => send_by(Sender::<_, 512>::new_with_sentinel(out, s), values, fates),
+        1025 => send_by(Sender::<_, 1025>::new_with_sentinel(out, s), values, fates),
         _ => Err(Trouble::Unreadable),
     }
 }
@@ -169,14 +170,13 @@ fn send_by<T: Serialize, W: Outlet + Drop, const N: usize>(
 
 /// Sends the values by `send_each`, and adds the fates.
 fn send_at_once<'a, T: Serialize>(
-    alloc: Global,
-    limit: usize,
+    line: Line<'_>,
     out: Out<'a>,
     values: &[T],
     fates: &mut String,
 ) -> Result<Out<'a>, Trouble> {
-    let mut became = vec![in alloc; Fate::Refused; values.len()]?;
-    let out = send_each_by(limit, out, values, became.as_mut_slice())?;
+    let mut became = vec![in line.alloc; Fate::Refused; values.len()]?;
+    let out = send_each_by(line, out, values, became.as_mut_slice())?;
     for fate in became.iter() {
         fates.push(match fate {
             Fate::Done => 'D',
@@ -189,22 +189,23 @@ fn send_at_once<'a, T: Serialize>(
 
 /// Sends the values by a new sender of so many bytes.
 fn send_each_by<'a, T: Serialize>(
-    limit: usize,
+    line: Line<'_>,
     out: Out<'a>,
     values: &[T],
     fates: &mut [Fate],
 ) -> Result<Out<'a>, Trouble>
     requires { length values.now ≡ length fates.old }
 {
-    match limit {
-        1 => Ok(send_each::<T, _, 1>(out, values, fates)),
-        3 => Ok(send_each::<T, _, 3>(out, values, fates)),
-        8 => Ok(send_each::<T, _, 8>(out, values, fates)),
-        16 => Ok(send_each::<T, _, 16>(out, values, fates)),
-        64 => Ok(send_each::<T, _, 64>(out, values, fates)),
-        256 => Ok(send_each::<T, _, 256>(out, values, fates)),
-        512 => Ok(send_each::<T, _, 512>(out, values, fates)),
-        1025 => Ok(send_each::<T, _, 1025>(out, values, fates)),
+    let s = line.sentinel;
+    match line.limit {
+        1 => Ok(send_each_with_sentinel::<T, _, 1>(out, values, fates, s)),
+        3 => Ok(send_each_with_sentinel::<T, _, 3>(out, values, fates, s)),
+        8 => Ok(send_each_with_sentinel::<T, _, 8>(out, values, fates, s)),
+        16 => Ok(send_each_with_sentinel::<T, _, 16>(out, values, fates, s)),
+        64 => Ok(send_each_with_sentinel::<T, _, 64>(out, values, fates, s)),
+        256 => Ok(send_each_with_sentinel::<T, _, 256>(out, values, fates, s)),
+        512 => Ok(send_each_with_sentinel::<T, _, 512>(out, values, fates, s)),
+        1025 => Ok(send_each_with_sentinel::<T, _, 1025>(out, values, fates, s)),
         _ => Err(Trouble::Unreadable),
     }
 }
