@@ -7,7 +7,7 @@ use cobs::{CobsEncoder, EncoderState, PushResult};
 use std::alloc::Global;
 
 /// How many bytes a piece has, where a message is pushed in pieces.
-const PIECE: usize = 100;
+pub(crate) const PIECE: usize = 100;
 
 /// What stands in a buffer that a refused call has to leave alone.
 const UNTOUCHED: u8 = 0xA5;
@@ -36,7 +36,7 @@ fn compare_encode(
     encode_whole(alloc, message, frame, findings)?;
     encode_between_zeros(alloc, message, frame, findings)?;
     for piece in [1, PIECE, usize::MAX] {
-        let made = push_pieces(alloc, message, frame.len(), piece);
+        let made = push_pieces(alloc, message, frame.len(), piece, 0);
         findings.check_bytes("CobsEncoder", made, frame)?;
     }
     refuse(alloc, message, frame.len().saturating_sub(1), findings)?;
@@ -151,11 +151,12 @@ fn try_encode_including_sentinels(
 }
 
 /// The frame of a message that is pushed in pieces of so many bytes, with nothing pushed between them.
-fn push_pieces(
+pub(crate) fn push_pieces(
     alloc: Global,
     message: &[u8],
     length: usize,
     piece: usize,
+    sentinel: u8,
 ) -> Result<Vec<u8>, Trouble>
     requires { 0 < piece }
 {
@@ -163,7 +164,7 @@ fn push_pieces(
     if room.is_empty() {
         return Err(Trouble::Unreadable);
     }
-    let mut encoder = CobsEncoder::new(room.as_mut_slice());
+    let mut encoder = CobsEncoder::new_with_sentinel(room.as_mut_slice(), sentinel);
     let mut refused = false;
     for bytes in message.chunks(piece) {
         refused |= encoder.push(bytes).is_err();
@@ -259,99 +260,4 @@ fn set(buffer: &mut [u8], at: usize, code: u8) -> Result<(), Trouble> {
         }
         None => Err(Trouble::Refused),
     }
-}
-
-/// `S MESSAGE FRAME`: the frame of a message for a sentinel.
-pub(crate) fn replay_sentinel(
-    alloc: Global,
-    mut words: Words<'_>,
-    findings: &mut Findings,
-) -> Result<(), Trouble> {
-    let sentinel = words.byte(alloc)?;
-    let message = words.bytes(alloc)?;
-    let frame = words.bytes(alloc)?;
-    words.end()?;
-    encode_sentinel(alloc, &message, &frame, sentinel, findings)?;
-    decode_sentinel(alloc, &message, &frame, sentinel, findings)
-}
-
-/// The calls that make the frame.
-fn encode_sentinel(
-    alloc: Global,
-    message: &[u8],
-    frame: &[u8],
-    sentinel: u8,
-    findings: &mut Findings,
-) -> Result<(), Trouble> {
-    let made = encode_with_sentinel(alloc, message, sentinel);
-    findings.check_bytes("encode_with_sentinel", made, frame)?;
-    let made = encode_vec_with_sentinel(alloc, message, sentinel);
-    findings.check_bytes("encode_vec_with_sentinel", made, frame)
-}
-
-/// The frame that `encode_with_sentinel` makes.
-fn encode_with_sentinel(alloc: Global, message: &[u8], sentinel: u8) -> Result<Vec<u8>, Trouble> {
-    let mut room = vec![in alloc; 0; cobs::encoded_length(message)]?;
-    let n = cobs::encode_with_sentinel(message, room.as_mut_slice(), sentinel);
-    room.truncate(n);
-    Ok(room)
-}
-
-/// The frame that `encode_vec_with_sentinel` makes.
-fn encode_vec_with_sentinel(
-    alloc: Global,
-    message: &[u8],
-    sentinel: u8,
-) -> Result<Vec<u8>, Trouble> {
-    Ok(cobs::encode_vec_with_sentinel(alloc, message, sentinel)?)
-}
-
-/// The calls that take the message back.
-fn decode_sentinel(
-    alloc: Global,
-    message: &[u8],
-    frame: &[u8],
-    sentinel: u8,
-    findings: &mut Findings,
-) -> Result<(), Trouble> {
-    let made = decode_with_sentinel(alloc, message.len(), frame, sentinel);
-    findings.check_bytes("decode_with_sentinel", made, message)?;
-    let made = decode_vec_with_sentinel(alloc, frame, sentinel);
-    findings.check_bytes("decode_vec_with_sentinel", made, message)?;
-    let made = decode_in_place_with_sentinel(alloc, frame, sentinel);
-    findings.check_bytes("decode_in_place_with_sentinel", made, message)
-}
-
-/// The message that `decode_with_sentinel` gives in so much room.
-fn decode_with_sentinel(
-    alloc: Global,
-    length: usize,
-    frame: &[u8],
-    sentinel: u8,
-) -> Result<Vec<u8>, Trouble> {
-    let mut room = vec![in alloc; 0; length]?;
-    match cobs::decode_with_sentinel(frame, room.as_mut_slice(), sentinel) {
-        Ok(n) => room.truncate(n),
-        Err(_) => return Err(Trouble::Refused),
-    }
-    Ok(room)
-}
-
-/// The message that `decode_vec_with_sentinel` gives.
-fn decode_vec_with_sentinel(alloc: Global, frame: &[u8], sentinel: u8) -> Result<Vec<u8>, Trouble> {
-    cobs::decode_vec_with_sentinel(alloc, frame, sentinel).or(Err(Trouble::Refused))
-}
-
-/// The message that `decode_in_place_with_sentinel` gives.
-fn decode_in_place_with_sentinel(
-    alloc: Global,
-    frame: &[u8],
-    sentinel: u8,
-) -> Result<Vec<u8>, Trouble> {
-    let mut room = frame.to_vec(alloc)?;
-    match cobs::decode_in_place_with_sentinel(room.as_mut_slice(), sentinel) {
-        Ok(n) => room.truncate(n),
-        Err(_) => return Err(Trouble::Refused),
-    }
-    Ok(room)
 }

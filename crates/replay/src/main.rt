@@ -16,6 +16,7 @@ mod pushing;
 mod reading;
 mod receiving;
 mod sending;
+mod sentinels;
 mod sizes;
 mod streams;
 mod values;
@@ -34,7 +35,7 @@ fn replay(alloc: Global, line: &str, findings: &mut Findings) -> Result<(), Trou
     let mut words = Words::new(line);
     match words.next()? {
         "cobs_encode" => encoding::replay_encode(alloc, words, findings),
-        "cobs_sentinel" => encoding::replay_sentinel(alloc, words, findings),
+        "cobs_sentinel" => sentinels::replay_sentinel(alloc, words, findings),
         "cobs_decode" => decoding::replay_decode(alloc, words, findings),
         "cobs_in_place" => decoding::replay_in_place(alloc, words, findings),
         "cobs_stream" => streams::replay_stream(alloc, words, findings),

@@ -6,7 +6,7 @@ use cobs::{CobsDecoder, CobsDecoderHeapless, CobsDecoderOwned, DecodeError, Deco
 use std::alloc::{AllocError, Global};
 
 /// A streaming decoder.
-trait Streaming {
+pub(crate) trait Streaming {
     fn feed_byte(&mut self, byte: u8) -> Result<Option<usize>, DecodeError>;
 
     fn push_piece(&mut self, piece: &[u8]) -> Result<Option<DecodeReport>, DecodeError>;
