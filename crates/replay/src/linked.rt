@@ -3,7 +3,7 @@ use crate::findings::Findings;
 use crate::gathering::compare_gathered;
 use crate::in_place::compare_in_place;
 use crate::pieces::pieces_of;
-use crate::pushing::compare_pushes;
+use crate::pushing::{compare_parts, compare_pushes};
 use crate::receiving::{compare_received, compare_received_strictly};
 use crate::sending::compare_sent;
 use crate::values::Shown;
@@ -58,6 +58,23 @@ pub(crate) fn replay_stream(
     let pieces = pieces_of(alloc, line.given)?;
     compare_pushes(line, &pieces, is_strict, findings)?;
     ask_number(line, task, &mut [], findings)
+}
+
+/// `S any|strict TYPE LIMIT:PIECE,../LIMIT:PIECE,.. -> A|A/A|..|END`: what a receiver answers whose limit is set before
+/// each part.
+pub(crate) fn replay_owned(
+    alloc: Global,
+    mut words: Words<'_>,
+    findings: &mut Findings,
+) -> Result<(), Trouble> {
+    let sentinel = words.byte(alloc)?;
+    let is_strict = match words.next()? {
+        "any" => false,
+        "strict" => true,
+        _ => return Err(Trouble::Unreadable),
+    };
+    let line = read_line(alloc, sentinel, 0, words)?;
+    compare_parts(line, is_strict, findings)
 }
 
 /// `S TYPE BYTES -> A;A;..`: what stretches are read as where they lie.

@@ -48,6 +48,7 @@ fn replay(alloc: Global, line: &str, findings: &mut Findings) -> Result<(), Trou
         "in_place" => linked::replay_stretches(alloc, words, findings),
         "gathered" => linked::replay_gathered(alloc, words, findings),
         "sends" => linked::replay_sends(alloc, words, findings),
+        "owned" => linked::replay_owned(alloc, words, findings),
         _ => Err(Trouble::Unreadable),
     }
 }

@@ -4,10 +4,11 @@ ghost use Rattle.link.specs.Listening.{ReceiverFitsInMemory};
 use crate::answers::show_answer;
 use crate::findings::Findings;
 use crate::linked::Line;
+use crate::pieces::pieces_of;
 use crate::values::Shown;
 use crate::words::Trouble;
 use arrayvec::{ArrayString, ArrayVec};
-use link::{Answer, Pushed, Receiver};
+use link::{Answer, OwnedReceiver, Pushed, Receiver};
 use postcard::fixint::LE;
 use postcard::{Deserialize, DeserializeOwned, Exact};
 use samples::DataEnum;
@@ -20,6 +21,13 @@ enum Call {
     Push,
     PushRef,
     PushStrict,
+}
+
+/// A receiver, of a limit that its type has or of one that is a value.
+#[derive(Drop)]
+enum Listener<const N: usize> {
+    Fixed(Receiver<N>),
+    Owned(OwnedReceiver),
 }
 
 /// Compares what new receivers answer to the pieces, and to each rest again, by each call.
@@ -67,26 +75,108 @@ fn push_to<const N: usize>(
 ) -> Result<String, Trouble>
     requires { ReceiverFitsInMemory N.row }
 {
-    let mut receiver = receiver;
+    let mut listener = Listener::Fixed(receiver);
+    let mut text = push_pieces(line, call, &mut listener, pieces)?;
+    finish(listener, &mut text)?;
+    Ok(text)
+}
+
+/// What a receiver answers to the pieces, each with a bar behind it.
+fn push_pieces<const N: usize>(
+    line: Line<'_>,
+    call: Call,
+    listener: &mut Listener<N>,
+    pieces: &[Vec<u8>],
+) -> Result<String, Trouble> {
     let mut text = String::new(line.alloc);
     for piece in pieces {
-        let answers = push_piece(line, call, &mut receiver, piece)?;
+        let answers = push_piece(line, call, listener, piece)?;
         text.push_str(answers.as_str())?;
         text.push('|')?;
     }
-    text.push_str(match receiver.finish::<()>() {
+    Ok(text)
+}
+
+/// Adds what a receiver answers to the end.
+fn finish<const N: usize>(listener: Listener<N>, text: &mut String) -> Result<(), AllocError> {
+    let answer = match listener {
+        Listener::Fixed(receiver) => receiver.finish::<()>(),
+        Listener::Owned(receiver) => receiver.finish::<()>(),
+    };
+    text.push_str(match answer {
         None => "-",
         Some(Answer::Cut) => "cut",
         Some(_) => "another answer",
-    })?;
+    })
+}
+
+/// Compares what one receiver answers whose limit is set before each part, by each call.
+pub(crate) fn compare_parts(
+    line: Line<'_>,
+    is_strict: bool,
+    findings: &mut Findings,
+) -> Result<(), Trouble> {
+    if is_strict {
+        let answer = push_parts(line, Call::PushStrict)?;
+        findings.compare("OwnedReceiver::push_strict", answer.as_str(), line.wanted)?;
+        return Ok(());
+    }
+    let answer = push_parts(line, Call::Push)?;
+    findings.compare("OwnedReceiver::push", answer.as_str(), line.wanted)?;
+    let answer = push_parts(line, Call::PushRef)?;
+    findings.compare("OwnedReceiver::push_ref", answer.as_str(), line.wanted)?;
+    Ok(())
+}
+
+/// `LIMIT:PIECE,../LIMIT:PIECE,..`: what one receiver answers to all parts.
+fn push_parts(line: Line<'_>, call: Call) -> Result<String, Trouble> {
+    let Ok(receiver) = OwnedReceiver::new(line.alloc, 0, line.sentinel) else {
+        return Err(Trouble::NoMemory);
+    };
+    let mut listener = Listener::<0>::Owned(receiver);
+    let mut text = String::new(line.alloc);
+    for part in line.given.split('/') {
+        if !text.is_empty() {
+            // in place of the bar behind the last piece
+            text.pop();
+            text.push('/')?;
+        }
+        let answers = push_part(line, call, &mut listener, part)?;
+        text.push_str(answers.as_str())?;
+    }
+    finish(listener, &mut text)?;
     Ok(text)
+}
+
+/// `LIMIT:PIECE,..`: sets the limit and pushes the pieces.
+fn push_part(
+    line: Line<'_>,
+    call: Call,
+    listener: &mut Listener<0>,
+    part: &str,
+) -> Result<String, Trouble> {
+    let (limit, pieces) = part.split_once(':').ok_or(Trouble::Unreadable)?;
+    let limit = limit.parse::<usize>().or(Err(Trouble::Unreadable))?;
+    if let Listener::Owned(receiver) = listener {
+        set_limit(receiver, limit)?;
+    }
+    let pieces = pieces_of(line.alloc, pieces)?;
+    push_pieces(line, call, listener, &pieces)
+}
+
+/// Sets a receiver's limit between stretches.
+fn set_limit(receiver: &mut OwnedReceiver, limit: usize) -> Result<(), Trouble> {
+    if !receiver.is_between() {
+        return Err(Trouble::Unreadable);
+    }
+    receiver.set_limit(limit).or(Err(Trouble::NoMemory))
 }
 
 /// What a receiver answers to a piece, and to each rest until none is left.
 fn push_piece<const N: usize>(
     line: Line<'_>,
     call: Call,
-    receiver: &mut Receiver<N>,
+    listener: &mut Listener<N>,
     piece: &[u8],
 ) -> Result<String, Trouble> {
     let mut text = String::new(line.alloc);
@@ -96,7 +186,7 @@ fn push_piece<const N: usize>(
             break;
         }
         let mut answer = String::new(line.alloc);
-        let used = push_number(line, call, receiver, rest, &mut answer)?;
+        let used = push_number(line, call, listener, rest, &mut answer)?;
         rest = rest.get(used..).unwrap_or(&[]);
         if !answer.is_empty() {
             let at = piece.len().saturating_sub(rest.len()).saturating_sub(1);
@@ -121,14 +211,16 @@ fn add(text: &mut String, at: usize, answer: &str) -> Result<(), AllocError> {
 fn push<'a, T: Deserialize<&'a [u8]> + DeserializeOwned + Exact + Shown, const N: usize>(
     alloc: Global,
     call: Call,
-    receiver: &'a mut Receiver<N>,
+    listener: &'a mut Listener<N>,
     piece: &[u8],
     text: &mut String,
 ) -> Result<usize, Trouble> {
     match call {
-        Call::Push => show(receiver.push::<T>(alloc, piece), text),
-        Call::PushRef => show(receiver.push_ref::<T>(alloc, piece), text),
-        Call::PushStrict => show(receiver.push_strict::<T>(alloc, piece), text),
+        Call::PushStrict => match listener {
+            Listener::Fixed(receiver) => show(receiver.push_strict::<T>(alloc, piece), text),
+            Listener::Owned(receiver) => show(receiver.push_strict::<T>(alloc, piece), text),
+        },
+        _ => push_inexact::<T, N>(alloc, call, listener, piece, text),
     }
 }
 
@@ -136,13 +228,19 @@ fn push<'a, T: Deserialize<&'a [u8]> + DeserializeOwned + Exact + Shown, const N
 fn push_inexact<'a, T: Deserialize<&'a [u8]> + DeserializeOwned + Shown, const N: usize>(
     alloc: Global,
     call: Call,
-    receiver: &'a mut Receiver<N>,
+    listener: &'a mut Listener<N>,
     piece: &[u8],
     text: &mut String,
 ) -> Result<usize, Trouble> {
     match call {
-        Call::Push => show(receiver.push::<T>(alloc, piece), text),
-        Call::PushRef => show(receiver.push_ref::<T>(alloc, piece), text),
+        Call::Push => match listener {
+            Listener::Fixed(receiver) => show(receiver.push::<T>(alloc, piece), text),
+            Listener::Owned(receiver) => show(receiver.push::<T>(alloc, piece), text),
+        },
+        Call::PushRef => match listener {
+            Listener::Fixed(receiver) => show(receiver.push_ref::<T>(alloc, piece), text),
+            Listener::Owned(receiver) => show(receiver.push_ref::<T>(alloc, piece), text),
+        },
         Call::PushStrict => Err(Trouble::Unreadable),
     }
 }
@@ -162,23 +260,23 @@ fn show<T: Shown + Drop>(pushed: Pushed<T>, text: &mut String) -> Result<usize, 
 fn push_number<const N: usize>(
     line: Line<'_>,
     call: Call,
-    receiver: &mut Receiver<N>,
+    listener: &mut Listener<N>,
     piece: &[u8],
     text: &mut String,
 ) -> Result<usize, Trouble> {
     let alloc = line.alloc;
     match line.name {
-        "bool" => push::<bool, N>(alloc, call, receiver, piece, text),
-        "u8" => push::<u8, N>(alloc, call, receiver, piece, text),
-        "u16" => push::<u16, N>(alloc, call, receiver, piece, text),
-        "u32" => push::<u32, N>(alloc, call, receiver, piece, text),
-        "u64" => push::<u64, N>(alloc, call, receiver, piece, text),
-        "i16" => push::<i16, N>(alloc, call, receiver, piece, text),
-        "i64" => push::<i64, N>(alloc, call, receiver, piece, text),
-        "char" => push::<char, N>(alloc, call, receiver, piece, text),
-        "()" => push::<(), N>(alloc, call, receiver, piece, text),
-        "LE<u16>" => push::<LE<u16>, N>(alloc, call, receiver, piece, text),
-        _ => push_composed(line, call, receiver, piece, text),
+        "bool" => push::<bool, N>(alloc, call, listener, piece, text),
+        "u8" => push::<u8, N>(alloc, call, listener, piece, text),
+        "u16" => push::<u16, N>(alloc, call, listener, piece, text),
+        "u32" => push::<u32, N>(alloc, call, listener, piece, text),
+        "u64" => push::<u64, N>(alloc, call, listener, piece, text),
+        "i16" => push::<i16, N>(alloc, call, listener, piece, text),
+        "i64" => push::<i64, N>(alloc, call, listener, piece, text),
+        "char" => push::<char, N>(alloc, call, listener, piece, text),
+        "()" => push::<(), N>(alloc, call, listener, piece, text),
+        "LE<u16>" => push::<LE<u16>, N>(alloc, call, listener, piece, text),
+        _ => push_composed(line, call, listener, piece, text),
     }
 }
 
@@ -186,25 +284,25 @@ fn push_number<const N: usize>(
 fn push_composed<const N: usize>(
     line: Line<'_>,
     call: Call,
-    receiver: &mut Receiver<N>,
+    listener: &mut Listener<N>,
     piece: &[u8],
     text: &mut String,
 ) -> Result<usize, Trouble> {
     let alloc = line.alloc;
     match line.name {
-        "String" => push::<String, N>(alloc, call, receiver, piece, text),
-        "ArrayString<4>" => push::<ArrayString<4>, N>(alloc, call, receiver, piece, text),
-        "Vec<u8>" => push::<Vec<u8>, N>(alloc, call, receiver, piece, text),
-        "Vec<u16>" => push::<Vec<u16>, N>(alloc, call, receiver, piece, text),
-        "ArrayVec<u8,2>" => push::<ArrayVec<u8, 2>, N>(alloc, call, receiver, piece, text),
-        "[u8;3]" => push::<[u8; 3], N>(alloc, call, receiver, piece, text),
-        "(u8,u8)" => push::<(u8, u8), N>(alloc, call, receiver, piece, text),
-        "(u8,u32,String)" => push::<(u8, u32, String), N>(alloc, call, receiver, piece, text),
-        "Option<u16>" => push::<Option<u16>, N>(alloc, call, receiver, piece, text),
-        "Result<u8,u16>" => push::<Result<u8, u16>, N>(alloc, call, receiver, piece, text),
-        "DataEnum" => push::<DataEnum, N>(alloc, call, receiver, piece, text),
+        "String" => push::<String, N>(alloc, call, listener, piece, text),
+        "ArrayString<4>" => push::<ArrayString<4>, N>(alloc, call, listener, piece, text),
+        "Vec<u8>" => push::<Vec<u8>, N>(alloc, call, listener, piece, text),
+        "Vec<u16>" => push::<Vec<u16>, N>(alloc, call, listener, piece, text),
+        "ArrayVec<u8,2>" => push::<ArrayVec<u8, 2>, N>(alloc, call, listener, piece, text),
+        "[u8;3]" => push::<[u8; 3], N>(alloc, call, listener, piece, text),
+        "(u8,u8)" => push::<(u8, u8), N>(alloc, call, listener, piece, text),
+        "(u8,u32,String)" => push::<(u8, u32, String), N>(alloc, call, listener, piece, text),
+        "Option<u16>" => push::<Option<u16>, N>(alloc, call, listener, piece, text),
+        "Result<u8,u16>" => push::<Result<u8, u16>, N>(alloc, call, listener, piece, text),
+        "DataEnum" => push::<DataEnum, N>(alloc, call, listener, piece, text),
         "BTreeMap<u8,u8>" => push_inexact::<BTreeMap<u8, u8>, N>(
-            alloc, call, receiver, piece, text,
+            alloc, call, listener, piece, text,
         ),
         _ => Err(Trouble::Unreadable),
     }

@@ -6,7 +6,10 @@ use crate::pieces::{Pieces, pieces_of};
 use crate::values::Shown;
 use crate::words::Trouble;
 use line_io::Reads;
-use link::{Received, receive_strict_with_sentinel, receive_with_sentinel};
+use link::{
+    Received, receive_owned, receive_owned_strict, receive_strict_with_sentinel,
+    receive_with_sentinel,
+};
 use postcard::{DeserializeOwned, Exact};
 use std::alloc::Global;
 
@@ -25,7 +28,9 @@ pub(crate) fn compare_received<T: DeserializeOwned + Shown>(
         let answer = receive_all::<T>(line, line.limit, reader)?;
         findings.compare("receive", answer.as_str(), wanted.as_str())?;
     }
-    Ok(())
+    let reader = Reads::new(Pieces::new(&pieces, usize::MAX));
+    let got = receive_owned::<T, _>(line.alloc, reader, line.limit, line.sentinel);
+    findings.check("receive_owned", show(line.alloc, got), wanted.as_str())
 }
 
 /// As [`compare_received`], by strict reception.
@@ -40,7 +45,9 @@ pub(crate) fn compare_received_strictly<T: DeserializeOwned + Exact + Shown>(
         let answer = receive_all_strictly::<T>(line, reader)?;
         findings.compare("receive_strict", answer.as_str(), wanted.as_str())?;
     }
-    Ok(())
+    let reader = Reads::new(Pieces::new(&pieces, usize::MAX));
+    let got = receive_owned_strict::<T, _>(line.alloc, reader, line.limit, line.sentinel);
+    findings.check("receive_owned_strict", show(line.alloc, got), wanted.as_str())
 }
 
 /// The answers of a receiver of so many bytes.
