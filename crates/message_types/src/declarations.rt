@@ -8,7 +8,7 @@ pub struct Field {
 }
 
 /// How fields are written.
-#[derive(Clone, Copy, PartialEq, Eq, Drop)]
+#[derive(Clone, Copy, Drop)]
 pub enum Form {
     /// Not at all.
     Unit,
@@ -40,7 +40,7 @@ pub enum Body {
 }
 
 /// What a declaration is marked for, besides being written and read.
-#[derive(Clone, Copy, PartialEq, Eq, Drop)]
+#[derive(Clone, Copy, Drop)]
 pub struct Marks {
     /// It has a greatest size.
     pub max_size: bool,

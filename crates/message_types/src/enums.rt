@@ -4,7 +4,7 @@ use crate::printer::{Printer, joined, names_of, tuple_text, types_of, whole_name
 use std::alloc::{AllocError, Global};
 
 /// Where the shape of a variant stands: behind so many fours, and behind so many single ones.
-#[derive(Clone, Copy, PartialEq, Eq, Drop)]
+#[derive(Clone, Copy, Drop)]
 struct Place {
     fours: usize,
     ones: usize,
@@ -12,7 +12,7 @@ struct Place {
 }
 
 /// Which constructor holds it there.
-#[derive(Clone, Copy, PartialEq, Eq, Drop)]
+#[derive(Clone, Copy, Drop)]
 enum Kind {
     OfFour(usize),
     This,
@@ -462,7 +462,7 @@ impl Printer {
         for (index, variant) in variants.iter().enumerate() {
             let place = place_of(index, variants.len());
             self.arm_read(indent, name, place, variant)?;
-            if place.kind == Kind::OfFour(3) {
+            if let Kind::OfFour(3) = place.kind {
                 self.line(indent, "Variants4::More(it) => match it {")?;
                 indent = indent.saturating_add(4);
             }

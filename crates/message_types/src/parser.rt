@@ -422,8 +422,9 @@ impl<'a> Parser<'a> {
             return Ok(Body::Enum(variants));
         }
         let fields = self.fields()?;
-        if fields.form != Form::Named {
-            self.owe(";")?;
+        match fields.form {
+            Form::Named => {}
+            _ => self.owe(";")?,
         }
         Ok(Body::Struct(fields))
     }

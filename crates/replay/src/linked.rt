@@ -16,7 +16,7 @@ use std::alloc::Global;
 use std::collections::BTreeMap;
 
 /// What a line asks of a type.
-#[derive(Clone, Copy, Debug, PartialEq, Eq, Drop)]
+#[derive(Clone, Copy, Drop)]
 enum Task {
     Receive,
     ReceiveStrictly,

@@ -12,7 +12,7 @@ use std::alloc::Global;
 use std::collections::BTreeMap;
 
 /// What a line asks of a type.
-#[derive(Clone, Copy, Debug, PartialEq, Eq, Drop)]
+#[derive(Clone, Copy, Drop)]
 enum Task {
     Write,
     Read,
@@ -103,8 +103,9 @@ fn perform<'a, T: Serialize + Deserialize<&'a [u8]> + DeserializeOwned + Shown>(
     copy: &'a mut [u8],
     findings: &mut Findings,
 ) -> Result<(), Trouble> {
-    if line.task != Task::ReadFrame {
-        read_owned::<T>(line.alloc, bytes, line.wanted, findings)?;
+    match line.task {
+        Task::Write | Task::Read => read_owned::<T>(line.alloc, bytes, line.wanted, findings)?,
+        Task::ReadFrame => {}
     }
     perform_borrowing::<T>(line, bytes, room, copy, findings)
 }

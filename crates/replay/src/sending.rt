@@ -22,7 +22,7 @@ const HEARD: usize = 1025;
 const EACH: usize = 7;
 
 /// The call that sends.
-#[derive(Clone, Copy, Debug, PartialEq, Eq, Drop)]
+#[derive(Clone, Copy, Drop)]
 enum Call {
     Send,
     SendEach,

@@ -3,7 +3,7 @@ use hex::FromHexError;
 use std::alloc::{AllocError, AllocFailed, Global};
 
 /// Why a line was not replayed to its end.
-#[derive(Clone, Copy, Debug, PartialEq, Eq, Drop)]
+#[derive(Clone, Copy, Drop)]
 pub enum Trouble {
     /// The line isn't one of a known kind and type.
     Unreadable,
