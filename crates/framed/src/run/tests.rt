@@ -606,6 +606,7 @@ fn memory_runs_out(rt: HostRuntime) {
     whole_or_no_memory(&rt, given(Mode::Unpack, false, raw), said);
 }
 
+/// To be run so too.
 #[test]
 fn memory_runs_out_with_sentinel(rt: HostRuntime) {
     let framed = b"0a0e0862630a\n";
