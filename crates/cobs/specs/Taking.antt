@@ -1,4 +1,5 @@
--- What the streaming decoders do with what they are given: what each keeps, and its buffer, before and afterwards.
+-- What the streaming decoders do with what they are given, each byte XORed with the sentinel: what each keeps, and its buffer,
+-- before and afterwards.
 use Rattle.std.specs.Prelude.{◌≡◌, ℕ, ◌-◌, ◌<◌, ◌≤◌, false, List, ◌++◌, length, take, Option, Result, IfOk, IfSome}
 use Rattle.cobs.specs.Frames.{NoZero, part, part_from, after}
 use Rattle.cobs.specs.Feeding.{answer_of, frame_after, placed}

@@ -798,6 +798,7 @@ pub fn decode_with_sentinel(
 }
 
 // Decodes the bytes of a vector before its first sentinel, each XORed with it, over themselves.
+#[inline(always)]
 fn decode_vector(bytes: Vec<u8>, sentinel: u8) -> Result<Vec<u8>, DecodeVecError>
     ensures { MatchResult result (λ v. message_of_stretch (stretch (masked sentinel bytes.items)) ≡ Ok v.items)
         (λ e. Refuses e (message_of_stretch (stretch (masked sentinel bytes.items)))) }
@@ -845,7 +846,7 @@ pub fn decode_vec_with_sentinel(
     decode_vector(bytes, sentinel)
 }
 
-/// Decodes frames that come byte by byte, into a buffer.
+/// Decodes frames that come byte by byte, into a buffer. It keeps the sentinel that ends its frames.
 ///
 /// ```text
 /// let mut decoder = CobsDecoder::new(&mut buffer);
@@ -941,7 +942,7 @@ impl<'a> CobsDecoder<'a> {
     }
 }
 
-/// Decodes frames that come byte by byte, into a buffer of its own.
+/// Decodes frames that come byte by byte, into a buffer of its own. It keeps the sentinel that ends its frames.
 #[derive(Drop)]
 pub struct CobsDecoderOwned {
     buffer: Vec<u8>,
@@ -1066,7 +1067,7 @@ impl CobsDecoderOwned {
     }
 }
 
-/// Decodes frames that come byte by byte, into a buffer of N bytes of its own.
+/// Decodes frames that come byte by byte, into a buffer of N bytes of its own. It keeps the sentinel that ends its frames.
 #[derive(Drop)]
 pub struct CobsDecoderHeapless<const N: usize> {
     array: ArrayVec<u8, N>,
