@@ -61,7 +61,7 @@ fn at_the_limit(rt: HostRuntime) {
 }
 
 #[test]
-fn raised_and_lowered(rt: HostRuntime) -> Result<(), Fail> {
+fn raised(rt: HostRuntime) -> Result<(), Fail> {
     let mut receiver = OwnedReceiver::new(rt.alloc(), 1, 0)?;
     let pushed = receiver.push::<bool>(rt.alloc(), &[2, 1, 0]);
     assert!(rt; pushed.answer == Ok(Some(Answer::TooLong)));
@@ -72,6 +72,15 @@ fn raised_and_lowered(rt: HostRuntime) -> Result<(), Fail> {
     assert!(rt; receiver.limit() == 2);
     let pushed = receiver.push::<bool>(rt.alloc(), &[2, 1, 0]);
     assert!(rt; pushed.answer == Ok(Some(Answer::Value(true))));
+    Ok(())
+}
+
+#[test]
+fn lowered(rt: HostRuntime) -> Result<(), Fail> {
+    let mut receiver = OwnedReceiver::new(rt.alloc(), 2, 0)?;
+    let pushed = receiver.push::<bool>(rt.alloc(), &[2, 1, 0]);
+    assert!(rt; pushed.answer == Ok(Some(Answer::Value(true))));
+    assert!(rt; receiver.is_between());
     receiver.set_limit(0)?;
     let pushed = receiver.push_strict::<()>(rt.alloc(), &[1]);
     assert!(rt; pushed.answer == Ok(Some(Answer::TooLong)));
