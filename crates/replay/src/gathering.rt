@@ -38,14 +38,38 @@ fn gather<T: DeserializeOwned + Shown>(
         ..
     } = line;
     match line.limit {
-        1 => show(alloc, receive_by_accumulator_with_sentinel::<T, _, 1>(alloc, reader, s)),
-        3 => show(alloc, receive_by_accumulator_with_sentinel::<T, _, 3>(alloc, reader, s)),
-        8 => show(alloc, receive_by_accumulator_with_sentinel::<T, _, 8>(alloc, reader, s)),
-        16 => show(alloc, receive_by_accumulator_with_sentinel::<T, _, 16>(alloc, reader, s)),
-        64 => show(alloc, receive_by_accumulator_with_sentinel::<T, _, 64>(alloc, reader, s)),
-        256 => show(alloc, receive_by_accumulator_with_sentinel::<T, _, 256>(alloc, reader, s)),
-        512 => show(alloc, receive_by_accumulator_with_sentinel::<T, _, 512>(alloc, reader, s)),
-        1025 => show(alloc, receive_by_accumulator_with_sentinel::<T, _, 1025>(alloc, reader, s)),
+        1 => show(
+            alloc,
+            receive_by_accumulator_with_sentinel::<T, _, 1>(alloc, reader, s),
+        ),
+        3 => show(
+            alloc,
+            receive_by_accumulator_with_sentinel::<T, _, 3>(alloc, reader, s),
+        ),
+        8 => show(
+            alloc,
+            receive_by_accumulator_with_sentinel::<T, _, 8>(alloc, reader, s),
+        ),
+        16 => show(
+            alloc,
+            receive_by_accumulator_with_sentinel::<T, _, 16>(alloc, reader, s),
+        ),
+        64 => show(
+            alloc,
+            receive_by_accumulator_with_sentinel::<T, _, 64>(alloc, reader, s),
+        ),
+        256 => show(
+            alloc,
+            receive_by_accumulator_with_sentinel::<T, _, 256>(alloc, reader, s),
+        ),
+        512 => show(
+            alloc,
+            receive_by_accumulator_with_sentinel::<T, _, 512>(alloc, reader, s),
+        ),
+        1025 => show(
+            alloc,
+            receive_by_accumulator_with_sentinel::<T, _, 1025>(alloc, reader, s),
+        ),
         _ => Err(Trouble::Unreadable),
     }
 }

@@ -30,7 +30,11 @@ fn read_all<'a, T: Deserialize<&'a [u8]> + Shown>(
 ) -> Result<(), Trouble> {
     let mut rest = room;
     for turn in 0..=line.given.len() {
-        let Some((answer, after)) = read_in_place_with_sentinel::<T>(line.alloc, rest, line.sentinel) else {
+        let Some((answer, after)) = read_in_place_with_sentinel::<T>(
+            line.alloc,
+            rest,
+            line.sentinel,
+        ) else {
             break;
         };
         let Ok(answer) = answer else {

@@ -47,7 +47,11 @@ pub(crate) fn compare_received_strictly<T: DeserializeOwned + Exact + Shown>(
     }
     let reader = Reads::new(Pieces::new(&pieces, usize::MAX));
     let got = receive_owned_strict::<T, _>(line.alloc, reader, line.limit, line.sentinel);
-    findings.check("receive_owned_strict", show(line.alloc, got), wanted.as_str())
+    findings.check(
+        "receive_owned_strict",
+        show(line.alloc, got),
+        wanted.as_str(),
+    )
 }
 
 /// The answers of a receiver of so many bytes.
@@ -86,15 +90,42 @@ fn receive_all_strictly<T: DeserializeOwned + Exact + Shown>(
         ..
     } = line;
     match line.limit {
-        0 => show(alloc, receive_strict_with_sentinel::<T, _, 0>(alloc, reader, s)),
-        1 => show(alloc, receive_strict_with_sentinel::<T, _, 1>(alloc, reader, s)),
-        3 => show(alloc, receive_strict_with_sentinel::<T, _, 3>(alloc, reader, s)),
-        8 => show(alloc, receive_strict_with_sentinel::<T, _, 8>(alloc, reader, s)),
-        16 => show(alloc, receive_strict_with_sentinel::<T, _, 16>(alloc, reader, s)),
-        64 => show(alloc, receive_strict_with_sentinel::<T, _, 64>(alloc, reader, s)),
-        256 => show(alloc, receive_strict_with_sentinel::<T, _, 256>(alloc, reader, s)),
-        512 => show(alloc, receive_strict_with_sentinel::<T, _, 512>(alloc, reader, s)),
-        1025 => show(alloc, receive_strict_with_sentinel::<T, _, 1025>(alloc, reader, s)),
+        0 => show(
+            alloc,
+            receive_strict_with_sentinel::<T, _, 0>(alloc, reader, s),
+        ),
+        1 => show(
+            alloc,
+            receive_strict_with_sentinel::<T, _, 1>(alloc, reader, s),
+        ),
+        3 => show(
+            alloc,
+            receive_strict_with_sentinel::<T, _, 3>(alloc, reader, s),
+        ),
+        8 => show(
+            alloc,
+            receive_strict_with_sentinel::<T, _, 8>(alloc, reader, s),
+        ),
+        16 => show(
+            alloc,
+            receive_strict_with_sentinel::<T, _, 16>(alloc, reader, s),
+        ),
+        64 => show(
+            alloc,
+            receive_strict_with_sentinel::<T, _, 64>(alloc, reader, s),
+        ),
+        256 => show(
+            alloc,
+            receive_strict_with_sentinel::<T, _, 256>(alloc, reader, s),
+        ),
+        512 => show(
+            alloc,
+            receive_strict_with_sentinel::<T, _, 512>(alloc, reader, s),
+        ),
+        1025 => show(
+            alloc,
+            receive_strict_with_sentinel::<T, _, 1025>(alloc, reader, s),
+        ),
         _ => Err(Trouble::Unreadable),
     }
 }

@@ -166,8 +166,9 @@ fn push_line<D: Streaming>(
 /// The message that `decode_in_place_report_with_sentinel` gives, which has to leave the sentinel where it is.
 fn decode_report(alloc: Global, line: &[u8], sentinel: u8) -> Result<Vec<u8>, Trouble> {
     let mut room = line.to_vec(alloc)?;
-    let report = cobs::decode_in_place_report_with_sentinel(room.as_mut_slice(), sentinel)
-        .or(Err(Trouble::Refused))?;
+    let report = cobs::decode_in_place_report_with_sentinel(room.as_mut_slice(), sentinel).or(Err(
+        Trouble::Refused,
+    ))?;
     if room.get(report.parsed_size()..) != Some(&[sentinel]) {
         return Err(Trouble::Refused);
     }
