@@ -1,5 +1,6 @@
 //! Streams that are pushed to a receiver.
-ghost use Rattle.link.specs.Listening.{ReceiverFitsInMemory};
+ghost use Rattle.std.specs.Mem.{FitsInMemory};
+ghost use Rattle.replay.specs.contracts.pushing.Listener.{the_row};
 
 use crate::answers::show_answer;
 use crate::findings::Findings;
@@ -53,15 +54,60 @@ pub(crate) fn compare_pushes(
 fn push_all(line: Line<'_>, call: Call, pieces: &[Vec<u8>]) -> Result<String, Trouble> {
     let s = line.sentinel;
     match line.limit {
-        0 => push_to(line, call, Receiver::<0>::new_with_sentinel(s), pieces),
-        1 => push_to(line, call, Receiver::<1>::new_with_sentinel(s), pieces),
-        3 => push_to(line, call, Receiver::<3>::new_with_sentinel(s), pieces),
-        8 => push_to(line, call, Receiver::<8>::new_with_sentinel(s), pieces),
-        16 => push_to(line, call, Receiver::<16>::new_with_sentinel(s), pieces),
-        64 => push_to(line, call, Receiver::<64>::new_with_sentinel(s), pieces),
-        256 => push_to(line, call, Receiver::<256>::new_with_sentinel(s), pieces),
-        512 => push_to(line, call, Receiver::<512>::new_with_sentinel(s), pieces),
-        1025 => push_to(line, call, Receiver::<1025>::new_with_sentinel(s), pieces),
+        0 => push_to(
+            line,
+            call,
+            Listener::Fixed(Receiver::<0>::new_with_sentinel(s)),
+            pieces,
+        ),
+        1 => push_to(
+            line,
+            call,
+            Listener::Fixed(Receiver::<1>::new_with_sentinel(s)),
+            pieces,
+        ),
+        3 => push_to(
+            line,
+            call,
+            Listener::Fixed(Receiver::<3>::new_with_sentinel(s)),
+            pieces,
+        ),
+        8 => push_to(
+            line,
+            call,
+            Listener::Fixed(Receiver::<8>::new_with_sentinel(s)),
+            pieces,
+        ),
+        16 => push_to(
+            line,
+            call,
+            Listener::Fixed(Receiver::<16>::new_with_sentinel(s)),
+            pieces,
+        ),
+        64 => push_to(
+            line,
+            call,
+            Listener::Fixed(Receiver::<64>::new_with_sentinel(s)),
+            pieces,
+        ),
+        256 => push_to(
+            line,
+            call,
+            Listener::Fixed(Receiver::<256>::new_with_sentinel(s)),
+            pieces,
+        ),
+        512 => push_to(
+            line,
+            call,
+            Listener::Fixed(Receiver::<512>::new_with_sentinel(s)),
+            pieces,
+        ),
+        1025 => push_to(
+            line,
+            call,
+            Listener::Fixed(Receiver::<1025>::new_with_sentinel(s)),
+            pieces,
+        ),
         _ => Err(Trouble::Unreadable),
     }
 }
@@ -70,12 +116,12 @@ fn push_all(line: Line<'_>, call: Call, pieces: &[Vec<u8>]) -> Result<String, Tr
 fn push_to<const N: usize>(
     line: Line<'_>,
     call: Call,
-    receiver: Receiver<N>,
+    listener: Listener<N>,
     pieces: &[Vec<u8>],
 ) -> Result<String, Trouble>
-    requires { ReceiverFitsInMemory N.row }
+    requires { FitsInMemory (the_row N.row) }
 {
-    let mut listener = Listener::Fixed(receiver);
+    let mut listener = listener;
     let mut text = push_pieces(line, call, &mut listener, pieces)?;
     finish(listener, &mut text)?;
     Ok(text)
