@@ -46,8 +46,7 @@ fn full_block(rt: HostRuntime) -> Result<(), Fail> {
     let mut decoder = CobsDecoder::new_with_sentinel(&mut room, 1);
     assert!(rt; decoder.push(&frame) == Ok(None));
     assert!(rt; decoder.feed(1) == Ok(Some(255)));
-    assert!(rt; decoder.dest()[..254] == [1; 254]);
-    assert!(rt; decoder.dest()[254] == 7);
+    assert!(rt; decoder.dest().starts_with(&[1; 254]) && decoder.dest().ends_with(&[7]));
     Ok(())
 }
 
