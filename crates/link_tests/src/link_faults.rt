@@ -1,5 +1,5 @@
 //! `link`, over writers and readers that fail at each byte: what goes out, and what is heard of it before a reader fails.
-//! What is heard of it all, in pieces of each size, are lines of `replay`.
+//! What is heard of it all, in pieces of each size, are lines of `replay_link`.
 use line_io::memory::{Fault, In, Out};
 use line_io::{Outlet, Reads, Writes};
 use link::{Answer, End, Fate, SendError, Sender, receive, receive_strict, send_each};

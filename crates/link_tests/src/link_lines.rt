@@ -1,4 +1,4 @@
-//! `link`, from senders to a receiver: the headline, in which a send breaks off. Lines of `replay` say what is heard of
+//! `link`, from senders to a receiver: the headline, in which a send breaks off. Lines of `replay_link` say what is heard of
 //! other sends that break off, ordinarily and strictly.
 use line_io::memory::{Fault, In, Out};
 use link::{Answer, Fate, SendError, headline};

@@ -1,5 +1,5 @@
 //! `link`, receiving: what is lent, stretches cut anywhere, readers that fail, and what is left in place. Answers to plain
-//! streams are lines of `replay`.
+//! streams are lines of `replay_link`.
 ghost use Rattle.std.specs.Prelude.{◌≤◌, length};
 
 use line_io::memory::In;

@@ -1,5 +1,5 @@
 //! `link`, sending: the bytes of sends that fit exactly, are refused or are none, and the fates of a session.
-//! What plain sends bring on a line are lines of `replay`.
+//! What plain sends bring on a line are lines of `replay_link`.
 use line_io::memory::Out;
 use link::{Fate, Framed, SendError, Sender, send_each};
 use postcard::{Error, serialize_with_flavor};

@@ -1,5 +1,5 @@
 //! Bytes that are made to hurt: counts without end, and fronts. Padded numbers and stretches that are too long are lines of
-//! `replay`.
+//! `replay_link`.
 use link::{Answer, Receiver};
 use postcard::{Error, from_bytes, from_bytes_owned, take_from_bytes};
 use std::alloc::Global;

@@ -1,0 +1,140 @@
+//! Streams that a reader gives.
+use crate::answers::{need_end, show_answers, without_places};
+use crate::linked::Line;
+use line_io::Reads;
+use link::{
+    Received, receive_owned, receive_owned_strict, receive_strict_with_sentinel,
+    receive_with_sentinel,
+};
+use postcard::{DeserializeOwned, Exact};
+use std::alloc::Global;
+use values::Shown;
+use vectors::{Findings, Pieces, Trouble, pieces_of};
+
+/// What comes from a reader.
+type From<'a> = Reads<Pieces<'a>>;
+
+/// Compares the answers to a stream that comes in its pieces, and to one that comes byte by byte.
+pub(crate) fn compare_received<T: DeserializeOwned + Shown>(
+    line: Line<'_>,
+    findings: &mut Findings,
+) -> Result<(), Trouble> {
+    let pieces = pieces_of(line.alloc, line.given)?;
+    let wanted = without_places(line.alloc, line.wanted)?;
+    for each in [usize::MAX, 1] {
+        let reader = Reads::new(Pieces::new(&pieces, each));
+        let answer = receive_all::<T>(line, line.limit, reader)?;
+        findings.compare("receive", answer.as_str(), wanted.as_str())?;
+    }
+    let reader = Reads::new(Pieces::new(&pieces, usize::MAX));
+    let got = receive_owned::<T, _>(line.alloc, reader, line.limit, line.sentinel);
+    findings.check("receive_owned", show(line.alloc, got), wanted.as_str())
+}
+
+/// As [`compare_received`], by strict reception.
+pub(crate) fn compare_received_strictly<T: DeserializeOwned + Exact + Shown>(
+    line: Line<'_>,
+    findings: &mut Findings,
+) -> Result<(), Trouble> {
+    let pieces = pieces_of(line.alloc, line.given)?;
+    let wanted = without_places(line.alloc, line.wanted)?;
+    for each in [usize::MAX, 1] {
+        let reader = Reads::new(Pieces::new(&pieces, each));
+        let answer = receive_all_strictly::<T>(line, reader)?;
+        findings.compare("receive_strict", answer.as_str(), wanted.as_str())?;
+    }
+    let reader = Reads::new(Pieces::new(&pieces, usize::MAX));
+    let got = receive_owned_strict::<T, _>(line.alloc, reader, line.limit, line.sentinel);
+    findings.check(
+        "receive_owned_strict",
+        show(line.alloc, got),
+        wanted.as_str(),
+    )
+}
+
+/// The answers of a receiver of so many bytes.
+pub(crate) fn receive_all<T: DeserializeOwned + Shown>(
+    line: Line<'_>,
+    limit: usize,
+    reader: From<'_>,
+) -> Result<String, Trouble> {
+    let Line {
+        alloc,
+        sentinel: s,
+        ..
+    } = line;
+    match limit {
+        0 => show(alloc, receive_with_sentinel::<T, _, 0>(alloc, reader, s)),
+        1 => show(alloc, receive_with_sentinel::<T, _, 1>(alloc, reader, s)),
+        3 => show(alloc, receive_with_sentinel::<T, _, 3>(alloc, reader, s)),
+        8 => show(alloc, receive_with_sentinel::<T, _, 8>(alloc, reader, s)),
+        16 => show(alloc, receive_with_sentinel::<T, _, 16>(alloc, reader, s)),
+        64 => show(alloc, receive_with_sentinel::<T, _, 64>(alloc, reader, s)),
+        256 => show(alloc, receive_with_sentinel::<T, _, 256>(alloc, reader, s)),
+        512 => show(alloc, receive_with_sentinel::<T, _, 512>(alloc, reader, s)),
+        1025 => show(alloc, receive_with_sentinel::<T, _, 1025>(alloc, reader, s)),
+        _ => Err(Trouble::Unreadable),
+    }
+}
+
+/// The strict answers of a receiver of so many bytes.
+fn receive_all_strictly<T: DeserializeOwned + Exact + Shown>(
+    line: Line<'_>,
+    reader: From<'_>,
+) -> Result<String, Trouble> {
+    let Line {
+        alloc,
+        sentinel: s,
+        ..
+    } = line;
+    match line.limit {
+        0 => show(
+            alloc,
+            receive_strict_with_sentinel::<T, _, 0>(alloc, reader, s),
+        ),
+        1 => show(
+            alloc,
+            receive_strict_with_sentinel::<T, _, 1>(alloc, reader, s),
+        ),
+        3 => show(
+            alloc,
+            receive_strict_with_sentinel::<T, _, 3>(alloc, reader, s),
+        ),
+        8 => show(
+            alloc,
+            receive_strict_with_sentinel::<T, _, 8>(alloc, reader, s),
+        ),
+        16 => show(
+            alloc,
+            receive_strict_with_sentinel::<T, _, 16>(alloc, reader, s),
+        ),
+        64 => show(
+            alloc,
+            receive_strict_with_sentinel::<T, _, 64>(alloc, reader, s),
+        ),
+        256 => show(
+            alloc,
+            receive_strict_with_sentinel::<T, _, 256>(alloc, reader, s),
+        ),
+        512 => show(
+            alloc,
+            receive_strict_with_sentinel::<T, _, 512>(alloc, reader, s),
+        ),
+        1025 => show(
+            alloc,
+            receive_strict_with_sentinel::<T, _, 1025>(alloc, reader, s),
+        ),
+        _ => Err(Trouble::Unreadable),
+    }
+}
+
+/// The answers that were received, in the words of a line.
+fn show<T: Shown + Drop>(
+    alloc: Global,
+    received: Received<T, From<'_>>,
+) -> Result<String, Trouble> {
+    let mut text = String::new(alloc);
+    show_answers(&received.answers, &mut text)?;
+    need_end(received.end, &mut text)?;
+    Ok(text)
+}

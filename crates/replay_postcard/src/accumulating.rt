@@ -1,0 +1,172 @@
+//! Frames that an accumulator gathers.
+use postcard::accumulator::{CobsAccumulator, FeedResult};
+use postcard::{Deserialize, DeserializeOwned};
+use std::alloc::Global;
+use std::collections::BTreeMap;
+use values::Shown;
+use vectors::{Findings, Trouble, Words, pieces_of};
+
+/// The call that feeds an accumulator.
+#[derive(Clone, Copy, Drop)]
+enum Call {
+    Feed,
+    FeedRef,
+}
+
+/// How an accumulator is fed.
+#[derive(Clone, Copy, Drop)]
+struct Feeding<'a> {
+    alloc: Global,
+    call: Call,
+    /// The type's name.
+    name: &'a str,
+}
+
+/// `N TYPE PIECE,PIECE,.. -> A|A|..`: what an accumulator of so many bytes answers by the documented loop.
+pub(crate) fn replay_accumulate(
+    alloc: Global,
+    words: &mut Words<'_>,
+    findings: &mut Findings,
+) -> Result<(), Trouble> {
+    let size = words.number()?;
+    let name = words.next()?;
+    let pieces = pieces_of(alloc, words.next()?)?;
+    compare_answers(alloc, size, name, &pieces, words, findings)
+}
+
+/// Compares the answers by each call.
+fn compare_answers(
+    alloc: Global,
+    size: usize,
+    name: &str,
+    pieces: &[Vec<u8>],
+    words: &mut Words<'_>,
+    findings: &mut Findings,
+) -> Result<(), Trouble> {
+    let wanted = words.answer()?;
+    let call = Call::Feed;
+    let feeding = Feeding { alloc, call, name };
+    findings.check("feed", feed_new(size, feeding, pieces), wanted)?;
+    let call = Call::FeedRef;
+    let feeding = Feeding { alloc, call, name };
+    findings.check("feed_ref", feed_new(size, feeding, pieces), wanted)
+}
+
+/// The answers of a new accumulator of so many bytes.
+fn feed_new(size: usize, feeding: Feeding<'_>, pieces: &[Vec<u8>]) -> Result<String, Trouble> {
+    match size {
+        1 => feed_all(&mut CobsAccumulator::<1>::new(), feeding, pieces),
+        2 => feed_all(&mut CobsAccumulator::<2>::new(), feeding, pieces),
+        3 => feed_all(&mut CobsAccumulator::<3>::new(), feeding, pieces),
+        4 => feed_all(&mut CobsAccumulator::<4>::new(), feeding, pieces),
+        5 => feed_all(&mut CobsAccumulator::<5>::new(), feeding, pieces),
+        6 => feed_all(&mut CobsAccumulator::<6>::new(), feeding, pieces),
+        8 => feed_all(&mut CobsAccumulator::<8>::new(), feeding, pieces),
+        11 => feed_all(&mut CobsAccumulator::<11>::new(), feeding, pieces),
+        12 => feed_all(&mut CobsAccumulator::<12>::new(), feeding, pieces),
+        16 => feed_all(&mut CobsAccumulator::<16>::new(), feeding, pieces),
+        32 => feed_all(&mut CobsAccumulator::<32>::new(), feeding, pieces),
+        64 => feed_all(&mut CobsAccumulator::<64>::new(), feeding, pieces),
+        _ => Err(Trouble::Unreadable),
+    }
+}
+
+/// The answers of an accumulator to the pieces.
+fn feed_all<const N: usize>(
+    accumulator: &mut CobsAccumulator<N>,
+    feeding: Feeding<'_>,
+    pieces: &[Vec<u8>],
+) -> Result<String, Trouble> {
+    let mut text = String::new(feeding.alloc);
+    for piece in pieces {
+        if !text.is_empty() {
+            text.push('|')?;
+        }
+        feed_piece(accumulator, feeding, piece, &mut text)?;
+    }
+    Ok(text)
+}
+
+/// Feeds a piece, and each rest again until it is empty or all was consumed. Each feed takes a byte at least.
+fn feed_piece<const N: usize>(
+    accumulator: &mut CobsAccumulator<N>,
+    feeding: Feeding<'_>,
+    piece: &[u8],
+    text: &mut String,
+) -> Result<(), Trouble> {
+    let mut rest = piece;
+    for turn in 0..=piece.len() {
+        if turn > 0 {
+            text.push(';')?;
+        }
+        let Some(left) = feed_named(accumulator, feeding, rest, text)? else {
+            break;
+        };
+        rest = rest.get(rest.len().saturating_sub(left)..).unwrap_or(&[]);
+        if rest.is_empty() {
+            break;
+        }
+    }
+    Ok(())
+}
+
+/// Feeds once for the type of the name.
+fn feed_named<const N: usize>(
+    accumulator: &mut CobsAccumulator<N>,
+    feeding: Feeding<'_>,
+    input: &[u8],
+    text: &mut String,
+) -> Result<Option<usize>, Trouble> {
+    match feeding.name {
+        "()" => feed::<(), N>(accumulator, feeding, input, text),
+        "bool" => feed::<bool, N>(accumulator, feeding, input, text),
+        "u32" => feed::<u32, N>(accumulator, feeding, input, text),
+        "(u8,u8)" => feed::<(u8, u8), N>(accumulator, feeding, input, text),
+        "Option<u16>" => feed::<Option<u16>, N>(accumulator, feeding, input, text),
+        "[u8;10]" => feed::<[u8; 10], N>(accumulator, feeding, input, text),
+        "String" => feed::<String, N>(accumulator, feeding, input, text),
+        "Vec<u8>" => feed::<Vec<u8>, N>(accumulator, feeding, input, text),
+        "BTreeMap<u8,u8>" => feed::<BTreeMap<u8, u8>, N>(accumulator, feeding, input, text),
+        _ => Err(Trouble::Unreadable),
+    }
+}
+
+/// Feeds once, shows the answer, and says how many bytes are left, if not all was consumed.
+fn feed<'a, T: Deserialize<&'a [u8]> + DeserializeOwned + Shown, const N: usize>(
+    accumulator: &'a mut CobsAccumulator<N>,
+    feeding: Feeding<'_>,
+    input: &[u8],
+    text: &mut String,
+) -> Result<Option<usize>, Trouble> {
+    match feeding.call {
+        Call::Feed => show(accumulator.feed::<T>(feeding.alloc, input), text),
+        Call::FeedRef => show(accumulator.feed_ref::<T>(feeding.alloc, input), text),
+    }
+}
+
+/// Shows the answer of a feed.
+fn show<T: Shown + Drop>(
+    answer: FeedResult<'_, T>,
+    text: &mut String,
+) -> Result<Option<usize>, Trouble> {
+    match answer {
+        FeedResult::Consumed => {
+            text.push('C')?;
+            Ok(None)
+        }
+        FeedResult::OverFull(rest) => show_count('O', rest.len(), text),
+        FeedResult::DeserError(rest) => show_count('D', rest.len(), text),
+        FeedResult::Success { value, remaining } => {
+            let left = show_count('S', remaining.len(), text)?;
+            text.push('=')?;
+            value.show(text)?;
+            Ok(left)
+        }
+    }
+}
+
+/// Shows what an answer is, and how many bytes are left.
+fn show_count(answer: char, left: usize, text: &mut String) -> Result<Option<usize>, Trouble> {
+    write!(text, "{answer}{left}")?;
+    Ok(Some(left))
+}
