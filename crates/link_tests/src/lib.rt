@@ -1,5 +1,5 @@
-//! Tests of what stands on lines and devices, by its public calls alone: `line_io`, `link`, whatever a stranger may
-//! send, memory that isn't found in every call that asks for it, and the message types of `station`.
+//! Tests of what stands on `link`, by its public calls alone: `link` itself, whatever a stranger may send, memory that isn't
+//! found in every call that asks for it, and the message types of `station`.
 //!
 //! They stand in a crate of their own because a crate with tests is proved twice, once with and once without them, and
 //! beside `library_tests` because one process proves a crate's tests as a whole.
@@ -7,10 +7,6 @@
 
 #[cfg(test)]
 mod any_sentinel;
-#[cfg(test)]
-mod line_io_memory;
-#[cfg(test)]
-mod line_io_streams;
 #[cfg(test)]
 mod link_faults;
 #[cfg(test)]

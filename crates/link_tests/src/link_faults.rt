@@ -1,11 +1,13 @@
 //! `link`, over writers and readers that fail at each byte: what goes out, and what is heard of it before a reader fails.
 //! What is heard of it all, in pieces of each size, are lines of `replay_link`.
+ghost use Rattle.std.specs.Prelude.{◌<◌};
+
 use line_io::memory::{Fault, In, Out};
 use line_io::{Outlet, Reads, Writes};
 use link::{Answer, End, Fate, SendError, Sender, receive, receive_strict, send_each};
+use std::alloc::Global;
 use std::io;
 use std::io::{ErrorKind, Read, Write};
-use std::process::Abort;
 
 /// 300 (a `u32`) by a new sender, broken off after so many bytes, and then sent whole by the same sender.
 #[derive(Clone, Copy, Drop)]
@@ -16,35 +18,33 @@ struct Row {
     first: Option<(usize, bool)>,
 }
 
-fn rows() -> [Row; 5] {
-    [
-        Row {
-            broken: 0,
-            line: b"\x00\x03\xAC\x02\x00",
-            first: None,
-        },
-        Row {
-            broken: 1,
-            line: b"\x00\x00\x03\xAC\x02\x00",
-            first: None,
-        },
-        Row {
-            broken: 2,
-            line: b"\x00\x03\x00\x03\xAC\x02\x00",
-            first: Some((3, false)),
-        },
-        Row {
-            broken: 3,
-            line: b"\x00\x03\xAC\x00\x03\xAC\x02\x00",
-            first: Some((4, false)),
-        },
-        Row {
-            broken: 4,
-            line: b"\x00\x03\xAC\x02\x00\x03\xAC\x02\x00",
-            first: Some((5, true)),
-        },
-    ]
-}
+const ROWS: [Row; 5] = [
+    Row {
+        broken: 0,
+        line: b"\x00\x03\xAC\x02\x00",
+        first: None,
+    },
+    Row {
+        broken: 1,
+        line: b"\x00\x00\x03\xAC\x02\x00",
+        first: None,
+    },
+    Row {
+        broken: 2,
+        line: b"\x00\x03\x00\x03\xAC\x02\x00",
+        first: Some((3, false)),
+    },
+    Row {
+        broken: 3,
+        line: b"\x00\x03\xAC\x00\x03\xAC\x02\x00",
+        first: Some((4, false)),
+    },
+    Row {
+        broken: 4,
+        line: b"\x00\x03\xAC\x02\x00\x03\xAC\x02\x00",
+        first: Some((5, true)),
+    },
+];
 
 /// Takes a byte a call, and is in trouble once, after so many: it fails so, or takes nothing.
 #[derive(Drop)]
@@ -104,101 +104,137 @@ impl Read for Slow<'_> {
     }
 }
 
-/// Sends 300 over a line that breaks it off, and again where asked to.
-fn send_broken<W: Outlet>(rt: &impl Abort, sender: &mut Sender<W, 8>, again: bool) {
-    assert!(rt; sender.send(&300u32) == Err(SendError::Line) && !sender.is_clean());
-    if again {
-        assert!(rt; sender.send(&300u32) == Ok(()) && sender.is_clean());
+/// Whether 300 is broken off by a line, and goes out where it is sent again.
+fn is_sent_again<W: Outlet>(sender: &mut Sender<W, 8>) -> bool {
+    sender.send(&300u32) == Err(SendError::Line)
+        && !sender.is_clean()
+        && sender.send(&300u32) == Ok(())
+        && sender.is_clean()
+}
+
+/// Whether these are the answers to so many bytes of a row's line, but for a `Cut`.
+fn is_heard(row: &Row, count: usize, answers: &[Answer<u32>]) -> bool {
+    let is_done = row.line.len() <= count;
+    let rest = match row.first {
+        Some((at, is_value)) if at <= count => match answers {
+            [Answer::Value(300), rest @ ..] if is_value => rest,
+            [Answer::Damaged, rest @ ..] if !is_value => rest,
+            _ => return false,
+        },
+        _ => answers,
+    };
+    match rest {
+        [] => !is_done,
+        [Answer::Value(300)] => is_done,
+        _ => false,
     }
 }
 
-/// What is answered to so many bytes of a row's line, but for a `Cut`.
-fn expect(rt: &impl Abort, row: Row, count: usize, answers: &[Answer<u32>]) {
-    let whole = Answer::Value(300);
-    let is_done = row.line.len() <= count;
-    match row.first {
-        Some((at, is_value)) if at <= count => {
-            let first = if is_value {
-                Answer::Value(300)
-            } else {
-                Answer::Damaged
-            };
-            if is_done {
-                assert!(rt; answers == [first, whole].as_slice());
-            } else {
-                assert!(rt; answers == [first].as_slice());
-            }
-        }
-        _ if is_done => assert!(rt; answers == [whole].as_slice()),
-        _ => assert!(rt; answers.is_empty()),
-    }
+/// Whether a sender over memory that breaks a row's send off, and sends again, leaves the row's line.
+fn sends(row: &Row, each: usize, fault: Option<(usize, Fault)>) -> bool
+    requires { 0 < each }
+{
+    let mut room = [0u8; 16];
+    let mut sender = Sender::<_, 8>::new(Out::new(&mut room, each, fault));
+    let passed = is_sent_again(&mut sender);
+    let count = sender.into_inner().moved();
+    passed && room.get(..count) == Some(row.line)
+}
+
+/// Whether a sender over memory that breaks a row's send off leaves so many bytes.
+fn breaks_off(row: &Row, each: usize, fault: Option<(usize, Fault)>) -> bool
+    requires { 0 < each }
+{
+    let mut room = [0u8; 16];
+    let mut sender = Sender::<_, 8>::new(Out::new(&mut room, each, fault));
+    sender.send(&300u32) == Err(SendError::Line)
+        && !sender.is_clean()
+        && sender.into_inner().moved() == row.broken
+}
+
+/// Whether a session over memory that breaks its first send off leaves the row's line.
+fn sends_each(row: &Row, each: usize, fault: Option<(usize, Fault)>) -> bool
+    requires { 0 < each }
+{
+    let mut room = [0u8; 16];
+    let mut fates = [Fate::Refused; 2];
+    let out = Out::new(&mut room, each, fault);
+    let count = send_each::<u32, _, 8>(out, &[300, 300], &mut fates).moved();
+    room.get(..count) == Some(row.line) && fates == [Fate::Broken, Fate::Done]
 }
 
 #[test]
 fn sends_over_memory(rt: HostRuntime) {
-    for row in rows() {
+    for row in &ROWS {
         for kind in [Fault::Fail, Fault::Nothing] {
+            let fault = Some((row.broken, kind));
             for each in 1..6 {
-                let fault = Some((row.broken, kind));
-                let mut room = [0u8; 16];
-                let mut sender = Sender::<_, 8>::new(Out::new(&mut room, each, fault));
-                send_broken(&rt, &mut sender, true);
-                let count = sender.into_inner().moved();
-                assert!(rt; room.get(..count) == Some(row.line));
-                let mut sender = Sender::<_, 8>::new(Out::new(&mut room, each, fault));
-                send_broken(&rt, &mut sender, false);
-                assert!(rt; sender.into_inner().moved() == row.broken);
-                let mut fates = [Fate::Refused; 2];
-                let out = Out::new(&mut room, each, fault);
-                let count = send_each::<u32, _, 8>(out, &[300, 300], &mut fates).moved();
                 assert!(rt;
-                    room.get(..count) == Some(row.line) && fates == [Fate::Broken, Fate::Done]
+                    sends(row, each, fault)
+                        && breaks_off(row, each, fault)
+                        && sends_each(row, each, fault)
                 );
             }
         }
     }
 }
 
+/// Whether a sender over a writer that is in trouble once leaves the row's line.
+fn sends_narrowly(row: &Row, trouble: Option<ErrorKind>) -> bool {
+    let narrow = Narrow {
+        taken: [0; 16],
+        count: 0,
+        before: row.broken,
+        trouble,
+    };
+    let mut sender = Sender::<_, 8>::new(Writes::new(narrow));
+    let passed = is_sent_again(&mut sender);
+    let narrow = sender.into_inner().into_inner();
+    passed && narrow.taken.get(..narrow.count) == Some(row.line)
+}
+
 #[test]
 fn sends_over_writers(rt: HostRuntime) {
-    for row in rows() {
-        for trouble in [Some(ErrorKind::Interrupted), Some(ErrorKind::Other), None] {
-            let narrow = Narrow {
-                taken: [0; 16],
-                count: 0,
-                before: row.broken,
-                trouble,
-            };
-            let mut sender = Sender::<_, 8>::new(Writes::new(narrow));
-            send_broken(&rt, &mut sender, true);
-            let narrow = sender.into_inner().into_inner();
-            assert!(rt; narrow.taken.get(..narrow.count) == Some(row.line));
-        }
+    for row in &ROWS {
+        assert!(rt;
+            sends_narrowly(row, Some(ErrorKind::Interrupted))
+                && sends_narrowly(row, Some(ErrorKind::Other))
+                && sends_narrowly(row, None)
+        );
     }
+}
+
+/// Whether so many bytes of a row's line, in pieces, are heard until a fault, ordinarily and strictly.
+fn hears(alloc: Global, row: &Row, count: usize, each: usize) -> bool
+    requires { 0 < each }
+{
+    let got = receive::<u32, _, 8>(alloc, In::new(row.line, each, Some(count)));
+    let passed = got.end == End::ReadFault
+        && got.reader.moved() == count
+        && is_heard(row, count, &got.answers);
+    let got = receive_strict::<u32, _, 8>(alloc, In::new(row.line, each, Some(count)));
+    passed && got.end == End::ReadFault && is_heard(row, count, &got.answers)
+}
+
+/// Whether so many bytes of a row's line are heard until a reader is interrupted.
+fn hears_slowly(alloc: Global, row: &Row, count: usize) -> bool {
+    let slow = Slow {
+        rest: row.line,
+        given: 0,
+        before: count,
+    };
+    let got = receive::<u32, _, 8>(alloc, Reads::new(slow));
+    got.end == End::ReadFault && is_heard(row, count, &got.answers)
 }
 
 #[test]
 fn hears_until_a_fault(rt: HostRuntime) {
-    for row in rows() {
+    for row in &ROWS {
         for count in 0..=row.line.len() {
             for each in 1..10 {
-                let reader = In::new(row.line, each, Some(count));
-                let got = receive::<u32, _, 8>(rt.alloc(), reader);
-                assert!(rt; got.end == End::ReadFault && got.reader.moved() == count);
-                expect(&rt, row, count, &got.answers);
-                let reader = In::new(row.line, each, Some(count));
-                let got = receive_strict::<u32, _, 8>(rt.alloc(), reader);
-                assert!(rt; got.end == End::ReadFault);
-                expect(&rt, row, count, &got.answers);
+                assert!(rt; hears(rt.alloc(), row, count, each));
             }
-            let slow = Slow {
-                rest: row.line,
-                given: 0,
-                before: count,
-            };
-            let got = receive::<u32, _, 8>(rt.alloc(), Reads::new(slow));
-            assert!(rt; got.end == End::ReadFault);
-            expect(&rt, row, count, &got.answers);
+            assert!(rt; hears_slowly(rt.alloc(), row, count));
         }
     }
 }

@@ -3,9 +3,10 @@
 ghost use Rattle.std.specs.Prelude.{◌≤◌, length};
 
 use line_io::memory::In;
-use link::{Answer, End, Pushed, Receiver, read_in_place, receive, receive_by_accumulator};
+use link::{
+    Answer, End, NoMemory, Pushed, Receiver, read_in_place, receive, receive_by_accumulator,
+};
 use std::alloc::Global;
-use std::process::Abort;
 
 /// A stretch that is too long by one byte, and then ends.
 #[test]
@@ -50,44 +51,51 @@ fn ends_at_a_fault(rt: HostRuntime) {
     assert!(rt; got.answers.is_empty() && got.end == End::ReadFault);
 }
 
+/// Whether the next stretch is answered so, with so many bytes behind it.
+fn reads(alloc: Global, bytes: &mut [u8], wanted: Answer<bool>, behind: usize) -> bool {
+    match read_in_place::<bool>(alloc, bytes) {
+        Some((answer, rest)) => answer == Ok(wanted) && rest.len() == behind,
+        None => false,
+    }
+}
+
 /// A stretch that isn't ended stays as it was.
 #[test]
 fn leaves_the_unfinished(rt: HostRuntime) {
     let mut bytes = [0u8, 2, 1, 0, 3, 1];
-    match read_in_place::<bool>(rt.alloc(), &mut bytes) {
-        Some((answer, rest)) => assert!(rt; answer == Ok(Answer::Value(true)) && rest.len() == 2),
-        None => assert!(rt; false),
-    }
-    match read_in_place::<bool>(rt.alloc(), &mut bytes[4..]) {
-        Some((answer, rest)) => assert!(rt; answer == Ok(Answer::Cut) && rest.is_empty()),
-        None => assert!(rt; false),
-    }
-    assert!(rt; bytes[3..] == [0, 3, 1] && read_in_place::<bool>(rt.alloc(), &mut []).is_none());
+    assert!(rt;
+        reads(rt.alloc(), &mut bytes, Answer::Value(true), 2)
+            && reads(rt.alloc(), &mut bytes[4..], Answer::Cut, 0)
+            && bytes[3..] == [0, 3, 1]
+            && read_in_place::<bool>(rt.alloc(), &mut []).is_none()
+    );
 }
 
-// Whether an answer is a damaged stretch, and else it is a value of 252 ones.
-fn is_damaged(rt: &impl Abort, answer: Answer<Vec<u8>>) -> bool {
+// What is answered to a stretch.
+#[derive(Clone, Copy, PartialEq, Drop)]
+enum Kind {
+    Ones,
+    Damaged,
+    Other,
+}
+
+// Whether an answer is a value of 252 ones, or a damaged stretch.
+fn kind_of(answer: &Answer<Vec<u8>>) -> Kind {
+    let ones = [1u8; 252];
     match answer {
-        Answer::Value(bytes) => {
-            assert!(rt; bytes[..] == [1; 252]);
-            false
-        }
-        Answer::Damaged => true,
-        _ => {
-            assert!(rt; false);
-            false
-        }
+        Answer::Value(bytes) if *bytes.as_slice() == *ones.as_slice() => Kind::Ones,
+        Answer::Damaged => Kind::Damaged,
+        _ => Kind::Other,
     }
 }
 
 // The next answer in a piece, ordinarily or strictly, and how many bytes it took.
 fn next(
-    rt: &impl Abort,
     alloc: Global,
     receiver: &mut Receiver<256>,
     piece: &[u8],
     strict: bool,
-) -> (usize, Option<bool>)
+) -> (usize, Option<Kind>)
     ensures { result.0 ≤ length piece.now }
 {
     let Pushed { used, answer } = if strict {
@@ -96,35 +104,45 @@ fn next(
         receiver.push::<Vec<u8>>(alloc, piece)
     };
     match answer {
-        Ok(Some(answer)) => (used, Some(is_damaged(rt, answer))),
+        Ok(Some(answer)) => (used, Some(kind_of(&answer))),
         Ok(None) => (used, None),
-        Err(_) => {
-            assert!(rt; false);
-            (used, None)
-        }
+        Err(_) => (used, Some(Kind::Other)),
     }
 }
 
-// Takes in a piece to its end. Answers how many answers came, and how many of them were damaged stretches.
-fn taken(
-    rt: &impl Abort,
+// Whether a piece, taken in to its end, brings so many answers, of which so many are damaged stretches.
+fn brings(
     alloc: Global,
     receiver: &mut Receiver<256>,
     piece: &[u8],
     strict: bool,
-) -> (u8, u8) {
+    answers: u8,
+    damaged: u8,
+) -> bool {
     let mut rest = piece;
-    let mut damaged = 0u8;
-    for answers in 0..3 {
-        let (used, answer) = next(rt, alloc, receiver, rest, strict);
+    let mut found = 0u8;
+    for count in 0..3 {
+        let (used, answer) = next(alloc, receiver, rest, strict);
         match answer {
-            Some(true) => damaged = damaged.saturating_add(1),
-            Some(false) => {}
-            None => return (answers, damaged),
+            Some(Kind::Ones) => {}
+            Some(Kind::Damaged) => found = found.saturating_add(1),
+            Some(Kind::Other) => return false,
+            None => return count == answers && found == damaged,
         }
         rest = &rest[used..];
     }
-    (3, damaged)
+    false
+}
+
+// Whether the stream in two pieces brings so many values each; strictly the first of them is damaged.
+fn is_heard(alloc: Global, first: &[u8], last: &[u8], before: u8, behind: u8) -> bool {
+    let mut plain = Receiver::<256>::new();
+    let mut strict = Receiver::<256>::new();
+    let refused = before.min(1);
+    brings(alloc, &mut plain, first, false, before, 0)
+        && brings(alloc, &mut plain, last, false, behind, 0)
+        && brings(alloc, &mut strict, first, true, before, refused)
+        && brings(alloc, &mut strict, last, true, behind, 1 - refused)
 }
 
 #[test]
@@ -143,16 +161,9 @@ fn either_frame_cut_anywhere(rt: HostRuntime) {
             _ => (2, 0),
         };
         let (first, last) = stream.split_at(cut);
-        let mut receiver = Receiver::<256>::new();
         assert!(rt;
-            taken(&rt, rt.alloc(), &mut receiver, first, false) == (before, 0)
-                && taken(&rt, rt.alloc(), &mut receiver, last, false) == (behind, 0)
-        );
-        let mut receiver = Receiver::<256>::new();
-        let refused = if before == 0 { 0 } else { 1 };
-        assert!(rt;
-            taken(&rt, rt.alloc(), &mut receiver, first, true) == (before, refused)
-                && taken(&rt, rt.alloc(), &mut receiver, last, true) == (behind, 1 - refused)
+            is_heard(rt.alloc(), first, last, before, behind),
+            "cut at {cut}"
         );
     }
 }

@@ -1,40 +1,42 @@
 //! `link`: the texts of what it answers.
 use link::{Answer, End, Fate, NoMemory, SendError};
 use postcard::Error;
+use std::alloc::Global;
 use std::fmt::{Debug, Display};
-use std::process::Abort;
 
-// A value is shown as this text.
-fn shows<R: AllocGlobal + Abort>(rt: &R, value: &impl Display, text: &str) {
-    match format!(in rt.alloc(); "{value}") {
-        Ok(shown) => assert!(rt; shown.as_str() == text),
-        Err(_) => assert!(rt; false),
+// Whether a value is shown as this text.
+fn shows(alloc: Global, value: &impl Display, text: &str) -> bool {
+    match format!(in alloc; "{value}") {
+        Ok(shown) => shown.as_str() == text,
+        Err(_) => false,
     }
 }
 
-// A value is shown so to a maintainer.
-fn names<R: AllocGlobal + Abort>(rt: &R, value: &impl Debug, text: &str) {
-    match format!(in rt.alloc(); "{value:?}") {
-        Ok(shown) => assert!(rt; shown.as_str() == text),
-        Err(_) => assert!(rt; false),
+// Whether a value is shown so to a maintainer.
+fn names(alloc: Global, value: &impl Debug, text: &str) -> bool {
+    match format!(in alloc; "{value:?}") {
+        Ok(shown) => shown.as_str() == text,
+        Err(_) => false,
     }
 }
 
 #[test]
 fn of_refusals(rt: HostRuntime) {
+    let alloc = rt.alloc();
     let refused = SendError::Refused(Error::SerializeBufferFull);
-    shows(&rt, &refused, "refused: The serialize buffer is full");
-    shows(&rt, &SendError::Line, "line failed");
-    shows(&rt, &NoMemory, "no memory");
+    assert!(rt; shows(alloc, &refused, "refused: The serialize buffer is full"));
+    assert!(rt; shows(alloc, &SendError::Line, "line failed"));
+    assert!(rt; shows(alloc, &NoMemory, "no memory"));
 }
 
 #[test]
 fn by_debug(rt: HostRuntime) {
+    let alloc = rt.alloc();
     let cut: Answer<bool> = Answer::Cut;
-    names(&rt, &SendError::Line, "Line");
-    names(&rt, &NoMemory, "NoMemory");
-    names(&rt, &Fate::Broken, "Broken");
-    names(&rt, &Answer::Value(true), "Value(true)");
-    names(&rt, &cut, "Cut");
-    names(&rt, &End::ReadFault, "ReadFault");
+    assert!(rt; names(alloc, &SendError::Line, "Line"));
+    assert!(rt; names(alloc, &NoMemory, "NoMemory"));
+    assert!(rt; names(alloc, &Fate::Broken, "Broken"));
+    assert!(rt; names(alloc, &Answer::Value(true), "Value(true)"));
+    assert!(rt; names(alloc, &cut, "Cut"));
+    assert!(rt; names(alloc, &End::ReadFault, "ReadFault"));
 }

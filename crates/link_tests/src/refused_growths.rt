@@ -5,8 +5,8 @@
 use cobs::{CobsDecoderOwned, DecodeVecError};
 use line_io::memory::{In, Out};
 use link::{
-    Answer, End, Fate, NoMemory, OwnedReceiver, Pushed, Received, Receiver, Sender, read_in_place,
-    read_in_place_with_sentinel, receive, receive_by_accumulator,
+    Answer, End, Fate, Gathered, NoMemory, OwnedReceiver, Pushed, Received, Receiver, Sender,
+    read_in_place, read_in_place_with_sentinel, receive, receive_by_accumulator,
     receive_by_accumulator_with_sentinel, receive_owned, receive_owned_strict, receive_strict,
     receive_strict_with_sentinel, receive_with_sentinel, send_each,
 };
@@ -109,18 +109,30 @@ fn decode<R: AllocGlobal + Abort>(rt: &R, wants: &mut Wants) {
     wants.decoded(rt, unmasked, &MESSAGE);
 }
 
+impl Wants {
+    /// A decoder that owns three bytes, and fills one of them by this frame of a 7; or want of memory.
+    fn owned(
+        &mut self,
+        rt: &impl Abort,
+        decoder: Result<CobsDecoderOwned, AllocError>,
+        frame: &[u8],
+    ) {
+        match decoder {
+            Ok(mut decoder) => {
+                assert!(rt;
+                    decoder.dest() == [0, 0, 0].as_slice()
+                        && decoder.push(frame).is_ok()
+                        && decoder.dest() == [7, 0, 0].as_slice()
+                );
+            }
+            Err(AllocError) => self.add(),
+        }
+    }
+}
+
 /// The decoder of `cobs` that owns its room.
 fn own<R: AllocGlobal + Abort>(rt: &R, wants: &mut Wants) {
-    match CobsDecoderOwned::new(rt.alloc(), 3) {
-        Ok(mut decoder) => {
-            assert!(rt;
-                decoder.dest() == [0, 0, 0].as_slice()
-                    && decoder.push(&[2, 7, 0]).is_ok()
-                    && decoder.dest() == [7, 0, 0].as_slice()
-            );
-        }
-        Err(AllocError) => wants.add(),
-    }
+    wants.owned(rt, CobsDecoderOwned::new(rt.alloc(), 3), &[2, 7, 0]);
 }
 
 /// Frames of `cobs`.
@@ -224,14 +236,20 @@ fn read_frames<R: AllocGlobal + Abort>(rt: &R, wants: &mut Wants) {
 fn feed<R: AllocGlobal + Abort>(rt: &R, wants: &mut Wants) {
     let mut accumulator: CobsAccumulator<8> = CobsAccumulator::new();
     let line = [3u8, 1, 7, 0, 3, 1, 8, 0];
-    for (piece, left, whole) in [(&line[..], 4, 7u8), (&line[4..], 0, 8)] {
-        match accumulator.feed::<Vec<u8>>(rt.alloc(), piece) {
+    wants.fed(rt, accumulator.feed(rt.alloc(), &line), 4, 7);
+    wants.fed(rt, accumulator.feed(rt.alloc(), &line[4..]), 0, 8);
+}
+
+impl Wants {
+    /// A vector of this byte with so many bytes behind it, or want of memory with as many.
+    fn fed(&mut self, rt: &impl Abort, answer: FeedResult<'_, Vec<u8>>, left: usize, byte: u8) {
+        match answer {
             FeedResult::Success { value, remaining } => {
-                assert!(rt; value.as_slice() == [whole].as_slice() && remaining.len() == left);
+                assert!(rt; value.as_slice() == [byte].as_slice() && remaining.len() == left);
             }
             FeedResult::DeserError(remaining) => {
                 assert!(rt; remaining.len() == left);
-                wants.add();
+                self.add();
             }
             _ => assert!(rt; false),
         }
@@ -242,15 +260,21 @@ fn feed<R: AllocGlobal + Abort>(rt: &R, wants: &mut Wants) {
 fn push<R: AllocGlobal + Abort>(rt: &R, wants: &mut Wants) {
     let line = [3u8, 1, 7, 0, 3, 1, 8, 0];
     let mut receiver = Receiver::<8>::new();
-    let Pushed { used, answer } = receiver.push::<Vec<u8>>(rt.alloc(), &line);
-    assert!(rt; used == 4 && receiver.is_between());
-    wants.answered(rt, answer, &[7]);
-    let Pushed { used, answer } = receiver.push::<Vec<u8>>(rt.alloc(), &line[4..]);
-    assert!(rt; used == 4 && receiver.is_between());
-    wants.answered(rt, answer, &[8]);
-    let Pushed { used, answer } = receiver.push_strict::<Vec<u8>>(rt.alloc(), &line);
-    assert!(rt; used == 4 && receiver.is_between());
-    wants.answered(rt, answer, &[7]);
+    wants.pushed(rt, receiver.push(rt.alloc(), &line), 7);
+    assert!(rt; receiver.is_between());
+    wants.pushed(rt, receiver.push(rt.alloc(), &line[4..]), 8);
+    assert!(rt; receiver.is_between());
+    wants.pushed(rt, receiver.push_strict(rt.alloc(), &line), 7);
+    assert!(rt; receiver.is_between());
+}
+
+impl Wants {
+    /// Four bytes were used, for a vector of this byte or want of memory.
+    fn pushed(&mut self, rt: &impl Abort, pushed: Pushed<Vec<u8>>, byte: u8) {
+        let Pushed { used, answer } = pushed;
+        assert!(rt; used == 4);
+        self.answered(rt, answer, &[byte]);
+    }
 }
 
 // Six frames: the vectors of one byte, from 1 to 6.
@@ -260,54 +284,69 @@ const LINE: [u8; 24] = [
 
 impl Wants {
     /// All six values, or the first ones and want of memory.
-    fn received(&mut self, rt: &impl Abort, answers: &[Answer<Vec<u8>>], end: End) {
-        let mut next = 1u8;
-        for answer in answers {
-            match answer {
-                Answer::Value(bytes) => assert!(rt; bytes.as_slice() == [next].as_slice()),
-                _ => assert!(rt; false),
-            }
-            next = next.saturating_add(1);
-        }
-        assert!(rt;
-            end == if answers.len() == 6 {
-                End::Ended
-            } else {
-                End::NoMemory
-            }
-        );
-        if end == End::NoMemory {
+    fn received(&mut self, rt: &impl Abort, got: Received<Vec<u8>, In<'_>>) {
+        assert!(rt; are_first(&got.answers));
+        if got.answers.len() == 6 {
+            assert!(rt; got.end == End::Ended);
+        } else {
+            assert!(rt; got.end == End::NoMemory);
             self.add();
         }
     }
 
     /// The six values, but that one may be left out; or the first ones and want of memory.
-    fn gathered(&mut self, rt: &impl Abort, values: &[Vec<u8>], end: End) {
-        let mut last = 0u8;
-        for value in values {
-            assert!(rt; value.len() == 1 && last < value[0] && value[0] <= 6);
-            last = value[0];
-        }
-        match end {
-            End::Ended => assert!(rt; values.len() >= 5),
-            End::NoMemory => assert!(rt; usize::from(last) == values.len()),
+    fn gathered(&mut self, rt: &impl Abort, got: Gathered<Vec<u8>, In<'_>>) {
+        let last = greatest(&got.values);
+        assert!(rt; last.is_some());
+        match got.end {
+            End::Ended => assert!(rt; got.values.len() >= 5),
+            End::NoMemory => assert!(rt; last == Some(got.values.len())),
             End::ReadFault => assert!(rt; false),
         }
-        if values.len() < 6 {
+        if got.values.len() < 6 {
             self.add();
         }
     }
 }
 
+// Whether the answers are the vectors of one byte from 1 on.
+fn are_first(answers: &[Answer<Vec<u8>>]) -> bool {
+    let mut next = 1u8;
+    for answer in answers {
+        match answer {
+            Answer::Value(bytes) if bytes.as_slice() == [next].as_slice() => {}
+            _ => return false,
+        }
+        next = next.saturating_add(1);
+    }
+    true
+}
+
+// The greatest byte of vectors of one byte, at most 6 and each greater than the one before it; of none of them 0.
+fn greatest(values: &[Vec<u8>]) -> Option<usize> {
+    let mut last = 0u8;
+    for value in values {
+        match value.as_slice() {
+            [byte] if last < *byte && *byte <= 6 => last = *byte,
+            _ => return None,
+        }
+    }
+    Some(usize::from(last))
+}
+
 /// Receptions to the end, in pieces of some sizes.
 fn listen<R: AllocGlobal + Abort>(rt: &R, wants: &mut Wants) {
     for each in [1, 7, 24] {
-        let got = receive::<Vec<u8>, _, 8>(rt.alloc(), In::new(&LINE, each, None));
-        wants.received(rt, &got.answers, got.end);
-        let got = receive_strict::<Vec<u8>, _, 8>(rt.alloc(), In::new(&LINE, each, None));
-        wants.received(rt, &got.answers, got.end);
-        let got = receive_by_accumulator::<Vec<u8>, _, 8>(rt.alloc(), In::new(&LINE, each, None));
-        wants.gathered(rt, &got.values, got.end);
+        let alloc = rt.alloc();
+        wants.received(rt, receive::<_, _, 8>(alloc, In::new(&LINE, each, None)));
+        wants.received(
+            rt,
+            receive_strict::<_, _, 8>(alloc, In::new(&LINE, each, None)),
+        );
+        wants.gathered(
+            rt,
+            receive_by_accumulator::<_, _, 8>(alloc, In::new(&LINE, each, None)),
+        );
     }
 }
 
@@ -336,28 +375,29 @@ fn write_marked<R: AllocGlobal + Abort>(rt: &R, wants: &mut Wants) {
 
 /// The decoder that owns its room, of such a line.
 fn own_marked<R: AllocGlobal + Abort>(rt: &R, wants: &mut Wants) {
-    match CobsDecoderOwned::new_with_sentinel(rt.alloc(), 3, 0xFF) {
-        Ok(mut decoder) => {
-            assert!(rt;
-                decoder.push(&[0xFD, 0xF8, 0xFF]).is_ok() && decoder.dest() == [7, 0, 0].as_slice()
-            );
-        }
-        Err(AllocError) => wants.add(),
-    }
+    let decoder = CobsDecoderOwned::new_with_sentinel(rt.alloc(), 3, 0xFF);
+    wants.owned(rt, decoder, &[0xFD, 0xF8, 0xFF]);
 }
 
 // 3, 1, 7, 0, and a byte more
 const ONE_MARKED: [u8; 5] = [0xFC, 0xFE, 0xF8, 0xFF, 9];
 
-/// Frames of such a line.
+/// A frame of such a line.
 fn read_marked<R: AllocGlobal + Abort>(rt: &R, wants: &mut Wants) {
     let alloc = rt.alloc();
     let mut line = ONE_MARKED;
-    let answer = from_bytes_cobs_with_sentinel::<Vec<u8>>(alloc, &mut line, 0xFF);
-    wants.written(rt, answer, &[7]);
+    wants.written(
+        rt,
+        from_bytes_cobs_with_sentinel(alloc, &mut line, 0xFF),
+        &[7],
+    );
+}
+
+/// As above, with the bytes behind it.
+fn take_marked<R: AllocGlobal + Abort>(rt: &R, wants: &mut Wants) {
     let mut line = ONE_MARKED;
-    let answer = take_from_bytes_cobs_with_sentinel::<Vec<u8>>(alloc, &mut line, 0xFF);
-    if let Some((bytes, rest)) = wants.value(rt, answer) {
+    let taken = take_from_bytes_cobs_with_sentinel::<Vec<u8>>(rt.alloc(), &mut line, 0xFF);
+    if let Some((bytes, rest)) = wants.value(rt, taken) {
         assert!(rt; bytes.as_slice() == [7].as_slice() && rest.len() == 1);
     }
 }
@@ -379,28 +419,32 @@ fn mark<R: AllocGlobal + Abort>(rt: &R, wants: &mut Wants) {
     write_marked(rt, wants);
     own_marked(rt, wants);
     read_marked(rt, wants);
+    take_marked(rt, wants);
     read_marked_in_place(rt, wants);
 }
 
 /// Receptions of such a line.
 fn listen_for_mark<R: AllocGlobal + Abort>(rt: &R, wants: &mut Wants) {
     let alloc = rt.alloc();
-    let got = receive_with_sentinel::<Vec<u8>, _, 8>(alloc, In::new(&MARKED, 7, None), 0xFF);
-    wants.received(rt, &got.answers, got.end);
-    let got = receive_strict_with_sentinel::<Vec<u8>, _, 8>(alloc, In::new(&MARKED, 7, None), 0xFF);
-    wants.received(rt, &got.answers, got.end);
+    let got = receive_with_sentinel::<_, _, 8>(alloc, In::new(&MARKED, 7, None), 0xFF);
+    wants.received(rt, got);
+    let got = receive_strict_with_sentinel::<_, _, 8>(alloc, In::new(&MARKED, 7, None), 0xFF);
+    wants.received(rt, got);
     let from = In::new(&MARKED, 7, None);
-    let got = receive_by_accumulator_with_sentinel::<Vec<u8>, _, 8>(alloc, from, 0xFF);
-    wants.gathered(rt, &got.values, got.end);
+    wants.gathered(
+        rt,
+        receive_by_accumulator_with_sentinel::<_, _, 8>(alloc, from, 0xFF),
+    );
 }
 
 /// Receptions with a limit that is a value.
 fn listen_owned<R: AllocGlobal + Abort>(rt: &R, wants: &mut Wants) {
     let alloc = rt.alloc();
-    let got = receive_owned::<Vec<u8>, _>(alloc, In::new(&MARKED, 7, None), 8, 0xFF);
-    wants.received(rt, &got.answers, got.end);
-    let got = receive_owned_strict::<Vec<u8>, _>(alloc, In::new(&LINE, 7, None), 8, 0);
-    wants.received(rt, &got.answers, got.end);
+    wants.received(rt, receive_owned(alloc, In::new(&MARKED, 7, None), 8, 0xFF));
+    wants.received(
+        rt,
+        receive_owned_strict(alloc, In::new(&LINE, 7, None), 8, 0),
+    );
 }
 
 impl Wants {
@@ -434,40 +478,68 @@ fn own_short<R: AllocGlobal + Abort>(rt: &R, wants: &mut Wants) {
     wants.heard(rt, got, &[Answer::Value(())]);
 }
 
-/// A frame of 1025 bytes, within the limit and past it.
-fn own_long<R: AllocGlobal + Abort>(rt: &R, wants: &mut Wants) {
-    let alloc = rt.alloc();
-    let letters = [b'a'; 1018];
-    let text = str::from_utf8(&letters).unwrap_or("");
+// 1018 letters, whose frame has 1025 bytes.
+const LETTERS: [u8; 1018] = [b'a'; 1018];
+
+/// Their text as it is sent; nothing if it isn't.
+fn long_line() -> Option<[u8; 1027]> {
+    let text = str::from_utf8(&LETTERS).unwrap_or("");
     let mut room = [0u8; 1027];
     let mut sender = Sender::<_, 1025>::new(Out::new(&mut room, 1027, None));
-    assert!(rt; sender.send(&text).is_ok());
-    drop(sender);
-    for (limit, whole) in [
-        (1025, Answer::Value(letters.len())),
-        (1024, Answer::TooLong),
-    ] {
-        let got = receive_owned::<String, _>(alloc, In::new(&room, 500, None), limit, 0);
-        wants.text(rt, got, &whole);
-        let got = receive_owned_strict::<String, _>(alloc, In::new(&room, 500, None), limit, 0);
-        wants.text(rt, got, &whole);
+    if sender.send(&text).is_ok() && sender.into_inner().moved() == 1027 {
+        Some(room)
+    } else {
+        None
     }
 }
 
+/// That text, within the limit and past it.
+fn own_long<R: AllocGlobal + Abort>(rt: &R, wants: &mut Wants) {
+    let alloc = rt.alloc();
+    let Some(line) = long_line() else {
+        return assert!(rt; false);
+    };
+    let line = line.as_slice();
+    wants.text(
+        rt,
+        receive_owned(alloc, In::new(line, 500, None), 1025, 0),
+        true,
+    );
+    wants.text(
+        rt,
+        receive_owned(alloc, In::new(line, 500, None), 1024, 0),
+        false,
+    );
+    wants.text(
+        rt,
+        receive_owned_strict(alloc, In::new(line, 500, None), 1025, 0),
+        true,
+    );
+    wants.text(
+        rt,
+        receive_owned_strict(alloc, In::new(line, 500, None), 1024, 0),
+        false,
+    );
+}
+
 impl Wants {
-    /// One answer: a text so long, or the same as this one; or none and want of memory.
-    fn text(&mut self, rt: &impl Abort, got: Received<String, In<'_>>, whole: &Answer<usize>) {
+    /// One answer: the letters if they fit, and else that they are too long; or none and want of memory.
+    fn text(&mut self, rt: &impl Abort, got: Received<String, In<'_>>, fits: bool) {
         if got.end == End::NoMemory {
             assert!(rt; got.answers.is_empty());
             self.add();
-            return;
+        } else {
+            assert!(rt; got.end == End::Ended && is_long(&got.answers, fits));
         }
-        assert!(rt; got.end == End::Ended);
-        match got.answers.as_slice() {
-            [Answer::Value(text)] => assert!(rt; *whole == Answer::Value(text.len())),
-            [Answer::TooLong] => assert!(rt; *whole == Answer::TooLong),
-            _ => assert!(rt; false),
-        }
+    }
+}
+
+// Whether the one answer is the letters, or that they are too long.
+fn is_long(answers: &[Answer<String>], fits: bool) -> bool {
+    match answers {
+        [Answer::Value(text)] => fits && text.as_bytes() == LETTERS.as_slice(),
+        [Answer::TooLong] => !fits,
+        _ => false,
     }
 }
 
@@ -611,6 +683,11 @@ fn none_asked_by_reading(rt: HostRuntime) {
             && from_bytes_owned::<[u8; 4]>(rt.alloc(), &bytes) == Ok(bytes)
             && matches!(&take_from_bytes::<u8>(rt.alloc(), &bytes), Ok((3, _)))
     );
+}
+
+#[test]
+fn none_asked_by_readers(rt: HostRuntime) {
+    let bytes = [3u8, 0x48, 0x69, 0x21];
     let mut buffer = [0u8; 3];
     let read = from_io::<&str, _>(rt.alloc(), (bytes.as_slice(), &mut buffer));
     assert!(rt; matches!(&read, Ok((text, _)) if *text == "Hi!"));

@@ -6,14 +6,12 @@ use station::messages::{
 };
 use std::alloc::Global;
 
-fn reading() -> SensorReading {
-    SensorReading {
-        sensor: 300,
-        at: 1,
-        celsius: -1,
-        valid: true,
-    }
-}
+const READING: SensorReading = SensorReading {
+    sensor: 300,
+    at: 1,
+    celsius: -1,
+    valid: true,
+};
 
 // Whether a value is written as these bytes.
 fn writes<T: Serialize>(value: &T, bytes: &[u8]) -> bool {
@@ -32,25 +30,39 @@ fn reread<'a, T: Serialize + Deserialize<&'a [u8]>>(alloc: Global, bytes: &'a [u
     }
 }
 
+// Whether each row's bytes are read as its value, which is written as they are.
+fn are_reread<'a, T: Serialize + Deserialize<&'a [u8]> + PartialEq + Drop>(
+    alloc: Global,
+    rows: &[(&'a [u8], T)],
+) -> bool {
+    for (bytes, value) in rows {
+        match from_bytes::<T>(alloc, bytes) {
+            Ok(read) if read == *value && writes(value, bytes) => {}
+            _ => return false,
+        }
+    }
+    true
+}
+
 #[test]
 fn readings(rt: HostRuntime) {
     assert!(rt;
-        reread(rt.alloc(), &[0xAC, 2, 1, 1, 1]) == Some(reading())
+        are_reread(rt.alloc(), &[([0xAC, 2, 1, 1, 1].as_slice(), READING)])
             && from_bytes::<SensorReading>(rt.alloc(), &[0xAC, 2, 1, 1, 2]).is_err()
     );
 }
 
+fn is_the_record(record: &LogRecord) -> bool {
+    record.level == Level::Warning
+        && record.at == 5
+        && record.text.as_str() == "A"
+        && record.source == Some(7)
+}
+
 #[test]
 fn records(rt: HostRuntime) {
-    match reread::<LogRecord>(rt.alloc(), &[1, 5, 1, 65, 1, 7]) {
-        Some(record) => {
-            assert!(rt;
-                record.level == Level::Warning
-                    && record.at == 5
-                    && record.text.as_str() == "A"
-                    && record.source == Some(7)
-            );
-        }
+    match reread(rt.alloc(), &[1, 5, 1, 65, 1, 7]) {
+        Some(record) => assert!(rt; is_the_record(&record)),
         None => assert!(rt; false),
     }
 }
@@ -60,7 +72,7 @@ fn addresses(rt: HostRuntime) {
     assert!(rt;
         writes(&Address(300), &[0xAC, 2])
             && from_bytes_owned::<Address>(rt.alloc(), &[0xAC, 2]) == Ok(Address(300))
-            && reread(rt.alloc(), &[]) == Some(Ping)
+            && are_reread(rt.alloc(), &[([].as_slice(), Ping)])
     );
 }
 
@@ -99,46 +111,56 @@ fn reports(rt: HostRuntime) {
 #[test]
 fn levels(rt: HostRuntime) {
     assert!(rt;
-        reread(rt.alloc(), &[2]) == Some(Level::Info)
+        are_reread(rt.alloc(), &[([2].as_slice(), Level::Info)])
             && from_bytes::<Level>(rt.alloc(), &[3]).is_err()
     );
 }
 
 #[test]
 fn events(rt: HostRuntime) {
-    let alloc = rt.alloc();
-    assert!(rt;
-        reread(alloc, &[3, 1, 2]) == Some(Event::Moved { x: -1, y: 1 })
-            && reread(alloc, &[10, 1, 0xAC, 2]) == Some(Event::Paired((1, 300)))
-            && reread(alloc, &[9]) == Some(Event::Cleared)
-            && reread(alloc, &[11, 1]) == Some(Event::Reset(true))
-            && from_bytes::<Event>(alloc, &[12]).is_err()
-    );
+    let rows = [
+        ([3, 1, 2].as_slice(), Event::Moved { x: -1, y: 1 }),
+        ([10, 1, 0xAC, 2].as_slice(), Event::Paired((1, 300))),
+        ([9].as_slice(), Event::Cleared),
+        ([11, 1].as_slice(), Event::Reset(true)),
+    ];
+    assert!(rt; are_reread(rt.alloc(), &rows) && from_bytes::<Event>(rt.alloc(), &[12]).is_err());
+}
+
+// Whether a command is this text.
+fn is_said(command: &Command, wanted: &str) -> bool {
+    match command {
+        Command::Say(text) => text.as_str() == wanted,
+        _ => false,
+    }
 }
 
 #[test]
 fn commands(rt: HostRuntime) {
-    let said = reread::<Command>(rt.alloc(), &[4, 2, 72, 105]);
-    assert!(rt;
-        matches!(&said, Some(Command::Say(text)) if text.as_str() == "Hi")
-            && reread(rt.alloc(), &[2, 1, 2]) == Some(Command::Move { x: -1, y: 1 })
-    );
+    match reread(rt.alloc(), &[4, 2, 72, 105]) {
+        Some(command) => assert!(rt; is_said(&command, "Hi")),
+        None => assert!(rt; false),
+    }
+    match reread::<Command>(rt.alloc(), &[2, 1, 2]) {
+        Some(command) => assert!(rt; command == Command::Move { x: -1, y: 1 }),
+        None => assert!(rt; false),
+    }
+}
+
+fn is_the_config(it: &Config) -> bool {
+    it.name.as_str() == "A"
+        && it.readings[..] == [READING]
+        && it.fallback == Some(Level::Info)
+        && it.gains == [1, 2, 3, 4]
+        && it.labels.len() == 1
+        && matches!(it.labels.get(&9), Some(label) if label.as_str() == "B")
 }
 
 #[test]
 fn configurations(rt: HostRuntime) {
     let bytes = [1, 65, 1, 0xAC, 2, 1, 1, 1, 1, 2, 1, 2, 3, 4, 1, 9, 1, 66];
-    match reread::<Config>(rt.alloc(), &bytes) {
-        Some(it) => {
-            assert!(rt;
-                it.name.as_str() == "A"
-                    && it.readings[..] == [reading()]
-                    && it.fallback == Some(Level::Info)
-                    && it.gains == [1, 2, 3, 4]
-                    && it.labels.len() == 1
-                    && matches!(it.labels.get(&9), Some(label) if label.as_str() == "B")
-            );
-        }
+    match reread(rt.alloc(), &bytes) {
+        Some(config) => assert!(rt; is_the_config(&config)),
         None => assert!(rt; false),
     }
 }

@@ -1,5 +1,6 @@
-//! `line_io`, over writers and readers of std: they fail and end only where those do.
-use line_io::{Inlet, Outlet, Reads, Writes};
+//! Devices over writers and readers of std: they fail and end only where those do.
+use crate::moves::{fails_once, takes};
+use line_io::{Outlet, Reads, Writes};
 use std::io;
 use std::io::{Read, Write};
 
@@ -29,15 +30,9 @@ impl Read for Failing {
 fn a_failed_read_is_a_fault(rt: HostRuntime) {
     for before in 0..4 {
         let mut line = Reads::new(Failing { given: 0, before });
-        let mut room = [0u8; 2];
-        for call in 0..4 {
-            let want = if call == before { None } else { Some(1) };
-            assert!(rt; line.read(&mut room) == want, "call {call} of {before}");
-        }
         assert!(rt;
-            line.read(&mut room) == Some(0)
-                && line.read(&mut []) == Some(0)
-                && line.into_inner().given == 3
+            fails_once(&mut line, before) && line.into_inner().given == 3,
+            "after {before}"
         );
     }
 }
@@ -65,15 +60,22 @@ impl Write for Interrupted {
     }
 }
 
+/// Whether six writes of two bytes are taken a byte each, but for the one that is interrupted after so many.
+fn is_interrupted_once(before: usize) -> bool {
+    let mut line = Writes::new(Interrupted { taken: 0, before });
+    for call in 0..6 {
+        let want = if call == before { None } else { Some(1) };
+        if line.write(b"ab") != want {
+            return false;
+        }
+    }
+    line.write(b"") == Some(0) && line.into_inner().taken == 5
+}
+
 #[test]
 fn an_interrupted_write_is_a_fault(rt: HostRuntime) {
     for before in 0..4 {
-        let mut line = Writes::new(Interrupted { taken: 0, before });
-        for call in 0..6 {
-            let want = if call == before { None } else { Some(1) };
-            assert!(rt; line.write(b"ab") == want, "call {call} of {before}");
-        }
-        assert!(rt; line.write(b"") == Some(0) && line.into_inner().taken == 5);
+        assert!(rt; is_interrupted_once(before), "after {before}");
     }
 }
 
@@ -81,12 +83,11 @@ fn an_interrupted_write_is_a_fault(rt: HostRuntime) {
 fn a_full_writer_takes_nothing(rt: HostRuntime) {
     let mut room = [0u8; 3];
     let mut line = Writes::new(room.as_mut_slice());
-    assert!(rt;
-        line.write(b"ab") == Some(2)
-            && line.write(b"cd") == Some(1)
-            && line.write(b"d") == Some(0)
-            && line.write(b"") == Some(0)
-            && line.into_inner().len() == 0
-            && room == *b"abc"
-    );
+    let calls = [
+        (b"ab".as_slice(), Some(2)),
+        (b"cd".as_slice(), Some(1)),
+        (b"d".as_slice(), Some(0)),
+        (b"".as_slice(), Some(0)),
+    ];
+    assert!(rt; takes(&mut line, &calls) && line.into_inner().len() == 0 && room == *b"abc");
 }
