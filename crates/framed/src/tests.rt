@@ -1,0 +1,811 @@
+//! Runs of the whole program over memory.
+ghost use Rattle.std.specs.Prelude.{◌<◌};
+
+use line_io::Fault;
+use line_io::memory::{In, Out};
+use std::alloc::{AllocError, Global};
+use std::process::Abort;
+use text_frames::arguments::Mode;
+use text_frames::run::run;
+
+/// How many bytes each device of a run has room for where the text is short.
+const ROOM: usize = 1100;
+
+/// What a run is given, and what comes of it.
+#[derive(Clone, Copy, Drop)]
+struct Row<'a> {
+    mode: Mode,
+    hex: bool,
+    sentinel: u8,
+    text: &'a [u8],
+    /// After how many bytes the reader fails.
+    read_fault: Option<usize>,
+    /// After how many bytes the writer fails.
+    write_fault: Option<(usize, Fault)>,
+    /// After how many bytes standard error fails.
+    saying_fault: Option<(usize, Fault)>,
+    /// What is written.
+    out: &'a [u8],
+    /// What is said on standard error.
+    said: &'a [u8],
+    status: u8,
+}
+
+const PACK: Row<'static> = Row {
+    mode: Mode::Pack,
+    hex: false,
+    sentinel: 0,
+    text: b"",
+    read_fault: None,
+    write_fault: None,
+    saying_fault: None,
+    out: b"",
+    said: b"",
+    status: 0,
+};
+
+const PACK_HEX: Row<'static> = Row { hex: true, ..PACK };
+
+const UNPACK: Row<'static> = Row {
+    mode: Mode::Unpack,
+    ..PACK
+};
+
+const UNPACK_HEX: Row<'static> = Row {
+    hex: true,
+    ..UNPACK
+};
+
+const STRICT: Row<'static> = Row {
+    mode: Mode::Strict,
+    ..PACK
+};
+
+const STRICT_HEX: Row<'static> = Row {
+    hex: true,
+    ..STRICT
+};
+
+/// What a run left: its status, and how many bytes were written and said.
+#[derive(Clone, Copy, Drop)]
+struct Left {
+    status: u8,
+    written: usize,
+    said: usize,
+}
+
+/// Runs over memory, so many bytes a call.
+fn run_over(
+    alloc: Global,
+    row: Row<'_>,
+    reads: usize,
+    writes: usize,
+    says: usize,
+    written: &mut [u8],
+    told: &mut [u8],
+) -> Left
+    requires reads { 0 < reads }
+    requires writes { 0 < writes }
+    requires says { 0 < says }
+{
+    let ran = run(
+        alloc,
+        row.mode,
+        row.hex,
+        row.sentinel,
+        In::new(row.text, reads, row.read_fault),
+        Out::new(written, writes, row.write_fault),
+        Out::new(told, says, row.saying_fault),
+    );
+    Left {
+        status: ran.status,
+        written: ran.writer.moved(),
+        said: ran.faults.moved(),
+    }
+}
+
+/// Runs a few bytes a call.
+fn run_short(alloc: Global, row: Row<'_>, written: &mut [u8], told: &mut [u8]) -> Left {
+    run_over(alloc, row, 3, 5, 2, written, told)
+}
+
+/// Whether both have so many bytes, the same.
+fn begin_alike(one: &[u8], other: &[u8], count: usize) -> bool {
+    count <= one.len() && count <= other.len() && one[..count] == other[..count]
+}
+
+/// Whether so many bytes are all that is wanted, and the room begins with them.
+fn holds(room: &[u8], count: usize, wanted: &[u8]) -> bool {
+    count == wanted.len() && begin_alike(room, wanted, count)
+}
+
+/// Whether a run writes and says what the row has, and ends with its status.
+fn is_right(alloc: Global, row: Row<'_>) -> bool {
+    let mut written = [0u8; ROOM];
+    let mut told = [0u8; ROOM];
+    let left = run_short(alloc, row, &mut written, &mut told);
+    left.status == row.status
+        && holds(&written, left.written, row.out)
+        && holds(&told, left.said, row.said)
+}
+
+fn expect<R: AllocGlobal + Abort>(rt: &R, rows: &[Row<'_>]) {
+    for (at, row) in rows.iter().enumerate() {
+        assert!(rt; is_right(rt.alloc(), *row), "row {at}");
+    }
+}
+
+const FRAMED: &[u8] = b"\x00\x04\x02hi\x00\x01\x01\x00\x03\x01A\x00";
+
+const FRAMED_HEX: &[u8] = b"00040268690001010003014100\n";
+
+const VALUES: &[u8] = b"value hi\nvalue \nvalue A\n";
+
+#[test]
+fn packs(rt: HostRuntime) {
+    expect(
+        &rt,
+        &[
+            Row {
+                text: b"hi\n\nA",
+                out: FRAMED_HEX,
+                ..PACK_HEX
+            },
+            Row {
+                text: b"hi\n\nA\n",
+                out: FRAMED_HEX,
+                ..PACK_HEX
+            },
+            Row {
+                text: b"",
+                out: b"\n",
+                ..PACK_HEX
+            },
+            Row {
+                text: b"hi\n\nA",
+                out: FRAMED,
+                ..PACK
+            },
+            Row {
+                text: b"",
+                out: b"",
+                ..PACK
+            },
+            Row {
+                text: b"\xff\nb",
+                out: b"\x00\x03\x01b\x00",
+                said: b"line 1: refused\n",
+                status: 1,
+                ..PACK
+            },
+        ],
+    );
+}
+
+const LETTERS: [u8; 1018] = [b'a'; 1018];
+
+const ZEROS: [u8; 1022] = [0; 1022];
+
+/// A line without zeros takes 1017 bytes at most, each 254 bytes of its frame a byte more.
+#[test]
+fn packs_up_to_the_limit(rt: HostRuntime) {
+    let mut framed = [b'a'; 1026];
+    framed[..4].copy_from_slice(b"\x00\xff\xf9\x07");
+    framed[256] = 255;
+    framed[511] = 255;
+    framed[766] = 255;
+    framed[1021] = 4;
+    framed[1025] = 0;
+    expect(
+        &rt,
+        &[
+            Row {
+                text: &LETTERS[..1017],
+                out: &framed,
+                ..PACK
+            },
+            Row {
+                text: &LETTERS,
+                said: b"line 1: refused\n",
+                status: 1,
+                ..PACK
+            },
+        ],
+    );
+}
+
+/// A zero takes one byte of a frame, wherever it stands: 1021 zeros have a frame of 1024 bytes, and 1022 one of 1025.
+#[test]
+fn packs_zeros_up_to_the_limit(rt: HostRuntime) {
+    let mut framed = [1u8; 1026];
+    framed[..4].copy_from_slice(b"\x00\x03\xfd\x07");
+    framed[1025] = 0;
+    expect(
+        &rt,
+        &[
+            Row {
+                text: &ZEROS[..1021],
+                out: &framed,
+                ..PACK
+            },
+            Row {
+                text: &ZEROS,
+                said: b"line 1: refused\n",
+                status: 1,
+                ..PACK
+            },
+        ],
+    );
+}
+
+#[test]
+fn unpacks_hex(rt: HostRuntime) {
+    expect(
+        &rt,
+        &[
+            Row {
+                text: FRAMED_HEX,
+                out: VALUES,
+                ..UNPACK_HEX
+            },
+            Row {
+                text: b"00040268690001010003014100",
+                out: VALUES,
+                ..UNPACK_HEX
+            },
+            Row {
+                text: b"05035c0a6100",
+                out: b"value \\\\\\na\n",
+                ..UNPACK_HEX
+            },
+            Row {
+                text: b"05035C0A6100",
+                out: b"value \\\\\\na\n",
+                ..UNPACK_HEX
+            },
+            Row {
+                text: b"0401626300",
+                out: b"value b\n",
+                ..UNPACK_HEX
+            },
+        ],
+    );
+}
+
+/// A text that sending spells otherwise, behind a byte that is no part of it, and one that it spells so.
+#[test]
+fn unpacks_strictly(rt: HostRuntime) {
+    expect(
+        &rt,
+        &[
+            Row {
+                text: b"0401626300",
+                out: b"damaged\n",
+                status: 1,
+                ..STRICT_HEX
+            },
+            Row {
+                text: FRAMED,
+                out: VALUES,
+                ..STRICT
+            },
+            Row {
+                text: b"\x05\x82\x80hi\x00\x04\x02hi\x00",
+                out: b"damaged\nvalue hi\n",
+                status: 1,
+                ..STRICT
+            },
+        ],
+    );
+}
+
+#[test]
+fn refuses_bad_hex(rt: HostRuntime) {
+    let bad = Row {
+        said: b"bad hex\n",
+        status: 2,
+        ..UNPACK_HEX
+    };
+    expect(
+        &rt,
+        &[
+            Row { text: b"0g", ..bad },
+            Row {
+                text: b"000",
+                ..bad
+            },
+            Row {
+                text: b"0g",
+                mode: Mode::Strict,
+                ..bad
+            },
+        ],
+    );
+}
+
+/// With another sentinel in place of zero.
+#[test]
+fn goes_by_the_sentinel(rt: HostRuntime) {
+    expect(
+        &rt,
+        &[
+            Row {
+                sentinel: 0x0a,
+                text: b"hi",
+                out: b"0a0e0862630a\n",
+                ..PACK_HEX
+            },
+            Row {
+                sentinel: 0x7e,
+                text: b"~\nhi",
+                out: b"~}\x7f\x00~z|\x16\x17~",
+                ..PACK
+            },
+            Row {
+                sentinel: 0x0a,
+                text: b"0a0e0862630a",
+                out: b"value hi\n",
+                ..UNPACK_HEX
+            },
+            Row {
+                sentinel: 0x7e,
+                text: b"~}\x7f\x00~z|\x16\x17~",
+                out: b"value ~\nvalue hi\n",
+                ..UNPACK
+            },
+        ],
+    );
+}
+
+/// So too: a frame that lacks bytes, one behind it, and one that nothing ends; a text with a byte behind it that is no part
+/// of it, and one that sending spells so.
+#[test]
+fn unpacks_damage_with_sentinel(rt: HostRuntime) {
+    expect(
+        &rt,
+        &[
+            Row {
+                sentinel: 0x0a,
+                text: b"\n\x0f\x62\n\x0e\x08\x62\x63\n\x0e",
+                out: b"damaged\nvalue hi\ncut\n",
+                status: 1,
+                ..UNPACK
+            },
+            Row {
+                sentinel: 0x0a,
+                text: b"0e0b68690a0e0862630a",
+                out: b"damaged\nvalue hi\n",
+                status: 1,
+                ..STRICT_HEX
+            },
+        ],
+    );
+}
+
+/// Stretches that hold no text, one that is too long, and one that nothing ends.
+#[test]
+fn unpacks_damage(rt: HostRuntime) {
+    let mut stream = [1u8; 1027];
+    stream[1025] = 0;
+    expect(
+        &rt,
+        &[
+            Row {
+                text: b"\x00\x04\x02hi\x00\x03\x01\x00\x02\xff\x00\x03\x01A",
+                out: b"value hi\ndamaged\ndamaged\ncut\n",
+                status: 1,
+                ..UNPACK
+            },
+            Row {
+                text: &stream,
+                out: b"too long\ncut\n",
+                status: 1,
+                ..UNPACK
+            },
+        ],
+    );
+}
+
+/// The same, and the reader fails after so many bytes.
+fn unread(row: Row<'_>, before: usize) -> Row<'_> {
+    Row {
+        read_fault: Some(before),
+        said: b"read failed\n",
+        status: 3,
+        ..row
+    }
+}
+
+const STRETCH: [u8; 1025] = [1; 1025];
+
+#[test]
+fn reader_fails(rt: HostRuntime) {
+    expect(
+        &rt,
+        &[
+            Row {
+                text: b"\x00\x04\x02hi\x00\x04",
+                out: b"value hi\n",
+                ..unread(UNPACK, 7)
+            },
+            Row {
+                text: &STRETCH,
+                out: b"too long\n",
+                ..unread(UNPACK, 1025)
+            },
+            Row {
+                text: b"\x04\x02hi\x00\x04\x01bc\x00\x04",
+                out: b"value hi\ndamaged\n",
+                ..unread(STRICT, 11)
+            },
+            Row {
+                text: b"00040268690004",
+                ..unread(UNPACK_HEX, 14)
+            },
+            Row {
+                text: b"00040268690004",
+                ..unread(STRICT_HEX, 14)
+            },
+            Row {
+                text: b"hi\n",
+                ..unread(PACK, 3)
+            },
+            Row {
+                text: b"hi\n",
+                ..unread(PACK_HEX, 3)
+            },
+        ],
+    );
+}
+
+/// The same, and the writer fails after so many bytes.
+fn unwritten(row: Row<'_>, before: usize, fault: Fault) -> Row<'_> {
+    Row {
+        write_fault: Some((before, fault)),
+        said: b"write failed\n",
+        status: 3,
+        ..row
+    }
+}
+
+fn expect_unwritten<R: AllocGlobal + Abort>(rt: &R, fault: Fault) {
+    expect(
+        rt,
+        &[
+            Row {
+                text: b"hi",
+                out: b"\x00\x04",
+                ..unwritten(PACK, 2, fault)
+            },
+            Row {
+                text: b"hi",
+                out: b"00",
+                ..unwritten(PACK_HEX, 2, fault)
+            },
+            Row {
+                text: b"\x04\x02hi\x00",
+                out: b"va",
+                ..unwritten(UNPACK, 2, fault)
+            },
+            Row {
+                text: b"\xff\nhi",
+                out: b"\x00\x04",
+                said: b"line 1: refused\nwrite failed\n",
+                ..unwritten(PACK, 2, fault)
+            },
+        ],
+    );
+}
+
+#[test]
+fn writer_fails(rt: HostRuntime) {
+    expect_unwritten(&rt, Fault::Fail);
+    expect_unwritten(&rt, Fault::Nothing);
+}
+
+/// The same, and standard error fails after so many bytes.
+fn unsaid(row: Row<'_>, before: usize, fault: Fault) -> Row<'_> {
+    Row {
+        saying_fault: Some((before, fault)),
+        status: 3,
+        ..row
+    }
+}
+
+fn expect_unsaid<R: AllocGlobal + Abort>(rt: &R, fault: Fault) {
+    expect(
+        rt,
+        &[
+            Row {
+                text: b"\xff",
+                ..unsaid(PACK, 0, fault)
+            },
+            Row {
+                text: b"\xff\nb",
+                ..unsaid(PACK, 0, fault)
+            },
+            Row {
+                text: b"\xff\nb",
+                said: b"line",
+                ..unsaid(PACK, 4, fault)
+            },
+            Row {
+                text: b"0g",
+                said: b"bad",
+                ..unsaid(UNPACK_HEX, 3, fault)
+            },
+            Row {
+                text: b"\x04\x02hi\x00",
+                read_fault: Some(5),
+                out: b"value hi\n",
+                said: b"read",
+                ..unsaid(UNPACK, 4, fault)
+            },
+        ],
+    );
+}
+
+#[test]
+fn standard_error_fails(rt: HostRuntime) {
+    expect_unsaid(&rt, Fault::Fail);
+    expect_unsaid(&rt, Fault::Nothing);
+}
+
+/// Whether a run writes what the row has and nothing is said, or a growth was refused: then it says so, and writes a
+/// beginning.
+fn is_right_or_lacks_memory(alloc: Global, row: Row<'_>) -> bool {
+    let mut written = [0u8; ROOM];
+    let mut told = [0u8; ROOM];
+    let left = run_short(alloc, row, &mut written, &mut told);
+    if left.status != 4 {
+        return left.status == 0 && holds(&written, left.written, row.out) && left.said == 0;
+    }
+    begin_alike(&written, row.out, left.written) && holds(&told, left.said, b"no memory\n")
+}
+
+/// Expects it of each row.
+fn expect_or_no_memory<R: AllocGlobal + Abort>(rt: &R, rows: &[Row<'_>]) {
+    for (at, row) in rows.iter().enumerate() {
+        assert!(rt; is_right_or_lacks_memory(rt.alloc(), *row), "row {at}");
+    }
+}
+
+/// To be run with each growth refused in turn: `rt try --test --fail-alloc N`. The other tests ask for the whole.
+#[test]
+fn memory_runs_out(rt: HostRuntime) {
+    expect_or_no_memory(
+        &rt,
+        &[
+            Row {
+                text: b"hi\n\nA",
+                out: FRAMED_HEX,
+                ..PACK_HEX
+            },
+            Row {
+                text: FRAMED_HEX,
+                out: VALUES,
+                ..UNPACK_HEX
+            },
+            Row {
+                text: FRAMED,
+                out: VALUES,
+                ..UNPACK
+            },
+        ],
+    );
+}
+
+/// To be run so too.
+#[test]
+fn memory_runs_out_with_sentinel(rt: HostRuntime) {
+    expect_or_no_memory(
+        &rt,
+        &[
+            Row {
+                sentinel: 0x0a,
+                text: b"hi",
+                out: b"0a0e0862630a\n",
+                ..PACK_HEX
+            },
+            Row {
+                sentinel: 0x0a,
+                text: b"0a0e0862630a\n",
+                out: b"value hi\n",
+                ..STRICT_HEX
+            },
+        ],
+    );
+}
+
+/// A piece so many times, and what stands before and behind it.
+#[derive(Clone, Copy, Drop)]
+struct Repeated<'a> {
+    first: &'a [u8],
+    piece: &'a [u8],
+    times: usize,
+    last: &'a [u8],
+}
+
+fn make(alloc: Global, bytes: Repeated<'_>) -> Result<Vec<u8>, AllocError> {
+    let mut made = Vec::from_slice(alloc, bytes.first)?;
+    for _ in 0..bytes.times {
+        made.extend_from_slice(bytes.piece)?;
+    }
+    made.extend_from_slice(bytes.last)?;
+    Ok(made)
+}
+
+/// Whether a run in pieces of some thousand bytes does what the row says, but that this is to be written: all of it, or as
+/// many bytes as the writer takes before it fails.
+fn is_right_in(alloc: Global, row: Row<'_>, all: &[u8], room: &mut [u8]) -> bool {
+    let mut told = [0u8; ROOM];
+    let left = run_over(alloc, row, 4096, 5000, 4096, room, &mut told);
+    let count = match row.write_fault {
+        Some((before, _)) => before,
+        None => all.len(),
+    };
+    left.status == row.status
+        && left.written == count
+        && begin_alike(room, all, count)
+        && holds(&told, left.said, row.said)
+}
+
+fn is_right_writing(alloc: Global, row: Row<'_>, all: &[u8]) -> bool {
+    match vec![in alloc; 0u8; all.len()] {
+        Ok(mut room) => is_right_in(alloc, row, all, &mut room),
+        Err(_) => false,
+    }
+}
+
+fn is_right_reading(alloc: Global, row: Row<'_>, out: Repeated<'_>) -> bool {
+    match make(alloc, out) {
+        Ok(all) => is_right_writing(alloc, row, &all),
+        Err(_) => false,
+    }
+}
+
+/// Whether a run on a long text does what the row says, but that this is to be written.
+fn is_long_right(alloc: Global, row: Row<'_>, text: Repeated<'_>, out: Repeated<'_>) -> bool {
+    match make(alloc, text) {
+        Ok(text) => is_right_reading(alloc, Row { text: &text, ..row }, out),
+        Err(_) => false,
+    }
+}
+
+const LINES: Repeated<'static> = Repeated {
+    first: b"",
+    piece: b"letters\n",
+    times: 1600,
+    last: b"",
+};
+
+const FRAMES: Repeated<'static> = Repeated {
+    first: b"\0",
+    piece: b"\x09\x07letters\0",
+    times: 1600,
+    last: b"",
+};
+
+const DIGITS: Repeated<'static> = Repeated {
+    first: b"00",
+    piece: b"09076c65747465727300",
+    times: 1600,
+    last: b"\n",
+};
+
+const CAPITALS: Repeated<'static> = Repeated {
+    piece: b"09076C65747465727300",
+    last: b"",
+    ..DIGITS
+};
+
+const SAID: Repeated<'static> = Repeated {
+    piece: b"value letters\n",
+    ..LINES
+};
+
+#[test]
+fn packs_long_texts(rt: HostRuntime) {
+    assert!(rt; is_long_right(rt.alloc(), PACK, LINES, FRAMES));
+    assert!(rt; is_long_right(rt.alloc(), PACK_HEX, LINES, DIGITS));
+}
+
+/// A line is refused behind many that are sent.
+#[test]
+fn refuses_late_lines(rt: HostRuntime) {
+    let row = Row {
+        said: b"line 1601: refused\n",
+        status: 1,
+        ..PACK
+    };
+    let text = Repeated {
+        last: b"\xff\nletters",
+        ..LINES
+    };
+    let out = Repeated {
+        last: b"\x09\x07letters\0",
+        ..FRAMES
+    };
+    assert!(rt; is_long_right(rt.alloc(), row, text, out));
+}
+
+#[test]
+fn unpacks_long_streams(rt: HostRuntime) {
+    assert!(rt; is_long_right(rt.alloc(), UNPACK, FRAMES, SAID));
+    assert!(rt; is_long_right(rt.alloc(), STRICT, FRAMES, SAID));
+    assert!(rt; is_long_right(rt.alloc(), UNPACK_HEX, CAPITALS, SAID));
+    assert!(rt; is_long_right(rt.alloc(), STRICT_HEX, CAPITALS, SAID));
+}
+
+/// Of a long stream whose reader fails, the lines of what it gave are written.
+#[test]
+fn long_streams_that_fail(rt: HostRuntime) {
+    assert!(rt; is_long_right(rt.alloc(), unread(UNPACK, 16_001), FRAMES, SAID));
+}
+
+/// The digits are read some at a time: the last of many isn't one.
+#[test]
+fn refuses_late_bad_hex(rt: HostRuntime) {
+    let row = Row {
+        said: b"bad hex\n",
+        status: 2,
+        ..UNPACK_HEX
+    };
+    let nothing = Repeated {
+        piece: b"",
+        ..LINES
+    };
+    for last in [b"g".as_slice(), b"g0".as_slice()] {
+        let digits = Repeated { last, ..CAPITALS };
+        assert!(rt; is_long_right(rt.alloc(), row, digits, nothing));
+    }
+}
+
+/// So many lines that their frames are written some at a time: the first 40961 bytes, then 40960 bytes each time.
+fn many(bytes: Repeated<'_>) -> Repeated<'_> {
+    Repeated {
+        times: 10_000,
+        ..bytes
+    }
+}
+
+/// Expects of many lines that they are written, and their beginning where the writer fails after so many bytes.
+fn expect_fronts<R: AllocGlobal + Abort>(
+    rt: &R,
+    row: Row<'_>,
+    fault: Fault,
+    befores: &[usize],
+    text: Repeated<'_>,
+    out: Repeated<'_>,
+) {
+    assert!(rt; is_long_right(rt.alloc(), row, many(text), many(out)));
+    for before in befores {
+        let broken = unwritten(row, *before, fault);
+        assert!(rt;
+            is_long_right(rt.alloc(), broken, many(text), many(out)),
+            "at {before}"
+        );
+    }
+}
+
+#[test]
+fn packs_some_at_a_time(rt: HostRuntime) {
+    let befores = [0, 1, 40960, 40961, 40962, 81921, 81922, 100_000];
+    expect_fronts(&rt, PACK, Fault::Fail, &befores, LINES, FRAMES);
+    expect_fronts(&rt, PACK, Fault::Nothing, &befores, LINES, FRAMES);
+}
+
+#[test]
+fn packs_digits_some_at_a_time(rt: HostRuntime) {
+    let befores = [0, 1, 81921, 81922, 81923, 163_843, 200_002];
+    expect_fronts(&rt, PACK_HEX, Fault::Fail, &befores, LINES, DIGITS);
+}
+
+/// So many answers that their lines are written some at a time.
+#[test]
+fn unpacks_some_at_a_time(rt: HostRuntime) {
+    let befores = [0, 1, 65534, 65535, 65536, 65537, 140_000 - 1];
+    expect_fronts(&rt, UNPACK, Fault::Fail, &befores, FRAMES, SAID);
+    expect_fronts(&rt, UNPACK_HEX, Fault::Fail, &[], CAPITALS, SAID);
+    expect_fronts(&rt, STRICT_HEX, Fault::Fail, &[], CAPITALS, SAID);
+}

@@ -1,0 +1,95 @@
+//! The words that the program is called with.
+use std::alloc::{AllocError, Global};
+use std::process::Abort;
+use text_frames::arguments::{Mode, arguments};
+
+/// The words of a line, which are separated by blanks.
+fn words_of(alloc: Global, line: &str) -> Result<Vec<String>, AllocError> {
+    let mut words = Vec::new(alloc);
+    for word in line.split_whitespace() {
+        words.push(String::from_str(alloc, word)?)?;
+    }
+    Ok(words)
+}
+
+/// Whether the words of a line mean this.
+fn means(alloc: Global, line: &str, wanted: Option<(Mode, bool, u8)>) -> bool {
+    match words_of(alloc, line) {
+        Ok(words) => arguments(&words) == wanted,
+        Err(_) => false,
+    }
+}
+
+/// Expects that each line is refused.
+fn expect_refused<R: AllocGlobal + Abort>(rt: &R, lines: &[&str]) {
+    for line in lines {
+        assert!(rt; means(rt.alloc(), line, None), "at {line}");
+    }
+}
+
+/// Expects that each line is a mode with these further words.
+fn expect<R: AllocGlobal + Abort>(rt: &R, rows: &[(&str, Mode, bool, u8)]) {
+    for (line, mode, hex, sentinel) in rows {
+        assert!(rt;
+            means(rt.alloc(), line, Some((*mode, *hex, *sentinel))),
+            "at {line}"
+        );
+    }
+}
+
+#[test]
+fn reads_words(rt: HostRuntime) {
+    expect(
+        &rt,
+        &[
+            ("pack", Mode::Pack, false, 0),
+            ("pack hex", Mode::Pack, true, 0),
+            ("unpack", Mode::Unpack, false, 0),
+            ("unpack hex", Mode::Unpack, true, 0),
+            ("strict", Mode::Strict, false, 0),
+            ("strict hex", Mode::Strict, true, 0),
+            ("pack sentinel=7E", Mode::Pack, false, 0x7e),
+            ("pack hex sentinel=0a", Mode::Pack, true, 0x0a),
+            ("unpack hex sentinel=0A", Mode::Unpack, true, 0x0a),
+            ("strict sentinel=ff", Mode::Strict, false, 0xff),
+        ],
+    );
+}
+
+#[test]
+fn refuses_other_words(rt: HostRuntime) {
+    expect_refused(
+        &rt,
+        &[
+            "",
+            "hex",
+            "Strict",
+            "strict strict",
+            "pack HEX",
+            "hex pack",
+            "pack hex hex",
+            "packs",
+        ],
+    );
+}
+
+#[test]
+fn refuses_other_sentinels(rt: HostRuntime) {
+    expect_refused(
+        &rt,
+        &[
+            "pack sentinel=0",
+            "pack sentinel=0g",
+            "pack sentinel=0A0",
+            "pack sentinel=",
+            "pack sentinel",
+            "pack Sentinel=0a",
+            "pack sentinel=0a hex",
+            "pack sentinel=0a sentinel=0a",
+            "pack hex sentinel=0a sentinel=0a",
+            "pack hex hex sentinel=0a",
+            "sentinel=0a",
+            "sentinel=0a pack",
+        ],
+    );
+}
