@@ -1,4 +1,5 @@
-use Rattle.std.proofs.Common.{arith}
+use Rattle.std.proofs.Common.{bit_xor, arith}
+use Rattle.std.proofs.lemmas.List.{length-take, length-set}
 use Rattle.cobs.specs.Held.{pushed}
 use Rattle.cobs.specs.Sentinel.{masked}
 use Rattle.cobs.proofs.Coding.{no_room, no_room_next}
@@ -32,3 +33,9 @@ returns-else-dest-at-2-clause-holds c =
 
 pub put_piece-requires-clause-laid : goal.put_piece-requires-clause-laid
 put_piece-requires-clause-laid c = (opens_masked c.args.sentinel c.args.dest.now c.args.at.code_at c.args.at.len c.requires.holds.laid (omega arith) c.if-at.true c.requires.holds.goes_on).0
+
+pub put_piece-requires-clause-room : goal.put_piece-requires-clause-room
+put_piece-requires-clause-room c = omega (arith, length-take c.min-n.result c.args.bytes.now, length-set c.args.dest.now c.args.at.len (bit_xor c.args.sentinel 1))
+
+pub put_piece-requires-clause-short : goal.put_piece-requires-clause-short
+put_piece-requires-clause-short c = omega (arith, length-take c.min-n.result c.args.bytes.now)
