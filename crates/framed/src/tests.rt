@@ -731,10 +731,12 @@ fn refuses_late_lines(rt: HostRuntime) {
 
 #[test]
 fn unpacks_long_streams(rt: HostRuntime) {
-    assert!(rt; is_long_right(rt.alloc(), UNPACK, FRAMES, SAID));
-    assert!(rt; is_long_right(rt.alloc(), STRICT, FRAMES, SAID));
-    assert!(rt; is_long_right(rt.alloc(), UNPACK_HEX, CAPITALS, SAID));
-    assert!(rt; is_long_right(rt.alloc(), STRICT_HEX, CAPITALS, SAID));
+    assert!(rt;
+        is_long_right(rt.alloc(), UNPACK, FRAMES, SAID)
+            && is_long_right(rt.alloc(), STRICT, FRAMES, SAID)
+            && is_long_right(rt.alloc(), UNPACK_HEX, CAPITALS, SAID)
+            && is_long_right(rt.alloc(), STRICT_HEX, CAPITALS, SAID)
+    );
 }
 
 /// Of a long stream whose reader fails, the lines of what it gave are written.
