@@ -1,15 +1,11 @@
-//! Tests of the libraries below `link`, by their public calls alone: outside vectors and worked rows, texts, each call
-//! once on its happy path, each generic one at a concrete type, writers and readers that fail.
+//! Tests of `postcard_de`, `postcard` and `samples`, by their public calls alone: outside vectors and worked rows, each
+//! call once on its happy path, each generic one at a concrete type, writers and readers that fail.
 //!
 //! They stand in a crate of their own because a crate with tests is proved twice, once with and once without them.
 #![tactic(auto)]
 
 #[cfg(test)]
 mod any_sentinel;
-#[cfg(test)]
-mod cobs_decoding;
-#[cfg(test)]
-mod cobs_encoding;
 #[cfg(test)]
 mod de;
 #[cfg(test)]
@@ -20,17 +16,3 @@ mod postcard_frames;
 mod postcard_reading;
 #[cfg(test)]
 mod postcard_writing;
-#[cfg(test)]
-mod ser_calls;
-#[cfg(test)]
-mod ser_flavors;
-#[cfg(test)]
-mod ser_frames;
-#[cfg(test)]
-mod ser_span;
-#[cfg(test)]
-mod ser_texts;
-#[cfg(test)]
-mod texts;
-#[cfg(test)]
-mod tree;

@@ -37,6 +37,19 @@ fn rows_in_arrays(rt: HostRuntime) {
 }
 
 #[test]
+fn another_sentinel(rt: HostRuntime) {
+    match Cobs::try_new_with_sentinel(HVec::<4>::new(), 0x0A) {
+        Ok(mut flavor) => {
+            assert!(rt; flavor.try_extend(&[0xAC]).is_ok() && flavor.try_push(2).is_ok());
+            assert!(rt;
+                matches!(&flavor.finalize(), Ok(frame) if frame[..] == [0x09, 0xA6, 0x08, 0x0A])
+            );
+        }
+        Err(_) => assert!(rt; false),
+    }
+}
+
+#[test]
 fn full_blocks(rt: HostRuntime) {
     match framed(&[1u8; 254], Cobs::try_new(AllocVec::new(rt.alloc()))) {
         Ok(frame) => {
