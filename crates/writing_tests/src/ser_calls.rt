@@ -47,34 +47,6 @@ fn numbers(rt: HostRuntime) {
     );
 }
 
-// The first and the last number of one, two and three groups, the first of four, and the longest of 64 bits.
-fn push_each_length<F: Flavor>(serializer: &mut Serializer<F>) -> bool {
-    serializer.serialize_u16(127).is_ok()
-        && serializer.serialize_u16(128).is_ok()
-        && serializer.serialize_u16(16383).is_ok()
-        && serializer.serialize_u16(16384).is_ok()
-        && serializer.serialize_u32(2097151).is_ok()
-        && serializer.serialize_u32(2097152).is_ok()
-        && serializer.serialize_u64(u64::MAX).is_ok()
-        && serializer.serialize_u128(18446744073709551616).is_ok()
-}
-
-#[test]
-fn numbers_of_each_length(rt: HostRuntime) {
-    let mut serializer = serializer::<64>();
-    assert!(rt; push_each_length(&mut serializer));
-    assert!(rt;
-        holds(
-            serializer,
-            &[
-                0x7F, 0x80, 0x01, 0xFF, 0x7F, 0x80, 0x80, 0x01, 0xFF, 0xFF, 0x7F, 0x80, 0x80, 0x80,
-                0x01, 0xFF, 0xFF, 0xFF, 0xFF, 0xFF, 0xFF, 0xFF, 0xFF, 0xFF, 0x01, 0x80, 0x80, 0x80,
-                0x80, 0x80, 0x80, 0x80, 0x80, 0x80, 0x02
-            ]
-        )
-    );
-}
-
 // Nothing of a number stays where it doesn't fit.
 #[test]
 fn numbers_are_refused_whole(rt: HostRuntime) {

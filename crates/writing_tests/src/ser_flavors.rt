@@ -37,30 +37,33 @@ fn fill(value: u32, room: &mut [u8]) -> Answer<usize>
     answer
 }
 
-/// Pushes a byte, changes it, and reads it.
-fn patch<B: IndexByte>(flavor: &mut B) -> Answer<u8> {
-    flavor.try_push(1)?;
-    let last = flavor.held().saturating_sub(1);
-    if last < flavor.held() {
-        flavor.set_byte(last, 9);
-        return Ok(flavor.byte(last));
+/// Whether a byte that is pushed can be changed.
+fn is_patched<B: IndexByte>(flavor: &mut B) -> bool {
+    let held = flavor.held();
+    if flavor.try_push(1).is_err() || held >= flavor.held() {
+        return false;
     }
-    Ok(0)
+    flavor.set_byte(held, 9);
+    flavor.byte(held) == 9
+}
+
+// Whether a slice of four bytes takes three and no more than one besides, and lets one be changed.
+fn fills<B: IndexByte>(slice: &mut B) -> bool {
+    if slice.try_extend(&[1, 2, 3]) != Ok(())
+        || slice.try_extend(&[4, 5]) != Err(Error::SerializeBufferFull)
+        || slice.held() != 3
+    {
+        return false;
+    }
+    slice.set_byte(0, 9);
+    slice.try_push(4) == Ok(()) && slice.try_push(5) == Err(Error::SerializeBufferFull)
 }
 
 #[test]
 fn slices(rt: HostRuntime) {
     let mut room = [0u8; 4];
     let mut slice = Slice::new(&mut room);
-    assert!(rt;
-        slice.try_extend(&[1, 2, 3]) == Ok(())
-            && slice.try_extend(&[4, 5]) == Err(Error::SerializeBufferFull)
-            && slice.held() == 3
-    );
-    slice.set_byte(0, 9);
-    assert!(rt;
-        slice.try_push(4) == Ok(()) && slice.try_push(5) == Err(Error::SerializeBufferFull)
-    );
+    assert!(rt; fills(&mut slice));
     match slice.finalize() {
         Ok(held) => assert!(rt; *held == *[9, 2, 3, 4].as_slice()),
         Err(_) => assert!(rt; false),
@@ -80,7 +83,7 @@ fn fixed_vectors(rt: HostRuntime) {
         vec.try_push(1) == Ok(())
             && vec.try_extend(&[2, 3]) == Err(Error::SerializeBufferFull)
             && vec.held() == 1
-            && patch(&mut vec) == Ok(9)
+            && is_patched(&mut vec)
             && vec.try_push(3) == Err(Error::SerializeBufferFull)
     );
     assert!(rt; matches!(&vec.finalize(), Ok(held) if held.as_slice() == [1, 9].as_slice()));
@@ -108,7 +111,7 @@ fn growing_vectors(rt: HostRuntime) {
     let mut vec: StdVec = AllocVec::new(rt.alloc());
     assert!(rt;
         vec.try_extend(&[1, 2]) == Ok(())
-            && patch(&mut vec) == Ok(9)
+            && is_patched(&mut vec)
             && is_held(vec.finalize(), &[1, 2, 9])
     );
 }

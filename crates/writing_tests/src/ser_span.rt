@@ -8,13 +8,8 @@ fn bytes_are_written(rt: HostRuntime) {
     span.push(7);
     span.push_slice(&[1, 2]);
     span.set_byte(0, 9);
-    assert!(rt;
-        span.byte(0) == 9
-            && span.count() == 3
-            && span.remaining() == 1
-            && span.front(1) == [0].as_slice()
-            && &*span.into_behind() == [9, 1, 2].as_slice()
-    );
+    assert!(rt; span.byte(0) == 9 && span.count() == 3 && span.remaining() == 1);
+    assert!(rt; span.front(1) == [0].as_slice() && &*span.into_behind() == [9, 1, 2].as_slice());
 }
 
 #[test]
@@ -24,11 +19,8 @@ fn a_front_stays_while_the_rest_is_written(rt: HostRuntime) {
     rest.push(8);
     front[0] = 9;
     rest.push(7);
-    assert!(rt;
-        &*front == [9, 2].as_slice()
-            && &*rest.into_behind() == [8, 7].as_slice()
-            && buffer == [9, 2, 8, 7]
-    );
+    assert!(rt; &*front == [9, 2].as_slice() && &*rest.into_behind() == [8, 7].as_slice());
+    assert!(rt; buffer == [9, 2, 8, 7]);
 }
 
 #[test]

@@ -6,18 +6,14 @@ use std::process::Abort;
 
 // A value is shown as this text.
 fn shows<R: AllocGlobal + Abort>(rt: &R, value: &impl Display, text: &str) {
-    match format!(in rt.alloc(); "{value}") {
-        Ok(shown) => assert!(rt; shown.as_str() == text),
-        Err(_) => assert!(rt; false),
-    }
+    let shown = format!(in rt.alloc(); "{value}");
+    assert!(rt; matches!(&shown, Ok(shown) if shown.as_str() == text));
 }
 
 // A value is shown so to a maintainer.
 fn names<R: AllocGlobal + Abort>(rt: &R, value: &impl Debug, text: &str) {
-    match format!(in rt.alloc(); "{value:?}") {
-        Ok(shown) => assert!(rt; shown.as_str() == text),
-        Err(_) => assert!(rt; false),
-    }
+    let shown = format!(in rt.alloc(); "{value:?}");
+    assert!(rt; matches!(&shown, Ok(shown) if shown.as_str() == text));
 }
 
 #[test]

@@ -9,13 +9,23 @@ use postcard_tree::varint::{
 use std::collections::BTreeMap;
 use std::process::Abort;
 
+// Whether a number of 16 bits is spelled so.
+fn spells_short(value: u16, bytes: &[u8]) -> bool {
+    *varint_u16(value, &mut [0; 3]) == *bytes
+}
+
+// Whether a number of 64 bits is spelled so.
+fn spells_long(value: u64, bytes: &[u8]) -> bool {
+    *varint_u64(value, &mut [0; 10]) == *bytes
+}
+
 #[test]
 fn numbers_are_spelled_shortest(rt: HostRuntime) {
     assert!(rt;
-        &*varint_u16(16384, &mut [0; 3]) == [0x80, 0x80, 0x01].as_slice()
-            && &*varint_u16(42439, &mut [0; 3]) == [0xC7, 0xCB, 0x02].as_slice()
-            && &*varint_u32(3450549266, &mut [0; 5]) == [0x92, 0xE8, 0xAC, 0xED, 0x0C].as_slice()
-            && &*varint_u64(0, &mut [0; 10]) == [0].as_slice()
+        spells_short(16384, &[0x80, 0x80, 0x01])
+            && spells_short(42439, &[0xC7, 0xCB, 0x02])
+            && spells_long(0, &[0])
+            && *varint_u32(3450549266, &mut [0; 5]) == *[0x92, 0xE8, 0xAC, 0xED, 0x0C].as_slice()
     );
 }
 
@@ -29,8 +39,8 @@ fn numbers_are_spelled_in_front(rt: HostRuntime) {
 fn greatest_numbers_are_spelled_shortest(rt: HostRuntime) {
     let greatest = [0xFF, 0xFF, 0xFF, 0xFF, 0xFF, 0xFF, 0xFF, 0xFF, 0xFF, 0x01];
     assert!(rt;
-        &*varint_u64(u64::MAX, &mut [0; 10]) == greatest.as_slice()
-            && &*varint_usize(usize::MAX, &mut [0; 10]) == greatest.as_slice()
+        spells_long(u64::MAX, &greatest)
+            && *varint_usize(usize::MAX, &mut [0; 10]) == *greatest.as_slice()
             && varint_u128(u128::MAX, &mut [0; 19]).len() == 19
     );
 }
@@ -55,13 +65,16 @@ fn numbers_have_their_limits(rt: HostRuntime) {
     check_limits::<i128>(&rt, 19, 3);
 }
 
+// Whether a number's bytes are these from its last one on, and those from its first.
+fn is_put<T: FixInt>(value: T, little: &[u8], big: &[u8]) -> bool {
+    *LE(value).put(&mut [0; 16]) == *little && *BE(value).put(&mut [0; 16]) == *big
+}
+
 #[test]
 fn fixed_numbers_are_their_bytes(rt: HostRuntime) {
     assert!(rt;
-        &*LE(0xABCDu16).put(&mut [0; 16]) == [0xCD, 0xAB].as_slice()
-            && &*BE(0xABCDu16).put(&mut [0; 16]) == [0xAB, 0xCD].as_slice()
-            && &*LE(-2i16).put(&mut [0; 16]) == [0xFE, 0xFF].as_slice()
-            && &*BE(-2i16).put(&mut [0; 16]) == [0xFF, 0xFE].as_slice()
+        is_put(0xABCDu16, &[0xCD, 0xAB], &[0xAB, 0xCD])
+            && is_put(-2i16, &[0xFE, 0xFF], &[0xFF, 0xFE])
             && LE::<i16>::from_bytes(&[0xFE, 0xFF]).0 == -2
             && BE::<u16>::from_bytes(&[0xAB, 0xCD]).0 == 0xABCD
     );
