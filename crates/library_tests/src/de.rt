@@ -2,7 +2,7 @@
 use arrayvec::{ArrayString, ArrayVec};
 use postcard_de::de_flavors::io::IOReader;
 use postcard_de::de_flavors::{Bytes, Flavor, Slice};
-use postcard_de::{Deserialize, DeserializeOwned, Deserializer};
+use postcard_de::{Deserialize, DeserializeOwned, Deserializer, SeqAccess};
 use postcard_tree::{Error, Result};
 use std::alloc::Global;
 use std::collections::BTreeMap;
@@ -19,18 +19,6 @@ fn read_owned<T: DeserializeOwned>(alloc: Global, bytes: &[u8]) -> Result<(T, us
     let mut d = Deserializer::from_bytes(alloc, bytes);
     let value = T::deserialize_owned(&mut d)?;
     let rest = d.finalize()?;
-    Ok((value, rest.len()))
-}
-
-// A value by a reader, and how much of the buffer is left.
-fn read_by<'a, T: Deserialize<&'a [u8]>, R: Read + Drop>(
-    alloc: Global,
-    reader: R,
-    buffer: &'a mut [u8],
-) -> Result<(T, usize)> {
-    let mut d = Deserializer::from_flavor(alloc, IOReader::new(reader, buffer));
-    let value = T::deserialize(&mut d)?;
-    let (_, rest) = d.finalize()?;
     Ok((value, rest.len()))
 }
 
@@ -73,10 +61,21 @@ fn a_slice_gives_its_bytes(rt: HostRuntime) {
         slice.pop() == Ok(1)
             && slice.size_hint() == Some(3)
             && slice.try_take_n(4) == Err(Error::DeserializeUnexpectedEnd)
-            && slice.try_take_n_temp(1) == Ok([2].as_slice())
+    );
+    assert!(rt;
+        slice.try_take_n_temp(1) == Ok([2].as_slice())
             && slice.try_take_n(1) == Ok([3].as_slice())
             && slice.finalize() == Ok([4].as_slice())
     );
+}
+
+// Whether three bytes are given one after another, and no more, by a source that foretells none.
+fn gives_three_bytes<F: Flavor>(source: &mut F) -> bool {
+    source.size_hint() == None
+        && source.pop() == Ok(0xAA)
+        && source.pop() == Ok(0xBB)
+        && source.pop() == Ok(0xCC)
+        && source.pop() == Err(Error::DeserializeUnexpectedEnd)
 }
 
 #[test]
@@ -84,11 +83,7 @@ fn a_reader_needs_no_buffer_for_a_byte(rt: HostRuntime) {
     let bytes = [0xAA, 0xBB, 0xCC];
     let mut none = [0u8; 0];
     let mut reader = IOReader::new(&bytes[..], &mut none);
-    assert!(rt; reader.size_hint() == None);
-    for byte in [0xAA, 0xBB, 0xCC] {
-        assert!(rt; reader.pop() == Ok(byte));
-    }
-    assert!(rt; reader.pop() == Err(Error::DeserializeUnexpectedEnd));
+    assert!(rt; gives_three_bytes(&mut reader));
 }
 
 #[test]
@@ -107,45 +102,22 @@ fn bytes_by_a_reader_use_the_buffer(rt: HostRuntime) {
     }
 }
 
+// Whether three bytes are refused by each call, and given by two others.
+fn refuses_three_bytes<F: Flavor>(source: &mut F) -> bool {
+    source.try_take_n(3).err() == Some(Error::DeserializeUnexpectedEnd)
+        && source.try_take_n_temp(3) == Err(Error::DeserializeUnexpectedEnd)
+        && source.try_take_n_temp(2) == Ok([1, 2].as_slice())
+        && source.pop() == Ok(3)
+}
+
 #[test]
 fn a_buffer_that_is_too_small_stays_whole(rt: HostRuntime) {
     let bytes = [1, 2, 3];
     let mut buffer = [0u8; 2];
     let mut reader = IOReader::new(&bytes[..], &mut buffer);
-    assert!(rt;
-        reader.try_take_n(3) == Err(Error::DeserializeUnexpectedEnd)
-            && reader.try_take_n_temp(3) == Err(Error::DeserializeUnexpectedEnd)
-            && reader.try_take_n_temp(2) == Ok([1, 2].as_slice())
-            && reader.pop() == Ok(3)
-    );
+    assert!(rt; refuses_three_bytes(&mut reader));
     match reader.finalize() {
         Ok((left, rest)) => assert!(rt; left.is_empty() && rest.len() == 2),
-        Err(_) => assert!(rt; false),
-    }
-}
-
-// Two texts, "ab" and "cd".
-const TEXTS: [u8; 6] = [2, 0x61, 0x62, 2, 0x63, 0x64];
-
-#[test]
-fn lent_texts_by_a_reader(rt: HostRuntime) {
-    let mut four = [0u8; 4];
-    let read = read_by::<(&str, &str), _>(rt.alloc(), &TEXTS[..], &mut four);
-    assert!(rt; read == Ok((("ab", "cd"), 0)));
-}
-
-#[test]
-fn lent_texts_without_room(rt: HostRuntime) {
-    let mut three = [0u8; 3];
-    let read = read_by::<(&str, &str), _>(rt.alloc(), &TEXTS[..], &mut three);
-    assert!(rt; read == Err(Error::DeserializeUnexpectedEnd));
-}
-
-#[test]
-fn texts_of_their_own_by_a_reader(rt: HostRuntime) {
-    let mut two = [0u8; 2];
-    match read_by::<(String, String), _>(rt.alloc(), &TEXTS[..], &mut two) {
-        Ok(((a, b), left)) => assert!(rt; a.as_str() == "ab" && b.as_str() == "cd" && left == 2),
         Err(_) => assert!(rt; false),
     }
 }
@@ -160,8 +132,10 @@ fn read_broken(alloc: Global, count: usize, interrupted: bool) -> Result<bool> {
         rest,
     };
     let mut buffer = [0u8; 6];
-    let read = read_by::<(u8, u32, &str), _>(alloc, reader, &mut buffer);
-    read.map(|answer| answer == ((1, 10, "Hello!"), 0))
+    let mut d = Deserializer::from_flavor(alloc, IOReader::new(reader, &mut buffer));
+    let value = <(u8, u32, &str)>::deserialize(&mut d)?;
+    let (_, room) = d.finalize()?;
+    Ok(value == (1, 10, "Hello!") && room.is_empty())
 }
 
 #[test]
@@ -193,69 +167,91 @@ fn the_rest_after_a_tuple(rt: HostRuntime) {
     );
 }
 
+// Whether each call for an unsigned number reads the next of these.
+fn reads_unsigned_numbers<F: Flavor>(d: &mut Deserializer<F>) -> bool {
+    d.deserialize_bool() == Ok(true)
+        && d.deserialize_u8() == Ok(7)
+        && d.deserialize_u16() == Ok(42439)
+        && d.deserialize_u32() == Ok(3450549266)
+        && d.deserialize_u64() == Ok(128)
+        && d.deserialize_u128() == Ok(129)
+        && d.deserialize_enum() == Ok(5)
+}
+
 #[test]
 fn each_call_for_an_unsigned_number(rt: HostRuntime) {
     let bytes = [
         1, 7, 0xC7, 0xCB, 0x02, 0x92, 0xE8, 0xAC, 0xED, 0x0C, 0x80, 0x01, 0x81, 0x01, 5,
     ];
     let mut d = Deserializer::from_bytes(rt.alloc(), &bytes);
-    assert!(rt;
-        d.deserialize_bool() == Ok(true)
-            && d.deserialize_u8() == Ok(7)
-            && d.deserialize_u16() == Ok(42439)
-            && d.deserialize_u32() == Ok(3450549266)
-            && d.deserialize_u64() == Ok(128)
-            && d.deserialize_u128() == Ok(129)
-    );
-    assert!(rt; d.deserialize_enum() == Ok(5));
+    assert!(rt; reads_unsigned_numbers(&mut d));
+}
+
+// Whether each call for a signed number reads the next of these.
+fn reads_signed_numbers<F: Flavor>(d: &mut Deserializer<F>) -> bool {
+    d.deserialize_i8() == Ok(-1)
+        && d.deserialize_i16() == Ok(32767)
+        && d.deserialize_i32() == Ok(-2)
+        && d.deserialize_i64() == Ok(-1)
+        && d.deserialize_i128() == Ok(1)
 }
 
 #[test]
 fn each_call_for_a_signed_number(rt: HostRuntime) {
     let bytes = [0xFF, 0xFE, 0xFF, 0x03, 0x03, 0x01, 0x02];
     let mut d = Deserializer::from_bytes(rt.alloc(), &bytes);
-    assert!(rt;
-        d.deserialize_i8() == Ok(-1)
-            && d.deserialize_i16() == Ok(32767)
-            && d.deserialize_i32() == Ok(-2)
-            && d.deserialize_i64() == Ok(-1)
-            && d.deserialize_i128() == Ok(1)
-    );
+    assert!(rt; reads_signed_numbers(&mut d));
+}
+
+// Whether the calls that read nothing answer, where there is nothing to read.
+fn reads_nothing<F: Flavor>(d: &mut Deserializer<F>) -> bool {
+    !d.is_human_readable()
+        && d.unit_variant() == Ok(())
+        && d.deserialize_unit() == Ok(())
+        && d.deserialize_unit_struct() == Ok(())
+        && d.deserialize_u16() == Err(Error::DeserializeUnexpectedEnd)
 }
 
 #[test]
 fn each_call_for_nothing(rt: HostRuntime) {
     let mut d = Deserializer::from_bytes(rt.alloc(), &[]);
-    assert!(rt;
-        !d.is_human_readable()
-            && d.unit_variant() == Ok(())
-            && d.deserialize_unit() == Ok(())
-            && d.deserialize_unit_struct() == Ok(())
-            && d.deserialize_u16() == Err(Error::DeserializeUnexpectedEnd)
-    );
+    assert!(rt; reads_nothing(&mut d));
+}
+
+// Whether a character and a text to keep are the next to be read.
+fn reads_texts_to_keep<F: Flavor>(d: &mut Deserializer<F>) -> bool {
+    d.deserialize_char() == Ok('z')
+        && matches!(&d.deserialize_string(), Ok(text) if text.as_str() == "c")
 }
 
 #[test]
 fn each_call_for_a_text(rt: HostRuntime) {
-    let bytes = [1, 0x7A, 2, 0x61, 0x62, 1, 0x63];
-    let mut d = Deserializer::from_bytes(rt.alloc(), &bytes);
-    assert!(rt;
-        d.deserialize_char() == Ok('z')
-            && d.deserialize_str() == Ok([0x61, 0x62].as_slice())
-            && matches!(&d.deserialize_string(), Ok(text) if text.as_str() == "c")
-    );
+    let mut d = Deserializer::from_bytes(rt.alloc(), &[1, 0x7A, 1, 0x63, 2, 0x61, 0x62]);
+    assert!(rt; reads_texts_to_keep(&mut d) && d.deserialize_str() == Ok([0x61, 0x62].as_slice()));
+}
+
+// Whether bytes to keep are the next to be read.
+fn reads_bytes_to_keep<F: Flavor>(d: &mut Deserializer<F>) -> bool {
+    matches!(&d.deserialize_byte_buf(), Ok(bytes) if bytes[..] == [7])
 }
 
 #[test]
 fn each_call_for_bytes(rt: HostRuntime) {
-    let mut d = Deserializer::from_bytes(rt.alloc(), &[2, 9, 8, 1, 7, 1, 6, 5]);
-    assert!(rt;
-        d.deserialize_bytes() == Ok([9, 8].as_slice())
-            && matches!(&d.deserialize_byte_buf(), Ok(bytes) if bytes[..] == [7])
-            && d.deserialize_option() == Ok(true)
-            && d.deserialize_newtype_struct::<u8>() == Ok(6)
-            && d.newtype_variant::<u8>() == Ok(5)
-    );
+    let mut d = Deserializer::from_bytes(rt.alloc(), &[1, 7, 2, 9, 8]);
+    assert!(rt; reads_bytes_to_keep(&mut d) && d.deserialize_bytes() == Ok([9, 8].as_slice()));
+}
+
+// Whether an option and two numbers inside others are the next to be read.
+fn reads_wrapped_numbers<F: Flavor>(d: &mut Deserializer<F>) -> bool {
+    d.deserialize_option() == Ok(true)
+        && d.deserialize_newtype_struct::<u8>() == Ok(6)
+        && d.newtype_variant::<u8>() == Ok(5)
+}
+
+#[test]
+fn each_call_for_what_wraps_a_value(rt: HostRuntime) {
+    let mut d = Deserializer::from_bytes(rt.alloc(), &[1, 6, 5]);
+    assert!(rt; reads_wrapped_numbers(&mut d));
 }
 
 // More elements than get room before they are read, all of them and all but the last.
@@ -291,109 +287,115 @@ fn counts_alone(rt: HostRuntime) {
     assert!(rt; read::<Vec<u8>>(rt.alloc(), &bytes).err() == Some(Error::DeserializeBadVarint));
 }
 
+// Whether the calls that never answer leave the next byte to be read.
+fn never_answers<F: Flavor>(d: &mut Deserializer<F>) -> bool {
+    d.deserialize_any() == Err(Error::WontImplement)
+        && d.deserialize_identifier() == Err(Error::WontImplement)
+        && d.deserialize_ignored_any() == Err(Error::WontImplement)
+        && d.deserialize_u8() == Ok(3)
+}
+
 #[test]
 fn calls_that_never_answer_read_nothing(rt: HostRuntime) {
     let mut d = Deserializer::from_bytes(rt.alloc(), &[3]);
-    assert!(rt;
-        d.deserialize_any() == Err(Error::WontImplement)
-            && d.deserialize_identifier() == Err(Error::WontImplement)
-            && d.deserialize_ignored_any() == Err(Error::WontImplement)
-            && d.deserialize_u8() == Ok(3)
-    );
+    assert!(rt; never_answers(&mut d));
+}
+
+// Whether three parts are foretold, of which the last one is refused, and nothing is answered behind them.
+fn reads_parts<F: Flavor>(d: &mut Deserializer<F>) -> bool {
+    match d.deserialize_seq() {
+        Ok(mut parts) => {
+            parts.size_hint() == Some(3)
+                && parts.next_element::<u8>() == Ok(Some(1))
+                && parts.next_element_owned::<u8>() == Ok(Some(2))
+                && parts.next_element::<bool>() == Err(Error::DeserializeBadBool)
+                && parts.next_element::<u8>() == Ok(None)
+        }
+        Err(_) => false,
+    }
 }
 
 #[test]
 fn parts_one_at_a_time(rt: HostRuntime) {
     let mut d = Deserializer::from_bytes(rt.alloc(), &[3, 1, 2, 2]);
-    match d.deserialize_seq() {
-        Ok(mut seq) => {
-            assert!(rt;
-                seq.size_hint() == Some(3)
-                    && seq.next_element::<u8>() == Ok(Some(1))
-                    && seq.next_element_owned::<u8>() == Ok(Some(2))
-                    && seq.next_element::<bool>() == Err(Error::DeserializeBadBool)
-                    && seq.next_element::<u8>() == Ok(None)
-            );
-        }
-        Err(_) => assert!(rt; false),
+    assert!(rt; reads_parts(&mut d));
+}
+
+// How many parts are foretold, where parts are answered at all.
+fn foretold<F: Flavor>(parts: Result<SeqAccess<'_, F>>) -> Option<Option<usize>> {
+    match parts {
+        Ok(parts) => Some(parts.size_hint()),
+        Err(_) => None,
     }
+}
+
+// Whether counts are foretold that the bytes have room for, and no others.
+fn foretells_counts<F: Flavor>(d: &mut Deserializer<F>) -> bool {
+    foretold(d.deserialize_tuple(1)) == Some(Some(1))
+        && foretold(d.deserialize_tuple_struct(9)) == Some(None)
+        && foretold(d.deserialize_struct(1)) == Some(Some(1))
+        && foretold(d.tuple_variant(1)) == Some(Some(1))
+        && foretold(d.struct_variant(1)) == Some(Some(1))
 }
 
 #[test]
 fn counts_of_parts(rt: HostRuntime) {
     let mut d = Deserializer::from_bytes(rt.alloc(), &[5, 6, 1, 7, 8, 9, 4, 0x80]);
-    match d.deserialize_tuple(1) {
-        Ok(parts) => assert!(rt; parts.size_hint() == Some(1)),
-        Err(_) => assert!(rt; false),
-    }
-    match d.deserialize_tuple_struct(9) {
-        Ok(parts) => assert!(rt; parts.size_hint() == None),
-        Err(_) => assert!(rt; false),
-    }
-    match d.deserialize_struct(1) {
-        Ok(parts) => assert!(rt; parts.size_hint() == Some(1)),
-        Err(_) => assert!(rt; false),
-    }
+    assert!(rt; foretells_counts(&mut d));
 }
 
-#[test]
-fn counts_of_parts_of_variants(rt: HostRuntime) {
-    let mut d = Deserializer::from_bytes(rt.alloc(), &[5, 6, 1, 7, 8, 9, 4, 0x80]);
-    match d.tuple_variant(1) {
-        Ok(parts) => assert!(rt; parts.size_hint() == Some(1)),
-        Err(_) => assert!(rt; false),
-    }
-    match d.struct_variant(1) {
-        Ok(parts) => assert!(rt; parts.size_hint() == Some(1)),
-        Err(_) => assert!(rt; false),
+// Whether two entries are foretold and read, by both kinds of calls, and nothing is answered behind them.
+fn reads_entries<F: Flavor>(d: &mut Deserializer<F>) -> bool {
+    match d.deserialize_map() {
+        Ok(mut map) => {
+            map.size_hint() == Some(2)
+                && map.next_key::<u8>() == Ok(Some(5))
+                && map.next_value::<u8>() == Ok(6)
+                && map.next_key_owned::<u8>() == Ok(Some(1))
+                && map.next_value_owned::<u8>() == Ok(7)
+                && map.next_key::<u8>() == Ok(None)
+        }
+        Err(_) => false,
     }
 }
 
 #[test]
 fn entries_one_at_a_time(rt: HostRuntime) {
     let mut d = Deserializer::from_bytes(rt.alloc(), &[2, 5, 6, 1, 7]);
-    match d.deserialize_map() {
-        Ok(mut map) => {
-            assert!(rt;
-                map.size_hint() == Some(2)
-                    && map.next_key::<u8>() == Ok(Some(5))
-                    && map.next_value::<u8>() == Ok(6)
-                    && map.next_key_owned::<u8>() == Ok(Some(1))
-                    && map.next_value_owned::<u8>() == Ok(7)
-                    && map.next_key::<u8>() == Ok(None)
-            );
-        }
-        Err(_) => assert!(rt; false),
-    }
+    assert!(rt; reads_entries(&mut d));
 }
 
 #[test]
-fn containers_and_texts(rt: HostRuntime) {
-    let a = rt.alloc();
-    assert!(rt; read::<std::result::Result<u8, bool>>(a, &[1, 1]) == Ok(Err(true)));
-    assert!(rt; matches!(&read::<Box<u8>>(a, &[7]), Ok(boxed) if **boxed == 7));
+fn containers(rt: HostRuntime) {
+    type Either = std::result::Result<u8, bool>;
+    assert!(rt; read::<Either>(rt.alloc(), &[1, 1]) == Ok(Err(true)));
+    assert!(rt; matches!(&read::<Box<u8>>(rt.alloc(), &[7]), Ok(boxed) if **boxed == 7));
+}
+
+#[test]
+fn texts_in_fixed_room(rt: HostRuntime) {
     let hi = [3, 0x48, 0x69, 0x21];
-    assert!(rt;
-        matches!(&read::<ArrayString<3>>(a, &hi), Ok(text) if text.as_str() == "Hi!")
-            && read::<ArrayString<2>>(a, &hi).err() == Some(Error::SerdeDeCustom)
-    );
+    let read_whole = read::<ArrayString<3>>(rt.alloc(), &hi);
+    assert!(rt; matches!(&read_whole, Ok(text) if text.as_str() == "Hi!"));
+    assert!(rt; read::<ArrayString<2>>(rt.alloc(), &hi).err() == Some(Error::SerdeDeCustom));
+}
+
+type Whole = (Option<u8>, Vec<u8>, String, BTreeMap<u8, u8>, [u8; 1], ());
+
+// Whether each part is the one that was sent.
+fn is_whole(value: &Whole) -> bool {
+    value.0 == Some(9)
+        && value.1[..] == [3]
+        && value.2.as_str() == "a"
+        && value.3.get(&4) == Some(&5)
+        && value.4 == [6]
 }
 
 #[test]
 fn what_borrows_nothing(rt: HostRuntime) {
     let bytes = [1, 9, 1, 3, 1, 0x61, 1, 4, 5, 6, 0];
-    type Whole = (Option<u8>, Vec<u8>, String, BTreeMap<u8, u8>, [u8; 1], ());
     match read_owned::<Whole>(rt.alloc(), &bytes) {
-        Ok((value, rest)) => {
-            assert!(rt;
-                value.0 == Some(9)
-                    && value.1[..] == [3]
-                    && value.2.as_str() == "a"
-                    && value.3.get(&4) == Some(&5)
-                    && value.4 == [6]
-                    && rest == 1
-            );
-        }
+        Ok((value, rest)) => assert!(rt; is_whole(&value) && rest == 1),
         Err(_) => assert!(rt; false),
     }
 }

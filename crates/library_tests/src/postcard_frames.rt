@@ -30,7 +30,7 @@ fn exact_room(rt: HostRuntime) {
 }
 
 // What an accumulator answered, in short: C, O, D or S, how many bytes are left, and the value.
-fn told(answer: FeedResult<'_, u8>) -> (char, usize, u8) {
+pub(crate) fn told(answer: FeedResult<'_, u8>) -> (char, usize, u8) {
     match answer {
         FeedResult::Consumed => ('C', 0, 0),
         FeedResult::OverFull(rest) => ('O', rest.len(), 0),
