@@ -28,51 +28,45 @@ fn front_of_a_frame(rt: HostRuntime) {
     );
 }
 
-// The frame of 254 ones, which are masked as a run, and of a 7.
-fn long_frame() -> [u8; 257] {
-    let mut frame = [0u8; 257];
-    frame[0] = 254;
-    frame[255] = 3;
-    frame[256] = 6;
-    frame
-}
-
-#[test]
-fn full_block_is_encoded(rt: HostRuntime) {
-    let mut room = [0u8; 257];
-    let mut encoder = CobsEncoder::new_with_sentinel(&mut room, 1);
-    assert!(rt;
-        encoder.push(&[1; 254]).is_ok()
-            && encoder.push(&[7]).is_ok()
-            && encoder.finalize() == 257
-            && room == long_frame()
-    );
-}
-
-#[test]
-fn full_block_is_decoded(rt: HostRuntime) {
+// Whether a frame for the sentinel 1 is that of 254 ones and a 7. The ones are masked as a run.
+fn is_full_block(frame: &[u8]) -> bool {
     let mut room = [0u8; 255];
     let mut decoder = CobsDecoder::new_with_sentinel(&mut room, 1);
+    decoder.push(frame) == Ok(None)
+        && decoder.feed(1) == Ok(Some(255))
+        && decoder.dest().starts_with(&[1; 254])
+        && decoder.dest().ends_with(&[7])
+}
+
+#[test]
+fn full_block(rt: HostRuntime) {
+    let mut frame = [0u8; 257];
+    let mut encoder = CobsEncoder::new_with_sentinel(&mut frame, 1);
     assert!(rt;
-        decoder.push(&long_frame()) == Ok(None)
-            && decoder.feed(1) == Ok(Some(255))
-            && decoder.dest()[..254] == [1; 254]
-            && decoder.dest()[254..] == [7]
+        encoder.push(&[1; 254]).is_ok() && encoder.push(&[7]).is_ok() && encoder.finalize() == 257
     );
+    assert!(rt;
+        frame[0] == 254
+            && frame[1..255] == [0; 254]
+            && frame[255..] == [3, 6]
+            && is_full_block(&frame)
+    );
+}
+
+// Whether a decoder that is reset in a frame takes the next one whole.
+fn begins_again(decoder: &mut CobsDecoderOwned) -> bool {
+    let cut = decoder.push(&FRAME[..3]);
+    decoder.reset();
+    cut == Ok(None)
+        && decoder.push(&FRAME) == Ok(None)
+        && decoder.feed(10) == Ok(Some(4))
+        && decoder.dest() == [10, 11, 0, 12].as_slice()
 }
 
 #[test]
 fn decoder_that_keeps_a_vector(rt: HostRuntime) {
     match CobsDecoderOwned::new_with_sentinel(rt.alloc(), 4, 10) {
-        Ok(mut decoder) => {
-            assert!(rt; decoder.push(&FRAME[..3]) == Ok(None));
-            decoder.reset();
-            assert!(rt;
-                decoder.push(&FRAME) == Ok(None)
-                    && decoder.feed(10) == Ok(Some(4))
-                    && decoder.dest() == [10, 11, 0, 12].as_slice()
-            );
-        }
+        Ok(mut decoder) => assert!(rt; begins_again(&mut decoder)),
         Err(_) => assert!(rt; false),
     }
 }
