@@ -1,10 +1,15 @@
-//! The declarations of message types.
+//! The declarations of message types, which lend their words from the tokens that they were read from.
+use crate::tokens::{Token, is_lifetime};
 
-/// A field: its name, or its place where it has none, and its type as it is written.
-#[derive(Drop)]
-pub struct Field {
-    pub name: String,
-    pub of: String,
+/// A field.
+#[derive(Clone, Copy, Drop)]
+pub struct Field<'a> {
+    /// Its place among the fields.
+    pub place: usize,
+    /// Its name; empty where it has none.
+    pub name: &'a str,
+    /// The words of its type.
+    pub of: &'a [Token],
 }
 
 /// How fields are written.
@@ -20,23 +25,23 @@ pub enum Form {
 
 /// The fields of a struct or of a variant.
 #[derive(Drop)]
-pub struct Fields {
+pub struct Fields<'a> {
     pub form: Form,
-    pub items: Vec<Field>,
+    pub items: Vec<Field<'a>>,
 }
 
 /// A variant of an enum.
 #[derive(Drop)]
-pub struct VariantOf {
-    pub name: String,
-    pub fields: Fields,
+pub struct VariantOf<'a> {
+    pub name: &'a str,
+    pub fields: Fields<'a>,
 }
 
 /// What is declared.
 #[derive(Drop)]
-pub enum Body {
-    Struct(Fields),
-    Enum(Vec<VariantOf>),
+pub enum Body<'a> {
+    Struct(Fields<'a>),
+    Enum(Vec<VariantOf<'a>>),
 }
 
 /// What a declaration is marked for, besides being written and read.
@@ -50,10 +55,22 @@ pub struct Marks {
 
 /// A message type.
 #[derive(Drop)]
-pub struct Declaration {
-    pub name: String,
+pub struct Declaration<'a> {
+    pub name: &'a str,
     /// Its lifetimes and type parameters.
-    pub parameters: Vec<String>,
-    pub body: Body,
+    pub parameters: Vec<&'a str>,
+    pub body: Body<'a>,
     pub marks: Marks,
+}
+
+impl Declaration<'_> {
+    /// Whether it has a parameter that is no lifetime.
+    pub fn is_generic(&self) -> bool {
+        for parameter in &self.parameters {
+            if !is_lifetime(parameter) {
+                return true;
+            }
+        }
+        false
+    }
 }

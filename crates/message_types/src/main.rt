@@ -9,13 +9,17 @@
 
 mod declarations;
 mod enums;
+mod names;
 mod parser;
+mod parts;
 mod printer;
 mod structs;
+mod text;
 mod tokens;
 mod trouble;
 
 use crate::printer::write_all;
+use crate::text::Text;
 use crate::tokens::{Token, read_line};
 use crate::trouble::{Fault, Trouble};
 use std::alloc::Global;
@@ -23,24 +27,23 @@ use std::io::{BufRead, BufReader, BufWriter, ErrorKind, Write};
 use std::process::ExitCode;
 use std::{env, io};
 
-/// The module of these words, as the path of its definitions: the crate, and the modules in it.
+/// The module that is named behind the program, as the path of its definitions: the crate, and the modules in it.
 fn module_path(alloc: Global, words: &[String]) -> io::Result<Option<String>> {
-    let Some((name, modules)) = words.split_first() else {
+    let [_, name, modules @ ..] = words else {
         return Ok(None);
     };
-    let mut path = String::from_str(alloc, name.as_str())?;
-    path.push_str(".specs.declared")?;
+    let mut path = Text::new(alloc);
+    path.put(&[name.as_str(), ".specs.declared"]);
     for module in modules {
-        path.push('.')?;
-        path.push_str(module.as_str())?;
+        path.put(&[".", module.as_str()]);
     }
-    Ok(Some(path))
+    Ok(Some(path.finished()?))
 }
 
-/// The words behind the program's name.
+/// The words that the program was called by, its name first.
 fn arguments(rt: &HostRuntime) -> io::Result<Vec<String>> {
     let mut words = Vec::new(rt.alloc());
-    for word in env::args(rt)?.skip(1) {
+    for word in env::args(rt)? {
         words.push(word)?;
     }
     Ok(words)

@@ -1,11 +1,52 @@
 //! From tokens to declarations.
 use crate::declarations::{Body, Declaration, Field, Fields, Form, Marks, VariantOf};
-use crate::tokens::Token;
+use crate::text::Text;
+use crate::tokens::{Token, first_letter, is_among, is_lifetime};
 use crate::trouble::{Fault, Trouble};
-use std::alloc::{AllocError, Global};
+use std::alloc::Global;
 
 /// How many fields a struct or a variant can have.
 const MOST_FIELDS: usize = 36;
+
+/// What is said of more.
+const TOO_MANY: &str = "more than 36 fields: make some of them a struct";
+
+/// The types of the language that a message can hold.
+const PLAIN: &[&str] = &[
+    "bool", "char", "str", "u8", "u16", "u32", "u64", "u128", "usize", "i8", "i16", "i32", "i64",
+    "i128", "isize",
+];
+
+/// Types of std that no message can hold.
+const NO_MESSAGES: &[&str] = &[
+    "HashMap",
+    "HashSet",
+    "BTreeSet",
+    "VecDeque",
+    "Rc",
+    "Arc",
+    "Cow",
+    "Cell",
+    "RefCell",
+    "PhantomData",
+    "Duration",
+    "Instant",
+    "Wrapping",
+];
+
+/// Names that are brought in beside the types.
+const OF_POSTCARD: &[&str] = &[
+    "Last",
+    "Variant",
+    "Variants4",
+    "Flavor",
+    "Serializer",
+    "Serialize",
+    "Readable",
+];
+
+/// What has no greatest size.
+const NO_GREATEST_SIZE: &[&str] = &["&", "String", "Vec", "BTreeMap"];
 
 /// Reads declarations from the front of tokens.
 #[derive(Drop)]
@@ -19,36 +60,9 @@ struct Parser<'a> {
     marks: Marks,
 }
 
-/// Whether a word is a type of the language that a message can hold.
-fn is_plain(word: &str) -> bool {
-    match word {
-        "bool" | "char" | "str" | "u8" | "u16" | "u32" | "u64" | "u128" | "usize" => true,
-        "i8" | "i16" | "i32" | "i64" | "i128" | "isize" => true,
-        _ => false,
-    }
-}
-
-/// Whether a word is a type of std that no message can hold.
-fn is_no_message(word: &str) -> bool {
-    match word {
-        "HashMap" | "HashSet" | "BTreeSet" | "VecDeque" | "Rc" | "Arc" | "Cow" | "Cell" => true,
-        "RefCell" | "PhantomData" | "Duration" | "Instant" | "Wrapping" => true,
-        _ => false,
-    }
-}
-
-/// Whether a type of this name would hide one that is brought in beside it.
-fn is_of_postcard(name: &str) -> bool {
-    match name {
-        "Last" | "Variant" | "Variants4" | "Flavor" | "Serializer" | "Serialize" | "Readable" =>
-            true,
-        _ => false,
-    }
-}
-
 /// Whether a word stands for no type: a lifetime, a number or a mark.
 fn is_no_type(word: &str) -> bool {
-    match word.chars().next() {
+    match first_letter(word) {
         Some(first) => !(first.is_alphabetic() || first == '_'),
         None => true,
     }
@@ -56,45 +70,26 @@ fn is_no_type(word: &str) -> bool {
 
 /// Whether a word begins with a small letter.
 fn is_small(word: &str) -> bool {
-    match word.chars().next() {
+    match first_letter(word) {
         Some(first) => first.is_lowercase(),
         None => false,
     }
 }
 
-/// Whether a blank stands between two words of a type.
-fn is_parted(before: &str, word: &str) -> bool {
-    let closes = match word {
-        ")" | ">" | "]" | "," => true,
-        _ => false,
-    };
-    !closes && (before == "," || before == ";" || before.starts_with('\''))
-}
-
-/// Whether a type has no greatest size.
-fn has_no_greatest_size(word: &str) -> bool {
-    match word {
-        "&" | "String" | "Vec" | "BTreeMap" => true,
-        _ => false,
-    }
-}
-
 /// Within how many marks that are open the words behind this one stand; nothing where the type has ended before it.
 fn depth_behind(word: &str, depth: usize) -> Option<usize> {
-    match word {
-        "," | ";" | "}" | "=" | "" | ")" | "]" | ">" if depth == 0 => None,
-        "(" | "[" | "<" => Some(depth.saturating_add(1)),
-        ")" | "]" | ">" => Some(depth.saturating_sub(1)),
-        _ => Some(depth),
+    if is_among(word, &["(", "[", "<"]) {
+        return Some(depth.saturating_add(1));
     }
-}
-
-/// Appends a word of a type behind another one.
-fn put_word(text: &mut String, before: &str, word: &str) -> Result<(), AllocError> {
-    if is_parted(before, word) {
-        text.push(' ')?;
+    let closes = is_among(word, &[")", "]", ">"]);
+    if depth == 0 && (closes || is_among(word, &[",", ";", "}", "="])) {
+        return None;
     }
-    text.push_str(word)
+    Some(if closes {
+        depth.saturating_sub(1)
+    } else {
+        depth
+    })
 }
 
 impl<'a> Parser<'a> {
@@ -136,28 +131,32 @@ impl<'a> Parser<'a> {
     }
 
     /// What is wrong at the last token.
-    fn wrong<T>(&self, text: Result<String, AllocError>) -> Result<T, Trouble> {
-        Err(Trouble::Wrong(Fault {
-            line: self.line,
-            text: text?,
-        }))
+    fn wrong(&self, pieces: &[&str]) -> Trouble {
+        let mut text = Text::new(self.alloc);
+        text.put(pieces);
+        match text.finished() {
+            Ok(text) => Trouble::Wrong(Fault {
+                line: self.line,
+                text,
+            }),
+            Err(_) => Trouble::NoMemory,
+        }
     }
 
     /// Takes this token, which must be next.
     fn owe(&mut self, wanted: &str) -> Result<(), Trouble> {
-        let next = self.peek();
-        if self.take(wanted) {
+        let next = self.step();
+        if next == wanted {
             return Ok(());
         }
-        self.step();
-        self.wrong(format!(in self.alloc; "`{wanted}` is wanted in place of `{next}`"))
+        Err(self.wrong(&["`", wanted, "` is wanted in place of `", next, "`"]))
     }
 
     /// Takes a name.
     fn word(&mut self) -> Result<&'a str, Trouble> {
         let word = self.step();
         if is_no_type(word) {
-            return self.wrong(format!(in self.alloc; "a name is wanted in place of `{word}`"));
+            return Err(self.wrong(&["a name is wanted in place of `", word, "`"]));
         }
         Ok(word)
     }
@@ -170,9 +169,7 @@ impl<'a> Parser<'a> {
             }
             if self.peek_second() == "serde" {
                 self.step();
-                return self.wrong(format!(in self.alloc;
-                    "attributes of serde aren't known here: leave it out"
-                ));
+                return Err(self.wrong(&["attributes of serde aren't known here: leave it out"]));
             }
             self.attribute();
         }
@@ -198,9 +195,8 @@ impl<'a> Parser<'a> {
         if !self.take("pub") || self.peek() != "(" {
             return;
         }
-        match self.peek_second() {
-            "crate" | "super" | "self" | "in" => {}
-            _ => return,
+        if !is_among(self.peek_second(), &["crate", "super", "self", "in"]) {
+            return;
         }
         for _ in 0..self.rest.len() {
             if self.step() == ")" {
@@ -211,94 +207,86 @@ impl<'a> Parser<'a> {
 
     /// Refuses a reference without a lifetime, and what the marks don't allow in a field.
     fn check_marks(&self, word: &str) -> Result<(), Trouble> {
-        if word == "&" && !self.peek_second().starts_with('\'') {
-            return self.wrong(format!(in self.alloc;
-                "a reference has a lifetime of its type: `&'a str`"
-            ));
+        if word == "&" && !is_lifetime(self.peek_second()) {
+            return Err(self.wrong(&["a reference has a lifetime of its type: `&'a str`"]));
         }
-        if self.marks.max_size && has_no_greatest_size(word) {
-            return self.wrong(format!(in self.alloc;
-                "`{word}` has no greatest size: leave `MaxSize` out"
-            ));
+        if self.marks.max_size && is_among(word, NO_GREATEST_SIZE) {
+            return Err(self.wrong(&["`", word, "` has no greatest size: leave `MaxSize` out"]));
         }
         if self.marks.exact && word == "BTreeMap" {
-            return self.wrong(format!(in self.alloc;
-                "`{word}` is read in any order and written in its own: leave `Exact` out"
-            ));
+            return Err(self.wrong(&[
+                "`BTreeMap` is read in any order and written in its own: leave `Exact` out",
+            ]));
         }
         Ok(())
     }
 
     /// Refuses a word that can't stand in the type of a field.
-    fn check(&self, word: &str, before: &str) -> Result<(), Trouble> {
+    fn check(&self, word: &str, in_path: bool) -> Result<(), Trouble> {
         self.check_marks(word)?;
-        if is_no_type(word) || is_plain(word) {
+        if is_no_type(word) || is_among(word, PLAIN) {
             return Ok(());
         }
         if word == self.name {
-            return self.wrong(format!(in self.alloc; "`{word}` holds itself: write it by hand"));
+            return Err(self.wrong(&["`", word, "` holds itself: write it by hand"]));
         }
-        if is_small(word) || is_no_message(word) || before == ":" {
-            return self.wrong(format!(in self.alloc;
-                "`{word}` can't stand in the type of a field"
-            ));
+        if is_small(word) || is_among(word, NO_MESSAGES) || in_path {
+            return Err(self.wrong(&["`", word, "` can't stand in the type of a field"]));
         }
         Ok(())
     }
 
-    /// Takes the type of a field, up to a comma or a closing mark.
-    fn type_text(&mut self) -> Result<String, Trouble> {
-        let mut text = String::new(self.alloc);
-        self.put_type(&mut text)?;
-        if text.is_empty() {
-            return self.wrong(format!(in self.alloc; "a type is wanted"));
-        }
-        Ok(text)
-    }
-
-    /// Takes the words of a type, and appends them.
-    fn put_type(&mut self, text: &mut String) -> Result<(), Trouble> {
+    /// Takes the words of a type, up to a comma or a closing mark, and says how many they are.
+    fn type_length(&mut self) -> Result<usize, Trouble> {
+        let most = self.rest.len();
         let mut depth: usize = 0;
-        let mut before = "";
-        for _ in 0..self.rest.len() {
+        let mut in_path = false;
+        for length in 0..most {
             let word = self.peek();
             let Some(within) = depth_behind(word, depth) else {
-                break;
+                return Ok(length);
             };
             depth = within;
-            self.check(word, before)?;
-            put_word(text, before, word)?;
-            before = self.step();
+            self.check(word, in_path)?;
+            in_path = word == ":";
+            self.step();
         }
-        Ok(())
+        Ok(most)
     }
 
-    /// Takes the name of a field, which is its place where it has none.
-    fn field_name(&mut self, place: usize, named: bool) -> Result<String, Trouble> {
+    /// Takes the type of a field.
+    fn type_words(&mut self) -> Result<&'a [Token], Trouble> {
+        let words = self.rest;
+        match self.type_length()? {
+            0 => Err(self.wrong(&["a type is wanted"])),
+            length => Ok(words.get(..length).unwrap_or(&[])),
+        }
+    }
+
+    /// Takes the name of a field, where fields have names.
+    fn field_name(&mut self, named: bool) -> Result<&'a str, Trouble> {
         if !named {
-            return Ok(format!(in self.alloc; "{place}")?);
+            return Ok("");
         }
         let name = self.word()?;
         self.owe(":")?;
-        Ok(String::from_str(self.alloc, name)?)
+        Ok(name)
     }
 
     /// Takes a field.
-    fn item(&mut self, place: usize, named: bool) -> Result<Field, Trouble> {
+    fn item(&mut self, place: usize, named: bool) -> Result<Field<'a>, Trouble> {
         if place == MOST_FIELDS {
-            return self.wrong(format!(in self.alloc;
-                "more than {MOST_FIELDS} fields: make some of them a struct"
-            ));
+            return Err(self.wrong(&[TOO_MANY]));
         }
         self.attributes()?;
         self.visibility();
-        let name = self.field_name(place, named)?;
-        let of = self.type_text()?;
-        Ok(Field { name, of })
+        let name = self.field_name(named)?;
+        let of = self.type_words()?;
+        Ok(Field { place, name, of })
     }
 
     /// Takes the fields up to this mark.
-    fn items(&mut self, close: &str, named: bool) -> Result<Vec<Field>, Trouble> {
+    fn items(&mut self, close: &str, named: bool) -> Result<Vec<Field<'a>>, Trouble> {
         let mut items = Vec::new(self.alloc);
         for place in 0..self.rest.len() {
             if self.take(close) {
@@ -310,11 +298,11 @@ impl<'a> Parser<'a> {
                 return Ok(items);
             }
         }
-        self.wrong(format!(in self.alloc; "`{close}` is missing"))
+        Err(self.wrong(&["`", close, "` is missing"]))
     }
 
     /// Takes fields in braces, in parentheses, or none.
-    fn fields(&mut self) -> Result<Fields, Trouble> {
+    fn fields(&mut self) -> Result<Fields<'a>, Trouble> {
         if self.take("{") {
             let items = self.items("}", true)?;
             return Ok(Fields {
@@ -336,24 +324,23 @@ impl<'a> Parser<'a> {
     }
 
     /// Takes a variant of an enum.
-    fn variant(&mut self) -> Result<VariantOf, Trouble> {
+    fn variant(&mut self) -> Result<VariantOf<'a>, Trouble> {
         self.attributes()?;
         let name = self.word()?;
         let fields = self.fields()?;
         if self.take("=") {
-            return self.wrong(format!(in self.alloc;
-                "the bytes have a variant's place, not its number: leave the number out"
-            ));
+            return Err(self.wrong(&[
+                "the bytes have a variant's place, not its number: leave the number out",
+            ]));
         }
-        let name = String::from_str(self.alloc, name)?;
         Ok(VariantOf { name, fields })
     }
 
     /// Takes the variants of an enum, which has one at least.
-    fn variants(&mut self) -> Result<Vec<VariantOf>, Trouble> {
+    fn variants(&mut self) -> Result<Vec<VariantOf<'a>>, Trouble> {
         self.owe("{")?;
         if self.take("}") {
-            return self.wrong(format!(in self.alloc; "an enum without variants has no values"));
+            return Err(self.wrong(&["an enum without variants has no values"]));
         }
         let mut variants = Vec::new(self.alloc);
         for _ in 0..self.rest.len() {
@@ -366,11 +353,11 @@ impl<'a> Parser<'a> {
                 return Ok(variants);
             }
         }
-        self.wrong(format!(in self.alloc; "`}}` is missing"))
+        Err(self.wrong(&["`}` is missing"]))
     }
 
     /// Takes the lifetimes and type parameters.
-    fn parameters(&mut self) -> Result<Vec<String>, Trouble> {
+    fn parameters(&mut self) -> Result<Vec<&'a str>, Trouble> {
         let mut parameters = Vec::new(self.alloc);
         if !self.take("<") {
             return Ok(parameters);
@@ -381,15 +368,15 @@ impl<'a> Parser<'a> {
                 return Ok(parameters);
             }
             if name == "const" || self.peek() == ":" {
-                return self.wrong(format!(in self.alloc;
-                    "only lifetimes and types without bounds can be parameters"
-                ));
+                return Err(self.wrong(&[
+                    "only lifetimes and types without bounds can be parameters",
+                ]));
             }
             if name != "," {
-                parameters.push(String::from_str(self.alloc, name)?)?;
+                parameters.push(name)?;
             }
         }
-        self.wrong(format!(in self.alloc; "`>` is missing"))
+        Err(self.wrong(&["`>` is missing"]))
     }
 
     /// Takes `struct` or `enum`, and says whether it is the latter.
@@ -397,26 +384,26 @@ impl<'a> Parser<'a> {
         match self.step() {
             "struct" => Ok(false),
             "enum" => Ok(true),
-            other => self.wrong(format!(in self.alloc;
-                "a struct or an enum is wanted in place of `{other}`"
-            )),
+            other => Err(self.wrong(&["a struct or an enum is wanted in place of `", other, "`"])),
         }
     }
 
     /// Takes the name of a type.
-    fn type_name(&mut self) -> Result<String, Trouble> {
+    fn type_name(&mut self) -> Result<&'a str, Trouble> {
         let name = self.word()?;
-        if is_of_postcard(name) {
-            return self.wrong(format!(in self.alloc;
-                "`{name}` is also a name of postcard's: call it otherwise"
-            ));
+        if is_among(name, OF_POSTCARD) {
+            return Err(self.wrong(&[
+                "`",
+                name,
+                "` is also a name of postcard's: call it otherwise",
+            ]));
         }
         self.name = name;
-        Ok(String::from_str(self.alloc, name)?)
+        Ok(name)
     }
 
     /// Takes what is declared.
-    fn body(&mut self, is_enum: bool) -> Result<Body, Trouble> {
+    fn body(&mut self, is_enum: bool) -> Result<Body<'a>, Trouble> {
         if is_enum {
             let variants = self.variants()?;
             return Ok(Body::Enum(variants));
@@ -430,7 +417,7 @@ impl<'a> Parser<'a> {
     }
 
     /// Takes a declaration.
-    fn declaration(&mut self) -> Result<Declaration, Trouble> {
+    fn declaration(&mut self) -> Result<Declaration<'a>, Trouble> {
         self.attributes()?;
         self.visibility();
         let is_enum = self.is_enum()?;
@@ -459,9 +446,11 @@ impl<'a> Parser<'a> {
                 "MaxSize" => marks.max_size = true,
                 "Exact" => marks.exact = true,
                 other => {
-                    return self.wrong(format!(in self.alloc;
-                        "a message can be marked for MaxSize and Exact, not for `{other}`"
-                    ));
+                    return Err(self.wrong(&[
+                        "a message can be marked for MaxSize and Exact, not for `",
+                        other,
+                        "`",
+                    ]));
                 }
             }
         }
@@ -469,7 +458,7 @@ impl<'a> Parser<'a> {
     }
 
     /// Takes tokens up to a mark and the declaration behind it; nothing where there is no mark left.
-    fn next(&mut self) -> Result<Option<Declaration>, Trouble> {
+    fn next(&mut self) -> Result<Option<Declaration<'a>>, Trouble> {
         for _ in 0..self.rest.len() {
             let token = self.step();
             if token.starts_with("// message") {
@@ -492,11 +481,11 @@ impl<'a> Parser<'a> {
 }
 
 /// The marked declarations. What is wrong in one is appended to the faults, and then the next is read.
-pub fn declarations(
+pub fn declarations<'a>(
     alloc: Global,
-    tokens: &[Token],
+    tokens: &'a [Token],
     faults: &mut Vec<Fault>,
-) -> Result<Vec<Declaration>, Trouble> {
+) -> Result<Vec<Declaration<'a>>, Trouble> {
     let mut parser = Parser {
         alloc,
         rest: tokens,

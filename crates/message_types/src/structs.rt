@@ -1,170 +1,146 @@
 //! The implementations of a struct.
-use crate::declarations::{Declaration, Fields};
-use crate::printer::{Printer, names_of, tuple_text, types_of, whole_name};
+use crate::declarations::{Declaration, Field, Fields};
+use crate::parts::{Parts, ROW, Spelling};
+use crate::printer::Printer;
+use crate::text::Text;
 use std::alloc::{AllocError, Global};
 
-/// The fields of a value, behind this.
-fn members(alloc: Global, fields: &Fields, before: &str) -> Result<Vec<String>, AllocError> {
-    let mut members = Vec::new(alloc);
-    for field in &fields.items {
-        let name = field.name.as_str();
-        members.push(format!(in alloc; "{before}{name}")?)?;
-    }
-    Ok(members)
-}
-
-/// The value of a struct as its shape, as ghost text.
-fn seen_text(alloc: Global, fields: &Fields) -> Result<String, AllocError> {
-    if fields.items.is_empty() {
-        return String::from_str(alloc, "tt");
-    }
-    let members = members(alloc, fields, "v.")?;
-    tuple_text(alloc, &members)
-}
-
-/// How the shape is written of a struct with an alias for it, or of one without.
-fn shape_text(alloc: Global, it: &Declaration, types: &[String]) -> Result<String, AllocError> {
-    if types.len() > 1 {
-        return whole_name(alloc, it, "Shape");
-    }
-    tuple_text(alloc, types)
-}
-
-/// What stands between the parentheses of the function that reads a shape.
-fn argument_text(
-    alloc: Global,
-    it: &Declaration,
-    types: &[String],
-    names: &[String],
-) -> Result<String, AllocError> {
-    match (types, names) {
-        ([of], [name]) => format!(in alloc; "{name}: {of}"),
-        ([], _) => format!(in alloc; "(): ()"),
-        _ => {
-            let shape = whole_name(alloc, it, "Shape")?;
-            format!(in alloc; "it: {shape}")
-        }
-    }
-}
-
-/// The parts of a shape of several fields, row by row: a field, or a name for several.
-fn rows_of(alloc: Global, names: &[String]) -> Result<Vec<String>, AllocError> {
+/// The parts of a shape of several fields, row by row: a field, or one without a type for several.
+fn rows_of<'a>(alloc: Global, fields: &[Field<'a>]) -> Result<Vec<Field<'a>>, AllocError> {
     let mut rows = Vec::new(alloc);
-    for (place, row) in names.chunks(6).enumerate() {
-        let text = match row {
-            [name] => String::from_str(alloc, name.as_str()),
-            _ => format!(in alloc; "row_{place}"),
-        };
-        rows.push(text?)?;
+    for (place, row) in fields.chunks(ROW).enumerate() {
+        rows.push(match row {
+            [field] => *field,
+            _ => Field {
+                place,
+                name: "",
+                of: &[],
+            },
+        })?;
     }
     Ok(rows)
 }
 
+impl Text {
+    /// Appends how the shape is written of a struct with an alias for it, or of one without.
+    fn put_struct_shape(&mut self, it: &Declaration, fields: &Fields) {
+        if fields.items.len() > 1 {
+            return self.put_whole_name(it, "Shape");
+        }
+        self.put_tuple(fields.spelled(Spelling::Type));
+    }
+
+    /// Appends the value of a struct as its shape, as ghost text.
+    fn put_seen(&mut self, fields: &Fields) {
+        if fields.items.is_empty() {
+            return self.put(&["tt"]);
+        }
+        self.put_tuple(fields.spelled(Spelling::Member("v.")));
+    }
+
+    /// Appends what stands between the parentheses of the function that reads a shape.
+    fn put_argument(&mut self, it: &Declaration, fields: &Fields) {
+        match fields.items.len() {
+            0 => self.put(&["()"]),
+            1 => self.put_tuple(fields.spelled(Spelling::Bound)),
+            _ => self.put(&["it"]),
+        }
+        self.put(&[": "]);
+        self.put_struct_shape(it, fields);
+    }
+}
+
 impl Printer {
     /// Writes the alias of a shape of several parts.
-    fn struct_alias(&mut self, shape: &str, types: &[String]) -> Result<(), AllocError> {
-        if types.len() < 2 {
-            return Ok(());
+    fn struct_alias(&mut self, it: &Declaration, fields: &Fields) {
+        if fields.items.len() < 2 {
+            return;
         }
-        let alias = format!(in self.alloc; "type {shape} = ")?;
-        self.line(0, "")?;
-        self.tuple(0, alias.as_str(), types, ";", "")
+        self.line(0, "");
+        self.begin(0, &["type "]);
+        self.out.put_whole_name(it, "Shape");
+        self.out.put(&[" = "]);
+        self.tuple(0, fields.spelled(Spelling::Type), ";", "");
     }
 
     /// Writes what the shape is.
-    fn struct_shape(&mut self, it: &Declaration, fields: &Fields) -> Result<(), AllocError> {
-        let types = types_of(self.alloc, fields)?;
-        let shape = shape_text(self.alloc, it, &types)?;
-        self.struct_alias(shape.as_str(), &types)?;
-        self.open(it, "Shaped", "")?;
-        self.made(4, format!(in self.alloc; "type Shape = {shape};"))?;
-        self.struct_seen(fields)
-    }
-
-    /// Writes the value of the shape.
-    fn struct_seen(&mut self, fields: &Fields) -> Result<(), AllocError> {
-        self.line(0, "")?;
-        let seen = seen_text(self.alloc, fields)?;
-        self.made(
-            4,
-            format!(in self.alloc; "ghost shape = {{ λ v. {seen} }};"),
-        )?;
-        self.line(0, "}")
+    fn struct_shape(&mut self, it: &Declaration, fields: &Fields) {
+        self.struct_alias(it, fields);
+        self.implement(it, "Shaped", "", " {\n    type Shape = ");
+        self.out.put_struct_shape(it, fields);
+        self.out.put(&[";\n\n    ghost shape = { λ v. "]);
+        self.out.put_seen(fields);
+        self.out.put(&[" };\n}\n"]);
     }
 
     /// Writes how the shape is written.
-    fn struct_written(&mut self, it: &Declaration, fields: &Fields) -> Result<(), AllocError> {
-        let before = if fields.items.len() == 1 {
-            "self."
-        } else {
-            "&self."
-        };
-        let members = members(self.alloc, fields, before)?;
-        self.open(it, "SerializeShape", "Serialize")?;
-        self.line(
-            4,
-            "fn serialize_shape<F: Flavor>(&self, serializer: &mut Serializer<F>) -> postcard::Result<()> {",
-        )?;
-        self.tuple(8, "", &members, "", ".serialize(serializer)")?;
-        self.line(4, "}")?;
-        self.line(0, "}")
+    fn struct_written(&mut self, it: &Declaration, fields: &Fields) {
+        let one = fields.items.len() == 1;
+        let before = if one { "self." } else { "&self." };
+        self.open_written(it);
+        self.begin(8, &[]);
+        let members = fields.spelled(Spelling::Member(before));
+        self.tuple(8, members, "", ".serialize(serializer)");
+        self.out.put(&["    }\n}\n"]);
     }
 
     /// Takes a shape of several fields apart.
-    fn taken_apart(&mut self, names: &[String]) -> Result<(), AllocError> {
-        let rows = rows_of(self.alloc, names)?;
-        if rows.len() < 2 {
-            return self.tuple(8, "let ", names, " = it;", "");
+    fn taken_apart(&mut self, fields: &Fields) -> Result<(), AllocError> {
+        let all = fields.spelled(Spelling::Bound);
+        self.begin(8, &["let "]);
+        if fields.items.len() <= ROW {
+            self.tuple(8, all, " = it;", "");
+            return Ok(());
         }
-        self.tuple(8, "let ", &rows, " = it;", "")?;
-        for (place, row) in names.chunks(6).enumerate() {
-            self.row_taken_apart(place, row)?;
+        self.rows(&fields.items)?;
+        for (place, row) in fields.items.chunks(ROW).enumerate() {
+            self.row_taken_apart(place, all.row(row))?;
         }
         Ok(())
     }
 
+    /// Ends a line with the names of the rows of a shape.
+    fn rows(&mut self, fields: &[Field]) -> Result<(), AllocError> {
+        let rows = rows_of(self.alloc, fields)?;
+        let spelling = Spelling::Row;
+        let parts = Parts {
+            fields: &rows,
+            spelling,
+        };
+        self.tuple(8, parts, " = it;", "");
+        Ok(())
+    }
+
     /// Takes a row of a shape apart, where it has several fields.
-    fn row_taken_apart(&mut self, place: usize, row: &[String]) -> Result<(), AllocError> {
-        if row.len() < 2 {
-            return Ok(());
+    fn row_taken_apart(&mut self, place: usize, row: Parts) -> Result<(), AllocError> {
+        if row.fields.len() > 1 {
+            let after = format!(in self.alloc; " = row_{place};")?;
+            self.begin(8, &["let "]);
+            self.tuple(8, row, after.as_str(), "");
         }
-        let after = format!(in self.alloc; " = row_{place};")?;
-        self.tuple(8, "let ", row, after.as_str(), "")
+        Ok(())
     }
 
     /// Writes which value a shape stands for.
     fn struct_read(&mut self, it: &Declaration, fields: &Fields) -> Result<(), AllocError> {
-        let names = names_of(self.alloc, fields)?;
-        self.struct_read_head(it, fields, &names)?;
-        if names.len() > 1 {
-            self.taken_apart(&names)?;
+        self.implement(it, "DeserializeShape", "Readable", " {\n    fn from_shape(");
+        self.out.put_argument(it, fields);
+        self.out.put(&[") -> "]);
+        self.out.put_whole_name(it, "");
+        self.out.put(&[" {\n"]);
+        if fields.items.len() > 1 {
+            self.taken_apart(fields)?;
         }
-        self.literal(8, "", it.name.as_str(), fields, &names, "")?;
-        self.line(4, "}")?;
-        self.line(0, "}")
-    }
-
-    /// Writes how that begins.
-    fn struct_read_head(
-        &mut self,
-        it: &Declaration,
-        fields: &Fields,
-        names: &[String],
-    ) -> Result<(), AllocError> {
-        self.open(it, "DeserializeShape", "Readable")?;
-        let types = types_of(self.alloc, fields)?;
-        let argument = argument_text(self.alloc, it, &types, names)?;
-        let whole = whole_name(self.alloc, it, "")?;
-        self.made(
-            4,
-            format!(in self.alloc; "fn from_shape({argument}) -> {whole} {{"),
-        )
+        self.begin(8, &[it.name]);
+        self.literal(8, fields, "");
+        self.out.put(&["    }\n}\n"]);
+        Ok(())
     }
 
     /// Writes the implementations of a struct.
     pub fn put_struct(&mut self, it: &Declaration, fields: &Fields) -> Result<(), AllocError> {
-        self.struct_shape(it, fields)?;
-        self.struct_written(it, fields)?;
+        self.struct_shape(it, fields);
+        self.struct_written(it, fields);
         self.struct_read(it, fields)
     }
 }

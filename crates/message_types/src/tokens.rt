@@ -13,6 +13,26 @@ pub fn is_of_word(character: char) -> bool {
     character.is_alphanumeric() || character == '_' || character == '\''
 }
 
+/// Whether a word is a lifetime.
+pub fn is_lifetime(word: &str) -> bool {
+    word.starts_with('\'')
+}
+
+/// Whether a word is one of these.
+pub fn is_among(word: &str, words: &[&str]) -> bool {
+    for known in words {
+        if *known == word {
+            return true;
+        }
+    }
+    false
+}
+
+/// The first letter of a word.
+pub fn first_letter(word: &str) -> Option<char> {
+    word.chars().next()
+}
+
 /// Appends a text as a token, unless it is empty.
 fn put(alloc: Global, text: &str, line: usize, tokens: &mut Vec<Token>) -> Result<(), AllocError> {
     if text.is_empty() {

@@ -1,0 +1,65 @@
+//! Texts that are made piece by piece.
+use std::alloc::{AllocError, Global};
+
+/// A text that is made. Where memory runs out its other calls go on, and [`finished`](Text::finished) says so at the end:
+/// so those who write it need not ask at each piece.
+#[derive(Drop)]
+pub struct Text {
+    alloc: Global,
+    whole: String,
+    failed: bool,
+}
+
+impl Text {
+    /// The empty text.
+    pub fn new(alloc: Global) -> Text {
+        Text {
+            alloc,
+            whole: String::new(alloc),
+            failed: false,
+        }
+    }
+
+    /// Appends these pieces.
+    pub fn put(&mut self, pieces: &[&str]) {
+        for piece in pieces {
+            if self.whole.push_str(piece).is_err() {
+                self.failed = true;
+            }
+        }
+    }
+
+    /// Appends a piece so many times.
+    pub fn put_times(&mut self, count: usize, piece: &str) {
+        for _ in 0..count {
+            self.put(&[piece]);
+        }
+    }
+
+    /// Appends a number.
+    pub fn put_number(&mut self, number: usize) {
+        match format!(in self.alloc; "{number}") {
+            Ok(digits) => self.put(&[digits.as_str()]),
+            Err(_) => self.failed = true,
+        }
+    }
+
+    /// Appends a text that was made apart.
+    pub fn put_text(&mut self, other: &Text) {
+        self.put(&[other.whole.as_str()]);
+        self.failed = self.failed || other.failed;
+    }
+
+    /// How long it is, in bytes.
+    pub fn len(&self) -> usize {
+        self.whole.len()
+    }
+
+    /// The whole text, if there was memory for it.
+    pub fn finished(self) -> Result<String, AllocError> {
+        if self.failed {
+            return Err(AllocError);
+        }
+        Ok(self.whole)
+    }
+}
