@@ -1,5 +1,5 @@
 //! `link` for any sentinel: a frame by its flavor, what is lent, and what is left in place. What is sent, and what is heard
-//! of plain streams, are lines of `replay`.
+//! of plain streams, are lines of `replay_link`.
 use link::{Answer, Framed, Pushed, Receiver, read_in_place_with_sentinel};
 use postcard::ser_flavors::Flavor;
 use std::alloc::Global;

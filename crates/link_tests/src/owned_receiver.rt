@@ -1,5 +1,5 @@
 //! `link`, a receiver whose limit is a value: what it lends, and a limit that is lowered and raised. What it answers to
-//! plain streams are lines of `replay`.
+//! plain streams are lines of `replay_link`.
 use link::{Answer, OwnedReceiver, Pushed};
 
 #[test]
