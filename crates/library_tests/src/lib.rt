@@ -16,3 +16,5 @@ mod postcard_frames;
 mod postcard_reading;
 #[cfg(test)]
 mod postcard_writing;
+#[cfg(test)]
+mod ser_frames;

@@ -89,21 +89,3 @@ impl<R: Read> Inlet for Reads<R> {
         }
     }
 }
-
-#[cfg(test)]
-mod tests {
-    use super::*;
-    use std::test::Fail;
-
-    #[test]
-    fn no_call_is_left(rt: HostRuntime) -> Result<(), Fail> {
-        let mut line = Reads::new(b"hi".as_slice());
-        line.calls = 1;
-        let mut room = [0u8; 1];
-        assert!(rt; line.read(&mut room) == Some(1));
-        assert!(rt; line.read(&mut room) == None);
-        assert!(rt; line.faults == 0);
-        assert!(rt; line.into_inner() == b"i".as_slice());
-        Ok(())
-    }
-}

@@ -92,20 +92,3 @@ impl<W: Write> Outlet for Writes<W> {
         }
     }
 }
-
-#[cfg(test)]
-mod tests {
-    use super::*;
-    use std::test::Fail;
-
-    #[test]
-    fn no_call_is_left(rt: HostRuntime) -> Result<(), Fail> {
-        let mut line = Writes::new(Vec::new(rt.alloc()));
-        line.calls = 1;
-        assert!(rt; line.write(b"hi") == Some(2));
-        assert!(rt; line.write(b"hi") == None);
-        assert!(rt; line.faults == 0);
-        assert!(rt; line.into_inner().as_slice() == b"hi".as_slice());
-        Ok(())
-    }
-}

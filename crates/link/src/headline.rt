@@ -17,8 +17,7 @@ use crate::listening::{Received, receive_owned, receive_with_sentinel};
 use crate::sender::{SendError, Sender};
 use crate::session::{Fate, send_each_with_sentinel};
 use line_io::{Inlet, Outlet};
-use postcard::DeserializeOwned;
-use postcard_de::Lawful;
+use postcard::{DeserializeOwned, Lawful};
 use std::alloc::Global;
 
 /// As `receive`, of a reader that gives the line of a run: the answers are what is to be told of the run.

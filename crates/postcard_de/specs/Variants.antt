@@ -7,14 +7,11 @@ use Rattle.postcard_tree.specs.declared.variants.Last.{Last as LastOf}
 use Rattle.postcard_tree.specs.declared.variants.Last.TheVariants.{Last}
 use Rattle.postcard_tree.specs.declared.variants.Variant.{Variant}
 use Rattle.postcard_tree.specs.declared.variants.Variant.TheVariants.{This, Other}
-use Rattle.postcard_tree.specs.declared.variants.Variants4.{Variants4}
 use Rattle.postcard_tree.specs.Tree.{Tree, variant_of}
 use Rattle.postcard_tree.specs.Reading.{Spelled, ReadsNumber, ReadsVariant, RefusesVariant}
 use Rattle.postcard_tree.specs.Variants.{held, ReadsLast, RefusesLast, ReadsFirst, RefusesFirst, ReadsFour, one_by_one}
-use Rattle.postcard_ser.specs.Variants.{next_index, index_first, payload_first, valid_first, index_four, payload_four, valid_four, at_index}
 use Rattle.postcard_de.specs.Source.{SourceState, Reads, Fails}
 use Rattle.postcard_de.specs.Steps.{gave_none, fails_after, refused_here}
-use Rattle.postcard_de.specs.ReadsBack.{variant_reads_back}
 use Rattle.postcard_de.specs.Values.{variant_read, variant_fails, or_left, or_right}
 
 -- what was read, seen as another type's value
@@ -92,64 +89,3 @@ indexed_read i v p q = variant_read i v (λ t h. h) p q
 
 pub indexed_fails : {a b c : SourceState} {e : Error} {g : Bool} (Q : ℕ → List ℕ → Error → Type 0) (i : ℕ) → Reads a b (Spelled (ReadsNumber 32)) i → Fails b c (Q i) g e → Fails a c (RefusesVariant Q) g e
 indexed_fails Q i p q = variant_fails (Q i) Q i (λ s e h. h) (λ z. z) p q
-
--- What a variant writes is read back
-
-abbrev pub BackAt : {A : Type 0} → (A → Type 0) → (A → Option ℕ) → (A → Option Tree) → (ℕ → Tree → A → Type 0) → Type 0
-BackAt {A} valid index payload reads = (v : A) (i : ℕ) (t : Tree) → valid v → index v ≡ Some i → payload v ≡ Some t → (i < 2 ^ 32) × reads i t v
-
--- the type whose valid values are read as they were written
-abbrev Back : {A : Type 0} → (A → Type 0) → (A → Option Tree) → (Tree → A → Type 0) → Type 0
-Back {A} valid writes reads = (v : A) (t : Tree) → valid v → writes v ≡ Some t → reads t v
-
-next_some : (o : Option ℕ) (i : ℕ) → next_index o ≡ Some i → (j : ℕ) × (o ≡ Some j) × (i ≡ suc j) × (i < 2 ^ 32)
-next_some None i h = cc
-next_some (Some j) i h = let e : (i ≡ j + 1) × (i < 2 ^ 32) = grind (arith, h) in (j, refl, omega (arith, e.0), e.1)
-
-pub last_back : {A : Type 0} (V : A → Type 0) (w : A → Option Tree) (R : Tree → A → Type 0) → Back V w R
-    → BackAt (λ v. V (held v)) (λ _. Some 0) (λ v. w (held v)) (ReadsLast R)
-last_back V w R one (Last v) zero t h k e = (omega arith, one v t h e)
-last_back V w R one (Last v) (suc i) t h k e = cc
-
-pub last_below : {A : Type 0} (v : LastOf A) (i : ℕ) → Some 0 ≡ Some i → i < 2 ^ 32
-last_below v i h = let e : 0 ≡ i = cc in omega (arith, e)
-
-pub first_back : {A B : Type 0} (V : A → Type 0) (w : A → Option Tree) (R : Tree → A → Type 0) (VB : B → Type 0) (index : B → Option ℕ) (payload : B → Option Tree) (S : ℕ → Tree → B → Type 0)
-    → Back V w R → BackAt VB index payload S
-    → BackAt (valid_first V VB) (index_first index) (payload_first w payload) (ReadsFirst R S)
-first_back V w R VB index payload S one rest (This v) zero t h k e = (omega arith, one v t h e)
-first_back V w R VB index payload S one rest (This v) (suc i) t h k e = cc
-first_back V w R VB index payload S one rest (Other v) zero t h k e = let n = next_some (index v) 0 k in absurd (omega (arith, n.2))
-first_back V w R VB index payload S one rest (Other v) (suc i) t h k e =
-    let n = next_some (index v) (suc i) k in
-    let q : n.0 ≡ i = omega (arith, n.2) in
-    (n.3, subst (λ z. S z t v) q (rest v n.0 t h n.1 e).1)
-
-pub first_below : {A B : Type 0} (index : B → Option ℕ) (v : Variant A B) (i : ℕ) → index_first index v ≡ Some i → i < 2 ^ 32
-first_below index (This v) i h = let e : 0 ≡ i = cc in omega (arith, e)
-first_below index (Other v) i h = (next_some (index v) i h).3
-
-pub four_back : {A B C D E : Type 0} (VA : A → Type 0) (VB : B → Type 0) (VC : C → Type 0) (VD : D → Type 0)
-    (wa : A → Option Tree) (wb : B → Option Tree) (wc : C → Option Tree) (wd : D → Option Tree)
-    (RA : Tree → A → Type 0) (RB : Tree → B → Type 0) (RC : Tree → C → Type 0) (RD : Tree → D → Type 0)
-    (V : E → Type 0) (index : E → Option ℕ) (payload : E → Option Tree) (S : ℕ → Tree → E → Type 0)
-    → Back VA wa RA → Back VB wb RB → Back VC wc RC → Back VD wd RD → BackAt V index payload S
-    → BackAt (valid_four VA VB VC VD V) (index_four index) (payload_four wa wb wc wd payload) (ReadsFour RA RB RC RD S)
-four_back VA VB VC VD wa wb wc wd RA RB RC RD V index payload S a b c d rest v =
-    first_back VA wa RA (valid_first VB (valid_first VC (valid_first VD V))) (index_first (index_first (index_first index))) (payload_first wb (payload_first wc (payload_first wd payload))) (ReadsFirst RB (ReadsFirst RC (ReadsFirst RD S))) a
-    (first_back VB wb RB (valid_first VC (valid_first VD V)) (index_first (index_first index)) (payload_first wc (payload_first wd payload)) (ReadsFirst RC (ReadsFirst RD S)) b
-    (first_back VC wc RC (valid_first VD V) (index_first index) (payload_first wd payload) (ReadsFirst RD S) c
-    (first_back VD wd RD V index payload S d rest))) (one_by_one v)
-
-pub four_below : {A B C D E : Type 0} (index : E → Option ℕ) (v : Variants4 A B C D E) (i : ℕ) → index_four index v ≡ Some i → i < 2 ^ 32
-four_below index v i h = first_below (index_first (index_first (index_first index))) (one_by_one v) i h
-
-index_some : (o : Option ℕ) (p : Option Tree) (t : Tree) → at_index o p ≡ Some t → (i : ℕ) × (o ≡ Some i) × (variant_of i p ≡ Some t)
-index_some None p t h = cc
-index_some (Some i) p t h = (i, refl, h)
-
-pub indexed_back : {A : Type 0} (V : A → Type 0) (index : A → Option ℕ) (payload : A → Option Tree) (S : ℕ → Tree → A → Type 0) → (below : (v : A) (i : ℕ) → index v ≡ Some i → i < 2 ^ 32) → BackAt V index payload S
-    → (v : A) (t : Tree) → V v → at_index (index v) (payload v) ≡ Some t → ReadsVariant S t v
-indexed_back V index payload S below back v t h e =
-    let n = index_some (index v) (payload v) t e in
-    variant_reads_back S n.0 (payload v) v t (below v n.0 n.1) (λ u k. (back v n.0 u h n.1 k).1) n.2

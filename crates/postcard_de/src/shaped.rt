@@ -4,8 +4,6 @@ ghost use Rattle.std.specs.Prelude.{◌≡◌};
 use crate::Deserializer;
 use crate::de_flavors::{Bytes, Flavor};
 use crate::deserialize::{Deserialize, DeserializeOwned};
-use crate::lawful::Lawful;
-use postcard_ser::SerializeShape;
 use postcard_tree::{Readable, Result, Shaped};
 
 /// A message type that is read as its shape is.
@@ -40,11 +38,4 @@ where
         let it = <M::Shape as DeserializeOwned>::deserialize_owned(d)?;
         Ok(M::from_shape(it))
     }
-}
-
-impl<M: DeserializeShape + SerializeShape> Lawful for M
-where
-    M::Shape: Lawful,
-{
-    ghost reads_back = { λ v t h e. M.Shape.reads_back (M.shape v) t h e };
 }

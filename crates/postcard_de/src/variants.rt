@@ -2,16 +2,12 @@
 //! `DeserializeOwned`.
 ghost use Rattle.std.specs.Prelude.{◌≡◌, ◌||◌};
 ghost use Rattle.postcard_tree.specs.Reading.{Spelled, ReadsVariant, RefusesVariant};
-ghost use Rattle.postcard_tree.specs.Variants.{ReadsLast, RefusesLast, ReadsFirst, RefusesFirst, ReadsFour, RefusesFour, one_by_one};
-ghost use Rattle.postcard_ser.specs.Variants.{index_first, payload_first, valid_first, index_four, payload_four, valid_four};
+ghost use Rattle.postcard_tree.specs.Variants.{ReadsLast, RefusesLast, ReadsFirst, RefusesFirst, one_by_one};
 ghost use Rattle.postcard_de.specs.Deserializer.{OutcomeOf};
-ghost use Rattle.postcard_de.specs.Variants.{BackAt, last_back, first_back, four_back, indexed_back, last_below, first_below, four_below};
 
 use crate::Deserializer;
 use crate::de_flavors::{Bytes, Flavor};
 use crate::deserialize::{Borrowing, Deserialize, DeserializeOwned, Owning, Reads};
-use crate::lawful::Lawful;
-use postcard_ser::SerializeVariants;
 use postcard_tree::{Error, Last, Readable, ReadableVariants, Result, Variant, Variants4};
 
 /// Variants that are read, perhaps keeping bytes `B` of the source.
@@ -252,44 +248,4 @@ impl<
         let it = <OneByOne<A, B, C, D, R> as DeserializeOwned>::deserialize_owned(d)?;
         Ok(four_at_once(it))
     }
-}
-
-/// Variants that are read as they were written.
-pub trait LawfulVariants: SerializeVariants + ReadableVariants {
-    /// The payload of a valid value is read as that value.
-    ghost back_at: { BackAt Self.valid_payload Self.index_of Self.payload_of Self.reads_at };
-}
-
-impl<A: Lawful> LawfulVariants for Last<A> {
-    ghost back_at = { last_back A.valid A.writes A.reads A.reads_back };
-}
-
-impl<A: Lawful> Lawful for Last<A> {
-    ghost use Rattle.std.specs.Prelude.{Some};
-    ghost use Rattle.postcard_tree.specs.Variants.{held};
-
-    ghost reads_back = { indexed_back (λ v. A.valid (held v)) (λ _. Some 0) (λ v. A.writes (held v)) (ReadsLast A.reads) last_below (last_back A.valid A.writes A.reads A.reads_back) };
-}
-
-impl<A: Lawful, R: LawfulVariants> LawfulVariants for Variant<A, R> {
-    ghost back_at = { first_back A.valid A.writes A.reads R.valid_payload R.index_of R.payload_of R.reads_at A.reads_back R.back_at };
-}
-
-impl<A: Lawful, R: LawfulVariants> Lawful for Variant<A, R> {
-    ghost reads_back = { indexed_back (valid_first A.valid R.valid_payload) (index_first R.index_of) (payload_first A.writes R.payload_of) (ReadsFirst A.reads R.reads_at) (first_below R.index_of)
-        (first_back A.valid A.writes A.reads R.valid_payload R.index_of R.payload_of R.reads_at A.reads_back R.back_at) };
-}
-
-impl<A: Lawful, B: Lawful, C: Lawful, D: Lawful, R: LawfulVariants> LawfulVariants
-    for Variants4<A, B, C, D, R> {
-    ghost back_at = { four_back A.valid B.valid C.valid D.valid A.writes B.writes C.writes D.writes A.reads B.reads C.reads D.reads R.valid_payload R.index_of R.payload_of R.reads_at
-        A.reads_back B.reads_back C.reads_back D.reads_back R.back_at };
-}
-
-impl<A: Lawful, B: Lawful, C: Lawful, D: Lawful, R: LawfulVariants> Lawful
-    for Variants4<A, B, C, D, R> {
-    ghost reads_back = { indexed_back (valid_four A.valid B.valid C.valid D.valid R.valid_payload) (index_four R.index_of) (payload_four A.writes B.writes C.writes D.writes R.payload_of)
-        (ReadsFour A.reads B.reads C.reads D.reads R.reads_at) (four_below R.index_of)
-        (four_back A.valid B.valid C.valid D.valid A.writes B.writes C.writes D.writes A.reads B.reads C.reads D.reads R.valid_payload R.index_of R.payload_of R.reads_at
-        A.reads_back B.reads_back C.reads_back D.reads_back R.back_at) };
 }

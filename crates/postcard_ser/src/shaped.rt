@@ -2,6 +2,7 @@
 ghost use Rattle.std.specs.Prelude.{OnOk};
 ghost use Rattle.postcard_ser.specs.Writing.{Writes};
 
+use crate::lawful::Lawful;
 use crate::ser_flavors::Flavor;
 use crate::serialize::Serialize;
 use crate::serializer::Serializer;
@@ -31,6 +32,13 @@ where
     fn serialize<F: Flavor>(&self, serializer: &mut Serializer<F>) -> Result<()> {
         self.serialize_shape(serializer)
     }
+}
+
+impl<M: SerializeShape> Lawful for M
+where
+    M::Shape: Lawful,
+{
+    ghost reads_back = { λ v t h e. M.Shape.reads_back (M.shape v) t h e };
 }
 
 impl<'a, T: Serialize> SerializeShape for &'a T {

@@ -10,8 +10,6 @@ mod ser_calls;
 #[cfg(test)]
 mod ser_flavors;
 #[cfg(test)]
-mod ser_frames;
-#[cfg(test)]
 mod ser_span;
 #[cfg(test)]
 mod ser_texts;

@@ -4,12 +4,12 @@ ghost use Rattle.std.specs.Io.KnownBytes.{Consumes, IsAtEnd};
 ghost use Rattle.postcard_tree.specs.declared.error.Error.{Error};
 ghost use Rattle.postcard_tree.specs.declared.error.Error.TheVariants.{DeserializeUnexpectedEnd};
 ghost use Rattle.postcard_tree.specs.Reading.{IsShort};
-ghost use Rattle.postcard_ser.specs.Span.{ahead_of};
+ghost use Rattle.spans.specs.Span.{ahead_of};
 ghost use Rattle.postcard_de.specs.Source.{Outcome, GivesByte, GivesBytes};
 ghost use Rattle.postcard_de.specs.Reader.{reader_source, reader_of, room_of, limit_of, failed_of};
 
 use crate::de_flavors::Flavor;
-use postcard_ser::memory::{Span, Writable};
+use spans::memory::{Span, Writable};
 use postcard_tree::{Error, Result};
 use std::io::{ErrorKind, Read};
 

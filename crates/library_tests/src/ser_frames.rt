@@ -1,0 +1,78 @@
+//! `postcard`: the flavor that makes a frame.
+use postcard::ser_flavors::{AllocVec, Cobs, Flavor, HVec, Slice};
+use postcard::{Error, Result as Answer, Serialize, Serializer};
+
+/// Writes a value by a flavor that was just made.
+fn framed<T: Serialize, F: Flavor>(value: &T, flavor: Answer<F>) -> Answer<F::Output> {
+    let mut serializer = Serializer { output: flavor? };
+    value.serialize(&mut serializer)?;
+    serializer.output.finalize()
+}
+
+/// Whether a value's frame in a slice is this one.
+fn is_framed<T: Serialize>(value: &T, frame: &[u8]) -> bool {
+    let mut room = [0u8; 8];
+    match Cobs::try_new(Slice::new(&mut room)) {
+        Ok(flavor) => match framed(value, Ok(flavor)) {
+            Ok(written) => *written == *frame,
+            Err(_) => false,
+        },
+        Err(_) => false,
+    }
+}
+
+#[test]
+fn rows(rt: HostRuntime) {
+    assert!(rt; is_framed(&false, &[1, 1, 0]));
+    assert!(rt; is_framed(&"Hi!", &[5, 3, 0x48, 0x69, 0x21, 0]));
+}
+
+#[test]
+fn in_an_array(rt: HostRuntime) {
+    let written = framed(&(5u8, 0u8), Cobs::try_new(HVec::<4>::new()));
+    assert!(rt; matches!(&written, Ok(frame) if frame[..] == [2, 5, 1, 0]));
+}
+
+#[test]
+fn in_a_small_array(rt: HostRuntime) {
+    let written = framed(&(5u8, 0u8), Cobs::try_new(HVec::<3>::new()));
+    assert!(rt; written.err() == Some(Error::SerializeBufferFull));
+}
+
+// Whether a value's frame for the sentinel 10 is that of the bytes AC 02.
+fn is_masked<T: Serialize>(value: &T) -> bool {
+    let written = framed(value, Cobs::try_new_with_sentinel(HVec::<4>::new(), 0x0A));
+    matches!(&written, Ok(frame) if frame[..] == [0x09, 0xA6, 0x08, 0x0A])
+}
+
+#[test]
+fn another_sentinel(rt: HostRuntime) {
+    assert!(rt; is_masked(&300u32) && is_masked(&(0xACu8, 2u8)));
+}
+
+#[test]
+fn full_blocks(rt: HostRuntime) {
+    match framed(&[1u8; 254], Cobs::try_new(AllocVec::new(rt.alloc()))) {
+        Ok(frame) => {
+            assert!(rt; frame.len() == 257);
+            assert!(rt; frame[0] == 255 && frame[254] == 1 && frame[255] == 1 && frame[256] == 0);
+        }
+        Err(_) => assert!(rt; false),
+    }
+}
+
+#[test]
+fn no_room(rt: HostRuntime) {
+    let mut none = [0u8; 0];
+    assert!(rt; Cobs::try_new(Slice::new(&mut none)).err() == Some(Error::SerializeBufferFull));
+    assert!(rt; Cobs::try_new(HVec::<0>::new()).err() == Some(Error::SerializeBufferFull));
+}
+
+/// Each growth that is refused is want of memory, and nothing else.
+#[test]
+fn want_of_memory(rt: HostRuntime) {
+    match framed(&[7u8; 100], Cobs::try_new(AllocVec::new(rt.alloc()))) {
+        Err(cause) => assert!(rt; cause == Error::OutOfMemory),
+        Ok(bytes) => assert!(rt; bytes.len() == 102),
+    }
+}

@@ -1,0 +1,3 @@
+pub mod MemoryValues
+pub mod MemorySharing
+pub mod SpanLemmas

@@ -1,0 +1,57 @@
+-- `into_slice` hands the slice back. Assumes `Logic`.
+use Rattle.std.proofs.Common.{◌≡◌, ℕ, List, [], ◌∷◌, ◌++◌, length, refl, sym, ap, ◌∙◌, w64}
+use Rattle.std.proofs.raw_atomic.Walks.{proved_at}
+use Rattle.std.proofs.VecSteps.Shapes.{after}
+use mir.Syntax.{named}
+use mir.Val.{Val, vint}
+use base.Fml.{ftrue, flft}
+use base.Logic.{SProp}
+use contract.Monad.{fact}
+use contract.Running.{tables}
+use prog.Wp.{Env, WpFn}
+use types.Kit.{‵, raw, prop, at_ret, ◌⊛◌, ◌$◌, ◌∵◌, !, qed, done, move, keep, split, join, fsplit, fjoin, regoal, rewrite, suffices}
+use types.Part.{whole, sub, agg}
+use types.Run.{stop, fld, of_opd, and_then, no_more, first, blocks, exec, returns, enter}
+use types.ByLocal.{alloc_all, pass_all, free_all, look_at, get, get_in, sets, sets_last, env}
+use denote.Builtin.{u8}
+use denote.RattleType.{owns}
+use denote.RawPtr.{Ptr, block_ptr}
+use denote.Signature.{types_at}
+use denote.Slice.{ShrSlice, slice_val}
+use denote.Steps.{nothing, heard}
+use denote.Triple.Walked.{Stays, stay_dropped, ends_at, walk_of}
+use Rattle.spans.proofs.MemoryValues.{slot_at, goes, start_val, start_told, mark_val, mark_told, says_two}
+use Rattle.spans.specs.Memory.{view_of}
+use Rattle.spans.specs.contracts.memory.Memory+ReadOnly.into_slice as f
+use Rattle.spans.proofs.memory.Memory+ReadOnly.into_slice.Statement.{statement}
+use Rattle.spans.proofs.memory.Memory+ReadOnly.into_slice.Code as code
+
+abbrev stayed : Stays f.ended.signature.params f.ended.kept
+stayed = (stay_dropped (slot_at 0 f.ended.signature.params) f.ended.kept.0, (stay_dropped (slot_at 1 f.ended.signature.params) f.ended.kept.1.0, (stay_dropped (slot_at 2 f.ended.signature.params) f.ended.kept.1.1.0, tt)))
+
+pub into_slice_spec : {M : Type 1} → statement M
+into_slice_spec 𝓤 𝓛 𝓜 𝓡 wired =
+    let c = f.clauses 𝓛 𝓜.mem 𝓡.returns in let W = walk_of 𝓛 f.ended stayed c in let 𝓣 = tables 𝓤 𝓛.H 𝓜 𝓡 𝓡.env in
+    proved_at 𝓛 f.ended stayed c 𝓜 𝓡 (goes 𝓛 1 (slot_at 0 f.ended.signature.params) f.ended.kept.0 (λ κs x w. tt), (goes 𝓛 1 (slot_at 1 f.ended.signature.params) f.ended.kept.1.0 (λ κs x w. tt), (goes 𝓛 1 (slot_at 2 f.ended.signature.params) f.ended.kept.1.1.0 (λ κs x w. tt), tt)))
+    f.Key.name code.function (code.unfolded 𝓤 𝓛.H 𝓜 𝓡 wired) (λ z are.
+    let Post : Val → SProp 𝓤 = W.post z in let a = z.0.3 in let vss = z.0.4 in
+    let κ = z.0.0.0 in let q = z.0.1.0 in let m = a.0 in let b = m.place.0 in let o = m.place.1 in let n = a.1.1.0 in
+    let Starts : Type 0 = a.1.0.at ≡ block_ptr b o in let Asks : Type 0 = n ≡ length m.bytes in
+    let fits = are.1.1.0.1 in
+    qed 𝓛 (((‵ (flft κ q) ⊛ ‵ ftrue) ⊛ ‵ (owns (types_at f.ended.signature.params z.0.0) a vss)) ∷ (raw (fact 𝓤 Starts) ⊛ raw (fact 𝓤 Asks)) ∷ []) ∵
+    move ! (1 ∷ []) $ split ! $ heard ! Starts (λ starts. heard ! Asks (λ asks. split ! $ split ! $ move ! (2 ∷ []) $ fsplit ! $ fsplit ! $ keep ! (1 ∷ 3 ∷ []) $
+    -- [the bytes; the token]
+    regoal ! (λ (us : List Val). prop (WpFn 𝓤 𝓛.H 𝓣.C 𝓣.Λ code.function us Post))
+    (λ i. mark_told vss.0 are.0.0 i ++ ((start_told a.1.0.at vss.1.0 are.1.0 ∙ ap (λ (r : Ptr). start_val r ∷ []) starts) i ++ (are.1.1.0.0 i ++ []))) refl $
+    enter ! 𝓣.C 𝓣.Λ code.function (mark_val ∷ start_val (block_ptr b o) ∷ vint w64 n ∷ []) Post $
+    alloc_all ! (λ l. pass_all ! refl ((tt, (tt, tt)), ((tt, (tt, tt)), ((tt, record { fits = fits }), tt))) $
+    let En : Env 𝓤 𝓛.H = env (code.function).locals l in
+    first ! $ blocks ! $
+    sets_last ! (agg ! (and_then ! (get_in ! (fld ! refl (stop !)) (sub ! 0 refl (whole !))) (and_then ! (get ! refl) (no_more !)))) refl (tt, (tt, (record { fits = fits }, tt))) $
+    exec ! 𝓣.C 𝓣.Λ En (after 1 (code.function).body) (at_ret En Post) $
+    sets ! (of_opd ! (get ! refl)) refl (tt, (tt, (record { fits = fits }, tt))) $
+    returns ! (look_at ! 0 refl) $ free_all ! refl $
+    let s = view_of m.place m.bytes in
+    rewrite ! 0 (λ (j : ℕ). ‵ ((ShrSlice (named 0) κ u8).own_val s (slice_val m.place j ∷ []))) (sym asks) refl $
+    suffices ! _ (ends_at 𝓛 f.ended stayed c z (slice_val m.place n) s (tt, (tt, (tt, tt))) (tt, (tt, (tt, tt)))) $ says_two ! refl refl $
+    nothing ! $ nothing ! $ fjoin ! $ nothing ! $ fjoin ! $ nothing ! $ fjoin ! $ join ! $ nothing ! $ move ! (2 ∷ 0 ∷ []) $ join ! $ join ! $ done !))))
