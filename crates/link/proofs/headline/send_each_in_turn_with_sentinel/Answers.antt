@@ -8,6 +8,27 @@ use Rattle.link.specs.Values.{sends_of, runs_of}
 use Rattle.link.proofs.Fully.{all_read, wrote_both, sends_beside, are_sends}
 use Rattle.link.proofs.headline.send_each_in_turn_with_sentinel.Goals as goal
 
+pub send_each_with_sentinel-after_first-requires-clause-places : goal.send_each_with_sentinel-after_first-requires-clause-places
+send_each_with_sentinel-after_first-requires-clause-places g c = c.requires.first_places
+
+pub send_each_with_sentinel-after_first-requires-clause-some : goal.send_each_with_sentinel-after_first-requires-clause-some
+send_each_with_sentinel-after_first-requires-clause-some g c = c.requires.some
+
+pub send_each_with_sentinel-after_first-requires-clause-fits : goal.send_each_with_sentinel-after_first-requires-clause-fits
+send_each_with_sentinel-after_first-requires-clause-fits g c = c.requires.sender
+
+pub send_each_with_sentinel-after_second-requires-clause-places : goal.send_each_with_sentinel-after_second-requires-clause-places
+send_each_with_sentinel-after_second-requires-clause-places g c = c.requires.second_places
+
+pub send_each_with_sentinel-after_second-requires-clause-some : goal.send_each_with_sentinel-after_second-requires-clause-some
+send_each_with_sentinel-after_second-requires-clause-some g c = c.requires.some
+
+pub send_each_with_sentinel-after_second-requires-clause-fits : goal.send_each_with_sentinel-after_second-requires-clause-fits
+send_each_with_sentinel-after_second-requires-clause-fits g c = c.requires.sender
+
+pub receive_with_sentinel-received-requires : goal.receive_with_sentinel-received-requires
+receive_with_sentinel-received-requires g c = c.requires.receiver
+
 pub returns : goal.returns
 returns g c bytes empty wrote comes ends =
     let s = c.args.sentinel in

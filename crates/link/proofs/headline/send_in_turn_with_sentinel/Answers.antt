@@ -7,6 +7,15 @@ use Rattle.link.specs.Together.{in_turn}
 use Rattle.link.proofs.Fully.{all_read, takes_send, wrote_in_turn, sent_is}
 use Rattle.link.proofs.headline.send_in_turn_with_sentinel.Goals as goal
 
+pub send-first-requires : goal.send-first-requires
+send-first-requires g c = c.requires.sender
+
+pub send-second-requires : goal.send-second-requires
+send-second-requires g c = c.requires.sender
+
+pub receive_with_sentinel-received-requires : goal.receive_with_sentinel-received-requires
+receive_with_sentinel-received-requires g c = c.requires.receiver
+
 pub returns : goal.returns
 returns g c bytes empty wrote comes ends =
     let s = c.args.sentinel in
