@@ -42,11 +42,11 @@ fn is_full_block(frame: &[u8]) -> bool {
 fn full_block(rt: HostRuntime) {
     let mut frame = [0u8; 257];
     let mut encoder = CobsEncoder::new_with_sentinel(&mut frame, 1);
+    let pushed = [encoder.push(&[1; 254]), encoder.push(&[7])];
     assert!(rt;
-        encoder.push(&[1; 254]).is_ok() && encoder.push(&[7]).is_ok() && encoder.finalize() == 257
-    );
-    assert!(rt;
-        frame[0] == 254
+        pushed == [Ok(()); 2]
+            && encoder.finalize() == 257
+            && frame[0] == 254
             && frame[1..255] == [0; 254]
             && frame[255..] == [3, 6]
             && is_full_block(&frame)
@@ -74,10 +74,11 @@ fn decoder_that_keeps_a_vector(rt: HostRuntime) {
 #[test]
 fn decoder_that_keeps_an_array(rt: HostRuntime) {
     let mut decoder = CobsDecoderHeapless::<4>::new_with_sentinel(10);
-    assert!(rt; decoder.push(&FRAME[..3]) == Ok(None));
+    let cut = decoder.push(&FRAME[..3]);
     decoder.reset();
     assert!(rt;
-        decoder.push(&FRAME) == Ok(None)
+        cut == Ok(None)
+            && decoder.push(&FRAME) == Ok(None)
             && decoder.feed(10) == Ok(Some(4))
             && decoder.dest() == [10, 11, 0, 12].as_slice()
     );

@@ -6,17 +6,15 @@ const MESSAGE: [u8; 4] = [10, 11, 0, 12];
 
 #[test]
 fn greatest_lengths(rt: HostRuntime) {
-    for (len, most) in [
-        (0, 1),
-        (253, 254),
-        (254, 255),
-        (255, 257),
-        (508, 510),
-        (509, 512),
-    ] {
-        assert!(rt; max_encoding_length(len) == most, "at {len}");
-    }
-    assert!(rt; max_encoding_overhead(509) == 3);
+    let lengths = [
+        max_encoding_length(0),
+        max_encoding_length(253),
+        max_encoding_length(254),
+        max_encoding_length(255),
+        max_encoding_length(508),
+        max_encoding_length(509),
+    ];
+    assert!(rt; lengths == [1, 254, 255, 257, 510, 512] && max_encoding_overhead(509) == 3);
 }
 
 #[test]
@@ -28,24 +26,35 @@ fn no_room_between_zeros(rt: HostRuntime) {
     );
 }
 
+// Whether 254 ones are taken and one more is not, nor anything behind it.
+fn takes_a_full_block(encoder: &mut CobsEncoder<'_>) -> bool {
+    let pushed = [
+        encoder.push(&[1; 254]),
+        encoder.push(&[]),
+        encoder.push(&[1]),
+        encoder.push(&[]),
+    ];
+    let full = Err(DestBufTooSmallError);
+    pushed == [Ok(()), Ok(()), full, full]
+}
+
 #[test]
 fn a_byte_more_than_a_full_block(rt: HostRuntime) {
-    let ones = [1u8; 254];
     let mut dest = [0u8; 255];
     let mut encoder = CobsEncoder::new(&mut dest);
     assert!(rt;
-        encoder.push(&ones) == Ok(())
-            && encoder.push(&[]) == Ok(())
-            && encoder.push(&[1]) == Err(DestBufTooSmallError)
-            && encoder.push(&[]) == Err(DestBufTooSmallError)
-            && encoder.frame_length() == 0
-            && encoder.finalize() == 0
+        takes_a_full_block(&mut encoder) && encoder.frame_length() == 0 && encoder.finalize() == 0
     );
 }
 
 // Whether 254 ones are taken in pieces.
 fn takes_pieces(encoder: &mut CobsEncoder<'_>) -> bool {
     encoder.push(&[1; 100]).is_ok() && encoder.push(&[1; 154]).is_ok() && encoder.push(&[]).is_ok()
+}
+
+// Whether a frame is that of 300 ones.
+fn is_frame_of_ones(frame: &[u8; 302]) -> bool {
+    frame[0] == 0xFF && frame[255] == 0x2F && frame[1..255] == [1; 254] && frame[256..] == [1; 46]
 }
 
 #[test]
@@ -56,10 +65,7 @@ fn pieces_across_blocks(rt: HostRuntime) {
         takes_pieces(&mut encoder)
             && encoder.push(&[1; 46]) == Ok(())
             && encoder.finalize() == 302
-            && dest[0] == 0xFF
-            && dest[255] == 0x2F
-            && dest[1..255] == [1; 254]
-            && dest[256..] == [1; 46]
+            && is_frame_of_ones(&dest)
     );
 }
 

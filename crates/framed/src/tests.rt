@@ -141,45 +141,44 @@ const FRAMED_HEX: &[u8] = b"00040268690001010003014100\n";
 
 const VALUES: &[u8] = b"value hi\nvalue \nvalue A\n";
 
+const PACKED: [Row<'static>; 6] = [
+    Row {
+        text: b"hi\n\nA",
+        out: FRAMED_HEX,
+        ..PACK_HEX
+    },
+    Row {
+        text: b"hi\n\nA\n",
+        out: FRAMED_HEX,
+        ..PACK_HEX
+    },
+    Row {
+        text: b"",
+        out: b"\n",
+        ..PACK_HEX
+    },
+    Row {
+        text: b"hi\n\nA",
+        out: FRAMED,
+        ..PACK
+    },
+    Row {
+        text: b"",
+        out: b"",
+        ..PACK
+    },
+    Row {
+        text: b"\xff\nb",
+        out: b"\x00\x03\x01b\x00",
+        said: b"line 1: refused\n",
+        status: 1,
+        ..PACK
+    },
+];
+
 #[test]
 fn packs(rt: HostRuntime) {
-    expect(
-        &rt,
-        &[
-            Row {
-                text: b"hi\n\nA",
-                out: FRAMED_HEX,
-                ..PACK_HEX
-            },
-            Row {
-                text: b"hi\n\nA\n",
-                out: FRAMED_HEX,
-                ..PACK_HEX
-            },
-            Row {
-                text: b"",
-                out: b"\n",
-                ..PACK_HEX
-            },
-            Row {
-                text: b"hi\n\nA",
-                out: FRAMED,
-                ..PACK
-            },
-            Row {
-                text: b"",
-                out: b"",
-                ..PACK
-            },
-            Row {
-                text: b"\xff\nb",
-                out: b"\x00\x03\x01b\x00",
-                said: b"line 1: refused\n",
-                status: 1,
-                ..PACK
-            },
-        ],
-    );
+    expect(&rt, &PACKED);
 }
 
 const LETTERS: [u8; 1018] = [b'a'; 1018];
@@ -238,148 +237,147 @@ fn packs_zeros_up_to_the_limit(rt: HostRuntime) {
     );
 }
 
+const UNPACKED_HEX: [Row<'static>; 5] = [
+    Row {
+        text: FRAMED_HEX,
+        out: VALUES,
+        ..UNPACK_HEX
+    },
+    Row {
+        text: b"00040268690001010003014100",
+        out: VALUES,
+        ..UNPACK_HEX
+    },
+    Row {
+        text: b"05035c0a6100",
+        out: b"value \\\\\\na\n",
+        ..UNPACK_HEX
+    },
+    Row {
+        text: b"05035C0A6100",
+        out: b"value \\\\\\na\n",
+        ..UNPACK_HEX
+    },
+    Row {
+        text: b"0401626300",
+        out: b"value b\n",
+        ..UNPACK_HEX
+    },
+];
+
 #[test]
 fn unpacks_hex(rt: HostRuntime) {
-    expect(
-        &rt,
-        &[
-            Row {
-                text: FRAMED_HEX,
-                out: VALUES,
-                ..UNPACK_HEX
-            },
-            Row {
-                text: b"00040268690001010003014100",
-                out: VALUES,
-                ..UNPACK_HEX
-            },
-            Row {
-                text: b"05035c0a6100",
-                out: b"value \\\\\\na\n",
-                ..UNPACK_HEX
-            },
-            Row {
-                text: b"05035C0A6100",
-                out: b"value \\\\\\na\n",
-                ..UNPACK_HEX
-            },
-            Row {
-                text: b"0401626300",
-                out: b"value b\n",
-                ..UNPACK_HEX
-            },
-        ],
-    );
+    expect(&rt, &UNPACKED_HEX);
 }
+
+const UNPACKED_STRICTLY: [Row<'static>; 3] = [
+    Row {
+        text: b"0401626300",
+        out: b"damaged\n",
+        status: 1,
+        ..STRICT_HEX
+    },
+    Row {
+        text: FRAMED,
+        out: VALUES,
+        ..STRICT
+    },
+    Row {
+        text: b"\x05\x82\x80hi\x00\x04\x02hi\x00",
+        out: b"damaged\nvalue hi\n",
+        status: 1,
+        ..STRICT
+    },
+];
 
 /// A text that sending spells otherwise, behind a byte that is no part of it, and one that it spells so.
 #[test]
 fn unpacks_strictly(rt: HostRuntime) {
-    expect(
-        &rt,
-        &[
-            Row {
-                text: b"0401626300",
-                out: b"damaged\n",
-                status: 1,
-                ..STRICT_HEX
-            },
-            Row {
-                text: FRAMED,
-                out: VALUES,
-                ..STRICT
-            },
-            Row {
-                text: b"\x05\x82\x80hi\x00\x04\x02hi\x00",
-                out: b"damaged\nvalue hi\n",
-                status: 1,
-                ..STRICT
-            },
-        ],
-    );
+    expect(&rt, &UNPACKED_STRICTLY);
 }
+
+const BAD_HEX: Row<'static> = Row {
+    said: b"bad hex\n",
+    status: 2,
+    ..UNPACK_HEX
+};
+
+const BAD_HEX_ROWS: [Row<'static>; 3] = [
+    Row {
+        text: b"0g",
+        ..BAD_HEX
+    },
+    Row {
+        text: b"000",
+        ..BAD_HEX
+    },
+    Row {
+        text: b"0g",
+        mode: Mode::Strict,
+        ..BAD_HEX
+    },
+];
 
 #[test]
 fn refuses_bad_hex(rt: HostRuntime) {
-    let bad = Row {
-        said: b"bad hex\n",
-        status: 2,
-        ..UNPACK_HEX
-    };
-    expect(
-        &rt,
-        &[
-            Row { text: b"0g", ..bad },
-            Row {
-                text: b"000",
-                ..bad
-            },
-            Row {
-                text: b"0g",
-                mode: Mode::Strict,
-                ..bad
-            },
-        ],
-    );
+    expect(&rt, &BAD_HEX_ROWS);
 }
+
+const BY_SENTINEL: [Row<'static>; 4] = [
+    Row {
+        sentinel: 0x0a,
+        text: b"hi",
+        out: b"0a0e0862630a\n",
+        ..PACK_HEX
+    },
+    Row {
+        sentinel: 0x7e,
+        text: b"~\nhi",
+        out: b"~}\x7f\x00~z|\x16\x17~",
+        ..PACK
+    },
+    Row {
+        sentinel: 0x0a,
+        text: b"0a0e0862630a",
+        out: b"value hi\n",
+        ..UNPACK_HEX
+    },
+    Row {
+        sentinel: 0x7e,
+        text: b"~}\x7f\x00~z|\x16\x17~",
+        out: b"value ~\nvalue hi\n",
+        ..UNPACK
+    },
+];
 
 /// With another sentinel in place of zero.
 #[test]
 fn goes_by_the_sentinel(rt: HostRuntime) {
-    expect(
-        &rt,
-        &[
-            Row {
-                sentinel: 0x0a,
-                text: b"hi",
-                out: b"0a0e0862630a\n",
-                ..PACK_HEX
-            },
-            Row {
-                sentinel: 0x7e,
-                text: b"~\nhi",
-                out: b"~}\x7f\x00~z|\x16\x17~",
-                ..PACK
-            },
-            Row {
-                sentinel: 0x0a,
-                text: b"0a0e0862630a",
-                out: b"value hi\n",
-                ..UNPACK_HEX
-            },
-            Row {
-                sentinel: 0x7e,
-                text: b"~}\x7f\x00~z|\x16\x17~",
-                out: b"value ~\nvalue hi\n",
-                ..UNPACK
-            },
-        ],
-    );
+    expect(&rt, &BY_SENTINEL);
 }
+
+const DAMAGED_BY_SENTINEL: [Row<'static>; 2] = [
+    Row {
+        sentinel: 0x0a,
+        text: b"\n\x0f\x62\n\x0e\x08\x62\x63\n\x0e",
+        out: b"damaged\nvalue hi\ncut\n",
+        status: 1,
+        ..UNPACK
+    },
+    Row {
+        sentinel: 0x0a,
+        text: b"0e0b68690a0e0862630a",
+        out: b"damaged\nvalue hi\n",
+        status: 1,
+        ..STRICT_HEX
+    },
+];
 
 /// So too: a frame that lacks bytes, one behind it, and one that nothing ends; a text with a byte behind it that is no part
 /// of it, and one that sending spells so.
 #[test]
 fn unpacks_damage_with_sentinel(rt: HostRuntime) {
-    expect(
-        &rt,
-        &[
-            Row {
-                sentinel: 0x0a,
-                text: b"\n\x0f\x62\n\x0e\x08\x62\x63\n\x0e",
-                out: b"damaged\nvalue hi\ncut\n",
-                status: 1,
-                ..UNPACK
-            },
-            Row {
-                sentinel: 0x0a,
-                text: b"0e0b68690a0e0862630a",
-                out: b"damaged\nvalue hi\n",
-                status: 1,
-                ..STRICT_HEX
-            },
-        ],
-    );
+    expect(&rt, &DAMAGED_BY_SENTINEL);
 }
 
 /// Stretches that hold no text, one that is too long, and one that nothing ends.
@@ -406,56 +404,66 @@ fn unpacks_damage(rt: HostRuntime) {
     );
 }
 
-/// The same, and the reader fails after so many bytes.
-fn unread(row: Row<'_>, before: usize) -> Row<'_> {
-    Row {
-        read_fault: Some(before),
-        said: b"read failed\n",
-        status: 3,
-        ..row
-    }
-}
-
 const STRETCH: [u8; 1025] = [1; 1025];
+
+const UNREAD: Row<'static> = Row {
+    said: b"read failed\n",
+    status: 3,
+    ..PACK
+};
+
+const UNREAD_ROWS: [Row<'static>; 7] = [
+    Row {
+        mode: Mode::Unpack,
+        text: b"\x00\x04\x02hi\x00\x04",
+        read_fault: Some(7),
+        out: b"value hi\n",
+        ..UNREAD
+    },
+    Row {
+        mode: Mode::Unpack,
+        text: &STRETCH,
+        read_fault: Some(1025),
+        out: b"too long\n",
+        ..UNREAD
+    },
+    Row {
+        mode: Mode::Strict,
+        text: b"\x04\x02hi\x00\x04\x01bc\x00\x04",
+        read_fault: Some(11),
+        out: b"value hi\ndamaged\n",
+        ..UNREAD
+    },
+    Row {
+        mode: Mode::Unpack,
+        hex: true,
+        text: b"00040268690004",
+        read_fault: Some(14),
+        ..UNREAD
+    },
+    Row {
+        mode: Mode::Strict,
+        hex: true,
+        text: b"00040268690004",
+        read_fault: Some(14),
+        ..UNREAD
+    },
+    Row {
+        text: b"hi\n",
+        read_fault: Some(3),
+        ..UNREAD
+    },
+    Row {
+        hex: true,
+        text: b"hi\n",
+        read_fault: Some(3),
+        ..UNREAD
+    },
+];
 
 #[test]
 fn reader_fails(rt: HostRuntime) {
-    expect(
-        &rt,
-        &[
-            Row {
-                text: b"\x00\x04\x02hi\x00\x04",
-                out: b"value hi\n",
-                ..unread(UNPACK, 7)
-            },
-            Row {
-                text: &STRETCH,
-                out: b"too long\n",
-                ..unread(UNPACK, 1025)
-            },
-            Row {
-                text: b"\x04\x02hi\x00\x04\x01bc\x00\x04",
-                out: b"value hi\ndamaged\n",
-                ..unread(STRICT, 11)
-            },
-            Row {
-                text: b"00040268690004",
-                ..unread(UNPACK_HEX, 14)
-            },
-            Row {
-                text: b"00040268690004",
-                ..unread(STRICT_HEX, 14)
-            },
-            Row {
-                text: b"hi\n",
-                ..unread(PACK, 3)
-            },
-            Row {
-                text: b"hi\n",
-                ..unread(PACK_HEX, 3)
-            },
-        ],
-    );
+    expect(&rt, &UNREAD_ROWS);
 }
 
 /// The same, and the writer fails after so many bytes.
@@ -468,87 +476,110 @@ fn unwritten(row: Row<'_>, before: usize, fault: Fault) -> Row<'_> {
     }
 }
 
-fn expect_unwritten<R: AllocGlobal + Abort>(rt: &R, fault: Fault) {
-    expect(
-        rt,
-        &[
-            Row {
-                text: b"hi",
-                out: b"\x00\x04",
-                ..unwritten(PACK, 2, fault)
-            },
-            Row {
-                text: b"hi",
-                out: b"00",
-                ..unwritten(PACK_HEX, 2, fault)
-            },
-            Row {
-                text: b"\x04\x02hi\x00",
-                out: b"va",
-                ..unwritten(UNPACK, 2, fault)
-            },
-            Row {
-                text: b"\xff\nhi",
-                out: b"\x00\x04",
-                said: b"line 1: refused\nwrite failed\n",
-                ..unwritten(PACK, 2, fault)
-            },
-        ],
-    );
-}
-
-#[test]
-fn writer_fails(rt: HostRuntime) {
-    expect_unwritten(&rt, Fault::Fail);
-    expect_unwritten(&rt, Fault::Nothing);
-}
-
-/// The same, and standard error fails after so many bytes.
-fn unsaid(row: Row<'_>, before: usize, fault: Fault) -> Row<'_> {
-    Row {
-        saying_fault: Some((before, fault)),
-        status: 3,
-        ..row
+/// Another kind of fault after as many bytes: nothing is taken.
+fn nothing_after(fault: Option<(usize, Fault)>) -> Option<(usize, Fault)> {
+    match fault {
+        Some((before, _)) => Some((before, Fault::Nothing)),
+        None => None,
     }
 }
 
-fn expect_unsaid<R: AllocGlobal + Abort>(rt: &R, fault: Fault) {
-    expect(
-        rt,
-        &[
-            Row {
-                text: b"\xff",
-                ..unsaid(PACK, 0, fault)
-            },
-            Row {
-                text: b"\xff\nb",
-                ..unsaid(PACK, 0, fault)
-            },
-            Row {
-                text: b"\xff\nb",
-                said: b"line",
-                ..unsaid(PACK, 4, fault)
-            },
-            Row {
-                text: b"0g",
-                said: b"bad",
-                ..unsaid(UNPACK_HEX, 3, fault)
-            },
-            Row {
-                text: b"\x04\x02hi\x00",
-                read_fault: Some(5),
-                out: b"value hi\n",
-                said: b"read",
-                ..unsaid(UNPACK, 4, fault)
-            },
-        ],
-    );
+/// Expects it of each row, and of the same where nothing is taken in place of a fault.
+fn expect_at_each_fault<R: AllocGlobal + Abort>(rt: &R, rows: &[Row<'_>]) {
+    for (at, row) in rows.iter().enumerate() {
+        let nothing = Row {
+            write_fault: nothing_after(row.write_fault),
+            saying_fault: nothing_after(row.saying_fault),
+            ..*row
+        };
+        assert!(rt;
+            is_right(rt.alloc(), *row) && is_right(rt.alloc(), nothing),
+            "row {at}"
+        );
+    }
 }
+
+const UNWRITTEN: Row<'static> = Row {
+    write_fault: Some((2, Fault::Fail)),
+    said: b"write failed\n",
+    status: 3,
+    ..PACK
+};
+
+const UNWRITTEN_ROWS: [Row<'static>; 4] = [
+    Row {
+        text: b"hi",
+        out: b"\x00\x04",
+        ..UNWRITTEN
+    },
+    Row {
+        hex: true,
+        text: b"hi",
+        out: b"00",
+        ..UNWRITTEN
+    },
+    Row {
+        mode: Mode::Unpack,
+        text: b"\x04\x02hi\x00",
+        out: b"va",
+        ..UNWRITTEN
+    },
+    Row {
+        text: b"\xff\nhi",
+        out: b"\x00\x04",
+        said: b"line 1: refused\nwrite failed\n",
+        ..UNWRITTEN
+    },
+];
+
+#[test]
+fn writer_fails(rt: HostRuntime) {
+    expect_at_each_fault(&rt, &UNWRITTEN_ROWS);
+}
+
+const UNSAID: Row<'static> = Row {
+    saying_fault: Some((0, Fault::Fail)),
+    status: 3,
+    ..PACK
+};
+
+const UNSAID_ROWS: [Row<'static>; 5] = [
+    Row {
+        text: b"\xff",
+        ..UNSAID
+    },
+    Row {
+        text: b"\xff\nb",
+        ..UNSAID
+    },
+    Row {
+        text: b"\xff\nb",
+        saying_fault: Some((4, Fault::Fail)),
+        said: b"line",
+        ..UNSAID
+    },
+    Row {
+        mode: Mode::Unpack,
+        hex: true,
+        text: b"0g",
+        saying_fault: Some((3, Fault::Fail)),
+        said: b"bad",
+        ..UNSAID
+    },
+    Row {
+        mode: Mode::Unpack,
+        text: b"\x04\x02hi\x00",
+        read_fault: Some(5),
+        saying_fault: Some((4, Fault::Fail)),
+        out: b"value hi\n",
+        said: b"read",
+        ..UNSAID
+    },
+];
 
 #[test]
 fn standard_error_fails(rt: HostRuntime) {
-    expect_unsaid(&rt, Fault::Fail);
-    expect_unsaid(&rt, Fault::Nothing);
+    expect_at_each_fault(&rt, &UNSAID_ROWS);
 }
 
 /// Whether a run writes what the row has and nothing is said, or a growth was refused: then it says so, and writes a
@@ -570,51 +601,49 @@ fn expect_or_no_memory<R: AllocGlobal + Abort>(rt: &R, rows: &[Row<'_>]) {
     }
 }
 
+const SHORT_RUNS: [Row<'static>; 3] = [
+    Row {
+        text: b"hi\n\nA",
+        out: FRAMED_HEX,
+        ..PACK_HEX
+    },
+    Row {
+        text: FRAMED_HEX,
+        out: VALUES,
+        ..UNPACK_HEX
+    },
+    Row {
+        text: FRAMED,
+        out: VALUES,
+        ..UNPACK
+    },
+];
+
 /// To be run with each growth refused in turn: `rt try --test --fail-alloc N`. The other tests ask for the whole.
 #[test]
 fn memory_runs_out(rt: HostRuntime) {
-    expect_or_no_memory(
-        &rt,
-        &[
-            Row {
-                text: b"hi\n\nA",
-                out: FRAMED_HEX,
-                ..PACK_HEX
-            },
-            Row {
-                text: FRAMED_HEX,
-                out: VALUES,
-                ..UNPACK_HEX
-            },
-            Row {
-                text: FRAMED,
-                out: VALUES,
-                ..UNPACK
-            },
-        ],
-    );
+    expect_or_no_memory(&rt, &SHORT_RUNS);
 }
+
+const SHORT_RUNS_BY_SENTINEL: [Row<'static>; 2] = [
+    Row {
+        sentinel: 0x0a,
+        text: b"hi",
+        out: b"0a0e0862630a\n",
+        ..PACK_HEX
+    },
+    Row {
+        sentinel: 0x0a,
+        text: b"0a0e0862630a\n",
+        out: b"value hi\n",
+        ..STRICT_HEX
+    },
+];
 
 /// To be run so too.
 #[test]
 fn memory_runs_out_with_sentinel(rt: HostRuntime) {
-    expect_or_no_memory(
-        &rt,
-        &[
-            Row {
-                sentinel: 0x0a,
-                text: b"hi",
-                out: b"0a0e0862630a\n",
-                ..PACK_HEX
-            },
-            Row {
-                sentinel: 0x0a,
-                text: b"0a0e0862630a\n",
-                out: b"value hi\n",
-                ..STRICT_HEX
-            },
-        ],
-    );
+    expect_or_no_memory(&rt, &SHORT_RUNS_BY_SENTINEL);
 }
 
 /// A piece so many times, and what stands before and behind it.
@@ -729,20 +758,31 @@ fn refuses_late_lines(rt: HostRuntime) {
     assert!(rt; is_long_right(rt.alloc(), row, text, out));
 }
 
+/// Runs on long streams, and the streams.
+const LONG_STREAMS: [(Row<'static>, Repeated<'static>); 4] = [
+    (UNPACK, FRAMES),
+    (STRICT, FRAMES),
+    (UNPACK_HEX, CAPITALS),
+    (STRICT_HEX, CAPITALS),
+];
+
 #[test]
 fn unpacks_long_streams(rt: HostRuntime) {
-    assert!(rt;
-        is_long_right(rt.alloc(), UNPACK, FRAMES, SAID)
-            && is_long_right(rt.alloc(), STRICT, FRAMES, SAID)
-            && is_long_right(rt.alloc(), UNPACK_HEX, CAPITALS, SAID)
-            && is_long_right(rt.alloc(), STRICT_HEX, CAPITALS, SAID)
-    );
+    for (row, stream) in &LONG_STREAMS {
+        assert!(rt; is_long_right(rt.alloc(), *row, *stream, SAID));
+    }
 }
+
+const LONG_UNREAD: Row<'static> = Row {
+    mode: Mode::Unpack,
+    read_fault: Some(16_001),
+    ..UNREAD
+};
 
 /// Of a long stream whose reader fails, the lines of what it gave are written.
 #[test]
 fn long_streams_that_fail(rt: HostRuntime) {
-    assert!(rt; is_long_right(rt.alloc(), unread(UNPACK, 16_001), FRAMES, SAID));
+    assert!(rt; is_long_right(rt.alloc(), LONG_UNREAD, FRAMES, SAID));
 }
 
 /// The digits are read some at a time: the last of many isn't one.

@@ -37,59 +37,56 @@ fn expect<R: AllocGlobal + Abort>(rt: &R, rows: &[(&str, Mode, bool, u8)]) {
     }
 }
 
+const MODES: [(&str, Mode, bool, u8); 10] = [
+    ("pack", Mode::Pack, false, 0),
+    ("pack hex", Mode::Pack, true, 0),
+    ("unpack", Mode::Unpack, false, 0),
+    ("unpack hex", Mode::Unpack, true, 0),
+    ("strict", Mode::Strict, false, 0),
+    ("strict hex", Mode::Strict, true, 0),
+    ("pack sentinel=7E", Mode::Pack, false, 0x7e),
+    ("pack hex sentinel=0a", Mode::Pack, true, 0x0a),
+    ("unpack hex sentinel=0A", Mode::Unpack, true, 0x0a),
+    ("strict sentinel=ff", Mode::Strict, false, 0xff),
+];
+
 #[test]
 fn reads_words(rt: HostRuntime) {
-    expect(
-        &rt,
-        &[
-            ("pack", Mode::Pack, false, 0),
-            ("pack hex", Mode::Pack, true, 0),
-            ("unpack", Mode::Unpack, false, 0),
-            ("unpack hex", Mode::Unpack, true, 0),
-            ("strict", Mode::Strict, false, 0),
-            ("strict hex", Mode::Strict, true, 0),
-            ("pack sentinel=7E", Mode::Pack, false, 0x7e),
-            ("pack hex sentinel=0a", Mode::Pack, true, 0x0a),
-            ("unpack hex sentinel=0A", Mode::Unpack, true, 0x0a),
-            ("strict sentinel=ff", Mode::Strict, false, 0xff),
-        ],
-    );
+    expect(&rt, &MODES);
 }
+
+const OTHER_WORDS: [&str; 8] = [
+    "",
+    "hex",
+    "Strict",
+    "strict strict",
+    "pack HEX",
+    "hex pack",
+    "pack hex hex",
+    "packs",
+];
 
 #[test]
 fn refuses_other_words(rt: HostRuntime) {
-    expect_refused(
-        &rt,
-        &[
-            "",
-            "hex",
-            "Strict",
-            "strict strict",
-            "pack HEX",
-            "hex pack",
-            "pack hex hex",
-            "packs",
-        ],
-    );
+    expect_refused(&rt, &OTHER_WORDS);
 }
+
+const OTHER_SENTINELS: [&str; 12] = [
+    "pack sentinel=0",
+    "pack sentinel=0g",
+    "pack sentinel=0A0",
+    "pack sentinel=",
+    "pack sentinel",
+    "pack Sentinel=0a",
+    "pack sentinel=0a hex",
+    "pack sentinel=0a sentinel=0a",
+    "pack hex sentinel=0a sentinel=0a",
+    "pack hex hex sentinel=0a",
+    "sentinel=0a",
+    "sentinel=0a pack",
+];
 
 #[test]
 fn refuses_other_sentinels(rt: HostRuntime) {
-    expect_refused(
-        &rt,
-        &[
-            "pack sentinel=0",
-            "pack sentinel=0g",
-            "pack sentinel=0A0",
-            "pack sentinel=",
-            "pack sentinel",
-            "pack Sentinel=0a",
-            "pack sentinel=0a hex",
-            "pack sentinel=0a sentinel=0a",
-            "pack hex sentinel=0a sentinel=0a",
-            "pack hex hex sentinel=0a",
-            "sentinel=0a",
-            "sentinel=0a pack",
-        ],
-    );
+    expect_refused(&rt, &OTHER_SENTINELS);
 }

@@ -71,11 +71,10 @@ fn a_slice_gives_its_bytes(rt: HostRuntime) {
 
 // Whether three bytes are given one after another, and no more, by a source that foretells none.
 fn gives_three_bytes<F: Flavor>(source: &mut F) -> bool {
+    let end = Err(Error::DeserializeUnexpectedEnd);
     source.size_hint() == None
-        && source.pop() == Ok(0xAA)
-        && source.pop() == Ok(0xBB)
-        && source.pop() == Ok(0xCC)
-        && source.pop() == Err(Error::DeserializeUnexpectedEnd)
+        && [source.pop(), source.pop(), source.pop(), source.pop()]
+            == [Ok(0xAA), Ok(0xBB), Ok(0xCC), end]
 }
 
 #[test]
@@ -86,16 +85,19 @@ fn a_reader_needs_no_buffer_for_a_byte(rt: HostRuntime) {
     assert!(rt; gives_three_bytes(&mut reader));
 }
 
+// Whether two pairs of bytes are taken, and no third.
+fn takes_two_pairs<'a, F: Flavor<Taken = &'a [u8]>>(source: &mut F) -> bool {
+    source.try_take_n(2) == Ok([0xAA, 0xBB].as_slice())
+        && source.try_take_n(2) == Ok([0xCC, 0xDD].as_slice())
+        && source.try_take_n(2) == Err(Error::DeserializeUnexpectedEnd)
+}
+
 #[test]
 fn bytes_by_a_reader_use_the_buffer(rt: HostRuntime) {
     let bytes = [0xAA, 0xBB, 0xCC, 0xDD, 0xEE];
     let mut buffer = [0u8; 8];
     let mut reader = IOReader::new(&bytes[..], &mut buffer);
-    assert!(rt;
-        reader.try_take_n(2) == Ok([0xAA, 0xBB].as_slice())
-            && reader.try_take_n(2) == Ok([0xCC, 0xDD].as_slice())
-            && reader.try_take_n(2) == Err(Error::DeserializeUnexpectedEnd)
-    );
+    assert!(rt; takes_two_pairs(&mut reader));
     match reader.finalize() {
         Ok((_, rest)) => assert!(rt; rest.len() == 2),
         Err(_) => assert!(rt; false),
@@ -104,8 +106,8 @@ fn bytes_by_a_reader_use_the_buffer(rt: HostRuntime) {
 
 // Whether three bytes are refused by each call, and given by two others.
 fn refuses_three_bytes<F: Flavor>(source: &mut F) -> bool {
-    source.try_take_n(3).err() == Some(Error::DeserializeUnexpectedEnd)
-        && source.try_take_n_temp(3) == Err(Error::DeserializeUnexpectedEnd)
+    let refused = [source.try_take_n(3).err(), source.try_take_n_temp(3).err()];
+    refused == [Some(Error::DeserializeUnexpectedEnd); 2]
         && source.try_take_n_temp(2) == Ok([1, 2].as_slice())
         && source.pop() == Ok(3)
 }
@@ -122,20 +124,27 @@ fn a_buffer_that_is_too_small_stays_whole(rt: HostRuntime) {
     }
 }
 
-// The tuple (1, 10, "Hello!"), by a reader that is in trouble once, behind so many of its bytes. Whether it is read whole.
-fn read_broken(alloc: Global, count: usize, interrupted: bool) -> Result<bool> {
-    let all: [u8; 9] = [0x01, 0x0A, 0x06, 0x48, 0x65, 0x6C, 0x6C, 0x6F, 0x21];
-    let (bytes, rest) = all.split_at(count.min(9));
-    let reader = Broken {
-        bytes,
-        interrupted,
-        rest,
-    };
+// The tuple (1, 10, "Hello!").
+const HELLO: [u8; 9] = [0x01, 0x0A, 0x06, 0x48, 0x65, 0x6C, 0x6C, 0x6F, 0x21];
+
+// Whether that tuple is read whole by a reader, into a buffer with just the room for it.
+fn read_hello<R: Read + Drop>(alloc: Global, reader: R) -> Result<bool> {
     let mut buffer = [0u8; 6];
     let mut d = Deserializer::from_flavor(alloc, IOReader::new(reader, &mut buffer));
     let value = <(u8, u32, &str)>::deserialize(&mut d)?;
     let (_, room) = d.finalize()?;
     Ok(value == (1, 10, "Hello!") && room.is_empty())
+}
+
+// As above, by a reader that is in trouble once, behind so many of its bytes.
+fn read_broken(alloc: Global, count: usize, interrupted: bool) -> Result<bool> {
+    let (bytes, rest) = HELLO.split_at(count.min(9));
+    let reader = Broken {
+        bytes,
+        interrupted,
+        rest,
+    };
+    read_hello(alloc, reader)
 }
 
 #[test]
@@ -169,13 +178,18 @@ fn the_rest_after_a_tuple(rt: HostRuntime) {
 
 // Whether each call for an unsigned number reads the next of these.
 fn reads_unsigned_numbers<F: Flavor>(d: &mut Deserializer<F>) -> bool {
-    d.deserialize_bool() == Ok(true)
-        && d.deserialize_u8() == Ok(7)
-        && d.deserialize_u16() == Ok(42439)
-        && d.deserialize_u32() == Ok(3450549266)
-        && d.deserialize_u64() == Ok(128)
-        && d.deserialize_u128() == Ok(129)
-        && d.deserialize_enum() == Ok(5)
+    let short = (
+        d.deserialize_bool(),
+        d.deserialize_u8(),
+        d.deserialize_u16(),
+        d.deserialize_u32(),
+    );
+    let long = (
+        d.deserialize_u64(),
+        d.deserialize_u128(),
+        d.deserialize_enum(),
+    );
+    short == (Ok(true), Ok(7), Ok(42439), Ok(3450549266)) && long == (Ok(128), Ok(129), Ok(5))
 }
 
 #[test]
@@ -189,11 +203,14 @@ fn each_call_for_an_unsigned_number(rt: HostRuntime) {
 
 // Whether each call for a signed number reads the next of these.
 fn reads_signed_numbers<F: Flavor>(d: &mut Deserializer<F>) -> bool {
-    d.deserialize_i8() == Ok(-1)
-        && d.deserialize_i16() == Ok(32767)
-        && d.deserialize_i32() == Ok(-2)
-        && d.deserialize_i64() == Ok(-1)
-        && d.deserialize_i128() == Ok(1)
+    let read = (
+        d.deserialize_i8(),
+        d.deserialize_i16(),
+        d.deserialize_i32(),
+        d.deserialize_i64(),
+        d.deserialize_i128(),
+    );
+    read == (Ok(-1), Ok(32767), Ok(-2), Ok(-1), Ok(1))
 }
 
 #[test]
@@ -243,9 +260,12 @@ fn each_call_for_bytes(rt: HostRuntime) {
 
 // Whether an option and two numbers inside others are the next to be read.
 fn reads_wrapped_numbers<F: Flavor>(d: &mut Deserializer<F>) -> bool {
-    d.deserialize_option() == Ok(true)
-        && d.deserialize_newtype_struct::<u8>() == Ok(6)
-        && d.newtype_variant::<u8>() == Ok(5)
+    let read = (
+        d.deserialize_option(),
+        d.deserialize_newtype_struct::<u8>(),
+        d.newtype_variant::<u8>(),
+    );
+    read == (Ok(true), Ok(6), Ok(5))
 }
 
 #[test]
@@ -254,19 +274,30 @@ fn each_call_for_what_wraps_a_value(rt: HostRuntime) {
     assert!(rt; reads_wrapped_numbers(&mut d));
 }
 
-// More elements than get room before they are read, all of them and all but the last.
-#[test]
-fn a_long_vector(rt: HostRuntime) {
+// 5000 elements behind their count.
+fn long_vector() -> [u8; 5002] {
     let mut bytes = [0u8; 5002];
     for i in 0..5000 {
         bytes[i + 2] = (i % 251) as u8;
     }
     bytes[0] = 0x88;
     bytes[1] = 0x27;
-    match read::<Vec<u8>>(rt.alloc(), &bytes) {
-        Ok(items) => assert!(rt; items[..] == bytes[2..]),
-        Err(_) => assert!(rt; false),
+    bytes
+}
+
+// Whether these items are read.
+fn are_read(alloc: Global, bytes: &[u8], items: &[u8]) -> bool {
+    match read::<Vec<u8>>(alloc, bytes) {
+        Ok(read) => read.as_slice() == items,
+        Err(_) => false,
     }
+}
+
+// More elements than get room before they are read, all of them and all but the last.
+#[test]
+fn a_long_vector(rt: HostRuntime) {
+    let bytes = long_vector();
+    assert!(rt; are_read(rt.alloc(), &bytes, &bytes[2..]));
     match bytes.split_last() {
         Some((_, less)) => assert!(rt; read::<Vec<u8>>(rt.alloc(), less).is_err()),
         None => assert!(rt; false),
@@ -276,15 +307,15 @@ fn a_long_vector(rt: HostRuntime) {
 // Counts of elements that don't follow.
 #[test]
 fn counts_alone(rt: HostRuntime) {
-    let mut bytes = [0xFFu8; 10];
-    bytes[9] = 1;
+    let greatest = [0xFF, 0xFF, 0xFF, 0xFF, 0xFF, 0xFF, 0xFF, 0xFF, 0xFF, 1];
+    let too_great = [0xFF, 0xFF, 0xFF, 0xFF, 0xFF, 0xFF, 0xFF, 0xFF, 0xFF, 2];
+    let refused = [
+        read::<Vec<u8>>(rt.alloc(), &greatest).err(),
+        read::<Vec<u32>>(rt.alloc(), &[0xFF, 0x7F, 1, 2, 3, 4, 5, 6]).err(),
+        read::<Vec<u8>>(rt.alloc(), &too_great).err(),
+    ];
     let end = Some(Error::DeserializeUnexpectedEnd);
-    assert!(rt;
-        read::<Vec<u8>>(rt.alloc(), &bytes).err() == end
-            && read::<Vec<u32>>(rt.alloc(), &[0xFF, 0x7F, 1, 2, 3, 4, 5, 6]).err() == end
-    );
-    bytes[9] = 2;
-    assert!(rt; read::<Vec<u8>>(rt.alloc(), &bytes).err() == Some(Error::DeserializeBadVarint));
+    assert!(rt; refused == [end, end, Some(Error::DeserializeBadVarint)]);
 }
 
 // Whether the calls that never answer leave the next byte to be read.
@@ -305,11 +336,15 @@ fn calls_that_never_answer_read_nothing(rt: HostRuntime) {
 fn reads_parts<F: Flavor>(d: &mut Deserializer<F>) -> bool {
     match d.deserialize_seq() {
         Ok(mut parts) => {
-            parts.size_hint() == Some(3)
-                && parts.next_element::<u8>() == Ok(Some(1))
-                && parts.next_element_owned::<u8>() == Ok(Some(2))
-                && parts.next_element::<bool>() == Err(Error::DeserializeBadBool)
-                && parts.next_element::<u8>() == Ok(None)
+            let answers = (
+                parts.size_hint(),
+                parts.next_element::<u8>(),
+                parts.next_element_owned::<u8>(),
+                parts.next_element::<bool>(),
+                parts.next_element::<u8>(),
+            );
+            let bad = Err(Error::DeserializeBadBool);
+            answers == (Some(3), Ok(Some(1)), Ok(Some(2)), bad, Ok(None))
         }
         Err(_) => false,
     }
@@ -331,11 +366,15 @@ fn foretold<F: Flavor>(parts: Result<SeqAccess<'_, F>>) -> Option<Option<usize>>
 
 // Whether counts are foretold that the bytes have room for, and no others.
 fn foretells_counts<F: Flavor>(d: &mut Deserializer<F>) -> bool {
-    foretold(d.deserialize_tuple(1)) == Some(Some(1))
-        && foretold(d.deserialize_tuple_struct(9)) == Some(None)
-        && foretold(d.deserialize_struct(1)) == Some(Some(1))
-        && foretold(d.tuple_variant(1)) == Some(Some(1))
-        && foretold(d.struct_variant(1)) == Some(Some(1))
+    let counts = [
+        foretold(d.deserialize_tuple(1)),
+        foretold(d.deserialize_tuple_struct(9)),
+        foretold(d.deserialize_struct(1)),
+        foretold(d.tuple_variant(1)),
+        foretold(d.struct_variant(1)),
+    ];
+    let one = Some(Some(1));
+    counts == [one, Some(None), one, one, one]
 }
 
 #[test]
@@ -348,12 +387,15 @@ fn counts_of_parts(rt: HostRuntime) {
 fn reads_entries<F: Flavor>(d: &mut Deserializer<F>) -> bool {
     match d.deserialize_map() {
         Ok(mut map) => {
-            map.size_hint() == Some(2)
-                && map.next_key::<u8>() == Ok(Some(5))
-                && map.next_value::<u8>() == Ok(6)
-                && map.next_key_owned::<u8>() == Ok(Some(1))
-                && map.next_value_owned::<u8>() == Ok(7)
-                && map.next_key::<u8>() == Ok(None)
+            let answers = (
+                map.size_hint(),
+                map.next_key::<u8>(),
+                map.next_value::<u8>(),
+                map.next_key_owned::<u8>(),
+                map.next_value_owned::<u8>(),
+                map.next_key::<u8>(),
+            );
+            answers == (Some(2), Ok(Some(5)), Ok(6), Ok(Some(1)), Ok(7), Ok(None))
         }
         Err(_) => false,
     }

@@ -4,7 +4,7 @@ use postcard::{
     to_slice,
 };
 use samples::*;
-use std::alloc::Global;
+use std::alloc::{AllocError, Global};
 
 // Whether a value is written as these bytes.
 fn writes<T: Serialize>(value: &T, bytes: &[u8]) -> bool {
@@ -79,23 +79,29 @@ fn variants_without_payload(rt: HostRuntime) {
     );
 }
 
+// A chain of one byte.
+fn chain_of(alloc: Global, byte: u8) -> Result<Chain, AllocError> {
+    Ok(Chain::More(byte, Box::new(alloc, Chain::End)?))
+}
+
 /// A chain of one byte is 01, the byte and the end.
 #[test]
 fn type_that_holds_itself(rt: HostRuntime) {
-    match from_bytes::<Chain>(rt.alloc(), &[1, 7, 0]) {
-        Ok(chain) => assert!(rt; writes(&chain, &[1, 7, 0])),
-        Err(_) => assert!(rt; false),
-    }
-    match Box::new(rt.alloc(), Chain::End) {
-        Ok(end) => assert!(rt; writes(&Chain::More(7, end), &[1, 7, 0])),
-        Err(_) => assert!(rt; false),
-    }
+    assert!(rt;
+        matches!(&chain_of(rt.alloc(), 7), Ok(chain) if writes(chain, &[1, 7, 0]))
+            && matches!(
+                &from_bytes::<Chain>(rt.alloc(), &[1, 7, 0]),
+                Ok(chain) if writes(chain, &[1, 7, 0])
+            )
+    );
 }
 
 #[test]
 fn chains_that_are_refused(rt: HostRuntime) {
-    let read = from_bytes_owned::<Chain>(rt.alloc(), &[1, 7, 2]);
-    assert!(rt; read.err() == Some(Error::SerdeDeCustom));
-    let read = from_bytes_owned::<Chain>(rt.alloc(), &[1, 7, 1]);
-    assert!(rt; read.err() == Some(Error::DeserializeUnexpectedEnd));
+    let refused = [
+        from_bytes_owned::<Chain>(rt.alloc(), &[1, 7, 2]).err(),
+        from_bytes_owned::<Chain>(rt.alloc(), &[1, 7, 1]).err(),
+    ];
+    let end = Some(Error::DeserializeUnexpectedEnd);
+    assert!(rt; refused == [Some(Error::SerdeDeCustom), end]);
 }

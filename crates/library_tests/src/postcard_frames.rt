@@ -25,8 +25,10 @@ fn long_value_and_back(rt: HostRuntime) {
 
 #[test]
 fn exact_room(rt: HostRuntime) {
-    assert!(rt; matches!(&to_vec_cobs::<_, 12>(&[0xCCu8; 10]), Ok(frame) if frame.len() == 12));
-    assert!(rt; to_vec_cobs::<_, 11>(&[0xCCu8; 10]).is_err());
+    assert!(rt;
+        matches!(&to_vec_cobs::<_, 12>(&[0xCCu8; 10]), Ok(frame) if frame.len() == 12)
+            && to_vec_cobs::<_, 11>(&[0xCCu8; 10]).is_err()
+    );
 }
 
 // What an accumulator answered, in short: C, O, D or S, how many bytes are left, and the value.
@@ -42,12 +44,13 @@ pub(crate) fn told(answer: FeedResult<'_, u8>) -> (char, usize, u8) {
 #[test]
 fn pieces(rt: HostRuntime) {
     let mut accumulator: CobsAccumulator<4> = CobsAccumulator::default();
-    assert!(rt;
-        told(accumulator.feed(rt.alloc(), &[2])) == ('C', 0, 0)
-            && told(accumulator.feed(rt.alloc(), &[])) == ('C', 0, 0)
-            && told(accumulator.feed(rt.alloc(), &[7, 0, 1])) == ('S', 1, 7)
-            && told(accumulator.feed_ref(rt.alloc(), &[3, 1, 0, 9])) == ('D', 1, 0)
-    );
+    let answers = [
+        told(accumulator.feed(rt.alloc(), &[2])),
+        told(accumulator.feed(rt.alloc(), &[])),
+        told(accumulator.feed(rt.alloc(), &[7, 0, 1])),
+        told(accumulator.feed_ref(rt.alloc(), &[3, 1, 0, 9])),
+    ];
+    assert!(rt; answers == [('C', 0, 0), ('C', 0, 0), ('S', 1, 7), ('D', 1, 0)]);
 }
 
 #[test]
@@ -91,12 +94,12 @@ fn a_frame_whole_and_in_two(rt: HostRuntime) {
 #[test]
 fn whole_frames_that_are_refused(rt: HostRuntime) {
     let mut accumulator: CobsAccumulator<10> = CobsAccumulator::new();
-    let cut = [11, 1, 1, 1, 1, 1, 1, 1, 1, 0, 5];
-    assert!(rt; told(accumulator.feed(rt.alloc(), &cut)) == ('D', 1, 0));
-    let none = [0, 2, 7, 0, 1, 1, 1, 1, 1];
-    assert!(rt; told(accumulator.feed(rt.alloc(), &none)) == ('D', 8, 0));
-    let long = [11, 1, 1, 1, 1, 1, 1, 1, 1, 1, 1, 0, 5];
-    assert!(rt; told(accumulator.feed(rt.alloc(), &long)) == ('O', 1, 0));
+    let answers = [
+        told(accumulator.feed(rt.alloc(), &[11, 1, 1, 1, 1, 1, 1, 1, 1, 0, 5])),
+        told(accumulator.feed(rt.alloc(), &[0, 2, 7, 0, 1, 1, 1, 1, 1])),
+        told(accumulator.feed(rt.alloc(), &[11, 1, 1, 1, 1, 1, 1, 1, 1, 1, 1, 0, 5])),
+    ];
+    assert!(rt; answers == [('D', 1, 0), ('D', 8, 0), ('O', 1, 0)]);
 }
 
 // What is answered is the front of the caller's own slice.

@@ -21,17 +21,18 @@ const FIXED: [u8; 4] = [0xCD, 0xAB, 0xFF, 0xFE];
 
 #[test]
 fn fixed(rt: HostRuntime) {
-    match from_bytes::<(LE<u16>, BE<i16>)>(rt.alloc(), &FIXED) {
-        Ok((little, big)) => assert!(rt; little.0 == 0xABCD && big.0 == -2),
-        Err(_) => assert!(rt; false),
-    }
+    let read = from_bytes::<(LE<u16>, BE<i16>)>(rt.alloc(), &FIXED);
+    assert!(rt; matches!(&read, Ok((LE(0xABCD), BE(-2)))));
 }
 
 #[test]
 fn fixed_by_function(rt: HostRuntime) {
     let mut d = Deserializer::from_bytes(rt.alloc(), &FIXED);
-    assert!(rt; le::deserialize::<u16, _>(&mut d) == Ok(0xABCD));
-    assert!(rt; be::deserialize::<i16, _>(&mut d) == Ok(-2));
+    let read = (
+        le::deserialize::<u16, _>(&mut d),
+        be::deserialize::<i16, _>(&mut d),
+    );
+    assert!(rt; read == (Ok(0xABCD), Ok(-2)));
 }
 
 // Two texts, "ab" and "cd".

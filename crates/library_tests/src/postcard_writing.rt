@@ -31,16 +31,14 @@ fn holds(serializer: Serializer<HVec<16>>, bytes: &[u8]) -> bool {
 #[test]
 fn fixed_numbers(rt: HostRuntime) {
     let mut serializer = serializer();
-    assert!(rt;
-        le::serialize(&0xABCDu16, &mut serializer) == Ok(())
-            && be::serialize(&0xABCDu16, &mut serializer) == Ok(())
-            && LE(-2i16).serialize(&mut serializer) == Ok(())
-            && BE(-2i16).serialize(&mut serializer) == Ok(())
-            && holds(
-                serializer,
-                &[0xCD, 0xAB, 0xAB, 0xCD, 0xFE, 0xFF, 0xFF, 0xFE]
-            )
-    );
+    let written = [
+        le::serialize(&0xABCDu16, &mut serializer),
+        be::serialize(&0xABCDu16, &mut serializer),
+        LE(-2i16).serialize(&mut serializer),
+        BE(-2i16).serialize(&mut serializer),
+    ];
+    let bytes = [0xCD, 0xAB, 0xAB, 0xCD, 0xFE, 0xFF, 0xFF, 0xFE];
+    assert!(rt; written == [Ok(()); 4] && holds(serializer, &bytes));
 }
 
 // Whether bytes were written, and are these.
@@ -69,8 +67,10 @@ fn maps(rt: HostRuntime) {
 
 #[test]
 fn fixed_vectors(rt: HostRuntime) {
-    assert!(rt; matches!(&to_vec::<_, 2>(&300u32), Ok(held) if held[..] == [0xAC, 0x02]));
-    assert!(rt; to_vec::<_, 1>(&300u32).err() == Some(Error::SerializeBufferFull));
+    assert!(rt;
+        matches!(&to_vec::<_, 2>(&300u32), Ok(held) if held[..] == [0xAC, 0x02])
+            && to_vec::<_, 1>(&300u32).err() == Some(Error::SerializeBufferFull)
+    );
 }
 
 #[test]
@@ -93,6 +93,10 @@ fn full_vectors(rt: HostRuntime) {
 #[test]
 fn writers(rt: HostRuntime) {
     assert!(rt; is_written(to_io(&300u32, Vec::new(rt.alloc())), &[0xAC, 0x02]));
+}
+
+#[test]
+fn lent_writers(rt: HostRuntime) {
     let mut lent = Vec::new(rt.alloc());
     assert!(rt; to_io(&300u32, &mut lent).is_ok() && lent[..] == [0xAC, 0x02]);
 }
@@ -118,14 +122,26 @@ type Long = [u128; 288230376151711744];
 
 #[test]
 fn greatest_sizes(rt: HostRuntime) {
+    let sizes = [
+        <(u16, Option<u8>)>::postcard_max_size(),
+        Result::<u16, u8>::postcard_max_size(),
+        Range::<u16>::postcard_max_size(),
+        RangeInclusive::<u16>::postcard_max_size(),
+        RangeTo::<NonZeroU16>::postcard_max_size(),
+        Box::<Rc<Wrapping<char>>>::postcard_max_size(),
+        <(Duration, PhantomData<u8>)>::postcard_max_size(),
+    ];
     assert!(rt;
-        <(u16, Option<u8>)>::postcard_max_size() == Some(5)
-            && Result::<u16, u8>::postcard_max_size() == Some(4)
-            && Range::<u16>::postcard_max_size() == Some(6)
-            && RangeInclusive::<u16>::postcard_max_size() == Some(6)
-            && RangeTo::<NonZeroU16>::postcard_max_size() == Some(3)
-            && Box::<Rc<Wrapping<char>>>::postcard_max_size() == Some(5)
-            && <(Duration, PhantomData<u8>)>::postcard_max_size() == Some(15)
+        sizes
+            == [
+                Some(5),
+                Some(4),
+                Some(6),
+                Some(6),
+                Some(3),
+                Some(5),
+                Some(15)
+            ]
     );
 }
 
@@ -172,9 +188,9 @@ fn the_front_of_the_room(rt: HostRuntime) {
 fn the_front_of_a_slice(rt: HostRuntime) {
     let mut room = [0xEEu8; 8];
     let mut slice = Slice::new(&mut room);
+    let written = [slice.try_extend(&[1, 2]), slice.try_push(3)];
     assert!(rt;
-        slice.try_extend(&[1, 2]) == Ok(())
-            && slice.try_push(3) == Ok(())
+        written == [Ok(()); 2]
             && matches!(&slice.finalize(), Ok(front) if front.len() == 3)
             && room[..3] == [1, 2, 3]
     );

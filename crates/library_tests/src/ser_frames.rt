@@ -23,8 +23,7 @@ fn is_framed<T: Serialize>(value: &T, frame: &[u8]) -> bool {
 
 #[test]
 fn rows(rt: HostRuntime) {
-    assert!(rt; is_framed(&false, &[1, 1, 0]));
-    assert!(rt; is_framed(&"Hi!", &[5, 3, 0x48, 0x69, 0x21, 0]));
+    assert!(rt; is_framed(&false, &[1, 1, 0]) && is_framed(&"Hi!", &[5, 3, 0x48, 0x69, 0x21, 0]));
 }
 
 #[test]
@@ -50,22 +49,25 @@ fn another_sentinel(rt: HostRuntime) {
     assert!(rt; is_masked(&300u32) && is_masked(&(0xACu8, 2u8)));
 }
 
+// Whether these bytes are a full block, one of nothing behind it, and the end.
+fn is_full_block(frame: &[u8]) -> bool {
+    frame.len() == 257 && matches!(frame, [255, .., 1, 1, 0])
+}
+
 #[test]
 fn full_blocks(rt: HostRuntime) {
-    match framed(&[1u8; 254], Cobs::try_new(AllocVec::new(rt.alloc()))) {
-        Ok(frame) => {
-            assert!(rt; frame.len() == 257);
-            assert!(rt; frame[0] == 255 && frame[254] == 1 && frame[255] == 1 && frame[256] == 0);
-        }
-        Err(_) => assert!(rt; false),
-    }
+    let written = framed(&[1u8; 254], Cobs::try_new(AllocVec::new(rt.alloc())));
+    assert!(rt; matches!(&written, Ok(frame) if is_full_block(frame)));
 }
 
 #[test]
 fn no_room(rt: HostRuntime) {
     let mut none = [0u8; 0];
-    assert!(rt; Cobs::try_new(Slice::new(&mut none)).err() == Some(Error::SerializeBufferFull));
-    assert!(rt; Cobs::try_new(HVec::<0>::new()).err() == Some(Error::SerializeBufferFull));
+    let refused = [
+        Cobs::try_new(Slice::new(&mut none)).err(),
+        Cobs::try_new(HVec::<0>::new()).err(),
+    ];
+    assert!(rt; refused == [Some(Error::SerializeBufferFull); 2]);
 }
 
 /// Each growth that is refused is want of memory, and nothing else.

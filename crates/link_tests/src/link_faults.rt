@@ -239,6 +239,12 @@ fn hears_until_a_fault(rt: HostRuntime) {
     }
 }
 
+/// Whether a sender of one byte sends a frame of one byte, and none that is longer.
+fn sends_the_least<W: Outlet>(sender: &mut Sender<W, 1>) -> bool {
+    let refused = SendError::Refused(postcard::Error::SerializeBufferFull);
+    [sender.send(&()), sender.send(&true)] == [Ok(()), Err(refused)] && sender.is_clean()
+}
+
 /// A frame of one byte, and one that is longer, by a sender of one byte.
 #[test]
 fn sends_by_the_least_sender(rt: HostRuntime) {
@@ -249,9 +255,7 @@ fn sends_by_the_least_sender(rt: HostRuntime) {
         trouble: None,
     };
     let mut sender = Sender::<_, 1>::new(Writes::new(narrow));
-    assert!(rt; sender.send(&()) == Ok(()));
-    let refused = SendError::Refused(postcard::Error::SerializeBufferFull);
-    assert!(rt; sender.send(&true) == Err(refused) && sender.is_clean());
+    let passed = sends_the_least(&mut sender);
     let narrow = sender.into_inner().into_inner();
-    assert!(rt; narrow.taken[..3] == [0, 1, 0] && narrow.count == 3);
+    assert!(rt; passed && narrow.taken[..3] == [0, 1, 0] && narrow.count == 3);
 }

@@ -1,7 +1,20 @@
 //! `link`, from senders to a receiver: the headline, in which a send breaks off. Lines of `replay_link` say what is heard of
 //! other sends that break off, ordinarily and strictly.
 use line_io::memory::{Fault, In, Out};
-use link::{Answer, Fate, SendError, headline};
+use link::headline::InTurn;
+use link::{Answer, Fate, Received, SendError, headline};
+
+// Whether a damaged stretch and 300 were heard.
+fn hears_damage(received: &Received<u32, In<'_>>) -> bool {
+    received.answers[..] == [Answer::Damaged, Answer::Value(300)]
+}
+
+// Whether the first send of 300 broke off, and the second went out.
+fn is_sent_again(all: &InTurn<u32, Out<'_>, In<'_>>) -> bool {
+    [all.first, all.second] == [Err(SendError::Line), Ok(())]
+        && all.writer.moved() == 7
+        && hears_damage(&all.received)
+}
 
 #[test]
 fn sends_in_turn(rt: HostRuntime) {
@@ -14,14 +27,9 @@ fn sends_in_turn(rt: HostRuntime) {
         &300,
         &300,
     );
-    assert!(rt;
-        all.first == Err(SendError::Line)
-            && all.second == Ok(())
-            && all.writer.moved() == 7
-            && all.received.answers[..] == [Answer::Damaged, Answer::Value(300)]
-    );
+    let passed = is_sent_again(&all);
     drop(all);
-    assert!(rt; room[..7] == line[..]);
+    assert!(rt; passed && room[..7] == line[..]);
 }
 
 #[test]
@@ -38,11 +46,11 @@ fn sends_each_in_turn(rt: HostRuntime) {
         &[7],
         &mut second,
     );
+    let (writer, received) = all;
     assert!(rt;
-        all.0.moved() == 8
-            && all.1.answers[..] == [Answer::Value(5), Answer::Value(7)]
-            && first == [Fate::Done, Fate::Broken]
-            && second == [Fate::Done]
+        writer.moved() == 8
+            && received.answers[..] == [Answer::Value(5), Answer::Value(7)]
+            && (first, second) == ([Fate::Done, Fate::Broken], [Fate::Done])
     );
 }
 
@@ -50,5 +58,5 @@ fn sends_each_in_turn(rt: HostRuntime) {
 fn receives_a_run(rt: HostRuntime) {
     let line = [0u8, 3, 0, 3, 0xAC, 2, 0];
     let all = headline::receive_run::<u32, _, 16>(rt.alloc(), In::new(&line, 2, None));
-    assert!(rt; all.answers[..] == [Answer::Damaged, Answer::Value(300)]);
+    assert!(rt; hears_damage(&all));
 }

@@ -168,13 +168,19 @@ fn either_frame_cut_anywhere(rt: HostRuntime) {
     }
 }
 
+// Whether an accumulator gathers these numbers from a reader until it ends so.
+fn gathers(alloc: Global, reader: In<'_>, values: &[u32], end: End) -> bool {
+    let got = receive_by_accumulator::<u32, _, 4>(alloc, reader);
+    got.end == end && got.values.as_slice() == values
+}
+
 #[test]
 fn by_accumulator(rt: HostRuntime) {
     let line = [0u8, 3, 0, 3, 0xAC, 2, 0, 2, 5, 0, 3, 0xAC];
     for each in 1..12 {
-        let got = receive_by_accumulator::<u32, _, 4>(rt.alloc(), In::new(&line, each, None));
-        assert!(rt; got.end == End::Ended && got.values[..] == [300, 5]);
+        let reader = In::new(&line, each, None);
+        assert!(rt; gathers(rt.alloc(), reader, &[300, 5], End::Ended));
     }
-    let got = receive_by_accumulator::<u32, _, 4>(rt.alloc(), In::new(&line, 3, Some(8)));
-    assert!(rt; got.end == End::ReadFault && got.values[..] == [300]);
+    let reader = In::new(&line, 3, Some(8));
+    assert!(rt; gathers(rt.alloc(), reader, &[300], End::ReadFault));
 }

@@ -24,19 +24,23 @@ fn names(alloc: Global, value: &impl Debug, text: &str) -> bool {
 fn of_refusals(rt: HostRuntime) {
     let alloc = rt.alloc();
     let refused = SendError::Refused(Error::SerializeBufferFull);
-    assert!(rt; shows(alloc, &refused, "refused: The serialize buffer is full"));
-    assert!(rt; shows(alloc, &SendError::Line, "line failed"));
-    assert!(rt; shows(alloc, &NoMemory, "no memory"));
+    assert!(rt;
+        shows(alloc, &refused, "refused: The serialize buffer is full")
+            && shows(alloc, &SendError::Line, "line failed")
+            && shows(alloc, &NoMemory, "no memory")
+    );
 }
 
 #[test]
 fn by_debug(rt: HostRuntime) {
     let alloc = rt.alloc();
     let cut: Answer<bool> = Answer::Cut;
-    assert!(rt; names(alloc, &SendError::Line, "Line"));
-    assert!(rt; names(alloc, &NoMemory, "NoMemory"));
-    assert!(rt; names(alloc, &Fate::Broken, "Broken"));
-    assert!(rt; names(alloc, &Answer::Value(true), "Value(true)"));
-    assert!(rt; names(alloc, &cut, "Cut"));
-    assert!(rt; names(alloc, &End::ReadFault, "ReadFault"));
+    assert!(rt;
+        names(alloc, &SendError::Line, "Line")
+            && names(alloc, &NoMemory, "NoMemory")
+            && names(alloc, &Fate::Broken, "Broken")
+            && names(alloc, &Answer::Value(true), "Value(true)")
+            && names(alloc, &cut, "Cut")
+            && names(alloc, &End::ReadFault, "ReadFault")
+    );
 }

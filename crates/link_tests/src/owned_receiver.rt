@@ -1,6 +1,18 @@
 //! `link`, a receiver whose limit is a value: what it lends, and a limit that is lowered and raised. What it answers to
 //! plain streams are lines of `replay_link`.
 use link::{Answer, OwnedReceiver, Pushed};
+use std::alloc::Global;
+
+// Whether a frame of `true` is taken.
+fn takes_true(alloc: Global, receiver: &mut OwnedReceiver) -> bool {
+    receiver.push::<bool>(alloc, &[2, 1, 0]).answer == Ok(Some(Answer::Value(true)))
+}
+
+// Whether one byte is too much, until its stretch ends.
+fn takes_nothing(alloc: Global, receiver: &mut OwnedReceiver) -> bool {
+    receiver.push_strict::<()>(alloc, &[1]).answer == Ok(Some(Answer::TooLong))
+        && receiver.push::<bool>(alloc, &[0]).answer == Ok(None)
+}
 
 #[test]
 fn set_anew(rt: HostRuntime) {
@@ -8,15 +20,14 @@ fn set_anew(rt: HostRuntime) {
         return assert!(rt; false);
     };
     assert!(rt;
-        receiver.push::<bool>(rt.alloc(), &[2, 1, 0]).answer == Ok(Some(Answer::Value(true)))
+        takes_true(rt.alloc(), &mut receiver)
             && receiver.is_between()
             && receiver.set_limit(0).is_ok()
-            && receiver.push_strict::<()>(rt.alloc(), &[1]).answer == Ok(Some(Answer::TooLong))
-            && receiver.push::<bool>(rt.alloc(), &[0]).answer == Ok(None)
+            && takes_nothing(rt.alloc(), &mut receiver)
             && receiver.is_between()
             && receiver.set_limit(2).is_ok()
             && receiver.limit() == 2
-            && receiver.push::<bool>(rt.alloc(), &[2, 1, 0]).answer == Ok(Some(Answer::Value(true)))
+            && takes_true(rt.alloc(), &mut receiver)
             && receiver.finish::<()>() == None
     );
 }

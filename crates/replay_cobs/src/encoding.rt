@@ -6,7 +6,7 @@ use std::alloc::Global;
 use vectors::{Findings, Trouble, Words};
 
 /// How many bytes a piece has, where a message is pushed in pieces.
-pub(crate) const PIECE: usize = 100;
+const PIECE: usize = 100;
 
 /// What stands in a buffer that a refused call has to leave alone.
 const UNTOUCHED: u8 = 0xA5;
@@ -34,10 +34,7 @@ fn compare_encode(
     words.end()?;
     encode_whole(alloc, message, frame, findings)?;
     encode_between_zeros(alloc, message, frame, findings)?;
-    for piece in [1, PIECE, usize::MAX] {
-        let made = push_pieces(alloc, message, frame.len(), piece, 0);
-        findings.check_bytes("CobsEncoder", made, frame)?;
-    }
+    encode_pieces(alloc, "CobsEncoder", message, frame, 0, findings)?;
     refuse(alloc, message, frame.len().saturating_sub(1), findings)?;
     let longest = longest(alloc, frame, more)?;
     findings.check_bytes("EncoderState", keep_buffer(alloc, message), &longest)
@@ -149,8 +146,24 @@ fn try_encode_including_sentinels(
     Ok(room)
 }
 
-/// The frame of a message that is pushed in pieces of so many bytes, with nothing pushed between them.
-pub(crate) fn push_pieces(
+/// An encoder that a message is pushed to in pieces.
+pub(crate) fn encode_pieces(
+    alloc: Global,
+    call: &str,
+    message: &[u8],
+    frame: &[u8],
+    sentinel: u8,
+    findings: &mut Findings,
+) -> Result<(), Trouble> {
+    for piece in [1, PIECE, usize::MAX] {
+        let made = push_pieces(alloc, message, frame.len(), piece, sentinel);
+        findings.check_bytes(call, made, frame)?;
+    }
+    Ok(())
+}
+
+/// The frame of a message that is pushed in pieces of so many bytes.
+fn push_pieces(
     alloc: Global,
     message: &[u8],
     length: usize,
@@ -160,10 +173,19 @@ pub(crate) fn push_pieces(
     requires { 0 < piece }
 {
     let mut room = vec![in alloc; 0; length]?;
+    let n = push_into(room.as_mut_slice(), message, piece, sentinel)?;
+    room.truncate(n);
+    Ok(room)
+}
+
+/// How long the frame is of a message that is pushed in pieces, with nothing pushed between them.
+fn push_into(room: &mut [u8], message: &[u8], piece: usize, sentinel: u8) -> Result<usize, Trouble>
+    requires { 0 < piece }
+{
     if room.is_empty() {
         return Err(Trouble::Unreadable);
     }
-    let mut encoder = CobsEncoder::new_with_sentinel(room.as_mut_slice(), sentinel);
+    let mut encoder = CobsEncoder::new_with_sentinel(room, sentinel);
     let mut refused = false;
     for bytes in message.chunks(piece) {
         refused |= encoder.push(bytes).is_err();
@@ -174,8 +196,7 @@ pub(crate) fn push_pieces(
     if refused || told != n {
         return Err(Trouble::Refused);
     }
-    room.truncate(n);
-    Ok(room)
+    Ok(n)
 }
 
 /// The calls that refuse a message whose frame has one byte less of room.
@@ -227,27 +248,39 @@ fn spent(message: &[u8], room: &mut [u8]) -> &'static str {
 /// The buffer that is kept as an `EncoderState` says.
 fn keep_buffer(alloc: Global, message: &[u8]) -> Result<Vec<u8>, Trouble> {
     let mut buffer = vec![in alloc; 0]?;
+    fill_buffer(&mut buffer, message)?;
+    Ok(buffer)
+}
+
+/// Puts the frame of a message behind the place of its first code.
+fn fill_buffer(buffer: &mut Vec<u8>, message: &[u8]) -> Result<(), Trouble> {
     let mut state = EncoderState::default();
     for byte in message {
         if !state.can_push() {
             return Err(Trouble::NoMemory);
         }
-        match state.push(*byte) {
-            PushResult::AddSingle(b) => buffer.push(b)?,
-            PushResult::ModifyFromStartAndSkip((i, code)) => {
-                set(buffer.as_mut_slice(), i, code)?;
-                buffer.push(0)?;
-            }
-            PushResult::ModifyFromStartAndPushAndSkip((i, code, b)) => {
-                set(buffer.as_mut_slice(), i, code)?;
-                buffer.push(b)?;
-                buffer.push(0)?;
-            }
-        }
+        add_pushed(buffer, state.push(*byte))?;
     }
     let (i, code) = state.finalize();
-    set(buffer.as_mut_slice(), i, code)?;
-    Ok(buffer)
+    set(buffer.as_mut_slice(), i, code)
+}
+
+/// Does to the buffer what the state answers to a byte.
+fn add_pushed(buffer: &mut Vec<u8>, pushed: PushResult) -> Result<(), Trouble> {
+    let last = match pushed {
+        PushResult::AddSingle(b) => b,
+        PushResult::ModifyFromStartAndSkip((i, code)) => {
+            set(buffer.as_mut_slice(), i, code)?;
+            0
+        }
+        PushResult::ModifyFromStartAndPushAndSkip((i, code, b)) => {
+            set(buffer.as_mut_slice(), i, code)?;
+            buffer.push(b)?;
+            0
+        }
+    };
+    buffer.push(last)?;
+    Ok(())
 }
 
 /// Puts a code in its place.

@@ -1,5 +1,5 @@
 //! Frames for a sentinel.
-use crate::encoding::{PIECE, push_pieces};
+use crate::encoding::encode_pieces;
 use crate::streams::Streaming;
 use cobs::{CobsDecoder, CobsDecoderHeapless, CobsDecoderOwned};
 use std::alloc::Global;
@@ -17,9 +17,21 @@ pub(crate) fn replay_sentinel(
     let sentinel = words.byte(alloc)?;
     let message = words.bytes(alloc)?;
     let frame = words.bytes(alloc)?;
+    compare_sentinel(alloc, sentinel, &message, &frame, words, findings)
+}
+
+/// Compares what the calls make of a message, and of its frame.
+fn compare_sentinel(
+    alloc: Global,
+    sentinel: u8,
+    message: &[u8],
+    frame: &[u8],
+    words: &mut Words<'_>,
+    findings: &mut Findings,
+) -> Result<(), Trouble> {
     words.end()?;
-    encode_sentinel(alloc, &message, &frame, sentinel, findings)?;
-    decode_sentinel(alloc, &message, &frame, sentinel, findings)
+    encode_sentinel(alloc, message, frame, sentinel, findings)?;
+    decode_sentinel(alloc, message, frame, sentinel, findings)
 }
 
 /// The calls that make the frame.
@@ -34,11 +46,8 @@ fn encode_sentinel(
     findings.check_bytes("encode_with_sentinel", made, frame)?;
     let made = encode_vec_with_sentinel(alloc, message, sentinel);
     findings.check_bytes("encode_vec_with_sentinel", made, frame)?;
-    for piece in [1, PIECE, usize::MAX] {
-        let made = push_pieces(alloc, message, frame.len(), piece, sentinel);
-        findings.check_bytes("CobsEncoder with a sentinel", made, frame)?;
-    }
-    Ok(())
+    let call = "CobsEncoder with a sentinel";
+    encode_pieces(alloc, call, message, frame, sentinel, findings)
 }
 
 /// The frame that `encode_with_sentinel` makes.
@@ -119,32 +128,57 @@ fn decode_stream(
 ) -> Result<(), Trouble> {
     let mut line = frame.to_vec(alloc)?;
     line.push(sentinel)?;
-    let made = decode_report(alloc, &line, sentinel);
-    findings.check_bytes("decode_in_place_report_with_sentinel", made, message)?;
-    let mut room = vec![in alloc; 0; message.len()]?;
-    let mut decoder = CobsDecoder::new_with_sentinel(room.as_mut_slice(), sentinel);
-    let made = push_line(alloc, &mut decoder, &line);
-    findings.check_bytes("CobsDecoder with a sentinel", made, message)?;
-    decode_kept(alloc, message, &line, sentinel, findings)
+    decode_line(alloc, message, &line, sentinel, findings)
 }
 
-/// The decoders that keep their room.
-fn decode_kept(
+/// Compares the messages that the calls take back.
+fn decode_line(
     alloc: Global,
     message: &[u8],
     line: &[u8],
     sentinel: u8,
     findings: &mut Findings,
 ) -> Result<(), Trouble> {
-    let mut decoder = CobsDecoderOwned::new_with_sentinel(alloc, message.len(), sentinel)?;
-    let made = push_line(alloc, &mut decoder, line);
+    let made = decode_report(alloc, line, sentinel);
+    findings.check_bytes("decode_in_place_report_with_sentinel", made, message)?;
+    let made = decode_lent(alloc, message.len(), line, sentinel);
+    findings.check_bytes("CobsDecoder with a sentinel", made, message)?;
+    let made = decode_owned(alloc, message.len(), line, sentinel);
     findings.check_bytes("CobsDecoderOwned with a sentinel", made, message)?;
-    let mut decoder = CobsDecoderHeapless::<ROOM>::new_with_sentinel(sentinel);
     if message.len() > ROOM {
         return Ok(());
     }
-    let made = push_line(alloc, &mut decoder, line);
+    let made = decode_heapless(alloc, line, sentinel);
     findings.check_bytes("CobsDecoderHeapless with a sentinel", made, message)
+}
+
+/// The message that a `CobsDecoder` gives that is lent so much room.
+fn decode_lent(
+    alloc: Global,
+    length: usize,
+    line: &[u8],
+    sentinel: u8,
+) -> Result<Vec<u8>, Trouble> {
+    let mut room = vec![in alloc; 0; length]?;
+    let mut decoder = CobsDecoder::new_with_sentinel(room.as_mut_slice(), sentinel);
+    push_line(alloc, &mut decoder, line)
+}
+
+/// The message that a `CobsDecoderOwned` of so much room gives.
+fn decode_owned(
+    alloc: Global,
+    length: usize,
+    line: &[u8],
+    sentinel: u8,
+) -> Result<Vec<u8>, Trouble> {
+    let mut decoder = CobsDecoderOwned::new_with_sentinel(alloc, length, sentinel)?;
+    push_line(alloc, &mut decoder, line)
+}
+
+/// The message that a `CobsDecoderHeapless` gives.
+fn decode_heapless(alloc: Global, line: &[u8], sentinel: u8) -> Result<Vec<u8>, Trouble> {
+    let mut decoder = CobsDecoderHeapless::<ROOM>::new_with_sentinel(sentinel);
+    push_line(alloc, &mut decoder, line)
 }
 
 /// The message that a decoder gives of a frame with its sentinel.
@@ -153,12 +187,13 @@ fn push_line<D: Streaming>(
     decoder: &mut D,
     line: &[u8],
 ) -> Result<Vec<u8>, Trouble> {
-    match decoder.push_piece(line) {
-        Ok(Some(report)) if report.parsed_size() == line.len() => {
-            let message = decoder.buffer().get(..report.frame_size());
-            Ok(message.ok_or(Trouble::Refused)?.to_vec(alloc)?)
-        }
-        _ => Err(Trouble::Refused),
+    let size = match decoder.push_piece(line) {
+        Ok(Some(report)) if report.parsed_size() == line.len() => report.frame_size(),
+        _ => return Err(Trouble::Refused),
+    };
+    match decoder.buffer().get(..size) {
+        Some(message) => Ok(message.to_vec(alloc)?),
+        None => Err(Trouble::Refused),
     }
 }
 

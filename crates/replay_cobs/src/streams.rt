@@ -1,4 +1,7 @@
 //! Frames that come in pieces.
+ghost use Rattle.std.specs.Mem.{FitsInMemory};
+ghost use Rattle.cobs.specs.contracts.dec.CobsDecoderHeapless.{the_row};
+
 use cobs::{CobsDecoder, CobsDecoderHeapless, CobsDecoderOwned, DecodeError, DecodeReport};
 use std::alloc::{AllocError, Global};
 use vectors::{Findings, Trouble, Words, digits_behind, pieces_of};
@@ -55,7 +58,7 @@ impl<const N: usize> Streaming for CobsDecoderHeapless<N> {
 }
 
 /// What decoders are asked.
-#[derive(Clone, Copy, Drop)]
+#[derive(Drop)]
 struct Case<'a> {
     alloc: Global,
     pieces: &'a [Vec<u8>],
@@ -94,17 +97,17 @@ fn compare_all(
         pieces,
         wanted,
     };
-    compare_lent(case, capacity, findings)?;
-    compare_owned(case, capacity, findings)?;
-    compare_fixed(case, capacity, findings)?;
+    compare_lent(&case, capacity, findings)?;
+    compare_owned(&case, capacity, findings)?;
+    compare_fixed(&case, capacity, findings)?;
     if capacity > 1024 || wanted.contains("TargetBufTooSmall") {
         return Ok(());
     }
-    compare_spacious(case, findings)
+    compare_heapless::<1024>(&case, "CobsDecoderHeapless with room to spare", findings)
 }
 
 /// Compares what decoders answer that are lent their room.
-fn compare_lent(case: Case<'_>, capacity: usize, findings: &mut Findings) -> Result<(), Trouble> {
+fn compare_lent(case: &Case<'_>, capacity: usize, findings: &mut Findings) -> Result<(), Trouble> {
     let mut room = vec![in case.alloc; 0; capacity]?;
     let mut other = vec![in case.alloc; 0; capacity]?;
     compare_streams(
@@ -117,111 +120,71 @@ fn compare_lent(case: Case<'_>, capacity: usize, findings: &mut Findings) -> Res
 }
 
 /// Compares what decoders answer that have a vector.
-fn compare_owned(case: Case<'_>, capacity: usize, findings: &mut Findings) -> Result<(), Trouble> {
+fn compare_owned(case: &Case<'_>, capacity: usize, findings: &mut Findings) -> Result<(), Trouble> {
     let mut fed = CobsDecoderOwned::new(case.alloc, capacity)?;
     let mut pushed = CobsDecoderOwned::new(case.alloc, capacity)?;
     compare_streams(case, "CobsDecoderOwned", &mut fed, &mut pushed, findings)
 }
 
 /// Compares what decoders of a fixed room answer, where one of that room stands here.
-fn compare_fixed(case: Case<'_>, capacity: usize, findings: &mut Findings) -> Result<(), Trouble> {
+fn compare_fixed(case: &Case<'_>, capacity: usize, findings: &mut Findings) -> Result<(), Trouble> {
+    let name = "CobsDecoderHeapless";
     match capacity {
-        0 => compare_streams(
-            case,
-            "CobsDecoderHeapless",
-            &mut CobsDecoderHeapless::<0>::new(),
-            &mut CobsDecoderHeapless::<0>::new(),
-            findings,
-        ),
-        1 => compare_streams(
-            case,
-            "CobsDecoderHeapless",
-            &mut CobsDecoderHeapless::<1>::new(),
-            &mut CobsDecoderHeapless::<1>::new(),
-            findings,
-        ),
-        2 => compare_streams(
-            case,
-            "CobsDecoderHeapless",
-            &mut CobsDecoderHeapless::<2>::new(),
-            &mut CobsDecoderHeapless::<2>::new(),
-            findings,
-        ),
-        3 => compare_streams(
-            case,
-            "CobsDecoderHeapless",
-            &mut CobsDecoderHeapless::<3>::new(),
-            &mut CobsDecoderHeapless::<3>::new(),
-            findings,
-        ),
-        4 => compare_streams(
-            case,
-            "CobsDecoderHeapless",
-            &mut CobsDecoderHeapless::<4>::new(),
-            &mut CobsDecoderHeapless::<4>::new(),
-            findings,
-        ),
-        7 => compare_streams(
-            case,
-            "CobsDecoderHeapless",
-            &mut CobsDecoderHeapless::<7>::new(),
-            &mut CobsDecoderHeapless::<7>::new(),
-            findings,
-        ),
-        12 => compare_streams(
-            case,
-            "CobsDecoderHeapless",
-            &mut CobsDecoderHeapless::<12>::new(),
-            &mut CobsDecoderHeapless::<12>::new(),
-            findings,
-        ),
-        17 => compare_streams(
-            case,
-            "CobsDecoderHeapless",
-            &mut CobsDecoderHeapless::<17>::new(),
-            &mut CobsDecoderHeapless::<17>::new(),
-            findings,
-        ),
-        33 => compare_streams(
-            case,
-            "CobsDecoderHeapless",
-            &mut CobsDecoderHeapless::<33>::new(),
-            &mut CobsDecoderHeapless::<33>::new(),
-            findings,
-        ),
+        0 => compare_heapless::<0>(case, name, findings),
+        1 => compare_heapless::<1>(case, name, findings),
+        2 => compare_heapless::<2>(case, name, findings),
+        3 => compare_heapless::<3>(case, name, findings),
+        4 => compare_heapless::<4>(case, name, findings),
+        7 => compare_heapless::<7>(case, name, findings),
+        12 => compare_heapless::<12>(case, name, findings),
+        17 => compare_heapless::<17>(case, name, findings),
+        33 => compare_heapless::<33>(case, name, findings),
         _ => Ok(()),
     }
 }
 
-/// Compares what decoders with room to spare answer.
-fn compare_spacious(case: Case<'_>, findings: &mut Findings) -> Result<(), Trouble> {
-    compare_streams(
-        case,
-        "CobsDecoderHeapless with room to spare",
-        &mut CobsDecoderHeapless::<1024>::new(),
-        &mut CobsDecoderHeapless::<1024>::new(),
-        findings,
-    )
+/// Compares what decoders of so much room answer.
+fn compare_heapless<const N: usize>(
+    case: &Case<'_>,
+    name: &str,
+    findings: &mut Findings,
+) -> Result<(), Trouble>
+    requires { FitsInMemory (the_row N.row) }
+{
+    let mut fed = CobsDecoderHeapless::<N>::new();
+    let mut pushed = CobsDecoderHeapless::<N>::new();
+    compare_streams(case, name, &mut fed, &mut pushed, findings)
 }
 
 /// Compares what two new decoders answer to the pieces, one byte by byte, and one piece by piece.
 fn compare_streams<D: Streaming>(
-    case: Case<'_>,
+    case: &Case<'_>,
     name: &str,
     fed: &mut D,
     pushed: &mut D,
     findings: &mut Findings,
 ) -> Result<(), Trouble> {
     let stops = feed(case, fed)?;
-    findings.check(name, text_of(case.alloc, &stops), case.wanted)?;
-    for (piece, stops) in case.pieces.iter().zip(&stops) {
+    compare_stops(case, name, &stops, pushed, findings)
+}
+
+/// Compares where a decoder stopped byte by byte with the line, and with what another one answers to whole pieces.
+fn compare_stops<D: Streaming>(
+    case: &Case<'_>,
+    name: &str,
+    stops: &[Vec<Stop>],
+    pushed: &mut D,
+    findings: &mut Findings,
+) -> Result<(), Trouble> {
+    findings.check(name, text_of(case.alloc, stops), case.wanted)?;
+    for (piece, stops) in case.pieces.iter().zip(stops) {
         push(case.alloc, name, pushed, piece, stops, findings)?;
     }
     Ok(())
 }
 
 /// What a decoder answers to the pieces, byte by byte.
-fn feed<D: Streaming>(case: Case<'_>, decoder: &mut D) -> Result<Vec<Vec<Stop>>, Trouble> {
+fn feed<D: Streaming>(case: &Case<'_>, decoder: &mut D) -> Result<Vec<Vec<Stop>>, Trouble> {
     let mut stops = Vec::new(case.alloc);
     for piece in case.pieces {
         stops.push(feed_piece(case.alloc, decoder, piece)?)?;
@@ -237,14 +200,25 @@ fn feed_piece<D: Streaming>(
 ) -> Result<Vec<Stop>, Trouble> {
     let mut stops = Vec::new(alloc);
     for (at, byte) in piece.iter().enumerate() {
-        let answer = match decoder.feed_byte(*byte) {
-            Ok(None) => continue,
-            Ok(Some(size)) => message_text(alloc, decoder.buffer(), size)?,
-            Err(error) => error_text(alloc, error)?,
-        };
-        stops.push(Stop { at, answer })?;
+        if let Some(answer) = feed_text(alloc, decoder, *byte)? {
+            stops.push(Stop { at, answer })?;
+        }
     }
     Ok(stops)
+}
+
+/// What a decoder answers to a byte, if it stops there.
+fn feed_text<D: Streaming>(
+    alloc: Global,
+    decoder: &mut D,
+    byte: u8,
+) -> Result<Option<String>, AllocError> {
+    let text = match decoder.feed_byte(byte) {
+        Ok(None) => return Ok(None),
+        Ok(Some(size)) => message_text(alloc, decoder.buffer(), size),
+        Err(error) => error_text(alloc, error),
+    };
+    text.map(Some)
 }
 
 /// Compares what a decoder answers to a whole piece, and to each rest again, with where it stopped byte by byte.
@@ -264,9 +238,11 @@ fn push<D: Streaming>(
         findings.check(name, answer, stop.answer.as_str())?;
         start = stop.at.saturating_add(1);
     }
-    match decoder.push_piece(piece.get(start..).unwrap_or(&[])) {
-        Ok(None) => {}
-        _ => findings.add(name, "a stop more by push")?,
+    if !matches!(
+        decoder.push_piece(piece.get(start..).unwrap_or(&[])),
+        Ok(None)
+    ) {
+        findings.add(name, "a stop more by push")?;
     }
     Ok(())
 }

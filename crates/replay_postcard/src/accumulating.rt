@@ -1,4 +1,7 @@
 //! Frames that an accumulator gathers.
+ghost use Rattle.std.specs.Mem.{FitsInMemory};
+ghost use Rattle.postcard.specs.contracts.accumulator.CobsAccumulator.{the_row};
+
 use postcard::accumulator::{CobsAccumulator, FeedResult};
 use postcard::{Deserialize, DeserializeOwned};
 use std::alloc::Global;
@@ -55,36 +58,45 @@ fn compare_answers(
 /// The answers of a new accumulator of so many bytes.
 fn feed_new(size: usize, feeding: Feeding<'_>, pieces: &[Vec<u8>]) -> Result<String, Trouble> {
     match size {
-        1 => feed_all(&mut CobsAccumulator::<1>::new(), feeding, pieces),
-        2 => feed_all(&mut CobsAccumulator::<2>::new(), feeding, pieces),
-        3 => feed_all(&mut CobsAccumulator::<3>::new(), feeding, pieces),
-        4 => feed_all(&mut CobsAccumulator::<4>::new(), feeding, pieces),
-        5 => feed_all(&mut CobsAccumulator::<5>::new(), feeding, pieces),
-        6 => feed_all(&mut CobsAccumulator::<6>::new(), feeding, pieces),
-        8 => feed_all(&mut CobsAccumulator::<8>::new(), feeding, pieces),
-        11 => feed_all(&mut CobsAccumulator::<11>::new(), feeding, pieces),
-        12 => feed_all(&mut CobsAccumulator::<12>::new(), feeding, pieces),
-        16 => feed_all(&mut CobsAccumulator::<16>::new(), feeding, pieces),
-        32 => feed_all(&mut CobsAccumulator::<32>::new(), feeding, pieces),
-        64 => feed_all(&mut CobsAccumulator::<64>::new(), feeding, pieces),
+        1 => feed_all::<1>(feeding, pieces),
+        2 => feed_all::<2>(feeding, pieces),
+        3 => feed_all::<3>(feeding, pieces),
+        4 => feed_all::<4>(feeding, pieces),
+        5 => feed_all::<5>(feeding, pieces),
+        6 => feed_all::<6>(feeding, pieces),
+        8 => feed_all::<8>(feeding, pieces),
+        11 => feed_all::<11>(feeding, pieces),
+        12 => feed_all::<12>(feeding, pieces),
+        16 => feed_all::<16>(feeding, pieces),
+        32 => feed_all::<32>(feeding, pieces),
+        64 => feed_all::<64>(feeding, pieces),
         _ => Err(Trouble::Unreadable),
     }
 }
 
-/// The answers of an accumulator to the pieces.
-fn feed_all<const N: usize>(
+/// The answers of a new accumulator to the pieces.
+fn feed_all<const N: usize>(feeding: Feeding<'_>, pieces: &[Vec<u8>]) -> Result<String, Trouble>
+    requires { FitsInMemory (the_row N.row) }
+{
+    let mut text = String::new(feeding.alloc);
+    feed_pieces(&mut CobsAccumulator::<N>::new(), feeding, pieces, &mut text)?;
+    Ok(text)
+}
+
+/// Feeds the pieces, and appends the answers.
+fn feed_pieces<const N: usize>(
     accumulator: &mut CobsAccumulator<N>,
     feeding: Feeding<'_>,
     pieces: &[Vec<u8>],
-) -> Result<String, Trouble> {
-    let mut text = String::new(feeding.alloc);
+    text: &mut String,
+) -> Result<(), Trouble> {
     for piece in pieces {
         if !text.is_empty() {
             text.push('|')?;
         }
-        feed_piece(accumulator, feeding, piece, &mut text)?;
+        feed_piece(accumulator, feeding, piece, text)?;
     }
-    Ok(text)
+    Ok(())
 }
 
 /// Feeds a piece, and each rest again until it is empty or all was consumed. Each feed takes a byte at least.

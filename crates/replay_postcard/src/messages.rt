@@ -7,6 +7,7 @@ use postcard::{Deserialize, DeserializeOwned, Serialize};
 use samples::DataEnum;
 use std::alloc::Global;
 use std::collections::BTreeMap;
+use std::mem;
 use values::Shown;
 use vectors::{Findings, Trouble, Words};
 
@@ -19,14 +20,21 @@ enum Task {
 }
 
 /// A line that speaks of a type.
-#[derive(Clone, Copy, Drop)]
+#[derive(Drop)]
 struct Line<'a> {
     alloc: Global,
     task: Task,
+    /// The type's name.
+    name: &'a str,
     /// The value, or what the bytes are read as.
     wanted: &'a str,
+    bytes: &'a [u8],
     /// The frame of the bytes, where they are to be written.
     frame: &'a [u8],
+    /// Bytes that are decoded over themselves; else a reader's room.
+    room: &'a mut [u8],
+    /// The bytes that are decoded over themselves, again.
+    copy: &'a mut [u8],
 }
 
 /// `TYPE VALUE BYTES FRAME`: what a value is written as.
@@ -40,13 +48,29 @@ pub(crate) fn replay_write(
     let bytes = words.bytes(alloc)?;
     let frame = words.bytes(alloc)?;
     words.end()?;
-    let line = Line {
+    ask_written(alloc, name, wanted, &bytes, &frame, findings)
+}
+
+/// Asks what a value is written as.
+fn ask_written(
+    alloc: Global,
+    name: &str,
+    wanted: &str,
+    bytes: &[u8],
+    frame: &[u8],
+    findings: &mut Findings,
+) -> Result<(), Trouble> {
+    let mut line = Line {
         alloc,
         task: Task::Write,
+        name,
         wanted,
-        frame: &frame,
+        bytes,
+        frame,
+        room: &mut [],
+        copy: &mut [],
     };
-    ask_number(name, line, &bytes, &mut [], &mut [], findings)
+    ask_number(&mut line, findings)
 }
 
 /// `TYPE BYTES -> VALUE +REST` or `TYPE BYTES -> !ERROR`: what bytes are read as.
@@ -59,13 +83,17 @@ pub(crate) fn replay_read(
     let bytes = words.bytes(alloc)?;
     let wanted = words.answer()?;
     let mut room = vec![in alloc; 0; bytes.len()]?;
-    let line = Line {
+    let mut line = Line {
         alloc,
         task: Task::Read,
+        name,
         wanted,
+        bytes: &bytes,
         frame: &[],
+        room: room.as_mut_slice(),
+        copy: &mut [],
     };
-    ask_number(name, line, &bytes, room.as_mut_slice(), &mut [], findings)
+    ask_number(&mut line, findings)
 }
 
 /// `TYPE BYTES -> VALUE +REST` or `TYPE BYTES -> !ERROR`: what a frame is read as.
@@ -78,294 +106,209 @@ pub(crate) fn replay_read_frame(
     let mut frame = words.bytes(alloc)?;
     let wanted = words.answer()?;
     let mut copy = frame.clone()?;
-    let line = Line {
+    let mut line = Line {
         alloc,
         task: Task::ReadFrame,
-        wanted,
-        frame: &[],
-    };
-    ask_number(
         name,
-        line,
-        &[],
-        frame.as_mut_slice(),
-        copy.as_mut_slice(),
-        findings,
-    )
+        wanted,
+        bytes: &[],
+        frame: &[],
+        room: frame.as_mut_slice(),
+        copy: copy.as_mut_slice(),
+    };
+    ask_number(&mut line, findings)
 }
 
 /// Does what a line asks of a type that keeps none of the bytes that it is read from.
 fn perform<'a, T: Serialize + Deserialize<&'a [u8]> + DeserializeOwned + Shown>(
-    line: Line<'_>,
-    bytes: &'a [u8],
-    room: &'a mut [u8],
-    copy: &'a mut [u8],
+    line: &mut Line<'a>,
     findings: &mut Findings,
 ) -> Result<(), Trouble> {
     match line.task {
-        Task::Write | Task::Read => read_owned::<T>(line.alloc, bytes, line.wanted, findings)?,
+        Task::Write | Task::Read => {
+            read_owned::<T>(line.alloc, line.bytes, line.wanted, findings)?;
+        }
         Task::ReadFrame => {}
     }
-    perform_borrowing::<T>(line, bytes, room, copy, findings)
+    perform_borrowing::<T>(line, findings)
 }
 
-/// Does what a line asks of a type that may keep bytes. Bytes that are decoded over themselves stand in `room` and again
-/// in `copy`; else `room` is a reader's.
+/// Does what a line asks of a type that may keep bytes.
 fn perform_borrowing<'a, T: Serialize + Deserialize<&'a [u8]> + Shown>(
-    line: Line<'_>,
-    bytes: &'a [u8],
-    room: &'a mut [u8],
-    copy: &'a mut [u8],
+    line: &mut Line<'a>,
     findings: &mut Findings,
 ) -> Result<(), Trouble> {
     let alloc = line.alloc;
+    let room = mem::take(&mut line.room);
     match line.task {
-        Task::Write => write::<T>(alloc, line.wanted, bytes, line.frame, findings),
-        Task::Read => read::<T>(alloc, bytes, room, line.wanted, findings),
-        Task::ReadFrame => read_frame::<T>(alloc, room, copy, line.wanted, findings),
+        Task::Write => write::<T>(alloc, line.wanted, line.bytes, line.frame, findings),
+        Task::Read => read::<T>(alloc, line.bytes, room, line.wanted, findings),
+        Task::ReadFrame => {
+            let copy = mem::take(&mut line.copy);
+            read_frame::<T>(alloc, room, copy, line.wanted, findings)
+        }
     }
 }
 
 /// Asks a number, a character or nothing.
-fn ask_number<'a>(
-    name: &str,
-    line: Line<'_>,
-    bytes: &'a [u8],
-    room: &'a mut [u8],
-    copy: &'a mut [u8],
-    findings: &mut Findings,
-) -> Result<(), Trouble> {
-    match name {
-        "bool" => perform::<bool>(line, bytes, room, copy, findings),
-        "u8" => perform::<u8>(line, bytes, room, copy, findings),
-        "u16" => perform::<u16>(line, bytes, room, copy, findings),
-        "u32" => perform::<u32>(line, bytes, room, copy, findings),
-        "u64" => perform::<u64>(line, bytes, room, copy, findings),
-        "u128" => perform::<u128>(line, bytes, room, copy, findings),
-        "usize" => perform::<usize>(line, bytes, room, copy, findings),
-        "i8" => perform::<i8>(line, bytes, room, copy, findings),
-        "i16" => perform::<i16>(line, bytes, room, copy, findings),
-        "i32" => perform::<i32>(line, bytes, room, copy, findings),
-        "i64" => perform::<i64>(line, bytes, room, copy, findings),
-        "i128" => perform::<i128>(line, bytes, room, copy, findings),
-        "isize" => perform::<isize>(line, bytes, room, copy, findings),
-        "char" => perform::<char>(line, bytes, room, copy, findings),
-        "()" => perform::<()>(line, bytes, room, copy, findings),
-        _ => ask_fixed(name, line, bytes, room, copy, findings),
+fn ask_number(line: &mut Line<'_>, findings: &mut Findings) -> Result<(), Trouble> {
+    match line.name {
+        "bool" => perform::<bool>(line, findings),
+        "u8" => perform::<u8>(line, findings),
+        "u16" => perform::<u16>(line, findings),
+        "u32" => perform::<u32>(line, findings),
+        "u64" => perform::<u64>(line, findings),
+        "u128" => perform::<u128>(line, findings),
+        "usize" => perform::<usize>(line, findings),
+        "i8" => perform::<i8>(line, findings),
+        "i16" => perform::<i16>(line, findings),
+        "i32" => perform::<i32>(line, findings),
+        "i64" => perform::<i64>(line, findings),
+        "i128" => perform::<i128>(line, findings),
+        "isize" => perform::<isize>(line, findings),
+        "char" => perform::<char>(line, findings),
+        "()" => perform::<()>(line, findings),
+        _ => ask_fixed(line, findings),
     }
 }
 
 /// Asks a number of a fixed width.
-fn ask_fixed<'a>(
-    name: &str,
-    line: Line<'_>,
-    bytes: &'a [u8],
-    room: &'a mut [u8],
-    copy: &'a mut [u8],
-    findings: &mut Findings,
-) -> Result<(), Trouble> {
-    match name {
-        "LE<u16>" => perform::<LE<u16>>(line, bytes, room, copy, findings),
-        "LE<u32>" => perform::<LE<u32>>(line, bytes, room, copy, findings),
-        "LE<u64>" => perform::<LE<u64>>(line, bytes, room, copy, findings),
-        "LE<u128>" => perform::<LE<u128>>(line, bytes, room, copy, findings),
-        "LE<i16>" => perform::<LE<i16>>(line, bytes, room, copy, findings),
-        "LE<i32>" => perform::<LE<i32>>(line, bytes, room, copy, findings),
-        "LE<i64>" => perform::<LE<i64>>(line, bytes, room, copy, findings),
-        "LE<i128>" => perform::<LE<i128>>(line, bytes, room, copy, findings),
-        "BE<u16>" => perform::<BE<u16>>(line, bytes, room, copy, findings),
-        "BE<u32>" => perform::<BE<u32>>(line, bytes, room, copy, findings),
-        "BE<u64>" => perform::<BE<u64>>(line, bytes, room, copy, findings),
-        "BE<u128>" => perform::<BE<u128>>(line, bytes, room, copy, findings),
-        "BE<i16>" => perform::<BE<i16>>(line, bytes, room, copy, findings),
-        "BE<i32>" => perform::<BE<i32>>(line, bytes, room, copy, findings),
-        "BE<i64>" => perform::<BE<i64>>(line, bytes, room, copy, findings),
-        "BE<i128>" => perform::<BE<i128>>(line, bytes, room, copy, findings),
-        _ => ask_text(name, line, bytes, room, copy, findings),
+fn ask_fixed(line: &mut Line<'_>, findings: &mut Findings) -> Result<(), Trouble> {
+    match line.name {
+        "LE<u16>" => perform::<LE<u16>>(line, findings),
+        "LE<u32>" => perform::<LE<u32>>(line, findings),
+        "LE<u64>" => perform::<LE<u64>>(line, findings),
+        "LE<u128>" => perform::<LE<u128>>(line, findings),
+        "LE<i16>" => perform::<LE<i16>>(line, findings),
+        "LE<i32>" => perform::<LE<i32>>(line, findings),
+        "LE<i64>" => perform::<LE<i64>>(line, findings),
+        "LE<i128>" => perform::<LE<i128>>(line, findings),
+        "BE<u16>" => perform::<BE<u16>>(line, findings),
+        "BE<u32>" => perform::<BE<u32>>(line, findings),
+        "BE<u64>" => perform::<BE<u64>>(line, findings),
+        "BE<u128>" => perform::<BE<u128>>(line, findings),
+        "BE<i16>" => perform::<BE<i16>>(line, findings),
+        "BE<i32>" => perform::<BE<i32>>(line, findings),
+        "BE<i64>" => perform::<BE<i64>>(line, findings),
+        "BE<i128>" => perform::<BE<i128>>(line, findings),
+        _ => ask_text(line, findings),
     }
 }
 
 /// Asks a text, or bytes.
-fn ask_text<'a>(
-    name: &str,
-    line: Line<'_>,
-    bytes: &'a [u8],
-    room: &'a mut [u8],
-    copy: &'a mut [u8],
-    findings: &mut Findings,
-) -> Result<(), Trouble> {
-    match name {
-        "&[u8]" => perform_borrowing::<&'a [u8]>(line, bytes, room, copy, findings),
-        "&str" => perform_borrowing::<&'a str>(line, bytes, room, copy, findings),
-        "ArrayString<0>" => perform::<ArrayString<0>>(line, bytes, room, copy, findings),
-        "ArrayString<4>" => perform::<ArrayString<4>>(line, bytes, room, copy, findings),
-        "ArrayString<8>" => perform::<ArrayString<8>>(line, bytes, room, copy, findings),
-        "String" => perform::<String>(line, bytes, room, copy, findings),
-        _ => ask_vector(name, line, bytes, room, copy, findings),
+fn ask_text<'a>(line: &mut Line<'a>, findings: &mut Findings) -> Result<(), Trouble> {
+    match line.name {
+        "&[u8]" => perform_borrowing::<&'a [u8]>(line, findings),
+        "&str" => perform_borrowing::<&'a str>(line, findings),
+        "ArrayString<0>" => perform::<ArrayString<0>>(line, findings),
+        "ArrayString<4>" => perform::<ArrayString<4>>(line, findings),
+        "ArrayString<8>" => perform::<ArrayString<8>>(line, findings),
+        "String" => perform::<String>(line, findings),
+        _ => ask_vector(line, findings),
     }
 }
 
 /// Asks a vector.
-fn ask_vector<'a>(
-    name: &str,
-    line: Line<'_>,
-    bytes: &'a [u8],
-    room: &'a mut [u8],
-    copy: &'a mut [u8],
-    findings: &mut Findings,
-) -> Result<(), Trouble> {
-    match name {
-        "Vec<u8>" => perform::<Vec<u8>>(line, bytes, room, copy, findings),
-        "Vec<i64>" => perform::<Vec<i64>>(line, bytes, room, copy, findings),
-        "Vec<u16>" => perform::<Vec<u16>>(line, bytes, room, copy, findings),
-        "Vec<bool>" => perform::<Vec<bool>>(line, bytes, room, copy, findings),
-        "Vec<char>" => perform::<Vec<char>>(line, bytes, room, copy, findings),
-        "Vec<String>" => perform::<Vec<String>>(line, bytes, room, copy, findings),
-        "Vec<[u8;3]>" => perform::<Vec<[u8; 3]>>(line, bytes, room, copy, findings),
-        "Vec<LE<u16>>" => perform::<Vec<LE<u16>>>(line, bytes, room, copy, findings),
-        "Vec<Vec<u8>>" => perform::<Vec<Vec<u8>>>(line, bytes, room, copy, findings),
-        "Vec<(u8,u16)>" => perform::<Vec<(u8, u16)>>(line, bytes, room, copy, findings),
-        "Vec<DataEnum>" => perform::<Vec<DataEnum>>(line, bytes, room, copy, findings),
-        "Vec<Option<i32>>" => perform::<Vec<Option<i32>>>(line, bytes, room, copy, findings),
-        "Vec<Result<u8,()>>" => perform::<Vec<Result<u8, ()>>>(line, bytes, room, copy, findings),
-        _ => ask_array(name, line, bytes, room, copy, findings),
+fn ask_vector(line: &mut Line<'_>, findings: &mut Findings) -> Result<(), Trouble> {
+    match line.name {
+        "Vec<u8>" => perform::<Vec<u8>>(line, findings),
+        "Vec<i64>" => perform::<Vec<i64>>(line, findings),
+        "Vec<u16>" => perform::<Vec<u16>>(line, findings),
+        "Vec<bool>" => perform::<Vec<bool>>(line, findings),
+        "Vec<char>" => perform::<Vec<char>>(line, findings),
+        "Vec<String>" => perform::<Vec<String>>(line, findings),
+        "Vec<[u8;3]>" => perform::<Vec<[u8; 3]>>(line, findings),
+        "Vec<LE<u16>>" => perform::<Vec<LE<u16>>>(line, findings),
+        "Vec<Vec<u8>>" => perform::<Vec<Vec<u8>>>(line, findings),
+        "Vec<(u8,u16)>" => perform::<Vec<(u8, u16)>>(line, findings),
+        "Vec<DataEnum>" => perform::<Vec<DataEnum>>(line, findings),
+        "Vec<Option<i32>>" => perform::<Vec<Option<i32>>>(line, findings),
+        "Vec<Result<u8,()>>" => perform::<Vec<Result<u8, ()>>>(line, findings),
+        _ => ask_array(line, findings),
     }
 }
 
 /// Asks an array, or a vector within one.
-fn ask_array<'a>(
-    name: &str,
-    line: Line<'_>,
-    bytes: &'a [u8],
-    room: &'a mut [u8],
-    copy: &'a mut [u8],
-    findings: &mut Findings,
-) -> Result<(), Trouble> {
-    match name {
-        "ArrayVec<(),3>" => perform::<ArrayVec<(), 3>>(line, bytes, room, copy, findings),
-        "ArrayVec<u8,0>" => perform::<ArrayVec<u8, 0>>(line, bytes, room, copy, findings),
-        "ArrayVec<u8,2>" => perform::<ArrayVec<u8, 2>>(line, bytes, room, copy, findings),
-        "ArrayVec<u8,4>" => perform::<ArrayVec<u8, 4>>(line, bytes, room, copy, findings),
-        "ArrayVec<u16,2>" => perform::<ArrayVec<u16, 2>>(line, bytes, room, copy, findings),
-        "ArrayVec<ArrayString<4>,2>" => perform::<ArrayVec<ArrayString<4>, 2>>(
-            line, bytes, room, copy, findings,
-        ),
-        "[(bool,i16);2]" => perform::<[(bool, i16); 2]>(line, bytes, room, copy, findings),
-        "[Option<u8>;2]" => perform::<[Option<u8>; 2]>(line, bytes, room, copy, findings),
-        "[u16;3]" => perform::<[u16; 3]>(line, bytes, room, copy, findings),
-        "[u8;0]" => perform::<[u8; 0]>(line, bytes, room, copy, findings),
-        "[u8;1]" => perform::<[u8; 1]>(line, bytes, room, copy, findings),
-        "[u8;3]" => perform::<[u8; 3]>(line, bytes, room, copy, findings),
-        "[u8;32]" => perform::<[u8; 32]>(line, bytes, room, copy, findings),
-        "[u8;4]" => perform::<[u8; 4]>(line, bytes, room, copy, findings),
-        _ => ask_tuple(name, line, bytes, room, copy, findings),
+fn ask_array(line: &mut Line<'_>, findings: &mut Findings) -> Result<(), Trouble> {
+    match line.name {
+        "ArrayVec<(),3>" => perform::<ArrayVec<(), 3>>(line, findings),
+        "ArrayVec<u8,0>" => perform::<ArrayVec<u8, 0>>(line, findings),
+        "ArrayVec<u8,2>" => perform::<ArrayVec<u8, 2>>(line, findings),
+        "ArrayVec<u8,4>" => perform::<ArrayVec<u8, 4>>(line, findings),
+        "ArrayVec<u16,2>" => perform::<ArrayVec<u16, 2>>(line, findings),
+        "ArrayVec<ArrayString<4>,2>" => perform::<ArrayVec<ArrayString<4>, 2>>(line, findings),
+        "[(bool,i16);2]" => perform::<[(bool, i16); 2]>(line, findings),
+        "[Option<u8>;2]" => perform::<[Option<u8>; 2]>(line, findings),
+        "[u16;3]" => perform::<[u16; 3]>(line, findings),
+        "[u8;0]" => perform::<[u8; 0]>(line, findings),
+        "[u8;1]" => perform::<[u8; 1]>(line, findings),
+        "[u8;3]" => perform::<[u8; 3]>(line, findings),
+        "[u8;32]" => perform::<[u8; 32]>(line, findings),
+        "[u8;4]" => perform::<[u8; 4]>(line, findings),
+        _ => ask_tuple(line, findings),
     }
 }
 
 /// Asks a tuple.
-fn ask_tuple<'a>(
-    name: &str,
-    line: Line<'_>,
-    bytes: &'a [u8],
-    room: &'a mut [u8],
-    copy: &'a mut [u8],
-    findings: &mut Findings,
-) -> Result<(), Trouble> {
-    match name {
-        "(BE<u32>,u8)" => perform::<(BE<u32>, u8)>(line, bytes, room, copy, findings),
-        "(bool,i16,char,u64)" => perform::<(bool, i16, char, u64)>(
-            line, bytes, room, copy, findings,
-        ),
-        "(i32,u8,u64)" => perform::<(i32, u8, u64)>(line, bytes, room, copy, findings),
-        "(i8,u16,i32,u64,i128,bool)" => perform::<(i8, u16, i32, u64, i128, bool)>(
-            line, bytes, room, copy, findings,
-        ),
-        "(u16,u8,u128,u64,u32)" => perform::<(u16, u8, u128, u64, u32)>(
-            line, bytes, room, copy, findings,
-        ),
-        "(u8,)" => perform::<(u8,)>(line, bytes, room, copy, findings),
-        "(u8,u16)" => perform::<(u8, u16)>(line, bytes, room, copy, findings),
-        "(u8,u32,String)" => perform::<(u8, u32, String)>(line, bytes, room, copy, findings),
-        "(u8,u8)" => perform::<(u8, u8)>(line, bytes, room, copy, findings),
-        _ => ask_choice(name, line, bytes, room, copy, findings),
+fn ask_tuple(line: &mut Line<'_>, findings: &mut Findings) -> Result<(), Trouble> {
+    match line.name {
+        "(BE<u32>,u8)" => perform::<(BE<u32>, u8)>(line, findings),
+        "(bool,i16,char,u64)" => perform::<(bool, i16, char, u64)>(line, findings),
+        "(i32,u8,u64)" => perform::<(i32, u8, u64)>(line, findings),
+        "(i8,u16,i32,u64,i128,bool)" => perform::<(i8, u16, i32, u64, i128, bool)>(line, findings),
+        "(u16,u8,u128,u64,u32)" => perform::<(u16, u8, u128, u64, u32)>(line, findings),
+        "(u8,)" => perform::<(u8,)>(line, findings),
+        "(u8,u16)" => perform::<(u8, u16)>(line, findings),
+        "(u8,u32,String)" => perform::<(u8, u32, String)>(line, findings),
+        "(u8,u8)" => perform::<(u8, u8)>(line, findings),
+        _ => ask_choice(line, findings),
     }
 }
 
 /// Asks an option, a result or a box.
-fn ask_choice<'a>(
-    name: &str,
-    line: Line<'_>,
-    bytes: &'a [u8],
-    room: &'a mut [u8],
-    copy: &'a mut [u8],
-    findings: &mut Findings,
-) -> Result<(), Trouble> {
-    match name {
-        "Box<u32>" => perform::<Box<u32>>(line, bytes, room, copy, findings),
-        "Box<Option<Box<u8>>>" => perform::<Box<Option<Box<u8>>>>(
-            line, bytes, room, copy, findings,
-        ),
-        "Option<()>" => perform::<Option<()>>(line, bytes, room, copy, findings),
-        "Option<u8>" => perform::<Option<u8>>(line, bytes, room, copy, findings),
-        "Option<u16>" => perform::<Option<u16>>(line, bytes, room, copy, findings),
-        "Option<String>" => perform::<Option<String>>(line, bytes, room, copy, findings),
-        "Option<Option<bool>>" => perform::<Option<Option<bool>>>(
-            line, bytes, room, copy, findings,
-        ),
+fn ask_choice(line: &mut Line<'_>, findings: &mut Findings) -> Result<(), Trouble> {
+    match line.name {
+        "Box<u32>" => perform::<Box<u32>>(line, findings),
+        "Box<Option<Box<u8>>>" => perform::<Box<Option<Box<u8>>>>(line, findings),
+        "Option<()>" => perform::<Option<()>>(line, findings),
+        "Option<u8>" => perform::<Option<u8>>(line, findings),
+        "Option<u16>" => perform::<Option<u16>>(line, findings),
+        "Option<String>" => perform::<Option<String>>(line, findings),
+        "Option<Option<bool>>" => perform::<Option<Option<bool>>>(line, findings),
         "Option<Vec<Result<(u8,String),[u16;2]>>>" => perform::<
             Option<Vec<Result<(u8, String), [u16; 2]>>>,
-        >(line, bytes, room, copy, findings),
-        "Result<u8,u8>" => perform::<Result<u8, u8>>(line, bytes, room, copy, findings),
-        "Result<u8,u16>" => perform::<Result<u8, u16>>(line, bytes, room, copy, findings),
-        "Result<(),String>" => perform::<Result<(), String>>(line, bytes, room, copy, findings),
-        "Result<Vec<u8>,bool>" => perform::<Result<Vec<u8>, bool>>(
-            line, bytes, room, copy, findings,
-        ),
-        _ => ask_other(name, line, bytes, room, copy, findings),
+        >(line, findings),
+        "Result<u8,u8>" => perform::<Result<u8, u8>>(line, findings),
+        "Result<u8,u16>" => perform::<Result<u8, u16>>(line, findings),
+        "Result<(),String>" => perform::<Result<(), String>>(line, findings),
+        "Result<Vec<u8>,bool>" => perform::<Result<Vec<u8>, bool>>(line, findings),
+        _ => ask_other(line, findings),
     }
 }
 
 /// Asks a map or an enum.
-fn ask_other<'a>(
-    name: &str,
-    line: Line<'_>,
-    bytes: &'a [u8],
-    room: &'a mut [u8],
-    copy: &'a mut [u8],
-    findings: &mut Findings,
-) -> Result<(), Trouble> {
-    match name {
-        "BTreeMap<u8,u8>" => perform::<BTreeMap<u8, u8>>(line, bytes, room, copy, findings),
-        "BTreeMap<u16,String>" => perform::<BTreeMap<u16, String>>(
-            line, bytes, room, copy, findings,
-        ),
-        "BTreeMap<String,Vec<u8>>" => perform::<BTreeMap<String, Vec<u8>>>(
-            line, bytes, room, copy, findings,
-        ),
+fn ask_other(line: &mut Line<'_>, findings: &mut Findings) -> Result<(), Trouble> {
+    match line.name {
+        "BTreeMap<u8,u8>" => perform::<BTreeMap<u8, u8>>(line, findings),
+        "BTreeMap<u16,String>" => perform::<BTreeMap<u16, String>>(line, findings),
+        "BTreeMap<String,Vec<u8>>" => perform::<BTreeMap<String, Vec<u8>>>(line, findings),
         "BTreeMap<i8,BTreeMap<bool,u16>>" => perform::<BTreeMap<i8, BTreeMap<bool, u16>>>(
-            line, bytes, room, copy, findings,
+            line, findings,
         ),
-        "DataEnum" => perform::<DataEnum>(line, bytes, room, copy, findings),
-        _ => ask_nothings(name, line, bytes, room, copy, findings),
+        "DataEnum" => perform::<DataEnum>(line, findings),
+        _ => ask_nothings(line, findings),
     }
 }
 
 /// Asks a container of nothings that the lines of other families don't name.
-fn ask_nothings<'a>(
-    name: &str,
-    line: Line<'_>,
-    bytes: &'a [u8],
-    room: &'a mut [u8],
-    copy: &'a mut [u8],
-    findings: &mut Findings,
-) -> Result<(), Trouble> {
-    match name {
-        "Vec<()>" => perform::<Vec<()>>(line, bytes, room, copy, findings),
-        "[();3]" => perform::<[(); 3]>(line, bytes, room, copy, findings),
-        "Box<()>" => perform::<Box<()>>(line, bytes, room, copy, findings),
-        "((),)" => perform::<((),)>(line, bytes, room, copy, findings),
-        "Result<(),()>" => perform::<Result<(), ()>>(line, bytes, room, copy, findings),
-        "BTreeMap<u8,()>" => perform::<BTreeMap<u8, ()>>(line, bytes, room, copy, findings),
+fn ask_nothings(line: &mut Line<'_>, findings: &mut Findings) -> Result<(), Trouble> {
+    match line.name {
+        "Vec<()>" => perform::<Vec<()>>(line, findings),
+        "[();3]" => perform::<[(); 3]>(line, findings),
+        "Box<()>" => perform::<Box<()>>(line, findings),
+        "((),)" => perform::<((),)>(line, findings),
+        "Result<(),()>" => perform::<Result<(), ()>>(line, findings),
+        "BTreeMap<u8,()>" => perform::<BTreeMap<u8, ()>>(line, findings),
         _ => Err(Trouble::Unreadable),
     }
 }

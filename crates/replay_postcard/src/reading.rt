@@ -12,18 +12,34 @@ pub(crate) fn read<'a, T: Deserialize<&'a [u8]> + Shown>(
     wanted: &str,
     findings: &mut Findings,
 ) -> Result<(), Trouble> {
-    let answer = match postcard::take_from_bytes::<T>(alloc, bytes) {
+    findings.check("take_from_bytes", taken::<T>(alloc, bytes), wanted)?;
+    let wanted = value_of(wanted);
+    let answer = told(alloc, postcard::from_bytes::<T>(alloc, bytes));
+    findings.check("from_bytes", answer, wanted)?;
+    findings.check("from_io", given::<T>(alloc, bytes, room), wanted)
+}
+
+/// The answer of `take_from_bytes`.
+fn taken<'a, T: Deserialize<&'a [u8]> + Shown>(
+    alloc: Global,
+    bytes: &'a [u8],
+) -> Result<String, Trouble> {
+    match postcard::take_from_bytes::<T>(alloc, bytes) {
         Ok((value, rest)) => with_rest(alloc, &value, rest.len()),
         Err(error) => refusal(alloc, error),
-    };
-    findings.check("take_from_bytes", answer, wanted)?;
-    let answer = told(alloc, postcard::from_bytes::<T>(alloc, bytes));
-    findings.check("from_bytes", answer, value_of(wanted))?;
-    let answer = match postcard::from_io::<T, &[u8]>(alloc, (bytes, room)) {
+    }
+}
+
+/// The answer of `from_io`.
+fn given<'a, T: Deserialize<&'a [u8]> + Shown>(
+    alloc: Global,
+    bytes: &'a [u8],
+    room: &'a mut [u8],
+) -> Result<String, Trouble> {
+    match postcard::from_io::<T, &[u8]>(alloc, (bytes, room)) {
         Ok((value, _)) => Ok(in_words(alloc, &value)?),
         Err(error) => refusal(alloc, error),
-    };
-    findings.check("from_io", answer, value_of(wanted))
+    }
 }
 
 /// Reads bytes as a value that keeps none of them.

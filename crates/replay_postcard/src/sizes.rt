@@ -21,12 +21,16 @@ pub(crate) fn replay_size(
     let size = greatest(words.next()?)?;
     let wanted = words.next()?;
     words.end()?;
-    let answer = match size {
-        Some(size) => format!(in alloc; "{size}")?,
-        None => String::from_str(alloc, "none")?,
+    findings.check("postcard_max_size", size_text(alloc, size), wanted)
+}
+
+/// A size, if there is one, in the words of a line.
+fn size_text(alloc: Global, size: Option<usize>) -> Result<String, Trouble> {
+    let text = match size {
+        Some(size) => format!(in alloc; "{size}"),
+        None => String::from_str(alloc, "none"),
     };
-    findings.compare("postcard_max_size", answer.as_str(), wanted)?;
-    Ok(())
+    Ok(text?)
 }
 
 /// The greatest size of the type of a name.

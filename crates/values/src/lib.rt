@@ -175,6 +175,37 @@ fn show_after<T: Shown>(mark: char, value: &T, text: &mut String) -> Result<(), 
     value.show(text)
 }
 
+/// Appends a mark and two values, parted by another mark.
+fn show_two<A: Shown, B: Shown>(
+    mark: char,
+    a: &A,
+    between: char,
+    b: &B,
+    text: &mut String,
+) -> Result<(), AllocError> {
+    show_after(mark, a, text)?;
+    show_after(between, b, text)
+}
+
+/// Appends a mark and three values.
+fn show_three<A: Shown, B: Shown, C: Shown>(
+    mark: char,
+    a: &A,
+    b: &B,
+    c: &C,
+    text: &mut String,
+) -> Result<(), AllocError> {
+    show_after(mark, a, text)?;
+    show_two(',', b, ',', c, text)
+}
+
+/// Appends a value between what opens it and a parenthesis.
+fn show_within<T: Shown>(open: &str, value: &T, text: &mut String) -> Result<(), AllocError> {
+    text.push_str(open)?;
+    value.show(text)?;
+    text.push(')')
+}
+
 impl<A: Shown> Shown for (A,) {
     fn show(&self, text: &mut String) -> Result<(), AllocError> {
         show_after('(', &self.0, text)?;
@@ -184,55 +215,38 @@ impl<A: Shown> Shown for (A,) {
 
 impl<A: Shown, B: Shown> Shown for (A, B) {
     fn show(&self, text: &mut String) -> Result<(), AllocError> {
-        let (a, b) = self;
-        show_after('(', a, text)?;
-        show_after(',', b, text)?;
+        show_two('(', &self.0, ',', &self.1, text)?;
         text.push(')')
     }
 }
 
 impl<A: Shown, B: Shown, C: Shown> Shown for (A, B, C) {
     fn show(&self, text: &mut String) -> Result<(), AllocError> {
-        let (a, b, c) = self;
-        show_after('(', a, text)?;
-        show_after(',', b, text)?;
-        show_after(',', c, text)?;
+        show_three('(', &self.0, &self.1, &self.2, text)?;
         text.push(')')
     }
 }
 
 impl<A: Shown, B: Shown, C: Shown, D: Shown> Shown for (A, B, C, D) {
     fn show(&self, text: &mut String) -> Result<(), AllocError> {
-        let (a, b, c, d) = self;
-        show_after('(', a, text)?;
-        show_after(',', b, text)?;
-        show_after(',', c, text)?;
-        show_after(',', d, text)?;
+        show_two('(', &self.0, ',', &self.1, text)?;
+        show_two(',', &self.2, ',', &self.3, text)?;
         text.push(')')
     }
 }
 
 impl<A: Shown, B: Shown, C: Shown, D: Shown, E: Shown> Shown for (A, B, C, D, E) {
     fn show(&self, text: &mut String) -> Result<(), AllocError> {
-        let (a, b, c, d, e) = self;
-        show_after('(', a, text)?;
-        show_after(',', b, text)?;
-        show_after(',', c, text)?;
-        show_after(',', d, text)?;
-        show_after(',', e, text)?;
+        show_two('(', &self.0, ',', &self.1, text)?;
+        show_three(',', &self.2, &self.3, &self.4, text)?;
         text.push(')')
     }
 }
 
 impl<A: Shown, B: Shown, C: Shown, D: Shown, E: Shown, F: Shown> Shown for (A, B, C, D, E, F) {
     fn show(&self, text: &mut String) -> Result<(), AllocError> {
-        let (a, b, c, d, e, f) = self;
-        show_after('(', a, text)?;
-        show_after(',', b, text)?;
-        show_after(',', c, text)?;
-        show_after(',', d, text)?;
-        show_after(',', e, text)?;
-        show_after(',', f, text)?;
+        show_three('(', &self.0, &self.1, &self.2, text)?;
+        show_three(',', &self.3, &self.4, &self.5, text)?;
         text.push(')')
     }
 }
@@ -241,11 +255,7 @@ impl<T: Shown> Shown for Option<T> {
     fn show(&self, text: &mut String) -> Result<(), AllocError> {
         match self {
             None => text.push_str("none"),
-            Some(value) => {
-                text.push_str("some(")?;
-                value.show(text)?;
-                text.push(')')
-            }
+            Some(value) => show_within("some(", value, text),
         }
     }
 }
@@ -253,16 +263,9 @@ impl<T: Shown> Shown for Option<T> {
 impl<T: Shown, E: Shown> Shown for Result<T, E> {
     fn show(&self, text: &mut String) -> Result<(), AllocError> {
         match self {
-            Ok(value) => {
-                text.push_str("ok(")?;
-                value.show(text)?;
-            }
-            Err(error) => {
-                text.push_str("err(")?;
-                error.show(text)?;
-            }
+            Ok(value) => show_within("ok(", value, text),
+            Err(error) => show_within("err(", error, text),
         }
-        text.push(')')
     }
 }
 
@@ -279,8 +282,7 @@ impl<K: Shown + Ord, V: Shown> Shown for BTreeMap<K, V> {
     fn show(&self, text: &mut String) -> Result<(), AllocError> {
         let mut mark = '{';
         for (key, value) in self {
-            show_after(mark, key, text)?;
-            show_after(':', value, text)?;
+            show_two(mark, key, ':', value, text)?;
             mark = ',';
         }
         if mark == '{' {
@@ -306,17 +308,26 @@ impl<T: FixInt + Shown> Shown for BE<T> {
 impl Shown for DataEnum {
     fn show(&self, text: &mut String) -> Result<(), AllocError> {
         match self {
-            DataEnum::Bib(n) => write!(text, "Bib({n})"),
-            DataEnum::Bim(n) => write!(text, "Bim({n})"),
-            DataEnum::Bap(n) => write!(text, "Bap({n})"),
-            DataEnum::Kim(parts) => {
-                let (eight, sixt) = (parts.eight, parts.sixt);
-                write!(text, "Kim({eight},{sixt})")
-            }
-            DataEnum::Chi { a, b } => write!(text, "Chi({a},{b})"),
-            DataEnum::Sho(a, b) => write!(text, "Sho({a},{b})"),
+            DataEnum::Bib(n) => show_within("Bib(", n, text),
+            DataEnum::Bim(n) => show_within("Bim(", n, text),
+            DataEnum::Bap(n) => show_within("Bap(", n, text),
+            DataEnum::Kim(parts) => show_pair("Kim", &parts.eight, &parts.sixt, text),
+            DataEnum::Chi { a, b } => show_pair("Chi", a, b, text),
+            DataEnum::Sho(a, b) => show_pair("Sho", a, b, text),
         }
     }
+}
+
+/// The name of a variant, and its two parts.
+fn show_pair<A: Shown, B: Shown>(
+    name: &str,
+    a: &A,
+    b: &B,
+    text: &mut String,
+) -> Result<(), AllocError> {
+    text.push_str(name)?;
+    show_two('(', a, ',', b, text)?;
+    text.push(')')
 }
 
 /// A value, in the words of a line.

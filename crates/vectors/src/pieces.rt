@@ -30,24 +30,29 @@ impl<'a> Pieces<'a> {
             given: 0,
         }
     }
+
+    /// What is left of the first piece that was not given whole.
+    fn rest(&mut self) -> &'a [u8] {
+        let pieces = self.pieces;
+        for (i, piece) in pieces.iter().enumerate() {
+            let rest = piece.get(self.given..).unwrap_or(&[]);
+            if !rest.is_empty() {
+                self.pieces = pieces.get(i..).unwrap_or(&[]);
+                return rest;
+            }
+            self.given = 0;
+        }
+        self.pieces = &[];
+        &[]
+    }
 }
 
 impl Read for Pieces<'_> {
     fn read(&mut self, buf: &mut [u8]) -> io::Result<usize> {
-        let pieces = self.pieces;
-        for (i, piece) in pieces.iter().enumerate() {
-            let rest = piece.get(self.given..).unwrap_or(&[]);
-            if rest.is_empty() {
-                self.given = 0;
-                continue;
-            }
-            let count = rest.len().min(self.each).min(buf.len());
-            buf[..count].copy_from_slice(&rest[..count]);
-            self.given = self.given.saturating_add(count);
-            self.pieces = pieces.get(i..).unwrap_or(&[]);
-            return Ok(count);
-        }
-        self.pieces = &[];
-        Ok(0)
+        let rest = self.rest();
+        let count = rest.len().min(self.each).min(buf.len());
+        buf[..count].copy_from_slice(&rest[..count]);
+        self.given = self.given.saturating_add(count);
+        Ok(count)
     }
 }

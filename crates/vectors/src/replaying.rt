@@ -28,44 +28,77 @@ pub fn replay_all<L: Replays, R: Read + Drop, W: Write + Drop>(
     input: R,
     output: W,
 ) -> io::Result<ExitCode> {
+    let input = BufReader::new(alloc, input)?;
     let mut out = BufWriter::new(alloc, output)?;
+    let failed = replay_lines(lines, alloc, input, &mut out)?;
+    out.flush()?;
+    Ok(ExitCode::from(if failed == 0 { 0 } else { 1 }))
+}
+
+/// Answers each line, prints those that differ and the counts, and says how many failed.
+fn replay_lines<L: Replays, R: BufRead + Drop, W: Write>(
+    lines: &L,
+    alloc: Global,
+    input: R,
+    out: &mut W,
+) -> io::Result<u64> {
     let mut passed: u64 = 0;
     let mut failed: u64 = 0;
-    for line in BufReader::new(alloc, input)?.lines(alloc) {
-        let good = match line {
-            Ok(line) => passes(lines, alloc, line.as_str(), &mut out)?,
-            Err(error) if error.kind() == ErrorKind::InvalidData => {
-                writeln!(out, "a line that isn't text | unreadable")?;
-                false
-            }
-            Err(error) => return Err(error),
-        };
-        if good {
+    for line in input.lines(alloc) {
+        if replay_line(lines, alloc, line, out)? {
             passed = passed.saturating_add(1);
         } else {
             failed = failed.saturating_add(1);
         }
     }
     writeln!(out, "{passed} passed, {failed} failed")?;
-    out.flush()?;
-    Ok(ExitCode::from(if failed == 0 { 0 } else { 1 }))
+    Ok(failed)
 }
 
-/// Replays a line, prints it where it differs, and says whether it passed.
-fn passes<L: Replays, W: Write + Drop>(
+/// Replays a line as it was read, prints it where it differs, and says whether it passed.
+fn replay_line<L: Replays, W: Write>(
+    lines: &L,
+    alloc: Global,
+    line: io::Result<String>,
+    out: &mut W,
+) -> io::Result<bool> {
+    match line {
+        Ok(line) => passes(lines, alloc, line.as_str(), out),
+        Err(error) if error.kind() == ErrorKind::InvalidData => {
+            writeln!(out, "a line that isn't text | unreadable")?;
+            Ok(false)
+        }
+        Err(error) => Err(error),
+    }
+}
+
+/// Replays a line of text, prints it where it differs, and says whether it passed.
+fn passes<L: Replays, W: Write>(
     lines: &L,
     alloc: Global,
     line: &str,
-    out: &mut BufWriter<W>,
+    out: &mut W,
 ) -> io::Result<bool> {
     let mut findings = Findings::new(alloc);
-    match answer(lines, alloc, line, &mut findings) {
+    let answer = answer(lines, alloc, line, &mut findings);
+    report(line, answer, &findings, out)
+}
+
+/// Prints a line that was not answered as it should be, and says whether it was.
+fn report<W: Write>(
+    line: &str,
+    answer: Result<(), Trouble>,
+    findings: &Findings,
+    out: &mut W,
+) -> io::Result<bool> {
+    let what = match answer {
         Ok(()) if findings.is_empty() => return Ok(true),
-        Ok(()) => writeln!(out, "{line}{}", findings.text())?,
-        Err(Trouble::Unreadable) => writeln!(out, "{line} | unreadable")?,
-        Err(Trouble::Refused) => writeln!(out, "{line} | refused")?,
+        Ok(()) => findings.text(),
+        Err(Trouble::Unreadable) => " | unreadable",
+        Err(Trouble::Refused) => " | refused",
         Err(Trouble::NoMemory) => return Err(ErrorKind::OutOfMemory.into()),
-    }
+    };
+    writeln!(out, "{line}{what}")?;
     Ok(false)
 }
 

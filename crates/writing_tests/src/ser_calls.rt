@@ -16,34 +16,39 @@ fn holds<const N: usize>(serializer: Serializer<HVec<N>>, bytes: &[u8]) -> bool 
 }
 
 fn push_numbers<F: Flavor>(serializer: &mut Serializer<F>) -> bool {
-    serializer.serialize_bool(true).is_ok()
-        && serializer.serialize_u8(255).is_ok()
-        && serializer.serialize_u16(42439).is_ok()
-        && serializer.serialize_u32(3450549266).is_ok()
-        && serializer.serialize_u64(300).is_ok()
-        && serializer.serialize_u128(300).is_ok()
+    let pushed = [
+        serializer.serialize_bool(true),
+        serializer.serialize_u8(255),
+        serializer.serialize_u16(42439),
+        serializer.serialize_u32(3450549266),
+        serializer.serialize_u64(300),
+        serializer.serialize_u128(300),
+    ];
+    pushed == [Ok(()); 6]
 }
 
 fn push_signed_numbers<F: Flavor>(serializer: &mut Serializer<F>) -> bool {
-    serializer.serialize_i8(-1).is_ok()
-        && serializer.serialize_i16(-32768).is_ok()
-        && serializer.serialize_i32(-1).is_ok()
-        && serializer.serialize_i64(-2).is_ok()
-        && serializer.serialize_i128(1).is_ok()
+    let pushed = [
+        serializer.serialize_i8(-1),
+        serializer.serialize_i16(-32768),
+        serializer.serialize_i32(-1),
+        serializer.serialize_i64(-2),
+        serializer.serialize_i128(1),
+    ];
+    pushed == [Ok(()); 5]
 }
 
 #[test]
 fn numbers(rt: HostRuntime) {
     let mut serializer = serializer::<32>();
-    assert!(rt; push_numbers(&mut serializer) && push_signed_numbers(&mut serializer));
+    let bytes = [
+        1, 255, 0xC7, 0xCB, 0x02, 0x92, 0xE8, 0xAC, 0xED, 0x0C, 0xAC, 0x02, 0xAC, 0x02, 0xFF, 0xFF,
+        0xFF, 0x03, 1, 3, 2,
+    ];
     assert!(rt;
-        holds(
-            serializer,
-            &[
-                1, 255, 0xC7, 0xCB, 0x02, 0x92, 0xE8, 0xAC, 0xED, 0x0C, 0xAC, 0x02, 0xAC, 0x02,
-                0xFF, 0xFF, 0xFF, 0x03, 1, 3, 2
-            ]
-        )
+        push_numbers(&mut serializer)
+            && push_signed_numbers(&mut serializer)
+            && holds(serializer, &bytes)
     );
 }
 
@@ -51,14 +56,14 @@ fn numbers(rt: HostRuntime) {
 #[test]
 fn numbers_are_refused_whole(rt: HostRuntime) {
     let mut serializer = serializer::<2>();
+    let short = (serializer.serialize_u16(16384), serializer.output.held());
+    let long = (serializer.serialize_u64(u64::MAX), serializer.output.held());
+    let refused = (Err(Error::SerializeBufferFull), 0);
     assert!(rt;
-        serializer.serialize_u16(16384) == Err(Error::SerializeBufferFull)
-            && serializer.output.held() == 0
-            && serializer.serialize_u64(u64::MAX) == Err(Error::SerializeBufferFull)
-            && serializer.output.held() == 0
+        [short, long] == [refused; 2]
             && serializer.serialize_u16(16383) == Ok(())
+            && holds(serializer, &[0xFF, 0x7F])
     );
-    assert!(rt; holds(serializer, &[0xFF, 0x7F]));
 }
 
 fn push_texts<F: Flavor>(serializer: &mut Serializer<F>) -> bool {
@@ -77,21 +82,27 @@ fn texts(rt: HostRuntime) {
 }
 
 fn push_options<F: Flavor>(serializer: &mut Serializer<F>) -> bool {
-    serializer.serialize_none().is_ok()
-        && serializer.serialize_some(&5u8).is_ok()
-        && serializer.serialize_unit().is_ok()
-        && serializer.serialize_unit_struct().is_ok()
-        && serializer.serialize_newtype_struct(&6u8).is_ok()
+    let pushed = [
+        serializer.serialize_none(),
+        serializer.serialize_some(&5u8),
+        serializer.serialize_unit(),
+        serializer.serialize_unit_struct(),
+        serializer.serialize_newtype_struct(&6u8),
+    ];
+    pushed == [Ok(()); 5]
 }
 
 fn push_structs<F: Flavor>(serializer: &mut Serializer<F>) -> bool {
-    serializer.serialize_struct(1).is_ok()
-        && serializer.serialize_field(&7u8).is_ok()
-        && serializer.end().is_ok()
-        && serializer.serialize_tuple(1).is_ok()
-        && serializer.serialize_element(&8u8).is_ok()
-        && serializer.serialize_tuple_struct(1).is_ok()
-        && serializer.serialize_field(&9u8).is_ok()
+    let pushed = [
+        serializer.serialize_struct(1),
+        serializer.serialize_field(&7u8),
+        serializer.end(),
+        serializer.serialize_tuple(1),
+        serializer.serialize_element(&8u8),
+        serializer.serialize_tuple_struct(1),
+        serializer.serialize_field(&9u8),
+    ];
+    pushed == [Ok(()); 7]
 }
 
 #[test]
@@ -105,39 +116,40 @@ fn options_and_structs(rt: HostRuntime) {
 }
 
 fn push_variants<F: Flavor>(serializer: &mut Serializer<F>) -> bool {
-    serializer.serialize_unit_variant(300).is_ok()
-        && serializer.serialize_newtype_variant(1, &u64::MAX).is_ok()
-        && serializer.serialize_tuple_variant(5, 2).is_ok()
-        && serializer.serialize_field(&0x6969u16).is_ok()
-        && serializer.serialize_field(&7u8).is_ok()
-        && serializer.serialize_struct_variant(3, 1).is_ok()
-        && serializer.serialize_field(&0u8).is_ok()
-        && serializer.end().is_ok()
+    let pushed = [
+        serializer.serialize_unit_variant(300),
+        serializer.serialize_newtype_variant(1, &u64::MAX),
+        serializer.serialize_tuple_variant(5, 2),
+        serializer.serialize_field(&0x6969u16),
+        serializer.serialize_field(&7u8),
+        serializer.serialize_struct_variant(3, 1),
+        serializer.serialize_field(&0u8),
+        serializer.end(),
+    ];
+    pushed == [Ok(()); 8]
 }
 
 #[test]
 fn variants(rt: HostRuntime) {
     let mut serializer = serializer::<32>();
-    assert!(rt; push_variants(&mut serializer));
-    assert!(rt;
-        holds(
-            serializer,
-            &[
-                0xAC, 2, 1, 0xFF, 0xFF, 0xFF, 0xFF, 0xFF, 0xFF, 0xFF, 0xFF, 0xFF, 1, 5, 0xE9, 0xD2,
-                0x01, 7, 3, 0
-            ]
-        )
-    );
+    let bytes = [
+        0xAC, 2, 1, 0xFF, 0xFF, 0xFF, 0xFF, 0xFF, 0xFF, 0xFF, 0xFF, 0xFF, 1, 5, 0xE9, 0xD2, 0x01,
+        7, 3, 0,
+    ];
+    assert!(rt; push_variants(&mut serializer) && holds(serializer, &bytes));
 }
 
 fn push_counts<F: Flavor>(serializer: &mut Serializer<F>) -> bool {
-    serializer.serialize_seq(None) == Err(Error::SerializeSeqLengthUnknown)
-        && serializer.serialize_map(None) == Err(Error::SerializeSeqLengthUnknown)
-        && serializer.serialize_seq(Some(200)).is_ok()
-        && serializer.serialize_map(Some(1)).is_ok()
-        && serializer.serialize_key(&2u8).is_ok()
-        && serializer.serialize_value(&3u8).is_ok()
-        && !serializer.is_human_readable()
+    let pushed = [
+        serializer.serialize_seq(None),
+        serializer.serialize_map(None),
+        serializer.serialize_seq(Some(200)),
+        serializer.serialize_map(Some(1)),
+        serializer.serialize_key(&2u8),
+        serializer.serialize_value(&3u8),
+    ];
+    let unknown = Err(Error::SerializeSeqLengthUnknown);
+    pushed == [unknown, unknown, Ok(()), Ok(()), Ok(()), Ok(())] && !serializer.is_human_readable()
 }
 
 #[test]

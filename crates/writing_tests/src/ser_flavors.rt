@@ -49,14 +49,13 @@ fn is_patched<B: IndexByte>(flavor: &mut B) -> bool {
 
 // Whether a slice of four bytes takes three and no more than one besides, and lets one be changed.
 fn fills<B: IndexByte>(slice: &mut B) -> bool {
-    if slice.try_extend(&[1, 2, 3]) != Ok(())
-        || slice.try_extend(&[4, 5]) != Err(Error::SerializeBufferFull)
-        || slice.held() != 3
-    {
+    let full = Err(Error::SerializeBufferFull);
+    let extended = [slice.try_extend(&[1, 2, 3]), slice.try_extend(&[4, 5])];
+    if extended != [Ok(()), full] || slice.held() != 3 {
         return false;
     }
     slice.set_byte(0, 9);
-    slice.try_push(4) == Ok(()) && slice.try_push(5) == Err(Error::SerializeBufferFull)
+    [slice.try_push(4), slice.try_push(5)] == [Ok(()), full]
 }
 
 #[test]
@@ -79,14 +78,15 @@ fn slices_that_are_given_back(rt: HostRuntime) {
 #[test]
 fn fixed_vectors(rt: HostRuntime) {
     let mut vec: HVec<2> = HVec::default();
+    let full = Err(Error::SerializeBufferFull);
+    let pushed = [vec.try_push(1), vec.try_extend(&[2, 3])];
     assert!(rt;
-        vec.try_push(1) == Ok(())
-            && vec.try_extend(&[2, 3]) == Err(Error::SerializeBufferFull)
+        pushed == [Ok(()), full]
             && vec.held() == 1
             && is_patched(&mut vec)
-            && vec.try_push(3) == Err(Error::SerializeBufferFull)
+            && vec.try_push(3) == full
+            && matches!(&vec.finalize(), Ok(held) if held.as_slice() == [1, 9].as_slice())
     );
-    assert!(rt; matches!(&vec.finalize(), Ok(held) if held.as_slice() == [1, 9].as_slice()));
 }
 
 #[test]
@@ -94,11 +94,11 @@ fn extended_arrays(rt: HostRuntime) {
     let mut full: ArrayVec<u8, 2> = ArrayVec::new();
     full.push(7);
     let mut extended = ExtendFlavor::new(full);
+    let pushed = [extended.try_extend(&[8, 9]), extended.try_push(8)];
     assert!(rt;
-        extended.try_extend(&[8, 9]) == Err(Error::SerializeBufferFull)
-            && extended.try_push(8) == Ok(())
+        pushed == [Err(Error::SerializeBufferFull), Ok(())]
+            && matches!(&extended.finalize(), Ok(held) if held.as_slice() == [7, 8].as_slice())
     );
-    assert!(rt; matches!(&extended.finalize(), Ok(held) if held.as_slice() == [7, 8].as_slice()));
 }
 
 // Whether a vector was given back, and is this one.
@@ -119,9 +119,11 @@ fn growing_vectors(rt: HostRuntime) {
 #[test]
 fn extended_vectors(rt: HostRuntime) {
     let mut begun = Vec::new(rt.alloc());
-    assert!(rt; begun.push(7).is_ok());
+    let is_begun = begun.push(7).is_ok();
     let mut extended = ExtendFlavor::new(begun);
-    assert!(rt; extended.try_push(8) == Ok(()) && is_held(extended.finalize(), &[7, 8]));
+    assert!(rt;
+        is_begun && extended.try_push(8) == Ok(()) && is_held(extended.finalize(), &[7, 8])
+    );
 }
 
 /// Where a growth is refused, the flavor holds what it held.
@@ -192,8 +194,8 @@ fn writers(rt: HostRuntime) {
     let mut serializer = Serializer {
         output: WriteFlavor::new(Vec::new(rt.alloc())),
     };
-    assert!(rt; serializer.serialize_u32(300) == Ok(()) && serializer.output.try_push(5) == Ok(()));
-    assert!(rt; is_held(serializer.output.finalize(), &[0xAC, 0x02, 5]));
+    let written = [serializer.serialize_u32(300), serializer.output.try_push(5)];
+    assert!(rt; written == [Ok(()); 2] && is_held(serializer.output.finalize(), &[0xAC, 0x02, 5]));
 }
 
 #[test]
@@ -206,11 +208,11 @@ fn writers_that_fail(rt: HostRuntime) {
     let mut serializer = Serializer {
         output: WriteFlavor::new(&mut narrow),
     };
+    let written = [serializer.serialize_u32(300), serializer.serialize_u32(300)];
     assert!(rt;
-        serializer.serialize_u32(300) == Ok(())
-            && serializer.serialize_u32(300) == Err(Error::SerializeBufferFull)
+        written == [Ok(()), Err(Error::SerializeBufferFull)]
+            && matches!(&serializer.output.finalize(), Ok(narrow) if narrow.taken == 3)
     );
-    assert!(rt; matches!(&serializer.output.finalize(), Ok(narrow) if narrow.taken == 3));
 }
 
 #[test]

@@ -61,9 +61,13 @@ fn vectors(rt: HostRuntime) {
     let mut serializer = Serializer {
         output: AllocVec::new(rt.alloc()),
     };
-    assert!(rt; serializer.collect_str(&300u32) == Ok(()));
-    let held = serializer.output.finalize();
-    assert!(rt; matches!(&held, Ok(held) if held[..] == [3, 0x33, 0x30, 0x30]));
+    assert!(rt;
+        serializer.collect_str(&300u32) == Ok(())
+            && matches!(
+                &serializer.output.finalize(),
+                Ok(held) if held[..] == [3, 0x33, 0x30, 0x30]
+            )
+    );
 }
 
 /// A value that can't be formatted.

@@ -7,7 +7,6 @@ use postcard_tree::varint::{
     varint_usize,
 };
 use std::collections::BTreeMap;
-use std::process::Abort;
 
 // Whether a number of 16 bits is spelled so.
 fn spells_short(value: u16, bytes: &[u8]) -> bool {
@@ -45,24 +44,31 @@ fn greatest_numbers_are_spelled_shortest(rt: HostRuntime) {
     );
 }
 
-fn check_limits<T: VarintInt>(rt: &impl Abort, most: usize, last: u8) {
-    assert!(rt; varint_max::<T>() == most && max_of_last_byte::<T>() == last);
+// How many bytes a number takes at most, and the greatest last byte.
+fn limits<T: VarintInt>() -> (usize, u8) {
+    (varint_max::<T>(), max_of_last_byte::<T>())
 }
 
 #[test]
 fn numbers_have_their_limits(rt: HostRuntime) {
-    check_limits::<u8>(&rt, 2, 1);
-    check_limits::<i8>(&rt, 2, 1);
-    check_limits::<u16>(&rt, 3, 3);
-    check_limits::<i16>(&rt, 3, 3);
-    check_limits::<u32>(&rt, 5, 15);
-    check_limits::<i32>(&rt, 5, 15);
-    check_limits::<u64>(&rt, 10, 1);
-    check_limits::<i64>(&rt, 10, 1);
-    check_limits::<usize>(&rt, 10, 1);
-    check_limits::<isize>(&rt, 10, 1);
-    check_limits::<u128>(&rt, 19, 3);
-    check_limits::<i128>(&rt, 19, 3);
+    let unsigned = [
+        limits::<u8>(),
+        limits::<u16>(),
+        limits::<u32>(),
+        limits::<u64>(),
+        limits::<usize>(),
+        limits::<u128>(),
+    ];
+    let signed = [
+        limits::<i8>(),
+        limits::<i16>(),
+        limits::<i32>(),
+        limits::<i64>(),
+        limits::<isize>(),
+        limits::<i128>(),
+    ];
+    let wanted = [(2, 1), (3, 3), (5, 15), (10, 1), (10, 1), (19, 3)];
+    assert!(rt; unsigned == wanted && signed == wanted);
 }
 
 // Whether a number's bytes are these from its last one on, and those from its first.
@@ -86,28 +92,35 @@ fn fixed_numbers_stand_in_front(rt: HostRuntime) {
     assert!(rt; BE(0xABCDu16).put(&mut buffer).len() == 2 && buffer[..2] == [0xAB, 0xCD]);
 }
 
-fn check_both_ways<T: FixInt + PartialEq>(rt: &impl Abort, low: T, size: usize) {
+// How many bytes a number takes, if it is read back from them both ways.
+fn size_both_ways<T: FixInt + PartialEq>(low: T) -> Option<usize> {
     let mut little = [0; 16];
     let mut big = [0; 16];
     let little = LE(low).put(&mut little);
     let big = BE(low).put(&mut big);
-    assert!(rt;
-        little.len() == size
-            && LE::<T>::from_bytes(little).0 == low
-            && BE::<T>::from_bytes(big).0 == low
-    );
+    if LE::<T>::from_bytes(little).0 == low && BE::<T>::from_bytes(big).0 == low {
+        Some(little.len())
+    } else {
+        None
+    }
 }
 
 #[test]
 fn fixed_numbers_have_their_sizes(rt: HostRuntime) {
-    check_both_ways(&rt, u16::MAX, 2);
-    check_both_ways(&rt, u32::MAX - 1, 4);
-    check_both_ways(&rt, u64::MAX - 2, 8);
-    check_both_ways(&rt, u128::MAX - 3, 16);
-    check_both_ways(&rt, i16::MIN, 2);
-    check_both_ways(&rt, i32::MIN, 4);
-    check_both_ways(&rt, i64::MIN, 8);
-    check_both_ways(&rt, i128::MIN, 16);
+    let unsigned = [
+        size_both_ways(u16::MAX),
+        size_both_ways(u32::MAX - 1),
+        size_both_ways(u64::MAX - 2),
+        size_both_ways(u128::MAX - 3),
+    ];
+    let signed = [
+        size_both_ways(i16::MIN),
+        size_both_ways(i32::MIN),
+        size_both_ways(i64::MIN),
+        size_both_ways(i128::MIN),
+    ];
+    let wanted = [Some(2), Some(4), Some(8), Some(16)];
+    assert!(rt; unsigned == wanted && signed == wanted);
 }
 
 fn grows<T: Readable>() -> bool {
@@ -115,16 +128,24 @@ fn grows<T: Readable>() -> bool {
 }
 
 #[test]
-fn types_say_whether_they_ask_for_memory(rt: HostRuntime) {
-    assert!(rt;
-        !grows::<(bool, u8, i8, u16, i128, usize)>()
-            && !grows::<(char, (), &[u8], &str, ArrayString<4>, LE<u32>)>()
-            && !grows::<[Option<ArrayVec<BE<u16>, 3>>; 2]>()
-            && grows::<String>()
-            && grows::<Vec<u8>>()
-            && grows::<Box<u8>>()
-    );
-    assert!(rt; grows::<BTreeMap<u8, u8>>());
-    assert!(rt; grows::<std::result::Result<u8, String>>());
-    assert!(rt; grows::<(u8, [Option<Box<u8>>; 2])>());
+fn types_that_ask_for_no_memory(rt: HostRuntime) {
+    let grow = [
+        grows::<(bool, u8, i8, u16, i128, usize)>(),
+        grows::<(char, (), &[u8], &str, ArrayString<4>, LE<u32>)>(),
+        grows::<[Option<ArrayVec<BE<u16>, 3>>; 2]>(),
+    ];
+    assert!(rt; grow == [false; 3]);
+}
+
+#[test]
+fn types_that_ask_for_memory(rt: HostRuntime) {
+    let grow = [
+        grows::<String>(),
+        grows::<Vec<u8>>(),
+        grows::<Box<u8>>(),
+        grows::<BTreeMap<u8, u8>>(),
+        grows::<std::result::Result<u8, String>>(),
+        grows::<(u8, [Option<Box<u8>>; 2])>(),
+    ];
+    assert!(rt; grow == [true; 6]);
 }
