@@ -23,15 +23,8 @@ pub mod HeardLemmas
 pub mod Facts
 pub mod OneAnswers
 pub mod Telling
-pub mod Proved
-pub mod Strict
+pub mod Lengths
 pub mod Sentness
 pub mod Roads
-pub mod Valued
-pub mod Pushing
-pub mod Renewing
-pub mod RunHeard
 pub mod Fetching
-pub mod Fully
-pub mod Crashes
 pub mod Runs

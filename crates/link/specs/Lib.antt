@@ -18,12 +18,5 @@ pub mod Lending
 pub mod LendingOwned
 pub mod InPlace
 pub mod Fates
-pub mod Answered
-pub mod Rows
 pub mod Roads
-pub mod Crashes
-pub mod Values
-pub mod Pieced
-pub mod Limits
 pub mod Gathering
-pub mod Together

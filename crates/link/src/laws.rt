@@ -1,142 +1,10 @@
-//! The laws of a link. Each function does nothing; its contract is what it is for: call one where a proof needs it.
-ghost use Rattle.cobs.specs.Sentinel.{masked};
-ghost use Rattle.std.specs.Prelude.{◌≡◌, ◌↔◌, ℕ, List, Some};
-ghost use Rattle.postcard_tree.specs.Tree.{Tree};
-ghost use Rattle.postcard.specs.Frames.{Holds};
-ghost use Rattle.link.specs.Stream.{Verdict, HoldsExactly, IsAnswer};
-ghost use Rattle.link.specs.Answered.{IsToldAs, IsFrameOf};
-ghost use Rattle.link.specs.Relational.{IsHeardStepwise, IsUnfinishedPart};
-ghost use Rattle.link.specs.Roads.{IsSameInPlace, IsSameByAccumulator};
-ghost use Rattle.link.specs.Values.{IsToldByValues, AreGivenBack};
-ghost use Rattle.link.specs.Pieced.{AreOfTheWhole};
-ghost use Rattle.link.specs.Limits.{IsSetAnew};
-ghost use Rattle.link.specs.Fates.{IsCarried};
-ghost use Rattle.link.specs.Crashes.{IsHeardBetween, IsLeft, GoesOn};
-ghost use Rattle.link.specs.Laws.{IsRunWithin, IsTold, HasOneAnswer, Appends, IsLocal, StartsAnywhere, IsDamagedInFronts, HasRoom, IsInjective, IsLeast, IsToldByLengths, DiffersByBlock};
+//! Laws that the calls of this crate rest on. Each function does nothing; its contract is what it is for: call one where a proof needs
+//! it. What holds of streams and of runs of sends is said by the crate `link_laws`.
+ghost use Rattle.std.specs.Prelude.{ℕ};
+ghost use Rattle.link.specs.Laws.{HasRoom, IsToldByLengths};
 
-use crate::receiver::Answer;
+use postcard::Readable;
 use postcard::experimental::max_size::MaxWritten;
-use postcard::{Exact, Lawful, Readable, Serialize};
-
-/// Whatever sends of a type's trees go out, by one sender or several in turn, each possibly broken off at any byte: what a
-/// receiver answers to the line is what is to be told of the run, and nothing else. The frames are within its limit.
-pub fn told<T: Readable>()
-    ensures ordinary { (limit s : ℕ) → IsTold T.takes (Holds T.takes) limit s }
-    ensures strict { (limit s : ℕ) → IsTold T.takes (HoldsExactly T.takes) limit s }
-{
-    cobs::laws::message_of_a_frame();
-    cobs::laws::frames_of_a_message();
-    cobs::laws::nonzero();
-    cobs::laws::fronts();
-    postcard_tree::laws::short_is_a_spelling();
-    postcard::laws::beginnings::<T>();
-}
-
-/// The same of the answers that a receiver gives: each value is what its tree is read as.
-pub fn told_as<T: Readable>(answers: &[Answer<T>])
-    ensures ordinary { (limit s : ℕ) → IsToldAs T.takes (Holds T.takes) T.reads answers.now limit s }
-    ensures strict { (limit s : ℕ) → IsToldAs T.takes (HoldsExactly T.takes) T.reads answers.now limit s }
-{
-    told::<T>();
-}
-
-/// The same of a run of a lawful type's values: a receiver's answers are, one by one, alike what is to be told of them.
-pub fn told_by_values<T: Lawful>(answers: &[Answer<T>])
-    ensures ordinary { (limit s : ℕ) → IsToldByValues T.takes (Holds T.takes) T.reads T.alike T.writes T.valid answers.now limit s }
-    ensures strict { (limit s : ℕ) → IsToldByValues T.takes (HoldsExactly T.takes) T.reads T.alike T.writes T.valid answers.now limit s }
-{
-    told_as(answers);
-}
-
-/// Of a run of a lawful type's values whose sends all completed, a receiver's answers are values, one by one alike those sent.
-pub fn given_back<T: Lawful>(answers: &[Answer<T>])
-    ensures ordinary { (limit s : ℕ) → AreGivenBack T.takes (Holds T.takes) T.reads T.alike T.writes T.valid answers.now limit s }
-    ensures strict { (limit s : ℕ) → AreGivenBack T.takes (HoldsExactly T.takes) T.reads T.alike T.writes T.valid answers.now limit s }
-{
-    told_by_values(answers);
-}
-
-/// A session of a lawful type's values is one of trees that the type takes, as `told` wants it.
-pub fn carried<T: Lawful>(values: &[T])
-    ensures { IsCarried T.takes T.writes T.valid values.now }
-{}
-
-/// What is heard of a run has the value of each send that completed, in order, and none that wasn't sent: those that completed
-/// are among those that are heard, and these among those that were tried.
-pub fn between<T: Readable>()
-    ensures ordinary { (limit s : ℕ) → IsHeardBetween T.takes (Holds T.takes) limit s }
-    ensures strict { (limit s : ℕ) → IsHeardBetween T.takes (HoldsExactly T.takes) limit s }
-{
-    told::<T>();
-}
-
-/// Whatever front of a run's line is left, as by a crash or a full disk, it is the line of a run: of the sends whose bytes are
-/// all there, and one broken off. And runs one after another are a run.
-pub fn left<T: Readable>()
-    ensures front { (limit s : ℕ) → IsLeft T.takes limit s }
-    ensures goes_on { (limit s : ℕ) → GoesOn T.takes limit s }
-{}
-
-/// Whatever was sent with frames within a limit was sent with frames within a greater one.
-pub fn within<T: Readable>()
-    ensures { (s : ℕ) → IsRunWithin T.takes s }
-{}
-
-/// What a receiver answers doesn't depend on how the stream was cut into pieces.
-pub fn over_pieces<T: Readable>()
-    ensures ordinary { (limit s : ℕ) → AreOfTheWhole (Holds T.takes) limit s }
-    ensures strict { (limit s : ℕ) → AreOfTheWhole (HoldsExactly T.takes) limit s }
-{}
-
-/// Where a limit is set anew between stretches, what comes before is answered by the old limit and what comes behind by the new one.
-pub fn set_anew<T: Readable>()
-    ensures ordinary { (s : ℕ) → IsSetAnew (Holds T.takes) s }
-    ensures strict { (s : ℕ) → IsSetAnew (HoldsExactly T.takes) s }
-{}
-
-/// A stream has at most one list of answers.
-pub fn one_answer<T: Readable>()
-    ensures ordinary { (limit s : ℕ) → HasOneAnswer (Holds T.takes) limit s }
-    ensures strict { (limit s : ℕ) → HasOneAnswer (HoldsExactly T.takes) limit s }
-{
-    cobs::laws::message_of_a_frame();
-    cobs::laws::frames_of_a_message();
-    postcard_tree::laws::short_is_a_spelling();
-}
-
-/// Behind a sentinel, and at the start, the answers to what comes are those that it has alone.
-pub fn append<T: Readable>()
-    ensures ordinary { (limit s : ℕ) → Appends (Holds T.takes) limit s }
-    ensures strict { (limit s : ℕ) → Appends (HoldsExactly T.takes) limit s }
-{}
-
-/// What is changed, lost or added in a line changes no answer to what ends before it or begins behind the next sentinel.
-pub fn local<T: Readable>()
-    ensures ordinary { (limit s : ℕ) → IsLocal (Holds T.takes) limit s }
-    ensures strict { (limit s : ℕ) → IsLocal (HoldsExactly T.takes) limit s }
-{
-    cobs::laws::message_of_a_frame();
-    cobs::laws::frames_of_a_message();
-    postcard_tree::laws::short_is_a_spelling();
-}
-
-/// Whoever joins a line anywhere hears, from the next sentinel on, what everyone hears.
-pub fn start_anywhere<T: Readable>()
-    ensures ordinary { (limit s : ℕ) → StartsAnywhere (Holds T.takes) limit s }
-    ensures strict { (limit s : ℕ) → StartsAnywhere (HoldsExactly T.takes) limit s }
-{}
-
-/// A nonempty proper front of a frame that sending makes is damaged.
-pub fn fronts_damaged<T: Readable>()
-    ensures { (limit : ℕ) → IsDamagedInFronts T.takes limit }
-{
-    cobs::laws::message_of_a_frame();
-    cobs::laws::frames_of_a_message();
-    cobs::laws::nonzero();
-    cobs::laws::fronts();
-    postcard_tree::laws::short_is_a_spelling();
-    postcard::laws::beginnings::<T>();
-}
 
 /// A value that doesn't refuse itself has a frame within every limit that is at least as long as the longest frame of its
 /// type's greatest size.
@@ -147,38 +15,6 @@ pub fn room<T: MaxWritten>(value: &T)
     cobs::laws::lengths();
 }
 
-/// What is answered where a valid value was sent is alike that value.
-pub fn as_sent<T: Lawful>(sent: &T, answered: &T)
-    requires { T.valid sent.now }
-    ensures { (t : Tree) → T.writes sent.now ≡ Some t → T.reads t answered.now → T.alike sent.now answered.now }
-{}
-
-/// Strictly a stretch holds what a value of an exact type is read from exactly where it is the frame of that value.
-pub fn strict_value<T: Exact>(value: &T)
-    ensures { (stretch : List ℕ) (t : Tree) → T.reads t value.now → HoldsExactly T.takes stretch t ↔ IsFrameOf (T.writes value.now) stretch }
-{}
-
-/// Streams without a leading sentinel or two in a row, each empty or ending in one, all of whose strict answers are values
-/// are equal exactly where these are.
-pub fn strict_injective<T: Readable>()
-    ensures { (limit s : ℕ) → IsInjective T.takes limit s }
-{
-    cobs::laws::message_of_a_frame();
-    cobs::laws::frames_of_a_message();
-    postcard_tree::laws::short_is_a_spelling();
-}
-
-/// A stretch that is answered by a value is no shorter than the frame that sending makes of it.
-pub fn least<T: Readable>()
-    ensures { (limit : ℕ) → IsLeast T.takes limit }
-{
-    cobs::laws::message_of_a_frame();
-    cobs::laws::frames_of_a_message();
-    cobs::laws::thinner();
-    postcard_tree::laws::short_is_a_spelling();
-    postcard::laws::patterns();
-}
-
 /// Whether sending makes a stretch that holds a tree is told by two lengths.
 pub fn by_lengths<T: Readable>()
     ensures { IsToldByLengths T.takes }
@@ -187,34 +23,4 @@ pub fn by_lengths<T: Readable>()
     cobs::laws::frames_of_a_message();
     postcard_tree::laws::short_is_a_spelling();
     postcard_tree::laws::short_is_the_shortest();
-}
-
-/// The stretches of a stream, one by one, and what is heard of it in these words.
-pub fn stepwise<T: Readable>()
-    ensures ordinary { (limit : ℕ) (said : List ℕ → List Verdict) (s : ℕ) → IsHeardStepwise (IsAnswer (Holds T.takes) limit) said s }
-    ensures strict { (limit : ℕ) (said : List ℕ → List Verdict) (s : ℕ) → IsHeardStepwise (IsAnswer (HoldsExactly T.takes) limit) said s }
-    ensures unfinished { (s : ℕ) → IsUnfinishedPart s }
-{}
-
-/// The frame that postcard's own flavor makes of a value, and the one that sending makes.
-pub fn sender_roads<T: Serialize>(value: &T)
-    ensures { DiffersByBlock (T.writes value.now) }
-{
-    cobs::laws::frames_of_a_message();
-}
-
-/// At the sentinel zero bytes stand on the line as they are.
-pub fn zero_sentinel()
-    ensures { (bytes : List ℕ) → masked 0 bytes ≡ bytes }
-{}
-
-/// Where the ended stretches with their sentinels fit a receiver, the values in its answers, those of reading in place and
-/// those of an accumulator of that size are the same; for a type that can ask for memory the last may lack some.
-pub fn roads<T: Readable>(values: &[T])
-    ensures in_place { (s : ℕ) → IsSameInPlace (Holds T.takes) s }
-    ensures accumulator { (s : ℕ) → IsSameByAccumulator T.takes T.reads T.growing values.now s }
-{
-    cobs::laws::message_of_a_frame();
-    cobs::laws::frames_of_a_message();
-    postcard_tree::laws::short_is_a_spelling();
 }

@@ -40,19 +40,18 @@
 //!
 //! A send that the line breaks off leaves a beginning of its bytes. The next send that writes, of this sender or of another one,
 //! begins with a zero and so ends what was left of it: that is `Damaged`, or the value where its whole frame had gone out. No
-//! other value is ever made of it. `laws::told` says this of every run of sends; `headline` says it of the calls.
+//! other value is ever made of it. The crate `link_laws` says this of every run of sends by `told`, and by `headline` of the calls.
 //!
 //! What allocates takes the allocator first. Only those that receive all that a reader gives take memory themselves, for their
 //! lists, and an `OwnedReceiver` for its buffer; the other calls take some only where a value's type does.
 //!
 //! The contracts speak of bytes as lists and of values by the trees that postcard writes them as: `specs/Stream.antt` says what
-//! is answered, `specs/Run.antt` what is sent and what is to be told of it, and `laws` what holds of these.
+//! is answered, `specs/Run.antt` what is sent and what is to be told of it, and the crate `link_laws` what holds of these.
 #![tactic(auto)]
 
 mod decoding;
 mod framed;
 mod gathering;
-pub mod headline;
 mod in_place;
 mod judging;
 pub mod laws;
@@ -61,7 +60,6 @@ mod listening;
 mod owned;
 mod receiver;
 mod reception;
-pub mod rows;
 mod sender;
 mod session;
 mod writing;

@@ -1,8 +1,9 @@
 //! `link`, from senders to a receiver: the headline, in which a send breaks off. Lines of `replay_link` say what is heard of
 //! other sends that break off, ordinarily and strictly.
 use line_io::memory::{Fault, In, Out};
-use link::headline::InTurn;
-use link::{Answer, Fate, Received, SendError, headline};
+use link::{Answer, Fate, Received, SendError};
+use link_laws::headline;
+use link_laws::headline::InTurn;
 
 // Whether a damaged stretch and 300 were heard.
 fn hears_damage(received: &Received<u32, In<'_>>) -> bool {

@@ -1,7 +1,0 @@
-use Rattle.postcard.specs.Frames.{Holds}
-use Rattle.link.specs.Stream.{HoldsExactly}
-use Rattle.link.proofs.Renewing.{set_anew}
-use Rattle.link.proofs.laws.set_anew.Goals as goal
-
-pub returns : goal.returns
-returns g c = record { ordinary = set_anew (Holds g.T.Readable.takes); strict = set_anew (HoldsExactly g.T.Readable.takes) }

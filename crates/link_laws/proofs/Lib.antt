@@ -1,0 +1,8 @@
+pub mod Proved
+pub mod Strict
+pub mod Valued
+pub mod Pushing
+pub mod Renewing
+pub mod RunHeard
+pub mod Fully
+pub mod Crashes

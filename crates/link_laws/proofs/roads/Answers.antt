@@ -1,0 +1,22 @@
+use Rattle.postcard.specs.Frames.{Holds}
+use Rattle.link.proofs.OneAnswers.{one_tree}
+use Rattle.link.proofs.Roads.{same_in_place, same_by_accumulator}
+use Rattle.link_laws.proofs.roads.Goals as goal
+
+pub returns-clause-in_place : goal.returns-clause-in_place
+returns-clause-in_place g c s = same_in_place (Holds g.T.Readable.takes) s (one_tree g.T.Readable.takes record {
+  one_message = c.message_of_a_frame.ensures.one;
+  one_shortest = c.frames_of_a_message.ensures.shortest;
+  apart = g.met.T.Readable.laws.once;
+  trees = g.met.T.Readable.laws.trees;
+  spells = c.short_is_a_spelling.ensures;
+})
+
+pub returns-clause-accumulator : goal.returns-clause-accumulator
+returns-clause-accumulator g c s = same_by_accumulator g.T.Readable.takes g.T.Readable.reads g.T.Readable.growing c.args.values.now s (one_tree g.T.Readable.takes record {
+  one_message = c.message_of_a_frame.ensures.one;
+  one_shortest = c.frames_of_a_message.ensures.shortest;
+  apart = g.met.T.Readable.laws.once;
+  trees = g.met.T.Readable.laws.trees;
+  spells = c.short_is_a_spelling.ensures;
+})

@@ -1,0 +1,11 @@
+use Rattle.postcard.specs.Frames.{Holds}
+use Rattle.link.specs.Stream.{HoldsExactly, IsAnswer}
+use Rattle.link.proofs.Stepwise.{heard_stepwise, unfinished_part}
+use Rattle.link_laws.proofs.stepwise.Goals as goal
+
+pub returns : goal.returns
+returns g c = record {
+  ordinary = λ limit. heard_stepwise (IsAnswer (Holds g.T.Readable.takes) limit);
+  strict = λ limit. heard_stepwise (IsAnswer (HoldsExactly g.T.Readable.takes) limit);
+  unfinished = unfinished_part;
+}

@@ -1,0 +1,5 @@
+use Rattle.link.proofs.Masks.{unmasked}
+use Rattle.link_laws.proofs.zero_sentinel.Goals as goal
+
+pub returns : goal.returns
+returns c = unmasked
