@@ -6,6 +6,8 @@
 #![tactic(auto)]
 
 #[cfg(test)]
+mod checks;
+#[cfg(test)]
 mod ser_calls;
 #[cfg(test)]
 mod ser_flavors;

@@ -1,4 +1,5 @@
 //! `postcard_ser`: what the serializer's calls push.
+use crate::checks::{check, is_array, is_full, succeed};
 use postcard_ser::ser_flavors::{Flavor, HVec, IndexByte};
 use postcard_ser::{Serialize, Serializer};
 use postcard_tree::Error;
@@ -12,30 +13,28 @@ fn serializer<const N: usize>() -> Serializer<HVec<N>> {
 
 // Whether a serializer's array holds these bytes in the end.
 fn holds<const N: usize>(serializer: Serializer<HVec<N>>, bytes: &[u8]) -> bool {
-    matches!(&serializer.output.finalize(), Ok(held) if held.as_slice() == bytes)
+    is_array(serializer.output.finalize(), bytes)
 }
 
 fn push_numbers<F: Flavor>(serializer: &mut Serializer<F>) -> bool {
-    let pushed = [
+    succeed([
         serializer.serialize_bool(true),
         serializer.serialize_u8(255),
         serializer.serialize_u16(42439),
         serializer.serialize_u32(3450549266),
         serializer.serialize_u64(300),
         serializer.serialize_u128(300),
-    ];
-    pushed == [Ok(()); 6]
+    ])
 }
 
 fn push_signed_numbers<F: Flavor>(serializer: &mut Serializer<F>) -> bool {
-    let pushed = [
+    succeed([
         serializer.serialize_i8(-1),
         serializer.serialize_i16(-32768),
         serializer.serialize_i32(-1),
         serializer.serialize_i64(-2),
         serializer.serialize_i128(1),
-    ];
-    pushed == [Ok(()); 5]
+    ])
 }
 
 #[test]
@@ -45,10 +44,11 @@ fn numbers(rt: HostRuntime) {
         1, 255, 0xC7, 0xCB, 0x02, 0x92, 0xE8, 0xAC, 0xED, 0x0C, 0xAC, 0x02, 0xAC, 0x02, 0xFF, 0xFF,
         0xFF, 0x03, 1, 3, 2,
     ];
-    assert!(rt;
+    check(
+        &rt,
         push_numbers(&mut serializer)
             && push_signed_numbers(&mut serializer)
-            && holds(serializer, &bytes)
+            && holds(serializer, &bytes),
     );
 }
 
@@ -56,13 +56,14 @@ fn numbers(rt: HostRuntime) {
 #[test]
 fn numbers_are_refused_whole(rt: HostRuntime) {
     let mut serializer = serializer::<2>();
-    let short = (serializer.serialize_u16(16384), serializer.output.held());
-    let long = (serializer.serialize_u64(u64::MAX), serializer.output.held());
-    let refused = (Err(Error::SerializeBufferFull), 0);
-    assert!(rt;
-        [short, long] == [refused; 2]
-            && serializer.serialize_u16(16383) == Ok(())
-            && holds(serializer, &[0xFF, 0x7F])
+    check(
+        &rt,
+        is_full(serializer.serialize_u16(16384))
+            && serializer.output.held() == 0
+            && is_full(serializer.serialize_u64(u64::MAX))
+            && serializer.output.held() == 0
+            && serializer.serialize_u16(16383).is_ok()
+            && holds(serializer, &[0xFF, 0x7F]),
     );
 }
 
@@ -75,25 +76,25 @@ fn push_texts<F: Flavor>(serializer: &mut Serializer<F>) -> bool {
 #[test]
 fn texts(rt: HostRuntime) {
     let mut serializer = serializer::<16>();
-    assert!(rt;
+    check(
+        &rt,
         push_texts(&mut serializer)
-            && holds(serializer, &[2, 0xC2, 0xA2, 3, 0x48, 0x69, 0x21, 2, 1, 0])
+            && holds(serializer, &[2, 0xC2, 0xA2, 3, 0x48, 0x69, 0x21, 2, 1, 0]),
     );
 }
 
 fn push_options<F: Flavor>(serializer: &mut Serializer<F>) -> bool {
-    let pushed = [
+    succeed([
         serializer.serialize_none(),
         serializer.serialize_some(&5u8),
         serializer.serialize_unit(),
         serializer.serialize_unit_struct(),
         serializer.serialize_newtype_struct(&6u8),
-    ];
-    pushed == [Ok(()); 5]
+    ])
 }
 
 fn push_structs<F: Flavor>(serializer: &mut Serializer<F>) -> bool {
-    let pushed = [
+    succeed([
         serializer.serialize_struct(1),
         serializer.serialize_field(&7u8),
         serializer.end(),
@@ -101,22 +102,22 @@ fn push_structs<F: Flavor>(serializer: &mut Serializer<F>) -> bool {
         serializer.serialize_element(&8u8),
         serializer.serialize_tuple_struct(1),
         serializer.serialize_field(&9u8),
-    ];
-    pushed == [Ok(()); 7]
+    ])
 }
 
 #[test]
 fn options_and_structs(rt: HostRuntime) {
     let mut serializer = serializer::<16>();
-    assert!(rt;
+    check(
+        &rt,
         push_options(&mut serializer)
             && push_structs(&mut serializer)
-            && holds(serializer, &[0, 1, 5, 6, 7, 8, 9])
+            && holds(serializer, &[0, 1, 5, 6, 7, 8, 9]),
     );
 }
 
 fn push_variants<F: Flavor>(serializer: &mut Serializer<F>) -> bool {
-    let pushed = [
+    succeed([
         serializer.serialize_unit_variant(300),
         serializer.serialize_newtype_variant(1, &u64::MAX),
         serializer.serialize_tuple_variant(5, 2),
@@ -125,8 +126,7 @@ fn push_variants<F: Flavor>(serializer: &mut Serializer<F>) -> bool {
         serializer.serialize_struct_variant(3, 1),
         serializer.serialize_field(&0u8),
         serializer.end(),
-    ];
-    pushed == [Ok(()); 8]
+    ])
 }
 
 #[test]
@@ -136,7 +136,10 @@ fn variants(rt: HostRuntime) {
         0xAC, 2, 1, 0xFF, 0xFF, 0xFF, 0xFF, 0xFF, 0xFF, 0xFF, 0xFF, 0xFF, 1, 5, 0xE9, 0xD2, 0x01,
         7, 3, 0,
     ];
-    assert!(rt; push_variants(&mut serializer) && holds(serializer, &bytes));
+    check(
+        &rt,
+        push_variants(&mut serializer) && holds(serializer, &bytes),
+    );
 }
 
 fn push_counts<F: Flavor>(serializer: &mut Serializer<F>) -> bool {
@@ -155,14 +158,17 @@ fn push_counts<F: Flavor>(serializer: &mut Serializer<F>) -> bool {
 #[test]
 fn counts(rt: HostRuntime) {
     let mut serializer = serializer::<16>();
-    assert!(rt; push_counts(&mut serializer) && holds(serializer, &[0xC8, 1, 1, 2, 3]));
+    check(
+        &rt,
+        push_counts(&mut serializer) && holds(serializer, &[0xC8, 1, 1, 2, 3]),
+    );
 }
 
 #[test]
 fn refusals(rt: HostRuntime) {
     let mut serializer = serializer::<2>();
-    assert!(rt;
-        (1u8, 300u16).serialize(&mut serializer) == Err(Error::SerializeBufferFull)
-            && serializer.output.held() == 1
+    check(
+        &rt,
+        is_full((1u8, 300u16).serialize(&mut serializer)) && serializer.output.held() == 1,
     );
 }

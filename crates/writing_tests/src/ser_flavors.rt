@@ -3,6 +3,7 @@ ghost use Rattle.std.specs.Prelude.{◌≡◌, IfOk, take};
 ghost use Rattle.postcard_tree.specs.Spelling.{short};
 ghost use Rattle.postcard_tree.specs.Tree.{number};
 
+use crate::checks::{are_equal, check, is_array, is_full, is_slice, is_vector, succeed};
 use arrayvec::ArrayVec;
 use postcard_ser::ser_flavors::io::WriteFlavor;
 use postcard_ser::ser_flavors::{
@@ -49,43 +50,44 @@ fn is_patched<B: IndexByte>(flavor: &mut B) -> bool {
 
 // Whether a slice of four bytes takes three and no more than one besides, and lets one be changed.
 fn fills<B: IndexByte>(slice: &mut B) -> bool {
-    let full = Err(Error::SerializeBufferFull);
-    let extended = [slice.try_extend(&[1, 2, 3]), slice.try_extend(&[4, 5])];
-    if extended != [Ok(()), full] || slice.held() != 3 {
+    let is_extended = slice.try_extend(&[1, 2, 3]).is_ok();
+    if !is_extended || !is_full(slice.try_extend(&[4, 5])) || slice.held() != 3 {
         return false;
     }
     slice.set_byte(0, 9);
-    [slice.try_push(4), slice.try_push(5)] == [Ok(()), full]
+    slice.try_push(4).is_ok() && is_full(slice.try_push(5))
 }
 
 #[test]
 fn slices(rt: HostRuntime) {
     let mut room = [0u8; 4];
     let mut slice = Slice::new(&mut room);
-    assert!(rt; fills(&mut slice));
-    match slice.finalize() {
-        Ok(held) => assert!(rt; *held == *[9, 2, 3, 4].as_slice()),
-        Err(_) => assert!(rt; false),
-    }
+    check(
+        &rt,
+        fills(&mut slice) && is_slice(slice.finalize(), &[9, 2, 3, 4]),
+    );
 }
 
 #[test]
 fn slices_that_are_given_back(rt: HostRuntime) {
     let mut room = [9, 2, 3, 4];
-    assert!(rt; fill(300, &mut room) == Ok(2) && room == [0xAC, 0x02, 3, 4]);
+    check(
+        &rt,
+        fill(300, &mut room) == Ok(2) && are_equal(&room, &[0xAC, 0x02, 3, 4]),
+    );
 }
 
 #[test]
 fn fixed_vectors(rt: HostRuntime) {
     let mut vec: HVec<2> = HVec::default();
-    let full = Err(Error::SerializeBufferFull);
-    let pushed = [vec.try_push(1), vec.try_extend(&[2, 3])];
-    assert!(rt;
-        pushed == [Ok(()), full]
+    check(
+        &rt,
+        vec.try_push(1).is_ok()
+            && is_full(vec.try_extend(&[2, 3]))
             && vec.held() == 1
             && is_patched(&mut vec)
-            && vec.try_push(3) == full
-            && matches!(&vec.finalize(), Ok(held) if held.as_slice() == [1, 9].as_slice())
+            && is_full(vec.try_push(3))
+            && is_array(vec.finalize(), &[1, 9]),
     );
 }
 
@@ -94,25 +96,22 @@ fn extended_arrays(rt: HostRuntime) {
     let mut full: ArrayVec<u8, 2> = ArrayVec::new();
     full.push(7);
     let mut extended = ExtendFlavor::new(full);
-    let pushed = [extended.try_extend(&[8, 9]), extended.try_push(8)];
-    assert!(rt;
-        pushed == [Err(Error::SerializeBufferFull), Ok(())]
-            && matches!(&extended.finalize(), Ok(held) if held.as_slice() == [7, 8].as_slice())
+    check(
+        &rt,
+        is_full(extended.try_extend(&[8, 9]))
+            && extended.try_push(8).is_ok()
+            && is_array(extended.finalize(), &[7, 8]),
     );
-}
-
-// Whether a vector was given back, and is this one.
-fn is_held(given: Answer<Vec<u8>>, bytes: &[u8]) -> bool {
-    matches!(&given, Ok(held) if held.as_slice() == bytes)
 }
 
 #[test]
 fn growing_vectors(rt: HostRuntime) {
     let mut vec: StdVec = AllocVec::new(rt.alloc());
-    assert!(rt;
-        vec.try_extend(&[1, 2]) == Ok(())
+    check(
+        &rt,
+        vec.try_extend(&[1, 2]).is_ok()
             && is_patched(&mut vec)
-            && is_held(vec.finalize(), &[1, 2, 9])
+            && is_vector(vec.finalize(), &[1, 2, 9]),
     );
 }
 
@@ -121,8 +120,9 @@ fn extended_vectors(rt: HostRuntime) {
     let mut begun = Vec::new(rt.alloc());
     let is_begun = begun.push(7).is_ok();
     let mut extended = ExtendFlavor::new(begun);
-    assert!(rt;
-        is_begun && extended.try_push(8) == Ok(()) && is_held(extended.finalize(), &[7, 8])
+    check(
+        &rt,
+        is_begun && extended.try_push(8).is_ok() && is_vector(extended.finalize(), &[7, 8]),
     );
 }
 
@@ -132,10 +132,11 @@ fn want_of_memory(rt: HostRuntime) {
     let mut vec = AllocVec::new(rt.alloc());
     for round in 1..5 {
         let held = vec.held();
-        match vec.try_extend(&[round; 40]) {
-            Ok(()) => assert!(rt; vec.held() == held + 40),
-            Err(cause) => assert!(rt; cause == Error::OutOfMemory && vec.held() == held),
-        }
+        let is_right = match vec.try_extend(&[round; 40]) {
+            Ok(()) => vec.held() == held + 40,
+            Err(cause) => cause == Error::OutOfMemory && vec.held() == held,
+        };
+        check(&rt, is_right);
     }
 }
 
@@ -143,19 +144,21 @@ fn want_of_memory(rt: HostRuntime) {
 #[test]
 fn want_of_memory_for_more(rt: HostRuntime) {
     let mut extended = ExtendFlavor::new(Vec::new(rt.alloc()));
-    match extended.try_extend(&[1; 40]) {
-        Ok(()) => assert!(rt; is_held(extended.finalize(), &[1; 40])),
-        Err(cause) => assert!(rt; cause == Error::OutOfMemory && is_held(extended.finalize(), &[])),
-    }
+    let is_right = match extended.try_extend(&[1; 40]) {
+        Ok(()) => is_vector(extended.finalize(), &[1; 40]),
+        Err(cause) => cause == Error::OutOfMemory && is_vector(extended.finalize(), &[]),
+    };
+    check(&rt, is_right);
 }
 
 #[test]
 fn sizes(rt: HostRuntime) {
     let mut size = Size::default();
-    assert!(rt;
-        size.try_extend(&[0; 300]) == Ok(())
-            && size.try_push(0) == Ok(())
-            && size.finalize() == Ok(301)
+    check(
+        &rt,
+        size.try_extend(&[0; 300]).is_ok()
+            && size.try_push(0).is_ok()
+            && size.finalize() == Ok(301),
     );
 }
 
@@ -195,7 +198,10 @@ fn writers(rt: HostRuntime) {
         output: WriteFlavor::new(Vec::new(rt.alloc())),
     };
     let written = [serializer.serialize_u32(300), serializer.output.try_push(5)];
-    assert!(rt; written == [Ok(()); 2] && is_held(serializer.output.finalize(), &[0xAC, 0x02, 5]));
+    check(
+        &rt,
+        succeed(written) && is_vector(serializer.output.finalize(), &[0xAC, 0x02, 5]),
+    );
 }
 
 #[test]
@@ -208,10 +214,11 @@ fn writers_that_fail(rt: HostRuntime) {
     let mut serializer = Serializer {
         output: WriteFlavor::new(&mut narrow),
     };
-    let written = [serializer.serialize_u32(300), serializer.serialize_u32(300)];
-    assert!(rt;
-        written == [Ok(()), Err(Error::SerializeBufferFull)]
-            && matches!(&serializer.output.finalize(), Ok(narrow) if narrow.taken == 3)
+    check(
+        &rt,
+        serializer.serialize_u32(300).is_ok()
+            && is_full(serializer.serialize_u32(300))
+            && matches!(&serializer.output.finalize(), Ok(narrow) if narrow.taken == 3),
     );
 }
 
@@ -223,7 +230,8 @@ fn writers_that_do_not_flush(rt: HostRuntime) {
         flushes: false,
     };
     let mut flavor = WriteFlavor::new(stuck);
-    assert!(rt;
-        flavor.try_push(5) == Ok(()) && flavor.finalize().err() == Some(Error::SerializeBufferFull)
+    check(
+        &rt,
+        flavor.try_push(5).is_ok() && flavor.finalize().err() == Some(Error::SerializeBufferFull),
     );
 }

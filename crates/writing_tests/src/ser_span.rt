@@ -1,4 +1,5 @@
 //! `postcard_ser`: a buffer and a cursor in it, written and read, and parts of it that are taken for good.
+use crate::checks::{are_equal, check};
 use postcard_ser::memory::Span;
 
 #[test]
@@ -8,8 +9,14 @@ fn bytes_are_written(rt: HostRuntime) {
     span.push(7);
     span.push_slice(&[1, 2]);
     span.set_byte(0, 9);
-    assert!(rt; span.byte(0) == 9 && span.count() == 3 && span.remaining() == 1);
-    assert!(rt; span.front(1) == [0].as_slice() && &*span.into_behind() == [9, 1, 2].as_slice());
+    check(
+        &rt,
+        span.byte(0) == 9 && span.count() == 3 && span.remaining() == 1,
+    );
+    check(
+        &rt,
+        are_equal(span.front(1), &[0]) && are_equal(span.into_behind(), &[9, 1, 2]),
+    );
 }
 
 #[test]
@@ -19,26 +26,30 @@ fn a_front_stays_while_the_rest_is_written(rt: HostRuntime) {
     rest.push(8);
     front[0] = 9;
     rest.push(7);
-    assert!(rt; &*front == [9, 2].as_slice() && &*rest.into_behind() == [8, 7].as_slice());
-    assert!(rt; buffer == [9, 2, 8, 7]);
+    check(
+        &rt,
+        are_equal(front, &[9, 2]) && are_equal(rest.into_behind(), &[8, 7]),
+    );
+    check(&rt, are_equal(&buffer, &[9, 2, 8, 7]));
 }
 
 #[test]
 fn nothing_is_split(rt: HostRuntime) {
     let (none, nothing) = Span::new(&mut []).split_front(0);
-    assert!(rt; none.is_empty() && nothing.into_ahead().is_empty());
+    check(&rt, none.is_empty() && nothing.into_ahead().is_empty());
 }
 
 #[test]
 fn bytes_are_read(rt: HostRuntime) {
     let buffer = [1u8, 2, 3, 4];
     let mut span = Span::over(&buffer);
-    assert!(rt; span.next() == 1);
+    check(&rt, span.next() == 1);
     let (taken, mut left) = span.split_front(2);
-    assert!(rt;
+    check(
+        &rt,
         left.next() == 4
             && left.remaining() == 0
-            && taken == [2, 3].as_slice()
-            && left.into_ahead().is_empty()
+            && are_equal(taken, &[2, 3])
+            && left.into_ahead().is_empty(),
     );
 }

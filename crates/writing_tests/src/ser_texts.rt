@@ -1,59 +1,49 @@
 //! `postcard_ser`: texts that are formatted.
+use crate::checks::{check, is_slice, is_vector};
 use postcard_ser::Serializer;
 use postcard_ser::ser_flavors::{AllocVec, Flavor, IndexByte, Size, Slice};
-use postcard_tree::Error;
+use postcard_tree::{Error, Result as Answer};
 use std::fmt;
 use std::fmt::{Display, Formatter, Write};
 
-// A serializer over a slice.
-fn over(room: &mut [u8]) -> Serializer<Slice<'_>> {
-    Serializer {
+// Whether a text's formatting is answered so into this room, and leaves these bytes in it.
+fn formats<T: Display>(value: &T, room: &mut [u8], answer: Answer<()>, bytes: &[u8]) -> bool {
+    let mut serializer = Serializer {
         output: Slice::new(room),
-    }
-}
-
-// Whether a serializer's slice holds these bytes in the end.
-fn holds(serializer: Serializer<Slice<'_>>, bytes: &[u8]) -> bool {
-    match serializer.output.finalize() {
-        Ok(held) => *held == *bytes,
-        Err(_) => false,
-    }
+    };
+    serializer.collect_str(value) == answer
+        && serializer.output.held() == bytes.len()
+        && is_slice(serializer.output.finalize(), bytes)
 }
 
 #[test]
 fn slices(rt: HostRuntime) {
-    let mut room = [0u8; 4];
-    let mut serializer = over(&mut room);
-    assert!(rt;
-        serializer.collect_str(&300u32) == Ok(()) && holds(serializer, &[3, 0x33, 0x30, 0x30])
+    check(
+        &rt,
+        formats(&300u32, &mut [0; 4], Ok(()), &[3, 0x33, 0x30, 0x30]),
     );
 }
 
 #[test]
 fn small_slices(rt: HostRuntime) {
-    let mut small = [0u8; 1];
-    let mut serializer = over(&mut small);
-    assert!(rt;
-        serializer.collect_str(&300u32) == Err(Error::CollectStrError) && holds(serializer, &[3])
+    check(
+        &rt,
+        formats(&300u32, &mut [0; 1], Err(Error::CollectStrError), &[3])
+            && formats(&300u32, &mut [], Err(Error::SerializeBufferFull), &[]),
     );
 }
 
-#[test]
-fn empty_slices(rt: HostRuntime) {
-    let mut none = [0u8; 0];
-    let mut serializer = over(&mut none);
-    assert!(rt;
-        serializer.collect_str(&300u32) == Err(Error::SerializeBufferFull)
-            && serializer.output.held() == 0
-    );
+// Whether a text's formatting is answered so where it is counted, and counts so many bytes.
+fn counts<T: Display>(value: &T, answer: Answer<()>, size: usize) -> bool {
+    let mut counter = Serializer {
+        output: Size::default(),
+    };
+    counter.collect_str(value) == answer && counter.output.finalize() == Ok(size)
 }
 
 #[test]
 fn sizes(rt: HostRuntime) {
-    let mut counter = Serializer {
-        output: Size::default(),
-    };
-    assert!(rt; counter.collect_str(&300u32) == Ok(()) && counter.output.finalize() == Ok(4));
+    check(&rt, counts(&300u32, Ok(()), 4));
 }
 
 #[test]
@@ -61,12 +51,10 @@ fn vectors(rt: HostRuntime) {
     let mut serializer = Serializer {
         output: AllocVec::new(rt.alloc()),
     };
-    assert!(rt;
-        serializer.collect_str(&300u32) == Ok(())
-            && matches!(
-                &serializer.output.finalize(),
-                Ok(held) if held[..] == [3, 0x33, 0x30, 0x30]
-            )
+    check(
+        &rt,
+        serializer.collect_str(&300u32).is_ok()
+            && is_vector(serializer.output.finalize(), &[3, 0x33, 0x30, 0x30]),
     );
 }
 
@@ -92,20 +80,13 @@ impl Display for Careless {
 
 #[test]
 fn faults(rt: HostRuntime) {
-    let mut serializer = Serializer {
-        output: Size::default(),
-    };
-    assert!(rt;
-        serializer.collect_str(&Faulty) == Err(Error::CollectStrError)
-            && serializer.output.finalize() == Ok(0)
-    );
+    check(&rt, counts(&Faulty, Err(Error::CollectStrError), 0));
 }
 
 #[test]
 fn untold_faults(rt: HostRuntime) {
-    let mut room = [0u8; 3];
-    let mut serializer = over(&mut room);
-    assert!(rt;
-        serializer.collect_str(&Careless) == Err(Error::CollectStrError) && holds(serializer, &[4])
+    check(
+        &rt,
+        formats(&Careless, &mut [0; 3], Err(Error::CollectStrError), &[4]),
     );
 }

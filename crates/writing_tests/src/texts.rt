@@ -1,4 +1,5 @@
 //! The texts of the libraries' errors.
+use crate::checks::check;
 use cobs::{DecodeError, DecodeVecError, DecoderState, DestBufTooSmallError};
 use postcard_tree::Error;
 use std::fmt::{Debug, Display};
@@ -7,13 +8,13 @@ use std::process::Abort;
 // A value is shown as this text.
 fn shows<R: AllocGlobal + Abort>(rt: &R, value: &impl Display, text: &str) {
     let shown = format!(in rt.alloc(); "{value}");
-    assert!(rt; matches!(&shown, Ok(shown) if shown.as_str() == text));
+    check(rt, matches!(&shown, Ok(shown) if shown.as_str() == text));
 }
 
 // A value is shown so to a maintainer.
 fn names<R: AllocGlobal + Abort>(rt: &R, value: &impl Debug, text: &str) {
     let shown = format!(in rt.alloc(); "{value:?}");
-    assert!(rt; matches!(&shown, Ok(shown) if shown.as_str() == text));
+    check(rt, matches!(&shown, Ok(shown) if shown.as_str() == text));
 }
 
 const DECODE_ERRORS: [(DecodeError, &str); 3] = [

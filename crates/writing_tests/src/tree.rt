@@ -1,4 +1,5 @@
 //! `postcard_tree`: published numbers, and the limits of each width.
+use crate::checks::{are_equal, check};
 use arrayvec::{ArrayString, ArrayVec};
 use postcard_tree::fixint::{BE, FixInt, LE};
 use postcard_tree::readable::Readable;
@@ -10,117 +11,124 @@ use std::collections::BTreeMap;
 
 // Whether a number of 16 bits is spelled so.
 fn spells_short(value: u16, bytes: &[u8]) -> bool {
-    *varint_u16(value, &mut [0; 3]) == *bytes
+    are_equal(varint_u16(value, &mut [0; 3]), bytes)
 }
 
 // Whether a number of 64 bits is spelled so.
 fn spells_long(value: u64, bytes: &[u8]) -> bool {
-    *varint_u64(value, &mut [0; 10]) == *bytes
+    are_equal(varint_u64(value, &mut [0; 10]), bytes)
 }
 
 #[test]
 fn numbers_are_spelled_shortest(rt: HostRuntime) {
-    assert!(rt;
+    check(
+        &rt,
         spells_short(16384, &[0x80, 0x80, 0x01])
             && spells_short(42439, &[0xC7, 0xCB, 0x02])
             && spells_long(0, &[0])
-            && *varint_u32(3450549266, &mut [0; 5]) == *[0x92, 0xE8, 0xAC, 0xED, 0x0C].as_slice()
+            && are_equal(
+                varint_u32(3450549266, &mut [0; 5]),
+                &[0x92, 0xE8, 0xAC, 0xED, 0x0C],
+            ),
     );
 }
 
 #[test]
 fn numbers_are_spelled_in_front(rt: HostRuntime) {
     let mut buffer = [0; 3];
-    assert!(rt; varint_u16(200, &mut buffer).len() == 2 && buffer[..2] == [0xC8, 0x01]);
+    check(
+        &rt,
+        varint_u16(200, &mut buffer).len() == 2 && are_equal(&buffer[..2], &[0xC8, 0x01]),
+    );
 }
 
 #[test]
 fn greatest_numbers_are_spelled_shortest(rt: HostRuntime) {
     let greatest = [0xFF, 0xFF, 0xFF, 0xFF, 0xFF, 0xFF, 0xFF, 0xFF, 0xFF, 0x01];
-    assert!(rt;
+    check(
+        &rt,
         spells_long(u64::MAX, &greatest)
-            && *varint_usize(usize::MAX, &mut [0; 10]) == *greatest.as_slice()
-            && varint_u128(u128::MAX, &mut [0; 19]).len() == 19
+            && are_equal(varint_usize(usize::MAX, &mut [0; 10]), &greatest)
+            && varint_u128(u128::MAX, &mut [0; 19]).len() == 19,
     );
 }
 
-// How many bytes a number takes at most, and the greatest last byte.
-fn limits<T: VarintInt>() -> (usize, u8) {
-    (varint_max::<T>(), max_of_last_byte::<T>())
+// Whether a number, and so its signed twin, takes so many bytes at most, of which the last one is at most this.
+fn has_limits<T: VarintInt, S: VarintInt>(max: usize, last: u8) -> bool {
+    let maxima = (varint_max::<T>(), varint_max::<S>());
+    let lasts = (max_of_last_byte::<T>(), max_of_last_byte::<S>());
+    maxima == (max, max) && lasts == (last, last)
 }
 
 #[test]
 fn numbers_have_their_limits(rt: HostRuntime) {
-    let unsigned = [
-        limits::<u8>(),
-        limits::<u16>(),
-        limits::<u32>(),
-        limits::<u64>(),
-        limits::<usize>(),
-        limits::<u128>(),
-    ];
-    let signed = [
-        limits::<i8>(),
-        limits::<i16>(),
-        limits::<i32>(),
-        limits::<i64>(),
-        limits::<isize>(),
-        limits::<i128>(),
-    ];
-    let wanted = [(2, 1), (3, 3), (5, 15), (10, 1), (10, 1), (19, 3)];
-    assert!(rt; unsigned == wanted && signed == wanted);
+    check(
+        &rt,
+        has_limits::<u8, i8>(2, 1)
+            && has_limits::<u16, i16>(3, 3)
+            && has_limits::<u32, i32>(5, 15)
+            && has_limits::<u64, i64>(10, 1)
+            && has_limits::<usize, isize>(10, 1)
+            && has_limits::<u128, i128>(19, 3),
+    );
 }
 
 // Whether a number's bytes are these from its last one on, and those from its first.
 fn is_put<T: FixInt>(value: T, little: &[u8], big: &[u8]) -> bool {
-    *LE(value).put(&mut [0; 16]) == *little && *BE(value).put(&mut [0; 16]) == *big
+    are_equal(LE(value).put(&mut [0; 16]), little) && are_equal(BE(value).put(&mut [0; 16]), big)
 }
 
 #[test]
 fn fixed_numbers_are_their_bytes(rt: HostRuntime) {
-    assert!(rt;
+    check(
+        &rt,
         is_put(0xABCDu16, &[0xCD, 0xAB], &[0xAB, 0xCD])
             && is_put(-2i16, &[0xFE, 0xFF], &[0xFF, 0xFE])
             && LE::<i16>::from_bytes(&[0xFE, 0xFF]).0 == -2
-            && BE::<u16>::from_bytes(&[0xAB, 0xCD]).0 == 0xABCD
+            && BE::<u16>::from_bytes(&[0xAB, 0xCD]).0 == 0xABCD,
     );
 }
 
 #[test]
 fn fixed_numbers_stand_in_front(rt: HostRuntime) {
     let mut buffer = [0; 16];
-    assert!(rt; BE(0xABCDu16).put(&mut buffer).len() == 2 && buffer[..2] == [0xAB, 0xCD]);
+    check(
+        &rt,
+        BE(0xABCDu16).put(&mut buffer).len() == 2 && are_equal(&buffer[..2], &[0xAB, 0xCD]),
+    );
 }
 
-// How many bytes a number takes, if it is read back from them both ways.
-fn size_both_ways<T: FixInt + PartialEq>(low: T) -> Option<usize> {
+// Whether a number takes so many bytes, and is read back from them both ways.
+fn has_size<T: FixInt + PartialEq>(number: T, size: usize) -> bool {
     let mut little = [0; 16];
     let mut big = [0; 16];
-    let little = LE(low).put(&mut little);
-    let big = BE(low).put(&mut big);
-    if LE::<T>::from_bytes(little).0 == low && BE::<T>::from_bytes(big).0 == low {
-        Some(little.len())
-    } else {
-        None
-    }
+    let little = LE(number).put(&mut little);
+    let big = BE(number).put(&mut big);
+    little.len() == size
+        && LE::<T>::from_bytes(little).0 == number
+        && BE::<T>::from_bytes(big).0 == number
 }
 
 #[test]
 fn fixed_numbers_have_their_sizes(rt: HostRuntime) {
-    let unsigned = [
-        size_both_ways(u16::MAX),
-        size_both_ways(u32::MAX - 1),
-        size_both_ways(u64::MAX - 2),
-        size_both_ways(u128::MAX - 3),
-    ];
-    let signed = [
-        size_both_ways(i16::MIN),
-        size_both_ways(i32::MIN),
-        size_both_ways(i64::MIN),
-        size_both_ways(i128::MIN),
-    ];
-    let wanted = [Some(2), Some(4), Some(8), Some(16)];
-    assert!(rt; unsigned == wanted && signed == wanted);
+    check(
+        &rt,
+        has_size(u16::MAX, 2)
+            && has_size(u32::MAX - 1, 4)
+            && has_size(u64::MAX - 2, 8)
+            && has_size(u128::MAX - 3, 16),
+    );
+}
+
+#[test]
+fn signed_fixed_numbers_have_their_sizes(rt: HostRuntime) {
+    check(
+        &rt,
+        has_size(i16::MIN, 2)
+            && has_size(i32::MIN, 4)
+            && has_size(i64::MIN, 8)
+            && has_size(i128::MIN, 16),
+    );
 }
 
 fn grows<T: Readable>() -> bool {
@@ -134,7 +142,7 @@ fn types_that_ask_for_no_memory(rt: HostRuntime) {
         grows::<(char, (), &[u8], &str, ArrayString<4>, LE<u32>)>(),
         grows::<[Option<ArrayVec<BE<u16>, 3>>; 2]>(),
     ];
-    assert!(rt; grow == [false; 3]);
+    check(&rt, grow == [false; 3]);
 }
 
 #[test]
@@ -147,5 +155,5 @@ fn types_that_ask_for_memory(rt: HostRuntime) {
         grows::<std::result::Result<u8, String>>(),
         grows::<(u8, [Option<Box<u8>>; 2])>(),
     ];
-    assert!(rt; grow == [true; 6]);
+    check(&rt, grow == [true; 6]);
 }
