@@ -1,24 +1,26 @@
 //! Devices over memory: pieces, faults in mid-stream, and what goes on after them.
-use crate::moves::{fails_once, takes};
-use line_io::Inlet;
+use crate::checks::{are_equal, check, check_after};
+use crate::moves::{fails_once, reads, takes};
 use line_io::memory::{Fault, In, Out};
+
+// Two bytes a write at most, until the device has failed once, behind its third byte.
+const CALLS: [(&[u8], Option<usize>); 7] = [
+    (b"abcde", Some(2)),
+    (b"cde", Some(1)),
+    (b"", Some(0)),
+    (b"de", None),
+    (b"de", Some(1)),
+    (b"e", Some(0)),
+    (b"", Some(0)),
+];
 
 #[test]
 fn takes_in_pieces(rt: HostRuntime) {
     let mut buffer = [0u8; 4];
     let mut out = Out::new(&mut buffer, 2, Some((3, Fault::Fail)));
-    let calls = [
-        (b"abcde".as_slice(), Some(2)),
-        (b"cde".as_slice(), Some(1)),
-        (b"".as_slice(), Some(0)),
-        (b"de".as_slice(), None),
-        (b"de".as_slice(), Some(1)),
-        (b"e".as_slice(), Some(0)),
-        (b"".as_slice(), Some(0)),
-    ];
-    assert!(rt; takes(&mut out, &calls) && out.moved() == 4);
+    let is_taken = takes(&mut out, &CALLS) && out.moved() == 4;
     drop(out);
-    assert!(rt; buffer == *b"abcd");
+    check(&rt, is_taken && are_equal(&buffer, b"abcd"));
 }
 
 /// Whether a device of three bytes with this fault after so many takes these pieces so, and is full then.
@@ -29,7 +31,7 @@ fn faults_once(before: usize, kind: Fault, calls: &[(&[u8], Option<usize>)]) -> 
         && out.moved() == 3
         && takes(&mut out, &[(b"d".as_slice(), Some(0))]);
     drop(out);
-    passed && buffer == *b"abc"
+    passed && are_equal(&buffer, b"abc")
 }
 
 /// Whether a fault of this kind is answered so, after each count of bytes.
@@ -44,23 +46,30 @@ fn faults_anywhere(kind: Fault, fault: Option<usize>) -> bool {
 
 #[test]
 fn faults_after_each_count(rt: HostRuntime) {
-    assert!(rt; faults_anywhere(Fault::Fail, None) && faults_anywhere(Fault::Nothing, Some(0)));
+    check(
+        &rt,
+        faults_anywhere(Fault::Fail, None) && faults_anywhere(Fault::Nothing, Some(0)),
+    );
 }
 
 #[test]
 fn gives_in_pieces(rt: HostRuntime) {
     let mut reader = In::new(b"abc", 2, Some(0));
     let mut room = [0u8; 8];
-    assert!(rt;
-        reader.read(&mut []) == Some(0)
-            && reader.read(&mut room) == None
+    check(
+        &rt,
+        reads(&mut reader, &mut [], Some(0))
+            && reads(&mut reader, &mut room, None)
             && reader.moved() == 0
-            && reader.read(&mut room) == Some(2)
+            && reads(&mut reader, &mut room, Some(2))
             && reader.moved() == 2
-            && reader.read(&mut room[2..]) == Some(1)
+            && reads(&mut reader, &mut room[2..], Some(1)),
     );
-    assert!(rt;
-        reader.read(&mut room) == Some(0) && reader.moved() == 3 && room == *b"abc\0\0\0\0\0"
+    check(
+        &rt,
+        reads(&mut reader, &mut room, Some(0))
+            && reader.moved() == 3
+            && are_equal(&room, b"abc\0\0\0\0\0"),
     );
 }
 
@@ -68,9 +77,10 @@ fn gives_in_pieces(rt: HostRuntime) {
 fn fails_after_each_count(rt: HostRuntime) {
     for before in 0..4 {
         let mut reader = In::new(b"aaa", 1, Some(before));
-        assert!(rt;
+        check_after(
+            &rt,
+            before,
             fails_once(&mut reader, before) && reader.moved() == 3,
-            "after {before}"
         );
     }
 }

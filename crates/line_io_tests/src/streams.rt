@@ -1,4 +1,5 @@
 //! Devices over writers and readers of std: they fail and end only where those do.
+use crate::checks::{are_equal, check, check_after};
 use crate::moves::{fails_once, takes};
 use line_io::{Outlet, Reads, Writes};
 use std::io;
@@ -30,9 +31,10 @@ impl Read for Failing {
 fn a_failed_read_is_a_fault(rt: HostRuntime) {
     for before in 0..4 {
         let mut line = Reads::new(Failing { given: 0, before });
-        assert!(rt;
+        check_after(
+            &rt,
+            before,
             fails_once(&mut line, before) && line.into_inner().given == 3,
-            "after {before}"
         );
     }
 }
@@ -75,19 +77,24 @@ fn is_interrupted_once(before: usize) -> bool {
 #[test]
 fn an_interrupted_write_is_a_fault(rt: HostRuntime) {
     for before in 0..4 {
-        assert!(rt; is_interrupted_once(before), "after {before}");
+        check_after(&rt, before, is_interrupted_once(before));
     }
 }
+
+// Three bytes, and no more.
+const TAKEN: [(&[u8], Option<usize>); 4] = [
+    (b"ab", Some(2)),
+    (b"cd", Some(1)),
+    (b"d", Some(0)),
+    (b"", Some(0)),
+];
 
 #[test]
 fn a_full_writer_takes_nothing(rt: HostRuntime) {
     let mut room = [0u8; 3];
     let mut line = Writes::new(room.as_mut_slice());
-    let calls = [
-        (b"ab".as_slice(), Some(2)),
-        (b"cd".as_slice(), Some(1)),
-        (b"d".as_slice(), Some(0)),
-        (b"".as_slice(), Some(0)),
-    ];
-    assert!(rt; takes(&mut line, &calls) && line.into_inner().len() == 0 && room == *b"abc");
+    check(
+        &rt,
+        takes(&mut line, &TAKEN) && line.into_inner().len() == 0 && are_equal(&room, b"abc"),
+    );
 }
