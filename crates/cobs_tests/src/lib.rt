@@ -8,6 +8,8 @@
 #[cfg(test)]
 mod any_sentinel;
 #[cfg(test)]
+mod checks;
+#[cfg(test)]
 mod decoding;
 #[cfg(test)]
 mod encoding;
