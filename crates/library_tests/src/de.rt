@@ -1,4 +1,7 @@
 //! `postcard_de`: published bytes by each call, readers that fail, and refusals.
+use crate::checks::{
+    all_true, are_equal, check, check_all, check_at, fails, gives, is_text, is_vector,
+};
 use arrayvec::{ArrayString, ArrayVec};
 use postcard_de::de_flavors::io::IOReader;
 use postcard_de::de_flavors::{Bytes, Flavor, Slice};
@@ -14,12 +17,14 @@ fn read<'a, T: Deserialize<&'a [u8]>>(alloc: Global, bytes: &'a [u8]) -> Result<
     T::deserialize(&mut d)
 }
 
-// A value that borrows nothing, and how many bytes it left.
-fn read_owned<T: DeserializeOwned>(alloc: Global, bytes: &[u8]) -> Result<(T, usize)> {
+// A value that borrows nothing, if this count of bytes is left behind it.
+fn read_owned<T: DeserializeOwned>(alloc: Global, bytes: &[u8], left: usize) -> Option<T> {
     let mut d = Deserializer::from_bytes(alloc, bytes);
-    let value = T::deserialize_owned(&mut d)?;
-    let rest = d.finalize()?;
-    Ok((value, rest.len()))
+    let value = T::deserialize_owned(&mut d).ok();
+    match d.finalize() {
+        Ok(rest) if rest.len() == left => value,
+        _ => None,
+    }
 }
 
 // Gives these bytes one at a time, and is then interrupted once or fails from then on.
@@ -54,27 +59,39 @@ impl Read for Broken<'_> {
     }
 }
 
+// Whether these bytes are given.
+fn gives_bytes(given: Result<&[u8]>, bytes: &[u8]) -> bool {
+    match given {
+        Ok(given) => *given == *bytes,
+        Err(_) => false,
+    }
+}
+
 #[test]
 fn a_slice_gives_its_bytes(rt: HostRuntime) {
     let mut slice = Slice::new(&[1, 2, 3, 4]);
-    assert!(rt;
-        slice.pop() == Ok(1)
-            && slice.size_hint() == Some(3)
-            && slice.try_take_n(4) == Err(Error::DeserializeUnexpectedEnd)
-    );
-    assert!(rt;
-        slice.try_take_n_temp(1) == Ok([2].as_slice())
-            && slice.try_take_n(1) == Ok([3].as_slice())
-            && slice.finalize() == Ok([4].as_slice())
+    check_all(
+        &rt,
+        [
+            gives(slice.pop(), 1),
+            slice.size_hint() == Some(3),
+            fails(slice.try_take_n(4), Error::DeserializeUnexpectedEnd),
+            gives_bytes(slice.try_take_n_temp(1), &[2]),
+            gives_bytes(slice.try_take_n(1), &[3]),
+            gives_bytes(slice.finalize(), &[4]),
+        ],
     );
 }
 
 // Whether three bytes are given one after another, and no more, by a source that foretells none.
 fn gives_three_bytes<F: Flavor>(source: &mut F) -> bool {
-    let end = Err(Error::DeserializeUnexpectedEnd);
-    source.size_hint() == None
-        && [source.pop(), source.pop(), source.pop(), source.pop()]
-            == [Ok(0xAA), Ok(0xBB), Ok(0xCC), end]
+    all_true([
+        source.size_hint() == None,
+        gives(source.pop(), 0xAA),
+        gives(source.pop(), 0xBB),
+        gives(source.pop(), 0xCC),
+        fails(source.pop(), Error::DeserializeUnexpectedEnd),
+    ])
 }
 
 #[test]
@@ -82,14 +99,16 @@ fn a_reader_needs_no_buffer_for_a_byte(rt: HostRuntime) {
     let bytes = [0xAA, 0xBB, 0xCC];
     let mut none = [0u8; 0];
     let mut reader = IOReader::new(&bytes[..], &mut none);
-    assert!(rt; gives_three_bytes(&mut reader));
+    check(&rt, gives_three_bytes(&mut reader));
 }
 
 // Whether two pairs of bytes are taken, and no third.
 fn takes_two_pairs<'a, F: Flavor<Taken = &'a [u8]>>(source: &mut F) -> bool {
-    source.try_take_n(2) == Ok([0xAA, 0xBB].as_slice())
-        && source.try_take_n(2) == Ok([0xCC, 0xDD].as_slice())
-        && source.try_take_n(2) == Err(Error::DeserializeUnexpectedEnd)
+    all_true([
+        gives_bytes(source.try_take_n(2), &[0xAA, 0xBB]),
+        gives_bytes(source.try_take_n(2), &[0xCC, 0xDD]),
+        fails(source.try_take_n(2), Error::DeserializeUnexpectedEnd),
+    ])
 }
 
 #[test]
@@ -97,19 +116,22 @@ fn bytes_by_a_reader_use_the_buffer(rt: HostRuntime) {
     let bytes = [0xAA, 0xBB, 0xCC, 0xDD, 0xEE];
     let mut buffer = [0u8; 8];
     let mut reader = IOReader::new(&bytes[..], &mut buffer);
-    assert!(rt; takes_two_pairs(&mut reader));
-    match reader.finalize() {
-        Ok((_, rest)) => assert!(rt; rest.len() == 2),
-        Err(_) => assert!(rt; false),
-    }
+    check(&rt, takes_two_pairs(&mut reader));
+    let is_shared = match reader.finalize() {
+        Ok((_, rest)) => rest.len() == 2,
+        Err(_) => false,
+    };
+    check(&rt, is_shared);
 }
 
 // Whether three bytes are refused by each call, and given by two others.
 fn refuses_three_bytes<F: Flavor>(source: &mut F) -> bool {
-    let refused = [source.try_take_n(3).err(), source.try_take_n_temp(3).err()];
-    refused == [Some(Error::DeserializeUnexpectedEnd); 2]
-        && source.try_take_n_temp(2) == Ok([1, 2].as_slice())
-        && source.pop() == Ok(3)
+    all_true([
+        fails(source.try_take_n(3), Error::DeserializeUnexpectedEnd),
+        fails(source.try_take_n_temp(3), Error::DeserializeUnexpectedEnd),
+        gives_bytes(source.try_take_n_temp(2), &[1, 2]),
+        gives(source.pop(), 3),
+    ])
 }
 
 #[test]
@@ -117,51 +139,59 @@ fn a_buffer_that_is_too_small_stays_whole(rt: HostRuntime) {
     let bytes = [1, 2, 3];
     let mut buffer = [0u8; 2];
     let mut reader = IOReader::new(&bytes[..], &mut buffer);
-    assert!(rt; refuses_three_bytes(&mut reader));
-    match reader.finalize() {
-        Ok((left, rest)) => assert!(rt; left.is_empty() && rest.len() == 2),
-        Err(_) => assert!(rt; false),
-    }
+    check(&rt, refuses_three_bytes(&mut reader));
+    let is_whole = match reader.finalize() {
+        Ok((left, rest)) => left.is_empty() && rest.len() == 2,
+        Err(_) => false,
+    };
+    check(&rt, is_whole);
 }
 
 // The tuple (1, 10, "Hello!").
 const HELLO: [u8; 9] = [0x01, 0x0A, 0x06, 0x48, 0x65, 0x6C, 0x6C, 0x6F, 0x21];
 
-// Whether that tuple is read whole by a reader, into a buffer with just the room for it.
-fn read_hello<R: Read + Drop>(alloc: Global, reader: R) -> Result<bool> {
-    let mut buffer = [0u8; 6];
-    let mut d = Deserializer::from_flavor(alloc, IOReader::new(reader, &mut buffer));
-    let value = <(u8, u32, &str)>::deserialize(&mut d)?;
-    let (_, room) = d.finalize()?;
-    Ok(value == (1, 10, "Hello!") && room.is_empty())
+// Whether a tuple is that one.
+fn is_hello(value: (u8, u32, &str)) -> bool {
+    value.0 == 1 && value.1 == 10 && is_text(value.2, "Hello!")
 }
 
-// As above, by a reader that is in trouble once, behind so many of its bytes.
+// Whether that tuple is read whole, into a buffer with just the room for it, by a reader that is in trouble once, behind
+// so many of its bytes.
 fn read_broken(alloc: Global, count: usize, interrupted: bool) -> Result<bool> {
     let (bytes, rest) = HELLO.split_at(count.min(9));
-    let reader = Broken {
+    let mut buffer = [0u8; 6];
+    let broken = Broken {
         bytes,
         interrupted,
         rest,
     };
-    read_hello(alloc, reader)
+    let mut d = Deserializer::from_flavor(alloc, IOReader::new(broken, &mut buffer));
+    match <(u8, u32, &str)>::deserialize(&mut d) {
+        Ok(value) if is_hello(value) => match d.finalize() {
+            Ok((_, room)) => Ok(room.is_empty()),
+            Err(cause) => Err(cause),
+        },
+        Ok(_) => Ok(false),
+        Err(cause) => Err(cause),
+    }
 }
 
 #[test]
 fn a_reader_that_fails_after_each_byte(rt: HostRuntime) {
     for count in 0..9 {
         let failed = read_broken(rt.alloc(), count, false);
-        assert!(rt; failed == Err(Error::DeserializeUnexpectedEnd));
+        check_at(&rt, count, fails(failed, Error::DeserializeUnexpectedEnd));
     }
-    assert!(rt; read_broken(rt.alloc(), 9, false) == Ok(true));
+    check(&rt, gives(read_broken(rt.alloc(), 9, false), true));
 }
 
 #[test]
 fn a_reader_that_is_interrupted_after_each_byte(rt: HostRuntime) {
     for count in 0..10 {
-        assert!(rt;
-            read_broken(rt.alloc(), count, true) == Ok(true),
-            "after {count}"
+        check_at(
+            &rt,
+            count,
+            gives(read_broken(rt.alloc(), count, true), true),
         );
     }
 }
@@ -170,108 +200,100 @@ fn a_reader_that_is_interrupted_after_each_byte(rt: HostRuntime) {
 fn the_rest_after_a_tuple(rt: HostRuntime) {
     let source = Slice::new(&[4, 0, 4, 1, 2, 3]);
     let mut d = Deserializer::from_flavor(rt.alloc(), source);
-    assert!(rt;
-        <(u8, u8, u8)>::deserialize(&mut d) == Ok((4, 0, 4))
-            && d.finalize() == Ok([1, 2, 3].as_slice())
+    check(
+        &rt,
+        gives(<(u8, u8, u8)>::deserialize(&mut d), (4, 0, 4))
+            && gives_bytes(d.finalize(), &[1, 2, 3]),
     );
 }
 
 // Whether each call for an unsigned number reads the next of these.
 fn reads_unsigned_numbers<F: Flavor>(d: &mut Deserializer<F>) -> bool {
-    let short = (
-        d.deserialize_bool(),
-        d.deserialize_u8(),
-        d.deserialize_u16(),
-        d.deserialize_u32(),
-    );
-    let long = (
-        d.deserialize_u64(),
-        d.deserialize_u128(),
-        d.deserialize_enum(),
-    );
-    short == (Ok(true), Ok(7), Ok(42439), Ok(3450549266)) && long == (Ok(128), Ok(129), Ok(5))
-}
-
-#[test]
-fn each_call_for_an_unsigned_number(rt: HostRuntime) {
-    let bytes = [
-        1, 7, 0xC7, 0xCB, 0x02, 0x92, 0xE8, 0xAC, 0xED, 0x0C, 0x80, 0x01, 0x81, 0x01, 5,
-    ];
-    let mut d = Deserializer::from_bytes(rt.alloc(), &bytes);
-    assert!(rt; reads_unsigned_numbers(&mut d));
+    all_true([
+        gives(d.deserialize_bool(), true),
+        gives(d.deserialize_u8(), 7),
+        gives(d.deserialize_u16(), 42439),
+        gives(d.deserialize_u32(), 3450549266),
+        gives(d.deserialize_u64(), 128),
+        gives(d.deserialize_u128(), 129),
+        gives(d.deserialize_enum(), 5),
+    ])
 }
 
 // Whether each call for a signed number reads the next of these.
 fn reads_signed_numbers<F: Flavor>(d: &mut Deserializer<F>) -> bool {
-    let read = (
-        d.deserialize_i8(),
-        d.deserialize_i16(),
-        d.deserialize_i32(),
-        d.deserialize_i64(),
-        d.deserialize_i128(),
-    );
-    read == (Ok(-1), Ok(32767), Ok(-2), Ok(-1), Ok(1))
-}
-
-#[test]
-fn each_call_for_a_signed_number(rt: HostRuntime) {
-    let bytes = [0xFF, 0xFE, 0xFF, 0x03, 0x03, 0x01, 0x02];
-    let mut d = Deserializer::from_bytes(rt.alloc(), &bytes);
-    assert!(rt; reads_signed_numbers(&mut d));
+    all_true([
+        gives(d.deserialize_i8(), -1),
+        gives(d.deserialize_i16(), 32767),
+        gives(d.deserialize_i32(), -2),
+        gives(d.deserialize_i64(), -1),
+        gives(d.deserialize_i128(), 1),
+    ])
 }
 
 // Whether the calls that read nothing answer, where there is nothing to read.
 fn reads_nothing<F: Flavor>(d: &mut Deserializer<F>) -> bool {
-    !d.is_human_readable()
-        && d.unit_variant() == Ok(())
-        && d.deserialize_unit() == Ok(())
-        && d.deserialize_unit_struct() == Ok(())
-        && d.deserialize_u16() == Err(Error::DeserializeUnexpectedEnd)
-}
-
-#[test]
-fn each_call_for_nothing(rt: HostRuntime) {
-    let mut d = Deserializer::from_bytes(rt.alloc(), &[]);
-    assert!(rt; reads_nothing(&mut d));
+    all_true([
+        !d.is_human_readable(),
+        d.unit_variant().is_ok(),
+        d.deserialize_unit().is_ok(),
+        d.deserialize_unit_struct().is_ok(),
+        fails(d.deserialize_u16(), Error::DeserializeUnexpectedEnd),
+    ])
 }
 
 // Whether a character and a text to keep are the next to be read.
 fn reads_texts_to_keep<F: Flavor>(d: &mut Deserializer<F>) -> bool {
-    d.deserialize_char() == Ok('z')
-        && matches!(&d.deserialize_string(), Ok(text) if text.as_str() == "c")
-}
-
-#[test]
-fn each_call_for_a_text(rt: HostRuntime) {
-    let mut d = Deserializer::from_bytes(rt.alloc(), &[1, 0x7A, 1, 0x63, 2, 0x61, 0x62]);
-    assert!(rt; reads_texts_to_keep(&mut d) && d.deserialize_str() == Ok([0x61, 0x62].as_slice()));
+    gives(d.deserialize_char(), 'z')
+        && matches!(&d.deserialize_string(), Ok(text) if is_text(text, "c"))
 }
 
 // Whether bytes to keep are the next to be read.
 fn reads_bytes_to_keep<F: Flavor>(d: &mut Deserializer<F>) -> bool {
-    matches!(&d.deserialize_byte_buf(), Ok(bytes) if bytes[..] == [7])
+    is_vector(d.deserialize_byte_buf(), &[7])
 }
 
 #[test]
-fn each_call_for_bytes(rt: HostRuntime) {
-    let mut d = Deserializer::from_bytes(rt.alloc(), &[1, 7, 2, 9, 8]);
-    assert!(rt; reads_bytes_to_keep(&mut d) && d.deserialize_bytes() == Ok([9, 8].as_slice()));
+fn each_call_for_a_text_or_bytes(rt: HostRuntime) {
+    let bytes = [1, 0x7A, 1, 0x63, 2, 0x61, 0x62, 1, 7, 2, 9, 8];
+    let mut d = Deserializer::from_bytes(rt.alloc(), &bytes);
+    check_all(
+        &rt,
+        [
+            reads_texts_to_keep(&mut d),
+            gives_bytes(d.deserialize_str(), &[0x61, 0x62]),
+            reads_bytes_to_keep(&mut d),
+            gives_bytes(d.deserialize_bytes(), &[9, 8]),
+        ],
+    );
 }
 
 // Whether an option and two numbers inside others are the next to be read.
 fn reads_wrapped_numbers<F: Flavor>(d: &mut Deserializer<F>) -> bool {
-    let read = (
-        d.deserialize_option(),
-        d.deserialize_newtype_struct::<u8>(),
-        d.newtype_variant::<u8>(),
-    );
-    read == (Ok(true), Ok(6), Ok(5))
+    all_true([
+        gives(d.deserialize_option(), true),
+        gives(d.deserialize_newtype_struct::<u8>(), 6),
+        gives(d.newtype_variant::<u8>(), 5),
+    ])
 }
 
+// What those three calls read, one after another.
+const NUMBERS: [u8; 25] = [
+    1, 7, 0xC7, 0xCB, 0x02, 0x92, 0xE8, 0xAC, 0xED, 0x0C, 0x80, 0x01, 0x81, 0x01, 5, 0xFF, 0xFE,
+    0xFF, 0x03, 0x03, 0x01, 0x02, 1, 6, 5,
+];
+
 #[test]
-fn each_call_for_what_wraps_a_value(rt: HostRuntime) {
-    let mut d = Deserializer::from_bytes(rt.alloc(), &[1, 6, 5]);
-    assert!(rt; reads_wrapped_numbers(&mut d));
+fn each_call_for_a_number(rt: HostRuntime) {
+    let mut d = Deserializer::from_bytes(rt.alloc(), &NUMBERS);
+    check_all(
+        &rt,
+        [
+            reads_unsigned_numbers(&mut d),
+            reads_signed_numbers(&mut d),
+            reads_wrapped_numbers(&mut d),
+        ],
+    );
 }
 
 // 5000 elements behind their count.
@@ -285,23 +307,16 @@ fn long_vector() -> [u8; 5002] {
     bytes
 }
 
-// Whether these items are read.
-fn are_read(alloc: Global, bytes: &[u8], items: &[u8]) -> bool {
-    match read::<Vec<u8>>(alloc, bytes) {
-        Ok(read) => read.as_slice() == items,
-        Err(_) => false,
-    }
-}
-
 // More elements than get room before they are read, all of them and all but the last.
 #[test]
 fn a_long_vector(rt: HostRuntime) {
     let bytes = long_vector();
-    assert!(rt; are_read(rt.alloc(), &bytes, &bytes[2..]));
-    match bytes.split_last() {
-        Some((_, less)) => assert!(rt; read::<Vec<u8>>(rt.alloc(), less).is_err()),
-        None => assert!(rt; false),
-    }
+    let is_refused = match bytes.split_last() {
+        Some((_, less)) => read::<Vec<u8>>(rt.alloc(), less).is_err(),
+        None => false,
+    };
+    let is_whole = is_vector(read::<Vec<u8>>(rt.alloc(), &bytes), &bytes[2..]);
+    check(&rt, is_whole && is_refused);
 }
 
 // Counts of elements that don't follow.
@@ -309,51 +324,51 @@ fn a_long_vector(rt: HostRuntime) {
 fn counts_alone(rt: HostRuntime) {
     let greatest = [0xFF, 0xFF, 0xFF, 0xFF, 0xFF, 0xFF, 0xFF, 0xFF, 0xFF, 1];
     let too_great = [0xFF, 0xFF, 0xFF, 0xFF, 0xFF, 0xFF, 0xFF, 0xFF, 0xFF, 2];
-    let refused = [
-        read::<Vec<u8>>(rt.alloc(), &greatest).err(),
-        read::<Vec<u32>>(rt.alloc(), &[0xFF, 0x7F, 1, 2, 3, 4, 5, 6]).err(),
-        read::<Vec<u8>>(rt.alloc(), &too_great).err(),
-    ];
-    let end = Some(Error::DeserializeUnexpectedEnd);
-    assert!(rt; refused == [end, end, Some(Error::DeserializeBadVarint)]);
+    let end = Error::DeserializeUnexpectedEnd;
+    check_all(
+        &rt,
+        [
+            fails(read::<Vec<u8>>(rt.alloc(), &greatest), end),
+            fails(
+                read::<Vec<u32>>(rt.alloc(), &[0xFF, 0x7F, 1, 2, 3, 4, 5, 6]),
+                end,
+            ),
+            fails(
+                read::<Vec<u8>>(rt.alloc(), &too_great),
+                Error::DeserializeBadVarint,
+            ),
+        ],
+    );
 }
 
 // Whether the calls that never answer leave the next byte to be read.
 fn never_answers<F: Flavor>(d: &mut Deserializer<F>) -> bool {
-    d.deserialize_any() == Err(Error::WontImplement)
-        && d.deserialize_identifier() == Err(Error::WontImplement)
-        && d.deserialize_ignored_any() == Err(Error::WontImplement)
-        && d.deserialize_u8() == Ok(3)
+    all_true([
+        fails(d.deserialize_any(), Error::WontImplement),
+        fails(d.deserialize_identifier(), Error::WontImplement),
+        fails(d.deserialize_ignored_any(), Error::WontImplement),
+        gives(d.deserialize_u8(), 3),
+    ])
 }
 
 #[test]
-fn calls_that_never_answer_read_nothing(rt: HostRuntime) {
+fn calls_that_read_nothing(rt: HostRuntime) {
     let mut d = Deserializer::from_bytes(rt.alloc(), &[3]);
-    assert!(rt; never_answers(&mut d));
+    check(&rt, never_answers(&mut d) && reads_nothing(&mut d));
 }
 
 // Whether three parts are foretold, of which the last one is refused, and nothing is answered behind them.
 fn reads_parts<F: Flavor>(d: &mut Deserializer<F>) -> bool {
     match d.deserialize_seq() {
         Ok(mut parts) => {
-            let answers = (
-                parts.size_hint(),
-                parts.next_element::<u8>(),
-                parts.next_element_owned::<u8>(),
-                parts.next_element::<bool>(),
-                parts.next_element::<u8>(),
-            );
-            let bad = Err(Error::DeserializeBadBool);
-            answers == (Some(3), Ok(Some(1)), Ok(Some(2)), bad, Ok(None))
+            parts.size_hint() == Some(3)
+                && gives(parts.next_element::<u8>(), Some(1))
+                && gives(parts.next_element_owned::<u8>(), Some(2))
+                && fails(parts.next_element::<bool>(), Error::DeserializeBadBool)
+                && gives(parts.next_element::<u8>(), None)
         }
         Err(_) => false,
     }
-}
-
-#[test]
-fn parts_one_at_a_time(rt: HostRuntime) {
-    let mut d = Deserializer::from_bytes(rt.alloc(), &[3, 1, 2, 2]);
-    assert!(rt; reads_parts(&mut d));
 }
 
 // How many parts are foretold, where parts are answered at all.
@@ -380,66 +395,72 @@ fn foretells_counts<F: Flavor>(d: &mut Deserializer<F>) -> bool {
 #[test]
 fn counts_of_parts(rt: HostRuntime) {
     let mut d = Deserializer::from_bytes(rt.alloc(), &[5, 6, 1, 7, 8, 9, 4, 0x80]);
-    assert!(rt; foretells_counts(&mut d));
+    check(&rt, foretells_counts(&mut d));
 }
 
 // Whether two entries are foretold and read, by both kinds of calls, and nothing is answered behind them.
 fn reads_entries<F: Flavor>(d: &mut Deserializer<F>) -> bool {
     match d.deserialize_map() {
         Ok(mut map) => {
-            let answers = (
-                map.size_hint(),
-                map.next_key::<u8>(),
-                map.next_value::<u8>(),
-                map.next_key_owned::<u8>(),
-                map.next_value_owned::<u8>(),
-                map.next_key::<u8>(),
-            );
-            answers == (Some(2), Ok(Some(5)), Ok(6), Ok(Some(1)), Ok(7), Ok(None))
+            map.size_hint() == Some(2)
+                && gives(map.next_key::<u8>(), Some(5))
+                && gives(map.next_value::<u8>(), 6)
+                && gives(map.next_key_owned::<u8>(), Some(1))
+                && gives(map.next_value_owned::<u8>(), 7)
+                && gives(map.next_key::<u8>(), None)
         }
         Err(_) => false,
     }
 }
 
 #[test]
-fn entries_one_at_a_time(rt: HostRuntime) {
-    let mut d = Deserializer::from_bytes(rt.alloc(), &[2, 5, 6, 1, 7]);
-    assert!(rt; reads_entries(&mut d));
+fn parts_and_entries_one_at_a_time(rt: HostRuntime) {
+    let mut d = Deserializer::from_bytes(rt.alloc(), &[3, 1, 2, 2, 2, 5, 6, 1, 7]);
+    check(&rt, reads_parts(&mut d) && reads_entries(&mut d));
 }
 
 #[test]
 fn containers(rt: HostRuntime) {
     type Either = std::result::Result<u8, bool>;
-    assert!(rt; read::<Either>(rt.alloc(), &[1, 1]) == Ok(Err(true)));
-    assert!(rt; matches!(&read::<Box<u8>>(rt.alloc(), &[7]), Ok(boxed) if **boxed == 7));
+    check(
+        &rt,
+        gives(read::<Either>(rt.alloc(), &[1, 1]), Err(true))
+            && matches!(&read::<Box<u8>>(rt.alloc(), &[7]), Ok(boxed) if **boxed == 7),
+    );
 }
 
 #[test]
 fn texts_in_fixed_room(rt: HostRuntime) {
     let hi = [3, 0x48, 0x69, 0x21];
     let read_whole = read::<ArrayString<3>>(rt.alloc(), &hi);
-    assert!(rt; matches!(&read_whole, Ok(text) if text.as_str() == "Hi!"));
-    assert!(rt; read::<ArrayString<2>>(rt.alloc(), &hi).err() == Some(Error::SerdeDeCustom));
+    check(
+        &rt,
+        matches!(&read_whole, Ok(text) if is_text(text, "Hi!"))
+            && fails(
+                read::<ArrayString<2>>(rt.alloc(), &hi),
+                Error::SerdeDeCustom,
+            ),
+    );
 }
 
 type Whole = (Option<u8>, Vec<u8>, String, BTreeMap<u8, u8>, [u8; 1], ());
 
 // Whether each part is the one that was sent.
 fn is_whole(value: &Whole) -> bool {
-    value.0 == Some(9)
-        && value.1[..] == [3]
-        && value.2.as_str() == "a"
-        && value.3.get(&4) == Some(&5)
-        && value.4 == [6]
+    all_true([
+        value.0 == Some(9),
+        are_equal(&value.1, &[3]),
+        is_text(&value.2, "a"),
+        matches!(value.3.get(&4), Some(5)),
+        are_equal(&value.4, &[6]),
+    ])
 }
 
 #[test]
 fn what_borrows_nothing(rt: HostRuntime) {
     let bytes = [1, 9, 1, 3, 1, 0x61, 1, 4, 5, 6, 0];
-    match read_owned::<Whole>(rt.alloc(), &bytes) {
-        Ok((value, rest)) => assert!(rt; is_whole(&value) && rest == 1),
-        Err(_) => assert!(rt; false),
-    }
+    let read = read_owned::<Whole>(rt.alloc(), &bytes, 1);
+    check(&rt, matches!(&read, Some(value) if is_whole(value)));
 }
 
 #[test]
@@ -450,10 +471,9 @@ fn what_borrows_nothing_in_fixed_room(rt: HostRuntime) {
         ArrayString<1>,
         Box<u8>,
     );
-    match read_owned::<Whole>(rt.alloc(), &[0, 1, 1, 7, 1, 0x62, 8]) {
-        Ok((value, rest)) => {
-            assert!(rt; value.0 == Ok(true) && value.1[..] == [7] && rest == 0);
-        }
-        Err(_) => assert!(rt; false),
-    }
+    let read = read_owned::<Whole>(rt.alloc(), &[0, 1, 1, 7, 1, 0x62, 8], 0);
+    check(
+        &rt,
+        matches!(&read, Some((Ok(true), items, _, _)) if are_equal(items, &[7])),
+    );
 }

@@ -7,6 +7,8 @@
 #[cfg(test)]
 mod any_sentinel;
 #[cfg(test)]
+mod checks;
+#[cfg(test)]
 mod de;
 #[cfg(test)]
 mod messages;

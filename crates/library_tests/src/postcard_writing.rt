@@ -1,4 +1,5 @@
 //! `postcard`, writing: published bytes, writers that refuse, and greatest sizes.
+use crate::checks::{are_equal, check, check_all, fails, gives, is_array, is_slice, is_vector};
 use arrayvec::{ArrayString, ArrayVec};
 use postcard::experimental::max_size::{MaxSize, MaxWritten};
 use postcard::experimental::serialized_size;
@@ -25,25 +26,25 @@ fn serializer() -> Serializer<HVec<16>> {
 }
 
 fn holds(serializer: Serializer<HVec<16>>, bytes: &[u8]) -> bool {
-    matches!(&serializer.output.finalize(), Ok(held) if held.as_slice() == bytes)
+    is_array(serializer.output.finalize(), bytes)
 }
 
 #[test]
 fn fixed_numbers(rt: HostRuntime) {
     let mut serializer = serializer();
-    let written = [
-        le::serialize(&0xABCDu16, &mut serializer),
-        be::serialize(&0xABCDu16, &mut serializer),
-        LE(-2i16).serialize(&mut serializer),
-        BE(-2i16).serialize(&mut serializer),
-    ];
-    let bytes = [0xCD, 0xAB, 0xAB, 0xCD, 0xFE, 0xFF, 0xFF, 0xFE];
-    assert!(rt; written == [Ok(()); 4] && holds(serializer, &bytes));
-}
-
-// Whether bytes were written, and are these.
-fn is_written(written: Result<Vec<u8>, Error>, bytes: &[u8]) -> bool {
-    matches!(&written, Ok(written) if written.as_slice() == bytes)
+    check_all(
+        &rt,
+        [
+            le::serialize(&0xABCDu16, &mut serializer).is_ok(),
+            be::serialize(&0xABCDu16, &mut serializer).is_ok(),
+            LE(-2i16).serialize(&mut serializer).is_ok(),
+            BE(-2i16).serialize(&mut serializer).is_ok(),
+            holds(
+                serializer,
+                &[0xCD, 0xAB, 0xAB, 0xCD, 0xFE, 0xFF, 0xFF, 0xFE],
+            ),
+        ],
+    );
 }
 
 // Four entries, in no order.
@@ -57,68 +58,76 @@ fn four(alloc: Global) -> Result<BTreeMap<u8, u8>, AllocError> {
 
 #[test]
 fn maps(rt: HostRuntime) {
-    match four(rt.alloc()) {
-        Ok(map) => {
-            assert!(rt; is_written(to_allocvec(rt.alloc(), &map), &[4, 1, 5, 2, 6, 3, 7, 4, 8]));
-        }
-        Err(_) => assert!(rt; false),
-    }
-}
-
-#[test]
-fn fixed_vectors(rt: HostRuntime) {
-    assert!(rt;
-        matches!(&to_vec::<_, 2>(&300u32), Ok(held) if held[..] == [0xAC, 0x02])
-            && to_vec::<_, 1>(&300u32).err() == Some(Error::SerializeBufferFull)
-    );
+    let is_sorted = match four(rt.alloc()) {
+        Ok(map) => is_vector(to_allocvec(rt.alloc(), &map), &[4, 1, 5, 2, 6, 3, 7, 4, 8]),
+        Err(_) => false,
+    };
+    check(&rt, is_sorted);
 }
 
 #[test]
 fn vectors(rt: HostRuntime) {
-    assert!(rt; is_written(to_stdvec(rt.alloc(), &300u32), &[0xAC, 0x02]));
-    match to_extend(&true, Vec::new(rt.alloc())) {
-        Ok(held) => assert!(rt; is_written(to_extend(&"Hi!", held), &[1, 3, 0x48, 0x69, 0x21])),
-        Err(_) => assert!(rt; false),
-    }
-}
-
-#[test]
-fn full_vectors(rt: HostRuntime) {
+    let is_extended = match to_extend(&true, Vec::new(rt.alloc())) {
+        Ok(held) => is_vector(to_extend(&"Hi!", held), &[1, 3, 0x48, 0x69, 0x21]),
+        Err(_) => false,
+    };
     let mut full: ArrayVec<u8, 1> = ArrayVec::new();
-    assert!(rt;
-        full.try_push(7).is_ok() && to_extend(&true, full).err() == Some(Error::SerializeBufferFull)
+    full.push(7);
+    check_all(
+        &rt,
+        [
+            is_extended,
+            is_vector(to_stdvec(rt.alloc(), &300u32), &[0xAC, 0x02]),
+            is_array(to_vec::<_, 2>(&300u32), &[0xAC, 0x02]),
+            fails(to_vec::<_, 1>(&300u32), Error::SerializeBufferFull),
+            fails(to_extend(&true, full), Error::SerializeBufferFull),
+        ],
     );
 }
 
 #[test]
 fn writers(rt: HostRuntime) {
-    assert!(rt; is_written(to_io(&300u32, Vec::new(rt.alloc())), &[0xAC, 0x02]));
-}
-
-#[test]
-fn lent_writers(rt: HostRuntime) {
     let mut lent = Vec::new(rt.alloc());
-    assert!(rt; to_io(&300u32, &mut lent).is_ok() && lent[..] == [0xAC, 0x02]);
-}
-
-#[test]
-fn full_writers(rt: HostRuntime) {
     let mut room = [0u8; 1];
-    assert!(rt; to_io(&300u32, &mut room[..]).err() == Some(Error::SerializeBufferFull));
+    check_all(
+        &rt,
+        [
+            is_vector(to_io(&300u32, Vec::new(rt.alloc())), &[0xAC, 0x02]),
+            to_io(&300u32, &mut lent).is_ok(),
+            are_equal(&lent, &[0xAC, 0x02]),
+            fails(to_io(&300u32, &mut room[..]), Error::SerializeBufferFull),
+        ],
+    );
 }
 
 #[test]
 fn flavors(rt: HostRuntime) {
     let mut flavor = AllocVec::new(rt.alloc());
-    assert!(rt;
-        serialize_with_flavor(&300u32, &mut flavor).is_ok()
-            && serialize_with_flavor(&true, &mut flavor).is_ok()
-            && is_written(flavor.finalize(), &[0xAC, 0x02, 0x01])
+    check_all(
+        &rt,
+        [
+            serialize_with_flavor(&300u32, &mut flavor).is_ok(),
+            serialize_with_flavor(&true, &mut flavor).is_ok(),
+            is_vector(flavor.finalize(), &[0xAC, 0x02, 0x01]),
+        ],
     );
 }
 
 // 19 times 2^58 bytes at most.
 type Long = [u128; 288230376151711744];
+
+const GREATEST_SIZES: [Option<usize>; 10] = [
+    Some(5),
+    Some(4),
+    Some(6),
+    Some(6),
+    Some(3),
+    Some(5),
+    Some(15),
+    Some(5),
+    Some(16429131440647569408),
+    None,
+];
 
 #[test]
 fn greatest_sizes(rt: HostRuntime) {
@@ -130,47 +139,32 @@ fn greatest_sizes(rt: HostRuntime) {
         RangeTo::<NonZeroU16>::postcard_max_size(),
         Box::<Rc<Wrapping<char>>>::postcard_max_size(),
         <(Duration, PhantomData<u8>)>::postcard_max_size(),
+        ArrayString::<4>::postcard_max_size(),
+        <(&Long, &Long, &Long)>::postcard_max_size(),
+        <(&Long, &Long, &Long, &Long)>::postcard_max_size(),
     ];
-    assert!(rt;
-        sizes
-            == [
-                Some(5),
-                Some(4),
-                Some(6),
-                Some(6),
-                Some(3),
-                Some(5),
-                Some(15)
-            ]
-    );
+    check(&rt, sizes == GREATEST_SIZES);
 }
 
-#[test]
-fn greatest_sizes_of_texts_and_long_arrays(rt: HostRuntime) {
-    assert!(rt;
-        ArrayString::<4>::postcard_max_size() == Some(5)
-            && <(&Long, &Long, &Long)>::postcard_max_size() == Some(16429131440647569408)
-            && <(&Long, &Long, &Long, &Long)>::postcard_max_size() == None
-    );
-}
-
-// A value of a type with a greatest size fits a vector of that size.
-fn fits<T: MaxWritten>(rt: &impl std::process::Abort, value: &T, greatest: usize) {
+// Whether a value of a type with this greatest size takes it, and fits a vector of it.
+fn fits<T: MaxWritten>(value: &T, greatest: usize) -> bool {
     within_greatest(value);
-    assert!(rt; T::postcard_max_size() == Some(greatest) && serialized_size(value) == Ok(greatest));
+    T::postcard_max_size() == Some(greatest) && gives(serialized_size(value), greatest)
 }
 
 #[test]
 fn greatest_values(rt: HostRuntime) {
-    fits(&rt, &u64::MAX, 10);
-    fits(&rt, &i32::MIN, 5);
-    fits(&rt, &(usize::MAX, Some(i8::MIN), ()), 12);
-    fits(&rt, &[isize::MIN, isize::MIN], 20);
-    fits(&rt, &Ok::<(u16, u16), u8>((u16::MAX, u16::MAX)), 7);
-    fits(
+    let text = ArrayString::<3>::from("abc").ok().unwrap_or_default();
+    check_all(
         &rt,
-        &ArrayString::<3>::from("abc").ok().unwrap_or_default(),
-        4,
+        [
+            fits(&u64::MAX, 10),
+            fits(&i32::MIN, 5),
+            fits(&(usize::MAX, Some(i8::MIN), ()), 12),
+            fits(&[isize::MIN, isize::MIN], 20),
+            fits(&Ok::<(u16, u16), u8>((u16::MAX, u16::MAX)), 7),
+            fits(&text, 4),
+        ],
     );
 }
 
@@ -178,9 +172,10 @@ fn greatest_values(rt: HostRuntime) {
 #[test]
 fn the_front_of_the_room(rt: HostRuntime) {
     let mut room = [0xEEu8; 8];
-    assert!(rt;
+    check(
+        &rt,
         matches!(&to_slice(&300u16, &mut room), Ok(front) if front.len() == 2)
-            && room[..2] == [0xAC, 0x02]
+            && are_equal(&room[..2], &[0xAC, 0x02]),
     );
 }
 
@@ -188,10 +183,13 @@ fn the_front_of_the_room(rt: HostRuntime) {
 fn the_front_of_a_slice(rt: HostRuntime) {
     let mut room = [0xEEu8; 8];
     let mut slice = Slice::new(&mut room);
-    let written = [slice.try_extend(&[1, 2]), slice.try_push(3)];
-    assert!(rt;
-        written == [Ok(()); 2]
-            && matches!(&slice.finalize(), Ok(front) if front.len() == 3)
-            && room[..3] == [1, 2, 3]
+    check_all(
+        &rt,
+        [
+            slice.try_extend(&[1, 2]).is_ok(),
+            slice.try_push(3).is_ok(),
+            is_slice(slice.finalize(), &[1, 2, 3]),
+            are_equal(&room[..3], &[1, 2, 3]),
+        ],
     );
 }

@@ -1,0 +1,68 @@
+//! What ends a test, and comparisons that many tests make. A call of one is cheaper to prove than the comparison itself.
+use arrayvec::ArrayVec;
+use postcard_tree::{Error, Result};
+use std::process::Abort;
+
+/// Ends a test that found something wrong.
+pub(crate) fn check(rt: &impl Abort, is_right: bool) {
+    assert!(rt; is_right);
+}
+
+/// Whether each of these holds. All are found first: calls in a row are cheaper to prove than one behind another's success.
+pub(crate) fn all_true<const N: usize>(found: [bool; N]) -> bool {
+    found == [true; N]
+}
+
+/// Ends a test that found one of these wrong.
+pub(crate) fn check_all<const N: usize>(rt: &impl Abort, are_right: [bool; N]) {
+    assert_eq!(rt; are_right, [true; N]);
+}
+
+/// Ends a test that found a row wrong.
+pub(crate) fn check_at(rt: &impl Abort, row: usize, is_right: bool) {
+    assert!(rt; is_right, "at {row}");
+}
+
+/// Whether a call gave this value.
+pub(crate) fn gives<T: PartialEq + Drop>(answer: Result<T>, wanted: T) -> bool {
+    match answer {
+        Ok(value) => value == wanted,
+        Err(_) => false,
+    }
+}
+
+/// Whether a call failed for this cause.
+pub(crate) fn fails<T: Drop>(answer: Result<T>, cause: Error) -> bool {
+    match answer {
+        Ok(_) => false,
+        Err(found) => found == cause,
+    }
+}
+
+/// Whether these bytes are those.
+pub(crate) fn are_equal(found: &[u8], wanted: &[u8]) -> bool {
+    *found == *wanted
+}
+
+/// Whether a text is this one.
+pub(crate) fn is_text(found: &str, wanted: &str) -> bool {
+    found == wanted
+}
+
+/// Whether the front of a slice was filled, and holds these bytes.
+pub(crate) fn is_slice(written: Result<&mut [u8]>, bytes: &[u8]) -> bool {
+    match written {
+        Ok(front) => *front == *bytes,
+        Err(_) => false,
+    }
+}
+
+/// Whether an array was filled, and holds these bytes.
+pub(crate) fn is_array<const N: usize>(written: Result<ArrayVec<u8, N>>, bytes: &[u8]) -> bool {
+    matches!(&written, Ok(held) if held.as_slice() == bytes)
+}
+
+/// Whether a vector was filled, and holds these bytes.
+pub(crate) fn is_vector(written: Result<Vec<u8>>, bytes: &[u8]) -> bool {
+    matches!(&written, Ok(held) if held.as_slice() == bytes)
+}
