@@ -8,6 +8,16 @@ pub(crate) fn check(rt: &impl Abort, is_right: bool) {
     assert!(rt; is_right);
 }
 
+/// Whether each of these holds. All are found first: this is cheaper to prove than one behind another's success.
+pub(crate) fn all_true<const N: usize>(found: [bool; N]) -> bool {
+    found == [true; N]
+}
+
+/// Ends a test that found one of these wrong.
+pub(crate) fn check_all<const N: usize>(rt: &impl Abort, are_right: [bool; N]) {
+    assert_eq!(rt; are_right, [true; N]);
+}
+
 /// Whether each of these calls succeeded.
 pub(crate) fn succeed<const N: usize>(answers: [Answer<()>; N]) -> bool {
     answers == [Ok(()); N]

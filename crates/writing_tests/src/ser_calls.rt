@@ -1,5 +1,5 @@
 //! `postcard_ser`: what the serializer's calls push.
-use crate::checks::{check, is_array, is_full, succeed};
+use crate::checks::{check, check_all, is_array, is_full, succeed};
 use postcard_ser::ser_flavors::{Flavor, HVec, IndexByte};
 use postcard_ser::{Serialize, Serializer};
 use postcard_tree::Error;
@@ -37,50 +37,12 @@ fn push_signed_numbers<F: Flavor>(serializer: &mut Serializer<F>) -> bool {
     ])
 }
 
-#[test]
-fn numbers(rt: HostRuntime) {
-    let mut serializer = serializer::<32>();
-    let bytes = [
-        1, 255, 0xC7, 0xCB, 0x02, 0x92, 0xE8, 0xAC, 0xED, 0x0C, 0xAC, 0x02, 0xAC, 0x02, 0xFF, 0xFF,
-        0xFF, 0x03, 1, 3, 2,
-    ];
-    check(
-        &rt,
-        push_numbers(&mut serializer)
-            && push_signed_numbers(&mut serializer)
-            && holds(serializer, &bytes),
-    );
-}
-
-// Nothing of a number stays where it doesn't fit.
-#[test]
-fn numbers_are_refused_whole(rt: HostRuntime) {
-    let mut serializer = serializer::<2>();
-    check(
-        &rt,
-        is_full(serializer.serialize_u16(16384))
-            && serializer.output.held() == 0
-            && is_full(serializer.serialize_u64(u64::MAX))
-            && serializer.output.held() == 0
-            && serializer.serialize_u16(16383).is_ok()
-            && holds(serializer, &[0xFF, 0x7F]),
-    );
-}
-
 fn push_texts<F: Flavor>(serializer: &mut Serializer<F>) -> bool {
-    serializer.serialize_char('\u{A2}').is_ok()
-        && serializer.serialize_str("Hi!").is_ok()
-        && serializer.serialize_bytes(&[1, 0]).is_ok()
-}
-
-#[test]
-fn texts(rt: HostRuntime) {
-    let mut serializer = serializer::<16>();
-    check(
-        &rt,
-        push_texts(&mut serializer)
-            && holds(serializer, &[2, 0xC2, 0xA2, 3, 0x48, 0x69, 0x21, 2, 1, 0]),
-    );
+    succeed([
+        serializer.serialize_char('\u{A2}'),
+        serializer.serialize_str("Hi!"),
+        serializer.serialize_bytes(&[1, 0]),
+    ])
 }
 
 fn push_options<F: Flavor>(serializer: &mut Serializer<F>) -> bool {
@@ -105,17 +67,6 @@ fn push_structs<F: Flavor>(serializer: &mut Serializer<F>) -> bool {
     ])
 }
 
-#[test]
-fn options_and_structs(rt: HostRuntime) {
-    let mut serializer = serializer::<16>();
-    check(
-        &rt,
-        push_options(&mut serializer)
-            && push_structs(&mut serializer)
-            && holds(serializer, &[0, 1, 5, 6, 7, 8, 9]),
-    );
-}
-
 fn push_variants<F: Flavor>(serializer: &mut Serializer<F>) -> bool {
     succeed([
         serializer.serialize_unit_variant(300),
@@ -127,19 +78,6 @@ fn push_variants<F: Flavor>(serializer: &mut Serializer<F>) -> bool {
         serializer.serialize_field(&0u8),
         serializer.end(),
     ])
-}
-
-#[test]
-fn variants(rt: HostRuntime) {
-    let mut serializer = serializer::<32>();
-    let bytes = [
-        0xAC, 2, 1, 0xFF, 0xFF, 0xFF, 0xFF, 0xFF, 0xFF, 0xFF, 0xFF, 0xFF, 1, 5, 0xE9, 0xD2, 0x01,
-        7, 3, 0,
-    ];
-    check(
-        &rt,
-        push_variants(&mut serializer) && holds(serializer, &bytes),
-    );
 }
 
 fn push_counts<F: Flavor>(serializer: &mut Serializer<F>) -> bool {
@@ -155,12 +93,57 @@ fn push_counts<F: Flavor>(serializer: &mut Serializer<F>) -> bool {
     pushed == [unknown, unknown, Ok(()), Ok(()), Ok(()), Ok(())] && !serializer.is_human_readable()
 }
 
+// What those calls push, in that order.
+const PUSHED: [u8; 63] = [
+    // numbers
+    1, 255, 0xC7, 0xCB, 0x02, 0x92, 0xE8, 0xAC, 0xED, 0x0C, 0xAC, 0x02, 0xAC, 0x02,
+    // signed numbers
+    0xFF, 0xFF, 0xFF, 0x03, 1, 3, 2,
+    // texts
+    2, 0xC2, 0xA2, 3, 0x48, 0x69, 0x21, 2, 1, 0,
+    // options
+    0, 1, 5, 6,
+    // structs
+    7, 8, 9,
+    // variants
+    0xAC, 2, 1, 0xFF, 0xFF, 0xFF, 0xFF, 0xFF, 0xFF, 0xFF, 0xFF, 0xFF, 1, 5, 0xE9, 0xD2, 0x01, 7, 3,
+    0,
+    // counts
+    0xC8, 1, 1, 2, 3,
+];
+
 #[test]
-fn counts(rt: HostRuntime) {
-    let mut serializer = serializer::<16>();
-    check(
+fn each_call(rt: HostRuntime) {
+    let mut serializer = serializer::<64>();
+    check_all(
         &rt,
-        push_counts(&mut serializer) && holds(serializer, &[0xC8, 1, 1, 2, 3]),
+        [
+            push_numbers(&mut serializer),
+            push_signed_numbers(&mut serializer),
+            push_texts(&mut serializer),
+            push_options(&mut serializer),
+            push_structs(&mut serializer),
+            push_variants(&mut serializer),
+            push_counts(&mut serializer),
+            holds(serializer, &PUSHED),
+        ],
+    );
+}
+
+// Nothing of a number stays where it doesn't fit.
+#[test]
+fn numbers_are_refused_whole(rt: HostRuntime) {
+    let mut serializer = serializer::<2>();
+    check_all(
+        &rt,
+        [
+            is_full(serializer.serialize_u16(16384)),
+            serializer.output.held() == 0,
+            is_full(serializer.serialize_u64(u64::MAX)),
+            serializer.output.held() == 0,
+            serializer.serialize_u16(16383).is_ok(),
+            holds(serializer, &[0xFF, 0x7F]),
+        ],
     );
 }
 

@@ -3,7 +3,7 @@ ghost use Rattle.std.specs.Prelude.{◌≡◌, IfOk, take};
 ghost use Rattle.postcard_tree.specs.Spelling.{short};
 ghost use Rattle.postcard_tree.specs.Tree.{number};
 
-use crate::checks::{are_equal, check, is_array, is_full, is_slice, is_vector, succeed};
+use crate::checks::{are_equal, check, check_all, is_array, is_full, is_slice, is_vector, succeed};
 use arrayvec::ArrayVec;
 use postcard_ser::ser_flavors::io::WriteFlavor;
 use postcard_ser::ser_flavors::{
@@ -80,14 +80,16 @@ fn slices_that_are_given_back(rt: HostRuntime) {
 #[test]
 fn fixed_vectors(rt: HostRuntime) {
     let mut vec: HVec<2> = HVec::default();
-    check(
+    check_all(
         &rt,
-        vec.try_push(1).is_ok()
-            && is_full(vec.try_extend(&[2, 3]))
-            && vec.held() == 1
-            && is_patched(&mut vec)
-            && is_full(vec.try_push(3))
-            && is_array(vec.finalize(), &[1, 9]),
+        [
+            vec.try_push(1).is_ok(),
+            is_full(vec.try_extend(&[2, 3])),
+            vec.held() == 1,
+            is_patched(&mut vec),
+            is_full(vec.try_push(3)),
+            is_array(vec.finalize(), &[1, 9]),
+        ],
     );
 }
 
@@ -96,22 +98,26 @@ fn extended_arrays(rt: HostRuntime) {
     let mut full: ArrayVec<u8, 2> = ArrayVec::new();
     full.push(7);
     let mut extended = ExtendFlavor::new(full);
-    check(
+    check_all(
         &rt,
-        is_full(extended.try_extend(&[8, 9]))
-            && extended.try_push(8).is_ok()
-            && is_array(extended.finalize(), &[7, 8]),
+        [
+            is_full(extended.try_extend(&[8, 9])),
+            extended.try_push(8).is_ok(),
+            is_array(extended.finalize(), &[7, 8]),
+        ],
     );
 }
 
 #[test]
 fn growing_vectors(rt: HostRuntime) {
     let mut vec: StdVec = AllocVec::new(rt.alloc());
-    check(
+    check_all(
         &rt,
-        vec.try_extend(&[1, 2]).is_ok()
-            && is_patched(&mut vec)
-            && is_vector(vec.finalize(), &[1, 2, 9]),
+        [
+            vec.try_extend(&[1, 2]).is_ok(),
+            is_patched(&mut vec),
+            is_vector(vec.finalize(), &[1, 2, 9]),
+        ],
     );
 }
 
@@ -120,9 +126,13 @@ fn extended_vectors(rt: HostRuntime) {
     let mut begun = Vec::new(rt.alloc());
     let is_begun = begun.push(7).is_ok();
     let mut extended = ExtendFlavor::new(begun);
-    check(
+    check_all(
         &rt,
-        is_begun && extended.try_push(8).is_ok() && is_vector(extended.finalize(), &[7, 8]),
+        [
+            is_begun,
+            extended.try_push(8).is_ok(),
+            is_vector(extended.finalize(), &[7, 8]),
+        ],
     );
 }
 
@@ -154,11 +164,13 @@ fn want_of_memory_for_more(rt: HostRuntime) {
 #[test]
 fn sizes(rt: HostRuntime) {
     let mut size = Size::default();
-    check(
+    check_all(
         &rt,
-        size.try_extend(&[0; 300]).is_ok()
-            && size.try_push(0).is_ok()
-            && size.finalize() == Ok(301),
+        [
+            size.try_extend(&[0; 300]).is_ok(),
+            size.try_push(0).is_ok(),
+            size.finalize() == Ok(301),
+        ],
     );
 }
 
@@ -214,11 +226,13 @@ fn writers_that_fail(rt: HostRuntime) {
     let mut serializer = Serializer {
         output: WriteFlavor::new(&mut narrow),
     };
-    check(
+    check_all(
         &rt,
-        serializer.serialize_u32(300).is_ok()
-            && is_full(serializer.serialize_u32(300))
-            && matches!(&serializer.output.finalize(), Ok(narrow) if narrow.taken == 3),
+        [
+            serializer.serialize_u32(300).is_ok(),
+            is_full(serializer.serialize_u32(300)),
+            matches!(&serializer.output.finalize(), Ok(narrow) if narrow.taken == 3),
+        ],
     );
 }
 

@@ -1,5 +1,5 @@
 //! `postcard_ser`: a buffer and a cursor in it, written and read, and parts of it that are taken for good.
-use crate::checks::{are_equal, check};
+use crate::checks::{are_equal, check, check_all};
 use postcard_ser::memory::Span;
 
 #[test]
@@ -9,9 +9,9 @@ fn bytes_are_written(rt: HostRuntime) {
     span.push(7);
     span.push_slice(&[1, 2]);
     span.set_byte(0, 9);
-    check(
+    check_all(
         &rt,
-        span.byte(0) == 9 && span.count() == 3 && span.remaining() == 1,
+        [span.byte(0) == 9, span.count() == 3, span.remaining() == 1],
     );
     check(
         &rt,
@@ -45,11 +45,13 @@ fn bytes_are_read(rt: HostRuntime) {
     let mut span = Span::over(&buffer);
     check(&rt, span.next() == 1);
     let (taken, mut left) = span.split_front(2);
-    check(
+    check_all(
         &rt,
-        left.next() == 4
-            && left.remaining() == 0
-            && are_equal(taken, &[2, 3])
-            && left.into_ahead().is_empty(),
+        [
+            left.next() == 4,
+            left.remaining() == 0,
+            are_equal(taken, &[2, 3]),
+            left.into_ahead().is_empty(),
+        ],
     );
 }

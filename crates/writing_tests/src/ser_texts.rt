@@ -1,5 +1,5 @@
 //! `postcard_ser`: texts that are formatted.
-use crate::checks::{check, is_slice, is_vector};
+use crate::checks::{all_true, check, check_all, is_slice, is_vector};
 use postcard_ser::Serializer;
 use postcard_ser::ser_flavors::{AllocVec, Flavor, IndexByte, Size, Slice};
 use postcard_tree::{Error, Result as Answer};
@@ -11,26 +11,11 @@ fn formats<T: Display>(value: &T, room: &mut [u8], answer: Answer<()>, bytes: &[
     let mut serializer = Serializer {
         output: Slice::new(room),
     };
-    serializer.collect_str(value) == answer
-        && serializer.output.held() == bytes.len()
-        && is_slice(serializer.output.finalize(), bytes)
-}
-
-#[test]
-fn slices(rt: HostRuntime) {
-    check(
-        &rt,
-        formats(&300u32, &mut [0; 4], Ok(()), &[3, 0x33, 0x30, 0x30]),
-    );
-}
-
-#[test]
-fn small_slices(rt: HostRuntime) {
-    check(
-        &rt,
-        formats(&300u32, &mut [0; 1], Err(Error::CollectStrError), &[3])
-            && formats(&300u32, &mut [], Err(Error::SerializeBufferFull), &[]),
-    );
+    all_true([
+        serializer.collect_str(value) == answer,
+        serializer.output.held() == bytes.len(),
+        is_slice(serializer.output.finalize(), bytes),
+    ])
 }
 
 // Whether a text's formatting is answered so where it is counted, and counts so many bytes.
@@ -39,11 +24,6 @@ fn counts<T: Display>(value: &T, answer: Answer<()>, size: usize) -> bool {
         output: Size::default(),
     };
     counter.collect_str(value) == answer && counter.output.finalize() == Ok(size)
-}
-
-#[test]
-fn sizes(rt: HostRuntime) {
-    check(&rt, counts(&300u32, Ok(()), 4));
 }
 
 #[test]
@@ -79,14 +59,22 @@ impl Display for Careless {
 }
 
 #[test]
-fn faults(rt: HostRuntime) {
-    check(&rt, counts(&Faulty, Err(Error::CollectStrError), 0));
+fn slices(rt: HostRuntime) {
+    check_all(
+        &rt,
+        [
+            formats(&300u32, &mut [0; 4], Ok(()), &[3, 0x33, 0x30, 0x30]),
+            formats(&300u32, &mut [0; 1], Err(Error::CollectStrError), &[3]),
+            formats(&300u32, &mut [], Err(Error::SerializeBufferFull), &[]),
+            formats(&Careless, &mut [0; 3], Err(Error::CollectStrError), &[4]),
+        ],
+    );
 }
 
 #[test]
-fn untold_faults(rt: HostRuntime) {
+fn sizes(rt: HostRuntime) {
     check(
         &rt,
-        formats(&Careless, &mut [0; 3], Err(Error::CollectStrError), &[4]),
+        counts(&300u32, Ok(()), 4) && counts(&Faulty, Err(Error::CollectStrError), 0),
     );
 }

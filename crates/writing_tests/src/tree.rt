@@ -1,5 +1,5 @@
 //! `postcard_tree`: published numbers, and the limits of each width.
-use crate::checks::{are_equal, check};
+use crate::checks::{all_true, are_equal, check, check_all};
 use arrayvec::{ArrayString, ArrayVec};
 use postcard_tree::fixint::{BE, FixInt, LE};
 use postcard_tree::readable::Readable;
@@ -21,15 +21,21 @@ fn spells_long(value: u64, bytes: &[u8]) -> bool {
 
 #[test]
 fn numbers_are_spelled_shortest(rt: HostRuntime) {
-    check(
+    let greatest = [0xFF, 0xFF, 0xFF, 0xFF, 0xFF, 0xFF, 0xFF, 0xFF, 0xFF, 0x01];
+    check_all(
         &rt,
-        spells_short(16384, &[0x80, 0x80, 0x01])
-            && spells_short(42439, &[0xC7, 0xCB, 0x02])
-            && spells_long(0, &[0])
-            && are_equal(
+        [
+            spells_short(16384, &[0x80, 0x80, 0x01]),
+            spells_short(42439, &[0xC7, 0xCB, 0x02]),
+            spells_long(0, &[0]),
+            spells_long(u64::MAX, &greatest),
+            are_equal(
                 varint_u32(3450549266, &mut [0; 5]),
                 &[0x92, 0xE8, 0xAC, 0xED, 0x0C],
             ),
+            are_equal(varint_usize(usize::MAX, &mut [0; 10]), &greatest),
+            varint_u128(u128::MAX, &mut [0; 19]).len() == 19,
+        ],
     );
 }
 
@@ -42,17 +48,6 @@ fn numbers_are_spelled_in_front(rt: HostRuntime) {
     );
 }
 
-#[test]
-fn greatest_numbers_are_spelled_shortest(rt: HostRuntime) {
-    let greatest = [0xFF, 0xFF, 0xFF, 0xFF, 0xFF, 0xFF, 0xFF, 0xFF, 0xFF, 0x01];
-    check(
-        &rt,
-        spells_long(u64::MAX, &greatest)
-            && are_equal(varint_usize(usize::MAX, &mut [0; 10]), &greatest)
-            && varint_u128(u128::MAX, &mut [0; 19]).len() == 19,
-    );
-}
-
 // Whether a number, and so its signed twin, takes so many bytes at most, of which the last one is at most this.
 fn has_limits<T: VarintInt, S: VarintInt>(max: usize, last: u8) -> bool {
     let maxima = (varint_max::<T>(), varint_max::<S>());
@@ -62,14 +57,16 @@ fn has_limits<T: VarintInt, S: VarintInt>(max: usize, last: u8) -> bool {
 
 #[test]
 fn numbers_have_their_limits(rt: HostRuntime) {
-    check(
+    check_all(
         &rt,
-        has_limits::<u8, i8>(2, 1)
-            && has_limits::<u16, i16>(3, 3)
-            && has_limits::<u32, i32>(5, 15)
-            && has_limits::<u64, i64>(10, 1)
-            && has_limits::<usize, isize>(10, 1)
-            && has_limits::<u128, i128>(19, 3),
+        [
+            has_limits::<u8, i8>(2, 1),
+            has_limits::<u16, i16>(3, 3),
+            has_limits::<u32, i32>(5, 15),
+            has_limits::<u64, i64>(10, 1),
+            has_limits::<usize, isize>(10, 1),
+            has_limits::<u128, i128>(19, 3),
+        ],
     );
 }
 
@@ -80,12 +77,14 @@ fn is_put<T: FixInt>(value: T, little: &[u8], big: &[u8]) -> bool {
 
 #[test]
 fn fixed_numbers_are_their_bytes(rt: HostRuntime) {
-    check(
+    check_all(
         &rt,
-        is_put(0xABCDu16, &[0xCD, 0xAB], &[0xAB, 0xCD])
-            && is_put(-2i16, &[0xFE, 0xFF], &[0xFF, 0xFE])
-            && LE::<i16>::from_bytes(&[0xFE, 0xFF]).0 == -2
-            && BE::<u16>::from_bytes(&[0xAB, 0xCD]).0 == 0xABCD,
+        [
+            is_put(0xABCDu16, &[0xCD, 0xAB], &[0xAB, 0xCD]),
+            is_put(-2i16, &[0xFE, 0xFF], &[0xFF, 0xFE]),
+            LE::<i16>::from_bytes(&[0xFE, 0xFF]).0 == -2,
+            BE::<u16>::from_bytes(&[0xAB, 0xCD]).0 == 0xABCD,
+        ],
     );
 }
 
@@ -104,30 +103,27 @@ fn has_size<T: FixInt + PartialEq>(number: T, size: usize) -> bool {
     let mut big = [0; 16];
     let little = LE(number).put(&mut little);
     let big = BE(number).put(&mut big);
-    little.len() == size
-        && LE::<T>::from_bytes(little).0 == number
-        && BE::<T>::from_bytes(big).0 == number
+    all_true([
+        little.len() == size,
+        LE::<T>::from_bytes(little).0 == number,
+        BE::<T>::from_bytes(big).0 == number,
+    ])
 }
 
 #[test]
 fn fixed_numbers_have_their_sizes(rt: HostRuntime) {
-    check(
+    check_all(
         &rt,
-        has_size(u16::MAX, 2)
-            && has_size(u32::MAX - 1, 4)
-            && has_size(u64::MAX - 2, 8)
-            && has_size(u128::MAX - 3, 16),
-    );
-}
-
-#[test]
-fn signed_fixed_numbers_have_their_sizes(rt: HostRuntime) {
-    check(
-        &rt,
-        has_size(i16::MIN, 2)
-            && has_size(i32::MIN, 4)
-            && has_size(i64::MIN, 8)
-            && has_size(i128::MIN, 16),
+        [
+            has_size(u16::MAX, 2),
+            has_size(u32::MAX - 1, 4),
+            has_size(u64::MAX - 2, 8),
+            has_size(u128::MAX - 3, 16),
+            has_size(i16::MIN, 2),
+            has_size(i32::MIN, 4),
+            has_size(i64::MIN, 8),
+            has_size(i128::MIN, 16),
+        ],
     );
 }
 
