@@ -8,6 +8,8 @@
 #[cfg(test)]
 mod any_sentinel;
 #[cfg(test)]
+mod checks;
+#[cfg(test)]
 mod link_faults;
 #[cfg(test)]
 mod link_lines;

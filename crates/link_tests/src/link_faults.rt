@@ -2,9 +2,10 @@
 //! What is heard of it all, in pieces of each size, are lines of `replay_link`.
 ghost use Rattle.std.specs.Prelude.{◌<◌};
 
+use crate::checks::{are_fates, check, holds, is_broken, is_too_long};
 use line_io::memory::{Fault, In, Out};
 use line_io::{Outlet, Reads, Writes};
-use link::{Answer, End, Fate, SendError, Sender, receive, receive_strict, send_each};
+use link::{Answer, End, Fate, Received, Sender, receive, receive_strict, send_each};
 use std::alloc::Global;
 use std::io;
 use std::io::{ErrorKind, Read, Write};
@@ -104,17 +105,20 @@ impl Read for Slow<'_> {
     }
 }
 
-/// Whether 300 is broken off by a line, and goes out where it is sent again.
-fn is_sent_again<W: Outlet>(sender: &mut Sender<W, 8>) -> bool {
-    sender.send(&300u32) == Err(SendError::Line)
-        && !sender.is_clean()
-        && sender.send(&300u32) == Ok(())
-        && sender.is_clean()
+/// Whether 300 is broken off by a line.
+fn is_broken_off<W: Outlet>(sender: &mut Sender<W, 8>) -> bool {
+    is_broken(sender.send(&300u32)) && !sender.is_clean()
 }
 
-/// Whether these are the answers to so many bytes of a row's line, but for a `Cut`.
-fn is_heard(row: &Row, count: usize, answers: &[Answer<u32>]) -> bool {
+/// Whether 300 is broken off by a line, and goes out where it is sent again.
+fn is_sent_again<W: Outlet>(sender: &mut Sender<W, 8>) -> bool {
+    is_broken_off(sender) && sender.send(&300u32).is_ok() && sender.is_clean()
+}
+
+/// Whether a reader failed, and these are the answers to so many bytes of a row's line, but for a `Cut`.
+fn is_heard<R>(row: &Row, count: usize, got: &Received<u32, R>) -> bool {
     let is_done = row.line.len() <= count;
+    let answers = got.answers.as_slice();
     let rest = match row.first {
         Some((at, is_value)) if at <= count => match answers {
             [Answer::Value(300), rest @ ..] if is_value => rest,
@@ -123,33 +127,36 @@ fn is_heard(row: &Row, count: usize, answers: &[Answer<u32>]) -> bool {
         },
         _ => answers,
     };
-    match rest {
+    got.end == End::ReadFault && is_end(rest, is_done)
+}
+
+/// Whether these are the answers to a line's last send, which is done or not.
+fn is_end(answers: &[Answer<u32>], is_done: bool) -> bool {
+    match answers {
         [] => !is_done,
         [Answer::Value(300)] => is_done,
         _ => false,
     }
 }
 
-/// Whether a sender over memory that breaks a row's send off, and sends again, leaves the row's line.
-fn sends(row: &Row, each: usize, fault: Option<(usize, Fault)>) -> bool
+/// Whether a sender over memory that breaks a row's send off leaves so many bytes, or the row's line where it sends again.
+fn sends(row: &Row, each: usize, fault: Option<(usize, Fault)>, again: bool) -> bool
     requires { 0 < each }
 {
     let mut room = [0u8; 16];
     let mut sender = Sender::<_, 8>::new(Out::new(&mut room, each, fault));
-    let passed = is_sent_again(&mut sender);
+    let passed = if again {
+        is_sent_again(&mut sender)
+    } else {
+        is_broken_off(&mut sender)
+    };
     let count = sender.into_inner().moved();
-    passed && room.get(..count) == Some(row.line)
-}
-
-/// Whether a sender over memory that breaks a row's send off leaves so many bytes.
-fn breaks_off(row: &Row, each: usize, fault: Option<(usize, Fault)>) -> bool
-    requires { 0 < each }
-{
-    let mut room = [0u8; 16];
-    let mut sender = Sender::<_, 8>::new(Out::new(&mut room, each, fault));
-    sender.send(&300u32) == Err(SendError::Line)
-        && !sender.is_clean()
-        && sender.into_inner().moved() == row.broken
+    passed
+        && if again {
+            holds(&room, count, row.line)
+        } else {
+            count == row.broken
+        }
 }
 
 /// Whether a session over memory that breaks its first send off leaves the row's line.
@@ -160,47 +167,60 @@ fn sends_each(row: &Row, each: usize, fault: Option<(usize, Fault)>) -> bool
     let mut fates = [Fate::Refused; 2];
     let out = Out::new(&mut room, each, fault);
     let count = send_each::<u32, _, 8>(out, &[300, 300], &mut fates).moved();
-    room.get(..count) == Some(row.line) && fates == [Fate::Broken, Fate::Done]
+    holds(&room, count, row.line) && are_fates(&fates, &[Fate::Broken, Fate::Done])
+}
+
+/// Whether a row's sends are right over memory that takes some bytes a call.
+fn sends_in_each_size(row: &Row, kind: Fault) -> bool {
+    let fault = Some((row.broken, kind));
+    for each in 1..6 {
+        if !sends(row, each, fault, true)
+            || !sends(row, each, fault, false)
+            || !sends_each(row, each, fault)
+        {
+            return false;
+        }
+    }
+    true
 }
 
 #[test]
 fn sends_over_memory(rt: HostRuntime) {
     for row in &ROWS {
-        for kind in [Fault::Fail, Fault::Nothing] {
-            let fault = Some((row.broken, kind));
-            for each in 1..6 {
-                assert!(rt;
-                    sends(row, each, fault)
-                        && breaks_off(row, each, fault)
-                        && sends_each(row, each, fault)
-                );
-            }
-        }
+        check(&rt, sends_in_each_size(row, Fault::Fail));
+        check(&rt, sends_in_each_size(row, Fault::Nothing));
     }
+}
+
+/// A writer that is in trouble once, after so many bytes.
+fn narrow_writer(before: usize, trouble: Option<ErrorKind>) -> Writes<Narrow> {
+    Writes::new(Narrow {
+        taken: [0; 16],
+        count: 0,
+        before,
+        trouble,
+    })
+}
+
+/// Whether a sender has left this line.
+fn has_left<const N: usize>(sender: Sender<Writes<Narrow>, N>, line: &[u8]) -> bool {
+    let narrow = sender.into_inner().into_inner();
+    holds(&narrow.taken, narrow.count, line)
 }
 
 /// Whether a sender over a writer that is in trouble once leaves the row's line.
 fn sends_narrowly(row: &Row, trouble: Option<ErrorKind>) -> bool {
-    let narrow = Narrow {
-        taken: [0; 16],
-        count: 0,
-        before: row.broken,
-        trouble,
-    };
-    let mut sender = Sender::<_, 8>::new(Writes::new(narrow));
+    let mut sender = Sender::<_, 8>::new(narrow_writer(row.broken, trouble));
     let passed = is_sent_again(&mut sender);
-    let narrow = sender.into_inner().into_inner();
-    passed && narrow.taken.get(..narrow.count) == Some(row.line)
+    has_left(sender, row.line) && passed
 }
 
 #[test]
 fn sends_over_writers(rt: HostRuntime) {
     for row in &ROWS {
-        assert!(rt;
-            sends_narrowly(row, Some(ErrorKind::Interrupted))
-                && sends_narrowly(row, Some(ErrorKind::Other))
-                && sends_narrowly(row, None)
-        );
+        check(&rt, sends_narrowly(row, Some(ErrorKind::Interrupted)));
+        check(&rt, sends_narrowly(row, Some(ErrorKind::Other)));
+        check(&rt, sends_narrowly(row, None));
     }
 }
 
@@ -209,11 +229,8 @@ fn hears(alloc: Global, row: &Row, count: usize, each: usize) -> bool
     requires { 0 < each }
 {
     let got = receive::<u32, _, 8>(alloc, In::new(row.line, each, Some(count)));
-    let passed = got.end == End::ReadFault
-        && got.reader.moved() == count
-        && is_heard(row, count, &got.answers);
-    let got = receive_strict::<u32, _, 8>(alloc, In::new(row.line, each, Some(count)));
-    passed && got.end == End::ReadFault && is_heard(row, count, &got.answers)
+    let strictly = receive_strict::<u32, _, 8>(alloc, In::new(row.line, each, Some(count)));
+    got.reader.moved() == count && is_heard(row, count, &got) && is_heard(row, count, &strictly)
 }
 
 /// Whether so many bytes of a row's line are heard until a reader is interrupted.
@@ -223,39 +240,34 @@ fn hears_slowly(alloc: Global, row: &Row, count: usize) -> bool {
         given: 0,
         before: count,
     };
-    let got = receive::<u32, _, 8>(alloc, Reads::new(slow));
-    got.end == End::ReadFault && is_heard(row, count, &got.answers)
+    is_heard(row, count, &receive::<u32, _, 8>(alloc, Reads::new(slow)))
+}
+
+/// Whether so many bytes of a row's line are heard by each reader, in pieces of each size.
+fn hears_in_each_size(alloc: Global, row: &Row, count: usize) -> bool {
+    for each in 1..10 {
+        if !hears(alloc, row, count, each) {
+            return false;
+        }
+    }
+    hears_slowly(alloc, row, count)
 }
 
 #[test]
 fn hears_until_a_fault(rt: HostRuntime) {
     for row in &ROWS {
         for count in 0..=row.line.len() {
-            for each in 1..10 {
-                assert!(rt; hears(rt.alloc(), row, count, each));
-            }
-            assert!(rt; hears_slowly(rt.alloc(), row, count));
+            check(&rt, hears_in_each_size(rt.alloc(), row, count));
         }
     }
-}
-
-/// Whether a sender of one byte sends a frame of one byte, and none that is longer.
-fn sends_the_least<W: Outlet>(sender: &mut Sender<W, 1>) -> bool {
-    let refused = SendError::Refused(postcard::Error::SerializeBufferFull);
-    [sender.send(&()), sender.send(&true)] == [Ok(()), Err(refused)] && sender.is_clean()
 }
 
 /// A frame of one byte, and one that is longer, by a sender of one byte.
 #[test]
 fn sends_by_the_least_sender(rt: HostRuntime) {
-    let narrow = Narrow {
-        taken: [0; 16],
-        count: 0,
-        before: 16,
-        trouble: None,
-    };
-    let mut sender = Sender::<_, 1>::new(Writes::new(narrow));
-    let passed = sends_the_least(&mut sender);
-    let narrow = sender.into_inner().into_inner();
-    assert!(rt; passed && narrow.taken[..3] == [0, 1, 0] && narrow.count == 3);
+    let mut sender = Sender::<_, 1>::new(narrow_writer(16, None));
+    check(&rt, sender.send(&()).is_ok());
+    check(&rt, is_too_long(sender.send(&true)));
+    check(&rt, sender.is_clean());
+    check(&rt, has_left(sender, &[0, 1, 0]));
 }

@@ -1,36 +1,40 @@
 //! `link`, from senders to a receiver: the headline, in which a send breaks off. Lines of `replay_link` say what is heard of
 //! other sends that break off, ordinarily and strictly.
+use crate::checks::{are_bytes, are_fates, check, is_broken};
 use line_io::memory::{Fault, In, Out};
-use link::{Answer, Fate, Received, SendError};
+use link::{Answer, Fate, Received};
 use link_laws::headline;
 use link_laws::headline::InTurn;
 
-// Whether a damaged stretch and 300 were heard.
-fn hears_damage(received: &Received<u32, In<'_>>) -> bool {
-    received.answers[..] == [Answer::Damaged, Answer::Value(300)]
+// A send of 300 that broke off, and one that went out.
+const LINE: [u8; 7] = [0, 3, 0, 3, 0xAC, 2, 0];
+
+// Whether these answers were heard.
+fn hears(received: &Received<u32, In<'_>>, answers: &[Answer<u32>]) -> bool {
+    received.answers.as_slice() == answers
 }
 
 // Whether the first send of 300 broke off, and the second went out.
 fn is_sent_again(all: &InTurn<u32, Out<'_>, In<'_>>) -> bool {
-    [all.first, all.second] == [Err(SendError::Line), Ok(())]
+    is_broken(all.first)
+        && all.second.is_ok()
         && all.writer.moved() == 7
-        && hears_damage(&all.received)
+        && hears(&all.received, &[Answer::Damaged, Answer::Value(300)])
 }
 
 #[test]
 fn sends_in_turn(rt: HostRuntime) {
-    let line = [0u8, 3, 0, 3, 0xAC, 2, 0];
     let mut room = [0u8; 16];
     let all = headline::send_in_turn::<u32, _, _, 8, 16>(
         rt.alloc(),
         Out::new(&mut room, 16, Some((2, Fault::Fail))),
-        In::new(&line, 3, None),
+        In::new(&LINE, 3, None),
         &300,
         &300,
     );
     let passed = is_sent_again(&all);
     drop(all);
-    assert!(rt; passed && room[..7] == line[..]);
+    check(&rt, passed && are_bytes(&room[..7], &LINE));
 }
 
 #[test]
@@ -38,7 +42,7 @@ fn sends_each_in_turn(rt: HostRuntime) {
     let mut room = [0u8; 16];
     let mut first = [Fate::Refused; 2];
     let mut second = [Fate::Refused; 1];
-    let all = headline::send_each_in_turn::<u32, _, _, 8, 16>(
+    let (writer, received) = headline::send_each_in_turn::<u32, _, _, 8, 16>(
         rt.alloc(),
         Out::new(&mut room, 16, Some((4, Fault::Fail))),
         In::new(&[0, 2, 5, 0, 0, 2, 7, 0], 3, None),
@@ -47,17 +51,14 @@ fn sends_each_in_turn(rt: HostRuntime) {
         &[7],
         &mut second,
     );
-    let (writer, received) = all;
-    assert!(rt;
-        writer.moved() == 8
-            && received.answers[..] == [Answer::Value(5), Answer::Value(7)]
-            && (first, second) == ([Fate::Done, Fate::Broken], [Fate::Done])
-    );
+    check(&rt, writer.moved() == 8);
+    check(&rt, hears(&received, &[Answer::Value(5), Answer::Value(7)]));
+    check(&rt, are_fates(&first, &[Fate::Done, Fate::Broken]));
+    check(&rt, are_fates(&second, &[Fate::Done]));
 }
 
 #[test]
 fn receives_a_run(rt: HostRuntime) {
-    let line = [0u8, 3, 0, 3, 0xAC, 2, 0];
-    let all = headline::receive_run::<u32, _, 16>(rt.alloc(), In::new(&line, 2, None));
-    assert!(rt; hears_damage(&all));
+    let all = headline::receive_run::<u32, _, 16>(rt.alloc(), In::new(&LINE, 2, None));
+    check(&rt, hears(&all, &[Answer::Damaged, Answer::Value(300)]));
 }

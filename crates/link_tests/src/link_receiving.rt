@@ -2,6 +2,7 @@
 //! streams are lines of `replay_link`.
 ghost use Rattle.std.specs.Prelude.{◌≤◌, length};
 
+use crate::checks::{are_bytes, check, is_answer, is_lent, is_told};
 use line_io::memory::In;
 use link::{
     Answer, End, NoMemory, Pushed, Receiver, read_in_place, receive, receive_by_accumulator,
@@ -13,48 +14,41 @@ use std::alloc::Global;
 fn too_long_by_one(rt: HostRuntime) {
     let mut receiver = Receiver::<4>::new();
     let pushed = receiver.push::<()>(rt.alloc(), &[5, 1, 1, 1, 1]);
-    assert!(rt;
-        pushed.used == 5
-            && pushed.answer == Ok(Some(Answer::TooLong))
-            && !receiver.is_between()
-            && receiver.push::<()>(rt.alloc(), &[0]).answer == Ok(None)
-            && receiver.is_between()
-            && receiver.finish::<()>() == None
-    );
+    check(&rt, pushed.used == 5 && !receiver.is_between());
+    check(&rt, is_answer(&pushed.answer, &Answer::TooLong));
+    let ended = receiver.push::<()>(rt.alloc(), &[0]);
+    check(&rt, matches!(&ended.answer, Ok(None)));
+    check(&rt, receiver.is_between());
+    check(&rt, receiver.finish::<()>().is_none());
 }
 
 #[test]
 fn lends(rt: HostRuntime) {
     let mut receiver = Receiver::<8>::new();
-    let Pushed { used, answer } = receiver.push_ref::<&str>(rt.alloc(), &[4, 2, 104, 105, 0, 2, 5]);
-    assert!(rt; used == 5);
-    match answer {
-        Ok(Some(Answer::Value(text))) => assert!(rt; text == "hi"),
-        _ => assert!(rt; false),
-    }
+    let lent = receiver.push_ref::<&str>(rt.alloc(), &[4, 2, 104, 105, 0, 2, 5]);
+    check(&rt, is_lent(&lent, 5, &"hi"));
 }
 
 #[test]
 fn stands_in_a_lent_stretch(rt: HostRuntime) {
     let mut receiver = Receiver::<8>::new();
-    assert!(rt;
-        receiver.push_ref::<&str>(rt.alloc(), &[2, 5]).used == 2
-            && !receiver.is_between()
-            && receiver.finish::<u8>() == Some(Answer::Cut)
-    );
+    let used = receiver.push_ref::<&str>(rt.alloc(), &[2, 5]).used;
+    check(&rt, used == 2 && !receiver.is_between());
+    let last = receiver.finish::<u8>();
+    check(&rt, matches!(&last, Some(Answer::Cut)));
 }
 
 /// Two bytes of a stretch, and then a read that fails.
 #[test]
 fn ends_at_a_fault(rt: HostRuntime) {
     let got = receive::<bool, _, 8>(rt.alloc(), In::new(&[2, 1], 1, Some(2)));
-    assert!(rt; got.answers.is_empty() && got.end == End::ReadFault);
+    check(&rt, got.answers.is_empty() && got.end == End::ReadFault);
 }
 
 /// Whether the next stretch is answered so, with so many bytes behind it.
 fn reads(alloc: Global, bytes: &mut [u8], wanted: Answer<bool>, behind: usize) -> bool {
     match read_in_place::<bool>(alloc, bytes) {
-        Some((answer, rest)) => answer == Ok(wanted) && rest.len() == behind,
+        Some((answer, rest)) => is_told(&answer, &wanted) && rest.len() == behind,
         None => false,
     }
 }
@@ -62,13 +56,13 @@ fn reads(alloc: Global, bytes: &mut [u8], wanted: Answer<bool>, behind: usize) -
 /// A stretch that isn't ended stays as it was.
 #[test]
 fn leaves_the_unfinished(rt: HostRuntime) {
+    let alloc = rt.alloc();
     let mut bytes = [0u8, 2, 1, 0, 3, 1];
-    assert!(rt;
-        reads(rt.alloc(), &mut bytes, Answer::Value(true), 2)
-            && reads(rt.alloc(), &mut bytes[4..], Answer::Cut, 0)
-            && bytes[3..] == [0, 3, 1]
-            && read_in_place::<bool>(rt.alloc(), &mut []).is_none()
-    );
+    check(&rt, reads(alloc, &mut bytes, Answer::Value(true), 2));
+    check(&rt, reads(alloc, &mut bytes[4..], Answer::Cut, 0));
+    check(&rt, are_bytes(&bytes[3..], &[0, 3, 1]));
+    let nothing = read_in_place::<bool>(alloc, &mut []);
+    check(&rt, nothing.is_none());
 }
 
 // What is answered to a stretch.
@@ -145,6 +139,17 @@ fn is_heard(alloc: Global, first: &[u8], last: &[u8], before: u8, behind: u8) ->
         && brings(alloc, &mut strict, last, true, behind, 1 - refused)
 }
 
+// How many values end in each of two pieces that the stream below is cut into.
+fn ends_by(cut: usize) -> (u8, u8) {
+    if cut <= 256 {
+        (0, 2)
+    } else if cut <= 512 {
+        (1, 1)
+    } else {
+        (2, 0)
+    }
+}
+
 #[test]
 fn either_frame_cut_anywhere(rt: HostRuntime) {
     let mut stream = [1u8; 513];
@@ -155,16 +160,10 @@ fn either_frame_cut_anywhere(rt: HostRuntime) {
     stream[258] = 252;
     stream[512] = 0;
     for cut in 0..514 {
-        let (before, behind) = match cut {
-            0..=256 => (0, 2),
-            257..=512 => (1, 1),
-            _ => (2, 0),
-        };
+        let (before, behind) = ends_by(cut);
         let (first, last) = stream.split_at(cut);
-        assert!(rt;
-            is_heard(rt.alloc(), first, last, before, behind),
-            "cut at {cut}"
-        );
+        let passed = is_heard(rt.alloc(), first, last, before, behind);
+        check(&rt, passed);
     }
 }
 
@@ -179,8 +178,8 @@ fn by_accumulator(rt: HostRuntime) {
     let line = [0u8, 3, 0, 3, 0xAC, 2, 0, 2, 5, 0, 3, 0xAC];
     for each in 1..12 {
         let reader = In::new(&line, each, None);
-        assert!(rt; gathers(rt.alloc(), reader, &[300, 5], End::Ended));
+        check(&rt, gathers(rt.alloc(), reader, &[300, 5], End::Ended));
     }
     let reader = In::new(&line, 3, Some(8));
-    assert!(rt; gathers(rt.alloc(), reader, &[300], End::ReadFault));
+    check(&rt, gathers(rt.alloc(), reader, &[300], End::ReadFault));
 }

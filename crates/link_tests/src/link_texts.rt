@@ -1,4 +1,5 @@
 //! `link`: the texts of what it answers.
+use crate::checks::check;
 use link::{Answer, End, Fate, NoMemory, SendError};
 use postcard::Error;
 use std::alloc::Global;
@@ -20,27 +21,24 @@ fn names(alloc: Global, value: &impl Debug, text: &str) -> bool {
     }
 }
 
+const REFUSED: SendError = SendError::Refused(Error::SerializeBufferFull);
+
 #[test]
 fn of_refusals(rt: HostRuntime) {
     let alloc = rt.alloc();
-    let refused = SendError::Refused(Error::SerializeBufferFull);
-    assert!(rt;
-        shows(alloc, &refused, "refused: The serialize buffer is full")
-            && shows(alloc, &SendError::Line, "line failed")
-            && shows(alloc, &NoMemory, "no memory")
-    );
+    let text = "refused: The serialize buffer is full";
+    check(&rt, shows(alloc, &REFUSED, text));
+    check(&rt, shows(alloc, &SendError::Line, "line failed"));
+    check(&rt, shows(alloc, &NoMemory, "no memory"));
 }
 
 #[test]
 fn by_debug(rt: HostRuntime) {
     let alloc = rt.alloc();
-    let cut: Answer<bool> = Answer::Cut;
-    assert!(rt;
-        names(alloc, &SendError::Line, "Line")
-            && names(alloc, &NoMemory, "NoMemory")
-            && names(alloc, &Fate::Broken, "Broken")
-            && names(alloc, &Answer::Value(true), "Value(true)")
-            && names(alloc, &cut, "Cut")
-            && names(alloc, &End::ReadFault, "ReadFault")
-    );
+    check(&rt, names(alloc, &SendError::Line, "Line"));
+    check(&rt, names(alloc, &NoMemory, "NoMemory"));
+    check(&rt, names(alloc, &Fate::Broken, "Broken"));
+    check(&rt, names(alloc, &Answer::Value(true), "Value(true)"));
+    check(&rt, names(alloc, &Answer::<bool>::Cut, "Cut"));
+    check(&rt, names(alloc, &End::ReadFault, "ReadFault"));
 }

@@ -2,6 +2,9 @@
 //!
 //! The tests whose names begin with `said` are also run with each growth refused in turn, by `.ci/refusals`. In the gate
 //! none is refused, and `whole_answers` passes too.
+ghost use Rattle.std.specs.Prelude.{◌<◌};
+
+use crate::checks::{are_bytes, are_fates, check, is_answer, is_told};
 use cobs::{CobsDecoderOwned, DecodeVecError};
 use line_io::memory::{In, Out};
 use link::{
@@ -19,71 +22,76 @@ use postcard::{
     to_stdvec, to_stdvec_cobs, to_stdvec_cobs_with_sentinel, to_vec, to_vec_cobs,
 };
 use samples::Chain;
-use std::alloc::AllocError;
+use std::alloc::{AllocError, Global};
 use std::collections::BTreeMap;
-use std::process::Abort;
 
-/// What was answered so far: how many calls found no memory.
+/// What was answered so far.
 #[derive(Drop)]
 struct Wants {
+    /// How many calls found no memory.
     count: usize,
+    /// Whether each other answer was the whole one.
+    are_whole: bool,
 }
 
 impl Wants {
+    fn new() -> Wants {
+        Wants {
+            count: 0,
+            are_whole: true,
+        }
+    }
+
     fn add(&mut self) {
         self.count = self.count.saturating_add(1);
     }
 
-    /// The value; nothing at want of memory, and no other refusal.
-    fn value<T: Drop>(&mut self, rt: &impl Abort, answer: postcard::Result<T>) -> Option<T> {
+    fn expect(&mut self, is_right: bool) {
+        self.are_whole = self.are_whole && is_right;
+    }
+
+    /// Whether no more calls than these found no memory, and the others are right.
+    fn are_at_most(&self, count: usize) -> bool {
+        self.are_whole && self.count <= count
+    }
+
+    /// The value; nothing at want of memory, which is this refusal, and no other refusal.
+    fn value<T: Drop, E: PartialEq + Drop>(&mut self, answer: Result<T, E>, want: E) -> Option<T> {
         match answer {
             Ok(value) => Some(value),
             Err(cause) => {
-                assert!(rt; cause == Error::OutOfMemory);
+                self.expect(cause == want);
                 self.add();
                 None
             }
         }
     }
 
-    /// These bytes, or want of memory.
-    fn bytes(&mut self, rt: &impl Abort, answer: Option<Vec<u8>>, whole: &[u8]) {
-        match answer {
-            Some(bytes) => assert!(rt; bytes.as_slice() == whole),
-            None => self.add(),
+    /// These bytes, or want of memory, which is this refusal.
+    fn bytes<E: PartialEq + Drop>(&mut self, answer: Result<Vec<u8>, E>, want: E, whole: &[u8]) {
+        if let Some(bytes) = self.value(answer, want) {
+            self.expect(are_bytes(&bytes, whole));
         }
     }
 
     /// These bytes, or want of memory, by a call of `postcard`.
-    fn written(&mut self, rt: &impl Abort, answer: postcard::Result<Vec<u8>>, whole: &[u8]) {
-        if let Some(bytes) = self.value(rt, answer) {
-            assert!(rt; bytes.as_slice() == whole);
-        }
+    fn written(&mut self, answer: postcard::Result<Vec<u8>>, whole: &[u8]) {
+        self.bytes(answer, Error::OutOfMemory, whole);
     }
 
-    /// These bytes, or want of memory, by a call of `cobs` that decodes.
-    fn decoded(&mut self, rt: &impl Abort, answer: Result<Vec<u8>, DecodeVecError>, whole: &[u8]) {
-        match answer {
-            Ok(bytes) => assert!(rt; bytes.as_slice() == whole),
-            Err(cause) => {
-                assert!(rt; cause == DecodeVecError::OutOfMemory);
-                self.add();
-            }
+    /// The vector of a 7, or want of memory.
+    fn told(&mut self, answer: Result<Answer<Vec<u8>>, NoMemory>) {
+        if let Some(answer) = self.value(answer, NoMemory) {
+            self.expect(is_vector(&answer, 7));
         }
     }
+}
 
-    /// This value of a frame, or want of memory.
-    fn answered(
-        &mut self,
-        rt: &impl Abort,
-        answer: Result<Option<Answer<Vec<u8>>>, NoMemory>,
-        whole: &[u8],
-    ) {
-        match answer {
-            Ok(Some(Answer::Value(bytes))) => assert!(rt; bytes.as_slice() == whole),
-            Ok(_) => assert!(rt; false),
-            Err(NoMemory) => self.add(),
-        }
+// Whether an answer is the vector of this byte.
+fn is_vector(answer: &Answer<Vec<u8>>, byte: u8) -> bool {
+    match answer {
+        Answer::Value(bytes) => are_bytes(bytes, &[byte]),
+        _ => false,
     }
 }
 
@@ -91,86 +99,83 @@ impl Wants {
 const MESSAGE: [u8; 4] = [10, 11, 0, 12];
 
 /// The vector forms of `cobs` that encode.
-fn encode<R: AllocGlobal + Abort>(rt: &R, wants: &mut Wants) {
-    let alloc = rt.alloc();
-    let plain = cobs::encode_vec(alloc, &MESSAGE).ok();
-    wants.bytes(rt, plain, &[3, 10, 11, 2, 12]);
-    let between = cobs::encode_vec_including_sentinels(alloc, &MESSAGE).ok();
-    wants.bytes(rt, between, &[0, 3, 10, 11, 2, 12, 0]);
-    let masked = cobs::encode_vec_with_sentinel(alloc, &MESSAGE, 10).ok();
-    wants.bytes(rt, masked, &[9, 0, 1, 8, 6]);
+fn encode(alloc: Global, wants: &mut Wants) {
+    let plain = cobs::encode_vec(alloc, &MESSAGE);
+    wants.bytes(plain, AllocError, &[3, 10, 11, 2, 12]);
+    let between = cobs::encode_vec_including_sentinels(alloc, &MESSAGE);
+    wants.bytes(between, AllocError, &[0, 3, 10, 11, 2, 12, 0]);
+    let masked = cobs::encode_vec_with_sentinel(alloc, &MESSAGE, 10);
+    wants.bytes(masked, AllocError, &[9, 0, 1, 8, 6]);
 }
 
 /// The vector forms of `cobs` that decode.
-fn decode<R: AllocGlobal + Abort>(rt: &R, wants: &mut Wants) {
-    let alloc = rt.alloc();
-    wants.decoded(rt, cobs::decode_vec(alloc, &[3, 10, 11, 2, 12]), &MESSAGE);
+fn decode(alloc: Global, wants: &mut Wants) {
+    let plain = cobs::decode_vec(alloc, &[3, 10, 11, 2, 12]);
+    wants.bytes(plain, DecodeVecError::OutOfMemory, &MESSAGE);
     let unmasked = cobs::decode_vec_with_sentinel(alloc, &[9, 0, 1, 8, 6], 10);
-    wants.decoded(rt, unmasked, &MESSAGE);
+    wants.bytes(unmasked, DecodeVecError::OutOfMemory, &MESSAGE);
+}
+
+// Whether a decoder that owns three bytes fills one of them by this frame of a 7.
+fn fills_one(decoder: &mut CobsDecoderOwned, frame: &[u8]) -> bool {
+    are_bytes(decoder.dest(), &[0, 0, 0])
+        && decoder.push(frame).is_ok()
+        && are_bytes(decoder.dest(), &[7, 0, 0])
 }
 
 impl Wants {
     /// A decoder that owns three bytes, and fills one of them by this frame of a 7; or want of memory.
-    fn owned(
-        &mut self,
-        rt: &impl Abort,
-        decoder: Result<CobsDecoderOwned, AllocError>,
-        frame: &[u8],
-    ) {
-        match decoder {
-            Ok(mut decoder) => {
-                assert!(rt;
-                    decoder.dest() == [0, 0, 0].as_slice()
-                        && decoder.push(frame).is_ok()
-                        && decoder.dest() == [7, 0, 0].as_slice()
-                );
-            }
-            Err(AllocError) => self.add(),
+    fn owned(&mut self, decoder: Result<CobsDecoderOwned, AllocError>, frame: &[u8]) {
+        if let Some(mut decoder) = self.value(decoder, AllocError) {
+            self.expect(fills_one(&mut decoder, frame));
         }
     }
 }
 
-/// The decoder of `cobs` that owns its room.
-fn own<R: AllocGlobal + Abort>(rt: &R, wants: &mut Wants) {
-    wants.owned(rt, CobsDecoderOwned::new(rt.alloc(), 3), &[2, 7, 0]);
+/// Frames of `cobs`, and its decoder that owns its room.
+fn frame(alloc: Global, wants: &mut Wants) {
+    encode(alloc, wants);
+    decode(alloc, wants);
+    wants.owned(CobsDecoderOwned::new(alloc, 3), &[2, 7, 0]);
 }
 
-/// Frames of `cobs`.
-fn frame<R: AllocGlobal + Abort>(rt: &R, wants: &mut Wants) {
-    encode(rt, wants);
-    decode(rt, wants);
-    own(rt, wants);
-}
+// The tuple (1, 10, "Hello!").
+const WHOLE: [u8; 9] = [1, 10, 6, 0x48, 0x65, 0x6C, 0x6C, 0x6F, 0x21];
+
+// The frame of "Hi!".
+const FRAMED: [u8; 6] = [5, 3, 0x48, 0x69, 0x21, 0];
+
+const ONES: [u8; 40] = [1; 40];
+
+// The message of forty ones.
+const LONG: [u8; 41] = [
+    40, 1, 1, 1, 1, 1, 1, 1, 1, 1, 1, 1, 1, 1, 1, 1, 1, 1, 1, 1, 1, 1, 1, 1, 1, 1, 1, 1, 1, 1, 1,
+    1, 1, 1, 1, 1, 1, 1, 1, 1, 1,
+];
 
 /// Calls that write into a vector.
-fn write<R: AllocGlobal + Abort>(rt: &R, wants: &mut Wants) {
-    let alloc = rt.alloc();
+fn write(alloc: Global, wants: &mut Wants) {
     let value = (1u8, 10u32, "Hello!");
-    let whole = [1u8, 10, 6, 0x48, 0x65, 0x6C, 0x6C, 0x6F, 0x21];
-    wants.written(rt, to_allocvec(alloc, &value), &whole);
-    wants.written(rt, to_stdvec(alloc, &value), &whole);
-    wants.written(rt, to_extend(&value, Vec::new(alloc)), &whole);
-    let framed = [5u8, 3, 0x48, 0x69, 0x21, 0];
-    wants.written(rt, to_allocvec_cobs(alloc, &"Hi!"), &framed);
-    wants.written(rt, to_stdvec_cobs(alloc, &"Hi!"), &framed);
-    let ones = [1u8; 40];
-    let mut long = [1u8; 41];
-    long[0] = 40;
-    wants.written(rt, to_allocvec(alloc, &&ones[..]), &long);
-    wants.written(rt, to_extend(&&ones[..], Vec::new(alloc)), &long);
+    wants.written(to_allocvec(alloc, &value), &WHOLE);
+    wants.written(to_stdvec(alloc, &value), &WHOLE);
+    wants.written(to_extend(&value, Vec::new(alloc)), &WHOLE);
+    wants.written(to_allocvec_cobs(alloc, &"Hi!"), &FRAMED);
+    wants.written(to_stdvec_cobs(alloc, &"Hi!"), &FRAMED);
+    let ones = ONES.as_slice();
+    wants.written(to_allocvec(alloc, &ones), &LONG);
+    wants.written(to_extend(&ones, Vec::new(alloc)), &LONG);
 }
 
 /// A text, bytes and a box.
-fn read_parts<R: AllocGlobal + Abort>(rt: &R, wants: &mut Wants) {
-    let alloc = rt.alloc();
-    if let Some(text) = wants.value(rt, from_bytes::<String>(alloc, &[3, 0x48, 0x69, 0x21])) {
-        assert!(rt; text.as_str() == "Hi!");
+fn read_parts(alloc: Global, wants: &mut Wants) {
+    let text = from_bytes::<String>(alloc, &[3, 0x48, 0x69, 0x21]);
+    if let Some(text) = wants.value(text, Error::OutOfMemory) {
+        wants.expect(text.as_str() == "Hi!");
     }
-    let mut long = [1u8; 41];
-    long[0] = 40;
-    wants.written(rt, from_bytes::<Vec<u8>>(alloc, &long), &[1; 40]);
-    if let Some(boxed) = wants.value(rt, from_bytes::<Box<u8>>(alloc, &[7])) {
-        assert!(rt; *boxed == 7);
+    wants.written(from_bytes::<Vec<u8>>(alloc, &LONG), &ONES);
+    let boxed = from_bytes::<Box<u8>>(alloc, &[7]);
+    if let Some(boxed) = wants.value(boxed, Error::OutOfMemory) {
+        wants.expect(*boxed == 7);
     }
 }
 
@@ -180,106 +185,118 @@ fn is_the_map(map: &BTreeMap<u8, u8>) -> bool {
 }
 
 /// A map.
-fn read_map<R: AllocGlobal + Abort>(rt: &R, wants: &mut Wants) {
-    let read = from_bytes::<BTreeMap<u8, u8>>(rt.alloc(), &[2, 2, 6, 1, 5]);
-    if let Some(map) = wants.value(rt, read) {
-        assert!(rt; is_the_map(&map));
+fn read_map(alloc: Global, wants: &mut Wants) {
+    let read = from_bytes::<BTreeMap<u8, u8>>(alloc, &[2, 2, 6, 1, 5]);
+    if let Some(map) = wants.value(read, Error::OutOfMemory) {
+        wants.expect(is_the_map(&map));
+    }
+}
+
+// A chain of 7 and 8.
+const CHAIN: [u8; 5] = [1, 7, 1, 8, 0];
+
+// Whether a chain is written as that one.
+fn is_the_chain(chain: &Chain) -> bool {
+    match to_vec::<_, 8>(chain) {
+        Ok(written) => are_bytes(written.as_slice(), &CHAIN),
+        Err(_) => false,
     }
 }
 
 /// A value that holds itself.
-fn read_chain<R: AllocGlobal + Abort>(rt: &R, wants: &mut Wants) {
-    let bytes = [1u8, 7, 1, 8, 0];
-    if let Some(chain) = wants.value(rt, from_bytes::<Chain>(rt.alloc(), &bytes)) {
-        let written = to_vec::<_, 8>(&chain);
-        assert!(rt; matches!(&written, Ok(written) if written.as_slice() == bytes.as_slice()));
+fn read_chain(alloc: Global, wants: &mut Wants) {
+    let read = from_bytes::<Chain>(alloc, &CHAIN);
+    if let Some(chain) = wants.value(read, Error::OutOfMemory) {
+        wants.expect(is_the_chain(&chain));
     }
 }
 
-/// Values that ask for memory.
-fn read<R: AllocGlobal + Abort>(rt: &R, wants: &mut Wants) {
-    read_parts(rt, wants);
-    read_map(rt, wants);
-    read_chain(rt, wants);
-}
+// The frame of the vector of a 7, and a byte more.
+const SEVEN: [u8; 5] = [3, 1, 7, 0, 9];
 
 /// A frame of a value that asks for memory.
-fn read_frame<R: AllocGlobal + Abort>(rt: &R, wants: &mut Wants) {
-    let mut line = [3u8, 1, 7, 0, 9];
-    wants.written(rt, from_bytes_cobs::<Vec<u8>>(rt.alloc(), &mut line), &[7]);
+fn read_frame(alloc: Global, wants: &mut Wants) {
+    let mut line = SEVEN;
+    wants.written(from_bytes_cobs(alloc, &mut line), &[7]);
 }
 
 /// As above, with the bytes behind it.
-fn take_frame<R: AllocGlobal + Abort>(rt: &R, wants: &mut Wants) {
-    let mut line = [3u8, 1, 7, 0, 9];
-    let taken = take_from_bytes_cobs::<Vec<u8>>(rt.alloc(), &mut line);
-    if let Some((bytes, rest)) = wants.value(rt, taken) {
-        assert!(rt; bytes.as_slice() == [7].as_slice() && rest.len() == 1);
+fn take_frame(alloc: Global, wants: &mut Wants) {
+    let mut line = SEVEN;
+    let taken = take_from_bytes_cobs::<Vec<u8>>(alloc, &mut line);
+    if let Some((bytes, rest)) = wants.value(taken, Error::OutOfMemory) {
+        wants.expect(rest.len() == 1 && are_bytes(&bytes, &[7]));
     }
 }
 
 /// As above, by `link`.
-fn read_stretch<R: AllocGlobal + Abort>(rt: &R, wants: &mut Wants) {
-    let mut line = [3u8, 1, 7, 0, 9];
-    match read_in_place::<Vec<u8>>(rt.alloc(), &mut line) {
+fn read_stretch(alloc: Global, wants: &mut Wants) {
+    let mut line = SEVEN;
+    match read_in_place::<Vec<u8>>(alloc, &mut line) {
         Some((answer, rest)) => {
-            assert!(rt; rest.len() == 1);
-            wants.answered(rt, answer.map(Some), &[7]);
+            wants.expect(rest.len() == 1);
+            wants.told(answer);
         }
-        None => assert!(rt; false),
+        None => wants.expect(false),
     }
 }
 
 /// Values that ask for memory, and frames of such values.
-fn read_all<R: AllocGlobal + Abort>(rt: &R, wants: &mut Wants) {
-    read(rt, wants);
-    read_frame(rt, wants);
-    take_frame(rt, wants);
-    read_stretch(rt, wants);
+fn read_all(alloc: Global, wants: &mut Wants) {
+    read_parts(alloc, wants);
+    read_map(alloc, wants);
+    read_chain(alloc, wants);
+    read_frame(alloc, wants);
+    take_frame(alloc, wants);
+    read_stretch(alloc, wants);
 }
 
+// Two frames: the vectors of a 7 and of an 8.
+const PAIR: [u8; 8] = [3, 1, 7, 0, 3, 1, 8, 0];
+
 /// An accumulator answers a frame by `DeserError` where no memory is found, and goes on behind it.
-fn feed<R: AllocGlobal + Abort>(rt: &R, wants: &mut Wants) {
+fn feed(alloc: Global, wants: &mut Wants) {
     let mut accumulator: CobsAccumulator<8> = CobsAccumulator::new();
-    let line = [3u8, 1, 7, 0, 3, 1, 8, 0];
-    wants.fed(rt, accumulator.feed(rt.alloc(), &line), 4, 7);
-    wants.fed(rt, accumulator.feed(rt.alloc(), &line[4..]), 0, 8);
+    wants.fed(accumulator.feed(alloc, &PAIR), 4, 7);
+    wants.fed(accumulator.feed(alloc, &PAIR[4..]), 0, 8);
 }
 
 impl Wants {
     /// A vector of this byte with so many bytes behind it, or want of memory with as many.
-    fn fed(&mut self, rt: &impl Abort, answer: FeedResult<'_, Vec<u8>>, left: usize, byte: u8) {
+    fn fed(&mut self, answer: FeedResult<'_, Vec<u8>>, left: usize, byte: u8) {
         match answer {
             FeedResult::Success { value, remaining } => {
-                assert!(rt; value.as_slice() == [byte].as_slice() && remaining.len() == left);
+                self.expect(remaining.len() == left && are_bytes(&value, &[byte]));
             }
             FeedResult::DeserError(remaining) => {
-                assert!(rt; remaining.len() == left);
+                self.expect(remaining.len() == left);
                 self.add();
             }
-            _ => assert!(rt; false),
+            _ => self.expect(false),
         }
     }
 }
 
 /// A receiver is between stretches behind a frame for which no memory was found, and goes on.
-fn push<R: AllocGlobal + Abort>(rt: &R, wants: &mut Wants) {
-    let line = [3u8, 1, 7, 0, 3, 1, 8, 0];
+fn push(alloc: Global, wants: &mut Wants) {
     let mut receiver = Receiver::<8>::new();
-    wants.pushed(rt, receiver.push(rt.alloc(), &line), 7);
-    assert!(rt; receiver.is_between());
-    wants.pushed(rt, receiver.push(rt.alloc(), &line[4..]), 8);
-    assert!(rt; receiver.is_between());
-    wants.pushed(rt, receiver.push_strict(rt.alloc(), &line), 7);
-    assert!(rt; receiver.is_between());
+    wants.pushed(receiver.push(alloc, &PAIR), 7);
+    wants.expect(receiver.is_between());
+    wants.pushed(receiver.push(alloc, &PAIR[4..]), 8);
+    wants.expect(receiver.is_between());
+    wants.pushed(receiver.push_strict(alloc, &PAIR), 7);
+    wants.expect(receiver.is_between());
 }
 
 impl Wants {
     /// Four bytes were used, for a vector of this byte or want of memory.
-    fn pushed(&mut self, rt: &impl Abort, pushed: Pushed<Vec<u8>>, byte: u8) {
-        let Pushed { used, answer } = pushed;
-        assert!(rt; used == 4);
-        self.answered(rt, answer, &[byte]);
+    fn pushed(&mut self, pushed: Pushed<Vec<u8>>, byte: u8) {
+        self.expect(pushed.used == 4);
+        match pushed.answer {
+            Ok(Some(answer)) => self.expect(is_vector(&answer, byte)),
+            Ok(None) => self.expect(false),
+            Err(NoMemory) => self.add(),
+        }
     }
 }
 
@@ -289,27 +306,32 @@ const LINE: [u8; 24] = [
 ];
 
 impl Wants {
-    /// All six values, or the first ones and want of memory.
-    fn received(&mut self, rt: &impl Abort, got: Received<Vec<u8>, In<'_>>) {
-        assert!(rt; are_first(&got.answers));
-        if got.answers.len() == 6 {
-            assert!(rt; got.end == End::Ended);
+    /// What was heard to the end if it is whole, and else until want of memory.
+    fn ended(&mut self, end: End, is_whole: bool) {
+        if is_whole {
+            self.expect(end == End::Ended);
         } else {
-            assert!(rt; got.end == End::NoMemory);
+            self.expect(end == End::NoMemory);
             self.add();
         }
     }
 
+    /// All six values, or the first ones and want of memory.
+    fn received(&mut self, got: Received<Vec<u8>, In<'_>>) {
+        self.expect(are_first(&got.answers));
+        self.ended(got.end, got.answers.len() == 6);
+    }
+
     /// The six values, but that one may be left out; or the first ones and want of memory.
-    fn gathered(&mut self, rt: &impl Abort, got: Gathered<Vec<u8>, In<'_>>) {
+    fn gathered(&mut self, got: Gathered<Vec<u8>, In<'_>>) {
+        let count = got.values.len();
         let last = greatest(&got.values);
-        assert!(rt; last.is_some());
         match got.end {
-            End::Ended => assert!(rt; got.values.len() >= 5),
-            End::NoMemory => assert!(rt; last == Some(got.values.len())),
-            End::ReadFault => assert!(rt; false),
+            End::Ended => self.expect(last.is_some() && 5 <= count),
+            End::NoMemory => self.expect(last == Some(count)),
+            End::ReadFault => self.expect(false),
         }
-        if got.values.len() < 6 {
+        if count < 6 {
             self.add();
         }
     }
@@ -319,9 +341,8 @@ impl Wants {
 fn are_first(answers: &[Answer<Vec<u8>>]) -> bool {
     let mut next = 1u8;
     for answer in answers {
-        match answer {
-            Answer::Value(bytes) if bytes.as_slice() == [next].as_slice() => {}
-            _ => return false,
+        if !is_vector(answer, next) {
+            return false;
         }
         next = next.saturating_add(1);
     }
@@ -340,20 +361,13 @@ fn greatest(values: &[Vec<u8>]) -> Option<usize> {
     Some(usize::from(last))
 }
 
-/// Receptions to the end, in pieces of some sizes.
-fn listen<R: AllocGlobal + Abort>(rt: &R, wants: &mut Wants) {
-    for each in [1, 7, 24] {
-        let alloc = rt.alloc();
-        wants.received(rt, receive::<_, _, 8>(alloc, In::new(&LINE, each, None)));
-        wants.received(
-            rt,
-            receive_strict::<_, _, 8>(alloc, In::new(&LINE, each, None)),
-        );
-        wants.gathered(
-            rt,
-            receive_by_accumulator::<_, _, 8>(alloc, In::new(&LINE, each, None)),
-        );
-    }
+/// Receptions to the end, in pieces of this size.
+fn listen(alloc: Global, wants: &mut Wants, each: usize)
+    requires { 0 < each }
+{
+    wants.received(receive::<_, _, 8>(alloc, In::new(&LINE, each, None)));
+    wants.received(receive_strict::<_, _, 8>(alloc, In::new(&LINE, each, None)));
+    wants.gathered(receive_by_accumulator::<_, _, 8>(alloc, In::new(&LINE, each, None)));
 }
 
 // The same six frames where the line's mark is FF.
@@ -362,283 +376,219 @@ const MARKED: [u8; 24] = [
     255, 252, 254, 249, 255,
 ];
 
-/// Calls that write for a line whose mark is FF.
-fn write_marked<R: AllocGlobal + Abort>(rt: &R, wants: &mut Wants) {
-    let alloc = rt.alloc();
-    // 5, 3, "Hi!", 0
-    let framed = [0xFAu8, 0xFC, 0xB7, 0x96, 0xDE, 0xFF];
-    wants.written(
-        rt,
-        to_allocvec_cobs_with_sentinel(alloc, &"Hi!", 0xFF),
-        &framed,
-    );
-    wants.written(
-        rt,
-        to_stdvec_cobs_with_sentinel(alloc, &"Hi!", 0xFF),
-        &framed,
-    );
-}
+// 5, 3, "Hi!", 0 for such a line
+const HI_MARKED: [u8; 6] = [0xFA, 0xFC, 0xB7, 0x96, 0xDE, 0xFF];
 
-/// The decoder that owns its room, of such a line.
-fn own_marked<R: AllocGlobal + Abort>(rt: &R, wants: &mut Wants) {
-    let decoder = CobsDecoderOwned::new_with_sentinel(rt.alloc(), 3, 0xFF);
-    wants.owned(rt, decoder, &[0xFD, 0xF8, 0xFF]);
+/// Calls that write for such a line, and the decoder that owns its room.
+fn write_marked(alloc: Global, wants: &mut Wants) {
+    let framed = to_allocvec_cobs_with_sentinel(alloc, &"Hi!", 0xFF);
+    wants.written(framed, &HI_MARKED);
+    let framed = to_stdvec_cobs_with_sentinel(alloc, &"Hi!", 0xFF);
+    wants.written(framed, &HI_MARKED);
+    let decoder = CobsDecoderOwned::new_with_sentinel(alloc, 3, 0xFF);
+    wants.owned(decoder, &[0xFD, 0xF8, 0xFF]);
 }
 
 // 3, 1, 7, 0, and a byte more
-const ONE_MARKED: [u8; 5] = [0xFC, 0xFE, 0xF8, 0xFF, 9];
+const SEVEN_MARKED: [u8; 5] = [0xFC, 0xFE, 0xF8, 0xFF, 9];
 
 /// A frame of such a line.
-fn read_marked<R: AllocGlobal + Abort>(rt: &R, wants: &mut Wants) {
-    let alloc = rt.alloc();
-    let mut line = ONE_MARKED;
-    wants.written(
-        rt,
-        from_bytes_cobs_with_sentinel(alloc, &mut line, 0xFF),
-        &[7],
-    );
+fn read_marked(alloc: Global, wants: &mut Wants) {
+    let mut line = SEVEN_MARKED;
+    wants.written(from_bytes_cobs_with_sentinel(alloc, &mut line, 0xFF), &[7]);
 }
 
 /// As above, with the bytes behind it.
-fn take_marked<R: AllocGlobal + Abort>(rt: &R, wants: &mut Wants) {
-    let mut line = ONE_MARKED;
-    let taken = take_from_bytes_cobs_with_sentinel::<Vec<u8>>(rt.alloc(), &mut line, 0xFF);
-    if let Some((bytes, rest)) = wants.value(rt, taken) {
-        assert!(rt; bytes.as_slice() == [7].as_slice() && rest.len() == 1);
+fn take_marked(alloc: Global, wants: &mut Wants) {
+    let mut line = SEVEN_MARKED;
+    let taken = take_from_bytes_cobs_with_sentinel::<Vec<u8>>(alloc, &mut line, 0xFF);
+    if let Some((bytes, rest)) = wants.value(taken, Error::OutOfMemory) {
+        wants.expect(rest.len() == 1 && are_bytes(&bytes, &[7]));
     }
 }
 
-/// A frame of such a line where it lies.
-fn read_marked_in_place<R: AllocGlobal + Abort>(rt: &R, wants: &mut Wants) {
-    let mut line = ONE_MARKED;
-    match read_in_place_with_sentinel::<Vec<u8>>(rt.alloc(), &mut line, 0xFF) {
+/// As above, by `link`.
+fn read_marked_in_place(alloc: Global, wants: &mut Wants) {
+    let mut line = SEVEN_MARKED;
+    match read_in_place_with_sentinel::<Vec<u8>>(alloc, &mut line, 0xFF) {
         Some((answer, rest)) => {
-            assert!(rt; rest.len() == 1);
-            wants.answered(rt, answer.map(Some), &[7]);
+            wants.expect(rest.len() == 1);
+            wants.told(answer);
         }
-        None => assert!(rt; false),
+        None => wants.expect(false),
     }
-}
-
-/// All calls for such a line but those that receive.
-fn mark<R: AllocGlobal + Abort>(rt: &R, wants: &mut Wants) {
-    write_marked(rt, wants);
-    own_marked(rt, wants);
-    read_marked(rt, wants);
-    take_marked(rt, wants);
-    read_marked_in_place(rt, wants);
 }
 
 /// Receptions of such a line.
-fn listen_for_mark<R: AllocGlobal + Abort>(rt: &R, wants: &mut Wants) {
-    let alloc = rt.alloc();
-    let got = receive_with_sentinel::<_, _, 8>(alloc, In::new(&MARKED, 7, None), 0xFF);
-    wants.received(rt, got);
-    let got = receive_strict_with_sentinel::<_, _, 8>(alloc, In::new(&MARKED, 7, None), 0xFF);
-    wants.received(rt, got);
-    let from = In::new(&MARKED, 7, None);
-    wants.gathered(
-        rt,
-        receive_by_accumulator_with_sentinel::<_, _, 8>(alloc, from, 0xFF),
-    );
+fn listen_for_mark(alloc: Global, wants: &mut Wants) {
+    let line = In::new(&MARKED, 7, None);
+    wants.received(receive_with_sentinel::<_, _, 8>(alloc, line, 0xFF));
+    let line = In::new(&MARKED, 7, None);
+    wants.received(receive_strict_with_sentinel::<_, _, 8>(alloc, line, 0xFF));
+    let line = In::new(&MARKED, 7, None);
+    wants.gathered(receive_by_accumulator_with_sentinel::<_, _, 8>(alloc, line, 0xFF));
 }
 
 /// Receptions with a limit that is a value.
-fn listen_owned<R: AllocGlobal + Abort>(rt: &R, wants: &mut Wants) {
-    let alloc = rt.alloc();
-    wants.received(rt, receive_owned(alloc, In::new(&MARKED, 7, None), 8, 0xFF));
-    wants.received(
-        rt,
-        receive_owned_strict(alloc, In::new(&LINE, 7, None), 8, 0),
-    );
+fn listen_owned(alloc: Global, wants: &mut Wants) {
+    wants.received(receive_owned(alloc, In::new(&MARKED, 7, None), 8, 0xFF));
+    wants.received(receive_owned_strict(alloc, In::new(&LINE, 7, None), 8, 0));
 }
 
 impl Wants {
     /// These answers, or the first of them and want of memory.
-    fn heard<T: PartialEq + Drop>(
-        &mut self,
-        rt: &impl Abort,
-        got: Received<T, In<'_>>,
-        whole: &[Answer<T>],
-    ) {
-        match got.end {
-            End::Ended => assert!(rt; got.answers.as_slice() == whole),
-            End::NoMemory => {
-                assert!(rt; got.answers.len() < whole.len() && whole.starts_with(&got.answers));
-                self.add();
-            }
-            End::ReadFault => assert!(rt; false),
-        }
+    fn heard<T: PartialEq + Drop>(&mut self, got: Received<T, In<'_>>, whole: &[Answer<T>]) {
+        self.expect(whole.starts_with(&got.answers));
+        self.ended(got.end, got.answers.len() == whole.len());
     }
 }
 
 /// Short lines, by a receiver whose limit is a value.
-fn own_short<R: AllocGlobal + Abort>(rt: &R, wants: &mut Wants) {
-    let alloc = rt.alloc();
+fn own_short(alloc: Global, wants: &mut Wants) {
     let line = [5u8, 1, 1, 1, 1, 0, 2, 1, 0];
     let got = receive_owned::<bool, _>(alloc, In::new(&line, 2, None), 3, 0);
-    wants.heard(rt, got, &[Answer::TooLong, Answer::Value(true)]);
+    wants.heard(got, &[Answer::TooLong, Answer::Value(true)]);
     let got = receive_owned::<(), _>(alloc, In::new(&[1, 0], 2, None), 0, 0);
-    wants.heard(rt, got, &[Answer::TooLong]);
+    wants.heard(got, &[Answer::TooLong]);
     let got = receive_owned::<(), _>(alloc, In::new(&[1, 0], 2, None), 1, 0);
-    wants.heard(rt, got, &[Answer::Value(())]);
+    wants.heard(got, &[Answer::Value(())]);
 }
 
 // 1018 letters, whose frame has 1025 bytes.
 const LETTERS: [u8; 1018] = [b'a'; 1018];
 
-/// Their text as it is sent; nothing if it isn't.
-fn long_line() -> Option<[u8; 1027]> {
+/// Whether their text is sent, and fills this room.
+fn fills(room: &mut [u8; 1027]) -> bool {
     let text = str::from_utf8(&LETTERS).unwrap_or("");
-    let mut room = [0u8; 1027];
-    let mut sender = Sender::<_, 1025>::new(Out::new(&mut room, 1027, None));
-    if sender.send(&text).is_ok() && sender.into_inner().moved() == 1027 {
-        Some(room)
-    } else {
-        None
-    }
+    let mut sender = Sender::<_, 1025>::new(Out::new(room, 1027, None));
+    let sent = sender.send(&text);
+    let count = sender.into_inner().moved();
+    sent.is_ok() && count == 1027
 }
 
-/// That text, within the limit and past it.
-fn own_long<R: AllocGlobal + Abort>(rt: &R, wants: &mut Wants) {
-    let alloc = rt.alloc();
-    let Some(line) = long_line() else {
-        return assert!(rt; false);
-    };
-    let line = line.as_slice();
-    wants.text(
-        rt,
-        receive_owned(alloc, In::new(line, 500, None), 1025, 0),
-        true,
-    );
-    wants.text(
-        rt,
-        receive_owned(alloc, In::new(line, 500, None), 1024, 0),
-        false,
-    );
-    wants.text(
-        rt,
-        receive_owned_strict(alloc, In::new(line, 500, None), 1025, 0),
-        true,
-    );
-    wants.text(
-        rt,
-        receive_owned_strict(alloc, In::new(line, 500, None), 1024, 0),
-        false,
-    );
+/// The line of that text, by a receiver with this limit, within which the text fits or not.
+fn own_long(alloc: Global, wants: &mut Wants, line: &[u8], limit: usize, fits: bool) {
+    let got = receive_owned(alloc, In::new(line, 500, None), limit, 0);
+    wants.text(got, fits);
+    let got = receive_owned_strict(alloc, In::new(line, 500, None), limit, 0);
+    wants.text(got, fits);
 }
 
 impl Wants {
     /// One answer: the letters if they fit, and else that they are too long; or none and want of memory.
-    fn text(&mut self, rt: &impl Abort, got: Received<String, In<'_>>, fits: bool) {
-        if got.end == End::NoMemory {
-            assert!(rt; got.answers.is_empty());
-            self.add();
-        } else {
-            assert!(rt; got.end == End::Ended && is_long(&got.answers, fits));
-        }
+    fn text(&mut self, got: Received<String, In<'_>>, fits: bool) {
+        let is_one = !got.answers.is_empty();
+        self.ended(got.end, is_one);
+        self.expect(!is_one || is_long(&got.answers, fits));
     }
 }
 
 // Whether the one answer is the letters, or that they are too long.
 fn is_long(answers: &[Answer<String>], fits: bool) -> bool {
     match answers {
-        [Answer::Value(text)] => fits && text.as_bytes() == LETTERS.as_slice(),
+        [Answer::Value(text)] => fits && are_bytes(text.as_bytes(), &LETTERS),
         [Answer::TooLong] => !fits,
         _ => false,
     }
 }
 
 /// A limit that can't be raised stays as it is.
-fn raise<R: AllocGlobal + Abort>(rt: &R, wants: &mut Wants) {
-    let Ok(mut receiver) = OwnedReceiver::new(rt.alloc(), 1, 0) else {
-        wants.add();
-        return;
+fn raise(alloc: Global, wants: &mut Wants) {
+    let Ok(mut receiver) = OwnedReceiver::new(alloc, 1, 0) else {
+        return wants.add();
     };
-    match receiver.set_limit(64) {
-        Ok(()) => assert!(rt; receiver.limit() == 64),
-        Err(NoMemory) => {
-            assert!(rt; receiver.limit() == 1);
-            wants.add();
-        }
+    if receiver.set_limit(64).is_ok() {
+        wants.expect(receiver.limit() == 64);
+    } else {
+        wants.expect(receiver.limit() == 1);
+        wants.add();
     }
-    let pushed = receiver.push::<()>(rt.alloc(), &[1, 0]);
-    assert!(rt; pushed.answer == Ok(Some(Answer::Value(()))));
+    let pushed = receiver.push::<()>(alloc, &[1, 0]);
+    wants.expect(is_answer(&pushed.answer, &Answer::Value(())));
 }
 
 /// Receivers whose limit is a value.
-fn own_values<R: AllocGlobal + Abort>(rt: &R, wants: &mut Wants) {
-    listen_owned(rt, wants);
-    own_short(rt, wants);
-    own_long(rt, wants);
-    raise(rt, wants);
+fn own_values(alloc: Global, wants: &mut Wants) {
+    listen_owned(alloc, wants);
+    own_short(alloc, wants);
+    let mut line = [0u8; 1027];
+    wants.expect(fills(&mut line));
+    own_long(alloc, wants, &line, 1025, true);
+    own_long(alloc, wants, &line, 1024, false);
+    raise(alloc, wants);
 }
 
-/// All calls that receive frames of a line whose mark is zero.
-fn receive_all<R: AllocGlobal + Abort>(rt: &R, wants: &mut Wants) {
-    feed(rt, wants);
-    push(rt, wants);
-    listen(rt, wants);
+/// All calls that receive frames of a line whose mark is zero, to the end in pieces of some sizes.
+fn receive_all(alloc: Global, wants: &mut Wants) {
+    feed(alloc, wants);
+    push(alloc, wants);
+    listen(alloc, wants, 1);
+    listen(alloc, wants, 7);
+    listen(alloc, wants, 24);
 }
 
 /// All calls for a line whose mark is FF.
-fn mark_all<R: AllocGlobal + Abort>(rt: &R, wants: &mut Wants) {
-    mark(rt, wants);
-    listen_for_mark(rt, wants);
+fn mark_all(alloc: Global, wants: &mut Wants) {
+    write_marked(alloc, wants);
+    read_marked(alloc, wants);
+    take_marked(alloc, wants);
+    read_marked_in_place(alloc, wants);
+    listen_for_mark(alloc, wants);
 }
 
 #[test]
 fn said_by_frames(rt: HostRuntime) {
-    let mut wants = Wants { count: 0 };
-    frame(&rt, &mut wants);
-    assert!(rt; wants.count <= 1);
+    let mut wants = Wants::new();
+    frame(rt.alloc(), &mut wants);
+    check(&rt, wants.are_at_most(1));
 }
 
 #[test]
 fn said_by_writing(rt: HostRuntime) {
-    let mut wants = Wants { count: 0 };
-    write(&rt, &mut wants);
-    assert!(rt; wants.count <= 1);
+    let mut wants = Wants::new();
+    write(rt.alloc(), &mut wants);
+    check(&rt, wants.are_at_most(1));
 }
 
 #[test]
 fn said_by_reading(rt: HostRuntime) {
-    let mut wants = Wants { count: 0 };
-    read_all(&rt, &mut wants);
-    assert!(rt; wants.count <= 1);
+    let mut wants = Wants::new();
+    read_all(rt.alloc(), &mut wants);
+    check(&rt, wants.are_at_most(1));
 }
 
 #[test]
 fn said_by_receiving(rt: HostRuntime) {
-    let mut wants = Wants { count: 0 };
-    receive_all(&rt, &mut wants);
-    assert!(rt; wants.count <= 1);
+    let mut wants = Wants::new();
+    receive_all(rt.alloc(), &mut wants);
+    check(&rt, wants.are_at_most(1));
 }
 
 #[test]
 fn said_with_a_mark(rt: HostRuntime) {
-    let mut wants = Wants { count: 0 };
-    mark_all(&rt, &mut wants);
-    assert!(rt; wants.count <= 1);
+    let mut wants = Wants::new();
+    mark_all(rt.alloc(), &mut wants);
+    check(&rt, wants.are_at_most(1));
 }
 
 #[test]
 fn said_by_owning(rt: HostRuntime) {
-    let mut wants = Wants { count: 0 };
-    own_values(&rt, &mut wants);
-    assert!(rt; wants.count <= 1);
+    let mut wants = Wants::new();
+    own_values(rt.alloc(), &mut wants);
+    check(&rt, wants.are_at_most(1));
 }
 
 #[test]
 fn whole_answers(rt: HostRuntime) {
-    let mut wants = Wants { count: 0 };
-    frame(&rt, &mut wants);
-    write(&rt, &mut wants);
-    read_all(&rt, &mut wants);
-    receive_all(&rt, &mut wants);
-    mark_all(&rt, &mut wants);
-    own_values(&rt, &mut wants);
-    assert!(rt; wants.count == 0);
+    let alloc = rt.alloc();
+    let mut wants = Wants::new();
+    frame(alloc, &mut wants);
+    write(alloc, &mut wants);
+    read_all(alloc, &mut wants);
+    receive_all(alloc, &mut wants);
+    mark_all(alloc, &mut wants);
+    own_values(alloc, &mut wants);
+    check(&rt, wants.are_at_most(0));
 }
 
 // With each growth refused in turn the tests below meet none.
@@ -646,25 +596,25 @@ fn whole_answers(rt: HostRuntime) {
 #[test]
 fn none_asked_by_cobs(rt: HostRuntime) {
     let mut room = [0u8; 8];
-    assert!(rt;
-        cobs::encode(&MESSAGE, &mut room) == 5 && cobs::try_encode(&MESSAGE, &mut room) == Ok(5)
-    );
+    check(&rt, cobs::encode(&MESSAGE, &mut room) == 5);
+    let tried = cobs::try_encode(&MESSAGE, &mut room);
+    check(&rt, matches!(&tried, Ok(5)));
     let mut back = [0u8; 4];
-    assert!(rt;
-        cobs::decode(&room[..5], &mut back).is_ok()
-            && back == MESSAGE
-            && cobs::decode_in_place(&mut room[..5]) == Ok(4)
-    );
+    let decoded = cobs::decode(&room[..5], &mut back);
+    check(&rt, decoded.is_ok() && are_bytes(&back, &MESSAGE));
+    let decoded = cobs::decode_in_place(&mut room[..5]);
+    check(&rt, matches!(&decoded, Ok(4)));
 }
 
 #[test]
 fn none_asked_by_sending(rt: HostRuntime) {
     let mut room = [0u8; 16];
     let mut sender = Sender::<_, 8>::new(Out::new(&mut room, 1, None));
-    assert!(rt; sender.send(&300u32) == Ok(()) && sender.into_inner().moved() == 5);
+    let sent = sender.send(&300u32);
+    check(&rt, sent.is_ok() && sender.into_inner().moved() == 5);
     let mut fates = [Fate::Refused; 1];
     let out = send_each::<u32, _, 8>(Out::new(&mut room, 1, None), &[300], &mut fates);
-    assert!(rt; out.moved() == 5 && fates == [Fate::Done]);
+    check(&rt, out.moved() == 5 && are_fates(&fates, &[Fate::Done]));
 }
 
 // Whether so many bytes were written.
@@ -678,52 +628,64 @@ fn has_length(written: postcard::Result<&mut [u8]>, length: usize) -> bool {
 #[test]
 fn none_asked_by_writing(rt: HostRuntime) {
     let mut room = [0u8; 16];
-    assert!(rt;
-        has_length(to_slice(&"Hi!", &mut room), 4)
-            && has_length(to_slice_cobs(&"Hi!", &mut room), 6)
-            && to_io(&"Hi!", &mut room[..]).is_ok()
-            && serialized_size(&"Hi!") == Ok(4)
-    );
+    check(&rt, has_length(to_slice(&"Hi!", &mut room), 4));
+    check(&rt, has_length(to_slice_cobs(&"Hi!", &mut room), 6));
+    let written = to_io(&"Hi!", &mut room[..]);
+    check(&rt, written.is_ok());
+    let size = serialized_size(&"Hi!");
+    check(&rt, matches!(&size, Ok(4)));
 }
 
 #[test]
 fn none_asked_by_arrays(rt: HostRuntime) {
-    assert!(rt;
-        matches!(&to_vec::<_, 4>(&"Hi!"), Ok(it) if it.len() == 4)
-            && matches!(&to_vec_cobs::<_, 6>(&"Hi!"), Ok(it) if it.len() == 6)
-    );
+    let plain = to_vec::<_, 4>(&"Hi!");
+    check(&rt, matches!(&plain, Ok(it) if it.len() == 4));
+    let framed = to_vec_cobs::<_, 6>(&"Hi!");
+    check(&rt, matches!(&framed, Ok(it) if it.len() == 6));
+}
+
+// The message of "Hi!".
+const HI: [u8; 4] = [3, 0x48, 0x69, 0x21];
+
+// Whether this value was read.
+fn is_value<T: PartialEq>(read: &postcard::Result<T>, wanted: &T) -> bool {
+    match read {
+        Ok(value) => *value == *wanted,
+        Err(_) => false,
+    }
 }
 
 #[test]
 fn none_asked_by_reading(rt: HostRuntime) {
-    let bytes = [3u8, 0x48, 0x69, 0x21];
-    assert!(rt;
-        from_bytes::<&str>(rt.alloc(), &bytes) == Ok("Hi!")
-            && from_bytes_owned::<[u8; 4]>(rt.alloc(), &bytes) == Ok(bytes)
-            && matches!(&take_from_bytes::<u8>(rt.alloc(), &bytes), Ok((3, _)))
-    );
+    let text = from_bytes::<&str>(rt.alloc(), &HI);
+    check(&rt, is_value(&text, &"Hi!"));
+    let bytes = from_bytes_owned::<[u8; 4]>(rt.alloc(), &HI);
+    check(&rt, is_value(&bytes, &HI));
+    let taken = take_from_bytes::<u8>(rt.alloc(), &HI);
+    check(&rt, matches!(&taken, Ok((3, _))));
 }
 
 #[test]
 fn none_asked_by_readers(rt: HostRuntime) {
-    let bytes = [3u8, 0x48, 0x69, 0x21];
     let mut buffer = [0u8; 3];
-    let read = from_io::<&str, _>(rt.alloc(), (bytes.as_slice(), &mut buffer));
-    assert!(rt; matches!(&read, Ok((text, _)) if *text == "Hi!"));
+    let read = from_io::<&str, _>(rt.alloc(), (HI.as_slice(), &mut buffer));
+    check(&rt, matches!(&read, Ok((text, _)) if *text == "Hi!"));
 }
 
 // The frame of 5, twice.
 const FIVES: [u8; 6] = [2, 5, 0, 2, 5, 0];
 
+// Whether a receiver answered 5.
+fn brings_five(pushed: &Pushed<u32>) -> bool {
+    is_answer(&pushed.answer, &Answer::Value(5))
+}
+
 #[test]
 fn none_asked_by_receiving(rt: HostRuntime) {
-    let five = Ok(Some(Answer::Value(5)));
     let mut receiver = Receiver::<8>::new();
-    assert!(rt;
-        receiver.push::<u32>(rt.alloc(), &FIVES).answer == five
-            && receiver.push_strict::<u32>(rt.alloc(), &FIVES).answer == five
-            && receiver.push_ref::<u32>(rt.alloc(), &FIVES).answer == five
-    );
+    check(&rt, brings_five(&receiver.push(rt.alloc(), &FIVES)));
+    check(&rt, brings_five(&receiver.push_strict(rt.alloc(), &FIVES)));
+    check(&rt, brings_five(&receiver.push_ref(rt.alloc(), &FIVES)));
 }
 
 // Whether an accumulator answered 5.
@@ -737,32 +699,31 @@ fn is_five(answer: FeedResult<'_, u32>) -> bool {
 #[test]
 fn none_asked_by_accumulators(rt: HostRuntime) {
     let mut accumulator: CobsAccumulator<8> = CobsAccumulator::new();
-    assert!(rt;
-        is_five(accumulator.feed::<u32>(rt.alloc(), &FIVES))
-            && is_five(accumulator.feed_ref::<u32>(rt.alloc(), &FIVES))
-    );
+    check(&rt, is_five(accumulator.feed(rt.alloc(), &FIVES)));
+    check(&rt, is_five(accumulator.feed_ref(rt.alloc(), &FIVES)));
 }
 
 #[test]
 fn none_asked_by_frames(rt: HostRuntime) {
     let mut line = FIVES;
-    assert!(rt; from_bytes_cobs::<u32>(rt.alloc(), &mut line) == Ok(5));
+    let read = from_bytes_cobs::<u32>(rt.alloc(), &mut line);
+    check(&rt, is_value(&read, &5));
 }
 
 #[test]
 fn none_asked_by_frames_with_a_rest(rt: HostRuntime) {
     let mut line = FIVES;
-    match take_from_bytes_cobs::<u32>(rt.alloc(), &mut line) {
-        Ok((value, _)) => assert!(rt; value == 5),
-        Err(_) => assert!(rt; false),
-    }
+    let taken = take_from_bytes_cobs::<u32>(rt.alloc(), &mut line);
+    check(&rt, matches!(&taken, Ok((5, _))));
 }
 
 #[test]
 fn none_asked_in_place(rt: HostRuntime) {
     let mut line = FIVES;
     match read_in_place::<u32>(rt.alloc(), &mut line) {
-        Some((answer, rest)) => assert!(rt; answer == Ok(Answer::Value(5)) && rest.len() == 3),
-        None => assert!(rt; false),
+        Some((answer, rest)) => {
+            check(&rt, is_told(&answer, &Answer::Value(5)) && rest.len() == 3);
+        }
+        None => check(&rt, false),
     }
 }

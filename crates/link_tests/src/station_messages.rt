@@ -1,4 +1,5 @@
 //! `station`: each message type is written as these bytes, and read back.
+use crate::checks::check;
 use postcard::experimental::max_size::MaxSize;
 use postcard::{Deserialize, Serialize, from_bytes, from_bytes_owned, to_slice};
 use station::messages::{
@@ -44,12 +45,20 @@ fn are_reread<'a, T: Serialize + Deserialize<&'a [u8]> + PartialEq + Drop>(
     true
 }
 
+// Whether the rows are reread so, and these bytes are refused.
+fn are_all<'a, T: Serialize + Deserialize<&'a [u8]> + PartialEq + Drop>(
+    alloc: Global,
+    rows: &[(&'a [u8], T)],
+    refused: &'a [u8],
+) -> bool {
+    are_reread(alloc, rows) && from_bytes::<T>(alloc, refused).is_err()
+}
+
+const READINGS: [(&[u8], SensorReading); 1] = [(&[0xAC, 2, 1, 1, 1], READING)];
+
 #[test]
 fn readings(rt: HostRuntime) {
-    assert!(rt;
-        are_reread(rt.alloc(), &[([0xAC, 2, 1, 1, 1].as_slice(), READING)])
-            && from_bytes::<SensorReading>(rt.alloc(), &[0xAC, 2, 1, 1, 2]).is_err()
-    );
+    check(&rt, are_all(rt.alloc(), &READINGS, &[0xAC, 2, 1, 1, 2]));
 }
 
 fn is_the_record(record: &LogRecord) -> bool {
@@ -61,70 +70,59 @@ fn is_the_record(record: &LogRecord) -> bool {
 
 #[test]
 fn records(rt: HostRuntime) {
-    match reread(rt.alloc(), &[1, 5, 1, 65, 1, 7]) {
-        Some(record) => assert!(rt; is_the_record(&record)),
-        None => assert!(rt; false),
-    }
+    let record = reread(rt.alloc(), &[1, 5, 1, 65, 1, 7]);
+    check(&rt, matches!(&record, Some(it) if is_the_record(it)));
 }
+
+const PINGS: [(&[u8], Ping); 1] = [(&[], Ping)];
 
 #[test]
 fn addresses(rt: HostRuntime) {
-    assert!(rt;
-        writes(&Address(300), &[0xAC, 2])
-            && from_bytes_owned::<Address>(rt.alloc(), &[0xAC, 2]) == Ok(Address(300))
-            && are_reread(rt.alloc(), &[([].as_slice(), Ping)])
-    );
+    let read = from_bytes_owned::<Address>(rt.alloc(), &[0xAC, 2]);
+    check(&rt, writes(&Address(300), &[0xAC, 2]));
+    check(&rt, matches!(&read, Ok(Address(300))));
+    check(&rt, are_reread(rt.alloc(), &PINGS));
+}
+
+fn is_the_packet(packet: &Packet<'_>) -> bool {
+    packet.to == Address(7) && packet.text == "Hi" && packet.body == [9].as_slice()
 }
 
 #[test]
 fn packets(rt: HostRuntime) {
-    match reread::<Packet>(rt.alloc(), &[7, 2, 72, 105, 1, 9]) {
-        Some(packet) => {
-            assert!(rt;
-                packet.to == Address(7) && packet.text == "Hi" && packet.body == [9].as_slice()
-            );
-        }
-        None => assert!(rt; false),
-    }
+    let packet = reread::<Packet>(rt.alloc(), &[7, 2, 72, 105, 1, 9]);
+    check(&rt, matches!(&packet, Some(it) if is_the_packet(it)));
+}
+
+const REPORT: [u8; 15] = [1, 2, 3, 4, 5, 6, 7, 8, 1, 1, 122, 1, 9, 10, 11];
+
+fn is_the_report(it: &Report) -> bool {
+    it.e == 5 && it.f == 3 && it.h == 4 && it.j == 'z' && it.k == Some(9) && it.l == (10, 11)
 }
 
 #[test]
 fn reports(rt: HostRuntime) {
-    match reread::<Report>(
-        rt.alloc(),
-        &[1, 2, 3, 4, 5, 6, 7, 8, 1, 1, 122, 1, 9, 10, 11],
-    ) {
-        Some(it) => {
-            assert!(rt;
-                it.e == 5
-                    && it.f == 3
-                    && it.h == 4
-                    && it.j == 'z'
-                    && it.k == Some(9)
-                    && it.l == (10, 11)
-            );
-        }
-        None => assert!(rt; false),
-    }
+    let report = reread::<Report>(rt.alloc(), &REPORT);
+    check(&rt, matches!(&report, Some(it) if is_the_report(it)));
 }
+
+const LEVELS: [(&[u8], Level); 1] = [(&[2], Level::Info)];
 
 #[test]
 fn levels(rt: HostRuntime) {
-    assert!(rt;
-        are_reread(rt.alloc(), &[([2].as_slice(), Level::Info)])
-            && from_bytes::<Level>(rt.alloc(), &[3]).is_err()
-    );
+    check(&rt, are_all(rt.alloc(), &LEVELS, &[3]));
 }
+
+const EVENTS: [(&[u8], Event); 4] = [
+    (&[3, 1, 2], Event::Moved { x: -1, y: 1 }),
+    (&[10, 1, 0xAC, 2], Event::Paired((1, 300))),
+    (&[9], Event::Cleared),
+    (&[11, 1], Event::Reset(true)),
+];
 
 #[test]
 fn events(rt: HostRuntime) {
-    let rows = [
-        ([3, 1, 2].as_slice(), Event::Moved { x: -1, y: 1 }),
-        ([10, 1, 0xAC, 2].as_slice(), Event::Paired((1, 300))),
-        ([9].as_slice(), Event::Cleared),
-        ([11, 1].as_slice(), Event::Reset(true)),
-    ];
-    assert!(rt; are_reread(rt.alloc(), &rows) && from_bytes::<Event>(rt.alloc(), &[12]).is_err());
+    check(&rt, are_all(rt.alloc(), &EVENTS, &[12]));
 }
 
 // Whether a command is this text.
@@ -135,16 +133,17 @@ fn is_said(command: &Command, wanted: &str) -> bool {
     }
 }
 
+// The command of these bytes, if it is written as they are.
+fn command_of(alloc: Global, bytes: &[u8]) -> Option<Command> {
+    reread(alloc, bytes)
+}
+
 #[test]
 fn commands(rt: HostRuntime) {
-    match reread(rt.alloc(), &[4, 2, 72, 105]) {
-        Some(command) => assert!(rt; is_said(&command, "Hi")),
-        None => assert!(rt; false),
-    }
-    match reread::<Command>(rt.alloc(), &[2, 1, 2]) {
-        Some(command) => assert!(rt; command == Command::Move { x: -1, y: 1 }),
-        None => assert!(rt; false),
-    }
+    let said = command_of(rt.alloc(), &[4, 2, 72, 105]);
+    check(&rt, matches!(&said, Some(it) if is_said(it, "Hi")));
+    let moved = command_of(rt.alloc(), &[2, 1, 2]);
+    check(&rt, matches!(&moved, Some(Command::Move { x: -1, y: 1 })));
 }
 
 fn is_the_config(it: &Config) -> bool {
@@ -156,13 +155,12 @@ fn is_the_config(it: &Config) -> bool {
         && matches!(it.labels.get(&9), Some(label) if label.as_str() == "B")
 }
 
+const CONFIG: [u8; 18] = [1, 65, 1, 0xAC, 2, 1, 1, 1, 1, 2, 1, 2, 3, 4, 1, 9, 1, 66];
+
 #[test]
 fn configurations(rt: HostRuntime) {
-    let bytes = [1, 65, 1, 0xAC, 2, 1, 1, 1, 1, 2, 1, 2, 3, 4, 1, 9, 1, 66];
-    match reread(rt.alloc(), &bytes) {
-        Some(config) => assert!(rt; is_the_config(&config)),
-        None => assert!(rt; false),
-    }
+    let config = reread(rt.alloc(), &CONFIG);
+    check(&rt, matches!(&config, Some(it) if is_the_config(it)));
 }
 
 #[test]
@@ -175,5 +173,8 @@ fn greatest_sizes(rt: HostRuntime) {
         Event::postcard_max_size(),
         Report::postcard_max_size(),
     ];
-    assert!(rt; sizes == [Some(17), Some(1), Some(5), Some(0), Some(18), Some(50)]);
+    check(
+        &rt,
+        sizes == [Some(17), Some(1), Some(5), Some(0), Some(18), Some(50)],
+    );
 }
