@@ -129,9 +129,19 @@ fn is_right(alloc: Global, row: Row<'_>) -> bool {
         && holds(&told, left.said, row.said)
 }
 
+/// Ends a test that isn't right.
+pub fn check(rt: &impl Abort, is_right: bool) {
+    assert!(rt; is_right);
+}
+
+/// Ends a test that isn't right in this row, or at this byte.
+fn check_at(rt: &impl Abort, at: usize, is_right: bool) {
+    assert!(rt; is_right, "at {at}");
+}
+
 fn expect<R: AllocGlobal + Abort>(rt: &R, rows: &[Row<'_>]) {
     for (at, row) in rows.iter().enumerate() {
-        assert!(rt; is_right(rt.alloc(), *row), "row {at}");
+        check_at(rt, at, is_right(rt.alloc(), *row));
     }
 }
 
@@ -181,9 +191,30 @@ fn packs(rt: HostRuntime) {
     expect(&rt, &PACKED);
 }
 
-const LETTERS: [u8; 1018] = [b'a'; 1018];
+/// As many letters as a line can have, and as many zeros; and one more.
+const LETTERS: [u8; 1017] = [b'a'; 1017];
 
-const ZEROS: [u8; 1022] = [0; 1022];
+const MORE_LETTERS: [u8; 1018] = [b'a'; 1018];
+
+const ZEROS: [u8; 1021] = [0; 1021];
+
+const MORE_ZEROS: [u8; 1022] = [0; 1022];
+
+/// Whether a text is written as these frames.
+fn is_packed<'a>(alloc: Global, text: &'a [u8], out: &'a [u8]) -> bool {
+    is_right(alloc, Row { text, out, ..PACK })
+}
+
+/// Whether a line is refused.
+fn is_too_long(alloc: Global, text: &[u8]) -> bool {
+    let row = Row {
+        text,
+        said: b"line 1: refused\n",
+        status: 1,
+        ..PACK
+    };
+    is_right(alloc, row)
+}
 
 /// A line without zeros takes 1017 bytes at most, each 254 bytes of its frame a byte more.
 #[test]
@@ -195,22 +226,8 @@ fn packs_up_to_the_limit(rt: HostRuntime) {
     framed[766] = 255;
     framed[1021] = 4;
     framed[1025] = 0;
-    expect(
-        &rt,
-        &[
-            Row {
-                text: &LETTERS[..1017],
-                out: &framed,
-                ..PACK
-            },
-            Row {
-                text: &LETTERS,
-                said: b"line 1: refused\n",
-                status: 1,
-                ..PACK
-            },
-        ],
-    );
+    check(&rt, is_packed(rt.alloc(), &LETTERS, &framed));
+    check(&rt, is_too_long(rt.alloc(), &MORE_LETTERS));
 }
 
 /// A zero takes one byte of a frame, wherever it stands: 1021 zeros have a frame of 1024 bytes, and 1022 one of 1025.
@@ -219,22 +236,8 @@ fn packs_zeros_up_to_the_limit(rt: HostRuntime) {
     let mut framed = [1u8; 1026];
     framed[..4].copy_from_slice(b"\x00\x03\xfd\x07");
     framed[1025] = 0;
-    expect(
-        &rt,
-        &[
-            Row {
-                text: &ZEROS[..1021],
-                out: &framed,
-                ..PACK
-            },
-            Row {
-                text: &ZEROS,
-                said: b"line 1: refused\n",
-                status: 1,
-                ..PACK
-            },
-        ],
-    );
+    check(&rt, is_packed(rt.alloc(), &ZEROS, &framed));
+    check(&rt, is_too_long(rt.alloc(), &MORE_ZEROS));
 }
 
 const UNPACKED_HEX: [Row<'static>; 5] = [
@@ -380,28 +383,28 @@ fn unpacks_damage_with_sentinel(rt: HostRuntime) {
     expect(&rt, &DAMAGED_BY_SENTINEL);
 }
 
+/// Whether a stream, of which something is damaged, is said to hold this.
+fn is_unpacked<'a>(alloc: Global, text: &'a [u8], out: &'a [u8]) -> bool {
+    let row = Row {
+        text,
+        out,
+        status: 1,
+        ..UNPACK
+    };
+    is_right(alloc, row)
+}
+
+const DAMAGED: &[u8] = b"\x00\x04\x02hi\x00\x03\x01\x00\x02\xff\x00\x03\x01A";
+
+const DAMAGE: &[u8] = b"value hi\ndamaged\ndamaged\ncut\n";
+
 /// Stretches that hold no text, one that is too long, and one that nothing ends.
 #[test]
 fn unpacks_damage(rt: HostRuntime) {
     let mut stream = [1u8; 1027];
     stream[1025] = 0;
-    expect(
-        &rt,
-        &[
-            Row {
-                text: b"\x00\x04\x02hi\x00\x03\x01\x00\x02\xff\x00\x03\x01A",
-                out: b"value hi\ndamaged\ndamaged\ncut\n",
-                status: 1,
-                ..UNPACK
-            },
-            Row {
-                text: &stream,
-                out: b"too long\ncut\n",
-                status: 1,
-                ..UNPACK
-            },
-        ],
-    );
+    check(&rt, is_unpacked(rt.alloc(), DAMAGED, DAMAGE));
+    check(&rt, is_unpacked(rt.alloc(), &stream, b"too long\ncut\n"));
 }
 
 const STRETCH: [u8; 1025] = [1; 1025];
@@ -484,18 +487,20 @@ fn nothing_after(fault: Option<(usize, Fault)>) -> Option<(usize, Fault)> {
     }
 }
 
+/// The same, and nothing is taken in place of a fault.
+fn taking_nothing(row: Row<'_>) -> Row<'_> {
+    Row {
+        write_fault: nothing_after(row.write_fault),
+        saying_fault: nothing_after(row.saying_fault),
+        ..row
+    }
+}
+
 /// Expects it of each row, and of the same where nothing is taken in place of a fault.
 fn expect_at_each_fault<R: AllocGlobal + Abort>(rt: &R, rows: &[Row<'_>]) {
     for (at, row) in rows.iter().enumerate() {
-        let nothing = Row {
-            write_fault: nothing_after(row.write_fault),
-            saying_fault: nothing_after(row.saying_fault),
-            ..*row
-        };
-        assert!(rt;
-            is_right(rt.alloc(), *row) && is_right(rt.alloc(), nothing),
-            "row {at}"
-        );
+        check_at(rt, at, is_right(rt.alloc(), *row));
+        check_at(rt, at, is_right(rt.alloc(), taking_nothing(*row)));
     }
 }
 
@@ -597,7 +602,7 @@ fn is_right_or_lacks_memory(alloc: Global, row: Row<'_>) -> bool {
 /// Expects it of each row.
 fn expect_or_no_memory<R: AllocGlobal + Abort>(rt: &R, rows: &[Row<'_>]) {
     for (at, row) in rows.iter().enumerate() {
-        assert!(rt; is_right_or_lacks_memory(rt.alloc(), *row), "row {at}");
+        check_at(rt, at, is_right_or_lacks_memory(rt.alloc(), *row));
     }
 }
 
@@ -648,14 +653,14 @@ fn memory_runs_out_with_sentinel(rt: HostRuntime) {
 
 /// A piece so many times, and what stands before and behind it.
 #[derive(Clone, Copy, Drop)]
-struct Repeated<'a> {
-    first: &'a [u8],
-    piece: &'a [u8],
+struct Repeated {
+    first: &'static [u8],
+    piece: &'static [u8],
     times: usize,
-    last: &'a [u8],
+    last: &'static [u8],
 }
 
-fn make(alloc: Global, bytes: Repeated<'_>) -> Result<Vec<u8>, AllocError> {
+fn make(alloc: Global, bytes: &Repeated) -> Result<Vec<u8>, AllocError> {
     let mut made = Vec::from_slice(alloc, bytes.first)?;
     for _ in 0..bytes.times {
         made.extend_from_slice(bytes.piece)?;
@@ -686,7 +691,7 @@ fn is_right_writing(alloc: Global, row: Row<'_>, all: &[u8]) -> bool {
     }
 }
 
-fn is_right_reading(alloc: Global, row: Row<'_>, out: Repeated<'_>) -> bool {
+fn is_right_reading(alloc: Global, row: Row<'_>, out: &Repeated) -> bool {
     match make(alloc, out) {
         Ok(all) => is_right_writing(alloc, row, &all),
         Err(_) => false,
@@ -694,160 +699,182 @@ fn is_right_reading(alloc: Global, row: Row<'_>, out: Repeated<'_>) -> bool {
 }
 
 /// Whether a run on a long text does what the row says, but that this is to be written.
-fn is_long_right(alloc: Global, row: Row<'_>, text: Repeated<'_>, out: Repeated<'_>) -> bool {
+fn is_long_right(alloc: Global, row: Row<'_>, text: &Repeated, out: &Repeated) -> bool {
     match make(alloc, text) {
         Ok(text) => is_right_reading(alloc, Row { text: &text, ..row }, out),
         Err(_) => false,
     }
 }
 
-const LINES: Repeated<'static> = Repeated {
+/// Expects it of each row.
+fn expect_long<R: AllocGlobal + Abort>(rt: &R, rows: &[Row<'_>], text: &Repeated, out: &Repeated) {
+    for (at, row) in rows.iter().enumerate() {
+        check_at(rt, at, is_long_right(rt.alloc(), *row, text, out));
+    }
+}
+
+const LINES: Repeated = Repeated {
     first: b"",
     piece: b"letters\n",
     times: 1600,
     last: b"",
 };
 
-const FRAMES: Repeated<'static> = Repeated {
+const FRAMES: Repeated = Repeated {
     first: b"\0",
     piece: b"\x09\x07letters\0",
     times: 1600,
     last: b"",
 };
 
-const DIGITS: Repeated<'static> = Repeated {
+const DIGITS: Repeated = Repeated {
     first: b"00",
     piece: b"09076c65747465727300",
     times: 1600,
     last: b"\n",
 };
 
-const CAPITALS: Repeated<'static> = Repeated {
+const CAPITALS: Repeated = Repeated {
     piece: b"09076C65747465727300",
     last: b"",
     ..DIGITS
 };
 
-const SAID: Repeated<'static> = Repeated {
+const SAID: Repeated = Repeated {
     piece: b"value letters\n",
     ..LINES
 };
 
+const NOTHING: Repeated = Repeated {
+    piece: b"",
+    ..LINES
+};
+
+const PACKS: [Row<'static>; 1] = [PACK];
+
+const PACKS_HEX: [Row<'static>; 1] = [PACK_HEX];
+
+const UNPACKS: [Row<'static>; 2] = [UNPACK, STRICT];
+
+const UNPACKS_HEX: [Row<'static>; 2] = [UNPACK_HEX, STRICT_HEX];
+
 #[test]
 fn packs_long_texts(rt: HostRuntime) {
-    assert!(rt; is_long_right(rt.alloc(), PACK, LINES, FRAMES));
-    assert!(rt; is_long_right(rt.alloc(), PACK_HEX, LINES, DIGITS));
+    expect_long(&rt, &PACKS, &LINES, &FRAMES);
+    expect_long(&rt, &PACKS_HEX, &LINES, &DIGITS);
 }
+
+const REFUSES_LATE: [Row<'static>; 1] = [Row {
+    said: b"line 1601: refused\n",
+    status: 1,
+    ..PACK
+}];
+
+const LATE_LINES: Repeated = Repeated {
+    last: b"\xff\nletters",
+    ..LINES
+};
+
+const LATE_FRAMES: Repeated = Repeated {
+    last: b"\x09\x07letters\0",
+    ..FRAMES
+};
 
 /// A line is refused behind many that are sent.
 #[test]
 fn refuses_late_lines(rt: HostRuntime) {
-    let row = Row {
-        said: b"line 1601: refused\n",
-        status: 1,
-        ..PACK
-    };
-    let text = Repeated {
-        last: b"\xff\nletters",
-        ..LINES
-    };
-    let out = Repeated {
-        last: b"\x09\x07letters\0",
-        ..FRAMES
-    };
-    assert!(rt; is_long_right(rt.alloc(), row, text, out));
+    expect_long(&rt, &REFUSES_LATE, &LATE_LINES, &LATE_FRAMES);
 }
-
-/// Runs on long streams, and the streams.
-const LONG_STREAMS: [(Row<'static>, Repeated<'static>); 4] = [
-    (UNPACK, FRAMES),
-    (STRICT, FRAMES),
-    (UNPACK_HEX, CAPITALS),
-    (STRICT_HEX, CAPITALS),
-];
 
 #[test]
 fn unpacks_long_streams(rt: HostRuntime) {
-    for (row, stream) in &LONG_STREAMS {
-        assert!(rt; is_long_right(rt.alloc(), *row, *stream, SAID));
-    }
+    expect_long(&rt, &UNPACKS, &FRAMES, &SAID);
+    expect_long(&rt, &UNPACKS_HEX, &CAPITALS, &SAID);
 }
 
-const LONG_UNREAD: Row<'static> = Row {
+const LONG_UNREAD: [Row<'static>; 1] = [Row {
     mode: Mode::Unpack,
     read_fault: Some(16_001),
     ..UNREAD
-};
+}];
 
 /// Of a long stream whose reader fails, the lines of what it gave are written.
 #[test]
 fn long_streams_that_fail(rt: HostRuntime) {
-    assert!(rt; is_long_right(rt.alloc(), LONG_UNREAD, FRAMES, SAID));
+    expect_long(&rt, &LONG_UNREAD, &FRAMES, &SAID);
 }
+
+const LATE_BAD_HEX: [Row<'static>; 1] = [BAD_HEX];
+
+const NO_DIGIT: Repeated = Repeated {
+    last: b"g",
+    ..CAPITALS
+};
+
+const NO_FIRST_DIGIT: Repeated = Repeated {
+    last: b"g0",
+    ..CAPITALS
+};
 
 /// The digits are read some at a time: the last of many isn't one.
 #[test]
 fn refuses_late_bad_hex(rt: HostRuntime) {
-    let row = Row {
-        said: b"bad hex\n",
-        status: 2,
-        ..UNPACK_HEX
-    };
-    let nothing = Repeated {
-        piece: b"",
-        ..LINES
-    };
-    for last in [b"g".as_slice(), b"g0".as_slice()] {
-        let digits = Repeated { last, ..CAPITALS };
-        assert!(rt; is_long_right(rt.alloc(), row, digits, nothing));
-    }
+    expect_long(&rt, &LATE_BAD_HEX, &NO_DIGIT, &NOTHING);
+    expect_long(&rt, &LATE_BAD_HEX, &NO_FIRST_DIGIT, &NOTHING);
 }
 
 /// So many lines that their frames are written some at a time: the first 40961 bytes, then 40960 bytes each time.
-fn many(bytes: Repeated<'_>) -> Repeated<'_> {
+fn many(bytes: &Repeated) -> Repeated {
     Repeated {
         times: 10_000,
-        ..bytes
+        ..*bytes
     }
 }
 
 /// Expects of many lines that they are written, and their beginning where the writer fails after so many bytes.
 fn expect_fronts<R: AllocGlobal + Abort>(
     rt: &R,
-    row: Row<'_>,
+    rows: &[Row<'_>],
+    text: &Repeated,
+    out: &Repeated,
     fault: Fault,
     befores: &[usize],
-    text: Repeated<'_>,
-    out: Repeated<'_>,
 ) {
-    assert!(rt; is_long_right(rt.alloc(), row, many(text), many(out)));
-    for before in befores {
-        let broken = unwritten(row, *before, fault);
-        assert!(rt;
-            is_long_right(rt.alloc(), broken, many(text), many(out)),
-            "at {before}"
-        );
+    let (text, out) = (many(text), many(out));
+    expect_long(rt, rows, &text, &out);
+    for row in rows {
+        for before in befores {
+            let broken = unwritten(*row, *before, fault);
+            check_at(rt, *before, is_long_right(rt.alloc(), broken, &text, &out));
+        }
     }
 }
 
+const PACKED_FRONTS: [usize; 8] = [0, 1, 40960, 40961, 40962, 81921, 81922, 100_000];
+
 #[test]
 fn packs_some_at_a_time(rt: HostRuntime) {
-    let befores = [0, 1, 40960, 40961, 40962, 81921, 81922, 100_000];
-    expect_fronts(&rt, PACK, Fault::Fail, &befores, LINES, FRAMES);
-    expect_fronts(&rt, PACK, Fault::Nothing, &befores, LINES, FRAMES);
+    let befores = &PACKED_FRONTS;
+    expect_fronts(&rt, &PACKS, &LINES, &FRAMES, Fault::Fail, befores);
+    expect_fronts(&rt, &PACKS, &LINES, &FRAMES, Fault::Nothing, befores);
 }
+
+const DIGITS_FRONTS: [usize; 7] = [0, 1, 81921, 81922, 81923, 163_843, 200_002];
 
 #[test]
 fn packs_digits_some_at_a_time(rt: HostRuntime) {
-    let befores = [0, 1, 81921, 81922, 81923, 163_843, 200_002];
-    expect_fronts(&rt, PACK_HEX, Fault::Fail, &befores, LINES, DIGITS);
+    let befores = &DIGITS_FRONTS;
+    expect_fronts(&rt, &PACKS_HEX, &LINES, &DIGITS, Fault::Fail, befores);
 }
+
+const SAID_FRONTS: [usize; 7] = [0, 1, 65534, 65535, 65536, 65537, 140_000 - 1];
+
+const PLAINLY: [Row<'static>; 1] = [UNPACK];
 
 /// So many answers that their lines are written some at a time.
 #[test]
 fn unpacks_some_at_a_time(rt: HostRuntime) {
-    let befores = [0, 1, 65534, 65535, 65536, 65537, 140_000 - 1];
-    expect_fronts(&rt, UNPACK, Fault::Fail, &befores, FRAMES, SAID);
-    expect_fronts(&rt, UNPACK_HEX, Fault::Fail, &[], CAPITALS, SAID);
-    expect_fronts(&rt, STRICT_HEX, Fault::Fail, &[], CAPITALS, SAID);
+    let befores = &SAID_FRONTS;
+    expect_fronts(&rt, &PLAINLY, &FRAMES, &SAID, Fault::Fail, befores);
+    expect_fronts(&rt, &UNPACKS_HEX, &CAPITALS, &SAID, Fault::Fail, &[]);
 }

@@ -20,20 +20,23 @@ fn means(alloc: Global, line: &str, wanted: Option<(Mode, bool, u8)>) -> bool {
     }
 }
 
+/// Ends a test whose line isn't right.
+fn check_line(rt: &impl Abort, line: &str, is_right: bool) {
+    assert!(rt; is_right, "at {line}");
+}
+
 /// Expects that each line is refused.
 fn expect_refused<R: AllocGlobal + Abort>(rt: &R, lines: &[&str]) {
     for line in lines {
-        assert!(rt; means(rt.alloc(), line, None), "at {line}");
+        check_line(rt, line, means(rt.alloc(), line, None));
     }
 }
 
 /// Expects that each line is a mode with these further words.
 fn expect<R: AllocGlobal + Abort>(rt: &R, rows: &[(&str, Mode, bool, u8)]) {
     for (line, mode, hex, sentinel) in rows {
-        assert!(rt;
-            means(rt.alloc(), line, Some((*mode, *hex, *sentinel))),
-            "at {line}"
-        );
+        let wanted = Some((*mode, *hex, *sentinel));
+        check_line(rt, line, means(rt.alloc(), line, wanted));
     }
 }
 
