@@ -16,70 +16,37 @@ mod printer;
 mod structs;
 mod text;
 mod tokens;
-mod trouble;
 
+use crate::parser::declarations;
 use crate::printer::write_all;
 use crate::text::Text;
-use crate::tokens::{Token, read_line};
-use crate::trouble::{Fault, Trouble};
-use std::alloc::Global;
-use std::io::{BufRead, BufReader, BufWriter, ErrorKind, Write};
+use crate::tokens::{Token, Tokens};
+use std::io::{BufWriter, Write};
 use std::process::ExitCode;
 use std::{env, io};
 
-/// The module that is named behind the program, as the path of its definitions: the crate, and the modules in it.
-fn module_path(alloc: Global, words: &[String]) -> io::Result<Option<String>> {
-    let [_, name, modules @ ..] = words else {
-        return Ok(None);
-    };
-    let mut path = Text::new(alloc);
-    path.put(&[name.as_str(), ".specs.declared"]);
-    for module in modules {
-        path.put(&[".", module.as_str()]);
+/// The module that is named behind the program, as the path of its definitions: the crate, and the modules in it. Nothing
+/// where no crate is named.
+fn module_path(rt: &HostRuntime) -> io::Result<String> {
+    let mut path = Text::new(rt.alloc());
+    for (place, word) in env::args(rt)?.enumerate() {
+        match place {
+            0 => {}
+            1 => path.put(&[word.as_str(), ".specs.declared"]),
+            _ => path.put(&[".", word.as_str()]),
+        }
     }
-    Ok(Some(path.finished()?))
-}
-
-/// The words that the program was called by, its name first.
-fn arguments(rt: &HostRuntime) -> io::Result<Vec<String>> {
-    let mut words = Vec::new(rt.alloc());
-    for word in env::args(rt)? {
-        words.push(word)?;
-    }
-    Ok(words)
+    Ok(path.finished()?)
 }
 
 /// The tokens of standard input.
 fn read_tokens(rt: &HostRuntime) -> io::Result<Vec<Token>> {
-    let alloc = rt.alloc();
-    let mut tokens = Vec::new(alloc);
-    let mut number: usize = 0;
-    for line in BufReader::new(alloc, rt.reader())?.lines(alloc) {
-        number = number.saturating_add(1);
-        read_line(alloc, line?.as_str(), number, &mut tokens)?;
+    let text = io::read_to_string(rt.alloc(), rt.reader())?;
+    let mut tokens = Tokens::new(rt.alloc());
+    for line in text.lines() {
+        tokens.read_line(line);
     }
-    Ok(tokens)
-}
-
-/// What is to be written, and what is wrong.
-fn written(alloc: Global, path: &str, tokens: &[Token]) -> io::Result<(String, Vec<Fault>)> {
-    let mut faults = Vec::new(alloc);
-    match write_all(alloc, path, tokens, &mut faults) {
-        Ok(text) => Ok((text, faults)),
-        Err(Trouble::Wrong(fault)) => {
-            faults.push(fault)?;
-            Ok((String::new(alloc), faults))
-        }
-        Err(Trouble::NoMemory) => Err(ErrorKind::OutOfMemory.into()),
-    }
-}
-
-/// Writes what is wrong to standard error.
-fn report(rt: &HostRuntime, faults: &[Fault]) -> io::Result<()> {
-    for fault in faults {
-        eprintln!(rt; "line {}: {}", fault.line, fault.text)?;
-    }
-    Ok(())
+    Ok(tokens.finished()?)
 }
 
 /// Writes a text to standard output.
@@ -89,18 +56,24 @@ fn put_out(rt: &HostRuntime, text: &str) -> io::Result<()> {
     out.flush()
 }
 
+/// Writes the implementations, or what is wrong to standard error; and says whether nothing is.
+fn run(rt: &HostRuntime, path: &str) -> io::Result<bool> {
+    let tokens = read_tokens(rt)?;
+    let (all, faults) = declarations(rt.alloc(), &tokens)?;
+    if !faults.is_empty() {
+        eprint!(rt; "{faults}")?;
+        return Ok(false);
+    }
+    put_out(rt, write_all(rt.alloc(), path, &all)?.as_str())?;
+    Ok(true)
+}
+
 fn main(rt: HostRuntime) -> io::Result<ExitCode> {
-    let words = arguments(&rt)?;
-    let Some(path) = module_path(rt.alloc(), &words)? else {
+    let path = module_path(&rt)?;
+    if path.is_empty() {
         eprintln!(rt; "usage: message_types CRATE [MODULE]..")?;
         return Ok(ExitCode::from(2));
-    };
-    let tokens = read_tokens(&rt)?;
-    let (text, faults) = written(rt.alloc(), path.as_str(), &tokens)?;
-    report(&rt, &faults)?;
-    if !faults.is_empty() {
-        return Ok(ExitCode::from(1));
     }
-    put_out(&rt, text.as_str())?;
-    Ok(ExitCode::from(0))
+    let is_written = run(&rt, path.as_str())?;
+    Ok(ExitCode::from(if is_written { 0 } else { 1 }))
 }

@@ -3,6 +3,28 @@ use crate::declarations::{Body, Declaration, Fields};
 use crate::tokens::{Token, first_letter, is_among};
 use std::alloc::{AllocError, Global};
 
+/// A module of which names are used.
+#[derive(Clone, Copy)]
+pub enum Module {
+    /// The one above, with the types and what their fields are.
+    Above,
+    /// `postcard`.
+    Postcard,
+    /// `postcard`'s greatest sizes.
+    Sizes,
+}
+
+impl Module {
+    /// Where it is.
+    pub fn path(self) -> &'static str {
+        match self {
+            Module::Above => "super",
+            Module::Postcard => "postcard",
+            Module::Sizes => "postcard::experimental::max_size",
+        }
+    }
+}
+
 /// Different names. Where memory runs out, [`sorted`](Names::sorted) says so at the end.
 #[derive(Drop)]
 struct Names<'a> {
@@ -80,75 +102,66 @@ impl<'a> Names<'a> {
         }
     }
 
-    /// Puts the names that the shape of a body uses.
-    fn put_of_shape(&mut self, body: &Body) {
-        let count = match body {
-            Body::Struct(_) => return self.put("Serialize"),
-            Body::Enum(variants) => variants.len(),
-        };
-        self.put("Last");
-        if count > 4 {
-            self.put("Variants4");
-        }
-        if count % 4 != 1 {
-            self.put("Variant");
+    /// Puts those of these names that are used.
+    fn put_used(&mut self, names: &[(bool, &'static str)]) {
+        for (is_used, name) in names {
+            if *is_used {
+                self.put(name);
+            }
         }
     }
 
     /// Puts the names that a declaration uses of `postcard`.
-    fn put_used(&mut self, it: &Declaration) {
+    fn put_of_postcard(&mut self, it: &Declaration) {
         let is_generic = it.is_generic();
-        if is_generic {
-            self.put("Readable");
-            self.put("Serialize");
-        }
-        if it.marks.exact {
-            self.put("ExactShape");
-        }
-        if it.marks.exact && is_generic {
-            self.put("Exact");
-        }
-        self.put_of_shape(&it.body);
+        let is_exact = it.marks.exact;
+        let (is_enum, count) = match &it.body {
+            Body::Struct(_) => (false, 0),
+            Body::Enum(variants) => (true, variants.len()),
+        };
+        self.put_used(&[
+            (true, "DeserializeShape"),
+            (true, "SerializeShape"),
+            (true, "Serializer"),
+            (true, "Shaped"),
+            (is_generic, "Readable"),
+            (is_generic || !is_enum, "Serialize"),
+            (is_exact, "ExactShape"),
+            (is_exact && is_generic, "Exact"),
+            (is_enum, "Last"),
+            (count > 4, "Variants4"),
+            (is_enum && count % 4 != 1, "Variant"),
+        ]);
     }
 
     /// Puts the names that a declaration uses of `postcard`'s greatest sizes.
     fn put_sizes(&mut self, it: &Declaration) {
-        if it.marks.max_size {
-            self.put("MaxSizeShape");
+        let has_size = it.marks.max_size;
+        self.put_used(&[
+            (has_size, "MaxSizeShape"),
+            (has_size && it.is_generic(), "MaxSize"),
+        ]);
+    }
+
+    /// Puts the names that a declaration uses of a module.
+    fn put_of(&mut self, it: &Declaration<'a>, module: Module) {
+        match module {
+            Module::Above => self.put_above(it),
+            Module::Postcard => self.put_of_postcard(it),
+            Module::Sizes => self.put_sizes(it),
         }
-        if it.marks.max_size && it.is_generic() {
-            self.put("MaxSize");
-        }
     }
 }
 
-/// The names that stand in the module above: the types, and what their fields are.
-pub fn names_above<'a>(alloc: Global, all: &[Declaration<'a>]) -> Result<Vec<&'a str>, AllocError> {
+/// The names that are used of a module, in their order.
+pub fn names_used<'a>(
+    alloc: Global,
+    all: &[Declaration<'a>],
+    module: Module,
+) -> Result<Vec<&'a str>, AllocError> {
     let mut names = Names::new(alloc);
     for it in all {
-        names.put_above(it);
-    }
-    names.sorted()
-}
-
-/// The names that are used of `postcard`.
-pub fn names_used(alloc: Global, all: &[Declaration]) -> Result<Vec<&'static str>, AllocError> {
-    let mut names = Names::new(alloc);
-    names.put("DeserializeShape");
-    names.put("SerializeShape");
-    names.put("Serializer");
-    names.put("Shaped");
-    for it in all {
-        names.put_used(it);
-    }
-    names.sorted()
-}
-
-/// The names that are used of `postcard`'s greatest sizes.
-pub fn sizes_used(alloc: Global, all: &[Declaration]) -> Result<Vec<&'static str>, AllocError> {
-    let mut names = Names::new(alloc);
-    for it in all {
-        names.put_sizes(it);
+        names.put_of(it, module);
     }
     names.sorted()
 }

@@ -2,8 +2,7 @@
 use crate::declarations::{Body, Declaration, Field, Fields, Form, Marks, VariantOf};
 use crate::text::Text;
 use crate::tokens::{Token, first_letter, is_among, is_lifetime};
-use crate::trouble::{Fault, Trouble};
-use std::alloc::Global;
+use std::alloc::{AllocError, Global};
 
 /// How many fields a struct or a variant can have.
 const MOST_FIELDS: usize = 36;
@@ -45,10 +44,17 @@ const OF_POSTCARD: &[&str] = &[
     "Readable",
 ];
 
+/// The marks of a declaration that is only written and read.
+const UNMARKED: Marks = Marks {
+    max_size: false,
+    exact: false,
+};
+
 /// What has no greatest size.
 const NO_GREATEST_SIZE: &[&str] = &["&", "String", "Vec", "BTreeMap"];
 
-/// Reads declarations from the front of tokens.
+/// Reads declarations from the front of tokens. What is wrong is noted and hides the tokens behind it, so that the calls that
+/// follow take nothing and note nothing: so those who read need not ask after each step.
 #[derive(Drop)]
 struct Parser<'a> {
     alloc: Global,
@@ -58,6 +64,11 @@ struct Parser<'a> {
     /// The name and the marks of the declaration that is read.
     name: &'a str,
     marks: Marks,
+    /// What is wrong, a line each.
+    faults: Text,
+    /// Whether something is wrong in the declaration that is read, and the tokens that it hides.
+    is_wrong: bool,
+    hidden: &'a [Token],
 }
 
 /// Whether a word stands for no type: a lifetime, a number or a mark.
@@ -93,31 +104,45 @@ fn depth_behind(word: &str, depth: usize) -> Option<usize> {
 }
 
 impl<'a> Parser<'a> {
+    /// At the first of these tokens.
+    fn new(alloc: Global, tokens: &'a [Token]) -> Parser<'a> {
+        Parser {
+            alloc,
+            rest: tokens,
+            line: 0,
+            name: "",
+            marks: UNMARKED,
+            faults: Text::new(alloc),
+            is_wrong: false,
+            hidden: &[],
+        }
+    }
+
     /// The next token, which stays; nothing at the end.
     fn peek(&self) -> &'a str {
-        match self.rest.first() {
-            Some(token) => token.text.as_str(),
-            None => "",
+        match self.rest {
+            [token, ..] => token.text.as_str(),
+            _ => "",
         }
     }
 
     /// The token behind the next.
     fn peek_second(&self) -> &'a str {
-        match self.rest.get(1) {
-            Some(token) => token.text.as_str(),
-            None => "",
+        match self.rest {
+            [_, token, ..] => token.text.as_str(),
+            _ => "",
         }
     }
 
     /// Takes the next token.
     fn step(&mut self) -> &'a str {
-        match self.rest.split_first() {
-            Some((token, rest)) => {
+        match self.rest {
+            [token, rest @ ..] => {
                 self.rest = rest;
                 self.line = token.line;
                 token.text.as_str()
             }
-            None => "",
+            _ => "",
         }
     }
 
@@ -130,50 +155,70 @@ impl<'a> Parser<'a> {
         found
     }
 
-    /// What is wrong at the last token.
-    fn wrong(&self, pieces: &[&str]) -> Trouble {
-        let mut text = Text::new(self.alloc);
-        text.put(pieces);
-        match text.finished() {
-            Ok(text) => Trouble::Wrong(Fault {
-                line: self.line,
-                text,
-            }),
-            Err(_) => Trouble::NoMemory,
+    /// Notes what is wrong at the last token, unless it stands behind something that is wrong.
+    fn wrong(&mut self, pieces: &[&str]) {
+        if self.is_wrong {
+            return;
+        }
+        self.faults.put(&["line "]);
+        self.faults.put_number(self.line);
+        self.faults.put(&[": "]);
+        self.faults.put(pieces);
+        self.faults.put(&["\n"]);
+        self.is_wrong = true;
+        self.hidden = self.rest;
+        self.rest = &[];
+    }
+
+    /// Notes why a word is wrong: what is said behind it.
+    fn refuse(&mut self, word: &str, why: &str) {
+        self.wrong(&["`", word, why]);
+    }
+
+    /// Goes on behind what was wrong, if anything was.
+    fn recover(&mut self) {
+        if self.is_wrong {
+            self.is_wrong = false;
+            self.rest = self.hidden;
+        }
+    }
+
+    /// Appends to a list, unless something is wrong.
+    fn keep<T: Drop>(&mut self, list: &mut Vec<T>, item: T) {
+        if !self.is_wrong {
+            self.faults.note(list.push(item).is_err());
         }
     }
 
     /// Takes this token, which must be next.
-    fn owe(&mut self, wanted: &str) -> Result<(), Trouble> {
+    fn owe(&mut self, wanted: &str) {
         let next = self.step();
-        if next == wanted {
-            return Ok(());
+        if next != wanted {
+            self.wrong(&["`", wanted, "` is wanted in place of `", next, "`"]);
         }
-        Err(self.wrong(&["`", wanted, "` is wanted in place of `", next, "`"]))
     }
 
     /// Takes a name.
-    fn word(&mut self) -> Result<&'a str, Trouble> {
+    fn word(&mut self) -> &'a str {
         let word = self.step();
         if is_no_type(word) {
-            return Err(self.wrong(&["a name is wanted in place of `", word, "`"]));
+            self.wrong(&["a name is wanted in place of `", word, "`"]);
         }
-        Ok(word)
+        word
     }
 
     /// Takes attributes. Those of serde change the bytes.
-    fn attributes(&mut self) -> Result<(), Trouble> {
+    fn attributes(&mut self) {
         for _ in 0..self.rest.len() {
             if !self.take("#") {
-                return Ok(());
+                break;
             }
             if self.peek_second() == "serde" {
                 self.step();
-                return Err(self.wrong(&["attributes of serde aren't known here: leave it out"]));
+                self.wrong(&["attributes of serde aren't known here: leave it out"]);
             }
             self.attribute();
         }
-        Ok(())
     }
 
     /// Takes the rest of an attribute, and says whether it derives serde's traits and the greatest size.
@@ -181,7 +226,7 @@ impl<'a> Parser<'a> {
         let mut found = (false, false);
         for _ in 0..self.rest.len() {
             match self.step() {
-                "]" => return found,
+                "]" => break,
                 "Serialize" => found.0 = true,
                 "MaxSize" => found.1 = true,
                 _ => {}
@@ -192,318 +237,331 @@ impl<'a> Parser<'a> {
 
     /// Takes `pub`, with what it is limited to.
     fn visibility(&mut self) {
-        if !self.take("pub") || self.peek() != "(" {
-            return;
+        let is_limited = self.take("pub")
+            && self.peek() == "("
+            && is_among(self.peek_second(), &["crate", "super", "self", "in"]);
+        if is_limited {
+            self.skip_past(")");
         }
-        if !is_among(self.peek_second(), &["crate", "super", "self", "in"]) {
-            return;
-        }
+    }
+
+    /// Takes tokens up to this one.
+    fn skip_past(&mut self, last: &str) {
         for _ in 0..self.rest.len() {
-            if self.step() == ")" {
-                return;
+            if self.step() == last {
+                break;
             }
         }
     }
 
-    /// Refuses a reference without a lifetime, and what the marks don't allow in a field.
-    fn check_marks(&self, word: &str) -> Result<(), Trouble> {
-        if word == "&" && !is_lifetime(self.peek_second()) {
-            return Err(self.wrong(&["a reference has a lifetime of its type: `&'a str`"]));
-        }
+    /// Why a word can't stand in the type of a field, if it can't.
+    fn refusal(&self, word: &str, in_path: bool) -> Option<&'static str> {
         if self.marks.max_size && is_among(word, NO_GREATEST_SIZE) {
-            return Err(self.wrong(&["`", word, "` has no greatest size: leave `MaxSize` out"]));
+            return Some("` has no greatest size: leave `MaxSize` out");
         }
         if self.marks.exact && word == "BTreeMap" {
-            return Err(self.wrong(&[
-                "`BTreeMap` is read in any order and written in its own: leave `Exact` out",
-            ]));
+            return Some("` is read in any order and written in its own: leave `Exact` out");
         }
-        Ok(())
-    }
-
-    /// Refuses a word that can't stand in the type of a field.
-    fn check(&self, word: &str, in_path: bool) -> Result<(), Trouble> {
-        self.check_marks(word)?;
         if is_no_type(word) || is_among(word, PLAIN) {
-            return Ok(());
+            return None;
         }
         if word == self.name {
-            return Err(self.wrong(&["`", word, "` holds itself: write it by hand"]));
+            return Some("` holds itself: write it by hand");
         }
         if is_small(word) || is_among(word, NO_MESSAGES) || in_path {
-            return Err(self.wrong(&["`", word, "` can't stand in the type of a field"]));
+            return Some("` can't stand in the type of a field");
         }
-        Ok(())
+        None
+    }
+
+    /// Refuses a reference without a lifetime, and a word that can't stand in the type of a field.
+    fn check(&mut self, word: &str, in_path: bool) {
+        if word == "&" && !is_lifetime(self.peek_second()) {
+            return self.wrong(&["a reference has a lifetime of its type: `&'a str`"]);
+        }
+        if let Some(refusal) = self.refusal(word, in_path) {
+            self.refuse(word, refusal);
+        }
     }
 
     /// Takes the words of a type, up to a comma or a closing mark, and says how many they are.
-    fn type_length(&mut self) -> Result<usize, Trouble> {
+    fn type_length(&mut self) -> usize {
         let most = self.rest.len();
         let mut depth: usize = 0;
         let mut in_path = false;
         for length in 0..most {
             let word = self.peek();
             let Some(within) = depth_behind(word, depth) else {
-                return Ok(length);
+                return length;
             };
             depth = within;
-            self.check(word, in_path)?;
+            self.check(word, in_path);
             in_path = word == ":";
             self.step();
         }
-        Ok(most)
+        most
     }
 
     /// Takes the type of a field.
-    fn type_words(&mut self) -> Result<&'a [Token], Trouble> {
+    fn type_words(&mut self) -> &'a [Token] {
         let words = self.rest;
-        match self.type_length()? {
-            0 => Err(self.wrong(&["a type is wanted"])),
-            length => Ok(words.get(..length).unwrap_or(&[])),
+        let length = self.type_length();
+        if length == 0 {
+            self.wrong(&["a type is wanted"]);
         }
+        words.get(..length).unwrap_or(&[])
     }
 
     /// Takes the name of a field, where fields have names.
-    fn field_name(&mut self, named: bool) -> Result<&'a str, Trouble> {
+    fn field_name(&mut self, named: bool) -> &'a str {
         if !named {
-            return Ok("");
+            return "";
         }
-        let name = self.word()?;
-        self.owe(":")?;
-        Ok(name)
+        let name = self.word();
+        self.owe(":");
+        name
     }
 
     /// Takes a field.
-    fn item(&mut self, place: usize, named: bool) -> Result<Field<'a>, Trouble> {
+    fn item(&mut self, place: usize, named: bool) -> Field<'a> {
         if place == MOST_FIELDS {
-            return Err(self.wrong(&[TOO_MANY]));
+            self.wrong(&[TOO_MANY]);
         }
-        self.attributes()?;
+        self.attributes();
         self.visibility();
-        let name = self.field_name(named)?;
-        let of = self.type_words()?;
-        Ok(Field { place, name, of })
+        let name = self.field_name(named);
+        let of = self.type_words();
+        Field { place, name, of }
+    }
+
+    /// Whether a list has something before the mark that closes it, and else takes the mark.
+    fn begins(&mut self, close: &str) -> bool {
+        if self.rest.is_empty() {
+            self.wrong(&["`", close, "` is missing"]);
+        }
+        !self.take(close)
+    }
+
+    /// Whether a list goes on: takes the mark that closes it, or the comma before what is next.
+    fn goes_on(&mut self, close: &str) -> bool {
+        if self.take(",") {
+            return !self.take(close);
+        }
+        self.owe(close);
+        false
     }
 
     /// Takes the fields up to this mark.
-    fn items(&mut self, close: &str, named: bool) -> Result<Vec<Field<'a>>, Trouble> {
+    fn items(&mut self, close: &str, named: bool) -> Vec<Field<'a>> {
         let mut items = Vec::new(self.alloc);
+        let mut goes_on = self.begins(close);
         for place in 0..self.rest.len() {
-            if self.take(close) {
-                return Ok(items);
+            if !goes_on {
+                break;
             }
-            items.push(self.item(place, named)?)?;
-            if !self.take(",") {
-                self.owe(close)?;
-                return Ok(items);
-            }
+            let item = self.item(place, named);
+            self.keep(&mut items, item);
+            goes_on = self.goes_on(close);
         }
-        Err(self.wrong(&["`", close, "` is missing"]))
+        items
+    }
+
+    /// Takes the mark that opens fields, if there are any.
+    fn form(&mut self) -> Form {
+        if self.take("{") {
+            Form::Named
+        } else if self.take("(") {
+            Form::Tuple
+        } else {
+            Form::Unit
+        }
     }
 
     /// Takes fields in braces, in parentheses, or none.
-    fn fields(&mut self) -> Result<Fields<'a>, Trouble> {
-        if self.take("{") {
-            let items = self.items("}", true)?;
-            return Ok(Fields {
-                form: Form::Named,
-                items,
-            });
-        }
-        if self.take("(") {
-            let items = self.items(")", false)?;
-            return Ok(Fields {
-                form: Form::Tuple,
-                items,
-            });
-        }
-        Ok(Fields {
-            form: Form::Unit,
-            items: Vec::new(self.alloc),
-        })
+    fn fields(&mut self) -> Fields<'a> {
+        let form = self.form();
+        let items = match form {
+            Form::Unit => Vec::new(self.alloc),
+            Form::Tuple => self.items(")", false),
+            Form::Named => self.items("}", true),
+        };
+        Fields { form, items }
     }
 
     /// Takes a variant of an enum.
-    fn variant(&mut self) -> Result<VariantOf<'a>, Trouble> {
-        self.attributes()?;
-        let name = self.word()?;
-        let fields = self.fields()?;
+    fn variant(&mut self) -> VariantOf<'a> {
+        self.attributes();
+        let name = self.word();
+        let fields = self.fields();
         if self.take("=") {
-            return Err(self.wrong(&[
-                "the bytes have a variant's place, not its number: leave the number out",
-            ]));
+            self.wrong(&["the bytes have a variant's place, not its number: leave the number out"]);
         }
-        Ok(VariantOf { name, fields })
+        VariantOf { name, fields }
     }
 
     /// Takes the variants of an enum, which has one at least.
-    fn variants(&mut self) -> Result<Vec<VariantOf<'a>>, Trouble> {
-        self.owe("{")?;
-        if self.take("}") {
-            return Err(self.wrong(&["an enum without variants has no values"]));
-        }
+    fn variants(&mut self) -> Vec<VariantOf<'a>> {
         let mut variants = Vec::new(self.alloc);
-        for _ in 0..self.rest.len() {
-            if self.take("}") {
-                return Ok(variants);
-            }
-            variants.push(self.variant()?)?;
-            if !self.take(",") {
-                self.owe("}")?;
-                return Ok(variants);
-            }
+        self.owe("{");
+        let mut goes_on = self.begins("}");
+        if !goes_on {
+            self.wrong(&["an enum without variants has no values"]);
         }
-        Err(self.wrong(&["`}` is missing"]))
+        for _ in 0..self.rest.len() {
+            if !goes_on {
+                break;
+            }
+            let variant = self.variant();
+            self.keep(&mut variants, variant);
+            goes_on = self.goes_on("}");
+        }
+        variants
+    }
+
+    /// Takes a lifetime or a type parameter, or the comma before one.
+    fn parameter(&mut self, parameters: &mut Vec<&'a str>) {
+        let name = self.step();
+        if name == "const" || self.peek() == ":" {
+            self.wrong(&["only lifetimes and types without bounds can be parameters"]);
+        } else if name != "," {
+            self.keep(parameters, name);
+        }
     }
 
     /// Takes the lifetimes and type parameters.
-    fn parameters(&mut self) -> Result<Vec<&'a str>, Trouble> {
+    fn parameters(&mut self) -> Vec<&'a str> {
         let mut parameters = Vec::new(self.alloc);
-        if !self.take("<") {
-            return Ok(parameters);
-        }
+        let mut is_open = self.take("<") && !self.take(">");
         for _ in 0..self.rest.len() {
-            let name = self.step();
-            if name == ">" {
-                return Ok(parameters);
+            if !is_open {
+                break;
             }
-            if name == "const" || self.peek() == ":" {
-                return Err(self.wrong(&[
-                    "only lifetimes and types without bounds can be parameters",
-                ]));
-            }
-            if name != "," {
-                parameters.push(name)?;
-            }
+            self.parameter(&mut parameters);
+            is_open = !self.take(">");
         }
-        Err(self.wrong(&["`>` is missing"]))
+        if is_open {
+            self.wrong(&["`>` is missing"]);
+        }
+        parameters
     }
 
     /// Takes `struct` or `enum`, and says whether it is the latter.
-    fn is_enum(&mut self) -> Result<bool, Trouble> {
-        match self.step() {
-            "struct" => Ok(false),
-            "enum" => Ok(true),
-            other => Err(self.wrong(&["a struct or an enum is wanted in place of `", other, "`"])),
+    fn is_enum(&mut self) -> bool {
+        let word = self.step();
+        let is_enum = word == "enum";
+        if !is_enum && word != "struct" {
+            self.wrong(&["a struct or an enum is wanted in place of `", word, "`"]);
         }
+        is_enum
     }
 
     /// Takes the name of a type.
-    fn type_name(&mut self) -> Result<&'a str, Trouble> {
-        let name = self.word()?;
+    fn type_name(&mut self) -> &'a str {
+        let name = self.word();
         if is_among(name, OF_POSTCARD) {
-            return Err(self.wrong(&[
-                "`",
-                name,
-                "` is also a name of postcard's: call it otherwise",
-            ]));
+            self.refuse(name, "` is also a name of postcard's: call it otherwise");
         }
         self.name = name;
-        Ok(name)
+        name
     }
 
     /// Takes what is declared.
-    fn body(&mut self, is_enum: bool) -> Result<Body<'a>, Trouble> {
+    fn body(&mut self, is_enum: bool) -> Body<'a> {
         if is_enum {
-            let variants = self.variants()?;
-            return Ok(Body::Enum(variants));
+            return Body::Enum(self.variants());
         }
-        let fields = self.fields()?;
+        let fields = self.fields();
         match fields.form {
             Form::Named => {}
-            _ => self.owe(";")?,
+            _ => self.owe(";"),
         }
-        Ok(Body::Struct(fields))
+        Body::Struct(fields)
     }
 
     /// Takes a declaration.
-    fn declaration(&mut self) -> Result<Declaration<'a>, Trouble> {
-        self.attributes()?;
+    fn declaration(&mut self) -> Declaration<'a> {
+        self.attributes();
         self.visibility();
-        let is_enum = self.is_enum()?;
-        let name = self.type_name()?;
-        let parameters = self.parameters()?;
-        let body = self.body(is_enum)?;
-        Ok(Declaration {
+        let is_enum = self.is_enum();
+        let name = self.type_name();
+        let parameters = self.parameters();
+        let body = self.body(is_enum);
+        Declaration {
             name,
             parameters,
             body,
             marks: self.marks,
-        })
+        }
     }
 
-    /// What a token `// message` marks the next declaration for.
-    fn marks_of(&self, mark: &str) -> Result<Marks, Trouble> {
-        let mut marks = Marks {
-            max_size: false,
-            exact: false,
-        };
-        let Some((_, words)) = mark.split_once(':') else {
-            return Ok(marks);
+    /// Takes a word behind `// message:`.
+    fn mark(&mut self, word: &str) {
+        match word {
+            "MaxSize" => self.marks.max_size = true,
+            "Exact" => self.marks.exact = true,
+            _ => self.wrong(&[
+                "a message can be marked for MaxSize and Exact, not for `",
+                word,
+                "`",
+            ]),
+        }
+    }
+
+    /// Takes the words of a token `// message`, which mark the next declaration.
+    fn marks(&mut self, token: &str) {
+        self.marks = UNMARKED;
+        let Some((_, words)) = token.split_once(':') else {
+            return;
         };
         for word in words.split(',') {
-            match word.trim() {
-                "MaxSize" => marks.max_size = true,
-                "Exact" => marks.exact = true,
-                other => {
-                    return Err(self.wrong(&[
-                        "a message can be marked for MaxSize and Exact, not for `",
-                        other,
-                        "`",
-                    ]));
-                }
-            }
+            self.mark(word.trim());
         }
-        Ok(marks)
     }
 
-    /// Takes tokens up to a mark and the declaration behind it; nothing where there is no mark left.
-    fn next(&mut self) -> Result<Option<Declaration<'a>>, Trouble> {
+    /// Takes a token, or an attribute, and says whether it marks the next declaration.
+    fn takes_mark(&mut self) -> bool {
+        let token = self.step();
+        if token.starts_with("// message") {
+            self.marks(token);
+            return true;
+        }
+        if token != "#" {
+            return false;
+        }
+        let (message, max_size) = self.attribute();
+        self.marks = Marks {
+            max_size,
+            exact: false,
+        };
+        message
+    }
+
+    /// Takes tokens up to what marks a declaration, and says whether anything does.
+    fn finds_mark(&mut self) -> bool {
         for _ in 0..self.rest.len() {
-            let token = self.step();
-            if token.starts_with("// message") {
-                self.marks = self.marks_of(token)?;
-                return Ok(Some(self.declaration()?));
-            }
-            if token == "#" {
-                let (message, max_size) = self.attribute();
-                if message {
-                    self.marks = Marks {
-                        max_size,
-                        exact: false,
-                    };
-                    return Ok(Some(self.declaration()?));
-                }
+            if self.takes_mark() {
+                return true;
             }
         }
-        Ok(None)
+        false
     }
 }
 
-/// The marked declarations. What is wrong in one is appended to the faults, and then the next is read.
+/// The marked declarations, and what is wrong in others, a line each.
 pub fn declarations<'a>(
     alloc: Global,
     tokens: &'a [Token],
-    faults: &mut Vec<Fault>,
-) -> Result<Vec<Declaration<'a>>, Trouble> {
-    let mut parser = Parser {
-        alloc,
-        rest: tokens,
-        line: 0,
-        name: "",
-        marks: Marks {
-            max_size: false,
-            exact: false,
-        },
-    };
+) -> Result<(Vec<Declaration<'a>>, String), AllocError> {
+    let mut parser = Parser::new(alloc, tokens);
     let mut found = Vec::new(alloc);
     for _ in 0..tokens.len() {
-        match parser.next() {
-            Ok(Some(declaration)) => found.push(declaration)?,
-            Ok(None) => return Ok(found),
-            Err(Trouble::Wrong(fault)) => faults.push(fault)?,
-            Err(Trouble::NoMemory) => return Err(Trouble::NoMemory),
+        if !parser.finds_mark() {
+            break;
         }
+        let declaration = parser.declaration();
+        parser.keep(&mut found, declaration);
+        parser.recover();
     }
-    Ok(found)
+    let faults = parser.faults.finished()?;
+    Ok((found, faults))
 }

@@ -1,11 +1,9 @@
 //! From declarations to implementations, laid out as `rt fmt` leaves them.
 use crate::declarations::{Body, Declaration, Fields, Form};
-use crate::names::{names_above, names_used, sizes_used};
-use crate::parser::declarations;
+use crate::names::{Module, names_used};
 use crate::parts::{Parts, ROW, Spelling};
 use crate::text::Text;
-use crate::tokens::{Token, is_lifetime};
-use crate::trouble::{Fault, Trouble};
+use crate::tokens::is_lifetime;
 use std::alloc::{AllocError, Global};
 
 /// How long a line may be.
@@ -169,9 +167,18 @@ impl Printer {
         self.begin(indent, &[close, after, "\n"]);
     }
 
-    /// Writes the names that are used of a module.
-    fn uses(&mut self, module: &str, names: &[&str]) {
-        self.begin(0, &["use ", module, "::"]);
+    /// Writes which names are used of a module, unless none are.
+    fn uses(&mut self, all: &[Declaration], module: Module) {
+        match names_used(self.alloc, all, module) {
+            Ok(names) if names.is_empty() => {}
+            Ok(names) => self.uses_names(module, &names),
+            Err(_) => self.out.note(true),
+        }
+    }
+
+    /// Writes that these names are used of a module.
+    fn uses_names(&mut self, module: Module, names: &[&str]) {
+        self.begin(0, &["use ", module.path(), "::"]);
         let mut text = Text::new(self.alloc);
         text.put_used(names);
         if self.fits(text.len()) {
@@ -218,30 +225,22 @@ impl Printer {
         );
     }
 
-    /// Writes the names that are used of greatest sizes.
-    fn uses_sizes(&mut self, all: &[Declaration]) -> Result<(), AllocError> {
-        let sizes = sizes_used(self.alloc, all)?;
-        if !sizes.is_empty() {
-            self.uses("postcard::experimental::max_size", &sizes);
-        }
-        Ok(())
-    }
-
     /// Writes what stands before the implementations.
-    fn top(&mut self, all: &[Declaration]) -> Result<(), AllocError> {
-        let above = names_above(self.alloc, all)?;
-        self.uses("super", &above);
-        self.uses_sizes(all)?;
+    fn top(&mut self, all: &[Declaration]) {
+        self.out.put(&[HEAD]);
+        if all.is_empty() {
+            return;
+        }
+        self.uses(all, Module::Above);
+        self.uses(all, Module::Sizes);
         self.line(0, "use postcard::ser_flavors::Flavor;");
-        let names = names_used(self.alloc, all)?;
-        self.uses("postcard", &names);
-        Ok(())
+        self.uses(all, Module::Postcard);
     }
 
     /// Writes the implementations of a declaration.
-    fn put(&mut self, it: &Declaration, path: &str) -> Result<(), AllocError> {
+    fn put(&mut self, it: &Declaration, path: &str) {
         match &it.body {
-            Body::Struct(fields) => self.put_struct(it, fields)?,
+            Body::Struct(fields) => self.put_struct(it, fields),
             Body::Enum(variants) => self.put_enum(it, variants, path),
         }
         if it.marks.max_size {
@@ -250,30 +249,19 @@ impl Printer {
         if it.marks.exact {
             self.implement(it, "ExactShape", "Exact", " {}\n");
         }
-        Ok(())
     }
 }
 
-/// Writes the implementations of the marked declarations among these tokens. `path` is that of the definitions of the
-/// module in which they stand.
-pub fn write_all(
-    alloc: Global,
-    path: &str,
-    tokens: &[Token],
-    faults: &mut Vec<Fault>,
-) -> Result<String, Trouble> {
-    let all = declarations(alloc, tokens, faults)?;
+/// Writes the implementations of these declarations. `path` is that of the definitions of the module in which they stand.
+pub fn write_all(alloc: Global, path: &str, all: &[Declaration]) -> Result<String, AllocError> {
     let mut printer = Printer {
         alloc,
         out: Text::new(alloc),
         begun: 0,
     };
-    printer.out.put(&[HEAD]);
-    if !all.is_empty() {
-        printer.top(&all)?;
+    printer.top(all);
+    for it in all {
+        printer.put(it, path);
     }
-    for it in &all {
-        printer.put(it, path)?;
-    }
-    Ok(printer.out.finished()?)
+    printer.out.finished()
 }

@@ -3,23 +3,6 @@ use crate::declarations::{Declaration, Field, Fields};
 use crate::parts::{Parts, ROW, Spelling};
 use crate::printer::Printer;
 use crate::text::Text;
-use std::alloc::{AllocError, Global};
-
-/// The parts of a shape of several fields, row by row: a field, or one without a type for several.
-fn rows_of<'a>(alloc: Global, fields: &[Field<'a>]) -> Result<Vec<Field<'a>>, AllocError> {
-    let mut rows = Vec::new(alloc);
-    for (place, row) in fields.chunks(ROW).enumerate() {
-        rows.push(match row {
-            [field] => *field,
-            _ => Field {
-                place,
-                name: "",
-                of: &[],
-            },
-        })?;
-    }
-    Ok(rows)
-}
 
 impl Text {
     /// Appends how the shape is written of a struct with an alias for it, or of one without.
@@ -85,62 +68,71 @@ impl Printer {
     }
 
     /// Takes a shape of several fields apart.
-    fn taken_apart(&mut self, fields: &Fields) -> Result<(), AllocError> {
+    fn taken_apart(&mut self, fields: &Fields) {
         let all = fields.spelled(Spelling::Bound);
         self.begin(8, &["let "]);
         if fields.items.len() <= ROW {
-            self.tuple(8, all, " = it;", "");
-            return Ok(());
+            return self.tuple(8, all, " = it;", "");
         }
-        self.rows(&fields.items)?;
+        self.rows(&fields.items);
         for (place, row) in fields.items.chunks(ROW).enumerate() {
-            self.row_taken_apart(place, all.row(row))?;
+            self.row_taken_apart(place, all.row(row));
         }
-        Ok(())
     }
 
-    /// Ends a line with the names of the rows of a shape.
-    fn rows(&mut self, fields: &[Field]) -> Result<(), AllocError> {
-        let rows = rows_of(self.alloc, fields)?;
+    /// Ends a line with the names of the rows of a shape: those of fields, and one without a type for several.
+    fn rows(&mut self, fields: &[Field]) {
+        let mut rows = Vec::new(self.alloc);
+        for (place, row) in fields.chunks(ROW).enumerate() {
+            let part = match row {
+                [field] => *field,
+                _ => Field {
+                    place,
+                    name: "",
+                    of: &[],
+                },
+            };
+            self.out.note(rows.push(part).is_err());
+        }
         let spelling = Spelling::Row;
         let parts = Parts {
             fields: &rows,
             spelling,
         };
         self.tuple(8, parts, " = it;", "");
-        Ok(())
     }
 
     /// Takes a row of a shape apart, where it has several fields.
-    fn row_taken_apart(&mut self, place: usize, row: Parts) -> Result<(), AllocError> {
+    fn row_taken_apart(&mut self, place: usize, row: Parts) {
         if row.fields.len() > 1 {
-            let after = format!(in self.alloc; " = row_{place};")?;
+            let mut after = Text::new(self.alloc);
+            after.put(&[" = row_"]);
+            after.put_number(place);
+            after.put(&[";"]);
             self.begin(8, &["let "]);
             self.tuple(8, row, after.as_str(), "");
         }
-        Ok(())
     }
 
     /// Writes which value a shape stands for.
-    fn struct_read(&mut self, it: &Declaration, fields: &Fields) -> Result<(), AllocError> {
+    fn struct_read(&mut self, it: &Declaration, fields: &Fields) {
         self.implement(it, "DeserializeShape", "Readable", " {\n    fn from_shape(");
         self.out.put_argument(it, fields);
         self.out.put(&[") -> "]);
         self.out.put_whole_name(it, "");
         self.out.put(&[" {\n"]);
         if fields.items.len() > 1 {
-            self.taken_apart(fields)?;
+            self.taken_apart(fields);
         }
         self.begin(8, &[it.name]);
         self.literal(8, fields, "");
         self.out.put(&["    }\n}\n"]);
-        Ok(())
     }
 
     /// Writes the implementations of a struct.
-    pub fn put_struct(&mut self, it: &Declaration, fields: &Fields) -> Result<(), AllocError> {
+    pub fn put_struct(&mut self, it: &Declaration, fields: &Fields) {
         self.struct_shape(it, fields);
         self.struct_written(it, fields);
-        self.struct_read(it, fields)
+        self.struct_read(it, fields);
     }
 }

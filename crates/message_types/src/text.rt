@@ -1,11 +1,11 @@
 //! Texts that are made piece by piece.
 use std::alloc::{AllocError, Global};
+use std::fmt::Write;
 
 /// A text that is made. Where memory runs out its other calls go on, and [`finished`](Text::finished) says so at the end:
 /// so those who write it need not ask at each piece.
 #[derive(Drop)]
 pub struct Text {
-    alloc: Global,
     whole: String,
     failed: bool,
 }
@@ -14,7 +14,6 @@ impl Text {
     /// The empty text.
     pub fn new(alloc: Global) -> Text {
         Text {
-            alloc,
             whole: String::new(alloc),
             failed: false,
         }
@@ -23,9 +22,8 @@ impl Text {
     /// Appends these pieces.
     pub fn put(&mut self, pieces: &[&str]) {
         for piece in pieces {
-            if self.whole.push_str(piece).is_err() {
-                self.failed = true;
-            }
+            let failed = self.whole.push_str(piece).is_err();
+            self.note(failed);
         }
     }
 
@@ -38,16 +36,24 @@ impl Text {
 
     /// Appends a number.
     pub fn put_number(&mut self, number: usize) {
-        match format!(in self.alloc; "{number}") {
-            Ok(digits) => self.put(&[digits.as_str()]),
-            Err(_) => self.failed = true,
-        }
+        let failed = write!(self.whole, "{number}").is_err();
+        self.note(failed);
     }
 
     /// Appends a text that was made apart.
     pub fn put_text(&mut self, other: &Text) {
-        self.put(&[other.whole.as_str()]);
-        self.failed = self.failed || other.failed;
+        self.put(&[other.as_str()]);
+        self.note(other.failed);
+    }
+
+    /// Notes whether memory ran out for something that the text needs.
+    pub fn note(&mut self, failed: bool) {
+        self.failed = self.failed || failed;
+    }
+
+    /// The text so far.
+    pub fn as_str(&self) -> &str {
+        self.whole.as_str()
     }
 
     /// How long it is, in bytes.

@@ -1,11 +1,24 @@
 //! The words and marks of a file.
 use std::alloc::{AllocError, Global};
+use std::mem;
 
 /// A word, a lifetime, a number or a mark, and the line where it stands. A comment `// message` is one token.
 #[derive(Drop)]
 pub struct Token {
     pub text: String,
     pub line: usize,
+}
+
+/// The tokens of lines that are read one behind another. Where memory runs out, [`finished`](Tokens::finished) says so at
+/// the end.
+#[derive(Drop)]
+pub struct Tokens {
+    alloc: Global,
+    found: Vec<Token>,
+    /// The line that is read, counted from 1, and its word that isn't ended yet.
+    line: usize,
+    word: String,
+    failed: bool,
 }
 
 /// Whether a character can stand in a word, a lifetime or a number.
@@ -33,43 +46,6 @@ pub fn first_letter(word: &str) -> Option<char> {
     word.chars().next()
 }
 
-/// Appends a text as a token, unless it is empty.
-fn put(alloc: Global, text: &str, line: usize, tokens: &mut Vec<Token>) -> Result<(), AllocError> {
-    if text.is_empty() {
-        return Ok(());
-    }
-    let text = String::from_str(alloc, text)?;
-    tokens.push(Token { text, line })?;
-    Ok(())
-}
-
-/// Appends a mark as a token.
-fn put_mark(
-    alloc: Global,
-    mark: char,
-    line: usize,
-    tokens: &mut Vec<Token>,
-) -> Result<(), AllocError> {
-    let mut text = String::new(alloc);
-    text.push(mark)?;
-    tokens.push(Token { text, line })?;
-    Ok(())
-}
-
-/// Appends the tokens of a line. Other comments than `// message` are left out.
-pub fn read_line(
-    alloc: Global,
-    line: &str,
-    number: usize,
-    tokens: &mut Vec<Token>,
-) -> Result<(), AllocError> {
-    let line = line.trim();
-    if line == "// message" || line.starts_with("// message:") {
-        return put(alloc, line, number, tokens);
-    }
-    read_code(alloc, without_comment(line), number, tokens)
-}
-
 /// A line up to a comment.
 fn without_comment(line: &str) -> &str {
     match line.split_once("//") {
@@ -78,24 +54,71 @@ fn without_comment(line: &str) -> &str {
     }
 }
 
-/// Appends the tokens of a line's code.
-fn read_code(
-    alloc: Global,
-    code: &str,
-    number: usize,
-    tokens: &mut Vec<Token>,
-) -> Result<(), AllocError> {
-    let mut word = String::new(alloc);
-    for character in code.chars() {
-        if is_of_word(character) {
-            word.push(character)?;
-            continue;
-        }
-        put(alloc, word.as_str(), number, tokens)?;
-        word.clear();
-        if !character.is_whitespace() {
-            put_mark(alloc, character, number, tokens)?;
+impl Tokens {
+    /// None yet.
+    pub fn new(alloc: Global) -> Tokens {
+        Tokens {
+            alloc,
+            found: Vec::new(alloc),
+            line: 0,
+            word: String::new(alloc),
+            failed: false,
         }
     }
-    put(alloc, word.as_str(), number, tokens)
+
+    /// Appends the tokens of the next line. Other comments than `// message` are left out.
+    pub fn read_line(&mut self, line: &str) {
+        self.line = self.line.saturating_add(1);
+        let line = line.trim();
+        if line == "// message" || line.starts_with("// message:") {
+            let failed = self.word.push_str(line).is_err();
+            self.end_word(failed);
+        } else {
+            self.read_code(without_comment(line));
+        }
+    }
+
+    /// Appends the tokens of a line's code.
+    fn read_code(&mut self, code: &str) {
+        for character in code.chars() {
+            self.read_character(character);
+        }
+        self.end_word(false);
+    }
+
+    /// Appends a character: to a word, or as a mark.
+    fn read_character(&mut self, character: char) {
+        let is_of_word = is_of_word(character);
+        if !is_of_word {
+            self.end_word(false);
+        }
+        if !character.is_whitespace() {
+            let failed = self.word.push(character).is_err();
+            self.failed = self.failed || failed;
+        }
+        if !is_of_word {
+            self.end_word(false);
+        }
+    }
+
+    /// Appends what was read of a word or of a mark as a token, unless it is empty, and notes whether memory ran out for it.
+    fn end_word(&mut self, failed: bool) {
+        self.failed = self.failed || failed;
+        if self.word.is_empty() {
+            return;
+        }
+        let text = mem::replace(&mut self.word, String::new(self.alloc));
+        let line = self.line;
+        if self.found.push(Token { text, line }).is_err() {
+            self.failed = true;
+        }
+    }
+
+    /// The tokens, if there was memory for them.
+    pub fn finished(self) -> Result<Vec<Token>, AllocError> {
+        if self.failed {
+            return Err(AllocError);
+        }
+        Ok(self.found)
+    }
 }
