@@ -1,7 +1,7 @@
 //! The implementations of an enum.
 use crate::declarations::{Declaration, Fields, VariantOf};
-use crate::parts::Spelling;
-use crate::printer::Printer;
+use crate::parts::{Parts, Spelling};
+use crate::printer::{WIDTH, WRITTEN};
 use crate::text::Text;
 use crate::tokens::is_among;
 
@@ -61,6 +61,20 @@ fn constructor(kind: Kind) -> &'static str {
     }
 }
 
+/// What the shape is.
+const SHAPE: &str = "
+    type Shape = %NameShape%;
+
+    ghost shape = { λ v. elim v [
+";
+
+/// How the reading of the shape begins.
+const READ: &str = "
+impl%: Readable% DeserializeShape for %Name% {
+    fn from_shape(it: %NameShape%) -> %Name% {
+        match it {
+";
+
 /// Whether a name is also one of the shapes' own.
 fn is_of_shapes(name: &str) -> bool {
     is_among(
@@ -82,14 +96,16 @@ impl Text {
     /// Appends the shape of these variants.
     fn put_shape(&mut self, variants: &[VariantOf]) {
         let mut opened: usize = 0;
+        let mut before = "";
         for (index, variant) in variants.iter().enumerate() {
-            self.put(&[if index == 0 { "" } else { ", " }]);
+            self.put(before);
+            before = ", ";
             let kind = place_of(index, variants.len()).kind;
             match kind {
                 Kind::OfFour(1 | 2 | 3) => {}
                 _ => {
                     opened = opened.saturating_add(1);
-                    self.put(&[owner(kind), "<"]);
+                    self.put_all(&[owner(kind), "<"]);
                 }
             }
             self.put_tuple(variant.fields.spelled(Spelling::Type));
@@ -99,33 +115,35 @@ impl Text {
 
     /// Appends a variant with the names of its fields.
     fn put_pattern(&mut self, name: &str, variant: &VariantOf) {
-        self.put(&[name, "::", variant.name]);
+        self.put_all(&[name, "::", variant.name]);
         self.put_fields(&variant.fields);
     }
 
     /// Appends the name by which ghost text knows a variant.
     fn put_ghost_name(&mut self, name: &str) {
-        self.put(&[if is_of_shapes(name) { "The" } else { "" }, name]);
+        if is_of_shapes(name) {
+            self.put("The");
+        }
+        self.put(name);
     }
 
     /// Appends the variants as their names for ghost text bring them in.
     fn put_brought_in(&mut self, variants: &[VariantOf]) {
-        let mut is_first = true;
+        let mut before = "";
         for variant in variants {
             let name = variant.name;
-            self.put(&[if is_first { "" } else { ", " }, name]);
+            self.put_all(&[before, name]);
             if is_of_shapes(name) {
-                self.put(&[" as "]);
-                self.put_ghost_name(name);
+                self.put_all(&[" as The", name]);
             }
-            is_first = false;
+            before = ", ";
         }
     }
 
     /// Appends the names to which ghost text binds fields.
     fn put_ghosts(&mut self, fields: &Fields) {
         for field in &fields.items {
-            self.put(&[" "]);
+            self.put(" ");
             self.put_part(field, Spelling::Ghost);
         }
     }
@@ -133,7 +151,7 @@ impl Text {
     /// Appends what a variant holds, as ghost text.
     fn put_held(&mut self, variant: &VariantOf) {
         if variant.fields.items.is_empty() {
-            return self.put(&["tt"]);
+            return self.put("tt");
         }
         self.put_tuple(variant.fields.spelled(Spelling::Ghost));
     }
@@ -142,7 +160,7 @@ impl Text {
     fn put_seen_as(&mut self, place: Place, variant: &VariantOf) {
         self.put_times(place.fours, "More (");
         self.put_times(place.ones, "Other (");
-        self.put(&[constructor(place.kind), " "]);
+        self.put_all(&[constructor(place.kind), " "]);
         self.put_held(variant);
         self.put_times(place.fours.saturating_add(place.ones), ")");
     }
@@ -150,19 +168,17 @@ impl Text {
     /// Appends the pattern for the shape at a place, of what a variant holds.
     fn put_shape_pattern(&mut self, place: Place, variant: &VariantOf) {
         self.put_times(place.ones, "Variant::Other(");
-        self.put(&[owner(place.kind), "::", constructor(place.kind), "("]);
+        self.put_all(&[owner(place.kind), "::", constructor(place.kind), "("]);
         self.put_tuple(variant.fields.spelled(Spelling::Bound));
         self.put_times(place.ones.saturating_add(1), ")");
     }
-}
 
-impl Printer {
     /// Writes the parts of a shape that is broken over lines, between its opening and its rest.
     fn opened(&mut self, indent: usize, held: &[VariantOf]) {
         for variant in held {
-            self.begin(indent, &[]);
-            self.out.put_tuple(variant.fields.spelled(Spelling::Type));
-            self.out.put(&[",\n"]);
+            self.begin(indent, "");
+            self.put_tuple(variant.fields.spelled(Spelling::Type));
+            self.put(",\n");
         }
     }
 
@@ -176,55 +192,57 @@ impl Printer {
 
     /// Writes the alias of the shape.
     fn alias(&mut self, it: &Declaration, variants: &[VariantOf]) {
-        self.line(0, "");
-        self.begin(0, &["type "]);
-        self.out.put_whole_name(it, "Shape");
-        self.out.put(&[" = "]);
+        self.fill(it, "\ntype %NameShape% = ");
         let mut rest = variants;
         let mut opened: usize = 0;
         for _ in 0..variants.len() {
-            if !self.broken(opened, rest) {
+            let count = self.broken(opened, rest);
+            if count == 0 {
                 break;
             }
             opened = opened.saturating_add(1);
-            rest = rest.get(first_of(rest).1..).unwrap_or(&[]);
-            self.begin(opened.saturating_mul(4), &[]);
+            rest = rest.get(count..).unwrap_or(&[]);
+            self.begin(opened.saturating_mul(4), "");
         }
         self.closed(opened);
     }
 
-    /// Ends a line with a shape where it fits, and else with how it begins, behind so many that are open. Says whether it is
-    /// broken.
-    fn broken(&mut self, opened: usize, variants: &[VariantOf]) -> bool {
+    /// Ends a line with a shape where it fits, and else with how it begins, behind so many that are open. Says how many variants
+    /// stand before the rest of one that is broken.
+    fn broken(&mut self, opened: usize, variants: &[VariantOf]) -> usize {
         let (open, count) = first_of(variants);
+        let after = if opened == 0 { ";" } else { "," };
+        if count == 0 {
+            self.put_shape(variants);
+            self.end(after);
+            return 0;
+        }
         let mut shape = Text::new(self.alloc);
         shape.put_shape(variants);
-        if count == 0 || self.fits(shape.len().saturating_add(1)) {
-            self.out.put_text(&shape);
-            self.out.put(&[if opened == 0 { ";\n" } else { ",\n" }]);
-            return false;
+        if self.fitted(shape, WIDTH, after) {
+            return 0;
         }
-        self.out.put(&[open, "\n"]);
+        self.end(open);
         let deeper = opened.saturating_add(1).saturating_mul(4);
         self.opened(deeper, variants.get(..count).unwrap_or(&[]));
-        true
+        count
     }
 
     /// Writes the value of a variant as its shape.
     fn seen(&mut self, variant: &VariantOf, place: Place) {
-        self.begin(6, &["| "]);
-        self.out.put_ghost_name(variant.name);
-        self.out.put_ghosts(&variant.fields);
-        self.out.put(&[" ↦ "]);
-        self.out.put_seen_as(place, variant);
-        self.out.put(&["\n"]);
+        self.begin(6, "| ");
+        self.put_ghost_name(variant.name);
+        self.put_ghosts(&variant.fields);
+        self.put(" ↦ ");
+        self.put_seen_as(place, variant);
+        self.put("\n");
     }
 
     /// Writes what ghost text brings in.
     fn enum_uses(&mut self, name: &str, variants: &[VariantOf], path: &str) {
-        self.begin(4, &["ghost use Rattle.", path, ".", name, ".TheVariants.{"]);
-        self.out.put_brought_in(variants);
-        self.out.put(&["};\n"]);
+        self.put_all(&["    ghost use Rattle.", path, ".", name, ".TheVariants.{"]);
+        self.put_brought_in(variants);
+        self.put("};\n");
         if variants.len() > 4 {
             self.shapes_use("Variants4.TheVariants.{V0, V1, V2, V3, More}");
         }
@@ -236,73 +254,74 @@ impl Printer {
 
     /// Writes what ghost text brings in of the shapes.
     fn shapes_use(&mut self, names: &str) {
-        let path = "ghost use Rattle.postcard_tree.specs.declared.variants.";
-        self.begin(4, &[path, names, ";\n"]);
+        self.put("    ghost use Rattle.postcard_tree.specs.declared.variants.");
+        self.put_all(&[names, ";\n"]);
     }
 
     /// Writes what the shape is.
     fn enum_shape(&mut self, it: &Declaration, variants: &[VariantOf], path: &str) {
         self.alias(it, variants);
-        self.implement(it, "Shaped", "", " {\n");
+        self.fill(it, "\nimpl%% Shaped for %Name% {\n");
         self.enum_uses(it.name, variants, path);
-        self.out.put(&["\n    type Shape = "]);
-        self.out.put_whole_name(it, "Shape");
-        self.out.put(&[";\n\n    ghost shape = { λ v. elim v [\n"]);
+        self.fill(it, SHAPE);
         for (index, variant) in variants.iter().enumerate() {
             self.seen(variant, place_of(index, variants.len()));
         }
-        self.out.put(&["    ] };\n}\n"]);
+        self.put("    ] };\n}\n");
     }
 
     /// Writes how a variant is written.
     fn arm_written(&mut self, name: &str, index: usize, variant: &VariantOf) {
-        self.begin(12, &[]);
-        self.out.put_pattern(name, variant);
+        self.begin(12, "");
+        self.put_pattern(name, variant);
         if !variant.fields.items.is_empty() {
             return self.payload_written(index, variant);
         }
-        self.out.put(&[" => serializer.serialize_unit_variant("]);
-        self.out.put_number(index);
-        self.out.put(&["),\n"]);
+        self.put(" => serializer.serialize_unit_variant(");
+        self.put_number(index);
+        self.put("),\n");
     }
 
-    /// As [`arm_written`](Printer::arm_written), behind the pattern of a variant with fields.
+    /// As [`arm_written`](Text::arm_written), behind the pattern of a variant with fields.
     fn payload_written(&mut self, index: usize, variant: &VariantOf) {
-        self.out.put(&[" => serializer.serialize_newtype_variant("]);
+        self.put(" => serializer.serialize_newtype_variant(");
         let held = variant.fields.spelled(Spelling::Bound);
         let lent = if held.fields.len() == 1 { "" } else { "&" };
         let mut text = Text::new(self.alloc);
         text.put_number(index);
-        text.put(&[", ", lent]);
+        text.put_all(&[", ", lent]);
         text.put_tuple(held);
-        if self.fits(text.len().saturating_add(2)) {
-            self.out.put_text(&text);
-            return self.out.put(&["),\n"]);
+        if !self.fitted(text, WIDTH, "),") {
+            self.long_payload(index, lent, held);
         }
-        self.out.put(&["\n"]);
-        self.begin(16, &[]);
-        self.out.put_number(index);
-        self.out.put(&[",\n"]);
-        self.begin(16, &[lent]);
-        self.tuple(16, held, ",", "");
+    }
+
+    /// What stands in the parentheses of such a call, over lines.
+    fn long_payload(&mut self, index: usize, lent: &str, held: Parts) {
+        self.put("\n");
+        self.begin(16, "");
+        self.put_number(index);
+        self.put(",\n");
+        self.begin(16, lent);
+        self.tuple(16, held, ",");
         self.line(12, "),");
     }
 
     /// Writes how the shape is written.
     fn enum_written(&mut self, it: &Declaration, variants: &[VariantOf]) {
-        self.open_written(it);
+        self.fill(it, WRITTEN);
         self.line(8, "match self {");
         for (index, variant) in variants.iter().enumerate() {
             self.arm_written(it.name, index, variant);
         }
-        self.out.put(&["        }\n    }\n}\n"]);
+        self.put("        }\n    }\n}\n");
     }
 
     /// Writes which value the shape of a variant stands for.
     fn arm_read(&mut self, indent: usize, name: &str, place: Place, variant: &VariantOf) {
-        self.begin(indent, &[]);
-        self.out.put_shape_pattern(place, variant);
-        self.out.put(&[" => ", name, "::", variant.name]);
+        self.begin(indent, "");
+        self.put_shape_pattern(place, variant);
+        self.put_all(&[" => ", name, "::", variant.name]);
         self.literal(indent, &variant.fields, ",");
     }
 
@@ -330,21 +349,12 @@ impl Printer {
             indent = indent.saturating_sub(4);
             self.line(indent, "},");
         }
-        self.out.put(&["        }\n    }\n}\n"]);
+        self.put("        }\n    }\n}\n");
     }
 
     /// Writes which value a shape stands for.
     fn enum_read(&mut self, it: &Declaration, variants: &[VariantOf]) {
-        self.implement(
-            it,
-            "DeserializeShape",
-            "Readable",
-            " {\n    fn from_shape(it: ",
-        );
-        self.out.put_whole_name(it, "Shape");
-        self.out.put(&[") -> "]);
-        self.out.put_whole_name(it, "");
-        self.out.put(&[" {\n        match it {\n"]);
+        self.fill(it, READ);
         let indent = self.arms_read(it.name, variants);
         self.arms_closed(indent);
     }

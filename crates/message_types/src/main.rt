@@ -21,7 +21,6 @@ use crate::parser::declarations;
 use crate::printer::write_all;
 use crate::text::Text;
 use crate::tokens::{Token, Tokens};
-use std::io::{BufWriter, Write};
 use std::process::ExitCode;
 use std::{env, io};
 
@@ -29,12 +28,13 @@ use std::{env, io};
 /// where no crate is named.
 fn module_path(rt: &HostRuntime) -> io::Result<String> {
     let mut path = Text::new(rt.alloc());
-    for (place, word) in env::args(rt)?.enumerate() {
-        match place {
-            0 => {}
-            1 => path.put(&[word.as_str(), ".specs.declared"]),
-            _ => path.put(&[".", word.as_str()]),
-        }
+    let mut words = env::args(rt)?;
+    words.next();
+    if let Some(name) = words.next() {
+        path.put_all(&[name.as_str(), ".specs.declared"]);
+    }
+    for word in words {
+        path.put_all(&[".", word.as_str()]);
     }
     Ok(path.finished()?)
 }
@@ -49,13 +49,6 @@ fn read_tokens(rt: &HostRuntime) -> io::Result<Vec<Token>> {
     Ok(tokens.finished()?)
 }
 
-/// Writes a text to standard output.
-fn put_out(rt: &HostRuntime, text: &str) -> io::Result<()> {
-    let mut out = BufWriter::new(rt.alloc(), io::writer(rt))?;
-    out.write_all(text.as_bytes())?;
-    out.flush()
-}
-
 /// Writes the implementations, or what is wrong to standard error; and says whether nothing is.
 fn run(rt: &HostRuntime, path: &str) -> io::Result<bool> {
     let tokens = read_tokens(rt)?;
@@ -64,7 +57,8 @@ fn run(rt: &HostRuntime, path: &str) -> io::Result<bool> {
         eprint!(rt; "{faults}")?;
         return Ok(false);
     }
-    put_out(rt, write_all(rt.alloc(), path, &all)?.as_str())?;
+    let text = write_all(rt.alloc(), path, &all)?;
+    print!(rt; "{text}")?;
     Ok(true)
 }
 

@@ -116,21 +116,23 @@ impl<'a> Names<'a> {
         let is_generic = it.is_generic();
         let is_exact = it.marks.exact;
         let (is_enum, count) = match &it.body {
-            Body::Struct(_) => (false, 0),
+            Body::Struct(_) => (false, 1),
             Body::Enum(variants) => (true, variants.len()),
         };
+        let is_bound = is_generic || !is_enum;
+        let is_bound_exact = is_generic && is_exact;
         self.put_used(&[
             (true, "DeserializeShape"),
             (true, "SerializeShape"),
             (true, "Serializer"),
             (true, "Shaped"),
             (is_generic, "Readable"),
-            (is_generic || !is_enum, "Serialize"),
+            (is_bound, "Serialize"),
             (is_exact, "ExactShape"),
-            (is_exact && is_generic, "Exact"),
+            (is_bound_exact, "Exact"),
             (is_enum, "Last"),
             (count > 4, "Variants4"),
-            (is_enum && count % 4 != 1, "Variant"),
+            (count % 4 != 1, "Variant"),
         ]);
     }
 

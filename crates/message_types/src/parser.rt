@@ -160,11 +160,11 @@ impl<'a> Parser<'a> {
         if self.is_wrong {
             return;
         }
-        self.faults.put(&["line "]);
+        self.faults.put("line ");
         self.faults.put_number(self.line);
-        self.faults.put(&[": "]);
-        self.faults.put(pieces);
-        self.faults.put(&["\n"]);
+        self.faults.put(": ");
+        self.faults.put_all(pieces);
+        self.faults.put("\n");
         self.is_wrong = true;
         self.hidden = self.rest;
         self.rest = &[];

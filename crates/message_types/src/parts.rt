@@ -50,23 +50,15 @@ impl Text {
         for token in words {
             let word = token.text.as_str();
             let blank = parted && !is_among(word, &[")", ">", "]", ","]);
-            self.put(&[if blank { " " } else { "" }, word]);
+            self.put_all(&[if blank { " " } else { "" }, word]);
             parted = is_parted(word);
         }
     }
 
     /// Appends a word and a number.
-    fn put_placed(&mut self, word: &str, place: usize) {
-        self.put(&[word]);
+    pub fn put_placed(&mut self, word: &str, place: usize) {
+        self.put(word);
         self.put_number(place);
-    }
-
-    /// Appends the name to which a field is bound.
-    fn put_bound(&mut self, field: &Field) {
-        if field.name.is_empty() {
-            return self.put_placed("p", field.place);
-        }
-        self.put(&[field.name]);
     }
 
     /// Appends a field as a member, behind this.
@@ -74,7 +66,14 @@ impl Text {
         if field.name.is_empty() {
             return self.put_placed(before, field.place);
         }
-        self.put(&[before, field.name]);
+        self.put(before);
+        self.put(field.name);
+    }
+
+    /// Appends the name to which a field is bound.
+    fn put_bound(&mut self, field: &Field) {
+        let before = if field.name.is_empty() { "p" } else { "" };
+        self.put_member(before, field);
     }
 
     /// Appends a field.
@@ -90,11 +89,11 @@ impl Text {
 
     /// Appends fields with commas between them.
     fn put_list(&mut self, parts: Parts) {
-        let mut is_first = true;
+        let mut before = "";
         for field in parts.fields {
-            self.put(&[if is_first { "" } else { ", " }]);
+            self.put(before);
             self.put_part(field, parts.spelling);
-            is_first = false;
+            before = ", ";
         }
     }
 
@@ -103,9 +102,9 @@ impl Text {
         if parts.fields.len() == 1 {
             return self.put_list(parts);
         }
-        self.put(&["("]);
+        self.put("(");
         self.put_list(parts);
-        self.put(&[")"]);
+        self.put(")");
     }
 
     /// Appends a tuple: one part stands for itself, and more than six stand in rows.
@@ -115,11 +114,11 @@ impl Text {
         }
         let mut is_first = true;
         for row in parts.fields.chunks(ROW) {
-            self.put(&[if is_first { "(" } else { ", " }]);
+            self.put(if is_first { "(" } else { ", " });
             self.put_row(parts.row(row));
             is_first = false;
         }
-        self.put(&[")"]);
+        self.put(")");
     }
 
     /// Appends the fields that are behind the name of a struct or a variant, by the names to which they are bound.
@@ -131,9 +130,9 @@ impl Text {
             Form::Named if fields.items.is_empty() => (" {", "}"),
             Form::Named => (" { ", " }"),
         };
-        self.put(&[open]);
+        self.put(open);
         self.put_list(parts);
-        self.put(&[close]);
+        self.put(close);
     }
 }
 

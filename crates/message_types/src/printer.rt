@@ -7,7 +7,7 @@ use crate::tokens::is_lifetime;
 use std::alloc::{AllocError, Global};
 
 /// How long a line may be.
-const WIDTH: usize = 100;
+pub const WIDTH: usize = 100;
 
 /// How long the parts of a tuple or of a call may be in one line, with their parentheses.
 const PARTS: usize = 62;
@@ -20,89 +20,115 @@ const HEAD: &str = "//! How the message types of the module above are written an
 // Written by message_types from their declarations: change those, and write this anew.
 ";
 
-/// Writes lines.
-#[derive(Drop)]
-pub struct Printer {
-    pub alloc: Global,
-    pub out: Text,
-    /// Where the last line begins.
-    begun: usize,
-}
+/// How the writing of a shape begins.
+pub const WRITTEN: &str = "
+impl%: Serialize% SerializeShape for %Name% {
+    fn serialize_shape<F: Flavor>(&self, serializer: &mut Serializer<F>) -> postcard::Result<()> {
+";
 
 impl Text {
-    /// Appends type parameters, with this bound unless it is empty; a lifetime has none.
+    /// Appends type parameters, each with this behind it; a lifetime without.
     fn put_parameters(&mut self, parameters: &[&str], bound: &str) {
-        let mut is_first = true;
-        for parameter in parameters {
-            self.put(&[if is_first { "<" } else { ", " }, parameter]);
-            if !bound.is_empty() && !is_lifetime(parameter) {
-                self.put(&[": ", bound]);
-            }
-            is_first = false;
+        if parameters.is_empty() {
+            return;
         }
-        self.put(&[if is_first { "" } else { ">" }]);
+        let mut before = "<";
+        for parameter in parameters {
+            let bound = if is_lifetime(parameter) { "" } else { bound };
+            self.put_all(&[before, parameter, bound]);
+            before = ", ";
+        }
+        self.put(">");
     }
 
     /// Appends a type's name, with this behind it, and its parameters.
     pub fn put_whole_name(&mut self, it: &Declaration, suffix: &str) {
-        self.put(&[it.name, suffix]);
+        self.put_all(&[it.name, suffix]);
         self.put_parameters(&it.parameters, "");
     }
 
     /// Appends the names that are used of a module.
     fn put_used(&mut self, names: &[&str]) {
         if let [name] = names {
-            return self.put(&[name, ";"]);
+            return self.put_all(&[name, ";"]);
         }
-        let mut is_first = true;
+        let mut before = "{";
         for name in names {
-            self.put(&[if is_first { "{" } else { ", " }, name]);
-            is_first = false;
+            self.put_all(&[before, name]);
+            before = ", ";
         }
-        self.put(&["};"]);
+        self.put("};");
     }
-}
 
-impl Printer {
-    /// Begins a line that is indented so far, with these pieces.
-    pub fn begin(&mut self, indent: usize, pieces: &[&str]) {
-        self.begun = self.out.len();
-        self.out.put_times(indent, " ");
-        self.out.put(pieces);
+    /// Appends a text in which a word between two `%` stands for a part of a declaration: `Name` for its name and `NameShape`
+    /// for that of its shape, both with the type parameters, and another for the type parameters, each with that behind it.
+    pub fn fill(&mut self, it: &Declaration, text: &str) {
+        for (place, piece) in text.split('%').enumerate() {
+            if place % 2 == 0 {
+                self.put(piece);
+            } else {
+                self.put_part_of(it, piece);
+            }
+        }
+    }
+
+    /// Appends what such a word stands for.
+    fn put_part_of(&mut self, it: &Declaration, word: &str) {
+        match word {
+            "Name" => self.put_whole_name(it, ""),
+            "NameShape" => self.put_whole_name(it, "Shape"),
+            bound => self.put_parameters(&it.parameters, bound),
+        }
+    }
+
+    /// Begins a line that is indented so far, with this.
+    pub fn begin(&mut self, indent: usize, piece: &str) {
+        self.put_times(indent, " ");
+        self.put(piece);
+    }
+
+    /// Ends a line with this.
+    pub fn end(&mut self, piece: &str) {
+        self.put(piece);
+        self.put("\n");
     }
 
     /// Writes a line.
     pub fn line(&mut self, indent: usize, text: &str) {
-        self.begin(indent, &[text, "\n"]);
-    }
-
-    /// Whether so much more fits in the line that is begun.
-    pub fn fits(&self, length: usize) -> bool {
-        let written = self.out.len().saturating_sub(self.begun);
-        written.saturating_add(length) <= WIDTH
+        self.begin(indent, "");
+        self.end(text);
     }
 
     /// Writes parts a line each, with a comma behind.
     fn lines(&mut self, indent: usize, parts: Parts) {
         for field in parts.fields {
-            self.begin(indent, &[]);
-            self.out.put_part(field, parts.spelling);
-            self.out.put(&[",\n"]);
+            self.begin(indent, "");
+            self.put_part(field, parts.spelling);
+            self.put(",\n");
         }
+    }
+
+    /// Ends the line that is begun with a text that is at most so long and with this, if both fit in it, and says whether they do.
+    pub fn fitted(&mut self, text: Text, most: usize, after: &str) -> bool {
+        let behind = text.len().saturating_add(after.len());
+        let fits = text.len() <= most && self.column().saturating_add(behind) <= WIDTH;
+        if fits {
+            self.put_text(&text);
+            self.end(after);
+        }
+        fits
     }
 
     /// Writes a row of a tuple, with a comma behind.
     fn row(&mut self, indent: usize, parts: Parts) {
         let mut text = Text::new(self.alloc);
         text.put_row(parts);
-        self.begin(indent, &[]);
-        if text.len() <= PARTS && self.fits(text.len().saturating_add(1)) {
-            self.out.put_text(&text);
-            return self.out.put(&[",\n"]);
+        self.begin(indent, "");
+        if !self.fitted(text, PARTS, ",") {
+            self.put("(\n");
+            self.lines(indent.saturating_add(4), parts);
+            self.line(indent, "),");
         }
-        self.out.put(&["(\n"]);
-        self.lines(indent.saturating_add(4), parts);
-        self.begin(indent, &["),\n"]);
     }
 
     /// Writes the parts of a tuple a line each; more than six stand in rows.
@@ -115,56 +141,61 @@ impl Printer {
         }
     }
 
-    /// Ends a line that is begun, and indented so far, with a tuple, a text behind it and a call of it.
-    pub fn tuple(&mut self, indent: usize, parts: Parts, after: &str, call: &str) {
+    /// Ends a line that is begun, and indented so far, with a tuple and a text behind it. A call, as `.call()`, stands in a line
+    /// of its own behind a tuple that is broken.
+    pub fn tuple(&mut self, indent: usize, parts: Parts, after: &str) {
+        if parts.fields.len() < 2 {
+            self.put_tuple(parts);
+            return self.end(after);
+        }
         let mut text = Text::new(self.alloc);
         text.put_tuple(parts);
-        let behind = after.len().saturating_add(call.len());
-        let fits = text.len() <= PARTS && self.fits(text.len().saturating_add(behind));
-        if fits || parts.fields.len() < 2 {
-            self.out.put_text(&text);
-            return self.out.put(&[after, call, "\n"]);
+        if !self.fitted(text, PARTS, after) {
+            self.long_tuple(indent, parts, after);
         }
-        self.long_tuple(indent, parts, after, call);
     }
 
-    /// As [`tuple`](Printer::tuple), over lines.
-    fn long_tuple(&mut self, indent: usize, parts: Parts, after: &str, call: &str) {
+    /// As [`tuple`](Text::tuple), over lines.
+    fn long_tuple(&mut self, indent: usize, parts: Parts, after: &str) {
         let deeper = indent.saturating_add(4);
-        self.out.put(&["(\n"]);
+        self.put("(\n");
         self.parts(deeper, parts);
-        self.begin(indent, &[")", after, "\n"]);
-        if !call.is_empty() {
-            self.line(deeper, call);
+        self.begin(indent, ")");
+        if after.starts_with('.') {
+            self.put("\n");
+            self.begin(deeper, "");
         }
+        self.end(after);
     }
 
     /// Ends a line that is begun, and indented so far, with the fields behind the name of a struct or a variant, and a text
     /// behind them.
     pub fn literal(&mut self, indent: usize, fields: &Fields, after: &str) {
+        if fields.items.is_empty() {
+            self.put_fields(fields);
+            return self.end(after);
+        }
         let mut text = Text::new(self.alloc);
         text.put_fields(fields);
-        let is_short = match fields.form {
-            Form::Named => text.len() <= LITERAL,
-            _ => text.len() <= PARTS,
+        let most = match fields.form {
+            Form::Named => LITERAL,
+            _ => PARTS,
         };
-        let fits = is_short && self.fits(text.len().saturating_add(after.len()));
-        if fits || fields.items.is_empty() {
-            self.out.put_text(&text);
-            return self.out.put(&[after, "\n"]);
+        if !self.fitted(text, most, after) {
+            self.long_literal(indent, fields, after);
         }
-        self.long_literal(indent, fields, after);
     }
 
-    /// As [`literal`](Printer::literal), over lines.
+    /// As [`literal`](Text::literal), over lines.
     fn long_literal(&mut self, indent: usize, fields: &Fields, after: &str) {
         let (open, close) = match fields.form {
             Form::Tuple => ("(\n", ")"),
             _ => (" {\n", "}"),
         };
-        self.out.put(&[open]);
+        self.put(open);
         self.lines(indent.saturating_add(4), fields.spelled(Spelling::Bound));
-        self.begin(indent, &[close, after, "\n"]);
+        self.begin(indent, close);
+        self.end(after);
     }
 
     /// Writes which names are used of a module, unless none are.
@@ -172,62 +203,47 @@ impl Printer {
         match names_used(self.alloc, all, module) {
             Ok(names) if names.is_empty() => {}
             Ok(names) => self.uses_names(module, &names),
-            Err(_) => self.out.note(true),
+            Err(_) => self.note(true),
         }
     }
 
     /// Writes that these names are used of a module.
     fn uses_names(&mut self, module: Module, names: &[&str]) {
-        self.begin(0, &["use ", module.path(), "::"]);
+        self.put_all(&["use ", module.path(), "::"]);
         let mut text = Text::new(self.alloc);
         text.put_used(names);
-        if self.fits(text.len()) {
-            self.out.put_text(&text);
-        } else {
-            self.out.put(&["{\n"]);
-            self.wrapped(4, names);
-            self.out.put(&["};"]);
+        if !self.fitted(text, WIDTH, "") {
+            self.put("{\n");
+            self.wrapped(names);
+            self.put("};\n");
         }
-        self.out.put(&["\n"]);
     }
 
     /// Writes names with a comma behind each, as many a line as fit.
-    fn wrapped(&mut self, indent: usize, names: &[&str]) {
-        self.begin(indent, &[]);
-        let mut is_first = true;
+    fn wrapped(&mut self, names: &[&str]) {
         for name in names {
-            if !is_first && !self.fits(name.len().saturating_add(2)) {
-                self.out.put(&["\n"]);
-                self.begin(indent, &[]);
-                is_first = true;
-            }
-            self.out.put(&[if is_first { "" } else { " " }, name, ","]);
-            is_first = false;
+            let before = self.before_name(name.len());
+            self.put(before);
+            self.put_all(&[name, ","]);
         }
-        self.out.put(&["\n"]);
+        self.put("\n");
     }
 
-    /// Begins an implementation whose type parameters have this bound, up to this.
-    pub fn implement(&mut self, it: &Declaration, name: &str, bound: &str, after: &str) {
-        self.out.put(&["\nimpl"]);
-        self.out.put_parameters(&it.parameters, bound);
-        self.out.put(&[" ", name, " for "]);
-        self.out.put_whole_name(it, "");
-        self.out.put(&[after]);
-    }
-
-    /// Opens how a shape is written.
-    pub fn open_written(&mut self, it: &Declaration) {
-        self.implement(it, "SerializeShape", "Serialize", " {\n");
-        self.line(
-            4,
-            "fn serialize_shape<F: Flavor>(&self, serializer: &mut Serializer<F>) -> postcard::Result<()> {",
-        );
+    /// What stands before a name that is so long: a blank, or what begins a line.
+    fn before_name(&self, length: usize) -> &'static str {
+        let column = self.column();
+        if column == 0 {
+            "    "
+        } else if column.saturating_add(length).saturating_add(2) <= WIDTH {
+            " "
+        } else {
+            "\n    "
+        }
     }
 
     /// Writes what stands before the implementations.
     fn top(&mut self, all: &[Declaration]) {
-        self.out.put(&[HEAD]);
+        self.put(HEAD);
         if all.is_empty() {
             return;
         }
@@ -238,30 +254,26 @@ impl Printer {
     }
 
     /// Writes the implementations of a declaration.
-    fn put(&mut self, it: &Declaration, path: &str) {
+    fn put_declaration(&mut self, it: &Declaration, path: &str) {
         match &it.body {
             Body::Struct(fields) => self.put_struct(it, fields),
             Body::Enum(variants) => self.put_enum(it, variants, path),
         }
         if it.marks.max_size {
-            self.implement(it, "MaxSizeShape", "MaxSize", " {}\n");
+            self.fill(it, "\nimpl%: MaxSize% MaxSizeShape for %Name% {}\n");
         }
         if it.marks.exact {
-            self.implement(it, "ExactShape", "Exact", " {}\n");
+            self.fill(it, "\nimpl%: Exact% ExactShape for %Name% {}\n");
         }
     }
 }
 
 /// Writes the implementations of these declarations. `path` is that of the definitions of the module in which they stand.
 pub fn write_all(alloc: Global, path: &str, all: &[Declaration]) -> Result<String, AllocError> {
-    let mut printer = Printer {
-        alloc,
-        out: Text::new(alloc),
-        begun: 0,
-    };
-    printer.top(all);
+    let mut text = Text::new(alloc);
+    text.top(all);
     for it in all {
-        printer.put(it, path);
+        text.put_declaration(it, path);
     }
-    printer.out.finished()
+    text.finished()
 }

@@ -1,8 +1,13 @@
 //! The implementations of a struct.
 use crate::declarations::{Declaration, Field, Fields};
 use crate::parts::{Parts, ROW, Spelling};
-use crate::printer::Printer;
+use crate::printer::WRITTEN;
 use crate::text::Text;
+
+/// How the reading of a shape begins.
+const READ: &str = "
+impl%: Readable% DeserializeShape for %Name% {
+    fn from_shape(";
 
 impl Text {
     /// Appends how the shape is written of a struct with an alias for it, or of one without.
@@ -16,7 +21,7 @@ impl Text {
     /// Appends the value of a struct as its shape, as ghost text.
     fn put_seen(&mut self, fields: &Fields) {
         if fields.items.is_empty() {
-            return self.put(&["tt"]);
+            return self.put("tt");
         }
         self.put_tuple(fields.spelled(Spelling::Member("v.")));
     }
@@ -24,55 +29,50 @@ impl Text {
     /// Appends what stands between the parentheses of the function that reads a shape.
     fn put_argument(&mut self, it: &Declaration, fields: &Fields) {
         match fields.items.len() {
-            0 => self.put(&["()"]),
+            0 => self.put("()"),
             1 => self.put_tuple(fields.spelled(Spelling::Bound)),
-            _ => self.put(&["it"]),
+            _ => self.put("it"),
         }
-        self.put(&[": "]);
+        self.put(": ");
         self.put_struct_shape(it, fields);
     }
-}
 
-impl Printer {
     /// Writes the alias of a shape of several parts.
     fn struct_alias(&mut self, it: &Declaration, fields: &Fields) {
         if fields.items.len() < 2 {
             return;
         }
-        self.line(0, "");
-        self.begin(0, &["type "]);
-        self.out.put_whole_name(it, "Shape");
-        self.out.put(&[" = "]);
-        self.tuple(0, fields.spelled(Spelling::Type), ";", "");
+        self.fill(it, "\ntype %NameShape% = ");
+        self.tuple(0, fields.spelled(Spelling::Type), ";");
     }
 
     /// Writes what the shape is.
     fn struct_shape(&mut self, it: &Declaration, fields: &Fields) {
         self.struct_alias(it, fields);
-        self.implement(it, "Shaped", "", " {\n    type Shape = ");
-        self.out.put_struct_shape(it, fields);
-        self.out.put(&[";\n\n    ghost shape = { λ v. "]);
-        self.out.put_seen(fields);
-        self.out.put(&[" };\n}\n"]);
+        self.fill(it, "\nimpl%% Shaped for %Name% {\n    type Shape = ");
+        self.put_struct_shape(it, fields);
+        self.put(";\n\n    ghost shape = { λ v. ");
+        self.put_seen(fields);
+        self.put(" };\n}\n");
     }
 
     /// Writes how the shape is written.
     fn struct_written(&mut self, it: &Declaration, fields: &Fields) {
         let one = fields.items.len() == 1;
         let before = if one { "self." } else { "&self." };
-        self.open_written(it);
-        self.begin(8, &[]);
+        self.fill(it, WRITTEN);
+        self.begin(8, "");
         let members = fields.spelled(Spelling::Member(before));
-        self.tuple(8, members, "", ".serialize(serializer)");
-        self.out.put(&["    }\n}\n"]);
+        self.tuple(8, members, ".serialize(serializer)");
+        self.put("    }\n}\n");
     }
 
     /// Takes a shape of several fields apart.
     fn taken_apart(&mut self, fields: &Fields) {
         let all = fields.spelled(Spelling::Bound);
-        self.begin(8, &["let "]);
+        self.begin(8, "let ");
         if fields.items.len() <= ROW {
-            return self.tuple(8, all, " = it;", "");
+            return self.tuple(8, all, " = it;");
         }
         self.rows(&fields.items);
         for (place, row) in fields.items.chunks(ROW).enumerate() {
@@ -92,41 +92,38 @@ impl Printer {
                     of: &[],
                 },
             };
-            self.out.note(rows.push(part).is_err());
+            self.note(rows.push(part).is_err());
         }
         let spelling = Spelling::Row;
         let parts = Parts {
             fields: &rows,
             spelling,
         };
-        self.tuple(8, parts, " = it;", "");
+        self.tuple(8, parts, " = it;");
     }
 
     /// Takes a row of a shape apart, where it has several fields.
     fn row_taken_apart(&mut self, place: usize, row: Parts) {
         if row.fields.len() > 1 {
             let mut after = Text::new(self.alloc);
-            after.put(&[" = row_"]);
-            after.put_number(place);
-            after.put(&[";"]);
-            self.begin(8, &["let "]);
-            self.tuple(8, row, after.as_str(), "");
+            after.put_placed(" = row_", place);
+            after.put(";");
+            self.begin(8, "let ");
+            self.tuple(8, row, after.as_str());
         }
     }
 
     /// Writes which value a shape stands for.
     fn struct_read(&mut self, it: &Declaration, fields: &Fields) {
-        self.implement(it, "DeserializeShape", "Readable", " {\n    fn from_shape(");
-        self.out.put_argument(it, fields);
-        self.out.put(&[") -> "]);
-        self.out.put_whole_name(it, "");
-        self.out.put(&[" {\n"]);
+        self.fill(it, READ);
+        self.put_argument(it, fields);
+        self.fill(it, ") -> %Name% {\n");
         if fields.items.len() > 1 {
             self.taken_apart(fields);
         }
-        self.begin(8, &[it.name]);
+        self.begin(8, it.name);
         self.literal(8, fields, "");
-        self.out.put(&["    }\n}\n"]);
+        self.put("    }\n}\n");
     }
 
     /// Writes the implementations of a struct.

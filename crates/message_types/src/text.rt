@@ -6,6 +6,7 @@ use std::fmt::Write;
 /// so those who write it need not ask at each piece.
 #[derive(Drop)]
 pub struct Text {
+    pub alloc: Global,
     whole: String,
     failed: bool,
 }
@@ -14,23 +15,29 @@ impl Text {
     /// The empty text.
     pub fn new(alloc: Global) -> Text {
         Text {
+            alloc,
             whole: String::new(alloc),
             failed: false,
         }
     }
 
+    /// Appends a piece.
+    pub fn put(&mut self, piece: &str) {
+        let failed = self.whole.push_str(piece).is_err();
+        self.note(failed);
+    }
+
     /// Appends these pieces.
-    pub fn put(&mut self, pieces: &[&str]) {
+    pub fn put_all(&mut self, pieces: &[&str]) {
         for piece in pieces {
-            let failed = self.whole.push_str(piece).is_err();
-            self.note(failed);
+            self.put(piece);
         }
     }
 
     /// Appends a piece so many times.
     pub fn put_times(&mut self, count: usize, piece: &str) {
         for _ in 0..count {
-            self.put(&[piece]);
+            self.put(piece);
         }
     }
 
@@ -42,7 +49,7 @@ impl Text {
 
     /// Appends a text that was made apart.
     pub fn put_text(&mut self, other: &Text) {
-        self.put(&[other.as_str()]);
+        self.put(other.as_str());
         self.note(other.failed);
     }
 
@@ -59,6 +66,14 @@ impl Text {
     /// How long it is, in bytes.
     pub fn len(&self) -> usize {
         self.whole.len()
+    }
+
+    /// How long its last line is so far, in bytes.
+    pub fn column(&self) -> usize {
+        match self.whole.rsplit_once('\n') {
+            Some((_, line)) => line.len(),
+            None => self.len(),
+        }
     }
 
     /// The whole text, if there was memory for it.
