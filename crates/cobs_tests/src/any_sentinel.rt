@@ -1,5 +1,5 @@
 //! `cobs` for any sentinel: in pieces, in place, and by decoders that keep their room.
-use crate::checks::{are_equal, check, decodes, ends, fails, goes_on};
+use crate::checks::{all_true, are_equal, check, check_all, decodes, ends, fails, goes_on};
 use cobs::{
     CobsDecoder, CobsDecoderHeapless, CobsDecoderOwned, CobsEncoder, DecodeError, FrameFront,
     decode_in_place_report_with_sentinel,
@@ -12,12 +12,14 @@ const FRAME: [u8; 5] = [9, 0, 1, 8, 6];
 fn encodes_in_pieces(rt: HostRuntime) {
     let mut room = [0u8; 5];
     let mut encoder = CobsEncoder::new_with_sentinel(&mut room, 10);
-    check(
+    check_all(
         &rt,
-        encoder.push(&[10, 11]).is_ok()
-            && encoder.push(&[0, 12]).is_ok()
-            && encoder.finalize() == 5
-            && are_equal(&room, &FRAME),
+        [
+            encoder.push(&[10, 11]).is_ok(),
+            encoder.push(&[0, 12]).is_ok(),
+            encoder.finalize() == 5,
+            are_equal(&room, &FRAME),
+        ],
     );
 }
 
@@ -25,40 +27,50 @@ fn encodes_in_pieces(rt: HostRuntime) {
 fn front_of_a_frame(rt: HostRuntime) {
     let mut room = [0u8; 5];
     let mut front = FrameFront::begin_with_sentinel(&mut room, 255);
-    check(
+    check_all(
         &rt,
-        front.push(&mut room, &[1]).is_ok()
-            && front.length() == 2
-            && are_equal(&room[..2], &[0xFD, 0xFE]),
+        [
+            front.push(&mut room, &[1]).is_ok(),
+            front.length() == 2,
+            are_equal(&room[..2], &[0xFD, 0xFE]),
+        ],
     );
 }
 
 // Whether a frame for the sentinel 1 has these bytes of 254 ones and a 7. The ones are masked as a run.
 fn is_masked(frame: &[u8; 257]) -> bool {
-    frame[0] == 254 && are_equal(&frame[1..255], &[0; 254]) && are_equal(&frame[255..], &[3, 6])
+    all_true([
+        frame[0] == 254,
+        are_equal(&frame[1..255], &[0; 254]),
+        are_equal(&frame[255..], &[3, 6]),
+    ])
 }
 
 // Whether it is decoded to them.
 fn is_full_block(frame: &[u8]) -> bool {
     let mut room = [0u8; 255];
     let mut decoder = CobsDecoder::new_with_sentinel(&mut room, 1);
-    goes_on(decoder.push(frame))
-        && ends(decoder.feed(1), 255)
-        && decoder.dest().starts_with(&[1; 254])
-        && decoder.dest().ends_with(&[7])
+    all_true([
+        goes_on(decoder.push(frame)),
+        ends(decoder.feed(1), 255),
+        decoder.dest().starts_with(&[1; 254]),
+        decoder.dest().ends_with(&[7]),
+    ])
 }
 
 #[test]
 fn full_block(rt: HostRuntime) {
     let mut frame = [0u8; 257];
     let mut encoder = CobsEncoder::new_with_sentinel(&mut frame, 1);
-    check(
+    check_all(
         &rt,
-        encoder.push(&[1; 254]).is_ok()
-            && encoder.push(&[7]).is_ok()
-            && encoder.finalize() == 257
-            && is_masked(&frame)
-            && is_full_block(&frame),
+        [
+            encoder.push(&[1; 254]).is_ok(),
+            encoder.push(&[7]).is_ok(),
+            encoder.finalize() == 257,
+            is_masked(&frame),
+            is_full_block(&frame),
+        ],
     );
 }
 
@@ -66,10 +78,12 @@ fn full_block(rt: HostRuntime) {
 fn begins_again(decoder: &mut CobsDecoderOwned) -> bool {
     let cut = decoder.push(&FRAME[..3]);
     decoder.reset();
-    goes_on(cut)
-        && goes_on(decoder.push(&FRAME))
-        && ends(decoder.feed(10), 4)
-        && are_equal(decoder.dest(), &[10, 11, 0, 12])
+    all_true([
+        goes_on(cut),
+        goes_on(decoder.push(&FRAME)),
+        ends(decoder.feed(10), 4),
+        are_equal(decoder.dest(), &[10, 11, 0, 12]),
+    ])
 }
 
 #[test]
@@ -86,32 +100,32 @@ fn decoder_that_keeps_an_array(rt: HostRuntime) {
     let mut decoder = CobsDecoderHeapless::<4>::new_with_sentinel(10);
     let cut = decoder.push(&FRAME[..3]);
     decoder.reset();
-    check(
+    check_all(
         &rt,
-        goes_on(cut)
-            && goes_on(decoder.push(&FRAME))
-            && ends(decoder.feed(10), 4)
-            && are_equal(decoder.dest(), &[10, 11, 0, 12]),
+        [
+            goes_on(cut),
+            goes_on(decoder.push(&FRAME)),
+            ends(decoder.feed(10), 4),
+            are_equal(decoder.dest(), &[10, 11, 0, 12]),
+        ],
     );
 }
 
 #[test]
 fn in_place(rt: HostRuntime) {
     let mut line = [9, 0, 1, 8, 6, 10, 9, 0];
-    let report = decode_in_place_report_with_sentinel(&mut line, 10);
-    check(
+    let mut broken = [9, 1, 10, 7];
+    let refused = DecodeError::InvalidFrame { decoded_bytes: 1 };
+    check_all(
         &rt,
-        decodes(report, 5, 4) && are_equal(&line, &[10, 11, 0, 12, 6, 10, 9, 0]),
-    );
-}
-
-#[test]
-fn broken_in_place(rt: HostRuntime) {
-    let mut line = [9, 1, 10, 7];
-    let report = decode_in_place_report_with_sentinel(&mut line, 10);
-    check(
-        &rt,
-        fails(report, DecodeError::InvalidFrame { decoded_bytes: 1 })
-            && are_equal(&line[2..], &[10, 7]),
+        [
+            decodes(decode_in_place_report_with_sentinel(&mut line, 10), 5, 4),
+            are_equal(&line, &[10, 11, 0, 12, 6, 10, 9, 0]),
+            fails(
+                decode_in_place_report_with_sentinel(&mut broken, 10),
+                refused,
+            ),
+            are_equal(&broken[2..], &[10, 7]),
+        ],
     );
 }

@@ -7,6 +7,16 @@ pub(crate) fn check(rt: &impl Abort, is_right: bool) {
     assert!(rt; is_right);
 }
 
+/// Whether each of these holds. All are found first: this is cheaper to prove than one behind another's success.
+pub(crate) fn all_true<const N: usize>(found: [bool; N]) -> bool {
+    found == [true; N]
+}
+
+/// Ends a test that found one of these wrong.
+pub(crate) fn check_all<const N: usize>(rt: &impl Abort, are_right: [bool; N]) {
+    assert_eq!(rt; are_right, [true; N]);
+}
+
 /// Whether these bytes are those.
 pub(crate) fn are_equal(found: &[u8], wanted: &[u8]) -> bool {
     *found == *wanted

@@ -1,5 +1,5 @@
 //! `cobs`, encoding: greatest lengths, pieces and refusals.
-use crate::checks::{are_equal, check};
+use crate::checks::{all_true, are_equal, check, check_all};
 use cobs::*;
 
 // 10, 11, 0, 12
@@ -32,45 +32,59 @@ fn no_room_between_zeros(rt: HostRuntime) {
 
 // Whether 254 ones are taken and one more is not, nor anything behind it.
 fn takes_a_full_block(encoder: &mut CobsEncoder<'_>) -> bool {
-    encoder.push(&[1; 254]).is_ok()
-        && encoder.push(&[]).is_ok()
-        && encoder.push(&[1]).is_err()
-        && encoder.push(&[]).is_err()
+    all_true([
+        encoder.push(&[1; 254]).is_ok(),
+        encoder.push(&[]).is_ok(),
+        encoder.push(&[1]).is_err(),
+        encoder.push(&[]).is_err(),
+    ])
 }
 
 #[test]
 fn a_byte_more_than_a_full_block(rt: HostRuntime) {
     let mut dest = [0u8; 255];
     let mut encoder = CobsEncoder::new(&mut dest);
-    check(
+    check_all(
         &rt,
-        takes_a_full_block(&mut encoder) && encoder.frame_length() == 0 && encoder.finalize() == 0,
+        [
+            takes_a_full_block(&mut encoder),
+            encoder.frame_length() == 0,
+            encoder.finalize() == 0,
+        ],
     );
 }
 
 // Whether 254 ones are taken in pieces.
 fn takes_pieces(encoder: &mut CobsEncoder<'_>) -> bool {
-    encoder.push(&[1; 100]).is_ok() && encoder.push(&[1; 154]).is_ok() && encoder.push(&[]).is_ok()
+    all_true([
+        encoder.push(&[1; 100]).is_ok(),
+        encoder.push(&[1; 154]).is_ok(),
+        encoder.push(&[]).is_ok(),
+    ])
 }
 
 // Whether a frame is that of 300 ones.
 fn is_frame_of_ones(frame: &[u8; 302]) -> bool {
-    frame[0] == 0xFF
-        && frame[255] == 0x2F
-        && are_equal(&frame[1..255], &[1; 254])
-        && are_equal(&frame[256..], &[1; 46])
+    all_true([
+        frame[0] == 0xFF,
+        frame[255] == 0x2F,
+        are_equal(&frame[1..255], &[1; 254]),
+        are_equal(&frame[256..], &[1; 46]),
+    ])
 }
 
 #[test]
 fn pieces_across_blocks(rt: HostRuntime) {
     let mut dest = [0u8; 302];
     let mut encoder = CobsEncoder::new(&mut dest);
-    check(
+    check_all(
         &rt,
-        takes_pieces(&mut encoder)
-            && encoder.push(&[1; 46]).is_ok()
-            && encoder.finalize() == 302
-            && is_frame_of_ones(&dest),
+        [
+            takes_pieces(&mut encoder),
+            encoder.push(&[1; 46]).is_ok(),
+            encoder.finalize() == 302,
+            is_frame_of_ones(&dest),
+        ],
     );
 }
 
@@ -78,8 +92,12 @@ fn pieces_across_blocks(rt: HostRuntime) {
 fn pieces_without_room(rt: HostRuntime) {
     let mut dest = [0u8; 301];
     let mut encoder = CobsEncoder::new(&mut dest);
-    check(
+    check_all(
         &rt,
-        takes_pieces(&mut encoder) && encoder.push(&[1; 46]).is_err() && encoder.finalize() == 0,
+        [
+            takes_pieces(&mut encoder),
+            encoder.push(&[1; 46]).is_err(),
+            encoder.finalize() == 0,
+        ],
     );
 }
