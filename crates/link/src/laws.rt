@@ -1,6 +1,5 @@
-//! Laws that the calls of this crate rest on. Each function does nothing; its contract is what it is for: call one where a proof needs
-//! it. What holds of streams and of runs of sends is said by the crate `link_laws`.
-ghost use Rattle.std.specs.Prelude.{ℕ};
+//! Laws that strict reception rests on, and those who choose a limit. Each function does nothing; its contract is what it is for: call
+//! one where a proof needs it. What holds of streams and of runs of sends is said by the crate `link_laws`.
 ghost use Rattle.link.specs.Laws.{HasRoom, IsToldByLengths};
 
 use postcard::Readable;
