@@ -1,15 +1,12 @@
 //! Values that are received by an accumulator.
 use crate::answers::need_end;
 use crate::linked::Line;
-use line_io::Reads;
+use crate::receiving::{From, reader_of};
 use link::{Gathered, receive_by_accumulator_with_sentinel};
 use postcard::DeserializeOwned;
 use std::alloc::Global;
 use values::Shown;
-use vectors::{Findings, Pieces, Trouble, pieces_of};
-
-/// What comes from a reader.
-type From<'a> = Reads<Pieces<'a>>;
+use vectors::{Findings, Trouble, pieces_of};
 
 /// Compares the values of a stream that comes at once, and of one that comes byte by byte.
 pub(crate) fn compare_gathered<T: DeserializeOwned + Shown>(
@@ -17,12 +14,10 @@ pub(crate) fn compare_gathered<T: DeserializeOwned + Shown>(
     findings: &mut Findings,
 ) -> Result<(), Trouble> {
     let pieces = pieces_of(line.alloc, line.given)?;
-    for each in [usize::MAX, 1] {
-        let reader = Reads::new(Pieces::new(&pieces, each));
-        let answer = gather::<T>(line, reader)?;
-        findings.compare("receive_by_accumulator", answer.as_str(), line.wanted)?;
-    }
-    Ok(())
+    let answer = gather::<T>(line, reader_of(&pieces, usize::MAX));
+    findings.check("receive_by_accumulator", answer, line.wanted)?;
+    let answer = gather::<T>(line, reader_of(&pieces, 1));
+    findings.check("receive_by_accumulator", answer, line.wanted)
 }
 
 /// The values that an accumulator of so many bytes gives.
@@ -36,14 +31,6 @@ fn gather<T: DeserializeOwned + Shown>(
         ..
     } = line;
     match line.limit {
-        1 => show(
-            alloc,
-            receive_by_accumulator_with_sentinel::<T, _, 1>(alloc, reader, s),
-        ),
-        3 => show(
-            alloc,
-            receive_by_accumulator_with_sentinel::<T, _, 3>(alloc, reader, s),
-        ),
         8 => show(
             alloc,
             receive_by_accumulator_with_sentinel::<T, _, 8>(alloc, reader, s),
@@ -55,10 +42,6 @@ fn gather<T: DeserializeOwned + Shown>(
         64 => show(
             alloc,
             receive_by_accumulator_with_sentinel::<T, _, 64>(alloc, reader, s),
-        ),
-        256 => show(
-            alloc,
-            receive_by_accumulator_with_sentinel::<T, _, 256>(alloc, reader, s),
         ),
         512 => show(
             alloc,

@@ -1,15 +1,12 @@
-//! Lines that speak of a link, and the types of its values, by their names.
+//! Lines that speak of a link.
 use crate::gathering::compare_gathered;
 use crate::in_place::compare_in_place;
+use crate::named::{Asks, ask_named};
 use crate::pushing::{compare_parts, compare_pushes};
 use crate::receiving::{compare_received, compare_received_strictly};
 use crate::sending::compare_sent;
-use arrayvec::{ArrayString, ArrayVec};
-use postcard::fixint::LE;
 use postcard::{Deserialize, DeserializeOwned, Exact, Serialize};
-use samples::DataEnum;
 use std::alloc::Global;
-use std::collections::BTreeMap;
 use values::Shown;
 use vectors::{Findings, Trouble, Words, bytes_of, pieces_of};
 
@@ -55,7 +52,7 @@ pub(crate) fn replay_stream(
     let line = read_line(alloc, sentinel, limit, words)?;
     let pieces = pieces_of(alloc, line.given)?;
     compare_pushes(line, &pieces, is_strict, findings)?;
-    ask_number(line, task, &mut [], findings)
+    ask(line, task, &mut [], findings)
 }
 
 /// `S any|strict TYPE LIMIT:PIECE,../LIMIT:PIECE,.. -> A|A/A|..|END`: what a receiver answers whose limit is set before
@@ -84,7 +81,7 @@ pub(crate) fn replay_stretches(
     let sentinel = words.byte(alloc)?;
     let line = read_line(alloc, sentinel, 0, words)?;
     let mut room = bytes_of(alloc, line.given)?;
-    ask_number(line, Task::ReadInPlace, room.as_mut_slice(), findings)
+    ask(line, Task::ReadInPlace, room.as_mut_slice(), findings)
 }
 
 /// `S N TYPE BYTES -> VALUE;VALUE;..`: the values that are received by an accumulator of so many bytes.
@@ -96,7 +93,7 @@ pub(crate) fn replay_gathered(
     let sentinel = words.byte(alloc)?;
     let limit = words.number()?;
     let line = read_line(alloc, sentinel, limit, words)?;
-    ask_number(line, Task::Gather, &mut [], findings)
+    ask(line, Task::Gather, &mut [], findings)
 }
 
 /// `S N TYPE SESSION/SESSION/.. -> LINE FATES/FATES/.. A;A;..`: what senders of so many bytes write, what becomes of
@@ -109,7 +106,7 @@ pub(crate) fn replay_sends(
     let sentinel = words.byte(alloc)?;
     let limit = words.number()?;
     let line = read_line(alloc, sentinel, limit, words)?;
-    ask_number(line, Task::Send, &mut [], findings)
+    ask(line, Task::Send, &mut [], findings)
 }
 
 /// The type, what is given and the answer.
@@ -132,77 +129,64 @@ fn read_line<'a>(
     })
 }
 
-/// Does what a line asks of a type.
-fn perform<'a, T: Serialize + Deserialize<&'a [u8]> + DeserializeOwned + Exact + Shown>(
-    line: Line<'_>,
+/// What a line asks of its type.
+#[derive(Drop)]
+struct Question<'a> {
+    line: Line<'a>,
     task: Task,
-    room: &'a mut [u8],
-    findings: &mut Findings,
-) -> Result<(), Trouble> {
-    match task {
-        Task::ReceiveStrictly => compare_received_strictly::<T>(line, findings),
-        _ => perform_inexact::<T>(line, task, room, findings),
+    findings: &'a mut Findings,
+}
+
+impl<'r, 'a> Asks<&'r [u8], &'r mut [u8]> for Question<'a> {
+    type Answer = Result<(), Trouble>;
+
+    fn ask<T: Serialize + Deserialize<&'r [u8]> + DeserializeOwned + Shown>(
+        self,
+        room: &'r mut [u8],
+    ) -> Result<(), Trouble> {
+        let Question {
+            line,
+            task,
+            findings,
+        } = self;
+        match task {
+            Task::Receive => compare_received::<T>(line, findings),
+            Task::ReceiveStrictly => Err(Trouble::Unreadable),
+            Task::ReadInPlace => compare_in_place::<T>(line, room, findings),
+            Task::Gather => compare_gathered::<T>(line, findings),
+            Task::Send => compare_sent::<T>(line, findings),
+        }
+    }
+
+    fn ask_exact<T: Serialize + Deserialize<&'r [u8]> + DeserializeOwned + Exact + Shown>(
+        self,
+        room: &'r mut [u8],
+    ) -> Result<(), Trouble> {
+        match self.task {
+            Task::ReceiveStrictly => compare_received_strictly::<T>(self.line, self.findings),
+            _ => self.ask::<T>(room),
+        }
+    }
+
+    fn ask_other(self, _: &str, _: &'r mut [u8]) -> Result<(), Trouble> {
+        Err(Trouble::Unreadable)
     }
 }
 
-/// Does what a line asks of a type that strict reception needn't take.
-fn perform_inexact<'a, T: Serialize + Deserialize<&'a [u8]> + DeserializeOwned + Shown>(
-    line: Line<'_>,
-    task: Task,
-    room: &'a mut [u8],
-    findings: &mut Findings,
-) -> Result<(), Trouble> {
-    match task {
-        Task::Receive => compare_received::<T>(line, findings),
-        Task::ReceiveStrictly => Err(Trouble::Unreadable),
-        Task::ReadInPlace => compare_in_place::<T>(line, room, findings),
-        Task::Gather => compare_gathered::<T>(line, findings),
-        Task::Send => compare_sent::<T>(line, findings),
-    }
-}
-
-/// Asks a number, a character or nothing.
-fn ask_number(
+/// Does what a line asks of the type that it names.
+fn ask(
     line: Line<'_>,
     task: Task,
     room: &mut [u8],
     findings: &mut Findings,
 ) -> Result<(), Trouble> {
-    match line.name {
-        "bool" => perform::<bool>(line, task, room, findings),
-        "u8" => perform::<u8>(line, task, room, findings),
-        "u16" => perform::<u16>(line, task, room, findings),
-        "u32" => perform::<u32>(line, task, room, findings),
-        "u64" => perform::<u64>(line, task, room, findings),
-        "i16" => perform::<i16>(line, task, room, findings),
-        "i64" => perform::<i64>(line, task, room, findings),
-        "char" => perform::<char>(line, task, room, findings),
-        "()" => perform::<()>(line, task, room, findings),
-        "LE<u16>" => perform::<LE<u16>>(line, task, room, findings),
-        _ => ask_composed(line, task, room, findings),
-    }
-}
-
-/// Asks a type that has parts.
-fn ask_composed(
-    line: Line<'_>,
-    task: Task,
-    room: &mut [u8],
-    findings: &mut Findings,
-) -> Result<(), Trouble> {
-    match line.name {
-        "String" => perform::<String>(line, task, room, findings),
-        "ArrayString<4>" => perform::<ArrayString<4>>(line, task, room, findings),
-        "Vec<u8>" => perform::<Vec<u8>>(line, task, room, findings),
-        "Vec<u16>" => perform::<Vec<u16>>(line, task, room, findings),
-        "ArrayVec<u8,2>" => perform::<ArrayVec<u8, 2>>(line, task, room, findings),
-        "[u8;3]" => perform::<[u8; 3]>(line, task, room, findings),
-        "(u8,u8)" => perform::<(u8, u8)>(line, task, room, findings),
-        "(u8,u32,String)" => perform::<(u8, u32, String)>(line, task, room, findings),
-        "Option<u16>" => perform::<Option<u16>>(line, task, room, findings),
-        "Result<u8,u16>" => perform::<Result<u8, u16>>(line, task, room, findings),
-        "DataEnum" => perform::<DataEnum>(line, task, room, findings),
-        "BTreeMap<u8,u8>" => perform_inexact::<BTreeMap<u8, u8>>(line, task, room, findings),
-        _ => Err(Trouble::Unreadable),
-    }
+    ask_named(
+        line.name,
+        Question {
+            line,
+            task,
+            findings,
+        },
+        room,
+    )
 }

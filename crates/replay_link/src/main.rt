@@ -6,6 +6,7 @@ mod answers;
 mod gathering;
 mod in_place;
 mod linked;
+mod named;
 mod pushing;
 mod receiving;
 mod sending;

@@ -4,13 +4,10 @@ ghost use Rattle.replay_link.specs.contracts.pushing.Listener.{the_row};
 
 use crate::answers::show_answer;
 use crate::linked::Line;
-use arrayvec::{ArrayString, ArrayVec};
+use crate::named::{Asks, ask_named};
 use link::{Answer, OwnedReceiver, Pushed, Receiver};
-use postcard::fixint::LE;
-use postcard::{Deserialize, DeserializeOwned, Exact};
-use samples::DataEnum;
+use postcard::{Deserialize, DeserializeOwned, Exact, Serialize};
 use std::alloc::{AllocError, Global};
-use std::collections::BTreeMap;
 use values::Shown;
 use vectors::{Findings, Trouble, number_of, pieces_of};
 
@@ -20,6 +17,15 @@ enum Call {
     Push,
     PushRef,
     PushStrict,
+}
+
+/// The name of a call.
+fn name_of(call: Call) -> &'static str {
+    match call {
+        Call::Push => "push",
+        Call::PushRef => "push_ref",
+        Call::PushStrict => "push_strict",
+    }
 }
 
 /// A receiver, of a limit that its type has or of one that is a value.
@@ -37,77 +43,42 @@ pub(crate) fn compare_pushes(
     findings: &mut Findings,
 ) -> Result<(), Trouble> {
     if is_strict {
-        let answer = push_all(line, Call::PushStrict, pieces)?;
-        findings.compare("push_strict", answer.as_str(), line.wanted)?;
-        return Ok(());
+        return compare_call(line, Call::PushStrict, pieces, findings);
     }
-    let answer = push_all(line, Call::Push, pieces)?;
-    findings.compare("push", answer.as_str(), line.wanted)?;
-    let answer = push_all(line, Call::PushRef, pieces)?;
-    findings.compare("push_ref", answer.as_str(), line.wanted)?;
-    Ok(())
+    compare_call(line, Call::Push, pieces, findings)?;
+    compare_call(line, Call::PushRef, pieces, findings)
 }
 
-/// What a new receiver of the line's limit answers.
-fn push_all(line: Line<'_>, call: Call, pieces: &[Vec<u8>]) -> Result<String, Trouble> {
-    let s = line.sentinel;
-    match line.limit {
-        0 => push_to(
-            line,
-            call,
-            Listener::Fixed(Receiver::<0>::new_with_sentinel(s)),
-            pieces,
-        ),
-        1 => push_to(
-            line,
-            call,
-            Listener::Fixed(Receiver::<1>::new_with_sentinel(s)),
-            pieces,
-        ),
-        3 => push_to(
-            line,
-            call,
-            Listener::Fixed(Receiver::<3>::new_with_sentinel(s)),
-            pieces,
-        ),
-        8 => push_to(
-            line,
-            call,
-            Listener::Fixed(Receiver::<8>::new_with_sentinel(s)),
-            pieces,
-        ),
-        16 => push_to(
-            line,
-            call,
-            Listener::Fixed(Receiver::<16>::new_with_sentinel(s)),
-            pieces,
-        ),
-        64 => push_to(
-            line,
-            call,
-            Listener::Fixed(Receiver::<64>::new_with_sentinel(s)),
-            pieces,
-        ),
-        256 => push_to(
-            line,
-            call,
-            Listener::Fixed(Receiver::<256>::new_with_sentinel(s)),
-            pieces,
-        ),
-        512 => push_to(
-            line,
-            call,
-            Listener::Fixed(Receiver::<512>::new_with_sentinel(s)),
-            pieces,
-        ),
-        1025 => push_to(
-            line,
-            call,
-            Listener::Fixed(Receiver::<1025>::new_with_sentinel(s)),
-            pieces,
-        ),
-        _ => Err(Trouble::Unreadable),
-    }
+/// Compares what an `OwnedReceiver` of the line's limit answers, and for two of the limits what a `Receiver` does.
+fn compare_call(
+    line: Line<'_>,
+    call: Call,
+    pieces: &[Vec<u8>],
+    findings: &mut Findings,
+) -> Result<(), Trouble> {
+    let Line {
+        limit,
+        sentinel: s,
+        ..
+    } = line;
+    let Ok(receiver) = OwnedReceiver::new(line.alloc, limit, s) else {
+        return Err(Trouble::NoMemory);
+    };
+    let answer = push_to(line, call, Listener::<0>::Owned(receiver), pieces);
+    findings.check(name_of(call), answer, line.wanted)?;
+    let answer = match limit {
+        3 => push_to(line, call, fixed::<3>(s), pieces),
+        64 => push_to(line, call, fixed::<64>(s), pieces),
+        _ => return Ok(()),
+    };
+    findings.check(name_of(call), answer, line.wanted)
+}
+
+/// A new receiver of so many bytes.
+fn fixed<const N: usize>(sentinel: u8) -> Listener<N>
+    requires { FitsInMemory (the_row N.row) }
+{
+    Listener::Fixed(Receiver::new_with_sentinel(sentinel))
 }
 
 /// What a receiver answers to the pieces and to the end.
@@ -161,15 +132,14 @@ pub(crate) fn compare_parts(
     findings: &mut Findings,
 ) -> Result<(), Trouble> {
     if is_strict {
-        let answer = push_parts(line, Call::PushStrict)?;
-        findings.compare("OwnedReceiver::push_strict", answer.as_str(), line.wanted)?;
-        return Ok(());
+        return findings.check(
+            "push_strict",
+            push_parts(line, Call::PushStrict),
+            line.wanted,
+        );
     }
-    let answer = push_parts(line, Call::Push)?;
-    findings.compare("OwnedReceiver::push", answer.as_str(), line.wanted)?;
-    let answer = push_parts(line, Call::PushRef)?;
-    findings.compare("OwnedReceiver::push_ref", answer.as_str(), line.wanted)?;
-    Ok(())
+    findings.check("push", push_parts(line, Call::Push), line.wanted)?;
+    findings.check("push_ref", push_parts(line, Call::PushRef), line.wanted)
 }
 
 /// `LIMIT:PIECE,../LIMIT:PIECE,..`: what one receiver answers to all parts.
@@ -232,7 +202,13 @@ fn push_piece<const N: usize>(
             break;
         }
         let mut answer = String::new(line.alloc);
-        let used = push_number(line, call, listener, rest, &mut answer)?;
+        let push = Push {
+            alloc: line.alloc,
+            call,
+            piece: rest,
+            text: &mut answer,
+        };
+        let used = ask_named(line.name, push, listener)?;
         rest = rest.get(used..).unwrap_or(&[]);
         if !answer.is_empty() {
             let at = piece.len().saturating_sub(rest.len()).saturating_sub(1);
@@ -253,41 +229,72 @@ fn add(text: &mut String, at: usize, answer: &str) -> Result<(), AllocError> {
     write!(text, "{at}{answer}")
 }
 
-/// Pushes a piece by a call, shows the answer, and says how many bytes were used.
-fn push<'a, T: Deserialize<&'a [u8]> + DeserializeOwned + Exact + Shown, const N: usize>(
+/// A piece that is pushed for the type that a line names.
+#[derive(Drop)]
+struct Push<'a> {
     alloc: Global,
     call: Call,
-    listener: &'a mut Listener<N>,
-    piece: &[u8],
-    text: &mut String,
-) -> Result<usize, Trouble> {
-    match call {
-        Call::PushStrict => match listener {
-            Listener::Fixed(receiver) => show(receiver.push_strict::<T>(alloc, piece), text),
-            Listener::Owned(receiver) => show(receiver.push_strict::<T>(alloc, piece), text),
-        },
-        _ => push_inexact::<T, N>(alloc, call, listener, piece, text),
+    piece: &'a [u8],
+    /// Shows the answer.
+    text: &'a mut String,
+}
+
+/// Says how many bytes were used.
+impl<'r, 'a, const N: usize> Asks<&'r [u8], &'r mut Listener<N>> for Push<'a> {
+    type Answer = Result<usize, Trouble>;
+
+    fn ask<T: Serialize + Deserialize<&'r [u8]> + DeserializeOwned + Shown>(
+        self,
+        listener: &'r mut Listener<N>,
+    ) -> Result<usize, Trouble> {
+        let Push {
+            alloc,
+            call,
+            piece,
+            text,
+        } = self;
+        match call {
+            Call::Push => match listener {
+                Listener::Fixed(receiver) => show(receiver.push::<T>(alloc, piece), text),
+                Listener::Owned(receiver) => show(receiver.push::<T>(alloc, piece), text),
+            },
+            Call::PushRef => match listener {
+                Listener::Fixed(receiver) => show(receiver.push_ref::<T>(alloc, piece), text),
+                Listener::Owned(receiver) => show(receiver.push_ref::<T>(alloc, piece), text),
+            },
+            Call::PushStrict => Err(Trouble::Unreadable),
+        }
+    }
+
+    fn ask_exact<T: Serialize + Deserialize<&'r [u8]> + DeserializeOwned + Exact + Shown>(
+        self,
+        listener: &'r mut Listener<N>,
+    ) -> Result<usize, Trouble> {
+        match self.call {
+            Call::PushStrict => push_strict::<T, N>(self, listener),
+            _ => self.ask::<T>(listener),
+        }
+    }
+
+    fn ask_other(self, _: &str, _: &'r mut Listener<N>) -> Result<usize, Trouble> {
+        Err(Trouble::Unreadable)
     }
 }
 
-/// As [`push`], of a type that strict reception doesn't take.
-fn push_inexact<'a, T: Deserialize<&'a [u8]> + DeserializeOwned + Shown, const N: usize>(
-    alloc: Global,
-    call: Call,
-    listener: &'a mut Listener<N>,
-    piece: &[u8],
-    text: &mut String,
+/// Pushes a piece by strict reception.
+fn push_strict<T: DeserializeOwned + Exact + Shown, const N: usize>(
+    push: Push<'_>,
+    listener: &mut Listener<N>,
 ) -> Result<usize, Trouble> {
-    match call {
-        Call::Push => match listener {
-            Listener::Fixed(receiver) => show(receiver.push::<T>(alloc, piece), text),
-            Listener::Owned(receiver) => show(receiver.push::<T>(alloc, piece), text),
-        },
-        Call::PushRef => match listener {
-            Listener::Fixed(receiver) => show(receiver.push_ref::<T>(alloc, piece), text),
-            Listener::Owned(receiver) => show(receiver.push_ref::<T>(alloc, piece), text),
-        },
-        Call::PushStrict => Err(Trouble::Unreadable),
+    let Push {
+        alloc,
+        piece,
+        text,
+        ..
+    } = push;
+    match listener {
+        Listener::Fixed(receiver) => show(receiver.push_strict::<T>(alloc, piece), text),
+        Listener::Owned(receiver) => show(receiver.push_strict::<T>(alloc, piece), text),
     }
 }
 
@@ -300,56 +307,4 @@ fn show<T: Shown + Drop>(pushed: Pushed<T>, text: &mut String) -> Result<usize, 
         Err(_) => return Err(Trouble::NoMemory),
     }
     Ok(used)
-}
-
-/// Pushes for a number, a character or nothing.
-fn push_number<const N: usize>(
-    line: Line<'_>,
-    call: Call,
-    listener: &mut Listener<N>,
-    piece: &[u8],
-    text: &mut String,
-) -> Result<usize, Trouble> {
-    let alloc = line.alloc;
-    match line.name {
-        "bool" => push::<bool, N>(alloc, call, listener, piece, text),
-        "u8" => push::<u8, N>(alloc, call, listener, piece, text),
-        "u16" => push::<u16, N>(alloc, call, listener, piece, text),
-        "u32" => push::<u32, N>(alloc, call, listener, piece, text),
-        "u64" => push::<u64, N>(alloc, call, listener, piece, text),
-        "i16" => push::<i16, N>(alloc, call, listener, piece, text),
-        "i64" => push::<i64, N>(alloc, call, listener, piece, text),
-        "char" => push::<char, N>(alloc, call, listener, piece, text),
-        "()" => push::<(), N>(alloc, call, listener, piece, text),
-        "LE<u16>" => push::<LE<u16>, N>(alloc, call, listener, piece, text),
-        _ => push_composed(line, call, listener, piece, text),
-    }
-}
-
-/// Pushes for a type that has parts.
-fn push_composed<const N: usize>(
-    line: Line<'_>,
-    call: Call,
-    listener: &mut Listener<N>,
-    piece: &[u8],
-    text: &mut String,
-) -> Result<usize, Trouble> {
-    let alloc = line.alloc;
-    match line.name {
-        "String" => push::<String, N>(alloc, call, listener, piece, text),
-        "ArrayString<4>" => push::<ArrayString<4>, N>(alloc, call, listener, piece, text),
-        "Vec<u8>" => push::<Vec<u8>, N>(alloc, call, listener, piece, text),
-        "Vec<u16>" => push::<Vec<u16>, N>(alloc, call, listener, piece, text),
-        "ArrayVec<u8,2>" => push::<ArrayVec<u8, 2>, N>(alloc, call, listener, piece, text),
-        "[u8;3]" => push::<[u8; 3], N>(alloc, call, listener, piece, text),
-        "(u8,u8)" => push::<(u8, u8), N>(alloc, call, listener, piece, text),
-        "(u8,u32,String)" => push::<(u8, u32, String), N>(alloc, call, listener, piece, text),
-        "Option<u16>" => push::<Option<u16>, N>(alloc, call, listener, piece, text),
-        "Result<u8,u16>" => push::<Result<u8, u16>, N>(alloc, call, listener, piece, text),
-        "DataEnum" => push::<DataEnum, N>(alloc, call, listener, piece, text),
-        "BTreeMap<u8,u8>" => push_inexact::<BTreeMap<u8, u8>, N>(
-            alloc, call, listener, piece, text,
-        ),
-        _ => Err(Trouble::Unreadable),
-    }
 }

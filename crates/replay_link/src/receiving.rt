@@ -12,7 +12,7 @@ use values::Shown;
 use vectors::{Findings, Pieces, Trouble, pieces_of};
 
 /// What comes from a reader.
-type From<'a> = Reads<Pieces<'a>>;
+pub(crate) type From<'a> = Reads<Pieces<'a>>;
 
 /// Compares the answers to a stream that comes in its pieces, and to one that comes byte by byte.
 pub(crate) fn compare_received<T: DeserializeOwned + Shown>(
@@ -21,14 +21,14 @@ pub(crate) fn compare_received<T: DeserializeOwned + Shown>(
 ) -> Result<(), Trouble> {
     let pieces = pieces_of(line.alloc, line.given)?;
     let wanted = without_places(line.alloc, line.wanted)?;
-    for each in [usize::MAX, 1] {
-        let reader = Reads::new(Pieces::new(&pieces, each));
-        let answer = receive_all::<T>(line, line.limit, reader)?;
-        findings.compare("receive", answer.as_str(), wanted.as_str())?;
-    }
-    let reader = Reads::new(Pieces::new(&pieces, usize::MAX));
+    let wanted = wanted.as_str();
+    let answer = receive_all::<T>(line, line.limit, reader_of(&pieces, usize::MAX));
+    findings.check("receive", answer, wanted)?;
+    let answer = receive_all::<T>(line, line.limit, reader_of(&pieces, 1));
+    findings.check("receive", answer, wanted)?;
+    let reader = reader_of(&pieces, usize::MAX);
     let got = receive_owned::<T, _>(line.alloc, reader, line.limit, line.sentinel);
-    findings.check("receive_owned", show(line.alloc, got), wanted.as_str())
+    findings.check("receive_owned", show(line.alloc, got), wanted)
 }
 
 /// As [`compare_received`], by strict reception.
@@ -38,18 +38,19 @@ pub(crate) fn compare_received_strictly<T: DeserializeOwned + Exact + Shown>(
 ) -> Result<(), Trouble> {
     let pieces = pieces_of(line.alloc, line.given)?;
     let wanted = without_places(line.alloc, line.wanted)?;
-    for each in [usize::MAX, 1] {
-        let reader = Reads::new(Pieces::new(&pieces, each));
-        let answer = receive_all_strictly::<T>(line, reader)?;
-        findings.compare("receive_strict", answer.as_str(), wanted.as_str())?;
-    }
-    let reader = Reads::new(Pieces::new(&pieces, usize::MAX));
+    let wanted = wanted.as_str();
+    let answer = receive_all_strictly::<T>(line, reader_of(&pieces, usize::MAX));
+    findings.check("receive_strict", answer, wanted)?;
+    let answer = receive_all_strictly::<T>(line, reader_of(&pieces, 1));
+    findings.check("receive_strict", answer, wanted)?;
+    let reader = reader_of(&pieces, usize::MAX);
     let got = receive_owned_strict::<T, _>(line.alloc, reader, line.limit, line.sentinel);
-    findings.check(
-        "receive_owned_strict",
-        show(line.alloc, got),
-        wanted.as_str(),
-    )
+    findings.check("receive_owned_strict", show(line.alloc, got), wanted)
+}
+
+/// A reader of the pieces, of at most so many bytes a call.
+pub(crate) fn reader_of<'a>(pieces: &'a [Vec<u8>], each: usize) -> From<'a> {
+    Reads::new(Pieces::new(pieces, each))
 }
 
 /// The answers of a receiver of so many bytes.

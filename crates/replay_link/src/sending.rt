@@ -3,14 +3,14 @@ ghost use Rattle.std.specs.Prelude.{◌≡◌, length};
 ghost use Rattle.link.specs.Fates.{SenderFitsInMemory};
 
 use crate::linked::Line;
-use crate::receiving::receive_all;
+use crate::receiving::{reader_of, receive_all};
+use line_io::Outlet;
 use line_io::memory::{Fault, Out};
-use line_io::{Outlet, Reads};
 use link::{Fate, SendError, Sender, send_each_with_sentinel};
 use postcard::{DeserializeOwned, Error, Serialize};
 use std::alloc::Global;
 use values::{Shown, in_words};
-use vectors::{Findings, Pieces, Trouble, bytes_of, digits, number_of};
+use vectors::{Findings, Trouble, bytes_of, digits, number_of};
 
 /// How many bytes a stretch of the line has at most, where it is received.
 const HEARD: usize = 1025;
@@ -63,8 +63,7 @@ fn send_sessions<T: Serialize + DeserializeOwned + Shown>(
 fn hear<T: DeserializeOwned + Shown>(line: Line<'_>, taken: Vec<u8>) -> Result<String, Trouble> {
     let mut pieces = Vec::new(line.alloc);
     pieces.push(taken)?;
-    let reader = Reads::new(Pieces::new(&pieces, usize::MAX));
-    receive_all::<T>(line, HEARD, reader)
+    receive_all::<T>(line, HEARD, reader_of(&pieces, usize::MAX))
 }
 
 /// `K@VALUE:BYTES;VALUE:BYTES;..`: adds what the writer of a session took, and what became of each send.
@@ -111,18 +110,30 @@ fn values_of<T: DeserializeOwned + Shown>(
 ) -> Result<Vec<T>, Trouble> {
     let mut values = Vec::new(alloc);
     for word in words.split(';') {
-        let (wanted, bytes) = word.rsplit_once(':').ok_or(Trouble::Unreadable)?;
-        let bytes = bytes_of(alloc, bytes)?;
-        let value = match postcard::from_bytes_owned::<T>(alloc, &bytes) {
-            Ok(value) => value,
-            Err(Error::OutOfMemory) => return Err(Trouble::NoMemory),
-            Err(_) => return Err(Trouble::Unreadable),
-        };
-        let text = in_words(alloc, &value)?;
-        findings.compare("from_bytes_owned", text.as_str(), wanted)?;
-        values.push(value)?;
+        values.push(value_of::<T>(alloc, word, findings)?)?;
     }
     Ok(values)
+}
+
+/// `VALUE:BYTES`: the value, made by reading its bytes.
+fn value_of<T: DeserializeOwned + Shown>(
+    alloc: Global,
+    word: &str,
+    findings: &mut Findings,
+) -> Result<T, Trouble> {
+    let Some((wanted, bytes)) = word.rsplit_once(':') else {
+        return Err(Trouble::Unreadable);
+    };
+    let bytes = bytes_of(alloc, bytes)?;
+    match postcard::from_bytes_owned::<T>(alloc, &bytes) {
+        Ok(value) => {
+            let text = in_words(alloc, &value)?;
+            findings.compare("from_bytes_owned", text.as_str(), wanted)?;
+            Ok(value)
+        }
+        Err(Error::OutOfMemory) => Err(Trouble::NoMemory),
+        Err(_) => Err(Trouble::Unreadable),
+    }
 }
 
 /// Sends the values by `send` of a new sender of so many bytes.
