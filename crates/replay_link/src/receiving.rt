@@ -39,11 +39,45 @@ pub(crate) fn compare_received_strictly<T: DeserializeOwned + Exact + Shown>(
     let pieces = pieces_of(line.alloc, line.given)?;
     let wanted = without_places(line.alloc, line.wanted)?;
     let wanted = wanted.as_str();
-    let answer = receive_all_strictly::<T>(line, reader_of(&pieces, usize::MAX));
-    findings.check("receive_strict", answer, wanted)?;
-    let answer = receive_all_strictly::<T>(line, reader_of(&pieces, 1));
-    findings.check("receive_strict", answer, wanted)?;
-    let reader = reader_of(&pieces, usize::MAX);
+    compare_strict::<T>(line, reader_of(&pieces, usize::MAX), wanted, findings)?;
+    compare_strict::<T>(line, reader_of(&pieces, 1), wanted, findings)?;
+    compare_owned_strict::<T>(line, reader_of(&pieces, usize::MAX), wanted, findings)?;
+    compare_owned_strict::<T>(line, reader_of(&pieces, 1), wanted, findings)
+}
+
+/// Compares the strict answers of a receiver whose limit is in its type, for two of the limits.
+fn compare_strict<T: DeserializeOwned + Exact + Shown>(
+    line: Line<'_>,
+    reader: From<'_>,
+    wanted: &str,
+    findings: &mut Findings,
+) -> Result<(), Trouble> {
+    let Line {
+        alloc,
+        sentinel: s,
+        ..
+    } = line;
+    let answer = match line.limit {
+        3 => show(
+            alloc,
+            receive_strict_with_sentinel::<T, _, 3>(alloc, reader, s),
+        ),
+        64 => show(
+            alloc,
+            receive_strict_with_sentinel::<T, _, 64>(alloc, reader, s),
+        ),
+        _ => return Ok(()),
+    };
+    findings.check("receive_strict", answer, wanted)
+}
+
+/// Compares the strict answers of a receiver whose limit is a value.
+fn compare_owned_strict<T: DeserializeOwned + Exact + Shown>(
+    line: Line<'_>,
+    reader: From<'_>,
+    wanted: &str,
+    findings: &mut Findings,
+) -> Result<(), Trouble> {
     let got = receive_owned_strict::<T, _>(line.alloc, reader, line.limit, line.sentinel);
     findings.check("receive_owned_strict", show(line.alloc, got), wanted)
 }
@@ -74,57 +108,6 @@ pub(crate) fn receive_all<T: DeserializeOwned + Shown>(
         256 => show(alloc, receive_with_sentinel::<T, _, 256>(alloc, reader, s)),
         512 => show(alloc, receive_with_sentinel::<T, _, 512>(alloc, reader, s)),
         1025 => show(alloc, receive_with_sentinel::<T, _, 1025>(alloc, reader, s)),
-        _ => Err(Trouble::Unreadable),
-    }
-}
-
-/// The strict answers of a receiver of so many bytes.
-fn receive_all_strictly<T: DeserializeOwned + Exact + Shown>(
-    line: Line<'_>,
-    reader: From<'_>,
-) -> Result<String, Trouble> {
-    let Line {
-        alloc,
-        sentinel: s,
-        ..
-    } = line;
-    match line.limit {
-        0 => show(
-            alloc,
-            receive_strict_with_sentinel::<T, _, 0>(alloc, reader, s),
-        ),
-        1 => show(
-            alloc,
-            receive_strict_with_sentinel::<T, _, 1>(alloc, reader, s),
-        ),
-        3 => show(
-            alloc,
-            receive_strict_with_sentinel::<T, _, 3>(alloc, reader, s),
-        ),
-        8 => show(
-            alloc,
-            receive_strict_with_sentinel::<T, _, 8>(alloc, reader, s),
-        ),
-        16 => show(
-            alloc,
-            receive_strict_with_sentinel::<T, _, 16>(alloc, reader, s),
-        ),
-        64 => show(
-            alloc,
-            receive_strict_with_sentinel::<T, _, 64>(alloc, reader, s),
-        ),
-        256 => show(
-            alloc,
-            receive_strict_with_sentinel::<T, _, 256>(alloc, reader, s),
-        ),
-        512 => show(
-            alloc,
-            receive_strict_with_sentinel::<T, _, 512>(alloc, reader, s),
-        ),
-        1025 => show(
-            alloc,
-            receive_strict_with_sentinel::<T, _, 1025>(alloc, reader, s),
-        ),
         _ => Err(Trouble::Unreadable),
     }
 }

@@ -8,7 +8,7 @@ use postcard::{
 };
 
 /// Variants without a payload.
-#[derive(Clone, Copy, Debug, PartialEq, Eq, Drop)]
+#[derive(Clone, Copy, PartialEq, Eq, Drop)]
 pub enum BasicEnum {
     Bib,
     Bim,
@@ -52,7 +52,7 @@ impl MaxSizeShape for BasicEnum {}
 impl ExactShape for BasicEnum {}
 
 /// Variants with a payload of each form.
-#[derive(Clone, Copy, Debug, PartialEq, Eq, Drop)]
+#[derive(Clone, Copy, PartialEq, Eq, Drop)]
 pub enum DataEnum {
     Bib(u16),
     Bim(u64),

@@ -33,7 +33,7 @@ impl<'a> DeserializeShape for RefStruct<'a> {
 impl<'a> ExactShape for RefStruct<'a> {}
 
 /// A number under a name of its own.
-#[derive(Clone, Copy, Debug, PartialEq, Eq, Drop)]
+#[derive(Clone, Copy, PartialEq, Eq, Drop)]
 pub struct NewTypeStruct(pub u32);
 
 impl Shaped for NewTypeStruct {
@@ -59,7 +59,7 @@ impl MaxSizeShape for NewTypeStruct {}
 impl ExactShape for NewTypeStruct {}
 
 /// Two numbers by their places.
-#[derive(Clone, Copy, Debug, PartialEq, Eq, Drop)]
+#[derive(Clone, Copy, PartialEq, Eq, Drop)]
 pub struct TupleStruct(pub u8, pub u16);
 
 impl Shaped for TupleStruct {
@@ -85,7 +85,7 @@ impl MaxSizeShape for TupleStruct {}
 impl ExactShape for TupleStruct {}
 
 /// A byte and a number, the payload of a variant of `DataEnum`.
-#[derive(Clone, Copy, Debug, PartialEq, Eq, Drop)]
+#[derive(Clone, Copy, PartialEq, Eq, Drop)]
 pub struct EnumStruct {
     pub eight: u8,
     pub sixt: u16,
