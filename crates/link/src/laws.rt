@@ -1,5 +1,5 @@
-//! Laws that strict reception rests on, and those who choose a limit. Each function does nothing; its contract is what it is for: call
-//! one where a proof needs it. What holds of streams and of runs of sends is said by the crate `link_laws`.
+//! What strict reception rests on, and which limit a type's frames need. Each function does nothing; its contract is what it is for:
+//! call one where a proof needs it. What holds of streams and of runs of sends is said by the crate `link_laws`.
 ghost use Rattle.link.specs.Laws.{HasRoom, IsToldByLengths};
 
 use postcard::Readable;
