@@ -2,14 +2,24 @@
 use std::env;
 
 fn main() {
-    for name in ["BENCH_LIBS", "BENCH_BEFORE", "BENCH_KIT", "BENCH_POSTCARD"] {
+    for name in [
+        "BENCH_LIBS",
+        "BENCH_BEFORE",
+        "BENCH_V3",
+        "BENCH_KIT",
+        "BENCH_POSTCARD",
+    ] {
         println!("cargo:rerun-if-env-changed={name}");
     }
     let libs = env::var("BENCH_LIBS").expect("run this by `bench/run`");
-    link(&libs, &["cobs_c", "postcard_c"]);
+    link(&libs, &["bench_cobs", "bench_postcard"]);
     if let Ok(before) = env::var("BENCH_BEFORE") {
         println!("cargo:rustc-cfg=before");
-        link(&before, &["before_cobs_c", "before_postcard_c"]);
+        link(&before, &["before_bench_cobs", "before_bench_postcard"]);
+    }
+    if let Ok(wider) = env::var("BENCH_V3") {
+        println!("cargo:rustc-cfg=v3");
+        link(&wider, &["v3_bench_cobs", "v3_bench_postcard"]);
     }
     let kit = env::var("BENCH_KIT").expect("run this by `bench/run`");
     link(&kit, &["libc_c"]);

@@ -1,4 +1,4 @@
-//! The C functions of the proved libraries, as they stand and as they stood at an earlier commit.
+//! The C functions of the proved libraries: as they stand, as they stood at an earlier commit, and built for wider vectors.
 
 /// What a call answers: whether it was done, and how many bytes it gave.
 #[repr(C)]
@@ -32,6 +32,8 @@ pub struct Found {
 
 type IntoBuffer = unsafe extern "C" fn(*const u8, usize, *mut u8, usize) -> Answer;
 type InPlace = unsafe extern "C" fn(*mut u8, usize) -> Answer;
+type IntoBufferFor = unsafe extern "C" fn(*const u8, usize, *mut u8, usize, u8) -> Answer;
+type InPlaceFor = unsafe extern "C" fn(*mut u8, usize, u8) -> Answer;
 type Stream = unsafe extern "C" fn(*const u8, usize, usize, *mut Found);
 type Write = unsafe extern "C" fn(
     u32,
@@ -55,6 +57,9 @@ pub struct Calls {
     push: IntoBuffer,
     decode: IntoBuffer,
     decode_in_place: InPlace,
+    push_for: IntoBufferFor,
+    decode_for: IntoBufferFor,
+    decode_in_place_for: InPlaceFor,
     messages: Stream,
     write: Write,
     read: Read,
@@ -68,6 +73,24 @@ fn answered(answer: Answer) -> Option<usize> {
 fn into_buffer(call: IntoBuffer, source: &[u8], dest: &mut [u8]) -> Option<usize> {
     // SAFETY: two slices that don't overlap, each by its pointer and its length.
     answered(unsafe { call(source.as_ptr(), source.len(), dest.as_mut_ptr(), dest.len()) })
+}
+
+fn into_buffer_for(
+    call: IntoBufferFor,
+    source: &[u8],
+    dest: &mut [u8],
+    sentinel: u8,
+) -> Option<usize> {
+    // SAFETY: two slices that don't overlap, each by its pointer and its length.
+    answered(unsafe {
+        call(
+            source.as_ptr(),
+            source.len(),
+            dest.as_mut_ptr(),
+            dest.len(),
+            sentinel,
+        )
+    })
 }
 
 fn stream(call: Stream, stream: &[u8], piece: usize) -> Found {
@@ -98,6 +121,23 @@ impl Calls {
     pub fn decode_in_place(&self, buf: &mut [u8]) -> Option<usize> {
         // SAFETY: a slice by its pointer and its length.
         answered(unsafe { (self.decode_in_place)(buf.as_mut_ptr(), buf.len()) })
+    }
+
+    /// As `push`, of frames for a sentinel.
+    #[inline]
+    pub fn push_for(&self, source: &[u8], dest: &mut [u8], sentinel: u8) -> Option<usize> {
+        into_buffer_for(self.push_for, source, dest, sentinel)
+    }
+
+    #[inline]
+    pub fn decode_for(&self, source: &[u8], dest: &mut [u8], sentinel: u8) -> Option<usize> {
+        into_buffer_for(self.decode_for, source, dest, sentinel)
+    }
+
+    #[inline]
+    pub fn decode_in_place_for(&self, buf: &mut [u8], sentinel: u8) -> Option<usize> {
+        // SAFETY: a slice by its pointer and its length.
+        answered(unsafe { (self.decode_in_place_for)(buf.as_mut_ptr(), buf.len(), sentinel) })
     }
 
     /// The messages of a stream, by a decoder.
@@ -157,6 +197,13 @@ macro_rules! calls {
                 fn decode(s: *const u8, n: usize, d: *mut u8, m: usize) -> Answer;
                 #[link_name = concat!($prefix, "cobs_c_decode_in_place")]
                 fn decode_in_place(b: *mut u8, n: usize) -> Answer;
+                #[link_name = concat!($prefix, "cobs_c_push_with_sentinel")]
+                fn push_for(s: *const u8, n: usize, d: *mut u8, m: usize, sentinel: u8) -> Answer;
+                #[link_name = concat!($prefix, "cobs_c_decode_with_sentinel")]
+                fn decode_for(s: *const u8, n: usize, d: *mut u8, m: usize, sentinel: u8)
+                    -> Answer;
+                #[link_name = concat!($prefix, "cobs_c_decode_in_place_with_sentinel")]
+                fn decode_in_place_for(b: *mut u8, n: usize, sentinel: u8) -> Answer;
                 #[link_name = concat!($prefix, "cobs_c_stream")]
                 fn messages(s: *const u8, n: usize, piece: usize, found: *mut Found);
                 #[link_name = concat!($prefix, "postcard_c_write")]
@@ -184,6 +231,9 @@ macro_rules! calls {
                 push,
                 decode,
                 decode_in_place,
+                push_for,
+                decode_for,
+                decode_in_place_for,
                 messages,
                 write,
                 read,
@@ -196,12 +246,19 @@ macro_rules! calls {
 calls!(now, "ours", "");
 #[cfg(before)]
 calls!(earlier, "before", "before_");
+#[cfg(v3)]
+calls!(wider, "v3", "v3_");
 
-/// The libraries as they stand, and where there are some, as they stood before.
+/// The libraries as they stand.
+pub const OURS: Calls = now::CALLS;
+
+/// The libraries as they stand, and where there are some, as they stood before and for the vectors of x86-64-v3.
 pub fn all() -> Vec<Calls> {
     vec![
         now::CALLS,
         #[cfg(before)]
         earlier::CALLS,
+        #[cfg(v3)]
+        wider::CALLS,
     ]
 }

@@ -1,20 +1,20 @@
 //! The cases: what is called on what.
 use crate::calls::{self, Calls, Found, Parts};
 use crate::data::{self, message, Numbers, Record, KINDS};
-use crate::frames::{bytes, first_zero, runs, wide};
+use crate::frames::{bytes, first_zero, runs, wide, windows};
 use crate::peers::{records as by_hand, streams as pieces};
 use crate::table::{duration, head, row, size, Report};
-use crate::timing::{best_peer, named, run, Side, Timed, Way, Work};
+use crate::timing::{best_peer, named, run, without, Side, Timed, Way, Work};
 use std::hint::black_box;
 
 const LENGTHS: [usize; 6] = [4, 16, 64, 200, 1024, 64 << 10];
 const LARGE: usize = 64 << 10;
 
 fn side(calls: &Calls) -> Side {
-    if calls.name == "ours" {
-        Side::Ours
-    } else {
-        Side::Before
+    match calls.name {
+        "ours" => Side::Ours,
+        "v3" => Side::Wider,
+        _ => Side::Before,
     }
 }
 
@@ -61,14 +61,16 @@ const ENCODERS: [(&str, Encoder); 3] = [
     ("by runs", runs::encode),
     ("16 at a time", wide::encode),
 ];
-const DECODERS: [(&str, Decoder); 3] = [
+const DECODERS: [(&str, Decoder); 4] = [
     ("byte by byte", bytes::decode),
     ("by runs", runs::decode),
     ("16 at a time", wide::decode),
+    ("by windows", windows::decode),
 ];
-const IN_PLACE: [(&str, InPlace); 2] = [
+const IN_PLACE: [(&str, InPlace); 3] = [
     ("byte by byte", bytes::decode_in_place),
     ("by runs", runs::decode_in_place),
+    ("by windows", windows::decode_in_place),
 ];
 
 /// Sees that all encode alike, and that ours refuse where there is one byte too few.
@@ -161,16 +163,24 @@ fn time_in_place(samples: usize, framed: &[u8]) -> Vec<Timed> {
     for (name, decode) in IN_PLACE {
         ways.push(way(Side::Peer, name, in_place(framed, decode)));
     }
-    run(samples, ways)
+    ways.push(way(Side::Bound, "copy", in_place(framed, |_| ())));
+    without(&run(samples, ways), "copy")
 }
 
 /// What is aimed at: the ratio of a call on so many bytes of a kind to the best peer.
-fn goal(call: &str, len: usize, kind: usize) -> Option<f64> {
+fn goal(call: &str, len: usize, kind: usize) -> f64 {
     match (call, len) {
-        ("try_encode" | "push", LARGE) => Some([0.9, 1.4, 0.8, 0.2][kind]),
-        ("decode", LARGE) => Some([1.2, 1.1, 0.9, 0.3][kind]),
-        ("try_encode" | "push" | "decode", 64..=1024) => Some(2.0),
-        _ => None,
+        ("try_encode" | "push", 1024 | LARGE) => [1.3, 1.0, 0.6, 0.1][kind],
+        ("try_encode" | "push", 4) => 1.2,
+        ("try_encode" | "push", _) => 1.3,
+        ("decode", LARGE) => [1.4, 1.4, 0.7, 0.05][kind],
+        ("decode", 1024) => 1.5,
+        ("decode", 4) => 1.8,
+        ("decode", _) => 1.3,
+        (_, 4) => 1.8,
+        (_, _) if kind == 2 && len > 16 => 0.5,
+        (_, 1024 | LARGE) => 1.4,
+        _ => 1.5,
     }
 }
 
@@ -186,9 +196,11 @@ fn print_grid(report: &mut Report, call: &str, grid: &Grid) {
         let mut cells = vec![size(len)];
         for (kind, timed) in times.iter().enumerate() {
             let what = format!("`{call}`, {}, {}", size(len), KINDS[kind]);
-            let ratio = report.ratio(&what, timed, call, goal(call, len, kind));
+            let ratio = report.ratio(&what, timed, call, Some(goal(call, len, kind)));
             let ours = named(timed, Side::Ours, call).expect("our way is timed");
-            cells.push(format!("{ratio}, {}", duration(ours)));
+            let wider = named(timed, Side::Wider, call)
+                .map_or(String::new(), |time| format!("; v3 {:.2}", time / best_peer(timed).median));
+            cells.push(format!("{ratio}, {}{wider}", duration(ours)));
             if len == LARGE {
                 report.change(&what, timed, call);
             }
@@ -204,12 +216,95 @@ fn print_times(title: &str, times: &[Vec<Timed>; 4]) {
         let whose = match first.side {
             Side::Ours => "ours, ",
             Side::Before => "before, ",
+            Side::Wider => "ours for x86-64-v3, ",
             Side::Peer => "peer, ",
             Side::Bound => "",
         };
         let mut cells = vec![format!("{whose}{}", first.name)];
         cells.extend(times.iter().map(|timed| duration(timed[i].median)));
         row(&cells);
+    }
+}
+
+/// Prints what each call takes on no bytes: what is called, and nothing else.
+fn print_nothing(samples: usize) {
+    let rows = [
+        ("try_encode", time_encoding(samples, &[])),
+        ("push", time_encoding(samples, &[])),
+        ("decode", time_decoding(samples, &[])),
+        ("decode_in_place", time_in_place(samples, &[])),
+    ];
+    head("A call on no bytes", &["Call", "Ours", "The best peer"]);
+    for (call, timed) in rows {
+        let ours = named(&timed, Side::Ours, call).expect("our way is timed");
+        row(&[
+            format!("`{call}`"),
+            duration(ours),
+            duration(best_peer(&timed).median),
+        ]);
+    }
+}
+
+/// The sentinel that is timed beside zero.
+const OTHER: u8 = 10;
+
+/// The time for another sentinel over that for zero, of frames whose bytes are each XORed with it.
+fn ratio_of_sentinels<'a>(samples: usize, work: impl Fn(u8) -> Work<'a>) -> f64 {
+    let ways = vec![
+        way(Side::Ours, "another", work(OTHER)),
+        way(Side::Ours, "zero", work(0)),
+    ];
+    let timed = run(samples, ways);
+    let time = |name| named(&timed, Side::Ours, name).expect("both are timed");
+    time("another") / time("zero")
+}
+
+/// Frames for another sentinel than zero, over those for zero.
+pub fn sentinels(samples: usize, report: &mut Report) {
+    let ours = calls::OURS;
+    head(
+        "Another sentinel: time / time for zero (goal)",
+        &["Bytes", "Kind", "`push`", "`decode_with_sentinel`", "in place"],
+    );
+    for len in LENGTHS {
+        for kind in [KINDS[0], KINDS[2]] {
+            let source = message(kind, len);
+            let mut frame = vec![0; room(len) + 1];
+            let count = runs::encode(&source, &mut frame);
+            frame.truncate(count + 1);
+            let masked = |sentinel: u8| -> Vec<u8> { frame.iter().map(|b| b ^ sentinel).collect() };
+            let [zero, other] = [masked(0), masked(OTHER)];
+            let framed = |sentinel| if sentinel == 0 { &zero } else { &other };
+            let mut dest = vec![0; room(len)];
+            for sentinel in [0, OTHER] {
+                assert_eq!(ours.push_for(&source, &mut dest, sentinel), Some(count));
+                assert!(dest[..count] == framed(sentinel)[..count]);
+                assert_eq!(ours.decode_for(framed(sentinel), &mut dest, sentinel), Some(len));
+                assert!(dest[..len] == source);
+                let mut buf = framed(sentinel).clone();
+                assert_eq!(ours.decode_in_place_for(&mut buf, sentinel), Some(len));
+                assert!(buf[..len] == source);
+            }
+            let ratios = [
+                ("`push`", ratio_of_sentinels(samples, |sentinel| {
+                    into_buffer(&source, room(len), move |s, d| ours.push_for(s, d, sentinel))
+                })),
+                ("`decode_with_sentinel`", ratio_of_sentinels(samples, |sentinel| {
+                    let decode = move |s: &[u8], d: &mut [u8]| ours.decode_for(s, d, sentinel);
+                    into_buffer(framed(sentinel), room(len), decode)
+                })),
+                ("in place", ratio_of_sentinels(samples, |sentinel| {
+                    let decode = move |b: &mut [u8]| ours.decode_in_place_for(b, sentinel);
+                    in_place(framed(sentinel), decode)
+                })),
+            ];
+            let mut cells = vec![size(len), kind.to_owned()];
+            for (call, ratio) in ratios {
+                let what = format!("another sentinel, {call}, {}, {kind}", size(len));
+                cells.push(report.figure(&what, ratio, 1.05));
+            }
+            row(&cells);
+        }
     }
 }
 
@@ -233,6 +328,7 @@ pub fn encoding_and_decoding(samples: usize, report: &mut Report) {
         decoding.push(framed.each_ref().map(|f| time_decoding(samples, f)));
         in_place.push(framed.each_ref().map(|f| time_in_place(samples, f)));
     }
+    print_nothing(samples);
     print_grid(report, "try_encode", &encoding);
     print_grid(report, "push", &encoding);
     print_grid(report, "decode", &decoding);
@@ -240,7 +336,7 @@ pub fn encoding_and_decoding(samples: usize, report: &mut Report) {
     print_times("Encoding 64 KiB", &encoding[LENGTHS.len() - 1]);
     print_times("Decoding 64 KiB", &decoding[LENGTHS.len() - 1]);
     print_times(
-        "Decoding 64 KiB in place, with the copy of the frame",
+        "Decoding 64 KiB in place",
         &in_place[LENGTHS.len() - 1],
     );
 }
@@ -309,7 +405,7 @@ pub fn streams(samples: usize, report: &mut Report) {
         ("byte by byte", pieces::messages_by_bytes),
         ("by runs", pieces::messages_by_runs),
     ];
-    for (piece, goal) in [(1, 1.1), (64, 0.6), (4096, 0.4)] {
+    for (piece, goal) in [(1, 1.1), (64, 0.7), (4096, 0.5)] {
         let timed = time_stream(samples, &stream, piece, "push", Calls::messages, &taking);
         print_stream(report, "decoder's `push`", piece, &timed, goal);
     }
@@ -317,9 +413,9 @@ pub fn streams(samples: usize, report: &mut Report) {
         ("an accumulator", pieces::records_by_accumulator),
         ("by runs", pieces::records_by_runs),
     ];
-    for piece in [1, 64, 4096] {
+    for (piece, goal) in [(1, 1.0), (64, 0.9), (4096, 0.7)] {
         let timed = time_stream(samples, &stream, piece, "feed", Calls::records, &taking);
-        print_stream(report, "accumulator's `feed`", piece, &timed, 0.8);
+        print_stream(report, "accumulator's `feed`", piece, &timed, goal);
     }
 }
 
@@ -429,7 +525,8 @@ fn print_record(report: &mut Report, call: &str, timed: &[Timed], goal: f64) {
     }
     cells.push(peers.join("; "));
     let what = format!("a record's `{call}`");
-    cells.push(report.ratio(&what, timed, call, Some(goal)));
+    let straight = named(timed, Side::Peer, "straight").expect("that peer is timed");
+    cells.push(report.figure(&what, ours.median / straight, goal));
     report.change(&what, timed, call);
     row(&cells);
 }
@@ -460,51 +557,62 @@ pub fn records(samples: usize, report: &mut Report) {
             "Call",
             "Ours",
             "Peers",
-            "Time / time of the best peer (goal)",
+            "Time / time of the straight one (goal)",
         ],
     );
     let timed = time_writing(samples, &record, &spelling);
-    print_record(report, "to_slice", &timed, 0.6);
+    print_record(report, "to_slice", &timed, 1.0);
     let timed = time_reading(samples, &spelling, parts);
-    print_record(report, "from_bytes", &timed, 1.1);
+    print_record(report, "from_bytes", &timed, 0.9);
 }
 
-/// What a byte costs as messages grow.
-pub fn growth(samples: usize) {
+/// What 1000 bytes cost, in nanoseconds: by each of our calls with the best peer beside it, and by memcpy.
+struct Cost {
+    calls: [(&'static str, f64, f64); 3],
+    copy: f64,
+}
+
+fn cost(samples: usize, kind: &str, len: usize) -> Cost {
+    let source = message(kind, len);
+    let mut frame = vec![0; room(len) + 1];
+    let count = runs::encode(&source, &mut frame);
+    let framed = &frame[..count + 1];
+    let per_byte = |ns: f64| ns * 1000.0 / len as f64;
+    let of = |timed: &[Timed], name| {
+        let ours = named(timed, Side::Ours, name).expect("our way is timed");
+        (name, per_byte(ours), per_byte(best_peer(timed).median))
+    };
+    let encoding = time_encoding(samples, &source);
+    let copy = named(&encoding, Side::Bound, "memcpy").expect("memcpy is timed");
+    Cost {
+        calls: [
+            of(&encoding, "try_encode"),
+            of(&time_decoding(samples, framed), "decode"),
+            of(&time_in_place(samples, framed), "decode_in_place"),
+        ],
+        copy: per_byte(copy),
+    }
+}
+
+/// What a byte costs as messages grow: it should grow no more than it does for memcpy, from 64 KiB to 4 MiB.
+pub fn growth(samples: usize, report: &mut Report) {
+    const SIZES: [usize; 4] = [LARGE, 256 << 10, 1 << 20, 4 << 20];
     head(
         "Growth: nanoseconds for 1000 bytes, ours (best peer)",
-        &[
-            "Bytes",
-            "Kind",
-            "`try_encode`",
-            "`decode`",
-            "`decode_in_place`",
-            "memcpy",
-        ],
+        &["Bytes", "Kind", "`try_encode`", "`decode`", "`decode_in_place`", "memcpy"],
     );
-    for len in [64 << 10, 256 << 10, 1 << 20, 4 << 20] {
-        for kind in &KINDS[..2] {
-            let source = message(kind, len);
-            let mut frame = vec![0; room(len) + 1];
-            let count = runs::encode(&source, &mut frame);
-            let framed = &frame[..count + 1];
-            let encoding = time_encoding(samples, &source);
-            let decoding = time_decoding(samples, framed);
-            let in_place = time_in_place(samples, framed);
-            let per_byte = |ns: f64| format!("{:.0}", ns * 1000.0 / len as f64);
-            let cell = |timed: &[Timed], name| {
-                let ours = named(timed, Side::Ours, name).expect("our way is timed");
-                format!("{} ({})", per_byte(ours), per_byte(best_peer(timed).median))
-            };
-            let copy = named(&encoding, Side::Bound, "memcpy").expect("memcpy is timed");
-            row(&[
-                size(len),
-                kind.to_string(),
-                cell(&encoding, "try_encode"),
-                cell(&decoding, "decode"),
-                cell(&in_place, "decode_in_place"),
-                per_byte(copy),
-            ]);
+    for kind in &KINDS[..2] {
+        let costs = SIZES.map(|len| cost(samples, kind, len));
+        for (len, cost) in SIZES.iter().zip(&costs) {
+            let mut cells = vec![size(*len), kind.to_string()];
+            cells.extend(cost.calls.iter().map(|(_, ours, peer)| format!("{ours:.0} ({peer:.0})")));
+            cells.push(format!("{:.0}", cost.copy));
+            row(&cells);
+        }
+        let [first, .., last] = &costs;
+        for ((call, before, _), (_, behind, _)) in first.calls.iter().zip(&last.calls) {
+            let what = format!("growth of `{call}` over memcpy's, {kind}");
+            report.figure(&what, (behind / before) / (last.copy / first.copy), 1.0);
         }
     }
 }

@@ -9,7 +9,7 @@ mod peers;
 mod table;
 mod timing;
 
-use cases::{encoding_and_decoding, growth, records, streams};
+use cases::{encoding_and_decoding, growth, records, sentinels, streams};
 use table::Report;
 
 fn main() {
@@ -18,9 +18,10 @@ fn main() {
         .map_or(61, |word| word.parse().expect("a number"));
     let mut report = Report::new();
     encoding_and_decoding(samples, &mut report);
+    sentinels(samples, &mut report);
     streams(samples.min(11), &mut report);
     records(2 * samples, &mut report);
-    growth(samples.min(11));
+    growth(samples.min(11), &mut report);
     report.print_goals();
     report.print_before();
 }

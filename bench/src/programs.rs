@@ -167,13 +167,13 @@ const CASES: [Case; 4] = [
         input: "frames",
         ours: &["unpack"],
         plain: &[&["collect"], &["unpack"]],
-        goal: 1.5,
+        goal: 1.2,
     },
     Case {
         input: "digits",
         ours: &["unpack", "hex"],
         plain: &[&["collect", "hex"], &["unpack", "hex"]],
-        goal: 1.5,
+        goal: 1.2,
     },
 ];
 

@@ -66,6 +66,11 @@ impl Report {
         let Some(goal) = goal else {
             return format!("{ratio:.2}");
         };
+        self.figure(what, ratio, goal)
+    }
+
+    /// The cell of a figure and its goal. Keeps both.
+    pub fn figure(&mut self, what: &str, ratio: f64, goal: f64) -> String {
         self.goals.push(Goal {
             what: what.to_owned(),
             ratio,

@@ -1,5 +1,5 @@
 -- What `decode` comes to by pushing what is behind leading zeros, and then a zero.
-use Rattle.std.proofs.Common.{◌≡◌, ◌≢◌, ℕ, ◌+◌, ◌-◌, ◌<◌, ◌≤◌, nat_lt, ◌==◌, if◌then◌else◌, Bool, true, false, List, [], ◌∷◌, ◌++◌, length, ◌⊎◌, Result, Option, Some, None, Ok, Err, inl, inr, refl, ap, sym, ◌∙◌, arith}
+use Rattle.std.proofs.Common.{◌≡◌, ◌≢◌, ℕ, ◌+◌, ◌-◌, ◌<◌, ◌≤◌, nat_lt, min, ◌==◌, if◌then◌else◌, Bool, true, false, List, [], ◌∷◌, ◌++◌, length, ◌⊎◌, Result, Option, Some, None, Ok, Err, inl, inr, refl, ap, sym, ◌∙◌, arith}
 use Rattle.std.proofs.lemmas.List.{append-nil, take_all}
 use Rattle.std.proofs.lemmas.Bool.{ne_eqb, cases_lt}
 use Rattle.std.proofs.lemmas.Bool.Decides.{eqb_tells}
@@ -150,6 +150,19 @@ module _ (source rest dest : List ℕ) (r : rest ≡ unpadded source) where
     | inl l ↦ inl (l, ap (λ s. first_answer (length dest) [] s 0) (alone e) ∙ (over l [] 0).0)
     | inr l ↦ inr (l, ap (λ s. first_answer (length dest) [] s 0) (alone e) ∙ (fits l [] 0).0)
   ]
+
+  -- the answer to a short frame
+  module _ (fit : length (part frame) ≤ length dest) (into : Result (Option ℕ) DecodeError) (e : at_zero (length dest) frame ≡ into) where
+    short_is : decoded_from (length dest) source ≡ reported (length source) (moved (length source - length rest) (answered into (0 + length frame + 1) (Ok None)))
+    short_is = whole_is ∙ ap (λ q. reported (length source) (moved (length source - length rest) q)) ((fits fit (0 ∷ []) 0).0 ∙ ap (λ q. answered q (0 + length frame + 1) (Ok None)) e)
+
+    pub short_refused : (x : DecodeError) → into ≡ Err x → Err x ≡ decoded_from (length dest) source
+    short_refused x i = sym (short_is ∙ ap (λ q. reported (length source) (moved (length source - length rest) (answered q (0 + length frame + 1) (Ok None)))) i)
+
+    pub short_whole : (n parsed : ℕ) → into ≡ Ok (Some n) → parsed ≡ min (length source - length rest + length frame + 1) (length source) → Ok (report parsed n) ≡ decoded_from (length dest) source
+    short_whole n parsed i p =
+        ap (λ k. Ok (report k n)) (omega (arith, p))
+        ∙ sym (short_is ∙ ap (λ q. reported (length source) (moved (length source - length rest) (answered q (0 + length frame + 1) (Ok None)))) i)
 
   -- the answer of the push
   pub pushed_refused : (x : DecodeError) → first_answer (length dest) [] rest 0 ≡ Err x → Err x ≡ decoded_from (length dest) source

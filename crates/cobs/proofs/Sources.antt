@@ -6,10 +6,12 @@ use Rattle.std.proofs.lemmas.Bool.Decides.{eqb_tells}
 use Rattle.std.proofs.lemmas.Nat.{xor_comm}
 use Rattle.std.specs.Prelude.{bit_xor}
 use Rattle.std.specs.Int.Bits.{xor_assoc, xor_self}
+use Rattle.std.specs.Int.{bit_at}
+use Rattle.cobs.specs.Codes.{Marks}
 use Rattle.cobs.specs.Frames.{NoZero}
 use Rattle.cobs.specs.InPlace.{stretch}
 use Rattle.cobs.specs.Sentinel.{masked}
-use Rattle.cobs.proofs.Masking.{masked_get, masked_take}
+use Rattle.cobs.proofs.Masking.{masked_get, masked_take, masked_length}
 
 -- only the sentinel becomes zero
 becomes_zero : (sentinel byte : ℕ) → bit_xor sentinel byte ≡ 0 → byte ≡ sentinel
@@ -68,3 +70,21 @@ clear_at (b ∷ bytes) (suc i) h l = clear_at bytes i h.1 (omega arith)
 pub stretch_of : (bytes : List ℕ) → NoZero bytes → stretch bytes ≡ bytes
 stretch_of [] h = refl
 stretch_of (b ∷ bytes) h = rw (ne_eqb b 0 (λ e. omega (arith, h.0))) (ap (λ r. b ∷ r) (stretch_of bytes h.1))
+
+-- the marks of masked bytes are those of the sentinel
+module _ (sentinel bits : ℕ) (bytes : List ℕ) (m : Marks bits 0 (masked sentinel bytes)) where
+  pub marked_byte : (k : ℕ) → bit_at bits k ≡ 1 → (k < length bytes) × (get_or bytes k 0 ≡ sentinel)
+  marked_byte k b =
+      let l : k < length bytes = omega (arith, m.high k b, masked_length sentinel bytes) in
+      (l, becomes_zero sentinel (get_or bytes k 0) (sym (masked_get sentinel bytes k l) ∙ m.zeros k b))
+
+  pub unmarked_byte : (k : ℕ) → k < length bytes → bit_at bits k ≡ 0 → get_or bytes k 0 ≢ sentinel
+  unmarked_byte k l b e =
+      let bit : bit_at bits k ≡ 1 = m.all k (omega arith) (omega (arith, l, masked_length sentinel bytes)) (masked_get sentinel bytes k l ∙ ap (bit_xor sentinel) e ∙ xor_self sentinel) in
+      omega (arith, bit, b)
+
+-- the same of bytes that aren't zero once they are XORed
+pub clear_byte : (sentinel : ℕ) (bytes : List ℕ) (k : ℕ) → k < length bytes → 0 < get_or (masked sentinel bytes) k 0 → get_or bytes k 0 ≢ sentinel
+clear_byte s bytes k l p e =
+    let z : get_or (masked s bytes) k 0 ≡ 0 = masked_get s bytes k l ∙ ap (bit_xor s) e ∙ xor_self s in
+    omega (arith, p, z)

@@ -1,6 +1,6 @@
 -- Bytes of an open block that are taken in at once.
 use Rattle.std.proofs.Common.{◌≡◌, ◌≢◌, ℕ, zero, suc, pred, ◌+◌, ◌-◌, ◌^◌, ◌<◌, ◌≤◌, nat_lt, Bool, true, false, List, [], ◌∷◌, ◌++◌, length, take, drop, set, get_or, replicate, Option, Some, None, refl, ap, sym, ◌∙◌, arith, append_assoc, length-append, length-drop}
-use Rattle.std.proofs.lemmas.List.{append-nil, take_all, drop_all, drop_more, drop-drop, set_at, take-append-drop, take_more_set, drop-set-lt, length-set, length-take-le, get_or-take, take-take}
+use Rattle.std.proofs.lemmas.List.{append-nil, take_all, drop_all, drop_more, drop-drop, set_at, take-append-drop, take_more_set, drop-set-lt, length-set, length-take-le, get_or-take, get_or-drop, take-take}
 use Rattle.std.proofs.lemmas.Bool.{ne_eqb, lt-ltb}
 use Rattle.cobs.specs.Frames.{NoZero, part, part_from, after}
 use Rattle.cobs.specs.Feeding.{told_by, fed, listed, stands_by, standing, placed, stored}
@@ -78,6 +78,13 @@ module _ (left : ℕ) (bytes : List ℕ) (at : ℕ) (out : List ℕ) (w : Walked
   )
 
   module _ (l : at < length bytes) where
+    -- it wasn't written yet
+    pub walked_code : get_or out at 0 ≡ get_or bytes at 0
+    walked_code = ap (λ n. get_or out n 0) (sym at_all) ∙ sym (get_or-drop at out 0 0) ∙ ap (λ b. get_or b 0 0) w.rest ∙ get_or-drop at bytes 0 0 ∙ ap (λ n. get_or bytes n 0) at_all
+      where
+        at_all : at + 0 ≡ at
+        at_all = omega arith
+
     here : drop at bytes ≡ get_or bytes at 0 ∷ drop (at + 1) bytes
     here = drop_more bytes at 0 l
 
@@ -206,7 +213,7 @@ pub none_zero : (bytes : List ℕ) → ((k : ℕ) → k < length bytes → 0 < g
 none_zero [] h = tt
 none_zero (b ∷ bytes) h = (h 0 (omega arith), none_zero bytes (λ k l. h (suc k) (omega arith)))
 
-no_bytes : (bytes : List ℕ) → length bytes ≡ 0 → bytes ≡ []
+pub no_bytes : (bytes : List ℕ) → length bytes ≡ 0 → bytes ≡ []
 no_bytes [] e = refl
 no_bytes (b ∷ bytes) e = absurd (omega arith)
 

@@ -30,5 +30,6 @@ module _ {N : ℕ} where
 
 -- The buffer is lent: it ends as what is left behind the result, and nothing else changes.
 module _ (N : RattleType) (d : MutBor (the_row N).Denot) where
+  -- the clause of a call whose result is that buffer
   abbrev pub LendsArrayBuffer : MutBor (List ℕ) → Fml
   LendsArrayBuffer r = Lends (the_row N) (Array u8 0) d r (with_array_buffer d.now)

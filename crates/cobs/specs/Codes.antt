@@ -1,5 +1,5 @@
 -- How the bytes of a piece are coded in the open block of a frame.
-use Rattle.std.specs.Prelude.{◌≡◌, ℕ, suc, ◌+◌, ◌<◌, ◌≤◌, List, ◌∷◌, ◌++◌, length, slice_index}
+use Rattle.std.specs.Prelude.{◌≡◌, ℕ, suc, ◌+◌, ◌<◌, ◌≤◌, List, [], ◌∷◌, ◌++◌, length, slice_index}
 use Rattle.std.specs.Int.{bit_at}
 use Rattle.cobs.specs.Frames.{shortest_frame, shortest_from}
 
@@ -40,6 +40,25 @@ pub record Coded (before : List ℕ) (code_at from : ℕ) (bytes buffer : List �
   pub begins : last < from + length bytes
   pub later : code_at ≤ last
   pub coding : (message more : List ℕ) → Coding before code_at from message (bytes ++ more) → Coding buffer last (from + length bytes) message more
+
+-- The buffer has closed blocks, a place for the code of the open run, that run, and then anything: a byte behind the message goes
+-- on from the run.
+pub record Open (bytes : List ℕ) (code_at at : ℕ) (message : List ℕ) : Type 0 where
+  pub closed : List ℕ
+  pub code : ℕ
+  pub run : List ℕ
+  pub tail : List ℕ
+  pub spells : bytes ≡ closed ++ (code ∷ (run ++ tail))
+  pub begins : code_at ≡ length closed
+  pub ends : at ≡ length closed + suc (length run)
+  pub short : length run ≤ 254
+  pub goes_on : (byte : ℕ) (more : List ℕ) → shortest_frame (message ++ byte ∷ more) ≡ closed ++ shortest_from run (byte ∷ more)
+
+-- Bytes were copied into the open block and coded, and the code that is still to come goes to this place.
+pub record Stepped (before : List ℕ) (code_at from : ℕ) (bytes buffer : List ℕ) (last : ℕ) : Type 0 where
+  pub begins : last < from + length bytes
+  pub later : code_at ≤ last
+  pub coding : (message : List ℕ) → Open before code_at from message → Coding buffer last (from + length bytes) (message ++ bytes) []
 
 -- the bits that are set are the places, from one on, of the bytes that are zero
 pub record Marks (bits from : ℕ) (bytes : List ℕ) : Type 0 where

@@ -73,6 +73,7 @@ pub record Outcome : Type 0 where
   pub frame : List ℕ
   pub buffer : List ℕ
 
+-- what pushing a piece comes to, of a decoder with so much room that stands behind these bytes of a frame
 abbrev pub pushed : ℕ → List ℕ → List ℕ → List ℕ → Outcome
 pushed room frame buffer piece = record { answer = first_answer room frame piece 0; frame = frame_left room frame piece; buffer = buffer_left room frame piece buffer }
 

@@ -55,6 +55,7 @@ HoldsNoSentinel = (sentinel : ℕ) (frame message : List ℕ) → Frame frame me
 abbrev pub IsUnmaskedByZero : Type 0
 IsUnmaskedByZero = (bytes : List ℕ) → masked 0 bytes ≡ bytes
 
+-- Nor is any one byte.
 abbrev pub KeepsByteByZero : Type 0
 KeepsByteByZero = (byte : ℕ) → bit_xor 0 byte ≡ byte
 

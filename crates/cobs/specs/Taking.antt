@@ -50,6 +50,7 @@ left_in Idle = 0
 left_in (Grab left) = left
 left_in (GrabChain left) = left
 
+-- where a decoder stands once n of them were taken
 abbrev pub left_behind : DecoderState → ℕ → DecoderState
 left_behind Idle n = Idle
 left_behind (Grab left) n = Grab (left - n)

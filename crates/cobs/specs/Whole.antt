@@ -45,7 +45,7 @@ abbrev pub message_of_frame : List ℕ → Result (List ℕ) DecodeError
 message_of_frame [] = Err EmptyFrame
 message_of_frame (code ∷ bytes) = message_of_stretch (code ∷ bytes)
 
--- the error is that of the decoding, or want of memory
+-- the error is that of the decoding, or out of memory
 abbrev pub Refuses : DecodeVecError → Result (List ℕ) DecodeError → Type 0
 Refuses (Decode e) message = message ≡ Err e
 Refuses OutOfMemory message = Unit {0}

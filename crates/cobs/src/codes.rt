@@ -1,14 +1,14 @@
-//! The codes of a piece that was copied into an open block: each zero of it becomes the code of the block that it begins.
+//! A piece that is copied into an open block: each zero of it becomes the code of the block that it begins.
 //!
-//! The first zero of a long piece is found by `memchr`, further ones by masks of 64 or 16 bytes, and a row of zeros is filled at
-//! once. Every function here has one contract, for pieces of its own length. A code is written XORed with the sentinel, as all
-//! of a frame is; the pieces are bytes of the message.
-ghost use Rattle.std.specs.Prelude.{◌≡◌, ◌≢◌, ℕ, ◌+◌, ◌<◌, ◌≤◌, List, ◌++◌, length, slice_index, IfSome, IfNone};
+//! It goes by 64 bytes, and then by those that are left. They are copied by vectors, which tell whether there is a zero among
+//! them; the zeros are found by masks, and 64 zeros are filled at once. A byte is written XORed with the sentinel, as all of a
+//! frame is; the pieces are bytes of the message.
+ghost use Rattle.std.specs.Prelude.{◌≡◌, ◌≢◌, ℕ, ◌<◌, ◌≤◌, length, slice_index, true};
 ghost use Rattle.std.specs.Int.{bit_at};
-ghost use Rattle.cobs.specs.Codes.{InBlock, Coded, Marks};
+ghost use Rattle.cobs.specs.Codes.{InBlock, Coded, Marks, Stepped};
 ghost use Rattle.cobs.specs.Sentinel.{masked};
 
-use memchr::memchr;
+use crate::moves::{copy_64, copy_block, copy_few, is_clear, zeros_of};
 use std::simd::prelude::*;
 
 // Writes a code at each zero of bytes that stand in the open block, from a place on, and answers where the last code is to be.
@@ -38,20 +38,9 @@ fn zeros_of_64(bytes: &[u8]) -> u64
         .to_bitmask()
 }
 
-// Bit k is set where byte k is zero.
-#[inline(always)]
-fn zeros_of_16(bytes: &[u8]) -> u64
-    requires { length bytes.now ≡ 16 }
-    ensures { Marks result 0 bytes.now }
-{
-    u8x16::from_slice(bytes)
-        .simd_eq(u8x16::splat(0))
-        .to_bitmask()
-}
-
 // The lowest bit that is set, and the others.
 #[inline(always)]
-fn lowest(bits: u64) -> (usize, u64)
+pub(crate) fn lowest(bits: u64) -> (usize, u64)
     requires { bits ≢ 0 }
     ensures bound { result.0 < 64 }
     ensures set { bit_at bits result.0 ≡ 1 }
@@ -111,51 +100,6 @@ fn put_codes_of_zeros(
     end - 1
 }
 
-// The same as `put_codes_near`, of 16 bytes.
-#[inline(always)]
-fn put_codes_of_16(
-    dest: &mut [u8],
-    code_at: usize,
-    from: usize,
-    bytes: &[u8],
-    sentinel: u8,
-) -> usize
-    requires block { InBlock dest.old code_at from bytes.now }
-    requires long { length bytes.now ≡ 16 }
-    ensures { Coded (masked sentinel dest.old) code_at from bytes.now (masked sentinel dest.new) result }
-{
-    let marks = zeros_of_16(bytes);
-    if marks == 0xffff {
-        put_codes_of_zeros(dest, code_at, from, bytes, sentinel)
-    } else {
-        put_codes_marked(dest, code_at, from, bytes, marks, sentinel)
-    }
-}
-
-// The same as `put_codes_near`, in steps of 16 bytes.
-#[inline(always)]
-fn put_codes_by_16(
-    dest: &mut [u8],
-    code_at: usize,
-    from: usize,
-    bytes: &[u8],
-    sentinel: u8,
-) -> usize
-    requires { InBlock dest.old code_at from bytes.now }
-    ensures { Coded (masked sentinel dest.old) code_at from bytes.now (masked sentinel dest.new) result }
-{
-    let mut code = code_at;
-    let mut at = from;
-    let mut rest = bytes;
-    while rest.len() >= 16 {
-        let (front, after) = rest.split_at(16);
-        code = put_codes_of_16(dest, code, at, front, sentinel);
-        at += 16;
-        rest = after;
-    }
-    put_codes_near(dest, code, at, rest, sentinel)
-}
-
 // The same as `put_codes_near`, of 64 bytes.
 #[inline(always)]
 fn put_codes_of_64(
@@ -177,57 +121,122 @@ fn put_codes_of_64(
     }
 }
 
-// The same as `put_codes_near`, in steps of 64 bytes.
+// The same as `put_codes_marked`, of some bytes: if all are zero they are filled at once.
 #[inline(always)]
-fn put_codes_by_64(
+fn put_codes_of_marks(
     dest: &mut [u8],
     code_at: usize,
     from: usize,
     bytes: &[u8],
+    marks: u64,
     sentinel: u8,
 ) -> usize
-    requires { InBlock dest.old code_at from bytes.now }
+    requires block { InBlock dest.old code_at from bytes.now }
+    requires some { 0 < length bytes.now }
+    requires few { length bytes.now ≤ 64 }
+    requires marks { Marks marks 0 bytes.now }
     ensures { Coded (masked sentinel dest.old) code_at from bytes.now (masked sentinel dest.new) result }
+{
+    if are_all_marked(marks, bytes.len()) {
+        put_codes_of_zeros(dest, code_at, from, bytes, sentinel)
+    } else {
+        put_codes_marked(dest, code_at, from, bytes, marks, sentinel)
+    }
+}
+
+// Whether so many bytes are all marked.
+#[inline(always)]
+fn are_all_marked(marks: u64, n: usize) -> bool
+    ensures { result ≡ true → (k : ℕ) → k < n → k < 64 → bit_at marks k ≡ 1 }
+{
+    if marks == u64::MAX {
+        return true;
+    }
+    n <= marks.trailing_ones() as usize
+}
+
+// Copies 64 bytes into the open block and writes a code at each zero of them. Answers where the last code is to be.
+#[inline(always)]
+fn put_64(dest: &mut [u8], code_at: usize, from: usize, bytes: &[u8], sentinel: u8) -> usize
+    requires block { InBlock dest.old code_at from bytes.now }
+    requires long { length bytes.now ≡ 64 }
+    ensures { Stepped (masked sentinel dest.old) code_at from bytes.now (masked sentinel dest.new) result }
+{
+    copy_64(bytes, dest, from, sentinel);
+    if is_clear(bytes, 0) {
+        code_at
+    } else {
+        put_codes_of_64(dest, code_at, from, bytes, sentinel)
+    }
+}
+
+// The same of at most 64 bytes.
+#[inline(always)]
+fn put_short(dest: &mut [u8], code_at: usize, from: usize, bytes: &[u8], sentinel: u8) -> usize
+    requires block { InBlock dest.old code_at from bytes.now }
+    requires some { 0 < length bytes.now }
+    requires few { length bytes.now ≤ 64 }
+    ensures { Stepped (masked sentinel dest.old) code_at from bytes.now (masked sentinel dest.new) result }
+{
+    copy_few(bytes, dest, from, sentinel);
+    if bytes.len() < 8 {
+        put_codes_near(dest, code_at, from, bytes, sentinel)
+    } else {
+        put_codes_of_marks(dest, code_at, from, bytes, zeros_of(bytes, 0), sentinel)
+    }
+}
+
+// The same of any bytes.
+#[inline(always)]
+fn put_bytes(dest: &mut [u8], code_at: usize, from: usize, bytes: &[u8], sentinel: u8) -> usize
+    requires block { InBlock dest.old code_at from bytes.now }
+    requires some { 0 < length bytes.now }
+    ensures { Stepped (masked sentinel dest.old) code_at from bytes.now (masked sentinel dest.new) result }
 {
     let mut code = code_at;
     let mut at = from;
     let mut rest = bytes;
-    while rest.len() >= 64 {
+    while 64 < rest.len() {
         let (front, after) = rest.split_at(64);
-        code = put_codes_of_64(dest, code, at, front, sentinel);
+        code = put_64(dest, code, at, front, sentinel);
         at += 64;
         rest = after;
     }
-    put_codes_by_16(dest, code, at, rest, sentinel)
+    put_short(dest, code, at, rest, sentinel)
 }
 
-// Where the search for zeros begins: of many bytes at the first zero, if they have one.
+// Whether the bytes are as many as a full block has, and none of them is zero.
 #[inline(always)]
-fn search_from(bytes: &[u8]) -> Option<usize>
-    ensures within { IfSome result (λ n. n ≤ length bytes.now) }
-    ensures before { IfSome result (λ n. (k : ℕ) → k < n → 0 < slice_index bytes.now k) }
-    ensures none { IfNone result ((k : ℕ) → k < length bytes.now → 0 < slice_index bytes.now k) }
+fn is_full_block(bytes: &[u8]) -> bool
+    ensures { result ≡ true → (k : ℕ) → k < length bytes.now → 0 < slice_index bytes.now k }
 {
-    if bytes.len() < 128 {
-        return Some(0);
+    if bytes.len() != 254 {
+        return false;
     }
-    memchr(0, bytes)
+    let first = is_clear(&bytes[..64], 0);
+    let second = is_clear(&bytes[64..128], 0);
+    let third = is_clear(&bytes[128..192], 0);
+    let last = is_clear(&bytes[190..254], 0);
+    first & second & third & last
 }
 
-// The same as `put_codes_near`, of many bytes from the first zero on.
+// The same as `put_bytes`, of the bytes of a block: those of a full one are copied at once.
 #[inline(always)]
-pub(crate) fn put_codes(
+pub(crate) fn put_block(
     dest: &mut [u8],
     code_at: usize,
     from: usize,
     bytes: &[u8],
     sentinel: u8,
 ) -> usize
-    requires { InBlock dest.old code_at from bytes.now }
-    ensures { Coded (masked sentinel dest.old) code_at from bytes.now (masked sentinel dest.new) result }
+    requires block { InBlock dest.old code_at from bytes.now }
+    requires some { 0 < length bytes.now }
+    ensures { Stepped (masked sentinel dest.old) code_at from bytes.now (masked sentinel dest.new) result }
 {
-    match search_from(bytes) {
-        Some(first) => put_codes_by_64(dest, code_at, from + first, &bytes[first..], sentinel),
-        None => code_at,
+    if is_full_block(bytes) {
+        copy_block(bytes, dest, from, sentinel);
+        code_at
+    } else {
+        put_bytes(dest, code_at, from, bytes, sentinel)
     }
 }

@@ -9,7 +9,9 @@ ghost use Rattle.cobs.specs.Sentinel.{masked};
 ghost use Rattle.cobs.specs.Streaming.{Stands};
 ghost use Rattle.cobs.specs.Whole.{unpadded, frame_in, decoded_from, decoded_into, message_of_stretch, message_of_frame, Refuses};
 
+use crate::finding::{before_sentinel, end_in};
 use crate::masks::{copy_masked, mask};
+use crate::moves::{copy_block, copy_over, move_down};
 use arrayvec::ArrayVec;
 use memchr::memchr;
 use std::alloc::{AllocError, Global};
@@ -230,9 +232,15 @@ pub fn decode_in_place_report_with_sentinel(
     ensures buffer { buf.new ≡ overwritten (part (stretch (masked sentinel buf.old))) buf.old }
     ensures rest { let n = length (stretch (masked sentinel buf.old)) in drop n buf.new ≡ drop n buf.old }
 {
+    let end = end_in(buf, sentinel);
     let mut progress = Progress::new();
     let mut read: usize = 0;
-    while read < buf.len() && buf[read] != sentinel {
+    while read < end {
+        let taken = progress.take_within(buf, read, end, sentinel);
+        if 0 < taken {
+            read += taken;
+            continue;
+        }
         let byte = sentinel ^ buf[read];
         let _ = progress.take_in(buf, byte);
         read += 1;
@@ -293,12 +301,15 @@ struct Progress {
 // How many bytes are copied at once: what lies behind the code of a full block among them is of that block.
 const WINDOW: usize = 254;
 
+// How many bytes a frame has at most whose message is of one window.
+const SHORT: usize = 255;
+
 // How many bytes are searched and copied by a loop, since a call costs more.
 const FEW: usize = 8;
 
-// How many bytes come before the first sentinel.
+// How many bytes come before the first sentinel, by a call where they aren't few.
 #[inline(always)]
-fn before_sentinel(bytes: &[u8], sentinel: u8) -> usize
+fn before_by_call(bytes: &[u8], sentinel: u8) -> usize
     ensures within { result ≤ length bytes.now }
     ensures none { (k : ℕ) → k < result → slice_index bytes.now k ≢ sentinel }
     ensures end { result < length bytes.now → slice_index bytes.now result ≡ sentinel }
@@ -327,6 +338,15 @@ fn copy(bytes: &[u8], out: &mut [u8], sentinel: u8)
     for (place, byte) in bytes.iter().enumerate() {
         out[place] = sentinel ^ *byte;
     }
+}
+
+// The same by vectors, without a call.
+#[inline(always)]
+fn copy_at_once(bytes: &[u8], out: &mut [u8], sentinel: u8)
+    requires { length bytes.now ≡ length out.old }
+    ensures { out.new ≡ masked sentinel bytes.now }
+{
+    copy_over(bytes, out, 0, sentinel);
 }
 
 // Copies bytes up to a sentinel, each XORed with it, into a buffer, from a place on. Answers how many.
@@ -371,26 +391,25 @@ fn same_by_64(byte: u8, bytes: &[u8]) -> usize
     end
 }
 
-// Puts a zero for each code of bytes that were copied, where so many are left of a block. Answers where their last block
-// stands.
+// Puts a zero for each code of bytes of a frame, where so many are left of a block. Answers where their last block stands.
 #[inline(always)]
-fn put_zeros(bytes: &[u8], out: &mut [u8], left: u8, sentinel: u8) -> DecoderState
-    requires copied { out.old ≡ masked sentinel bytes.now }
-    requires short { length bytes.now ≤ 254 }
-    requires nonzero { (k : ℕ) → k < length bytes.now → 0 < slice_index out.old k }
-    ensures out { out.new ≡ part_from left true (masked sentinel bytes.now) }
-    ensures state { result ≡ stands_by (after left true (masked sentinel bytes.now)) }
+fn put_zeros(out: &mut [u8], left: u8) -> DecoderState
+    requires short { length out.old ≤ 254 }
+    requires nonzero { (k : ℕ) → k < length out.old → 0 < slice_index out.old k }
+    ensures out { out.new ≡ part_from left true out.old }
+    ensures state { result ≡ stands_by (after left true out.old) }
 {
+    let end = out.len();
     let mut at = left as usize;
-    while at < bytes.len() {
-        let code = sentinel ^ bytes[at];
+    while at < end {
+        let code = out[at];
         out[at] = 0;
         if code == u8::MAX {
-            return DecoderState::GrabChain((255 + at - bytes.len()) as u8);
+            return DecoderState::GrabChain((255 + at - end) as u8);
         }
         at += code as usize;
     }
-    DecoderState::Grab((at - bytes.len()) as u8)
+    DecoderState::Grab((at - end) as u8)
 }
 
 // Copies bytes of a frame, where so many are left of a block, and puts a zero for each code. Answers where their last block
@@ -404,7 +423,20 @@ fn decode_window(bytes: &[u8], out: &mut [u8], left: u8, sentinel: u8) -> Decode
     ensures state { result ≡ stands_by (after left true (masked sentinel bytes.now)) }
 {
     copy(bytes, out, sentinel);
-    put_zeros(bytes, out, left, sentinel)
+    put_zeros(out, left)
+}
+
+// The same by vectors, without a call.
+#[inline(always)]
+fn decode_at_once(bytes: &[u8], out: &mut [u8], left: u8, sentinel: u8) -> DecoderState
+    requires long { length bytes.now ≡ length out.old }
+    requires short { length bytes.now ≤ 254 }
+    requires nonzero { (k : ℕ) → k < length bytes.now → 0 < slice_index (masked sentinel bytes.now) k }
+    ensures out { out.new ≡ part_from left true (masked sentinel bytes.now) }
+    ensures state { result ≡ stands_by (after left true (masked sentinel bytes.now)) }
+{
+    copy_at_once(bytes, out, sentinel);
+    put_zeros(out, left)
 }
 
 impl Progress {
@@ -483,15 +515,91 @@ impl Progress {
                         return ones;
                     }
                 }
-                let n = before_sentinel(&piece[..room.min(WINDOW)], sentinel);
+                let n = before_by_call(&piece[..room.min(WINDOW)], sentinel);
                 let bytes = &piece[..n];
                 self.state = decode_window(bytes, &mut buffer[len..len + n], left, sentinel);
                 self.len = len + n;
                 n
             }
             DecoderState::GrabChain(left) => {
-                let n = before_sentinel(&piece[..room.min(left as usize)], sentinel);
+                let n = before_by_call(&piece[..room.min(left as usize)], sentinel);
                 copy(&piece[..n], &mut buffer[len..len + n], sentinel);
+                self.state = DecoderState::GrabChain(left - n as u8);
+                self.len = len + n;
+                n
+            }
+        }
+    }
+
+    // Takes in the next bytes at once, each XORed with the sentinel, where they are of an open block: none of them is the sentinel,
+    // and there is room for all. As many as a window may have; codes 01 in any number. Answers how many.
+    #[inline(always)]
+    fn take_clear(&mut self, buffer: &mut [u8], bytes: &[u8], sentinel: u8) -> usize
+        requires some { 0 < length bytes.now }
+        requires room { self.old.len + length bytes.now ≤ length buffer.old }
+        requires clear { (k : ℕ) → k < length bytes.now → slice_index bytes.now k ≢ sentinel }
+        ensures within { result ≤ length bytes.now }
+        ensures front { (p : List ℕ) → Stands self.old p → TakesFront p (masked sentinel bytes.now) buffer.old result self.new buffer.new }
+    {
+        let len = self.len;
+        match self.state {
+            DecoderState::Idle => 0,
+            DecoderState::Grab(left) => {
+                if left == 0 {
+                    let row = same_by_64(sentinel ^ 1, bytes);
+                    if 0 < row {
+                        buffer[len..len + row].fill(0);
+                        self.len = len + row;
+                        return row;
+                    }
+                }
+                let n = bytes.len().min(WINDOW);
+                self.state = decode_at_once(&bytes[..n], &mut buffer[len..len + n], left, sentinel);
+                self.len = len + n;
+                n
+            }
+            DecoderState::GrabChain(left) => {
+                let n = bytes.len().min(left as usize);
+                copy_block(&bytes[..n], buffer, len, sentinel);
+                self.state = DecoderState::GrabChain(left - n as u8);
+                self.len = len + n;
+                n
+            }
+        }
+    }
+
+    // Takes in the next bytes of the buffer itself at once, each XORed with the sentinel, where they are of an open block: up to
+    // a place before which there is no sentinel, or as many as a window may have; codes 01 in any number. Answers how many.
+    #[inline(always)]
+    fn take_within(&mut self, buffer: &mut [u8], read: usize, end: usize, sentinel: u8) -> usize
+        requires some { read < end }
+        requires inside { end ≤ length buffer.old }
+        requires behind { self.old.len ≤ read }
+        requires clear { (k : ℕ) → read ≤ k → k < end → slice_index buffer.old k ≢ sentinel }
+        ensures within { result ≤ end - read }
+        ensures front { (p : List ℕ) → Stands self.old p → TakesFront p (masked sentinel (take (end - read) (drop read buffer.old))) buffer.old result self.new buffer.new }
+    {
+        let len = self.len;
+        match self.state {
+            DecoderState::Idle => 0,
+            DecoderState::Grab(left) => {
+                if left == 0 {
+                    let row = same_by_64(sentinel ^ 1, &buffer[read..end]);
+                    if 0 < row {
+                        buffer[len..len + row].fill(0);
+                        self.len = len + row;
+                        return row;
+                    }
+                }
+                let n = (end - read).min(WINDOW);
+                move_down(buffer, read, n, len, sentinel);
+                self.state = put_zeros(&mut buffer[len..len + n], left);
+                self.len = len + n;
+                n
+            }
+            DecoderState::GrabChain(left) => {
+                let n = (end - read).min(left as usize);
+                move_down(buffer, read, n, len, sentinel);
                 self.state = DecoderState::GrabChain(left - n as u8);
                 self.len = len + n;
                 n
@@ -702,6 +810,7 @@ fn write_over(buffer: &mut [u8], place: usize, bytes: &[u8])
 }
 
 // The bytes before the first one that is the sentinel.
+#[inline(always)]
 fn before(bytes: &[u8], sentinel: u8) -> &[u8]
     ensures { masked sentinel result.now ≡ stretch (masked sentinel bytes.now) }
 {
@@ -718,6 +827,96 @@ fn count_frame(frame: &[u8], sentinel: u8) -> Progress
         let _ = progress.take_in(&mut [], sentinel ^ *byte);
     }
     progress
+}
+
+// Whether a frame is for one window: a short one. Rows of zeros are quicker filled.
+#[inline(always)]
+fn is_short(frame: &[u8], sentinel: u8) -> bool
+    requires { 0 < length frame.now }
+    ensures { IsTrue result → length frame.now ≤ 255 }
+{
+    frame.len() <= SHORT && (frame.len() < 64 || frame[0] != sentinel ^ 1)
+}
+
+// Takes in the bytes of such a frame, each XORed with the sentinel, for which there is room.
+#[inline(always)]
+fn take_short(frame: &[u8], dest: &mut [u8], sentinel: u8) -> Progress
+    requires some { 0 < length frame.now }
+    requires few { length frame.now ≤ 255 }
+    requires room { length frame.now ≤ length dest.old + 1 }
+    requires clear { NoZero (masked sentinel frame.now) }
+    ensures stands { Stands result (masked sentinel frame.now) }
+    ensures dest { dest.new ≡ overwritten (part (masked sentinel frame.now)) dest.old }
+{
+    let code = sentinel ^ frame[0];
+    let bytes = &frame[1..];
+    let len = bytes.len();
+    if code == u8::MAX {
+        copy_at_once(bytes, &mut dest[..len], sentinel);
+        return Progress {
+            state: DecoderState::GrabChain((WINDOW - len) as u8),
+            len,
+        };
+    }
+    let state = decode_at_once(bytes, &mut dest[..len], code - 1, sentinel);
+    Progress { state, len }
+}
+
+// The same of a frame of any length.
+#[inline(never)]
+fn take_long(frame: &[u8], dest: &mut [u8], sentinel: u8) -> Progress
+    requires some { 0 < length frame.now }
+    requires room { length frame.now ≤ length dest.old + 1 }
+    requires clear { NoZero (masked sentinel frame.now) }
+    ensures stands { Stands result (masked sentinel frame.now) }
+    ensures dest { dest.new ≡ overwritten (part (masked sentinel frame.now)) dest.old }
+{
+    let mut progress = Progress::new();
+    let _ = progress.take_in(dest, sentinel ^ frame[0]);
+    let mut read: usize = 1;
+    while read < frame.len() {
+        let taken = progress.take_clear(dest, &frame[read..], sentinel);
+        if 0 < taken {
+            read += taken;
+            continue;
+        }
+        let _ = progress.take_in(dest, sentinel ^ frame[read]);
+        read += 1;
+    }
+    progress
+}
+
+// The same by what is quicker.
+#[inline(always)]
+fn take_whole(frame: &[u8], dest: &mut [u8], sentinel: u8) -> Progress
+    requires some { 0 < length frame.now }
+    requires room { length frame.now ≤ length dest.old + 1 }
+    requires clear { NoZero (masked sentinel frame.now) }
+    ensures stands { Stands result (masked sentinel frame.now) }
+    ensures dest { dest.new ≡ overwritten (part (masked sentinel frame.now)) dest.old }
+{
+    if is_short(frame, sentinel) {
+        take_short(frame, dest, sentinel)
+    } else {
+        take_long(frame, dest, sentinel)
+    }
+}
+
+// Decodes a frame, each byte of it XORed with the sentinel, for whose bytes there is room.
+#[inline(always)]
+fn decode_whole(frame: &[u8], dest: &mut [u8], sentinel: u8) -> Result<usize, DecodeError>
+    requires some { 0 < length frame.now }
+    requires room { length frame.now ≤ length dest.old + 1 }
+    requires clear { NoZero (masked sentinel frame.now) }
+    ensures answer { result ≡ decoded_into (length dest.old) (masked sentinel frame.now) }
+    ensures dest { dest.new ≡ overwritten (part (masked sentinel frame.now)) dest.old }
+{
+    let Progress { state, len } = take_whole(frame, dest, sentinel);
+    if state.left() == 0 {
+        Ok(len)
+    } else {
+        Err(DecodeError::InvalidFrame { decoded_bytes: len })
+    }
 }
 
 // Takes in the bytes of a frame, each XORed with the sentinel, and also counts those that have no room.
@@ -746,15 +945,18 @@ fn behind_zeros(bytes: &[u8]) -> &[u8]
     &[]
 }
 
-/// Decodes the first frame of a source: leading zeros are skipped, and the frame ends at the next zero or at the end.
-///
-/// The message then stands in front of `dest`. `parsed_size` counts the zeros that were skipped, the frame, and its
-/// zero where there is one.
-///
-/// `EmptyFrame` where no byte is nonzero. `TargetBufTooSmall` where `dest` has no room for what the bytes decide, and
-/// else `InvalidFrame` where they are no frame. What they decide of a message is then in front of `dest`, as far as
-/// there is room.
-pub fn decode(source: &[u8], dest: &mut [u8]) -> Result<DecodeReport, DecodeError>
+// Whether a frame isn't empty, and there is room for all its bytes but the first.
+#[inline(always)]
+fn has_room(frame: &[u8], room: usize) -> bool
+    ensures some { IsTrue result → 0 < length frame.now }
+    ensures room { IsTrue result → length frame.now ≤ room + 1 }
+{
+    !frame.is_empty() && frame.len() - 1 <= room
+}
+
+// As `decode`, by a decoder that is pushed the source and then a zero: it sees at which byte there is no room.
+#[inline(never)]
+fn decode_pushed(source: &[u8], dest: &mut [u8]) -> Result<DecodeReport, DecodeError>
     ensures answer { result ≡ decoded_from (length dest.old) source.now }
     ensures dest { dest.new ≡ overwritten (part (frame_in source.now)) dest.old }
 {
@@ -775,6 +977,78 @@ pub fn decode(source: &[u8], dest: &mut [u8]) -> Result<DecodeReport, DecodeErro
     }
 }
 
+// As `decode`.
+#[inline(always)]
+fn decode_first(source: &[u8], dest: &mut [u8]) -> Result<DecodeReport, DecodeError>
+    ensures answer { result ≡ decoded_from (length dest.old) source.now }
+    ensures dest { dest.new ≡ overwritten (part (frame_in source.now)) dest.old }
+{
+    let rest = behind_zeros(source);
+    if rest.is_empty() {
+        return Err(DecodeError::EmptyFrame);
+    }
+    let frame = before(rest, 0);
+    if has_room(frame, dest.len()) {
+        match decode_whole(frame, dest, 0) {
+            Ok(decoded) => Ok(DecodeReport {
+                parsed: source
+                    .len()
+                    .min(source.len() - rest.len() + frame.len() + 1),
+                decoded,
+            }),
+            Err(error) => Err(error),
+        }
+    } else {
+        decode_pushed(source, dest)
+    }
+}
+
+/// Decodes the first frame of a source: leading zeros are skipped, and the frame ends at the next zero or at the end.
+///
+/// The message then stands in front of `dest`. `parsed_size` counts the zeros that were skipped, the frame, and its
+/// zero where there is one.
+///
+/// `EmptyFrame` where no byte is nonzero. `TargetBufTooSmall` where `dest` has no room for what the bytes decide, and
+/// else `InvalidFrame` where they are no frame. What they decide of a message is then in front of `dest`, as far as
+/// there is room.
+pub fn decode(source: &[u8], dest: &mut [u8]) -> Result<DecodeReport, DecodeError>
+    ensures answer { result ≡ decoded_from (length dest.old) source.now }
+    ensures frame { IfOk result (λ r. Frame (frame_in source.now) (take (frame_size r) dest.new)) }
+    ensures no_frame { OnErr result ((m : List ℕ) → Frame (frame_in source.now) m → length dest.old < length m) }
+    ensures dest { dest.new ≡ overwritten (part (frame_in source.now)) dest.old }
+{
+    decode_first(source, dest)
+}
+
+// Decodes a frame, each byte of it XORed with the sentinel, and also counts the bytes of its message that have no room.
+#[inline(never)]
+fn decode_counted(frame: &[u8], dest: &mut [u8], sentinel: u8) -> Result<usize, DecodeError>
+    requires { NoZero (masked sentinel frame.now) }
+    ensures answer { result ≡ decoded_into (length dest.old) (masked sentinel frame.now) }
+    ensures dest { dest.new ≡ overwritten (part (masked sentinel frame.now)) dest.old }
+{
+    let Progress { mut state, len } = take_frame(frame, dest, sentinel);
+    match state.feed(0) {
+        Err(_) => Err(DecodeError::InvalidFrame { decoded_bytes: len }),
+        Ok(_) if dest.len() < len => Err(DecodeError::TargetBufTooSmall),
+        Ok(_) => Ok(len),
+    }
+}
+
+// As `decode_with_sentinel`.
+#[inline(always)]
+fn decode_stretch(source: &[u8], dest: &mut [u8], sentinel: u8) -> Result<usize, DecodeError>
+    ensures answer { result ≡ decoded_into (length dest.old) (stretch (masked sentinel source.now)) }
+    ensures dest { dest.new ≡ overwritten (part (stretch (masked sentinel source.now))) dest.old }
+{
+    let frame = before(source, sentinel);
+    if has_room(frame, dest.len()) {
+        decode_whole(frame, dest, sentinel)
+    } else {
+        decode_counted(frame, dest, sentinel)
+    }
+}
+
 /// Decodes the bytes before the first sentinel, or all where there is none, each XORed with the sentinel.
 ///
 /// The message then stands in front of `dest`. A source with no such bytes gives length 0.
@@ -787,14 +1061,11 @@ pub fn decode_with_sentinel(
     sentinel: u8,
 ) -> Result<usize, DecodeError>
     ensures answer { result ≡ decoded_into (length dest.old) (stretch (masked sentinel source.now)) }
+    ensures frame { let p = stretch (masked sentinel source.now) in IfOk result (λ n. p ≢ [] → Frame p (take n dest.new)) }
+    ensures no_frame { OnErr result ((m : List ℕ) → Frame (stretch (masked sentinel source.now)) m → length dest.old < length m) }
     ensures dest { dest.new ≡ overwritten (part (stretch (masked sentinel source.now))) dest.old }
 {
-    let Progress { mut state, len } = take_frame(before(source, sentinel), dest, sentinel);
-    match state.feed(0) {
-        Err(_) => Err(DecodeError::InvalidFrame { decoded_bytes: len }),
-        Ok(_) if dest.len() < len => Err(DecodeError::TargetBufTooSmall),
-        Ok(_) => Ok(len),
-    }
+    decode_stretch(source, dest, sentinel)
 }
 
 // Decodes the bytes of a vector before its first sentinel, each XORed with it, over themselves.
@@ -813,10 +1084,9 @@ fn decode_vector(bytes: Vec<u8>, sentinel: u8) -> Result<Vec<u8>, DecodeVecError
     }
 }
 
-/// As `decode` with room for every message, into a vector of its own.
-///
-/// Where the source holds no frame and no memory is found, either may be answered.
-pub fn decode_vec(alloc: Global, source: &[u8]) -> Result<Vec<u8>, DecodeVecError>
+// As `decode_vec`.
+#[inline(always)]
+fn decode_first_vec(alloc: Global, source: &[u8]) -> Result<Vec<u8>, DecodeVecError>
     ensures { MatchResult result (λ v. message_of_frame (frame_in source.now) ≡ Ok v.items) (λ e. Refuses e (message_of_frame (frame_in source.now))) }
 {
     let frame = before(behind_zeros(source), 0);
@@ -827,6 +1097,16 @@ pub fn decode_vec(alloc: Global, source: &[u8]) -> Result<Vec<u8>, DecodeVecErro
         .to_vec(alloc)
         .map_err(|_| DecodeVecError::OutOfMemory)?;
     decode_vector(bytes, 0)
+}
+
+/// As `decode` with room for every message, into a vector of its own.
+///
+/// Where the source holds no frame and no memory is found, either may be answered.
+pub fn decode_vec(alloc: Global, source: &[u8]) -> Result<Vec<u8>, DecodeVecError>
+    ensures answer { MatchResult result (λ v. message_of_frame (frame_in source.now) ≡ Ok v.items) (λ e. Refuses e (message_of_frame (frame_in source.now))) }
+    ensures frame { IfOk result (λ v. Frame (frame_in source.now) v.items) }
+{
+    decode_first_vec(alloc, source)
 }
 
 /// As `decode_with_sentinel` with room for every message, into a vector of its own.

@@ -1,7 +1,7 @@
 //! The words that the program is called with.
+use framed_lib::arguments::{Mode, arguments};
 use std::alloc::{AllocError, Global};
 use std::process::Abort;
-use text_frames::arguments::{Mode, arguments};
 
 /// The words of a line, which are separated by blanks.
 fn words_of(alloc: Global, line: &str) -> Result<Vec<String>, AllocError> {

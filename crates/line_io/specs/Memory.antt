@@ -4,6 +4,7 @@ use Rattle.std.specs.Borrow.{MutBor}
 use Rattle.line_io.specs.Plan.{Plan, failing}
 use Rattle.line_io.specs.declared.memory.Out.{Out}
 use Rattle.line_io.specs.declared.memory.In.{In}
+use Rattle.line_io.specs.declared.memory.owned.OwnedOut.{OwnedOut}
 
 -- the buffer that it writes into
 abbrev pub out_buffer : Out → MutBor (List ℕ)
@@ -52,3 +53,19 @@ in_faults i = i.faults
 -- how many calls it still answers
 abbrev pub in_calls : In → ℕ
 in_calls i = i.calls
+
+-- the bytes that it holds
+abbrev pub owned_bytes : OwnedOut → List ℕ
+owned_bytes o = o.bytes.items
+
+-- how it goes on
+abbrev pub owned_plan : OwnedOut → Plan
+owned_plan o = record { each = o.each; fault = o.fault }
+
+-- how many of its calls were faults
+abbrev pub owned_faults : OwnedOut → ℕ
+owned_faults o = o.faults
+
+-- how many calls it still answers
+abbrev pub owned_calls : OwnedOut → ℕ
+owned_calls o = o.calls

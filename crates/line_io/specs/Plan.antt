@@ -1,5 +1,5 @@
 -- When a device over memory moves how much, and when it meets its fault.
-use Rattle.std.specs.Prelude.{ℕ, ◌-◌, zero, suc, min, Option, None, Some}
+use Rattle.std.specs.Prelude.{◌≡◌, ℕ, ◌-◌, ◌⊎◌, zero, suc, min, Option, None, Some}
 use Rattle.line_io.specs.declared.memory.Fault.{Fault}
 use Rattle.line_io.specs.declared.memory.Fault.TheVariants.{Fail, Nothing}
 
@@ -43,3 +43,10 @@ plan_after plan (suc calls) left (suc asked) =
 abbrev pub failing : Option ℕ → Option (ℕ × Fault)
 failing None = None
 failing (Some before) = Some (before, Fail)
+
+-- What a call answers of a device that grows, and the plan after it: both as planned; or None where a growth was refused,
+-- and the plan as it was.
+abbrev pub GoesOn : Plan → ℕ → ℕ → Option ℕ → Plan → Type 0
+GoesOn plan calls asked answer after =
+    ((answer ≡ planned_answer plan calls asked asked) × (after ≡ plan_after plan calls asked asked))
+    ⊎ ((answer ≡ None) × (after ≡ plan))

@@ -1,14 +1,41 @@
-ghost use Rattle.std.specs.Prelude.{◌≡◌, ℕ, ◌+◌, ◌-◌, ◌<◌, ◌≤◌, ◌^◌, [], length, take, None, Some, IfSome, MatchOption};
-ghost use Rattle.std.specs.Io.KnownBytes.{Keeps, Consumes};
+ghost use Rattle.std.specs.Prelude.{◌≡◌, ℕ, ◌+◌, ◌-◌, ◌<◌, ◌≤◌, ◌^◌, [], length, take, drop, None, Some, IfSome, MatchOption, unwrap_or};
+ghost use Rattle.std.specs.Io.KnownBytes.{Keeps, Consumes, IsAtEnd};
 ghost use Rattle.line_io.specs.Device.{Gave, moved_front, read_faults};
 
 use crate::traits::Inlet;
 use std::io::Read;
 
+// How many bytes a reader is asked for at most, in one read.
+const SCRATCH: usize = 16384;
+
+/// Reads once, and copies what came to the front of the room: past its answer a reader of std may write what it likes.
+///
+/// It asks for at most 16384 bytes. At `None`, a read that failed or was interrupted, the room is as it was.
+pub fn read_front<R: Read>(reader: &mut R, room: &mut [u8]) -> Option<usize>
+    ensures bound { IfSome result (λ n. n ≤ length room.new) }
+    ensures past { drop (unwrap_or result 0) room.new ≡ drop (unwrap_or result 0) room.old }
+    ensures end { result ≡ Some 0 → 0 < length room.new → IsAtEnd (R.remaining reader.new) }
+    ensures bytes { MatchOption result
+        (Keeps (R.remaining reader.old) (R.remaining reader.new))
+        (λ n. Consumes (R.remaining reader.old) (R.remaining reader.new) (take n room.new)) }
+{
+    let mut scratch = [0u8; SCRATCH];
+    let most = room.len().min(SCRATCH);
+    let lent = &mut scratch[..most];
+    match reader.read(lent) {
+        Ok(n) => {
+            room[..n].copy_from_slice(&lent[..n]);
+            Some(n)
+        }
+        Err(_) => None,
+    }
+}
+
 /// An [`Inlet`](crate::Inlet) over a reader of std.
 ///
 /// A read that the reader fails, or breaks off as interrupted, is `None`, and nothing is tried again. What is to
-/// come is told up to the first fault, where the reader tells it.
+/// come is told up to the first fault, where the reader tells it. A read asks for at most 16384 bytes, and a reader that
+/// writes past its answer changes nothing of the room.
 ///
 /// ```
 /// let mut line = Reads::new(b"hi".as_slice());
@@ -70,19 +97,22 @@ impl<R: Read> Inlet for Reads<R> {
         ensures faults { reads_faults self.new ≡ reads_faults self.old + read_faults (reads_calls self.old) result }
         ensures calls { reads_calls self.new ≡ reads_calls self.old - 1 }
         ensures spent { reads_calls self.old ≡ 0 → result ≡ None }
+        ensures past { drop (unwrap_or result 0) room.new ≡ drop (unwrap_or result 0) room.old }
         ensures silent { 0 < reads_faults self.new → reads_told R.remaining self.new ≡ None }
         // What the reader will give is its own to tell, after a fault too.
         ensures inner { MatchOption result
             (Keeps (R.remaining (inner_reader self.old)) (R.remaining (inner_reader self.new)))
             (λ n. Consumes (R.remaining (inner_reader self.old)) (R.remaining (inner_reader self.new)) (take n room.new)) }
+        // It has ended only where the reader has, after a fault too.
+        ensures inner_end { result ≡ Some 0 → 0 < length room.new → IsAtEnd (R.remaining (inner_reader self.new)) }
     {
         if self.calls == 0 {
             return None;
         }
         self.calls -= 1;
-        match self.inner.read(room) {
-            Ok(n) => Some(n),
-            Err(_) => {
+        match read_front(&mut self.inner, room) {
+            Some(n) => Some(n),
+            None => {
                 self.faults += 1;
                 None
             }

@@ -12,9 +12,9 @@ use Rattle.link.specs.Stream.{Answers}
 use Rattle.link.specs.Roads.{Loops, done, stopped, used_up, consumed, overfull, failed, success, joined, AllFit, AreValues, IsSameByAccumulator}
 use Rattle.link.specs.declared.listening.End.{End}
 use Rattle.link.specs.declared.listening.End.TheVariants.{Ended, ReadFault, NoMemory}
-use Rattle.link.specs.Gathering.{GathersFront, GathersPiece, GathersPieces, Gathers, Lacks, IsGathered, AreThose, AreBefore, AreThoseFor, LacksPlace, AreSameByAccumulator, some_held}
-use Rattle.link.proofs.Pieces.{masked_twice}
-use Rattle.link.proofs.Roads.{zeroed, whole_length, less_length}
+use Rattle.link.specs.Gathering.{GathersFront, GathersPiece, GathersPieces, Gathers, Lacks, IsGathered, AreThose, AreBefore, AreThoseFor, AreLooped, LoopsOver, LacksPlace, AreSameByAccumulator, some_held}
+use Rattle.link.specs.Pieces.{masked_twice}
+use Rattle.link.specs.RoadLaws.{zeroed, whole_length, less_length}
 
 some_is : (held : List ℕ) → 0 < length held → some_held held ≡ 1
 some_is [] l = absurd (omega arith)
@@ -237,3 +237,29 @@ pub those_by : {V : Type 0} (takes : Tree → Type 0) (reads : Tree → V → Ty
     → IsGathered takes reads growing room t held bytes kept old new end → AreThoseFor takes reads growing room s bytes new end
 those_by takes reads growing room s t is held bytes kept old new end l e n same g =
     by_end takes reads growing room s held bytes kept old new end l e n same (subst (λ z. IsGathered takes reads growing room z held bytes kept old new end) is g)
+
+-- the values that the loop gives over the pieces that were gathered
+over_pieces : {V : Type 0} (takes : Tree → Type 0) (reads : Tree → V → Type 0) (growing : Bool) (room s : ℕ) (bytes kept : List ℕ) (old new : List V) → old ≡ []
+    → Gathers takes reads growing room s [] bytes kept old new → LoopsOver takes reads growing false room s bytes new
+over_pieces takes reads growing room s bytes kept old new n g =
+    let k = g.gathers in
+    let pieces = map (masked s) g.pieces in
+    let values : new ≡ k.got ++ [] = k.values ∙ ap (λ x. x ++ k.got) n ∙ sym (append-nil k.got) in
+    record {
+      pieces = g.pieces;
+      are = g.are;
+      loops = subst (λ x. Loops takes reads growing false room [] pieces x) (sym values) (subst (λ x. Loops takes reads growing false room [] x (k.got ++ [])) (append-nil pieces) (k.goes_on false [] [] done));
+    }
+
+looped : {V : Type 0} (takes : Tree → Type 0) (reads : Tree → V → Type 0) (growing : Bool) (room s : ℕ) (held bytes kept : List ℕ) (old new : List V) (end : End) → held ≡ [] → old ≡ []
+    → IsGathered takes reads growing room s held bytes kept old new end → AreLooped takes reads growing room s bytes new end
+looped takes reads growing room s held bytes kept old new Ended e n g = over_pieces takes reads growing room s bytes kept old new n (subst (λ x. Gathers takes reads growing room s x bytes kept old new) e g)
+looped takes reads growing room s held bytes kept old new ReadFault e n g = over_pieces takes reads growing room s bytes kept old new n (subst (λ x. Gathers takes reads growing room s x bytes kept old new) e g)
+looped takes reads growing room s held bytes kept old new NoMemory e n g =
+    let h = subst (λ x. Lacks takes reads growing room s x bytes old new) e g in
+    let values : new ≡ h.got = h.values ∙ ap (λ x. x ++ h.got) n in
+    (h.lost, record { pieces = h.pieces; are = h.are; loops = subst (λ x. Loops takes reads growing true room [] (map (masked s) h.pieces) (x ++ h.lost ∷ [])) (sym values) h.loops })
+
+pub looped_by : {V : Type 0} (takes : Tree → Type 0) (reads : Tree → V → Type 0) (growing : Bool) (room s t : ℕ) → t ≡ s → (held bytes kept : List ℕ) (old new : List V) (end : End) → held ≡ [] → old ≡ []
+    → IsGathered takes reads growing room t held bytes kept old new end → AreLooped takes reads growing room s bytes new end
+looped_by takes reads growing room s t is held bytes kept old new end e n g = looped takes reads growing room s held bytes kept old new end e n (subst (λ z. IsGathered takes reads growing room z held bytes kept old new end) is g)

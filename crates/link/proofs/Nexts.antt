@@ -1,6 +1,5 @@
 -- Where the first stretch of a buffer ends.
-use Rattle.std.proofs.Common.{◌≡◌, ◌≢◌, ◌==◌, if◌then◌else◌, ℕ, zero, suc, ◌+◌, ◌<◌, ◌≤◌, false, List, [], ◌∷◌, length, take, drop, Option, Some, None, Result, MutBor, inl, inr, ◌⊎◌, arith, refl, sym, ◌∙◌, ap, subst}
-use mathlib.Core.Bool.{true≢false}
+use Rattle.std.proofs.Common.{◌≡◌, ◌≢◌, ◌==◌, if◌then◌else◌, ℕ, zero, suc, ◌+◌, ◌<◌, ◌≤◌, List, [], ◌∷◌, length, take, drop, Option, Some, None, Result, MutBor, inl, inr, ◌⊎◌, arith, refl, sym, ◌∙◌, ap, subst}
 use Rattle.std.specs.Prelude.{bit_xor, IfSome, IfNone}
 use Rattle.std.proofs.lemmas.Bool.{cases_eq, eq-eqb, ne_eqb}
 use Rattle.std.proofs.lemmas.List.{length-map, take-map, drop-map}
@@ -8,7 +7,7 @@ use Rattle.cobs.specs.InPlace.{stretch}
 use Rattle.cobs.specs.Sentinel.{masked}
 use Rattle.cobs.specs.Whole.{unpadded}
 use Rattle.postcard_tree.specs.Tree.{Tree}
-use Rattle.link.specs.InPlace.{IsCutBehind, IsUnfinished, ReadsNext}
+use Rattle.link.specs.InPlace.{IsCutBehind, IsUnfinished, IsEnd, ReadsNext}
 use Rattle.link.specs.declared.receiver.Answer.{Answer}
 use Rattle.link.specs.declared.receiver.NoMemory.{NoMemory}
 use Rattle.link.proofs.Sentinels.{masked_zero}
@@ -70,74 +69,49 @@ is_blank : (s : List ℕ) → (s ≡ []) ⊎ (s ≡ [] → ⊥)
 is_blank [] = inl refl
 is_blank (b ∷ s) = inr (λ e. cc)
 
-blank_cut : (bytes : List ℕ) (n : ℕ) → n ≡ length bytes → unpadded bytes ≡ [] → IsCutBehind bytes (take n bytes) (drop n bytes)
-blank_cut bytes n e u =
-    let t : take n bytes ≡ bytes = ap (λ m. take m bytes) e ∙ take_whole bytes in
-    record {
-      blank = λ _. u;
-      begins = ap (λ x. stretch (unpadded x)) t;
-      ended = λ m. absurd (m (ap unpadded t ∙ u));
-      left = λ m. absurd (m (ap unpadded t ∙ u));
-    }
-
 ended_cut : (bytes : List ℕ) (n : ℕ) → n + length (unpadded bytes) ≡ length bytes + (length (stretch (unpadded bytes)) + 1) → (unpadded bytes ≡ [] → ⊥) → n ≤ length bytes → IsCutBehind bytes (take n bytes) (drop n bytes)
-ended_cut bytes n e some within =
+ended_cut bytes n e there within =
     let front : unpadded (take n bytes) ≡ take (length (stretch (unpadded bytes)) + 1) (unpadded bytes) = unpadded_front bytes n _ e in
     record {
-      blank = λ q. absurd (unpadded_some bytes some (sym (stretch_taken (unpadded bytes)) ∙ ap stretch (sym front ∙ q)));
+      there = there;
+      some = λ q. absurd (unpadded_some bytes there (sym (stretch_taken (unpadded bytes)) ∙ ap stretch (sym front ∙ q)));
       begins = ap stretch front ∙ stretch_taken (unpadded bytes);
-      ended = λ _. omega (arith, e, within);
-      left = λ _. unpadded_behind bytes n _ e;
+      ended = omega (arith, e, within);
+      left = unpadded_behind bytes n _ e;
     }
 
-cut_at : (bytes : List ℕ) (n : ℕ) → (unpadded bytes ≡ [] → n ≡ length bytes) → ((unpadded bytes ≡ [] → ⊥) → n + length (unpadded bytes) ≡ length bytes + length (stretch (unpadded bytes)) + 1) → n ≤ length bytes → IsCutBehind bytes (take n bytes) (drop n bytes)
-cut_at bytes n blank behind within = elim (is_blank (unpadded bytes)) [
-  | inl u ↦ blank_cut bytes n (blank u) u
-  | inr some ↦ ended_cut bytes n (omega (arith, behind some)) some within
-]
-
--- no zero ends the first stretch
-is_unfinished : (bytes : List ℕ) (n : ℕ) → (unpadded bytes ≡ [] → n ≡ length bytes) → ((unpadded bytes ≡ [] → ⊥) → n + length (unpadded bytes) ≡ length bytes + length (stretch (unpadded bytes)) + 1) → length bytes < n → IsUnfinished bytes
-is_unfinished bytes n blank behind short =
-    let some : unpadded bytes ≡ [] → ⊥ = λ u. absurd (omega (arith, short, blank u)) in
-    record { some = some; unended = omega (arith, short, behind some, stretch_short (unpadded bytes)) }
-
 -- cut at its end
-is_cut_behind : (bytes front after : List ℕ) (n : ℕ) → (unpadded bytes ≡ [] → n ≡ length bytes) → ((unpadded bytes ≡ [] → ⊥) → n + length (unpadded bytes) ≡ length bytes + length (stretch (unpadded bytes)) + 1)
+is_cut_behind : (bytes front after : List ℕ) (n : ℕ) → (unpadded bytes ≡ [] → ⊥) → n + length (unpadded bytes) ≡ length bytes + length (stretch (unpadded bytes)) + 1
     → n ≤ length bytes → front ≡ take n bytes → after ≡ drop n bytes → IsCutBehind bytes front after
-is_cut_behind bytes front after n blank behind within f a = subst (λ x. IsCutBehind bytes x after) (sym f) (subst (λ x. IsCutBehind bytes (take n bytes) x) (sym a) (cut_at bytes n blank behind within))
-
--- a front that isn't all zeros has a stretch
-not_empty : (s : List ℕ) → false ≡ (length s == 0) → s ≡ [] → ⊥
-not_empty [] e z = true≢false (sym e)
-not_empty (b ∷ s) e z = cc
-
-stretch_some : (front ended : List ℕ) → ended ≡ unpadded front → false ≡ (length ended == 0) → stretch ended ≡ [] → ⊥
-stretch_some front ended e there q = unpadded_some front (λ u. not_empty ended there (e ∙ u)) (ap stretch (sym e) ∙ q)
+is_cut_behind bytes front after n there behind within f a = subst (λ x. IsCutBehind bytes x after) (sym f) (subst (λ x. IsCutBehind bytes (take n bytes) x) (sym a) (ended_cut bytes n (omega (arith, behind)) there within))
 
 -- the same of bytes on a line with a sentinel
-module _ (s : ℕ) (line : List ℕ) (n : ℕ) (blank : unpadded (masked s line) ≡ [] → n ≡ length line)
-    (behind : (unpadded (masked s line) ≡ [] → ⊥) → n + length (unpadded (masked s line)) ≡ length line + length (stretch (unpadded (masked s line))) + 1) where
+module _ (s : ℕ) (line : List ℕ) (n : ℕ) (is : IsEnd s line n) where
   as_long : length (masked s line) ≡ length line
   as_long = length-map line (bit_xor s)
 
-  ends_blank : unpadded (masked s line) ≡ [] → n ≡ length (masked s line)
-  ends_blank u = blank u ∙ sym as_long
+  there : n ≢ 0 → unpadded (masked s line) ≡ [] → ⊥
+  there some u = some (is.blank u)
 
-  ends_behind : (unpadded (masked s line) ≡ [] → ⊥) → n + length (unpadded (masked s line)) ≡ length (masked s line) + length (stretch (unpadded (masked s line))) + 1
-  ends_behind some = behind some ∙ ap (λ k. k + length (stretch (unpadded (masked s line))) + 1) (sym as_long)
+  pub line_blank : n ≡ 0 → unpadded (masked s line) ≡ []
+  line_blank none = elim (is_blank (unpadded (masked s line))) [
+    | inl u ↦ u
+    | inr some ↦ absurd (omega (arith, none, is.behind some, unpadded_short (masked s line), as_long))
+  ]
 
-  pub line_unfinished : length line < n → IsUnfinished (masked s line)
-  line_unfinished short = is_unfinished (masked s line) n ends_blank ends_behind (omega (arith, short, as_long))
+  pub line_unfinished : n ≢ 0 → length line < n → IsUnfinished (masked s line)
+  line_unfinished some short = record { some = there some; unended = omega (arith, short, is.behind (there some), as_long, stretch_short (unpadded (masked s line))) }
 
-  pub line_cut : (front after : List ℕ) → n ≤ length line → front ≡ take n line → after ≡ drop n line → IsCutBehind (masked s line) (masked s front) (masked s after)
-  line_cut front after within f a =
-      is_cut_behind (masked s line) (masked s front) (masked s after) n ends_blank ends_behind (omega (arith, within, as_long))
+  pub line_cut : (front after : List ℕ) → n ≢ 0 → n ≤ length line → front ≡ take n line → after ≡ drop n line → IsCutBehind (masked s line) (masked s front) (masked s after)
+  line_cut front after some within f a =
+      is_cut_behind (masked s line) (masked s front) (masked s after) n (there some) (is.behind (there some) ∙ ap (λ k. k + length (stretch (unpadded (masked s line))) + 1) (sym as_long)) (omega (arith, within, as_long))
       (ap (masked s) f ∙ sym (take-map (bit_xor s) n line)) (ap (masked s) a ∙ sym (drop-map (bit_xor s) n line))
 
-pub line_some : (s n : ℕ) (front ended : List ℕ) → ended ≡ drop n front → drop n (masked s front) ≡ unpadded (masked s front) → false ≡ (length ended == 0) → stretch (masked s ended) ≡ [] → ⊥
-line_some s n front ended e behind there =
-    stretch_some (masked s front) (masked s ended) (ap (masked s) e ∙ sym (drop-map (bit_xor s) n front) ∙ behind) (there ∙ ap (λ k. k == 0) (sym (length-map ended (bit_xor s))))
+-- a front that isn't all sentinels has a stretch
+pub line_some : (s n : ℕ) (bytes front ended after : List ℕ) → IsCutBehind bytes (masked s front) after → ended ≡ drop n front → drop n (masked s front) ≡ unpadded (masked s front) → stretch (masked s ended) ≡ [] → ⊥
+line_some s n bytes front ended after cut e behind q =
+    let same : masked s ended ≡ unpadded (masked s front) = ap (masked s) e ∙ sym (drop-map (bit_xor s) n front) ∙ behind in
+    unpadded_some (masked s front) cut.some (ap stretch (sym same) ∙ q)
 
 -- at the sentinel zero
 module _ {V : Type 0} (bytes : List ℕ) where

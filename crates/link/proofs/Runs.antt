@@ -212,5 +212,5 @@ module _ (limit s : ℕ) (b : Begun) (bytes run behind : List ℕ) (size : ℕ) 
       pub sentinel_brings : (found : Found) → Finds (event_at limit s r.now s) buffer found → Brings limit s b bytes (size + 1) buffer found At
       sentinel_brings Nothing f = ends_nothing f
       sentinel_brings TooMuch f = ends_about TooMuch f (λ e. cc)
-      sentinel_brings Broken f = ends_about Broken f (λ e. cc)
+      sentinel_brings (Broken stretch) f = ends_about (Broken stretch) f (λ e. cc)
       sentinel_brings (Whole n stretch) f = ends_about (Whole n stretch) f (λ e. cc)

@@ -1,6 +1,6 @@
 -- What goes out of a frame.
 use Rattle.std.proofs.Common.{◌≡◌, ℕ, ◌+◌, ◌-◌, ◌<◌, ◌≤◌, Bool, List, [], ◌∷◌, ◌++◌, length, take, drop, Option, Some, None, refl, sym, ap, ◌∙◌, subst, arith, append_assoc}
-use Rattle.std.specs.Prelude.{unwrap_or, IfSome, bit_xor}
+use Rattle.std.specs.Prelude.{unwrap_or, IfSome, bit_xor, zero, suc}
 use Rattle.std.proofs.lemmas.List.{append-nil, length-append, length-drop, length-map, length-take, take_all, take-append-le}
 use Rattle.std.proofs.Math.Seq.{take-add, take-append-add}
 use Rattle.line_io.specs.Device.{moved_front, write_faults, Wrote}
@@ -69,3 +69,11 @@ sent_framed s clean t f same = ap (framed s clean) same
 
 pub ap-take : (k : ℕ) (a b : List ℕ) → a ≡ b → take k a ≡ take k b
 ap-take k a b e = ap (take k) e
+
+-- one write is one fault at most
+pub one_fault : (calls : ℕ) (answer : Option ℕ) (piece : List ℕ) → write_faults calls answer piece ≤ 1
+one_fault zero answer piece = omega arith
+one_fault (suc calls) None piece = omega arith
+one_fault (suc calls) (Some n) [] = omega arith
+one_fault (suc calls) (Some zero) (b ∷ bytes) = omega arith
+one_fault (suc calls) (Some (suc n)) (b ∷ bytes) = omega arith

@@ -18,7 +18,7 @@ nothing_found quiet buffer found f q = refl
 nothing_found passed buffer found f q = cc
 nothing_found (ended p) buffer Nothing f q = absurd f
 nothing_found (ended p) buffer TooMuch f q = absurd f
-nothing_found (ended p) buffer Broken f q = cc
+nothing_found (ended p) buffer (Broken stretch) f q = cc
 nothing_found (ended p) buffer (Whole size stretch) f q = cc
 
 pub some_found : (e : Event) (buffer : List ℕ) (found : Found) (b : Begun) (later : Course) → Finds e buffer found → (found ≡ Nothing → ⊥) → course_on e b later ≡ record { used = 1; event = e; begun = b }

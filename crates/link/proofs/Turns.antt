@@ -37,11 +37,12 @@ did_more : (u v w : Option (List ℕ)) (f g h c d e : ℕ) (a b : List ℕ) (m n
 did_more u v w f g h c d e a b m n p q = record {
   wrote = Wrote-then u v w f g h a b p.wrote q.wrote;
   few = few_more f g h d e m n (m + n) p.few q.few q.calls q.wrote.more refl;
+  once = omega (arith, p.once, q.once);
   calls = omega (arith, p.calls, q.calls);
 }
 
 pub none_sent : {V : Type 0} (limit s : ℕ) (writes : V → Option Tree) (valid : V → Type 0) (clean : Bool) (w : Option (List ℕ)) (f c : ℕ) → SendsAll limit s writes valid clean clean w w f f c c [] []
-none_sent limit s writes valid clean w f c = record { sends = []; are = tt; of = tt; fated = refl; did = record { wrote = Wrote-none w f; few = inl (omega arith); calls = omega arith }; then = refl }
+none_sent limit s writes valid clean w f c = record { sends = []; are = tt; of = tt; fated = refl; did = record { wrote = Wrote-none w f; few = inl (omega arith); once = omega arith; calls = omega arith }; then = refl }
 
 -- one more
 pub one_sent : {V : Type 0} (limit s : ℕ) (writes : V → Option Tree) (valid : V → Type 0) (clean now later : Bool) (u v w : Option (List ℕ)) (f g h c d e : ℕ) (values : List V) (value : V) (fates : List Fate) (fate : Fate)

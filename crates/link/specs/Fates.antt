@@ -16,11 +16,13 @@ use Rattle.link.specs.contracts.sender.Sender as sender
 abbrev pub SenderFitsInMemory : (W N : RattleType) → Type 0
 SenderFitsInMemory W N = FitsInMemory (sender.the_row W N)
 
+-- what became of a send
 abbrev pub fate_of : Send → Fate
 fate_of (completed t) = Done
 fate_of refused = Refused
 fate_of (broken t k) = Broken
 
+-- what became of each
 abbrev pub fates_of : List Send → List Fate
 fates_of [] = []
 fates_of (x ∷ xs) = fate_of x ∷ fates_of xs
@@ -31,6 +33,7 @@ broke (completed t) = 0
 broke refused = 0
 broke (broken t k) = 1
 
+-- how many of these broke off
 abbrev pub brokens : List Send → ℕ
 brokens [] = 0
 brokens (x ∷ xs) = broke x + brokens xs
@@ -45,14 +48,16 @@ IsSendOf limit writes valid (completed t) = (writes ≡ Some t) × valid
 IsSendOf limit writes valid refused = UnlessRefused writes (λ bytes. limit < length (shortest_frame bytes))
 IsSendOf limit writes valid (broken t k) = (writes ≡ Some t) × valid
 
+-- whether the next send needs no sentinel in front, behind these
 abbrev pub clean_after_all : Bool → List Send → Bool
 clean_after_all clean [] = clean
 clean_after_all clean (x ∷ xs) = clean_after_all (clean_after clean x) xs
 
--- what a sender did to its line
+-- what a sender did to its line: no more of its calls failed or took nothing than sends broke off, so that nothing is tried twice
 pub record Did (old new : Option (List ℕ)) (before after calls_before calls_after : ℕ) (bytes : List ℕ) (broken_off : ℕ) : Type 0 where
   pub wrote : Wrote old new before after bytes
   pub few : FewBroke before after calls_after broken_off
+  pub once : after ≤ before + broken_off
   pub calls : calls_after ≤ calls_before
 
 -- one send

@@ -10,18 +10,24 @@ use Rattle.link.specs.declared.receiver.NoMemory.{NoMemory}
 use Rattle.link.specs.declared.reception.Found.{Found}
 use Rattle.link.specs.declared.reception.Found.TheVariants.{Nothing, TooMuch, Broken, Whole}
 
--- What is found is this event; the message of a frame stands in front of the buffer, and how long the stretch was is told.
+-- What is found is this event; the message of a frame stands in front of the buffer, and how long an ended stretch was is told.
 abbrev pub Finds : Event → List ℕ → Found → Type 0
 Finds quiet buffer found = found ≡ Nothing
 Finds passed buffer found = found ≡ TooMuch
 Finds (ended p) buffer (Whole size stretch) = Frame p (take size buffer) × (stretch ≡ length p)
-Finds (ended p) buffer Broken = (m : List ℕ) → Frame p m → ⊥
+Finds (ended p) buffer (Broken stretch) = ((m : List ℕ) → Frame p m → ⊥) × (stretch ≡ length p)
 Finds (ended p) buffer _ = ⊥
 
 -- the message is within the buffer
 abbrev pub IsWithin : ℕ → Found → Type 0
 IsWithin room (Whole size stretch) = size ≤ room
 IsWithin room _ = Unit {0}
+
+-- how many bytes of its stretch stand before the last byte of an event
+abbrev pub IsSpan : ℕ → Event → ℕ → Type 0
+IsSpan limit quiet n = n ≡ 0
+IsSpan limit (ended p) n = n ≡ length p
+IsSpan limit passed n = n ≡ limit
 
 -- the first bytes brought nothing about, and this is begun now
 pub record BringsNothing (limit s : ℕ) (b : Begun) (bytes : List ℕ) (used : ℕ) (At : Begun → Type 0) : Type 0 where
@@ -39,7 +45,7 @@ pub record BringsAbout (limit s : ℕ) (b : Begun) (bytes : List ℕ) (used : �
 abbrev pub Brings : ℕ → ℕ → Begun → List ℕ → ℕ → List ℕ → Found → (Begun → Type 0) → Type 0
 Brings limit s b bytes used buffer Nothing At = BringsNothing limit s b bytes used At
 Brings limit s b bytes used buffer TooMuch At = BringsAbout limit s b bytes used buffer TooMuch At
-Brings limit s b bytes used buffer Broken At = BringsAbout limit s b bytes used buffer Broken At
+Brings limit s b bytes used buffer (Broken stretch) At = BringsAbout limit s b bytes used buffer (Broken stretch) At
 Brings limit s b bytes used buffer (Whole size stretch) At = BringsAbout limit s b bytes used buffer (Whole size stretch) At
 
 -- the answer to a stretch that a sentinel ended, within the limit, by which trees a stretch holds

@@ -1,5 +1,5 @@
 -- What the loop over an accumulator does with pieces, each byte of which is XORed with the sentinel.
-use Rattle.std.specs.Prelude.{◌≡◌, ℕ, Bool, true, List, [], ◌∷◌, ◌++◌, map}
+use Rattle.std.specs.Prelude.{◌≡◌, ℕ, Bool, true, false, List, [], ◌∷◌, ◌++◌, map}
 use Rattle.std.specs.Borrow.{RattleType}
 use Rattle.std.specs.Mem.{FitsInMemory}
 use Rattle.cobs.specs.Sentinel.{masked}
@@ -87,6 +87,18 @@ abbrev pub AreThoseFor : {V : Type 0} → (Tree → Type 0) → (Tree → V → 
 AreThoseFor takes reads growing room s bytes values Ended = AreThose takes reads growing room s bytes values
 AreThoseFor takes reads growing room s bytes values ReadFault = AreThose takes reads growing room s bytes values
 AreThoseFor takes reads growing room s bytes values NoMemory = AreBefore takes reads growing room s bytes values
+
+-- The documented loop over pieces of these bytes gives these values, whether or not their stretches fit.
+pub record LoopsOver {V : Type 0} (takes : Tree → Type 0) (reads : Tree → V → Type 0) (growing may_stop : Bool) (room s : ℕ) (bytes : List ℕ) (values : List V) : Type 0 where
+  pub pieces : List (List ℕ)
+  pub are : joined pieces ≡ bytes
+  pub loops : Loops takes reads growing may_stop room [] (map (masked s) pieces) values
+
+-- by how the reading ended: when out of memory one more value had no place in the list
+abbrev pub AreLooped : {V : Type 0} → (Tree → Type 0) → (Tree → V → Type 0) → Bool → ℕ → ℕ → List ℕ → List V → End → Type 0
+AreLooped takes reads growing room s bytes values Ended = LoopsOver takes reads growing false room s bytes values
+AreLooped takes reads growing room s bytes values ReadFault = LoopsOver takes reads growing false room s bytes values
+AreLooped {V} takes reads growing room s bytes values NoMemory = (lost : V) × LoopsOver takes reads growing true room s bytes (values ++ lost ∷ [])
 
 -- the same at the sentinel zero
 abbrev pub AreThoseBy : {V : Type 0} → (Tree → Type 0) → (Tree → V → Type 0) → Bool → ℕ → List ℕ → List V → End → Type 0

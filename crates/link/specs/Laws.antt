@@ -1,14 +1,20 @@
 -- What the laws of a link say. The ordinary ones speak of the trees that a stretch holds in some way, as `Holds` or
 -- `HoldsExactly` says.
-use Rattle.std.specs.Prelude.{◌≡◌, ◌≢◌, ◌↔◌, ◌⊎◌, List, [], ◌∷◌, ◌++◌, ℕ, ◌+◌, ◌-◌, ◌≤◌, ◌==◌, length, map, take, count_by, Option, Some}
+use Rattle.std.specs.Prelude.{◌≡◌, ◌≢◌, ◌↔◌, ◌⊎◌, List, [], ◌∷◌, ◌++◌, ℕ, ◌+◌, ◌-◌, ◌≤◌, ◌==◌, length, map, take, count_by, Option, Some, Ok}
 use Rattle.std.specs.List.{after_first}
 use Rattle.cobs.specs.Cases.{IsFull, trailing}
 use Rattle.cobs.specs.Frames.{shortest_frame, longest_frame, most_length}
+use Rattle.cobs.specs.Sentinel.{masked}
+use Rattle.cobs.specs.Whole.{unpadded}
 use Rattle.postcard_tree.specs.Tree.{Tree}
 use Rattle.postcard_tree.specs.Spelling.{short}
 use Rattle.postcard.specs.Frames.{Holds}
 use Rattle.link.specs.Stream.{Verdict, value, damaged, unfinished, HoldsExactly, IsAnswer, Given, Answers}
 use Rattle.link.specs.Run.{Send, IsRun, line, told}
+use Rattle.link.specs.Pushes.{Matches}
+use Rattle.link.specs.InPlace.{ReadsNext}
+use Rattle.link.specs.Roads.{ReadsInPlace}
+use Rattle.link.specs.declared.receiver.Answer.{Answer}
 
 -- What a receiver answers to the line of a run is what is to be told of the run, and nothing else.
 abbrev pub IsTold : (Tree → Type 0) → (List ℕ → Tree → Type 0) → ℕ → ℕ → Type 0
@@ -97,3 +103,10 @@ abbrev pub DiffersByBlock : Option Tree → Type 0
 DiffersByBlock writes = (t : Tree) → writes ≡ Some t
     → (IsFull (trailing (short t)) × (longest_frame (short t) ≡ shortest_frame (short t) ++ 1 ∷ []))
     ⊎ ((¬ IsFull (trailing (short t))) × (longest_frame (short t) ≡ shortest_frame (short t)))
+
+-- Reading in place again and again gives the answers of reading in place: none where only sentinels are left, and else the answer
+-- to the next stretch before the answers to what is left.
+pub record IsReadInTurn {V : Type 0} (takes : Tree → Type 0) (reads : Tree → V → Type 0) (s : ℕ) : Type 0 where
+  pub over : (bytes : List ℕ) → unpadded (masked s bytes) ≡ [] → ReadsInPlace (Holds takes) s bytes []
+  pub next : (bytes left : List ℕ) (answer : Answer V) (later : List Verdict) → ReadsNext takes reads (unpadded (masked s bytes)) (Ok answer) (masked s left)
+      → ReadsInPlace (Holds takes) s left later → (verdict : Verdict) × Matches reads answer verdict × ReadsInPlace (Holds takes) s bytes (verdict ∷ later)

@@ -51,6 +51,7 @@ pub data Loops {A : Type 0} (takes : Tree → Type 0) (reads : Tree → A → Ty
       → Feeds room held piece ⊥ (λ r. ⊥) (λ f r. (rest ≡ r) × HoldsValue takes reads f v) kept
       → Loops takes reads growing may_stop room kept (rest ∷ pieces) values → Loops takes reads growing may_stop room held (piece ∷ pieces) (v ∷ values)
 
+-- the pieces, one behind another
 abbrev pub joined : List (List ℕ) → List ℕ
 joined [] = []
 joined (piece ∷ pieces) = piece ++ joined pieces

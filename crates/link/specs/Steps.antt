@@ -18,6 +18,7 @@ abbrev pub event_at : ℕ → ℕ → Begun → ℕ → Event
 event_at limit s (kept p) byte = if byte == s then end_of p else (if nat_lt (length p) limit then quiet else passed)
 event_at limit s over byte = quiet
 
+-- what is begun behind that byte
 abbrev pub begun_at : ℕ → ℕ → Begun → ℕ → Begun
 begun_at limit s (kept p) byte = if byte == s then kept [] else (if nat_lt (length p) limit then kept (p ++ bit_xor s byte ∷ []) else over)
 begun_at limit s over byte = if byte == s then kept [] else over
@@ -28,11 +29,13 @@ pub record Course : Type 0 where
   pub event : Event
   pub begun : Begun
 
+-- the course behind one byte, by its event
 abbrev pub course_on : Event → Begun → Course → Course
 course_on quiet b later = record { used = later.used + 1; event = later.event; begun = later.begun }
 course_on (ended p) b later = record { used = 1; event = ended p; begun = b }
 course_on passed b later = record { used = 1; event = passed; begun = b }
 
+-- the course of a piece, byte by byte
 abbrev pub course_of : ℕ → ℕ → Begun → List ℕ → Course
 course_of limit s b [] = record { used = 0; event = quiet; begun = b }
 course_of limit s b (byte ∷ bytes) = course_on (event_at limit s b byte) (begun_at limit s b byte) (course_of limit s (begun_at limit s b byte) bytes)

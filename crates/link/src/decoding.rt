@@ -7,29 +7,29 @@ ghost use Rattle.link.specs.Decoding.{Inside};
 
 use cobs::{CobsDecoderHeapless, CobsDecoderOwned, DecodeError, DecodeReport};
 
-// A streaming decoder of cobs over a buffer of its own.
-pub(crate) trait Decoding {
-    // How far its frame was taken in, its buffer, and its sentinel.
+/// A streaming decoder of cobs over a buffer of its own: one that holds an array, or one that owns its buffer.
+pub trait Decoding {
+    /// How far its frame was taken in, its buffer, and its sentinel.
     ghost inside: { Self → Inside };
 
-    // As `feed`.
-    fn decode_byte(&mut self, byte: u8) -> Result<Option<usize>, DecodeError>
+    /// Takes a byte of a frame.
+    fn feed(&mut self, byte: u8) -> Result<Option<usize>, DecodeError>
         ensures takes { TakesByte (inside self.old).progress (inside self.old).buffer (bit_xor (inside self.old).sentinel byte) result (inside self.new).progress (inside self.new).buffer }
         ensures sentinel { (inside self.new).sentinel ≡ (inside self.old).sentinel };
 
-    // As `push`.
-    fn decode_bytes(&mut self, bytes: &[u8]) -> Result<Option<DecodeReport>, DecodeError>
+    /// Takes bytes of frames, up to the end of one.
+    fn push(&mut self, bytes: &[u8]) -> Result<Option<DecodeReport>, DecodeError>
         ensures takes { TakesPiece (inside self.old).progress (inside self.old).buffer (masked (inside self.old).sentinel bytes.now) result (inside self.new).progress (inside self.new).buffer }
         ensures sentinel { (inside self.new).sentinel ≡ (inside self.old).sentinel };
 
-    // As `reset`.
-    fn forget(&mut self)
+    /// Forgets what was taken of a frame.
+    fn reset(&mut self)
         ensures idle { Stands (inside self.new).progress [] }
         ensures buffer { (inside self.new).buffer ≡ (inside self.old).buffer }
         ensures sentinel { (inside self.new).sentinel ≡ (inside self.old).sentinel };
 
-    // As `dest`.
-    fn decoded(&self) -> &[u8]
+    /// The buffer.
+    fn dest(&self) -> &[u8]
         ensures { result.now ≡ (inside self.now).buffer };
 }
 
@@ -38,19 +38,19 @@ impl<const N: usize> Decoding for CobsDecoderHeapless<N> {
 
     ghost inside = { in_array };
 
-    fn decode_byte(&mut self, byte: u8) -> Result<Option<usize>, DecodeError> {
+    fn feed(&mut self, byte: u8) -> Result<Option<usize>, DecodeError> {
         self.feed(byte)
     }
 
-    fn decode_bytes(&mut self, bytes: &[u8]) -> Result<Option<DecodeReport>, DecodeError> {
+    fn push(&mut self, bytes: &[u8]) -> Result<Option<DecodeReport>, DecodeError> {
         self.push(bytes)
     }
 
-    fn forget(&mut self) {
+    fn reset(&mut self) {
         self.reset();
     }
 
-    fn decoded(&self) -> &[u8] {
+    fn dest(&self) -> &[u8] {
         self.dest()
     }
 }
@@ -60,19 +60,19 @@ impl Decoding for CobsDecoderOwned {
 
     ghost inside = { in_owner };
 
-    fn decode_byte(&mut self, byte: u8) -> Result<Option<usize>, DecodeError> {
+    fn feed(&mut self, byte: u8) -> Result<Option<usize>, DecodeError> {
         self.feed(byte)
     }
 
-    fn decode_bytes(&mut self, bytes: &[u8]) -> Result<Option<DecodeReport>, DecodeError> {
+    fn push(&mut self, bytes: &[u8]) -> Result<Option<DecodeReport>, DecodeError> {
         self.push(bytes)
     }
 
-    fn forget(&mut self) {
+    fn reset(&mut self) {
         self.reset();
     }
 
-    fn decoded(&self) -> &[u8] {
+    fn dest(&self) -> &[u8] {
         self.dest()
     }
 }

@@ -94,8 +94,26 @@ impl<'a> Flavor for Framed<'a> {
     }
 }
 
-/// Writes the frame of a value for a sentinel to the front of a buffer, and answers how long it is.
-pub(crate) fn frame_into<T: Serialize>(value: &T, buffer: &mut [u8], sentinel: u8) -> Result<usize>
+/// Writes the frame of a value to the front of a buffer, and answers how long it is. No zero is written behind it, and what stands
+/// behind it in the buffer isn't promised. The caller owes that the buffer isn't empty.
+///
+/// It is refused exactly where the value refuses itself, or its frame is longer than the buffer, which is `SerializeBufferFull`.
+/// Where both hold, either cause may be named.
+pub fn frame_into<T: Serialize>(value: &T, buffer: &mut [u8]) -> Result<usize>
+    requires { 0 < length buffer.old }
+    ensures ok { IfOk result (λ n. WrittenAs (T.writes value.now) (λ bytes. (n ≡ length (shortest_frame bytes)) × (take n buffer.new ≡ frame_for 0 bytes))) }
+    ensures err { IfErr result (λ e. UnlessRefused (T.writes value.now) (λ bytes. (e ≡ SerializeBufferFull) × (length buffer.old < length (shortest_frame bytes)))) }
+    ensures valid { OnOk result (T.valid value.now) }
+{
+    frame_into_with_sentinel(value, buffer, 0)
+}
+
+/// The same with each byte of the frame XORed with the sentinel.
+pub fn frame_into_with_sentinel<T: Serialize>(
+    value: &T,
+    buffer: &mut [u8],
+    sentinel: u8,
+) -> Result<usize>
     requires { 0 < length buffer.old }
     ensures ok { IfOk result (λ n. WrittenAs (T.writes value.now) (λ bytes. (n ≡ length (shortest_frame bytes)) × (take n buffer.new ≡ frame_for sentinel bytes))) }
     ensures err { IfErr result (λ e. UnlessRefused (T.writes value.now) (λ bytes. (e ≡ SerializeBufferFull) × (length buffer.old < length (shortest_frame bytes)))) }

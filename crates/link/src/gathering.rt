@@ -3,7 +3,8 @@ ghost use Rattle.std.specs.Prelude.{◌≡◌, ◌<◌, OnOk, OnErr, List, ℕ};
 ghost use Rattle.cobs.specs.Sentinel.{masked};
 ghost use Rattle.postcard.specs.Gathers.{held_of, sentinel_of};
 ghost use Rattle.link.specs.Listening.{HasRead};
-ghost use Rattle.link.specs.Gathering.{GathersPiece, LacksPlace, AreSameByAccumulator, IsGathered, AreThoseBy, AreThoseFor, AccumulatorFitsInMemory};
+ghost use Rattle.link.specs.Each.{UsesFew};
+ghost use Rattle.link.specs.Gathering.{GathersPiece, LacksPlace, AreSameByAccumulator, IsGathered, AreThoseBy, AreThoseFor, AreLooped, AccumulatorFitsInMemory};
 
 use crate::listening::End;
 use crate::receiver::NoMemory;
@@ -64,8 +65,9 @@ fn collect<T: DeserializeOwned, R: Inlet, const N: usize>(
     values: &mut Vec<T>,
 ) -> End
     requires { 0 < N }
-    ensures { (bytes : List ℕ) × HasRead (R.to_come reader.old) (R.to_come reader.new) (R.faults reader.old) (R.faults reader.new) (R.calls_left reader.new) result bytes
+    ensures gathered { (bytes : List ℕ) × HasRead (R.to_come reader.old) (R.to_come reader.new) (R.faults reader.old) (R.faults reader.new) (R.calls_left reader.new) result bytes
         × IsGathered T.takes T.reads T.growing N (sentinel_of accumulator.old) (held_of accumulator.old) bytes (held_of accumulator.new) values.old.items values.new.items result }
+    ensures calls { UsesFew (R.to_come reader.old) (R.to_come reader.new) (R.faults reader.old) (R.faults reader.new) (R.calls_left reader.old) (R.calls_left reader.new) 1 }
 {
     let mut room = [0u8; ROOM];
     loop {
@@ -102,8 +104,10 @@ pub fn receive_by_accumulator<T: DeserializeOwned, R: Inlet, const N: usize>(
 ) -> Gathered<T, R>
     requires some { 0 < N }
     requires fits { AccumulatorFitsInMemory N.row }
-    ensures { (bytes : List ℕ) × HasRead (R.to_come reader) (R.to_come result.reader) (R.faults reader) (R.faults result.reader) (R.calls_left result.reader) result.end bytes
-        × AreThoseBy T.takes T.reads T.growing N bytes result.values.items result.end }
+    ensures received { (bytes : List ℕ) × HasRead (R.to_come reader) (R.to_come result.reader) (R.faults reader) (R.faults result.reader) (R.calls_left result.reader) result.end bytes
+        × AreThoseBy T.takes T.reads T.growing N bytes result.values.items result.end
+        × AreLooped T.takes T.reads T.growing N 0 bytes result.values.items result.end }
+    ensures calls { UsesFew (R.to_come reader) (R.to_come result.reader) (R.faults reader) (R.faults result.reader) (R.calls_left reader) (R.calls_left result.reader) 1 }
 {
     receive_by_accumulator_with_sentinel::<T, R, N>(alloc, reader, 0)
 }
@@ -116,8 +120,10 @@ pub fn receive_by_accumulator_with_sentinel<T: DeserializeOwned, R: Inlet, const
 ) -> Gathered<T, R>
     requires some { 0 < N }
     requires fits { AccumulatorFitsInMemory N.row }
-    ensures { (bytes : List ℕ) × HasRead (R.to_come reader) (R.to_come result.reader) (R.faults reader) (R.faults result.reader) (R.calls_left result.reader) result.end bytes
-        × AreThoseFor T.takes T.reads T.growing N sentinel bytes result.values.items result.end }
+    ensures received { (bytes : List ℕ) × HasRead (R.to_come reader) (R.to_come result.reader) (R.faults reader) (R.faults result.reader) (R.calls_left result.reader) result.end bytes
+        × AreThoseFor T.takes T.reads T.growing N sentinel bytes result.values.items result.end
+        × AreLooped T.takes T.reads T.growing N sentinel bytes result.values.items result.end }
+    ensures calls { UsesFew (R.to_come reader) (R.to_come result.reader) (R.faults reader) (R.faults result.reader) (R.calls_left reader) (R.calls_left result.reader) 1 }
 {
     let mut reader = reader;
     let mut accumulator = CobsAccumulator::<N>::new_with_sentinel(sentinel);

@@ -4,7 +4,7 @@ ghost use Rattle.std.specs.Borrow.{sem, LendsBothIf, Array, u8};
 ghost use Rattle.cobs.specs.InPlace.{stretch};
 ghost use Rattle.cobs.specs.Sentinel.{masked};
 ghost use Rattle.cobs.specs.Whole.{unpadded};
-ghost use Rattle.link.specs.InPlace.{AnswersEnded, ReadsNext, IsNext, AnswersNext, KeptIfCut};
+ghost use Rattle.link.specs.InPlace.{AnswersEnded, ReadsNext, IsEnd, IsNext, AnswersNext, KeptUnlessEnded};
 
 use crate::receiver::{Answer, NoMemory};
 use crate::zeros::before_sentinel;
@@ -47,27 +47,37 @@ fn read_stretch<'a, T: Deserialize<&'a [u8]>>(
     }
 }
 
-// How many bytes there are through the sentinel that ends the next stretch: one more than there are where none does, and all where
+// How many bytes there are through the sentinel that ends the next stretch: one more than there are where none does, and none where
 // they are sentinels alone.
 fn end_of_stretch(bytes: &[u8], sentinel: u8) -> usize
-    ensures blank { unpadded (masked sentinel bytes.now) ≡ [] → result ≡ length bytes.now }
-    ensures behind { let behind = unpadded (masked sentinel bytes.now) in (behind ≡ [] → ⊥) → result + length behind ≡ length bytes.now + length (stretch behind) + 1 }
+    ensures { IsEnd sentinel bytes.now result }
 {
     let leading = leading_sentinels(bytes, sentinel);
     let (_, rest) = bytes.split_at(leading);
     if rest.is_empty() {
-        return leading;
+        return 0;
     }
     leading + before_sentinel(rest, sentinel) + 1
 }
 
-// The bytes through the sentinel that ends the next stretch, and those behind it; nothing where none does. (Sentinels alone are all
-// in front.)
-fn next_stretch(bytes: &mut [u8], sentinel: u8) -> Option<(&mut [u8], &mut [u8])>
-    ensures parts { IsNext sentinel bytes.entry.now result }
-    ensures* lent { sem 𝓛 (LendsBothIf (Array u8 0) (Array u8 0) (Array u8 0) bytes.entry result ◌++◌ bytes.entry.now) }
+// The same, and the bytes again.
+fn with_end(bytes: &mut [u8], sentinel: u8) -> (usize, &mut [u8])
+    ensures end { IsEnd sentinel bytes.entry.now result.0 }
+    ensures bytes { result.1.now ≡ bytes.entry.now }
+    ensures same_reference { result.1.ghost_name ≡ bytes.entry.ghost_name }
 {
     let end = end_of_stretch(bytes, sentinel);
+    (end, bytes)
+}
+
+// The bytes through the end, and those behind it; nothing where there are fewer, or none to it.
+fn cut_behind(bytes: &mut [u8], end: usize) -> Option<(&mut [u8], &mut [u8])>
+    ensures parts { (s : ℕ) → IsEnd s bytes.entry.now end → IsNext s end bytes.entry.now result }
+    ensures* lent { sem 𝓛 (LendsBothIf (Array u8 0) (Array u8 0) (Array u8 0) bytes.entry result ◌++◌ bytes.entry.now) }
+{
+    if end == 0 {
+        return None;
+    }
     if bytes.len() < end {
         return None;
     }
@@ -78,18 +88,22 @@ fn next_stretch(bytes: &mut [u8], sentinel: u8) -> Option<(&mut [u8], &mut [u8])
 fn read_next<'a, T: Deserialize<&'a [u8]>>(
     alloc: Global,
     parts: Option<(&'a mut [u8], &'a mut [u8])>,
+    end: usize,
     sentinel: u8,
 ) -> Option<(Result<Answer<T>, NoMemory>, &'a mut [u8])>
-    ensures { (bytes : List ℕ) → IsNext sentinel bytes parts.entry → AnswersNext T.takes T.reads T.growing sentinel bytes result }
+    requires { (bytes : List ℕ) × IsNext sentinel end bytes parts }
+    ensures { (bytes : List ℕ) → IsNext sentinel end bytes parts.entry → AnswersNext T.takes T.reads T.growing sentinel bytes result }
 {
     match parts {
-        None => Some((Ok(Answer::Cut), &mut [])),
+        None => {
+            if end == 0 {
+                return None;
+            }
+            Some((Ok(Answer::Cut), &mut []))
+        }
         Some((front, after)) => {
             let leading = leading_sentinels(front, sentinel);
             let (_, ended) = front.split_at_mut(leading);
-            if ended.is_empty() {
-                return None;
-            }
             Some((read_stretch(alloc, ended, sentinel), after))
         }
     }
@@ -98,8 +112,9 @@ fn read_next<'a, T: Deserialize<&'a [u8]>>(
 /// The answer to the next stretch, and the bytes behind its zero; nothing where no byte but zeros is left.
 ///
 /// Leading zeros are skipped. A stretch that a zero ends is decoded over its own bytes, from which the value may borrow; there is
-/// no limit to its length, so it is never `TooLong`. One that no zero ends is `Cut`, its bytes stay as they were, and nothing is
-/// left behind it. `NoMemory` is only for a frame, and the bytes behind its zero are left then too.
+/// no limit to its length, so it is never `TooLong`. One that no zero ends is `Cut`, and nothing is left behind it. At `Cut`, and
+/// where the answer is nothing, all the bytes stay as they were. `NoMemory` is only for a frame, and the bytes behind its zero are
+/// left then too.
 pub fn read_in_place<'a, T: Deserialize<&'a [u8]>>(
     alloc: Global,
     bytes: &'a mut [u8],
@@ -107,7 +122,7 @@ pub fn read_in_place<'a, T: Deserialize<&'a [u8]>>(
     ensures some { IfSome result (λ p. ReadsNext T.takes T.reads (unpadded bytes.entry.now) p.0 p.1.now) }
     ensures none { IfNone result (unpadded bytes.entry.now ≡ []) }
     ensures memory { IfSome result (λ p. OnErr p.0 (T.growing ≡ true)) }
-    ensures* unchanged { sem 𝓛 (KeptIfCut bytes.entry result) }
+    ensures* unchanged { sem 𝓛 (KeptUnlessEnded bytes.entry result) }
 {
     read_in_place_with_sentinel(alloc, bytes, 0)
 }
@@ -121,8 +136,9 @@ pub fn read_in_place_with_sentinel<'a, T: Deserialize<&'a [u8]>>(
     ensures some { IfSome result (λ p. ReadsNext T.takes T.reads (unpadded (masked sentinel bytes.entry.now)) p.0 (masked sentinel p.1.now)) }
     ensures none { IfNone result (unpadded (masked sentinel bytes.entry.now) ≡ []) }
     ensures memory { IfSome result (λ p. OnErr p.0 (T.growing ≡ true)) }
-    ensures* unchanged { sem 𝓛 (KeptIfCut bytes.entry result) }
+    ensures* unchanged { sem 𝓛 (KeptUnlessEnded bytes.entry result) }
 {
-    let parts = next_stretch(bytes, sentinel);
-    read_next(alloc, parts, sentinel)
+    let (end, bytes) = with_end(bytes, sentinel);
+    let parts = cut_behind(bytes, end);
+    read_next(alloc, parts, end, sentinel)
 }

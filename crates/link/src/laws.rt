@@ -1,6 +1,7 @@
-//! What strict reception rests on, and which limit a type's frames need. Each function does nothing; its contract is what it is for:
+//! What strict reception rests on, which limit a type's frames need, and what reading in place gives in turn. Each function does nothing; its contract is what it is for:
 //! call one where a proof needs it. What holds of streams and of runs of sends is said by the crate `link_laws`.
-ghost use Rattle.link.specs.Laws.{HasRoom, IsToldByLengths};
+ghost use Rattle.std.specs.Prelude.{ℕ};
+ghost use Rattle.link.specs.Laws.{HasRoom, IsToldByLengths, IsReadInTurn};
 
 use postcard::Readable;
 use postcard::experimental::max_size::MaxWritten;
@@ -23,3 +24,9 @@ pub fn by_lengths<T: Readable>()
     postcard_tree::laws::short_is_a_spelling();
     postcard_tree::laws::short_is_the_shortest();
 }
+
+/// What `read_in_place` answers, again and again until nothing is left, are the answers of reading in place: those of which `roads` of
+/// the crate `link_laws` says that their values are the receiver's.
+pub fn in_turn<T: Readable>()
+    ensures { (s : ℕ) → IsReadInTurn T.takes T.reads s }
+{}

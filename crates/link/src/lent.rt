@@ -3,14 +3,16 @@ ghost use Rattle.std.specs.Prelude.{◌≡◌, ℕ, ◌<◌, ◌≤◌, length, 
 ghost use Rattle.std.specs.Borrow.{sem};
 ghost use Rattle.cobs.specs.Frames.{Frame};
 ghost use Rattle.postcard.specs.Frames.{Holds};
+ghost use Rattle.link.specs.Stream.{HoldsExactly};
 ghost use Rattle.link.specs.Lending.{Reads};
 ghost use Rattle.link.specs.Finds.{AnswersStretch};
 
 use crate::decoding::Decoding;
-use crate::owned::OwnedReceiver;
-use crate::receiver::{Answer, NoMemory, Pushed, Receiver};
+use crate::judging::is_sent;
+use crate::laws;
+use crate::receiver::{Answer, NoMemory, Pushed};
 use crate::reception::{Found, Reception, Taken};
-use postcard::{Deserialize, Error, from_bytes};
+use postcard::{Deserialize, Error, Exact, from_bytes};
 use std::alloc::Global;
 
 // What is found in a piece, with the message of a frame.
@@ -26,6 +28,8 @@ pub(crate) enum Lent<'de> {
 #[derive(Drop)]
 pub(crate) struct Advanced<'de> {
     pub used: usize,
+    // how many bytes of its stretch stand before the last byte of what was found
+    pub stretch: usize,
     pub found: Lent<'de>,
 }
 
@@ -33,7 +37,7 @@ impl<D: Decoding> Reception<D> {
     ghost use Rattle.link.specs.contracts.reception.Reception.{the_row};
     ghost use mathlib.Core.Option.{none};
     ghost use denote.Follow.{follows_so};
-    ghost use Rattle.link.specs.Lending.{Advances, Leads};
+    ghost use Rattle.link.specs.Lending.{Advances, Leads, AnswersBy, StandsBy};
 
     // Takes bytes of a piece, up to the first that brings something about, and lends the message of a frame.
     pub(crate) fn advance<'de>(&'de mut self, piece: &[u8]) -> Advanced<'de>
@@ -41,41 +45,30 @@ impl<D: Decoding> Reception<D> {
         ensures* after { sem 𝓛 (follows_so (the_row D.row) (the_row D.row) self.entry.ghost_name none (λ _ _. ⊤) (λ n. Leads D.inside self.entry.now piece.now n)) }
     {
         let Taken { used, found } = self.take(piece);
+        let stretch = self.span(found);
         match found {
             Found::Nothing => Advanced {
                 used,
+                stretch,
                 found: Lent::Quiet,
             },
             Found::TooMuch => Advanced {
                 used,
+                stretch,
                 found: Lent::TooMuch,
             },
-            Found::Broken => Advanced {
+            Found::Broken { stretch: _ } => Advanced {
                 used,
+                stretch,
                 found: Lent::Broken,
             },
             Found::Whole { size, stretch: _ } => Advanced {
                 used,
+                stretch,
                 found: Lent::Message(&self.buffer()[..size]),
             },
         }
     }
-}
-
-impl<const N: usize> Receiver<N> {
-    ghost use Rattle.link.specs.contracts.receiver.Receiver.{the_row};
-    ghost use mathlib.Core.Option.{none};
-    ghost use denote.Follow.{follows_so};
-    ghost use Rattle.link.specs.Decoding.{in_array};
-    ghost use Rattle.link.specs.Lending.{Advances, Leads, Answers, Stands};
-
-    // As that of what it shares.
-    fn advance<'de>(&'de mut self, piece: &[u8]) -> Advanced<'de>
-        ensures answer { Advances in_array self.entry.now.reception piece.now result }
-        ensures* after { sem 𝓛 (follows_so (the_row N.row) (the_row N.row) self.entry.ghost_name none (λ _ _. ⊤) (λ n. Leads in_array self.entry.now.reception piece.now n.reception)) }
-    {
-        self.reception.advance(piece)
-    }
 
     /// As `push`, of a value that may borrow from the receiver: its bytes lie there. The receiver is free again once the value is
     /// gone, and then stands behind the bytes that were used, as after `push`.
@@ -84,39 +77,8 @@ impl<const N: usize> Receiver<N> {
         alloc: Global,
         piece: &[u8],
     ) -> Pushed<T>
-        ensures answer { Answers T.takes T.reads T.growing self.entry.now piece.now result }
-        ensures* after { sem 𝓛 (follows_so (the_row N.row) (the_row N.row) self.entry.ghost_name none (λ _ _. ⊤) (λ n. Stands self.entry.now piece.now result n)) }
-    {
-        let advanced = self.advance(piece);
-        read_lent(alloc, advanced)
-    }
-}
-
-impl OwnedReceiver {
-    ghost use Rattle.link.specs.contracts.owned.OwnedReceiver.{the_row};
-    ghost use mathlib.Core.Option.{none};
-    ghost use denote.Follow.{follows_so};
-    ghost use Rattle.link.specs.Decoding.{in_owner};
-    ghost use Rattle.link.specs.Lending.{Advances, Leads};
-    ghost use Rattle.link.specs.LendingOwned.{Answers, Stands};
-
-    // As that of what it shares.
-    fn advance<'de>(&'de mut self, piece: &[u8]) -> Advanced<'de>
-        ensures answer { Advances in_owner self.entry.now.reception piece.now result }
-        ensures* after { sem 𝓛 (follows_so the_row the_row self.entry.ghost_name none (λ _ _. ⊤) (λ n. Leads in_owner self.entry.now.reception piece.now n.reception)) }
-    {
-        self.reception.advance(piece)
-    }
-
-    /// As `push`, of a value that may borrow from the receiver: its bytes lie there. The receiver is free again once the value is
-    /// gone, and then stands behind the bytes that were used, as after `push`.
-    pub fn push_ref<'de, T: Deserialize<&'de [u8]>>(
-        &'de mut self,
-        alloc: Global,
-        piece: &[u8],
-    ) -> Pushed<T>
-        ensures answer { Answers T.takes T.reads T.growing self.entry.now piece.now result }
-        ensures* after { sem 𝓛 (follows_so the_row the_row self.entry.ghost_name none (λ _ _. ⊤) (λ n. Stands self.entry.now piece.now result n)) }
+        ensures answer { AnswersBy D.inside T.takes T.reads T.growing self.entry.now piece.now result }
+        ensures* after { sem 𝓛 (follows_so (the_row D.row) (the_row D.row) self.entry.ghost_name none (λ _ _. ⊤) (λ n. StandsBy D.inside self.entry.now piece.now result n)) }
     {
         let advanced = self.advance(piece);
         read_lent(alloc, advanced)
@@ -124,7 +86,7 @@ impl OwnedReceiver {
 }
 
 // The answer to a stretch that is a frame with this message.
-fn read_message<'de, T: Deserialize<&'de [u8]>>(
+pub(crate) fn read_message<'de, T: Deserialize<&'de [u8]>>(
     alloc: Global,
     message: &'de [u8],
 ) -> Result<Option<Answer<T>>, NoMemory>
@@ -141,26 +103,61 @@ fn read_message<'de, T: Deserialize<&'de [u8]>>(
     }
 }
 
+// The same where the stretch has so many bytes and counts only as the frame that sending makes.
+pub(crate) fn read_exact_message<'de, T: Deserialize<&'de [u8]> + Exact>(
+    alloc: Global,
+    message: &'de [u8],
+    stretch: usize,
+) -> Result<Option<Answer<T>>, NoMemory>
+    ensures stretch { (p : List ℕ) → Frame p message.now → stretch ≡ length p → AnswersStretch (HoldsExactly T.takes) T.reads p result }
+    ensures memory { OnErr result (T.growing ≡ true) }
+{
+    cobs::laws::message_of_a_frame();
+    cobs::laws::frames_of_a_message();
+    postcard_tree::laws::short_is_a_spelling();
+    laws::by_lengths::<T>();
+    match from_bytes::<T>(alloc, message) {
+        Ok(value) => {
+            if is_sent(&value, message, stretch) {
+                return Ok(Some(Answer::Value(value)));
+            }
+            Ok(Some(Answer::Damaged))
+        }
+        Err(error) => match error {
+            Error::OutOfMemory => Err(NoMemory),
+            _ => Ok(Some(Answer::Damaged)),
+        },
+    }
+}
+
 // The answer to what was found.
 fn read_lent<'de, T: Deserialize<&'de [u8]>>(alloc: Global, advanced: Advanced<'de>) -> Pushed<T>
     ensures { Reads T.takes T.reads T.growing advanced.entry result }
 {
-    let Advanced { used, found } = advanced;
+    let Advanced {
+        used,
+        stretch,
+        found,
+    } = advanced;
     match found {
         Lent::Quiet => Pushed {
             used,
+            stretch,
             answer: Ok(None),
         },
         Lent::TooMuch => Pushed {
             used,
+            stretch,
             answer: Ok(Some(Answer::TooLong)),
         },
         Lent::Broken => Pushed {
             used,
+            stretch,
             answer: Ok(Some(Answer::Damaged)),
         },
         Lent::Message(message) => Pushed {
             used,
+            stretch,
             answer: read_message(alloc, message),
         },
     }

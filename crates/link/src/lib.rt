@@ -2,21 +2,28 @@
 //! answers each stretch of bytes that a zero ends, however the bytes are cut into pieces.
 //!
 //! ```text
-//! let mut sender = Sender::<_, 64>::new(writer);
-//! if sender.send(&reading).is_err() {
-//!     // the line failed, or the frame is longer than 64 bytes; the next send is heard all the same
+//! fn tell<W: Outlet>(sender: &mut Sender<W, 64>, celsius: i16) -> Result<(), SendError> {
+//!     // where the line failed, the next send is heard all the same
+//!     sender.send(&celsius)
 //! }
 //!
-//! let mut receiver = Receiver::<64>::new();
-//! let mut rest = piece;
-//! while !rest.is_empty() {
-//!     let Pushed { used, answer } = receiver.push::<Reading>(alloc, rest);
-//!     rest = &rest[used..];
-//!     match answer {
-//!         Ok(Some(Answer::Value(reading))) => take(reading),
-//!         Ok(Some(_)) => note_a_loss(),
-//!         Ok(None) => {}
-//!         Err(NoMemory) => note_a_loss(),
+//! #[derive(Drop)]
+//! struct Heard {
+//!     last: Option<i16>,
+//!     lost: u64,
+//! }
+//!
+//! fn hear(alloc: Global, receiver: &mut Receiver<64>, piece: &[u8], heard: &mut Heard) {
+//!     let mut rest = piece;
+//!     // each push uses a byte at least, and one of no bytes answers nothing
+//!     for _ in 0..piece.len() {
+//!         let Pushed { used, answer, .. } = receiver.push::<i16>(alloc, rest);
+//!         rest = &rest[used..];
+//!         match answer {
+//!             Ok(Some(Answer::Value(celsius))) => heard.last = Some(celsius),
+//!             Ok(None) => {}
+//!             Ok(Some(_)) | Err(NoMemory) => heard.lost = heard.lost.saturating_add(1),
+//!         }
 //!     }
 //! }
 //! ```
@@ -25,9 +32,11 @@
 //! |---|---|
 //! | send values one by one | `Sender` |
 //! | send the values of a slice, and know what became of each | `send_each` |
-//! | write a frame into a buffer of the caller's | `Framed`, a flavor of postcard's |
-//! | receive from pieces | `Receiver`: `push`, `push_ref` of values that borrow, `push_strict` of what sending makes alone |
+//! | write a value's frame into a buffer of the caller's, or see whether it fits | `frame_into` |
+//! | frame what a serializer of the caller's pushes | `Framed`, a flavor of postcard's |
+//! | receive from pieces | `Receiver`: `push`, `push_ref` of values that borrow, `push_strict` of what sending makes alone; each tells how long the answered stretch was |
 //! | receive with a limit that is a value, and set it anew | `OwnedReceiver` |
+//! | receive from a reader, each answer handed on when its last byte was read | `listen` of a receiver, `receive_each`; `listen_texts`, `receive_each_text` of texts where they lie |
 //! | receive all that a reader gives | `receive`, `receive_strict`, `receive_owned`, `receive_by_accumulator` |
 //! | read a buffer where it lies | `read_in_place` |
 //!
@@ -50,22 +59,31 @@
 #![tactic(auto)]
 
 mod decoding;
+mod each;
+mod effects;
 mod framed;
 mod gathering;
 mod in_place;
 mod judging;
 pub mod laws;
 mod lent;
+mod listed;
 mod listening;
 mod owned;
 mod receiver;
 mod reception;
 mod sender;
 mod session;
+mod texts;
 mod writing;
 mod zeros;
 
-pub use framed::Framed;
+pub use decoding::Decoding;
+pub use each::{
+    Hearer, receive_each, receive_each_owned, receive_each_owned_strict, receive_each_strict,
+    receive_each_strict_with_sentinel, receive_each_with_sentinel,
+};
+pub use framed::{Framed, frame_into, frame_into_with_sentinel};
 pub use gathering::{Gathered, receive_by_accumulator, receive_by_accumulator_with_sentinel};
 pub use in_place::{read_in_place, read_in_place_with_sentinel};
 pub use listening::{
@@ -74,5 +92,10 @@ pub use listening::{
 };
 pub use owned::OwnedReceiver;
 pub use receiver::{Answer, NoMemory, Pushed, Receiver};
+pub use reception::Reception;
 pub use sender::{SendError, Sender};
 pub use session::{Fate, send_each, send_each_with_sentinel};
+pub use texts::{
+    TextHearer, receive_each_text, receive_each_text_owned, receive_each_text_owned_strict,
+    receive_each_text_strict,
+};

@@ -1,14 +1,8 @@
-//! Receiving values from a stream that comes in pieces.
-ghost use Rattle.std.specs.Prelude.{◌≡◌, ◌<◌, ◌≤◌, ◌↔◌, ℕ, length, List, [], ◌++◌, take, true, OnErr, IsTrue};
-ghost use Rattle.link.specs.Stream.{kept, begun, HoldsExactly};
-ghost use Rattle.link.specs.Pushes.{Answered, finished};
-ghost use Rattle.postcard.specs.Frames.{Holds};
+//! What receivers answer, and the receiver whose limit is part of its type.
+ghost use Rattle.std.specs.Prelude.{◌≡◌, []};
 
-use crate::judging::{Ordinary, Strict};
 use crate::reception::Reception;
 use cobs::CobsDecoderHeapless;
-use postcard::{DeserializeOwned, Exact};
-use std::alloc::Global;
 use thiserror::Error;
 
 /// What a stretch gets.
@@ -35,88 +29,42 @@ pub struct NoMemory;
 pub struct Pushed<T> {
     /// How many bytes of the piece were used: all of them where they brought about no answer. Push the rest next.
     pub used: usize,
+    /// How many bytes of the answered stretch stand before the last of these: all of them where a sentinel ended it, as many as the
+    /// limit where that byte is the one past it. 0 where nothing was answered. So where the last byte used has the offset `at`, the
+    /// stretch begins at `at - stretch`.
+    pub stretch: usize,
     /// The answer that they brought about, if any. After `NoMemory` that frame is gone, its sentinel is used, and no stretch
     /// is begun.
     pub answer: Result<Option<Answer<T>>, NoMemory>,
 }
 
-/// Receives values from a stream that comes in pieces, with stretches of at most N bytes; N may be 0. A stretch ends at its
-/// sentinel, which is zero where none was named.
-///
-/// It answers what the stream's bytes determine, however they are cut into pieces. It takes no memory of its own, and each push may
-/// name another type.
-#[derive(Drop)]
-pub struct Receiver<const N: usize> {
-    pub(crate) reception: Reception<CobsDecoderHeapless<N>>,
-}
+/// A receiver with stretches of at most N bytes; N may be 0. It takes no memory of its own.
+pub type Receiver<const N: usize> = Reception<CobsDecoderHeapless<N>>;
 
-impl<const N: usize> Receiver<N> {
-    ghost use Rattle.link.specs.Receivers.{IsAfter, sentinel_of};
+impl<const N: usize> Reception<CobsDecoderHeapless<N>> {
+    ghost use Rattle.link.specs.Decoding.{in_array};
+    ghost use Rattle.link.specs.Receivers.{IsBehind, limit_of, sentinel_of};
 
     /// A receiver that was given nothing. Its sentinel is zero.
     pub fn new() -> Receiver<N>
-        ensures after { IsAfter result [] }
+        ensures after { IsBehind in_array N 0 result [] }
+        ensures limit { limit_of in_array result ≡ N }
         ensures sentinel { sentinel_of result ≡ 0 }
     {
-        Receiver::new_with_sentinel(0)
+        Receiver::<N>::new_with_sentinel(0)
     }
 
     /// A receiver that was given nothing, for a line with this sentinel.
     pub fn new_with_sentinel(sentinel: u8) -> Receiver<N>
-        ensures after { IsAfter result [] }
+        ensures after { IsBehind in_array N sentinel result [] }
+        ensures limit { limit_of in_array result ≡ N }
         ensures sentinel { sentinel_of result ≡ sentinel }
     {
-        Receiver {
-            reception: Reception {
-                decoder: CobsDecoderHeapless::new_with_sentinel(sentinel),
-                count: 0,
-                past: false,
-                sentinel,
-            },
+        Reception {
+            decoder: CobsDecoderHeapless::new_with_sentinel(sentinel),
+            count: 0,
+            past: false,
+            sentinel,
         }
-    }
-
-    /// Takes bytes of the piece up to the first answer: through the sentinel of an ended stretch, or through the byte past the limit;
-    /// where there is none, all of them. An answer is to the stretch as a whole, also where earlier pushes took its beginning.
-    pub fn push<T: DeserializeOwned>(&mut self, alloc: Global, piece: &[u8]) -> Pushed<T>
-        ensures within { result.used ≤ length piece.now }
-        ensures forward { 0 < length piece.now → 0 < result.used }
-        ensures stands { (stream : List ℕ) → IsAfter self.old stream → IsAfter self.new (stream ++ take result.used piece.now) }
-        ensures answers { (stream : List ℕ) → IsAfter self.old stream → Answered (Holds T.takes) T.reads N (sentinel_of self.old) stream piece.now result.used result.answer }
-        ensures memory { OnErr result.answer (T.growing ≡ true) }
-        ensures sentinel { sentinel_of self.new ≡ sentinel_of self.old }
-    {
-        self.reception.push_by::<T, Ordinary>(alloc, piece)
-    }
-
-    /// As `push`, but a stretch within the limit is a `Value` only where it is the very frame that sending that value makes, and
-    /// else `Damaged`. So a value has one stretch. (A map isn't `Exact`: its pairs may come in any order.)
-    pub fn push_strict<T: DeserializeOwned + Exact>(
-        &mut self,
-        alloc: Global,
-        piece: &[u8],
-    ) -> Pushed<T>
-        ensures within { result.used ≤ length piece.now }
-        ensures forward { 0 < length piece.now → 0 < result.used }
-        ensures stands { (stream : List ℕ) → IsAfter self.old stream → IsAfter self.new (stream ++ take result.used piece.now) }
-        ensures answers { (stream : List ℕ) → IsAfter self.old stream → Answered (HoldsExactly T.takes) T.reads N (sentinel_of self.old) stream piece.now result.used result.answer }
-        ensures memory { OnErr result.answer (T.growing ≡ true) }
-        ensures sentinel { sentinel_of self.new ≡ sentinel_of self.old }
-    {
-        self.reception.push_by::<T, Strict>(alloc, piece)
-    }
-
-    /// Whether no stretch is begun. After a `TooLong` one is, until its sentinel.
-    pub fn is_between(&self) -> bool
-        ensures { (stream : List ℕ) → IsAfter self.now stream → (IsTrue result ↔ (begun N (sentinel_of self.now) stream ≡ kept [])) }
-    {
-        self.reception.is_between()
-    }
-
-    /// Ends the stream: `Cut` for a stretch that was begun and not answered, else nothing.
-    pub fn finish<T>(self) -> Option<Answer<T>>
-        ensures { (stream : List ℕ) → IsAfter self.entry stream → result ≡ finished (begun N (sentinel_of self.entry) stream) }
-    {
-        self.reception.finish()
     }
 }

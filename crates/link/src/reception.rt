@@ -1,16 +1,18 @@
-//! What all receivers share: taking bytes up to the first that brings something about, and the answer to it.
+//! Receiving values from a stream that comes in pieces.
 ghost use Rattle.std.specs.Prelude.{◌≡◌, ℕ, ◌<◌, ◌≤◌, ◌↔◌, length, List, [], ◌++◌, take, true, OnErr, IsTrue, IfSome, MatchOption};
+ghost use Rattle.postcard.specs.Frames.{Holds};
 ghost use Rattle.cobs.specs.Frames.{NoZero};
 ghost use Rattle.cobs.specs.Sentinel.{masked};
-ghost use Rattle.link.specs.Stream.{Begun, kept, begun};
+ghost use Rattle.link.specs.Stream.{Begun, kept, begun, HoldsExactly};
 ghost use Rattle.link.specs.Steps.{Event, event_at, begun_at, course_of, RunsOn, RunsPast};
-ghost use Rattle.link.specs.Pushes.{Answered, finished};
-ghost use Rattle.link.specs.Finds.{Finds, IsWithin, Brings, Replies};
+ghost use Rattle.link.specs.Pushes.{Answered, IsStretchOf, finished};
+ghost use Rattle.link.specs.Finds.{Finds, IsSpan, IsWithin, Brings, Replies};
 
 use crate::decoding::Decoding;
-use crate::judging::Judging;
+use crate::judging::{Judging, Ordinary, Strict};
 use crate::receiver::{Answer, NoMemory, Pushed};
 use crate::zeros::before_sentinel;
+use postcard::{DeserializeOwned, Exact};
 use postcard_tree::Readable;
 use std::alloc::Global;
 
@@ -19,7 +21,8 @@ use std::alloc::Global;
 pub(crate) enum Found {
     Nothing,
     TooMuch,
-    Broken,
+    // no frame: how long the stretch was
+    Broken { stretch: usize },
     // a frame: how long its message is, which stands in front of the buffer, and how long the stretch was
     Whole { size: usize, stretch: usize },
 }
@@ -31,9 +34,13 @@ pub(crate) struct Taken {
     pub found: Found,
 }
 
-// A receiver over a decoder whose sentinel is the same. The decoder's buffer has as many bytes as the limit.
+/// Receives values from a stream that comes in pieces, with stretches of at most so many bytes as its limit says. A stretch ends at
+/// its sentinel, which is zero where none was named. `Receiver` and `OwnedReceiver` are the names of its two kinds.
+///
+/// It answers what the stream's bytes determine, however they are cut into pieces. Each push may name another type.
 #[derive(Drop)]
-pub(crate) struct Reception<D> {
+pub struct Reception<D> {
+    // its sentinel is the receiver's, and its buffer has as many bytes as the limit
     pub(crate) decoder: D,
     pub(crate) count: usize,
     pub(crate) past: bool,
@@ -41,13 +48,20 @@ pub(crate) struct Reception<D> {
 }
 
 impl<D: Decoding> Reception<D> {
-    ghost use Rattle.link.specs.Receivers.{IsAt, IsBehind, SameTerms, buffer_in, limit_in, IsIdle};
+    ghost use Rattle.link.specs.Receivers.{IsAt, IsBehind, SameTerms, buffer_in, limit_of, sentinel_of, IsBetween};
 
-    // How many bytes a stretch may have.
-    pub(crate) fn limit(&self) -> usize
-        ensures { result ≡ limit_in D.inside self.now }
+    /// How many bytes a stretch may have.
+    pub fn limit(&self) -> usize
+        ensures { result ≡ limit_of D.inside self.now }
     {
-        self.decoder.decoded().len()
+        self.decoder.dest().len()
+    }
+
+    /// The byte that ends a stretch.
+    pub fn sentinel(&self) -> u8
+        ensures { result ≡ sentinel_of self.now }
+    {
+        self.sentinel
     }
 
     // Ends a stretch.
@@ -62,10 +76,10 @@ impl<D: Decoding> Reception<D> {
         cobs::laws::answers();
         let stretch = self.count;
         self.count = 0;
-        match self.decoder.decode_byte(self.sentinel) {
+        match self.decoder.feed(self.sentinel) {
             Ok(Some(size)) => Found::Whole { size, stretch },
             Ok(None) => Found::Nothing,
-            Err(_) => Found::Broken,
+            Err(_) => Found::Broken { stretch },
         }
     }
 
@@ -101,11 +115,11 @@ impl<D: Decoding> Reception<D> {
         if run.len() > left {
             self.past = true;
             self.count = 0;
-            self.decoder.forget();
+            self.decoder.reset();
             return Some(left + 1);
         }
         self.count += run.len();
-        let _ = self.decoder.decode_bytes(run);
+        let _ = self.decoder.push(run);
         None
     }
 
@@ -170,11 +184,23 @@ impl<D: Decoding> Reception<D> {
     pub(crate) fn buffer(&self) -> &[u8]
         ensures { result.now ≡ buffer_in D.inside self.now }
     {
-        self.decoder.decoded()
+        self.decoder.dest()
+    }
+
+    // How many bytes of its stretch stand before the last byte of what was found.
+    pub(crate) fn span(&self, found: Found) -> usize
+        ensures { (e : Event) → Finds e (buffer_in D.inside self.now) found → IsSpan (limit_of D.inside self.now) e result }
+    {
+        match found {
+            Found::Nothing => 0,
+            Found::TooMuch => self.limit(),
+            Found::Broken { stretch } => stretch,
+            Found::Whole { size: _, stretch } => stretch,
+        }
     }
 
     // The answer to what was found.
-    fn read<T: Readable + Drop, J: Judging<T>>(
+    pub(crate) fn read<T: Readable + Drop, J: Judging<T>>(
         &self,
         alloc: Global,
         found: Found,
@@ -187,7 +213,7 @@ impl<D: Decoding> Reception<D> {
         match found {
             Found::Nothing => Ok(None),
             Found::TooMuch => Ok(Some(Answer::TooLong)),
-            Found::Broken => Ok(Some(Answer::Damaged)),
+            Found::Broken { stretch: _ } => Ok(Some(Answer::Damaged)),
             Found::Whole { size, stretch } => J::judge(alloc, &self.buffer()[..size], stretch),
         }
     }
@@ -202,24 +228,62 @@ impl<D: Decoding> Reception<D> {
         ensures forward { 0 < length piece.now → 0 < result.used }
         ensures stands { (limit s : ℕ) (stream : List ℕ) → IsBehind D.inside limit s self.old stream → IsBehind D.inside limit s self.new (stream ++ take result.used piece.now) }
         ensures answers { (limit s : ℕ) (stream : List ℕ) → IsBehind D.inside limit s self.old stream → Answered J.holds T.reads limit s stream piece.now result.used result.answer }
+        ensures stretch { (limit s : ℕ) (stream : List ℕ) → IsBehind D.inside limit s self.old stream → IsStretchOf s stream piece.now result.used result.answer result.stretch }
         ensures memory { OnErr result.answer (T.growing ≡ true) }
         ensures same { SameTerms D.inside self.old self.new }
     {
         let Taken { used, found } = self.take(piece);
+        let stretch = self.span(found);
         let answer = self.read::<T, J>(alloc, found);
-        Pushed { used, answer }
+        Pushed {
+            used,
+            stretch,
+            answer,
+        }
     }
 
-    // Whether no stretch is begun.
-    pub(crate) fn is_between(&self) -> bool
-        ensures state { IsTrue result ↔ IsIdle self.now }
+    /// Takes bytes of the piece up to the first answer: through the sentinel of an ended stretch, or through the byte past the limit;
+    /// where there is none, all of them. An answer is to the stretch as a whole, also where earlier pushes took its beginning.
+    pub fn push<T: DeserializeOwned>(&mut self, alloc: Global, piece: &[u8]) -> Pushed<T>
+        ensures within { result.used ≤ length piece.now }
+        ensures forward { 0 < length piece.now → 0 < result.used }
+        ensures stands { (limit s : ℕ) (stream : List ℕ) → IsBehind D.inside limit s self.old stream → IsBehind D.inside limit s self.new (stream ++ take result.used piece.now) }
+        ensures answers { (limit s : ℕ) (stream : List ℕ) → IsBehind D.inside limit s self.old stream → Answered (Holds T.takes) T.reads limit s stream piece.now result.used result.answer }
+        ensures stretch { (limit s : ℕ) (stream : List ℕ) → IsBehind D.inside limit s self.old stream → IsStretchOf s stream piece.now result.used result.answer result.stretch }
+        ensures memory { OnErr result.answer (T.growing ≡ true) }
+        ensures same { SameTerms D.inside self.old self.new }
+    {
+        self.push_by::<T, Ordinary>(alloc, piece)
+    }
+
+    /// As `push`, but a stretch within the limit is a `Value` only where it is the very frame that sending that value makes, and
+    /// else `Damaged`. So a value has one stretch. (A map isn't `Exact`: its pairs may come in any order.)
+    pub fn push_strict<T: DeserializeOwned + Exact>(
+        &mut self,
+        alloc: Global,
+        piece: &[u8],
+    ) -> Pushed<T>
+        ensures within { result.used ≤ length piece.now }
+        ensures forward { 0 < length piece.now → 0 < result.used }
+        ensures stands { (limit s : ℕ) (stream : List ℕ) → IsBehind D.inside limit s self.old stream → IsBehind D.inside limit s self.new (stream ++ take result.used piece.now) }
+        ensures answers { (limit s : ℕ) (stream : List ℕ) → IsBehind D.inside limit s self.old stream → Answered (HoldsExactly T.takes) T.reads limit s stream piece.now result.used result.answer }
+        ensures stretch { (limit s : ℕ) (stream : List ℕ) → IsBehind D.inside limit s self.old stream → IsStretchOf s stream piece.now result.used result.answer result.stretch }
+        ensures memory { OnErr result.answer (T.growing ≡ true) }
+        ensures same { SameTerms D.inside self.old self.new }
+    {
+        self.push_by::<T, Strict>(alloc, piece)
+    }
+
+    /// Whether no stretch is begun. After a `TooLong` one is, until its sentinel.
+    pub fn is_between(&self) -> bool
+        ensures state { IsTrue result ↔ IsBetween self.now }
         ensures begun { (limit s : ℕ) (stream : List ℕ) → IsBehind D.inside limit s self.now stream → (IsTrue result ↔ (begun limit s stream ≡ kept [])) }
     {
         !self.past && self.count == 0
     }
 
     // What the end of the stream adds.
-    pub(crate) fn finish<T>(&self) -> Option<Answer<T>>
+    pub(crate) fn ending<T>(&self) -> Option<Answer<T>>
         ensures { (limit s : ℕ) (stream : List ℕ) → IsBehind D.inside limit s self.now stream → result ≡ finished (begun limit s stream) }
     {
         if self.past {
@@ -229,5 +293,31 @@ impl<D: Decoding> Reception<D> {
             return None;
         }
         Some(Answer::Cut)
+    }
+
+    /// Ends the stream as `finish` does, and begins a new one: what comes is answered as by a receiver that was given nothing. It
+    /// takes no memory.
+    pub fn restart<T>(&mut self) -> Option<Answer<T>>
+        ensures answer { (limit s : ℕ) (stream : List ℕ) → IsBehind D.inside limit s self.old stream → result ≡ finished (begun limit s stream) }
+        ensures anew { (limit s : ℕ) (stream : List ℕ) → IsBehind D.inside limit s self.old stream → IsBehind D.inside limit s self.new [] }
+        ensures between { IsBetween self.new }
+        ensures same { SameTerms D.inside self.old self.new }
+    {
+        let answer = self.ending();
+        self.past = false;
+        self.count = 0;
+        self.decoder.reset();
+        answer
+    }
+}
+
+impl<D: Decoding + Drop> Reception<D> {
+    ghost use Rattle.link.specs.Receivers.{IsBehind};
+
+    /// Ends the stream: `Cut` for a stretch that was begun and not answered, else nothing.
+    pub fn finish<T>(self) -> Option<Answer<T>>
+        ensures { (limit s : ℕ) (stream : List ℕ) → IsBehind D.inside limit s self stream → result ≡ finished (begun limit s stream) }
+    {
+        self.ending()
     }
 }

@@ -1,11 +1,8 @@
 //! Sending values over a line that may fail.
 ghost use Rattle.std.specs.Prelude.{◌≡◌, ℕ, ◌+◌, ◌<◌, ◌≤◌, ◌++◌, ◌∷◌, List, [], length, take, false, IsTrue, IfSome, IfNone, OnOk, if◌then◌else◌};
 ghost use Rattle.cobs.specs.Sentinel.{masked};
-ghost use Rattle.postcard_tree.specs.Tree.{Tree, IsTree};
-ghost use Rattle.line_io.specs.Device.{Wrote};
-ghost use Rattle.link.specs.Run.{Send, written, clean_after, IsSend};
 
-use crate::framed::frame_into;
+use crate::framed::frame_into_with_sentinel;
 use crate::writing::put_frame;
 use line_io::Outlet;
 use postcard::Serialize;
@@ -39,7 +36,7 @@ pub struct Sender<W, const N: usize> {
 }
 
 impl<W: Outlet, const N: usize> Sender<W, N> {
-    ghost use Rattle.link.specs.Senders.{writer_of, clean_of, sentinel_of, IsSent, UnlessRefusal, OnRefusal, OnLine, Failed};
+    ghost use Rattle.link.specs.Senders.{writer_of, clean_of, sentinel_of, HasSent, UnlessRefusal, OnRefusal, OnLine, Failed};
 
     /// A sender that hasn't written anything, and isn't clean. The caller owes that N is at least 1.
     pub fn new(writer: W) -> Sender<W, N>
@@ -74,6 +71,24 @@ impl<W: Outlet, const N: usize> Sender<W, N> {
         self.clean
     }
 
+    /// What it writes to.
+    pub fn get_ref(&self) -> &W
+        ensures { result.now ≡ writer_of self.now }
+    {
+        &self.writer
+    }
+
+    /// Puts another writer in the place of the one that it writes to, and gives that one, after all its writes. Whether the
+    /// sender is clean stays: the session goes on, so what comes is to stand behind what went before.
+    pub fn replace_inner(&mut self, writer: W) -> W
+        ensures before { result ≡ writer_of self.old }
+        ensures writer { writer_of self.new ≡ writer }
+        ensures clean { clean_of self.new ≡ clean_of self.old }
+        ensures sentinel { sentinel_of self.new ≡ sentinel_of self.old }
+    {
+        std::mem::replace(&mut self.writer, writer)
+    }
+
     /// What it writes to, after all its writes.
     pub fn into_inner(self) -> W
         ensures { result ≡ writer_of self }
@@ -93,17 +108,20 @@ impl<W: Outlet, const N: usize> Sender<W, N> {
     /// The frame is whole in the sender's own buffer before its first byte goes out. No memory is taken, and nothing is tried
     /// twice: after `Line` the caller may send the value again, and a receiver may then hear it twice.
     pub fn send<T: Serialize>(&mut self, value: &T) -> Result<(), SendError>
-        ensures sent { (x : Send) × IsSend IsTree N (sentinel_of self.old) (clean_of self.old) x × IsSent N (T.writes value.now) result x
-            × Wrote (W.written (writer_of self.old)) (W.written (writer_of self.new)) (W.faults (writer_of self.old)) (W.faults (writer_of self.new)) (written (sentinel_of self.old) (clean_of self.old) x)
-            × (clean_of self.new ≡ clean_after (clean_of self.old) x) }
+        ensures sent { HasSent N (sentinel_of self.old) (T.writes value.now) (clean_of self.old) (clean_of self.new)
+            (W.written (writer_of self.old)) (W.written (writer_of self.new)) (W.faults (writer_of self.old)) (W.faults (writer_of self.new)) result }
         ensures sentinel { sentinel_of self.new ≡ sentinel_of self.old }
         ensures valid { UnlessRefusal result (T.valid value.now) }
         ensures refused { OnRefusal result (writer_of self.new ≡ writer_of self.old) }
         ensures calls { W.calls_left (writer_of self.new) ≤ W.calls_left (writer_of self.old) }
+        // It makes at most so many: one for each byte that can go out.
+        ensures few { W.calls_left (writer_of self.old) ≤ W.calls_left (writer_of self.new) + (N + 2) }
+        // At most one of its writes fails or takes nothing: nothing is tried twice.
+        ensures once { W.faults (writer_of self.new) ≤ W.faults (writer_of self.old) + 1 }
         ensures done { OnOk result (W.faults (writer_of self.new) ≡ W.faults (writer_of self.old)) }
         ensures line { OnLine result (Failed (W.faults (writer_of self.old)) (W.faults (writer_of self.new)) (W.calls_left (writer_of self.new))) }
     {
-        let n = match frame_into(value, &mut self.buffer, self.sentinel) {
+        let n = match frame_into_with_sentinel(value, &mut self.buffer, self.sentinel) {
             Ok(n) => n,
             Err(e) => return Err(SendError::Refused(e)),
         };

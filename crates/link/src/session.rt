@@ -53,8 +53,8 @@ fn send_all<T: Serialize, W: Outlet, const N: usize>(
 /// Sends the values in turn by a new `Sender` with frames of at most N bytes, going on after refusals and faults, and puts what
 /// became of each in its place. Answers the writer, after all the writes.
 ///
-/// The caller owes as many places as values (there may be none of either), and that N is at least 1. No more sends are `Broken`
-/// than writes failed or took nothing, as long as the writer had a call left.
+/// The caller owes as many places as values (there may be none of either), and that N is at least 1. Nothing is tried twice: as many
+/// sends are `Broken` as writes failed or took nothing, as long as the writer had a call left.
 pub fn send_each<T: Serialize, W: Outlet, const N: usize>(
     writer: W,
     values: &[T],

@@ -4,5 +4,5 @@ pub mod Valued
 pub mod Pushing
 pub mod Renewing
 pub mod RunHeard
-pub mod Fully
 pub mod Crashes
+pub mod Telling

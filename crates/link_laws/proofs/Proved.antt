@@ -12,11 +12,11 @@ use Rattle.postcard.specs.Frames.{Holds}
 use Rattle.link.specs.Stream.{Verdict, damaged, HoldsExactly, IsAnswer, Given, Answers, begun_answers, ended, unfinished}
 use Rattle.link.specs.Run.{line, told}
 use Rattle.link.specs.Laws.{IsTold, HasOneAnswer, EndsBetween, Appends, through_last, behind_first, sentinels, HasBetween, IsLocal, StartsAnywhere, IsDamagedInFronts}
-use Rattle.link.proofs.Facts.{Facts, Breaking, front_holds_nothing, holds_it, exactly_holds}
-use Rattle.link.proofs.Pieces.{Ended, ends_at, ended_count, none_unfinished, isn't_sentinel}
-use Rattle.link.proofs.HeardLemmas.{IsOne, heard_once, heard_joined, heard_parts, zip_length}
-use Rattle.link.proofs.OneAnswers.{one_tree, one_tree_exactly, one_answer}
-use Rattle.link.proofs.Telling.{Holding, told_of_run, at_end, empty_ending}
+use Rattle.link.specs.Facts.{Facts, Breaking, front_holds_nothing, holds_it, exactly_holds}
+use Rattle.link.specs.Pieces.{UpToLast, ends_at, ended_count, none_unfinished, isn't_sentinel}
+use Rattle.link.specs.HeardLaws.{IsOne, heard_once, heard_joined, heard_parts, zip_length, at_end, empty_ending}
+use Rattle.link.specs.OneAnswers.{one_tree, one_tree_exactly, one_answer}
+use Rattle.link_laws.proofs.Telling.{Holding, told_of_run}
 
 pub once : (holds : List ℕ → Tree → Type 0) (limit s : ℕ) → IsOne holds → HasOneAnswer holds limit s
 once holds limit s one = record {
@@ -103,7 +103,7 @@ module _ (s : ℕ) where
     })
   ]
 
-  through_is : (a : List ℕ) (h : Ended s a) → through_last s a ≡ h.front
+  through_is : (a : List ℕ) (h : UpToLast s a) → through_last s a ≡ h.front
   through_is a h =
       let long : length a ≡ length h.front + length (unfinished s a) = ap length h.whole ∙ length-append h.front (masked s (unfinished s a)) ∙ ap (λ n. length h.front + n) (length-map (unfinished s a) (bit_xor s)) in
       let n : length a - length (unfinished s a) ≡ length h.front = omega arith in

@@ -11,7 +11,7 @@ use Rattle.link.specs.Listening.{HasAnswered, HasRead, IsReceived, IsUnmade}
 use Rattle.link.specs.declared.receiver.Answer.{Answer}
 use Rattle.link.specs.declared.listening.End.{End}
 use Rattle.link.specs.declared.listening.End.TheVariants.{Ended}
-use Rattle.link_laws.proofs.Fully.{all_read}
+use Rattle.link_laws.specs.Sessions.{all_read}
 
 module _ {V : Type 0} (takes : Tree → Type 0) (holds : List ℕ → Tree → Type 0) (reads : Tree → V → Type 0) (limit s : ℕ) (is_told : IsTold takes holds limit s) (run : List (List Send)) (allowed : IsRun takes limit s run) where
   -- what is received of it is what is to be told

@@ -12,6 +12,7 @@ done_in (completed t ∷ sends) = t ∷ done_in sends
 done_in (refused ∷ sends) = done_in sends
 done_in (broken t k ∷ sends) = done_in sends
 
+-- those of a run of senders
 abbrev pub done : List (List Send) → List Tree
 done [] = []
 done (session ∷ run) = done_in session ++ done run
@@ -23,6 +24,7 @@ tried_in (completed t ∷ sends) = t ∷ tried_in sends
 tried_in (refused ∷ sends) = tried_in sends
 tried_in (broken t k ∷ sends) = t ∷ tried_in sends
 
+-- those of a run of senders
 abbrev pub tried : List (List Send) → List Tree
 tried [] = []
 tried (session ∷ run) = tried_in session ++ tried run

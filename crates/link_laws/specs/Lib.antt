@@ -5,3 +5,4 @@ pub mod Values
 pub mod Pieced
 pub mod Limits
 pub mod Together
+pub mod Sessions

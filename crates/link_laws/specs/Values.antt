@@ -13,6 +13,7 @@ use Rattle.link.specs.declared.receiver.Answer.TheVariants.{Value, Damaged, TooL
 abbrev pub sends_of : {V : Type 0} → List (V × Send) → List Send
 sends_of calls = map (λ c. c.1) calls
 
+-- the same of each sender
 abbrev pub runs_of : {V : Type 0} → List (List (V × Send)) → List (List Send)
 runs_of run = map sends_of run
 
@@ -29,6 +30,7 @@ told_values_session s clean later [] = []
 told_values_session s clean later (c ∷ calls) =
     map (answer_of c.0) (told_send clean (session_line s (clean_after clean c.1) (sends_of calls) ++ later) c.1) ++ told_values_session s (clean_after clean c.1) later calls
 
+-- what is told of one sender after another
 abbrev pub told_values : {V : Type 0} → ℕ → List (List (V × Send)) → List (Answer V)
 told_values s [] = []
 told_values s (calls ∷ run) = told_values_session s false (line s (runs_of run)) calls ++ told_values s run

@@ -1,11 +1,13 @@
 //! What is received of what was sent: the contracts of `Sender`, `send_each` and `receive` brought together.
 //!
-//! These calls are here to be read more than to be used. Each is a few calls of this crate one after another, and is proved by what
-//! those promise and by `laws`; its own contract says what a receiver answers to what senders in turn have left on a line, each send
-//! of which may have broken off at any byte.
-ghost use Rattle.std.specs.Prelude.{◌≡◌, ◌<◌, ◌≤◌, List, length, Some};
+//! These calls are here to be read more than to be used. Each is a few calls of `link` one after another, and is proved by what
+//! those promise and by the laws of this crate. They say it in two parts: what senders in turn leave is the line of a run, of these
+//! sends, each of which may have broken off at any byte (`send_in_turn`, `send_each_in_turn`); and who receives the line of a run
+//! hears what is to be told of it (`receive_run`, and by values `receive_values`). How the bytes come from the one to the other is
+//! the caller's own: a program over memory is `example_exchange`.
+ghost use Rattle.std.specs.Prelude.{◌≡◌, ◌<◌, List, length, Some};
 ghost use Rattle.link.specs.Fates.{SenderFitsInMemory};
-ghost use Rattle.link_laws.specs.Together.{HearsTwo, HearsTwoFor, HearsSessions, HearsSessionsFor};
+ghost use Rattle.link_laws.specs.Together.{LeavesTwo, LeavesSessions, HearsValues};
 ghost use Rattle.std.specs.List.{AllZip};
 ghost use Rattle.link.specs.Pushes.{Matches};
 ghost use Rattle.link.specs.Run.{Send, IsRun, line, told};
@@ -60,102 +62,100 @@ pub fn receive_owned_run<T: DeserializeOwned, R: Inlet>(
     receive_owned(alloc, reader, limit, sentinel)
 }
 
-/// What two senders in turn answered, what they wrote to, and what was received.
+/// As `receive`, of a reader that gives the line of a run of values with frames of at most N bytes: the answers are what is to be told
+/// of the run, and the values among them are alike those sent.
+pub fn receive_values<T: Lawful + DeserializeOwned, R: Inlet, const N: usize>(
+    alloc: Global,
+    reader: R,
+) -> Received<T, R>
+    requires { ReceiverFitsInMemory N.row }
+    ensures { HearsValues N 0 T.takes T.reads T.alike T.writes T.valid (R.to_come reader) result.end result.answers.items }
+{
+    receive_values_with_sentinel::<T, R, N>(alloc, reader, 0)
+}
+
+/// The same of a line with a sentinel in place of zero.
+pub fn receive_values_with_sentinel<T: Lawful + DeserializeOwned, R: Inlet, const N: usize>(
+    alloc: Global,
+    reader: R,
+    sentinel: u8,
+) -> Received<T, R>
+    requires { ReceiverFitsInMemory N.row }
+    ensures { HearsValues N sentinel T.takes T.reads T.alike T.writes T.valid (R.to_come reader) result.end result.answers.items }
+{
+    crate::carries::<T>();
+    receive_with_sentinel::<T, R, N>(alloc, reader, sentinel)
+}
+
+/// What two senders in turn answered, and what they wrote to.
 #[derive(Drop)]
-pub struct InTurn<T, W, R> {
+pub struct InTurn<W> {
     /// The answer of the first one.
     pub first: Result<(), SendError>,
     /// The answer of the second one.
     pub second: Result<(), SendError>,
     /// What they wrote to.
     pub writer: W,
-    /// What was received.
-    pub received: Received<T, R>,
 }
 
-/// Sends a value by one sender and another one by the next, over one line, and receives what the reader gives, under a limit L that
-/// is at least the senders' N. Where the line was empty and what they wrote is what comes, to the reader's end, the answers are what
-/// is to be told of both sends, each of which may have broken off at any byte; the values are alike those sent.
-pub fn send_in_turn<
-    T: Lawful + DeserializeOwned,
-    W: Outlet,
-    R: Inlet,
-    const N: usize,
-    const L: usize,
->(alloc: Global, writer: W, reader: R, first: &T, second: &T) -> InTurn<T, W, R>
+/// Sends a value by one sender and another one by the next, over one line. What they leave there is the line of a run: of these two
+/// sends, by what was answered, each of which may have broken off at any byte.
+pub fn send_in_turn<T: Lawful, W: Outlet, const N: usize>(
+    writer: W,
+    first: &T,
+    second: &T,
+) -> InTurn<W>
     requires some { 0 < N }
     requires sender { SenderFitsInMemory W.row N.row }
-    requires receiver { ReceiverFitsInMemory L.row }
-    requires within { N ≤ L }
-    ensures { HearsTwo N T.takes T.reads T.alike T.writes first.now second.now (W.written writer) (W.written result.writer) (R.to_come reader)
-        result.first result.second result.received.end result.received.answers.items }
+    ensures { LeavesTwo T.takes T.writes T.valid N 0 (W.written writer) (W.written result.writer) (W.faults writer) (W.faults result.writer)
+        first.now second.now result.first result.second }
 {
-    send_in_turn_with_sentinel::<T, W, R, N, L>(alloc, writer, reader, first, second, 0)
+    send_in_turn_with_sentinel::<T, W, N>(writer, first, second, 0)
 }
 
 /// The same with a sentinel in place of zero.
-pub fn send_in_turn_with_sentinel<
-    T: Lawful + DeserializeOwned,
-    W: Outlet,
-    R: Inlet,
-    const N: usize,
-    const L: usize,
->(alloc: Global, writer: W, reader: R, first: &T, second: &T, sentinel: u8) -> InTurn<T, W, R>
+pub fn send_in_turn_with_sentinel<T: Lawful, W: Outlet, const N: usize>(
+    writer: W,
+    first: &T,
+    second: &T,
+    sentinel: u8,
+) -> InTurn<W>
     requires some { 0 < N }
     requires sender { SenderFitsInMemory W.row N.row }
-    requires receiver { ReceiverFitsInMemory L.row }
-    requires within { N ≤ L }
-    ensures { HearsTwoFor N sentinel T.takes T.reads T.alike T.writes first.now second.now (W.written writer) (W.written result.writer) (R.to_come reader)
-        result.first result.second result.received.end result.received.answers.items }
+    ensures { LeavesTwo T.takes T.writes T.valid N sentinel (W.written writer) (W.written result.writer) (W.faults writer) (W.faults result.writer)
+        first.now second.now result.first result.second }
 {
+    crate::carries::<T>();
     let mut one = Sender::<W, N>::new_with_sentinel(writer, sentinel);
     let first = one.send(first);
     let mut other = Sender::<W, N>::new_with_sentinel(one.into_inner(), sentinel);
     let second = other.send(second);
     let writer = other.into_inner();
-    let received = receive_with_sentinel::<T, R, L>(alloc, reader, sentinel);
-    crate::within::<T>();
-    crate::told_as(&received.answers);
-    crate::told_by_values(&received.answers);
     InTurn {
         first,
         second,
         writer,
-        received,
     }
 }
 
-/// Sends values by one sender and others by the next, over one line, and receives what the reader gives, under a limit L that is at
-/// least the senders' N. Where the line was empty and what they wrote is what comes, to the reader's end, the answers are what is to
-/// be told of all these sends, each of which may have broken off at any byte; the values are alike those sent.
-pub fn send_each_in_turn<
-    T: Lawful + DeserializeOwned,
-    W: Outlet,
-    R: Inlet,
-    const N: usize,
-    const L: usize,
->(
-    alloc: Global,
+/// Sends values by one sender and others by the next, over one line. What they leave there is the line of a run: of all these sends,
+/// by what became of each, each of which may have broken off at any byte.
+pub fn send_each_in_turn<T: Lawful, W: Outlet, const N: usize>(
     writer: W,
-    reader: R,
     firsts: &[T],
     first_fates: &mut [Fate],
     seconds: &[T],
     second_fates: &mut [Fate],
-) -> (W, Received<T, R>)
+) -> W
     requires first_places { length firsts.now ≡ length first_fates.old }
     requires second_places { length seconds.now ≡ length second_fates.old }
     requires some { 0 < N }
     requires sender { SenderFitsInMemory W.row N.row }
-    requires receiver { ReceiverFitsInMemory L.row }
-    requires within { N ≤ L }
-    ensures { HearsSessions N T.takes T.reads T.alike T.writes T.valid (W.written writer) (W.written result.0) (R.to_come reader)
-        firsts.now seconds.now first_fates.new second_fates.new result.1.end result.1.answers.items }
+    ensures { LeavesSessions T.takes T.writes T.valid N 0 (W.written writer) (W.written result) (W.faults writer) (W.faults result)
+        firsts.now seconds.now first_fates.new second_fates.new }
 {
-    send_each_in_turn_with_sentinel::<T, W, R, N, L>(
-        alloc,
+    send_each_in_turn_with_sentinel::<T, W, N>(
         writer,
-        reader,
         firsts,
         first_fates,
         seconds,
@@ -165,43 +165,22 @@ pub fn send_each_in_turn<
 }
 
 /// The same with a sentinel in place of zero.
-pub fn send_each_in_turn_with_sentinel<
-    T: Lawful + DeserializeOwned,
-    W: Outlet,
-    R: Inlet,
-    const N: usize,
-    const L: usize,
->(
-    alloc: Global,
+pub fn send_each_in_turn_with_sentinel<T: Lawful, W: Outlet, const N: usize>(
     writer: W,
-    reader: R,
     firsts: &[T],
     first_fates: &mut [Fate],
     seconds: &[T],
     second_fates: &mut [Fate],
     sentinel: u8,
-) -> (W, Received<T, R>)
+) -> W
     requires first_places { length firsts.now ≡ length first_fates.old }
     requires second_places { length seconds.now ≡ length second_fates.old }
     requires some { 0 < N }
     requires sender { SenderFitsInMemory W.row N.row }
-    requires receiver { ReceiverFitsInMemory L.row }
-    requires within { N ≤ L }
-    ensures { HearsSessionsFor N sentinel T.takes T.reads T.alike T.writes T.valid (W.written writer) (W.written result.0) (R.to_come reader)
-        firsts.now seconds.now first_fates.new second_fates.new result.1.end result.1.answers.items }
+    ensures { LeavesSessions T.takes T.writes T.valid N sentinel (W.written writer) (W.written result) (W.faults writer) (W.faults result)
+        firsts.now seconds.now first_fates.new second_fates.new }
 {
+    crate::carries::<T>();
     let after_first = send_each_with_sentinel::<T, W, N>(writer, firsts, first_fates, sentinel);
-    let after_second = send_each_with_sentinel::<T, W, N>(
-        after_first,
-        seconds,
-        second_fates,
-        sentinel,
-    );
-    crate::carried(firsts);
-    crate::carried(seconds);
-    let received = receive_with_sentinel::<T, R, L>(alloc, reader, sentinel);
-    crate::within::<T>();
-    crate::told_as(&received.answers);
-    crate::told_by_values(&received.answers);
-    (after_second, received)
+    send_each_with_sentinel::<T, W, N>(after_first, seconds, second_fates, sentinel)
 }

@@ -17,6 +17,7 @@ ghost use Rattle.link_laws.specs.Answered.{IsToldAs, IsFrameOf};
 ghost use Rattle.link.specs.Relational.{IsHeardStepwise, IsUnfinishedPart};
 ghost use Rattle.link.specs.Roads.{IsSameInPlace, IsSameByAccumulator};
 ghost use Rattle.link_laws.specs.Values.{IsToldByValues, AreGivenBack};
+ghost use Rattle.link_laws.specs.Sessions.{CarriesValues};
 ghost use Rattle.link_laws.specs.Pieced.{AreOfTheWhole};
 ghost use Rattle.link_laws.specs.Limits.{IsSetAnew};
 ghost use Rattle.link.specs.Fates.{IsCarried};
@@ -71,6 +72,14 @@ pub fn given_back<T: Lawful>(answers: &[Answer<T>])
 pub fn carried<T: Lawful>(values: &[T])
     ensures { IsCarried T.takes T.writes T.valid values.now }
 {}
+
+/// A line carries a lawful type's values: its type takes what its valid values write, and what is answered to the line of a run of
+/// them is, one by one, alike what is to be told of it. The laws of `specs/Sessions.antt` start from this one.
+pub fn carries<T: Lawful>()
+    ensures { CarriesValues T.takes T.reads T.alike T.writes T.valid }
+{
+    told::<T>();
+}
 
 /// What is heard of a run has the value of each send that completed, in order, and none that wasn't sent: those that completed
 /// are among those that are heard, and these among those that were tried.

@@ -12,11 +12,13 @@ use Rattle.postcard_tree.specs.Spelling.{groups_of, varint, single, short, short
 abbrev pub size_of : ℕ → Option ℕ
 size_of n = if nat_lt n (2 ^ 64) then Some n else None
 
+-- the size of two parts together; none where one has none, or usize doesn't hold it
 abbrev pub sum_of : Option ℕ → Option ℕ → Option ℕ
 sum_of None b = None
 sum_of (Some a) None = None
 sum_of (Some a) (Some b) = size_of (a + b)
 
+-- the greater of two sizes; none where one has none
 abbrev pub greater_of : Option ℕ → Option ℕ → Option ℕ
 greater_of None b = None
 greater_of (Some a) None = None
@@ -261,3 +263,6 @@ text_within n bs l = record {
       subst (λ z. length (short z) ≤ m) k
       (omega (arith, length-append (varint (count_of (bytes_of bs))) (short_all (bytes_of bs)), bytes_short bs, varint_grows (count_of (bytes_of bs)) n (omega (arith, bytes_count bs, l)), l, x, y, s.4));
 }
+
+pub fixed_within : (bs : List ℕ) (n : ℕ) → length bs ≡ n → SizeWithin (Some (group (bytes_of bs))) (Some n)
+fixed_within bs n l = tree_within (group (bytes_of bs)) n (omega (arith, bytes_short bs, l))

@@ -2,16 +2,22 @@
 //!
 //! `T::postcard_max_size()` tells how many bytes the longest value of `T` takes, so that a buffer can be
 //! made before there is a value. It is `None` where that number doesn't fit `usize`. A message type of your
-//! own has the greatest size of its shape by one line, `impl MaxSizeShape for Reading {}`.
+//! own has the greatest size of its shape, where that has one.
 ghost use Rattle.std.specs.Prelude.{◌≡◌, ℕ, length, [], ◌∷◌, Option, Some, if◌then◌else◌};
 ghost use Rattle.std.specs.Int.{w8, cast_unsigned};
+ghost use Rattle.std.proofs.Common.{sym, subst};
 ghost use Rattle.postcard_tree.specs.Spelling.{varint};
 ghost use Rattle.postcard_tree.specs.Tree.{zigzag};
-ghost use Rattle.postcard.specs.Greatest.{SizeWithin, size_of, sum_of, greater_of, times, total, byte_within, within_16, within_32, within_64, within_128, character_within, none_within, part_within, group_within, end_within, option_within, result_within, array_within, sequence_within, text_within};
+ghost use Rattle.postcard_tree.specs.Fixed.{little_endian, big_endian};
+ghost use Rattle.postcard_tree.specs.FixedOnce.{length_little, length_big};
+ghost use Rattle.postcard_ser.specs.FixedTree.{little_tree_is, big_tree_is};
+ghost use Rattle.postcard.specs.Greatest.{SizeWithin, size_of, sum_of, greater_of, times, total, byte_within, within_16, within_32, within_64, within_128, character_within, none_within, part_within, group_within, end_within, option_within, result_within, array_within, sequence_within, text_within, fixed_within};
 
 use arrayvec::{ArrayString, ArrayVec};
 use postcard_ser::Serialize;
+use postcard_tree::fixint::{BE, FixInt, LE};
 use postcard_tree::varint::varint_usize;
+use postcard_tree::{Formed, Own};
 use std::marker::PhantomData;
 use std::num::{
     NonZeroI8, NonZeroI16, NonZeroI32, NonZeroI64, NonZeroI128, NonZeroIsize, NonZeroU8,
@@ -35,6 +41,40 @@ pub trait MaxSize {
 pub trait MaxWritten: MaxSize + Serialize {
     /// No valid value is spelled in more bytes.
     ghost longest: { (v : Self) → Self.valid v → SizeWithin (Self.writes v) Self.greatest };
+}
+
+/// How a type has [`MaxSize`], by its form.
+pub trait MaxSizeForm<M> {
+    /// The greatest size in bytes; none where it doesn't fit `usize`.
+    ghost form_greatest: { Option ℕ };
+
+    /// The greatest size in bytes; `None` where it doesn't fit `usize`.
+    fn form_max_size() -> Option<usize>
+        ensures { result ≡ form_greatest };
+}
+
+impl<M: Formed> MaxSize for M
+where
+    M::Form: MaxSizeForm<M>,
+{
+    ghost greatest = { M.Form.form_greatest };
+
+    fn postcard_max_size() -> Option<usize> {
+        <M::Form as MaxSizeForm<M>>::form_max_size()
+    }
+}
+
+/// How a type has [`MaxWritten`], by its form.
+pub trait MaxWrittenForm<M: Serialize>: MaxSizeForm<M> {
+    /// No valid value is spelled in more bytes.
+    ghost form_longest: { (v : M) → M.valid v → SizeWithin (M.writes v) Self.form_greatest };
+}
+
+impl<M: Formed + Serialize> MaxWritten for M
+where
+    M::Form: MaxWrittenForm<M>,
+{
+    ghost longest = { M.Form.form_longest };
 }
 
 // The sum of two sizes.
@@ -75,314 +115,338 @@ pub(crate) fn count_size(n: usize) -> Option<usize>
     Some(varint_usize(n, &mut groups).len())
 }
 
-impl MaxSize for bool {
-    ghost greatest = { Some 1 };
+impl MaxSizeForm<bool> for Own {
+    ghost form_greatest = { Some 1 };
 
-    fn postcard_max_size() -> Option<usize> {
+    fn form_max_size() -> Option<usize> {
         Some(1)
     }
 }
 
-impl MaxWritten for bool {
-    ghost longest = { λ v h. byte_within (if v then 1 else 0) };
+impl MaxWrittenForm<bool> for Own {
+    ghost form_longest = { λ v h. byte_within (if v then 1 else 0) };
 }
 
-impl MaxSize for u8 {
-    ghost greatest = { Some 1 };
+impl MaxSizeForm<u8> for Own {
+    ghost form_greatest = { Some 1 };
 
-    fn postcard_max_size() -> Option<usize> {
+    fn form_max_size() -> Option<usize> {
         Some(1)
     }
 }
 
-impl MaxWritten for u8 {
-    ghost longest = { λ v h. byte_within v };
+impl MaxWrittenForm<u8> for Own {
+    ghost form_longest = { λ v h. byte_within v };
 }
 
-impl MaxSize for i8 {
-    ghost greatest = { Some 1 };
+impl MaxSizeForm<i8> for Own {
+    ghost form_greatest = { Some 1 };
 
-    fn postcard_max_size() -> Option<usize> {
+    fn form_max_size() -> Option<usize> {
         Some(1)
     }
 }
 
-impl MaxWritten for i8 {
-    ghost longest = { λ v h. byte_within (cast_unsigned w8 v) };
+impl MaxWrittenForm<i8> for Own {
+    ghost form_longest = { λ v h. byte_within (cast_unsigned w8 v) };
 }
 
-impl MaxSize for u16 {
-    ghost greatest = { Some 3 };
+impl MaxSizeForm<u16> for Own {
+    ghost form_greatest = { Some 3 };
 
-    fn postcard_max_size() -> Option<usize> {
+    fn form_max_size() -> Option<usize> {
         Some(3)
     }
 }
 
-impl MaxWritten for u16 {
-    ghost longest = { within_16 };
+impl MaxWrittenForm<u16> for Own {
+    ghost form_longest = { within_16 };
 }
 
-impl MaxSize for i16 {
-    ghost greatest = { Some 3 };
+impl MaxSizeForm<i16> for Own {
+    ghost form_greatest = { Some 3 };
 
-    fn postcard_max_size() -> Option<usize> {
+    fn form_max_size() -> Option<usize> {
         Some(3)
     }
 }
 
-impl MaxWritten for i16 {
-    ghost longest = { λ v h. within_16 (zigzag v) h };
+impl MaxWrittenForm<i16> for Own {
+    ghost form_longest = { λ v h. within_16 (zigzag v) h };
 }
 
-impl MaxSize for u32 {
-    ghost greatest = { Some 5 };
+impl MaxSizeForm<u32> for Own {
+    ghost form_greatest = { Some 5 };
 
-    fn postcard_max_size() -> Option<usize> {
+    fn form_max_size() -> Option<usize> {
         Some(5)
     }
 }
 
-impl MaxWritten for u32 {
-    ghost longest = { within_32 };
+impl MaxWrittenForm<u32> for Own {
+    ghost form_longest = { within_32 };
 }
 
-impl MaxSize for i32 {
-    ghost greatest = { Some 5 };
+impl MaxSizeForm<i32> for Own {
+    ghost form_greatest = { Some 5 };
 
-    fn postcard_max_size() -> Option<usize> {
+    fn form_max_size() -> Option<usize> {
         Some(5)
     }
 }
 
-impl MaxWritten for i32 {
-    ghost longest = { λ v h. within_32 (zigzag v) h };
+impl MaxWrittenForm<i32> for Own {
+    ghost form_longest = { λ v h. within_32 (zigzag v) h };
 }
 
-impl MaxSize for u64 {
-    ghost greatest = { Some 10 };
+impl MaxSizeForm<u64> for Own {
+    ghost form_greatest = { Some 10 };
 
-    fn postcard_max_size() -> Option<usize> {
+    fn form_max_size() -> Option<usize> {
         Some(10)
     }
 }
 
-impl MaxWritten for u64 {
-    ghost longest = { within_64 };
+impl MaxWrittenForm<u64> for Own {
+    ghost form_longest = { within_64 };
 }
 
-impl MaxSize for i64 {
-    ghost greatest = { Some 10 };
+impl MaxSizeForm<i64> for Own {
+    ghost form_greatest = { Some 10 };
 
-    fn postcard_max_size() -> Option<usize> {
+    fn form_max_size() -> Option<usize> {
         Some(10)
     }
 }
 
-impl MaxWritten for i64 {
-    ghost longest = { λ v h. within_64 (zigzag v) h };
+impl MaxWrittenForm<i64> for Own {
+    ghost form_longest = { λ v h. within_64 (zigzag v) h };
 }
 
-impl MaxSize for u128 {
-    ghost greatest = { Some 19 };
+impl MaxSizeForm<u128> for Own {
+    ghost form_greatest = { Some 19 };
 
-    fn postcard_max_size() -> Option<usize> {
+    fn form_max_size() -> Option<usize> {
         Some(19)
     }
 }
 
-impl MaxWritten for u128 {
-    ghost longest = { within_128 };
+impl MaxWrittenForm<u128> for Own {
+    ghost form_longest = { within_128 };
 }
 
-impl MaxSize for i128 {
-    ghost greatest = { Some 19 };
+impl MaxSizeForm<i128> for Own {
+    ghost form_greatest = { Some 19 };
 
-    fn postcard_max_size() -> Option<usize> {
+    fn form_max_size() -> Option<usize> {
         Some(19)
     }
 }
 
-impl MaxWritten for i128 {
-    ghost longest = { λ v h. within_128 (zigzag v) h };
+impl MaxWrittenForm<i128> for Own {
+    ghost form_longest = { λ v h. within_128 (zigzag v) h };
 }
 
-impl MaxSize for usize {
-    ghost greatest = { Some 10 };
+impl MaxSizeForm<usize> for Own {
+    ghost form_greatest = { Some 10 };
 
-    fn postcard_max_size() -> Option<usize> {
+    fn form_max_size() -> Option<usize> {
         Some(10)
     }
 }
 
-impl MaxWritten for usize {
-    ghost longest = { within_64 };
+impl MaxWrittenForm<usize> for Own {
+    ghost form_longest = { within_64 };
 }
 
-impl MaxSize for isize {
-    ghost greatest = { Some 10 };
+impl MaxSizeForm<isize> for Own {
+    ghost form_greatest = { Some 10 };
 
-    fn postcard_max_size() -> Option<usize> {
+    fn form_max_size() -> Option<usize> {
         Some(10)
     }
 }
 
-impl MaxWritten for isize {
-    ghost longest = { λ v h. within_64 (zigzag v) h };
+impl MaxWrittenForm<isize> for Own {
+    ghost form_longest = { λ v h. within_64 (zigzag v) h };
 }
 
-impl MaxSize for char {
-    ghost greatest = { Some 5 };
+impl<T: FixInt> MaxSizeForm<LE<T>> for Own {
+    ghost form_greatest = { Some T.size };
 
-    fn postcard_max_size() -> Option<usize> {
+    fn form_max_size() -> Option<usize> {
+        Some(T::size())
+    }
+}
+
+impl<T: FixInt> MaxWrittenForm<LE<T>> for Own {
+    ghost form_longest = { λ v h. subst (λ z. SizeWithin z (Some T.size)) (sym (little_tree_is T.size (T.bits v.0))) (fixed_within (little_endian T.size (T.bits v.0)) T.size (length_little T.size (T.bits v.0))) };
+}
+
+impl<T: FixInt> MaxSizeForm<BE<T>> for Own {
+    ghost form_greatest = { Some T.size };
+
+    fn form_max_size() -> Option<usize> {
+        Some(T::size())
+    }
+}
+
+impl<T: FixInt> MaxWrittenForm<BE<T>> for Own {
+    ghost form_longest = { λ v h. subst (λ z. SizeWithin z (Some T.size)) (sym (big_tree_is T.size (T.bits v.0))) (fixed_within (big_endian T.size (T.bits v.0)) T.size (length_big T.size (T.bits v.0))) };
+}
+
+impl MaxSizeForm<char> for Own {
+    ghost form_greatest = { Some 5 };
+
+    fn form_max_size() -> Option<usize> {
         Some(5)
     }
 }
 
-impl MaxWritten for char {
-    ghost longest = { λ v h. character_within v };
+impl MaxWrittenForm<char> for Own {
+    ghost form_longest = { λ v h. character_within v };
 }
 
-impl MaxSize for () {
-    ghost greatest = { Some 0 };
+impl MaxSizeForm<()> for Own {
+    ghost form_greatest = { Some 0 };
 
-    fn postcard_max_size() -> Option<usize> {
+    fn form_max_size() -> Option<usize> {
         Some(0)
     }
 }
 
-impl MaxWritten for () {
-    ghost longest = { λ v h. end_within };
+impl MaxWrittenForm<()> for Own {
+    ghost form_longest = { λ v h. end_within };
 }
 
-impl MaxSize for NonZeroU8 {
-    ghost greatest = { Some 1 };
+impl MaxSizeForm<NonZeroU8> for Own {
+    ghost form_greatest = { Some 1 };
 
-    fn postcard_max_size() -> Option<usize> {
+    fn form_max_size() -> Option<usize> {
         Some(1)
     }
 }
 
-impl MaxSize for NonZeroI8 {
-    ghost greatest = { Some 1 };
+impl MaxSizeForm<NonZeroI8> for Own {
+    ghost form_greatest = { Some 1 };
 
-    fn postcard_max_size() -> Option<usize> {
+    fn form_max_size() -> Option<usize> {
         Some(1)
     }
 }
 
-impl MaxSize for NonZeroU16 {
-    ghost greatest = { Some 3 };
+impl MaxSizeForm<NonZeroU16> for Own {
+    ghost form_greatest = { Some 3 };
 
-    fn postcard_max_size() -> Option<usize> {
+    fn form_max_size() -> Option<usize> {
         Some(3)
     }
 }
 
-impl MaxSize for NonZeroI16 {
-    ghost greatest = { Some 3 };
+impl MaxSizeForm<NonZeroI16> for Own {
+    ghost form_greatest = { Some 3 };
 
-    fn postcard_max_size() -> Option<usize> {
+    fn form_max_size() -> Option<usize> {
         Some(3)
     }
 }
 
-impl MaxSize for NonZeroU32 {
-    ghost greatest = { Some 5 };
+impl MaxSizeForm<NonZeroU32> for Own {
+    ghost form_greatest = { Some 5 };
 
-    fn postcard_max_size() -> Option<usize> {
+    fn form_max_size() -> Option<usize> {
         Some(5)
     }
 }
 
-impl MaxSize for NonZeroI32 {
-    ghost greatest = { Some 5 };
+impl MaxSizeForm<NonZeroI32> for Own {
+    ghost form_greatest = { Some 5 };
 
-    fn postcard_max_size() -> Option<usize> {
+    fn form_max_size() -> Option<usize> {
         Some(5)
     }
 }
 
-impl MaxSize for NonZeroU64 {
-    ghost greatest = { Some 10 };
+impl MaxSizeForm<NonZeroU64> for Own {
+    ghost form_greatest = { Some 10 };
 
-    fn postcard_max_size() -> Option<usize> {
+    fn form_max_size() -> Option<usize> {
         Some(10)
     }
 }
 
-impl MaxSize for NonZeroI64 {
-    ghost greatest = { Some 10 };
+impl MaxSizeForm<NonZeroI64> for Own {
+    ghost form_greatest = { Some 10 };
 
-    fn postcard_max_size() -> Option<usize> {
+    fn form_max_size() -> Option<usize> {
         Some(10)
     }
 }
 
-impl MaxSize for NonZeroUsize {
-    ghost greatest = { Some 10 };
+impl MaxSizeForm<NonZeroUsize> for Own {
+    ghost form_greatest = { Some 10 };
 
-    fn postcard_max_size() -> Option<usize> {
+    fn form_max_size() -> Option<usize> {
         Some(10)
     }
 }
 
-impl MaxSize for NonZeroIsize {
-    ghost greatest = { Some 10 };
+impl MaxSizeForm<NonZeroIsize> for Own {
+    ghost form_greatest = { Some 10 };
 
-    fn postcard_max_size() -> Option<usize> {
+    fn form_max_size() -> Option<usize> {
         Some(10)
     }
 }
 
-impl MaxSize for NonZeroU128 {
-    ghost greatest = { Some 19 };
+impl MaxSizeForm<NonZeroU128> for Own {
+    ghost form_greatest = { Some 19 };
 
-    fn postcard_max_size() -> Option<usize> {
+    fn form_max_size() -> Option<usize> {
         Some(19)
     }
 }
 
-impl MaxSize for NonZeroI128 {
-    ghost greatest = { Some 19 };
+impl MaxSizeForm<NonZeroI128> for Own {
+    ghost form_greatest = { Some 19 };
 
-    fn postcard_max_size() -> Option<usize> {
+    fn form_max_size() -> Option<usize> {
         Some(19)
     }
 }
 
-impl MaxSize for Duration {
-    ghost greatest = { Some 15 };
+impl MaxSizeForm<Duration> for Own {
+    ghost form_greatest = { Some 15 };
 
-    fn postcard_max_size() -> Option<usize> {
+    fn form_max_size() -> Option<usize> {
         Some(15)
     }
 }
 
-impl<T> MaxSize for PhantomData<T> {
-    ghost greatest = { Some 0 };
+impl<T> MaxSizeForm<PhantomData<T>> for Own {
+    ghost form_greatest = { Some 0 };
 
-    fn postcard_max_size() -> Option<usize> {
+    fn form_max_size() -> Option<usize> {
         Some(0)
     }
 }
 
-impl<T: MaxSize> MaxSize for Option<T> {
-    ghost greatest = { sum_of T.greatest (Some 1) };
+impl<T: MaxSize> MaxSizeForm<Option<T>> for Own {
+    ghost form_greatest = { sum_of T.greatest (Some 1) };
 
-    fn postcard_max_size() -> Option<usize> {
+    fn form_max_size() -> Option<usize> {
         sum(T::postcard_max_size(), Some(1))
     }
 }
 
-impl<T: MaxWritten> MaxWritten for Option<T> {
-    ghost longest = { option_within T.valid T.writes T.greatest T.longest };
+impl<T: MaxWritten> MaxWrittenForm<Option<T>> for Own {
+    ghost form_longest = { option_within T.valid T.writes T.greatest T.longest };
 }
 
-impl<T: MaxSize, E: MaxSize> MaxSize for Result<T, E> {
-    ghost greatest = { sum_of (greater_of T.greatest E.greatest) (Some 1) };
+impl<T: MaxSize, E: MaxSize> MaxSizeForm<Result<T, E>> for Own {
+    ghost form_greatest = { sum_of (greater_of T.greatest E.greatest) (Some 1) };
 
-    fn postcard_max_size() -> Option<usize> {
+    fn form_max_size() -> Option<usize> {
         sum(
             greater(T::postcard_max_size(), E::postcard_max_size()),
             Some(1),
@@ -390,134 +454,134 @@ impl<T: MaxSize, E: MaxSize> MaxSize for Result<T, E> {
     }
 }
 
-impl<T: MaxWritten, E: MaxWritten> MaxWritten for Result<T, E> {
-    ghost longest = { result_within T.valid E.valid T.writes E.writes T.greatest E.greatest T.longest E.longest };
+impl<T: MaxWritten, E: MaxWritten> MaxWrittenForm<Result<T, E>> for Own {
+    ghost form_longest = { result_within T.valid E.valid T.writes E.writes T.greatest E.greatest T.longest E.longest };
 }
 
-impl<T: MaxSize, const N: usize> MaxSize for [T; N] {
-    ghost greatest = { times T.greatest N };
+impl<T: MaxSize, const N: usize> MaxSizeForm<[T; N]> for Own {
+    ghost form_greatest = { times T.greatest N };
 
-    fn postcard_max_size() -> Option<usize> {
+    fn form_max_size() -> Option<usize> {
         product(T::postcard_max_size(), N)
     }
 }
 
-impl<T: MaxWritten, const N: usize> MaxWritten for [T; N] {
-    ghost longest = { λ v h. array_within T.valid T.writes T.greatest N T.longest v h.0 h.1 };
+impl<T: MaxWritten, const N: usize> MaxWrittenForm<[T; N]> for Own {
+    ghost form_longest = { λ v h. array_within T.valid T.writes T.greatest N T.longest v h.0 h.1 };
 }
 
-impl<T: MaxSize, const N: usize> MaxSize for ArrayVec<T, N> {
-    ghost greatest = { sum_of (times T.greatest N) (Some (length (varint N))) };
+impl<T: MaxSize, const N: usize> MaxSizeForm<ArrayVec<T, N>> for Own {
+    ghost form_greatest = { sum_of (times T.greatest N) (Some (length (varint N))) };
 
-    fn postcard_max_size() -> Option<usize> {
+    fn form_max_size() -> Option<usize> {
         sum(product(T::postcard_max_size(), N), count_size(N))
     }
 }
 
-impl<T: MaxWritten, const N: usize> MaxWritten for ArrayVec<T, N> {
-    ghost longest = { λ v h. sequence_within T.valid T.writes T.greatest N T.longest v.items h.0 h.2 };
+impl<T: MaxWritten, const N: usize> MaxWrittenForm<ArrayVec<T, N>> for Own {
+    ghost form_longest = { λ v h. sequence_within T.valid T.writes T.greatest N T.longest v.items h.0 h.2 };
 }
 
-impl<const N: usize> MaxSize for ArrayString<N> {
-    ghost greatest = { sum_of (Some N) (Some (length (varint N))) };
+impl<const N: usize> MaxSizeForm<ArrayString<N>> for Own {
+    ghost form_greatest = { sum_of (Some N) (Some (length (varint N))) };
 
-    fn postcard_max_size() -> Option<usize> {
+    fn form_max_size() -> Option<usize> {
         sum(Some(N), count_size(N))
     }
 }
 
-impl<const N: usize> MaxWritten for ArrayString<N> {
-    ghost longest = { λ v h. text_within N v.bytes h.1 };
+impl<const N: usize> MaxWrittenForm<ArrayString<N>> for Own {
+    ghost form_longest = { λ v h. text_within N v.bytes h.1 };
 }
 
-impl<T: MaxSize> MaxSize for Box<T> {
-    ghost greatest = { T.greatest };
+impl<T: MaxSize> MaxSizeForm<Box<T>> for Own {
+    ghost form_greatest = { T.greatest };
 
-    fn postcard_max_size() -> Option<usize> {
+    fn form_max_size() -> Option<usize> {
         T::postcard_max_size()
     }
 }
 
-impl<T: MaxWritten> MaxWritten for Box<T> {
-    ghost longest = { λ v h. T.longest v.value h };
+impl<T: MaxWritten> MaxWrittenForm<Box<T>> for Own {
+    ghost form_longest = { λ v h. T.longest v.value h };
 }
 
-impl<T: MaxSize> MaxSize for Rc<T> {
-    ghost greatest = { T.greatest };
+impl<T: MaxSize> MaxSizeForm<Rc<T>> for Own {
+    ghost form_greatest = { T.greatest };
 
-    fn postcard_max_size() -> Option<usize> {
+    fn form_max_size() -> Option<usize> {
         T::postcard_max_size()
     }
 }
 
-impl<T: MaxSize> MaxSize for Wrapping<T> {
-    ghost greatest = { T.greatest };
+impl<T: MaxSize> MaxSizeForm<Wrapping<T>> for Own {
+    ghost form_greatest = { T.greatest };
 
-    fn postcard_max_size() -> Option<usize> {
+    fn form_max_size() -> Option<usize> {
         T::postcard_max_size()
     }
 }
 
-impl<T: MaxSize> MaxSize for RangeFrom<T> {
-    ghost greatest = { T.greatest };
+impl<T: MaxSize> MaxSizeForm<RangeFrom<T>> for Own {
+    ghost form_greatest = { T.greatest };
 
-    fn postcard_max_size() -> Option<usize> {
+    fn form_max_size() -> Option<usize> {
         T::postcard_max_size()
     }
 }
 
-impl<T: MaxSize> MaxSize for RangeTo<T> {
-    ghost greatest = { T.greatest };
+impl<T: MaxSize> MaxSizeForm<RangeTo<T>> for Own {
+    ghost form_greatest = { T.greatest };
 
-    fn postcard_max_size() -> Option<usize> {
+    fn form_max_size() -> Option<usize> {
         T::postcard_max_size()
     }
 }
 
-impl<T: MaxSize> MaxSize for Range<T> {
-    ghost greatest = { times T.greatest 2 };
+impl<T: MaxSize> MaxSizeForm<Range<T>> for Own {
+    ghost form_greatest = { times T.greatest 2 };
 
-    fn postcard_max_size() -> Option<usize> {
+    fn form_max_size() -> Option<usize> {
         product(T::postcard_max_size(), 2)
     }
 }
 
-impl<T: MaxSize> MaxSize for RangeInclusive<T> {
-    ghost greatest = { times T.greatest 2 };
+impl<T: MaxSize> MaxSizeForm<RangeInclusive<T>> for Own {
+    ghost form_greatest = { times T.greatest 2 };
 
-    fn postcard_max_size() -> Option<usize> {
+    fn form_max_size() -> Option<usize> {
         product(T::postcard_max_size(), 2)
     }
 }
 
-impl<A: MaxSize> MaxSize for (A,) {
-    ghost greatest = { total (A.greatest ∷ []) };
+impl<A: MaxSize> MaxSizeForm<(A,)> for Own {
+    ghost form_greatest = { total (A.greatest ∷ []) };
 
-    fn postcard_max_size() -> Option<usize> {
+    fn form_max_size() -> Option<usize> {
         sum(A::postcard_max_size(), Some(0))
     }
 }
 
-impl<A: MaxWritten> MaxWritten for (A,) {
-    ghost longest = { λ v h. group_within (part_within (A.longest v.0 h) none_within) };
+impl<A: MaxWritten> MaxWrittenForm<(A,)> for Own {
+    ghost form_longest = { λ v h. group_within (part_within (A.longest v.0 h) none_within) };
 }
 
-impl<A: MaxSize, B: MaxSize> MaxSize for (A, B) {
-    ghost greatest = { total (A.greatest ∷ B.greatest ∷ []) };
+impl<A: MaxSize, B: MaxSize> MaxSizeForm<(A, B)> for Own {
+    ghost form_greatest = { total (A.greatest ∷ B.greatest ∷ []) };
 
-    fn postcard_max_size() -> Option<usize> {
+    fn form_max_size() -> Option<usize> {
         sum(A::postcard_max_size(), sum(B::postcard_max_size(), Some(0)))
     }
 }
 
-impl<A: MaxWritten, B: MaxWritten> MaxWritten for (A, B) {
-    ghost longest = { λ v h. group_within (part_within (A.longest v.0 h.0) (part_within (B.longest v.1 h.1) none_within)) };
+impl<A: MaxWritten, B: MaxWritten> MaxWrittenForm<(A, B)> for Own {
+    ghost form_longest = { λ v h. group_within (part_within (A.longest v.0 h.0) (part_within (B.longest v.1 h.1) none_within)) };
 }
 
-impl<A: MaxSize, B: MaxSize, C: MaxSize> MaxSize for (A, B, C) {
-    ghost greatest = { total (A.greatest ∷ B.greatest ∷ C.greatest ∷ []) };
+impl<A: MaxSize, B: MaxSize, C: MaxSize> MaxSizeForm<(A, B, C)> for Own {
+    ghost form_greatest = { total (A.greatest ∷ B.greatest ∷ C.greatest ∷ []) };
 
-    fn postcard_max_size() -> Option<usize> {
+    fn form_max_size() -> Option<usize> {
         sum(
             A::postcard_max_size(),
             sum(B::postcard_max_size(), sum(C::postcard_max_size(), Some(0))),
@@ -525,15 +589,15 @@ impl<A: MaxSize, B: MaxSize, C: MaxSize> MaxSize for (A, B, C) {
     }
 }
 
-impl<A: MaxWritten, B: MaxWritten, C: MaxWritten> MaxWritten for (A, B, C) {
-    ghost longest = { λ v h. group_within (part_within (A.longest v.0 h.0)
+impl<A: MaxWritten, B: MaxWritten, C: MaxWritten> MaxWrittenForm<(A, B, C)> for Own {
+    ghost form_longest = { λ v h. group_within (part_within (A.longest v.0 h.0)
         (part_within (B.longest v.1 h.1) (part_within (C.longest v.2 h.2) none_within))) };
 }
 
-impl<A: MaxSize, B: MaxSize, C: MaxSize, D: MaxSize> MaxSize for (A, B, C, D) {
-    ghost greatest = { total (A.greatest ∷ B.greatest ∷ C.greatest ∷ D.greatest ∷ []) };
+impl<A: MaxSize, B: MaxSize, C: MaxSize, D: MaxSize> MaxSizeForm<(A, B, C, D)> for Own {
+    ghost form_greatest = { total (A.greatest ∷ B.greatest ∷ C.greatest ∷ D.greatest ∷ []) };
 
-    fn postcard_max_size() -> Option<usize> {
+    fn form_max_size() -> Option<usize> {
         sum(
             A::postcard_max_size(),
             sum(
@@ -544,15 +608,17 @@ impl<A: MaxSize, B: MaxSize, C: MaxSize, D: MaxSize> MaxSize for (A, B, C, D) {
     }
 }
 
-impl<A: MaxWritten, B: MaxWritten, C: MaxWritten, D: MaxWritten> MaxWritten for (A, B, C, D) {
-    ghost longest = { λ v h. group_within (part_within (A.longest v.0 h.0)
+impl<A: MaxWritten, B: MaxWritten, C: MaxWritten, D: MaxWritten> MaxWrittenForm<(A, B, C, D)>
+    for Own {
+    ghost form_longest = { λ v h. group_within (part_within (A.longest v.0 h.0)
         (part_within (B.longest v.1 h.1) (part_within (C.longest v.2 h.2) (part_within (D.longest v.3 h.3) none_within)))) };
 }
 
-impl<A: MaxSize, B: MaxSize, C: MaxSize, D: MaxSize, E: MaxSize> MaxSize for (A, B, C, D, E) {
-    ghost greatest = { total (A.greatest ∷ B.greatest ∷ C.greatest ∷ D.greatest ∷ E.greatest ∷ []) };
+impl<A: MaxSize, B: MaxSize, C: MaxSize, D: MaxSize, E: MaxSize> MaxSizeForm<(A, B, C, D, E)>
+    for Own {
+    ghost form_greatest = { total (A.greatest ∷ B.greatest ∷ C.greatest ∷ D.greatest ∷ E.greatest ∷ []) };
 
-    fn postcard_max_size() -> Option<usize> {
+    fn form_max_size() -> Option<usize> {
         sum(
             A::postcard_max_size(),
             sum(
@@ -566,18 +632,20 @@ impl<A: MaxSize, B: MaxSize, C: MaxSize, D: MaxSize, E: MaxSize> MaxSize for (A,
     }
 }
 
-impl<A: MaxWritten, B: MaxWritten, C: MaxWritten, D: MaxWritten, E: MaxWritten> MaxWritten
-    for (A, B, C, D, E) {
-    ghost longest = { λ v h. group_within (part_within (A.longest v.0 h.0)
+impl<A: MaxWritten, B: MaxWritten, C: MaxWritten, D: MaxWritten, E: MaxWritten> MaxWrittenForm<
+    (A, B, C, D, E),
+> for Own {
+    ghost form_longest = { λ v h. group_within (part_within (A.longest v.0 h.0)
         (part_within (B.longest v.1 h.1) (part_within (C.longest v.2 h.2)
         (part_within (D.longest v.3 h.3) (part_within (E.longest v.4 h.4) none_within))))) };
 }
 
-impl<A: MaxSize, B: MaxSize, C: MaxSize, D: MaxSize, E: MaxSize, F: MaxSize> MaxSize
-    for (A, B, C, D, E, F) {
-    ghost greatest = { total (A.greatest ∷ B.greatest ∷ C.greatest ∷ D.greatest ∷ E.greatest ∷ F.greatest ∷ []) };
+impl<A: MaxSize, B: MaxSize, C: MaxSize, D: MaxSize, E: MaxSize, F: MaxSize> MaxSizeForm<
+    (A, B, C, D, E, F),
+> for Own {
+    ghost form_greatest = { total (A.greatest ∷ B.greatest ∷ C.greatest ∷ D.greatest ∷ E.greatest ∷ F.greatest ∷ []) };
 
-    fn postcard_max_size() -> Option<usize> {
+    fn form_max_size() -> Option<usize> {
         sum(
             A::postcard_max_size(),
             sum(
@@ -601,8 +669,8 @@ impl<
     D: MaxWritten,
     E: MaxWritten,
     F: MaxWritten,
-> MaxWritten for (A, B, C, D, E, F) {
-    ghost longest = { λ v h. group_within (part_within (A.longest v.0 h.0)
+> MaxWrittenForm<(A, B, C, D, E, F)> for Own {
+    ghost form_longest = { λ v h. group_within (part_within (A.longest v.0 h.0)
         (part_within (B.longest v.1 h.1) (part_within (C.longest v.2 h.2)
         (part_within (D.longest v.3 h.3) (part_within (E.longest v.4 h.4)
         (part_within (F.longest v.5 h.5) none_within)))))) };

@@ -1,47 +1,46 @@
-//! Greatest sizes of message types, and those whose values write the tree that they were read from: by their shapes.
-use crate::exact::Exact;
-use crate::max_size::{MaxSize, MaxWritten};
-use postcard_de::DeserializeShape;
+//! Greatest sizes of message types, by their shapes, and of what references point to.
+ghost use Rattle.std.proofs.Common.{sym, subst};
+ghost use Rattle.postcard.specs.Greatest.{SizeWithin};
+
+use crate::max_size::{MaxSize, MaxSizeForm, MaxWritten, MaxWrittenForm};
 use postcard_ser::SerializeShape;
-use postcard_tree::Shaped;
+use postcard_tree::{AsShape, Own, Shaped};
 
-/// A message type that has the greatest size of its shape.
-pub trait MaxSizeShape: Shaped
-where
-    Self::Shape: MaxSize,
-{}
-
-impl<M: MaxSizeShape> MaxSize for M
+impl<M: Shaped> MaxSizeForm<M> for AsShape
 where
     M::Shape: MaxSize,
 {
-    ghost greatest = { M.Shape.greatest };
+    ghost form_greatest = { M.Shape.greatest };
 
-    fn postcard_max_size() -> Option<usize> {
+    fn form_max_size() -> Option<usize> {
         <M::Shape as MaxSize>::postcard_max_size()
     }
 }
 
-impl<M: MaxSizeShape + SerializeShape> MaxWritten for M
+impl<M: SerializeShape> MaxWrittenForm<M> for AsShape
 where
     M::Shape: MaxWritten,
 {
-    ghost longest = { λ v h. M.Shape.longest (M.shape v) h };
+    ghost form_longest = { λ v h. subst (λ z. SizeWithin z M.Shape.greatest) (sym (M.written_as.same v))
+        (M.Shape.longest (M.shape v) (M.written_as.shown v h)) };
 }
 
-impl<'a, T: MaxSize> MaxSizeShape for &'a T {}
+impl<'a, T: MaxSize> MaxSizeForm<&'a T> for Own {
+    ghost form_greatest = { T.greatest };
 
-impl<'a, T: MaxSize> MaxSizeShape for &'a mut T {}
+    fn form_max_size() -> Option<usize> {
+        T::postcard_max_size()
+    }
+}
 
-/// A message type whose shape writes the tree that it was read from.
-pub trait ExactShape: DeserializeShape + SerializeShape
-where
-    Self::Shape: Exact,
-{}
+impl<'a, T: MaxSize> MaxSizeForm<&'a mut T> for Own {
+    ghost form_greatest = { T.greatest };
 
-impl<M: ExactShape> Exact for M
-where
-    M::Shape: Exact,
-{
-    ghost writes_back = { λ t v h. M.Shape.writes_back t (M.shape v) h };
+    fn form_max_size() -> Option<usize> {
+        T::postcard_max_size()
+    }
+}
+
+impl<'a, T: MaxWritten> MaxWrittenForm<&'a T> for Own {
+    ghost form_longest = { λ v h. T.longest v.now h };
 }

@@ -1,41 +1,39 @@
 //! How message types are read: by their shapes.
-ghost use Rattle.std.specs.Prelude.{◌≡◌};
+ghost use Rattle.postcard_tree.specs.Reading.{Spelled};
+ghost use Rattle.postcard_de.specs.Deserializer.{OutcomeOf};
 
 use crate::Deserializer;
 use crate::de_flavors::{Bytes, Flavor};
-use crate::deserialize::{Deserialize, DeserializeOwned};
-use postcard_tree::{Readable, Result, Shaped};
+use crate::deserialize::{
+    Borrowing, Deserialize, DeserializeForm, DeserializeOwned, DeserializeOwnedForm, Owning, Reads,
+};
+use postcard_tree::{AsShape, Readable, ReadableShape, Result};
 
-/// A message type that is read as its shape is.
-pub trait DeserializeShape: Shaped
+fn read_shape<W: Reads<M::Shape, F>, M: ReadableShape + Drop, F: Flavor>(
+    d: &mut Deserializer<F>,
+) -> Result<M>
 where
-    Self::Shape: Readable,
+    M::Shape: Readable,
+    ensures { OutcomeOf F.source d.old d.new result (Spelled M.reads) M.refuses M.growing }
 {
-    /// The value of this shape. Its clauses say that a shape is a value's whole content: each shape is a value's, and
-    /// no other value has it, so that a shape which forgets a field isn't proved.
-    fn from_shape(it: Self::Shape) -> Self
-        ensures same_shape { Self.shape result ≡ it }
-        ensures no_other { (v : Self) → Self.shape v ≡ it → v ≡ result };
+    let it = W::read(d)?;
+    Ok(M::from_shape(it))
 }
 
-impl<B: Bytes, M: DeserializeShape + Drop> Deserialize<B> for M
+impl<B: Bytes, M: ReadableShape + Drop> DeserializeForm<B, M> for AsShape
 where
     M::Shape: Deserialize<B>,
 {
-    #[tactic(auto, using(crate::specs::Variants::shape_read))]
-    fn deserialize<F: Flavor<Taken = B>>(d: &mut Deserializer<F>) -> Result<M> {
-        let it = <M::Shape as Deserialize<B>>::deserialize(d)?;
-        Ok(M::from_shape(it))
+    fn deserialize_form<F: Flavor<Taken = B>>(d: &mut Deserializer<F>) -> Result<M> {
+        read_shape::<Borrowing, M, F>(d)
     }
 }
 
-impl<M: DeserializeShape + Drop> DeserializeOwned for M
+impl<M: ReadableShape + Drop> DeserializeOwnedForm<M> for AsShape
 where
     M::Shape: DeserializeOwned,
 {
-    #[tactic(auto, using(crate::specs::Variants::shape_read))]
-    fn deserialize_owned<F: Flavor>(d: &mut Deserializer<F>) -> Result<M> {
-        let it = <M::Shape as DeserializeOwned>::deserialize_owned(d)?;
-        Ok(M::from_shape(it))
+    fn deserialize_owned_form<F: Flavor>(d: &mut Deserializer<F>) -> Result<M> {
+        read_shape::<Owning, M, F>(d)
     }
 }

@@ -1,48 +1,31 @@
-//! How message types are written: by their shapes.
-ghost use Rattle.std.specs.Prelude.{OnOk};
-ghost use Rattle.postcard_ser.specs.Writing.{Writes};
+//! How message types and references are written.
+ghost use Rattle.postcard_tree.specs.Shapes.{WrittenAs};
 
-use crate::lawful::Lawful;
+use crate::lawful::{Lawful, LawfulForm};
 use crate::ser_flavors::Flavor;
 use crate::serialize::Serialize;
 use crate::serializer::Serializer;
-use postcard_tree::{Result, Shaped};
+use postcard_tree::{Own, Result, Shaped};
 
 /// A message type that is written as its shape is.
-pub trait SerializeShape: Shaped
+pub trait SerializeShape: Shaped + Serialize
 where
     Self::Shape: Serialize,
 {
-    /// Pushes the shortest spelling of the value's shape: of a struct by writing the tuple of references to its fields,
-    /// of an enum by the calls of the serializer for a variant.
-    fn serialize_shape<F: Flavor>(&self, serializer: &mut Serializer<F>) -> Result<()>
-        ensures writes { Writes F.took F.refused serializer.old.output (Self.Shape.writes (Self.shape self.now)) result serializer.new.output }
-        ensures same { F.same serializer.old.output serializer.new.output }
-        ensures valid { OnOk result (Self.Shape.valid (Self.shape self.now)) };
+    /// What is written is what the shape writes, and a valid value's shape is valid.
+    ghost written_as: { WrittenAs Self.shape Self.Shape.writes Self.Shape.valid Self.writes Self.valid };
 }
 
-impl<M: SerializeShape> Serialize for M
-where
-    M::Shape: Serialize,
-{
-    ghost writes = { λ v. M.Shape.writes (M.shape v) };
+impl<'a, T: Serialize> Serialize for &'a T {
+    ghost writes = { λ v. T.writes v.now };
 
-    ghost valid = { λ v. M.Shape.valid (M.shape v) };
+    ghost valid = { λ v. T.valid v.now };
 
     fn serialize<F: Flavor>(&self, serializer: &mut Serializer<F>) -> Result<()> {
-        self.serialize_shape(serializer)
-    }
-}
-
-impl<M: SerializeShape> Lawful for M
-where
-    M::Shape: Lawful,
-{
-    ghost reads_back = { λ v t h e. M.Shape.reads_back (M.shape v) t h e };
-}
-
-impl<'a, T: Serialize> SerializeShape for &'a T {
-    fn serialize_shape<F: Flavor>(&self, serializer: &mut Serializer<F>) -> Result<()> {
         (**self).serialize(serializer)
     }
+}
+
+impl<'a, T: Lawful> LawfulForm<&'a T> for Own {
+    ghost form_reads_back = { λ v t h e. T.reads_back v.now t h e };
 }

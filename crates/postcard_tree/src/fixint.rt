@@ -19,6 +19,9 @@ pub trait FixInt: Copy {
     /// The value of these bits.
     ghost of_bits: { ℕ → Self };
 
+    /// The values in range and the numbers below `256 ^ size` are one to one.
+    ghost laws: { FixedLaws size in_range bits of_bits };
+
     /// How many bytes it has.
     fn size() -> usize
         ensures is { result ≡ size }
@@ -33,17 +36,14 @@ pub trait FixInt: Copy {
     fn from_bits(n: u128) -> Self
         requires { n < 256 ^ size }
         ensures { result ≡ of_bits n };
-
-    /// The values in range and the numbers below `256 ^ size` are one to one.
-    ghost laws: { FixedLaws size in_range bits of_bits };
 }
 
 /// A number that is written as its bytes, the lowest first: `LE(0xABCDu16)` is `CD AB`.
-#[derive(Drop)]
+#[derive(Clone, Copy, Debug, Default, PartialEq, Eq, PartialOrd, Ord, Drop)]
 pub struct LE<T: FixInt>(pub T);
 
 /// A number that is written as its bytes, the highest first: `BE(0xABCDu16)` is `AB CD`.
-#[derive(Drop)]
+#[derive(Clone, Copy, Debug, Default, PartialEq, Eq, PartialOrd, Ord, Drop)]
 pub struct BE<T: FixInt>(pub T);
 
 // Writes the lowest bytes of a number, the lowest first.

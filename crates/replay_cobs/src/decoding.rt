@@ -1,7 +1,7 @@
 //! Messages of frames.
 use cobs::{DecodeError, DecodeReport, DecodeVecError};
+use replay::{Findings, Trouble, Words, digits, digits_behind};
 use std::alloc::{AllocError, Global};
-use vectors::{Findings, Trouble, Words, digits, digits_behind};
 
 /// `SOURCE CAP -> PARSED MESSAGE` or `SOURCE CAP -> !ERROR`: the first frame of a source, decoded into so much room.
 pub(crate) fn replay_decode(

@@ -2,8 +2,8 @@
 ghost use Rattle.std.specs.Prelude.{◌<◌};
 
 use cobs::{CobsEncoder, EncoderState, PushResult};
+use replay::{Findings, Trouble, Words};
 use std::alloc::Global;
-use vectors::{Findings, Trouble, Words};
 
 /// How many bytes a piece has, where a message is pushed in pieces.
 const PIECE: usize = 100;

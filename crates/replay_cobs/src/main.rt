@@ -7,10 +7,10 @@ mod encoding;
 mod sentinels;
 mod streams;
 
+use replay::{Findings, Replays, Trouble, Words, replay_all};
 use std::alloc::Global;
 use std::io;
 use std::process::ExitCode;
-use vectors::{Findings, Replays, Trouble, Words, replay_all};
 
 /// Lines that speak of `cobs`.
 struct Lines;

@@ -2,8 +2,8 @@
 use crate::encoding::encode_pieces;
 use crate::streams::Streaming;
 use cobs::{CobsDecoder, CobsDecoderHeapless, CobsDecoderOwned};
+use replay::{Findings, Trouble, Words};
 use std::alloc::Global;
-use vectors::{Findings, Trouble, Words};
 
 /// How many bytes a decoder has room for that keeps them in an array.
 const ROOM: usize = 1024;

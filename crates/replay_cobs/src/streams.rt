@@ -3,8 +3,8 @@ ghost use Rattle.std.specs.Mem.{FitsInMemory};
 ghost use Rattle.cobs.specs.contracts.dec.CobsDecoderHeapless.{the_row};
 
 use cobs::{CobsDecoder, CobsDecoderHeapless, CobsDecoderOwned, DecodeError, DecodeReport};
+use replay::{Findings, Trouble, Words, digits_behind, pieces_of};
 use std::alloc::{AllocError, Global};
-use vectors::{Findings, Trouble, Words, digits_behind, pieces_of};
 
 /// A streaming decoder.
 pub(crate) trait Streaming {

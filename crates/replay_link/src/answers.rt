@@ -1,8 +1,8 @@
 //! What a link answers, in the words of a line.
 use link::{Answer, End};
+use replay::Trouble;
+use replay_values::Shown;
 use std::alloc::{AllocError, Global};
-use values::Shown;
-use vectors::Trouble;
 
 /// Appends an answer.
 pub(crate) fn show_answer<T: Shown>(

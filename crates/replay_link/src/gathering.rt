@@ -4,9 +4,9 @@ use crate::linked::Line;
 use crate::receiving::{From, reader_of};
 use link::{Gathered, receive_by_accumulator_with_sentinel};
 use postcard::DeserializeOwned;
+use replay::{Findings, Trouble, pieces_of};
+use replay_values::Shown;
 use std::alloc::Global;
-use values::Shown;
-use vectors::{Findings, Trouble, pieces_of};
 
 /// Compares the values of a stream that comes at once, and of one that comes byte by byte.
 pub(crate) fn compare_gathered<T: DeserializeOwned + Shown>(

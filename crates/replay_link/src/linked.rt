@@ -6,9 +6,9 @@ use crate::pushing::{compare_parts, compare_pushes};
 use crate::receiving::{compare_received, compare_received_strictly};
 use crate::sending::compare_sent;
 use postcard::{Deserialize, DeserializeOwned, Exact, Serialize};
+use replay::{Findings, Trouble, Words, bytes_of, pieces_of};
+use replay_values::Shown;
 use std::alloc::Global;
-use values::Shown;
-use vectors::{Findings, Trouble, Words, bytes_of, pieces_of};
 
 /// What a line asks of a type.
 #[derive(Clone, Copy, Drop)]

@@ -9,12 +9,13 @@ mod linked;
 mod named;
 mod pushing;
 mod receiving;
+mod rows;
 mod sending;
 
+use replay::{Findings, Replays, Trouble, Words, replay_all};
 use std::alloc::Global;
 use std::io;
 use std::process::ExitCode;
-use vectors::{Findings, Replays, Trouble, Words, replay_all};
 
 /// Lines that speak of `link`.
 struct Lines;

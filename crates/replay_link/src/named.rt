@@ -3,9 +3,9 @@ use arrayvec::{ArrayString, ArrayVec};
 use postcard::de_flavors::Bytes;
 use postcard::fixint::LE;
 use postcard::{Deserialize, DeserializeOwned, Exact, Serialize};
+use replay_values::Shown;
 use samples::DataEnum;
 use std::collections::BTreeMap;
-use values::Shown;
 
 /// What is asked of a type, once its name was read. Values are read from bytes of the kind `B`, which may lie in the room
 /// that is handed on.

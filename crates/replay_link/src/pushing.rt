@@ -5,11 +5,12 @@ ghost use Rattle.replay_link.specs.contracts.pushing.Listener.{the_row};
 use crate::answers::show_answer;
 use crate::linked::Line;
 use crate::named::{Asks, ask_named};
+use crate::rows::compare_rows;
 use link::{Answer, OwnedReceiver, Pushed, Receiver};
 use postcard::{Deserialize, DeserializeOwned, Exact, Serialize};
+use replay::{Findings, Trouble, number_of, pieces_of};
+use replay_values::Shown;
 use std::alloc::{AllocError, Global};
-use values::Shown;
-use vectors::{Findings, Trouble, number_of, pieces_of};
 
 /// The call that pushes.
 #[derive(Clone, Copy, Drop)]
@@ -49,7 +50,8 @@ pub(crate) fn compare_pushes(
     compare_call(line, Call::PushRef, pieces, findings)
 }
 
-/// Compares what an `OwnedReceiver` of the line's limit answers, and for two of the limits what a `Receiver` does.
+/// Compares what an `OwnedReceiver` of the line's limit answers, and what a `Receiver` does: for two of the limits of any type, for
+/// others of the types that rows name with them.
 fn compare_call(
     line: Line<'_>,
     call: Call,
@@ -69,7 +71,11 @@ fn compare_call(
     let answer = match limit {
         3 => push_to(line, call, fixed::<3>(s), pieces),
         64 => push_to(line, call, fixed::<64>(s), pieces),
-        _ => return Ok(()),
+        _ => match call {
+            Call::Push => return compare_rows(line, false, pieces, findings),
+            Call::PushStrict => return compare_rows(line, true, pieces, findings),
+            Call::PushRef => return Ok(()),
+        },
     };
     findings.check(name_of(call), answer, line.wanted)
 }
@@ -118,11 +124,16 @@ fn finish<const N: usize>(listener: Listener<N>, text: &mut String) -> Result<()
         Listener::Fixed(receiver) => receiver.finish::<()>(),
         Listener::Owned(receiver) => receiver.finish::<()>(),
     };
-    text.push_str(match answer {
+    text.push_str(name_of_end(answer))
+}
+
+/// The word for what is answered at the end.
+pub(crate) fn name_of_end(answer: Option<Answer<()>>) -> &'static str {
+    match answer {
         None => "-",
         Some(Answer::Cut) => "cut",
         Some(_) => "another answer",
-    })
+    }
 }
 
 /// Compares what one receiver answers whose limit is set before each part, by each call.
@@ -222,7 +233,7 @@ fn push_piece<const N: usize>(
 }
 
 /// Adds an answer with its place to those of a piece.
-fn add(text: &mut String, at: usize, answer: &str) -> Result<(), AllocError> {
+pub(crate) fn add(text: &mut String, at: usize, answer: &str) -> Result<(), AllocError> {
     if !text.is_empty() {
         text.push(';')?;
     }
@@ -299,8 +310,11 @@ fn push_strict<T: DeserializeOwned + Exact + Shown, const N: usize>(
 }
 
 /// Shows the answer of a push, where it has one, and says how many bytes were used.
-fn show<T: Shown + Drop>(pushed: Pushed<T>, text: &mut String) -> Result<usize, Trouble> {
-    let Pushed { used, answer } = pushed;
+pub(crate) fn show<T: Shown + Drop>(
+    pushed: Pushed<T>,
+    text: &mut String,
+) -> Result<usize, Trouble> {
+    let Pushed { used, answer, .. } = pushed;
     match answer {
         Ok(None) => {}
         Ok(Some(answer)) => show_answer(&answer, text)?,

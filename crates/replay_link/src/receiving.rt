@@ -7,9 +7,9 @@ use link::{
     receive_with_sentinel,
 };
 use postcard::{DeserializeOwned, Exact};
+use replay::{Findings, Pieces, Trouble, pieces_of};
+use replay_values::Shown;
 use std::alloc::Global;
-use values::Shown;
-use vectors::{Findings, Pieces, Trouble, pieces_of};
 
 /// What comes from a reader.
 pub(crate) type From<'a> = Reads<Pieces<'a>>;

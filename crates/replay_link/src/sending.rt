@@ -8,9 +8,9 @@ use line_io::Outlet;
 use line_io::memory::{Fault, Out};
 use link::{Fate, SendError, Sender, send_each_with_sentinel};
 use postcard::{DeserializeOwned, Error, Serialize};
+use replay::{Findings, Trouble, bytes_of, digits, number_of};
+use replay_values::{Shown, in_words};
 use std::alloc::Global;
-use values::{Shown, in_words};
-use vectors::{Findings, Trouble, bytes_of, digits, number_of};
 
 /// How many bytes a stretch of the line has at most, where it is received.
 const HEARD: usize = 1025;
@@ -25,7 +25,7 @@ enum Call {
     SendEach,
 }
 
-/// Compares what the writers took, what became of each send, and what is received of the line, by `send`, and for two of
+/// Compares what the writers took, what became of each send, and what is received of the line, by `send`, and for some of
 /// the limits by `send_each`.
 pub(crate) fn compare_sent<T: Serialize + DeserializeOwned + Shown>(
     line: Line<'_>,
@@ -34,7 +34,7 @@ pub(crate) fn compare_sent<T: Serialize + DeserializeOwned + Shown>(
     let answer = send_sessions::<T>(line, Call::Send, findings);
     findings.check("send", answer, line.wanted)?;
     match line.limit {
-        8 | 64 => {
+        8 | 16 | 64 => {
             let answer = send_sessions::<T>(line, Call::SendEach, findings);
             findings.check("send_each", answer, line.wanted)
         }
@@ -212,6 +212,7 @@ fn send_each_by<'a, T: Serialize>(
     let s = line.sentinel;
     match line.limit {
         8 => Ok(send_each_with_sentinel::<T, _, 8>(out, values, fates, s)),
+        16 => Ok(send_each_with_sentinel::<T, _, 16>(out, values, fates, s)),
         64 => Ok(send_each_with_sentinel::<T, _, 64>(out, values, fates, s)),
         _ => Err(Trouble::Unreadable),
     }

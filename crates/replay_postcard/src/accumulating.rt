@@ -4,10 +4,10 @@ ghost use Rattle.postcard.specs.contracts.accumulator.CobsAccumulator.{the_row};
 
 use postcard::accumulator::{CobsAccumulator, FeedResult};
 use postcard::{Deserialize, DeserializeOwned};
+use replay::{Findings, Trouble, Words, pieces_of};
+use replay_values::Shown;
 use std::alloc::Global;
 use std::collections::BTreeMap;
-use values::Shown;
-use vectors::{Findings, Trouble, Words, pieces_of};
 
 /// The call that feeds an accumulator.
 #[derive(Clone, Copy, Drop)]

@@ -8,10 +8,10 @@ mod reading;
 mod sizes;
 mod writing;
 
+use replay::{Findings, Replays, Trouble, Words, replay_all};
 use std::alloc::Global;
 use std::io;
 use std::process::ExitCode;
-use vectors::{Findings, Replays, Trouble, Words, replay_all};
 
 /// Lines that speak of `postcard`.
 struct Lines;

@@ -4,12 +4,12 @@ use crate::writing::write;
 use arrayvec::{ArrayString, ArrayVec};
 use postcard::fixint::{BE, LE};
 use postcard::{Deserialize, DeserializeOwned, Serialize};
+use replay::{Findings, Trouble, Words};
+use replay_values::Shown;
 use samples::DataEnum;
 use std::alloc::Global;
 use std::collections::BTreeMap;
 use std::mem;
-use values::Shown;
-use vectors::{Findings, Trouble, Words};
 
 /// What a line asks of a type.
 #[derive(Clone, Copy, Drop)]

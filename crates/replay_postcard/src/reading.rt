@@ -1,8 +1,8 @@
 //! What bytes are read as.
 use postcard::{Deserialize, DeserializeOwned, Error};
+use replay::{Findings, Trouble};
+use replay_values::{Shown, in_words};
 use std::alloc::Global;
-use values::{Shown, in_words};
-use vectors::{Findings, Trouble};
 
 /// Reads bytes by each call. A reader has as much room as there are bytes.
 pub(crate) fn read<'a, T: Deserialize<&'a [u8]> + Shown>(

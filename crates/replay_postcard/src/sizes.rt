@@ -1,6 +1,7 @@
 //! The greatest sizes of types.
 use arrayvec::{ArrayString, ArrayVec};
 use postcard::experimental::max_size::MaxSize;
+use replay::{Findings, Trouble, Words};
 use std::alloc::Global;
 use std::marker::PhantomData;
 use std::num::{
@@ -10,7 +11,6 @@ use std::num::{
 use std::ops::{Range, RangeFrom, RangeInclusive, RangeTo};
 use std::rc::Rc;
 use std::time::Duration;
-use vectors::{Findings, Trouble, Words};
 
 /// `TYPE SIZE`: the greatest size of a type.
 pub(crate) fn replay_size(

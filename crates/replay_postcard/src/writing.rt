@@ -3,9 +3,9 @@ use crate::reading::refusal;
 use arrayvec::ArrayVec;
 use postcard::experimental::serialized_size;
 use postcard::{Deserialize, Error, Serialize};
+use replay::{Findings, Trouble};
+use replay_values::{Shown, in_words};
 use std::alloc::Global;
-use values::{Shown, in_words};
-use vectors::{Findings, Trouble};
 
 /// How many bytes a vector of a fixed room holds at most.
 const MOST: usize = 4096;

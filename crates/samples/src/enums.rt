@@ -1,10 +1,12 @@
 //! Enums are the variant's index and what the variant holds.
+ghost use Rattle.postcard_tree.specs.ReadingLaws.{seen_as};
+ghost use Rattle.postcard_tree.specs.Shapes.{read_as_shape, written_as_shape};
+
 use crate::structs::EnumStruct;
-use postcard::experimental::max_size::MaxSizeShape;
 use postcard::ser_flavors::Flavor;
 use postcard::{
-    DeserializeShape, ExactShape, Last, Result, SerializeShape, Serializer, Shaped, Variant,
-    Variants4,
+    AsShape, Formed, Last, Readable, ReadableShape, Result, Serialize, SerializeShape, Serializer,
+    ShapeOf, Shaped, Variant, Variants4,
 };
 
 /// Variants without a payload.
@@ -25,19 +27,7 @@ impl Shaped for BasicEnum {
     type Shape = BasicEnumShape;
 
     ghost shape = { λ v. elim v [ Bib ↦ This tt | Bim ↦ Other (This tt) | Bap ↦ Other (Other (Last tt)) ] };
-}
 
-impl SerializeShape for BasicEnum {
-    fn serialize_shape<F: Flavor>(&self, serializer: &mut Serializer<F>) -> Result<()> {
-        match self {
-            BasicEnum::Bib => serializer.serialize_unit_variant(0),
-            BasicEnum::Bim => serializer.serialize_unit_variant(1),
-            BasicEnum::Bap => serializer.serialize_unit_variant(2),
-        }
-    }
-}
-
-impl DeserializeShape for BasicEnum {
     fn from_shape(it: BasicEnumShape) -> BasicEnum {
         match it {
             Variant::This(()) => BasicEnum::Bib,
@@ -47,9 +37,49 @@ impl DeserializeShape for BasicEnum {
     }
 }
 
-impl MaxSizeShape for BasicEnum {}
+impl Formed for BasicEnum {
+    type Form = AsShape;
+}
 
-impl ExactShape for BasicEnum {}
+impl Readable for BasicEnum {
+    ghost takes = { ⟦<ShapeOf<Self> as Readable>⟧.takes };
+
+    ghost reads = { λ t v. ⟦<ShapeOf<Self> as Readable>⟧.reads t (⟦<Self as Shaped>⟧.shape v) };
+
+    ghost refuses = { ⟦<ShapeOf<Self> as Readable>⟧.refuses };
+
+    ghost alike = { λ v w. ⟦<ShapeOf<Self> as Readable>⟧.alike (⟦<Self as Shaped>⟧.shape v) (⟦<Self as Shaped>⟧.shape w) };
+
+    ghost growing = { ⟦<ShapeOf<Self> as Readable>⟧.growing };
+
+    ghost reading = { seen_as ⟦<Self as Shaped>⟧.shape ⟦<ShapeOf<Self> as Readable>⟧.reading };
+
+    fn grows() -> bool {
+        ShapeOf::<Self>::grows()
+    }
+}
+
+impl ReadableShape for BasicEnum {
+    ghost read_as = { read_as_shape };
+}
+
+impl Serialize for BasicEnum {
+    ghost writes = { λ v. ⟦<ShapeOf<Self> as Serialize>⟧.writes (⟦<Self as Shaped>⟧.shape v) };
+
+    ghost valid = { λ v. ⟦<ShapeOf<Self> as Serialize>⟧.valid (⟦<Self as Shaped>⟧.shape v) };
+
+    fn serialize<F: Flavor>(&self, serializer: &mut Serializer<F>) -> Result<()> {
+        match self {
+            BasicEnum::Bib => serializer.serialize_unit_variant(0),
+            BasicEnum::Bim => serializer.serialize_unit_variant(1),
+            BasicEnum::Bap => serializer.serialize_unit_variant(2),
+        }
+    }
+}
+
+impl SerializeShape for BasicEnum {
+    ghost written_as = { written_as_shape };
+}
 
 /// Variants with a payload of each form.
 #[derive(Clone, Copy, PartialEq, Eq, Drop)]
@@ -73,22 +103,7 @@ impl Shaped for DataEnum {
     type Shape = DataEnumShape;
 
     ghost shape = { λ v. elim v [ Bib n ↦ V0 n | Bim n ↦ V1 n | Bap n ↦ V2 n | Kim s ↦ V3 s | Chi a b ↦ More (This (a, b)) | Sho a b ↦ More (Other (Last (a, b))) ] };
-}
 
-impl SerializeShape for DataEnum {
-    fn serialize_shape<F: Flavor>(&self, serializer: &mut Serializer<F>) -> Result<()> {
-        match self {
-            DataEnum::Bib(number) => serializer.serialize_newtype_variant(0, number),
-            DataEnum::Bim(number) => serializer.serialize_newtype_variant(1, number),
-            DataEnum::Bap(byte) => serializer.serialize_newtype_variant(2, byte),
-            DataEnum::Kim(fields) => serializer.serialize_newtype_variant(3, fields),
-            DataEnum::Chi { a, b } => serializer.serialize_newtype_variant(4, &(a, b)),
-            DataEnum::Sho(a, b) => serializer.serialize_newtype_variant(5, &(a, b)),
-        }
-    }
-}
-
-impl DeserializeShape for DataEnum {
     fn from_shape(it: DataEnumShape) -> DataEnum {
         match it {
             Variants4::V0(number) => DataEnum::Bib(number),
@@ -101,6 +116,49 @@ impl DeserializeShape for DataEnum {
     }
 }
 
-impl MaxSizeShape for DataEnum {}
+impl Formed for DataEnum {
+    type Form = AsShape;
+}
 
-impl ExactShape for DataEnum {}
+impl Readable for DataEnum {
+    ghost takes = { ⟦<ShapeOf<Self> as Readable>⟧.takes };
+
+    ghost reads = { λ t v. ⟦<ShapeOf<Self> as Readable>⟧.reads t (⟦<Self as Shaped>⟧.shape v) };
+
+    ghost refuses = { ⟦<ShapeOf<Self> as Readable>⟧.refuses };
+
+    ghost alike = { λ v w. ⟦<ShapeOf<Self> as Readable>⟧.alike (⟦<Self as Shaped>⟧.shape v) (⟦<Self as Shaped>⟧.shape w) };
+
+    ghost growing = { ⟦<ShapeOf<Self> as Readable>⟧.growing };
+
+    ghost reading = { seen_as ⟦<Self as Shaped>⟧.shape ⟦<ShapeOf<Self> as Readable>⟧.reading };
+
+    fn grows() -> bool {
+        ShapeOf::<Self>::grows()
+    }
+}
+
+impl ReadableShape for DataEnum {
+    ghost read_as = { read_as_shape };
+}
+
+impl Serialize for DataEnum {
+    ghost writes = { λ v. ⟦<ShapeOf<Self> as Serialize>⟧.writes (⟦<Self as Shaped>⟧.shape v) };
+
+    ghost valid = { λ v. ⟦<ShapeOf<Self> as Serialize>⟧.valid (⟦<Self as Shaped>⟧.shape v) };
+
+    fn serialize<F: Flavor>(&self, serializer: &mut Serializer<F>) -> Result<()> {
+        match self {
+            DataEnum::Bib(number) => serializer.serialize_newtype_variant(0, number),
+            DataEnum::Bim(number) => serializer.serialize_newtype_variant(1, number),
+            DataEnum::Bap(byte) => serializer.serialize_newtype_variant(2, byte),
+            DataEnum::Kim(fields) => serializer.serialize_newtype_variant(3, fields),
+            DataEnum::Chi { a, b } => serializer.serialize_newtype_variant(4, &(a, b)),
+            DataEnum::Sho(a, b) => serializer.serialize_newtype_variant(5, &(a, b)),
+        }
+    }
+}
+
+impl SerializeShape for DataEnum {
+    ghost written_as = { written_as_shape };
+}

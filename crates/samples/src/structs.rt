@@ -1,8 +1,12 @@
 //! Structs are their fields in order.
-use postcard::experimental::max_size::MaxSizeShape;
+ghost use Rattle.std.specs.Prelude.{◌≡◌};
+ghost use Rattle.postcard_tree.specs.ReadingLaws.{seen_as};
+ghost use Rattle.postcard_tree.specs.Shapes.{read_as_shape, written_as_shape};
+
 use postcard::ser_flavors::Flavor;
 use postcard::{
-    DeserializeShape, ExactShape, Result, Serialize, SerializeShape, Serializer, Shaped,
+    AsShape, Formed, Readable, ReadableShape, Result, Serialize, SerializeShape, Serializer,
+    ShapeOf, Shaped,
 };
 
 /// Bytes and a text that lie where they were read.
@@ -16,21 +20,53 @@ impl<'a> Shaped for RefStruct<'a> {
     type Shape = (&'a [u8], &'a str);
 
     ghost shape = { λ v. (v.bytes, v.text) };
-}
 
-impl<'a> SerializeShape for RefStruct<'a> {
-    fn serialize_shape<F: Flavor>(&self, serializer: &mut Serializer<F>) -> Result<()> {
-        (&self.bytes, &self.text).serialize(serializer)
-    }
-}
-
-impl<'a> DeserializeShape for RefStruct<'a> {
     fn from_shape((bytes, text): (&'a [u8], &'a str)) -> RefStruct<'a> {
         RefStruct { bytes, text }
     }
 }
 
-impl<'a> ExactShape for RefStruct<'a> {}
+impl<'a> Formed for RefStruct<'a> {
+    type Form = AsShape;
+}
+
+impl<'a> Readable for RefStruct<'a> {
+    ghost takes = { ⟦<ShapeOf<Self> as Readable>⟧.takes };
+
+    ghost reads = { λ t v. ⟦<ShapeOf<Self> as Readable>⟧.reads t (⟦<Self as Shaped>⟧.shape v) };
+
+    ghost refuses = { ⟦<ShapeOf<Self> as Readable>⟧.refuses };
+
+    ghost alike = { λ v w. ⟦<ShapeOf<Self> as Readable>⟧.alike (⟦<Self as Shaped>⟧.shape v) (⟦<Self as Shaped>⟧.shape w) };
+
+    ghost growing = { ⟦<ShapeOf<Self> as Readable>⟧.growing };
+
+    ghost reading = { seen_as ⟦<Self as Shaped>⟧.shape ⟦<ShapeOf<Self> as Readable>⟧.reading };
+
+    fn grows() -> bool
+        ensures { result ≡ ⟦<ShapeOf<Self> as Readable>⟧.growing }
+    {
+        ShapeOf::<Self>::grows()
+    }
+}
+
+impl<'a> ReadableShape for RefStruct<'a> {
+    ghost read_as = { read_as_shape };
+}
+
+impl<'a> Serialize for RefStruct<'a> {
+    ghost writes = { λ v. ⟦<ShapeOf<Self> as Serialize>⟧.writes (⟦<Self as Shaped>⟧.shape v) };
+
+    ghost valid = { λ v. ⟦<ShapeOf<Self> as Serialize>⟧.valid (⟦<Self as Shaped>⟧.shape v) };
+
+    fn serialize<F: Flavor>(&self, serializer: &mut Serializer<F>) -> Result<()> {
+        (&self.bytes, &self.text).serialize(serializer)
+    }
+}
+
+impl<'a> SerializeShape for RefStruct<'a> {
+    ghost written_as = { written_as_shape };
+}
 
 /// A number under a name of its own.
 #[derive(Clone, Copy, PartialEq, Eq, Drop)]
@@ -40,23 +76,51 @@ impl Shaped for NewTypeStruct {
     type Shape = u32;
 
     ghost shape = { λ v. v.0 };
-}
 
-impl SerializeShape for NewTypeStruct {
-    fn serialize_shape<F: Flavor>(&self, serializer: &mut Serializer<F>) -> Result<()> {
-        self.0.serialize(serializer)
-    }
-}
-
-impl DeserializeShape for NewTypeStruct {
     fn from_shape(number: u32) -> NewTypeStruct {
         NewTypeStruct(number)
     }
 }
 
-impl MaxSizeShape for NewTypeStruct {}
+impl Formed for NewTypeStruct {
+    type Form = AsShape;
+}
 
-impl ExactShape for NewTypeStruct {}
+impl Readable for NewTypeStruct {
+    ghost takes = { ⟦<ShapeOf<Self> as Readable>⟧.takes };
+
+    ghost reads = { λ t v. ⟦<ShapeOf<Self> as Readable>⟧.reads t (⟦<Self as Shaped>⟧.shape v) };
+
+    ghost refuses = { ⟦<ShapeOf<Self> as Readable>⟧.refuses };
+
+    ghost alike = { λ v w. ⟦<ShapeOf<Self> as Readable>⟧.alike (⟦<Self as Shaped>⟧.shape v) (⟦<Self as Shaped>⟧.shape w) };
+
+    ghost growing = { ⟦<ShapeOf<Self> as Readable>⟧.growing };
+
+    ghost reading = { seen_as ⟦<Self as Shaped>⟧.shape ⟦<ShapeOf<Self> as Readable>⟧.reading };
+
+    fn grows() -> bool {
+        ShapeOf::<Self>::grows()
+    }
+}
+
+impl ReadableShape for NewTypeStruct {
+    ghost read_as = { read_as_shape };
+}
+
+impl Serialize for NewTypeStruct {
+    ghost writes = { λ v. ⟦<ShapeOf<Self> as Serialize>⟧.writes (⟦<Self as Shaped>⟧.shape v) };
+
+    ghost valid = { λ v. ⟦<ShapeOf<Self> as Serialize>⟧.valid (⟦<Self as Shaped>⟧.shape v) };
+
+    fn serialize<F: Flavor>(&self, serializer: &mut Serializer<F>) -> Result<()> {
+        self.0.serialize(serializer)
+    }
+}
+
+impl SerializeShape for NewTypeStruct {
+    ghost written_as = { written_as_shape };
+}
 
 /// Two numbers by their places.
 #[derive(Clone, Copy, PartialEq, Eq, Drop)]
@@ -66,23 +130,51 @@ impl Shaped for TupleStruct {
     type Shape = (u8, u16);
 
     ghost shape = { λ v. (v.0, v.1) };
-}
 
-impl SerializeShape for TupleStruct {
-    fn serialize_shape<F: Flavor>(&self, serializer: &mut Serializer<F>) -> Result<()> {
-        (&self.0, &self.1).serialize(serializer)
-    }
-}
-
-impl DeserializeShape for TupleStruct {
     fn from_shape((first, second): (u8, u16)) -> TupleStruct {
         TupleStruct(first, second)
     }
 }
 
-impl MaxSizeShape for TupleStruct {}
+impl Formed for TupleStruct {
+    type Form = AsShape;
+}
 
-impl ExactShape for TupleStruct {}
+impl Readable for TupleStruct {
+    ghost takes = { ⟦<ShapeOf<Self> as Readable>⟧.takes };
+
+    ghost reads = { λ t v. ⟦<ShapeOf<Self> as Readable>⟧.reads t (⟦<Self as Shaped>⟧.shape v) };
+
+    ghost refuses = { ⟦<ShapeOf<Self> as Readable>⟧.refuses };
+
+    ghost alike = { λ v w. ⟦<ShapeOf<Self> as Readable>⟧.alike (⟦<Self as Shaped>⟧.shape v) (⟦<Self as Shaped>⟧.shape w) };
+
+    ghost growing = { ⟦<ShapeOf<Self> as Readable>⟧.growing };
+
+    ghost reading = { seen_as ⟦<Self as Shaped>⟧.shape ⟦<ShapeOf<Self> as Readable>⟧.reading };
+
+    fn grows() -> bool {
+        ShapeOf::<Self>::grows()
+    }
+}
+
+impl ReadableShape for TupleStruct {
+    ghost read_as = { read_as_shape };
+}
+
+impl Serialize for TupleStruct {
+    ghost writes = { λ v. ⟦<ShapeOf<Self> as Serialize>⟧.writes (⟦<Self as Shaped>⟧.shape v) };
+
+    ghost valid = { λ v. ⟦<ShapeOf<Self> as Serialize>⟧.valid (⟦<Self as Shaped>⟧.shape v) };
+
+    fn serialize<F: Flavor>(&self, serializer: &mut Serializer<F>) -> Result<()> {
+        (&self.0, &self.1).serialize(serializer)
+    }
+}
+
+impl SerializeShape for TupleStruct {
+    ghost written_as = { written_as_shape };
+}
 
 /// A byte and a number, the payload of a variant of `DataEnum`.
 #[derive(Clone, Copy, PartialEq, Eq, Drop)]
@@ -95,20 +187,48 @@ impl Shaped for EnumStruct {
     type Shape = (u8, u16);
 
     ghost shape = { λ v. (v.eight, v.sixt) };
-}
 
-impl SerializeShape for EnumStruct {
-    fn serialize_shape<F: Flavor>(&self, serializer: &mut Serializer<F>) -> Result<()> {
-        (&self.eight, &self.sixt).serialize(serializer)
-    }
-}
-
-impl DeserializeShape for EnumStruct {
     fn from_shape((eight, sixt): (u8, u16)) -> EnumStruct {
         EnumStruct { eight, sixt }
     }
 }
 
-impl MaxSizeShape for EnumStruct {}
+impl Formed for EnumStruct {
+    type Form = AsShape;
+}
 
-impl ExactShape for EnumStruct {}
+impl Readable for EnumStruct {
+    ghost takes = { ⟦<ShapeOf<Self> as Readable>⟧.takes };
+
+    ghost reads = { λ t v. ⟦<ShapeOf<Self> as Readable>⟧.reads t (⟦<Self as Shaped>⟧.shape v) };
+
+    ghost refuses = { ⟦<ShapeOf<Self> as Readable>⟧.refuses };
+
+    ghost alike = { λ v w. ⟦<ShapeOf<Self> as Readable>⟧.alike (⟦<Self as Shaped>⟧.shape v) (⟦<Self as Shaped>⟧.shape w) };
+
+    ghost growing = { ⟦<ShapeOf<Self> as Readable>⟧.growing };
+
+    ghost reading = { seen_as ⟦<Self as Shaped>⟧.shape ⟦<ShapeOf<Self> as Readable>⟧.reading };
+
+    fn grows() -> bool {
+        ShapeOf::<Self>::grows()
+    }
+}
+
+impl ReadableShape for EnumStruct {
+    ghost read_as = { read_as_shape };
+}
+
+impl Serialize for EnumStruct {
+    ghost writes = { λ v. ⟦<ShapeOf<Self> as Serialize>⟧.writes (⟦<Self as Shaped>⟧.shape v) };
+
+    ghost valid = { λ v. ⟦<ShapeOf<Self> as Serialize>⟧.valid (⟦<Self as Shaped>⟧.shape v) };
+
+    fn serialize<F: Flavor>(&self, serializer: &mut Serializer<F>) -> Result<()> {
+        (&self.eight, &self.sixt).serialize(serializer)
+    }
+}
+
+impl SerializeShape for EnumStruct {
+    ghost written_as = { written_as_shape };
+}

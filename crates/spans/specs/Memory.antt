@@ -38,13 +38,16 @@ view_of place bytes = record { ref_ptr = place; now = bytes }
 abbrev pub bytes_seen : Lft → Place → List ℕ → Fml
 bytes_seen κ place bytes = (ShrSlice (named 0) κ u8).own_val (view_of place bytes) (shr_slice_vals (view_of place bytes))
 
+-- those bytes lent by `&` for another lifetime
 abbrev pub seen_lent : Lft → Place → List ℕ → Lft → Fml
 seen_lent κ place bytes = beside (said (shr_slice_at u8 (view_of place bytes) (shr_slice_vals (view_of place bytes)))) (within κ (elements_shared u8 bytes place.0 place.1))
 
+-- what a memory owns, by whether it may be written
 abbrev pub access_owned : Bool → Lft → Place → GName → List ℕ → Fml
 access_owned true κ place name bytes = bytes_owned κ place name bytes
 access_owned false κ place name bytes = bytes_seen κ place bytes
 
+-- what of it is lent, by the same
 abbrev pub access_lent : Bool → Lft → Place → GName → List ℕ → Lft → Fml
 access_lent true κ place name bytes = bytes_lent κ place name bytes
 access_lent false κ place name bytes = seen_lent κ place bytes

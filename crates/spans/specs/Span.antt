@@ -3,9 +3,11 @@ use Rattle.std.specs.Prelude.{ℕ, List, take, drop}
 use Rattle.spans.specs.Memory.{Place}
 use Rattle.spans.specs.declared.memory.span.Span.{Span}
 
+-- the bytes behind the cursor
 abbrev pub behind_of : {K : Type 0} → Span K → List ℕ
 behind_of s = take s.behind s.memory.bytes
 
+-- the bytes ahead of the cursor
 abbrev pub ahead_of : {K : Type 0} → Span K → List ℕ
 ahead_of s = drop s.behind s.memory.bytes
 

@@ -94,6 +94,7 @@ impl<'a> Memory<'a, Writable> {
     // The right that a slice is.
     pub(crate) fn of(slice: &'a mut [u8]) -> (Start, Memory<'a, Writable>)
         ensures start { result.0.at ≡ block_ptr result.1.place.0 result.1.place.1 }
+        ensures place { result.1.place ≡ slice.entry.ref_ptr }
         ensures bytes { result.1.bytes ≡ slice.entry.now }
         ensures same_reference { result.1.name ≡ slice.entry.ghost_name }
     {

@@ -44,6 +44,7 @@ impl<'a> Span<'a, Writable> {
     pub fn new(slice: &'a mut [u8]) -> Span<'a, Writable>
         ensures behind { behind_of result ≡ [] }
         ensures ahead { ahead_of result ≡ slice.entry.now }
+        ensures place { place_of result ≡ slice.entry.ref_ptr }
         ensures same_reference { lent_as result ≡ slice.entry.ghost_name }
     {
         let total = slice.len();
@@ -62,6 +63,7 @@ impl<'a> Span<'a, Writable> {
         ensures behind { behind_of self.new ≡ behind_of self.old ++ byte ∷ [] }
         ensures ahead { ahead_of self.new ≡ drop 1 (ahead_of self.old) }
         ensures same_reference { lent_as self.new ≡ lent_as self.old }
+        ensures place { place_of self.new ≡ place_of self.old }
     {
         let at = self.behind;
         self.memory.write(self.start, at, byte);
@@ -74,6 +76,7 @@ impl<'a> Span<'a, Writable> {
         ensures behind { behind_of self.new ≡ behind_of self.old ++ bytes.now }
         ensures ahead { ahead_of self.new ≡ drop (length bytes.now) (ahead_of self.old) }
         ensures same_reference { lent_as self.new ≡ lent_as self.old }
+        ensures place { place_of self.new ≡ place_of self.old }
     {
         let at = self.behind;
         let total = self.total;
@@ -97,6 +100,7 @@ impl<'a> Span<'a, Writable> {
         ensures behind { behind_of self.new ≡ slice_set (behind_of self.old) index byte }
         ensures ahead { ahead_of self.new ≡ ahead_of self.old }
         ensures same_reference { lent_as self.new ≡ lent_as self.old }
+        ensures place { place_of self.new ≡ place_of self.old }
     {
         self.memory.write(self.start, index, byte);
     }
@@ -153,7 +157,8 @@ impl<'a> Span<'a, Writable> {
 
     /// The bytes behind the cursor, for good.
     pub fn into_behind(self) -> &'a mut [u8]
-        ensures { result.now ≡ behind_of self.entry }
+        ensures bytes { result.now ≡ behind_of self.entry }
+        ensures place { result.ref_ptr ≡ place_of self.entry }
     {
         let Span {
             start,

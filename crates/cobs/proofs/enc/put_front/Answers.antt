@@ -19,23 +19,23 @@ returns-then-dest-at-2-clause-none c =
 pub returns-else-dest-at-clause-holds : goal.returns-else-dest-at-clause-holds
 returns-else-dest-at-clause-holds c =
     let before = masked c.args.sentinel c.args.dest.now in
-    (c.put_piece.ensures.holds (pushed before c.args.at.len) (opens_masked c.args.sentinel c.args.dest.now c.args.at.code_at c.args.at.len c.requires.holds.laid (omega arith) c.if-at.true c.requires.holds.goes_on).1).0
+    (c.put_run.ensures.holds (pushed before c.args.at.len) (opens_masked c.args.sentinel c.args.dest.now c.args.at.code_at c.args.at.len c.requires.holds.laid (omega arith) c.if-at.true c.requires.holds.goes_on).1).0
 
 pub returns-else-dest-at-clause-pushed : goal.returns-else-dest-at-clause-pushed
 returns-else-dest-at-clause-pushed c =
     let before = masked c.args.sentinel c.args.dest.now in
-    (c.put_piece.ensures.holds (pushed before c.args.at.len) (opens_masked c.args.sentinel c.args.dest.now c.args.at.code_at c.args.at.len c.requires.holds.laid (omega arith) c.if-at.true c.requires.holds.goes_on).1).1
+    (c.put_run.ensures.holds (pushed before c.args.at.len) (opens_masked c.args.sentinel c.args.dest.now c.args.at.code_at c.args.at.len c.requires.holds.laid (omega arith) c.if-at.true c.requires.holds.goes_on).1).1
 
 pub returns-else-dest-at-2-clause-holds : goal.returns-else-dest-at-2-clause-holds
 returns-else-dest-at-2-clause-holds c =
     let before = masked c.args.sentinel c.args.dest.now in
-    (c.put_piece-else-at.ensures.holds (pushed before c.args.at.len) c.requires.holds.goes_on).0
+    (c.put_run-else-at.ensures.holds (pushed before c.args.at.len) c.requires.holds.goes_on).0
 
-pub put_piece-requires-clause-laid : goal.put_piece-requires-clause-laid
-put_piece-requires-clause-laid c = (opens_masked c.args.sentinel c.args.dest.now c.args.at.code_at c.args.at.len c.requires.holds.laid (omega arith) c.if-at.true c.requires.holds.goes_on).0
+pub put_run-requires-clause-laid : goal.put_run-requires-clause-laid
+put_run-requires-clause-laid c = (opens_masked c.args.sentinel c.args.dest.now c.args.at.code_at c.args.at.len c.requires.holds.laid (omega arith) c.if-at.true c.requires.holds.goes_on).0
 
-pub put_piece-requires-clause-room : goal.put_piece-requires-clause-room
-put_piece-requires-clause-room c = omega (arith, length-take c.min-n.result c.args.bytes.now, length-set c.args.dest.now c.args.at.len (bit_xor c.args.sentinel 1))
+pub put_run-requires-clause-room : goal.put_run-requires-clause-room
+put_run-requires-clause-room c = omega (arith, length-take c.min-n.result c.args.bytes.now, length-set c.args.dest.now c.args.at.len (bit_xor c.args.sentinel 1))
 
-pub put_piece-requires-clause-short : goal.put_piece-requires-clause-short
-put_piece-requires-clause-short c = omega (arith, length-take c.min-n.result c.args.bytes.now)
+pub put_run-requires-clause-short : goal.put_run-requires-clause-short
+put_run-requires-clause-short c = omega (arith, length-take c.min-n.result c.args.bytes.now)

@@ -1,5 +1,5 @@
-use Rattle.link.proofs.OneAnswers.{one_tree}
-use Rattle.link.proofs.Roads.{same_by_accumulator}
+use Rattle.link.specs.OneAnswers.{one_tree}
+use Rattle.link.specs.RoadLaws.{same_by_accumulator}
 use Rattle.link.proofs.gathering.gathered_alike.Goals as goal
 
 pub returns : goal.returns

@@ -46,7 +46,7 @@ use Rattle.postcard_de.specs.contracts.deserialize.Deserialize.TheBound as bound
 use Rattle.postcard_de.specs.contracts.de_flavors.RefSliceU8Bytes.TheImpl as shared
 use Rattle.cobs.specs.Sentinel.{masked}
 use Rattle.cobs.specs.Whole.{unpadded}
-use Rattle.link.specs.InPlace.{ReadsNext, KeptIfCut}
+use Rattle.link.specs.InPlace.{ReadsNext, KeptUnlessEnded}
 use Rattle.link.proofs.Nexts.{zero_reads, zero_blank}
 use Rattle.link.specs.contracts.receiver.Answer.{the_row as Answer}
 use Rattle.link.proofs.receiver.Answer.TheLaws.{the_row_laws as answer_laws}
@@ -122,7 +122,7 @@ read_in_place_spec 𝓤 𝓛 𝓜 𝓡 wired T L gd dd gr dr dx P met_d met_r me
     (and_then ! (get ! refl) (and_then ! (get ! refl) (and_then ! (lit ! tt) (no_more !)))) (λ u.
     use1 𝓛 (later (some (λ (r : Res.Denot). ((t₀ ⊛ t₁ ⊛ ‵ ftrue) ⊛ ‵ (Res.own_val r (u ∷ []))) ⊛
     some (λ (ls : Lasts E₁ z₁.0.0 z₁.0.3). ‵ (lasts E₁ z₁.0.0 z₁.0.3 ls) ⊛ raw (fact 𝓤 (IfSome r (λ q. ReadsNext gr.takes gr.reads (unpadded (masked 0 me.now)) q.0 (masked 0 q.1.now))))
-    ⊛ raw (fact 𝓤 (IfNone r (unpadded (masked 0 me.now) ≡ []))) ⊛ raw (fact 𝓤 (IfSome r (λ q. OnErr q.0 (gr.growing ≡ true)))) ⊛ ‵ (KeptIfCut me r))))) (id⊢ 𝓤 _) $
+    ⊛ raw (fact 𝓤 (IfNone r (unpadded (masked 0 me.now) ≡ []))) ⊛ raw (fact 𝓤 (IfSome r (λ q. OnErr q.0 (gr.growing ≡ true)))) ⊛ ‵ (KeptUnlessEnded me r))))) (id⊢ 𝓤 _) $
     await ! tt $ pick ! (λ r. split ! $ move ! (1 ∷ []) $ pick ! (λ ls. split ! $ drop ! $ split ! $ heard ! _ (λ some'. split ! $ heard ! _ (λ none'. split ! $ heard ! _ (λ memory.
     move ! (1 ∷ []) $ split ! $ move ! (1 ∷ []) $
     -- [the answer; the tokens; what is lent]

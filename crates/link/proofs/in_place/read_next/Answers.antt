@@ -1,6 +1,9 @@
-use Rattle.std.proofs.Common.{sym, refl, ◌∙◌}
+use Rattle.std.proofs.Common.{refl, subst}
+use Rattle.link.specs.InPlace.{IsNext}
 use Rattle.link.proofs.Nexts.{line_some}
 use Rattle.link.proofs.in_place.read_next.Goals as goal
 
 pub read_stretch-requires : goal.read_stretch-requires
-read_stretch-requires g c κs = ((refl, tt), line_some c.args.sentinel _ c.in-Some.front.now _ c.split_at_mut-ended.ensures.back c.leading_sentinels-leading.ensures.rest (sym c.if-is_empty.false ∙ c.is_empty.ensures))
+read_stretch-requires g c κs =
+    let cut = subst (λ p. IsNext c.args.sentinel c.args.end c.requires.0 p) c.in-Some.is c.requires.1 in
+    ((refl, tt), line_some c.args.sentinel _ _ c.in-Some.front.now _ _ cut c.split_at_mut-ended.ensures.back c.leading_sentinels-leading.ensures.rest)

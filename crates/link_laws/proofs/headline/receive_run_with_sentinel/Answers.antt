@@ -6,13 +6,13 @@ use Rattle.link.specs.Stream.{Answers}
 use Rattle.link.specs.Pushes.{Matches}
 use Rattle.link.specs.Run.{line}
 use Rattle.link.specs.Listening.{HasAnswered, HasRead, IsReceived}
-use Rattle.link_laws.proofs.Fully.{all_read}
+use Rattle.link_laws.specs.Sessions.{all_read}
 use Rattle.link_laws.proofs.headline.receive_run_with_sentinel.Goals as goal
 
 pub returns : goal.returns
 returns g c run d comes ends =
     let s = c.args.sentinel in
-    let h = c.receive_with_sentinel.ensures in
+    let h = c.receive_with_sentinel.ensures.received in
     let read = subst (λ e. HasRead (g.R.Inlet.to_come c.args.reader) (g.R.Inlet.to_come c.receive_with_sentinel.result.reader) (g.R.Inlet.faults c.args.reader) (g.R.Inlet.faults c.receive_with_sentinel.result.reader) (g.R.Inlet.calls_left c.receive_with_sentinel.result.reader) e h.0) ends h.1 in
     let answered : HasAnswered (Holds g.T.Readable.takes) g.T.Readable.reads g.row.N s c.receive_with_sentinel.result.answers.items h.0 = subst (λ e. IsReceived (Holds g.T.Readable.takes) g.T.Readable.reads g.row.N s e c.receive_with_sentinel.result.answers.items h.0) ends h.2 in
     let gave = subst (λ o. Gave o (g.R.Inlet.to_come c.receive_with_sentinel.result.reader) (g.R.Inlet.faults c.args.reader) (g.R.Inlet.faults c.receive_with_sentinel.result.reader) h.0) comes read.0 in

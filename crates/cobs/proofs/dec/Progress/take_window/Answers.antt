@@ -43,26 +43,26 @@ returns-then-ones-gt0-clause-front c p s =
 -- up to a sentinel
 pub decode_window-self-requires-clause-nonzero : goal.decode_window-self-requires-clause-nonzero
 decode_window-self-requires-clause-nonzero c =
-    let n = c.before_sentinel-n.result in
+    let n = c.before_by_call-n.result in
     let most = c.min.result in
     let piece = c.args.piece.now in
     let inside : most ≤ length piece = omega arith in
-    let few : n ≤ most = omega (arith, length-take-le most piece inside, c.before_sentinel-n.ensures.within) in
-    nonzero_bytes c.args.sentinel n most piece inside few c.before_sentinel-n.ensures.none
+    let few : n ≤ most = omega (arith, length-take-le most piece inside, c.before_by_call-n.ensures.within) in
+    nonzero_bytes c.args.sentinel n most piece inside few c.before_by_call-n.ensures.none
 
 pub returns-after-left-eq0-clause-front : goal.returns-after-left-eq0-clause-front
 returns-after-left-eq0-clause-front c p s =
-    let n = c.before_sentinel-n.result in
+    let n = c.before_by_call-n.result in
     let most = c.min.result in
     let key = c.args.sentinel in
     let piece = c.args.piece.now in
     let left = c.in-Grab.left in
     let at = at_grab p left (sym c.in-Grab.is ∙ s.state) in
     let inside : most ≤ length piece = omega arith in
-    let few : n ≤ most = omega (arith, length-take-le most piece inside, c.before_sentinel-n.ensures.within) in
+    let few : n ≤ most = omega (arith, length-take-le most piece inside, c.before_by_call-n.ensures.within) in
     let within : n ≤ length piece = omega arith in
     let same : take n (masked key piece) ≡ masked key (take n piece) = masked_take key n piece in
-    let bytes = nonzero_bytes key n most piece inside few c.before_sentinel-n.ensures.none in
+    let bytes = nonzero_bytes key n most piece inside few c.before_by_call-n.ensures.none in
     let nonzero : (j : ℕ) → j < n → 0 < get_or (take n (masked key piece)) j 0 = λ j l. rw same (bytes j (omega (arith, l, length-take-le n piece within))) in
     front_written p (masked key piece) c.args.buffer.now c.decode_window-self.new.out _ c.args.self.now n left true c.decode_window-self.result s at.0 at.1
     (omega (arith, within, masked_length key piece)) nonzero (omega arith) (omega arith) (omega arith)
@@ -71,16 +71,16 @@ returns-after-left-eq0-clause-front c p s =
 
 pub returns-in-GrabChain-clause-front : goal.returns-in-GrabChain-clause-front
 returns-in-GrabChain-clause-front c p s =
-    let n = c.before_sentinel-n-in-GrabChain.result in
+    let n = c.before_by_call-n-in-GrabChain.result in
     let most = c.min-in-GrabChain.result in
     let key = c.args.sentinel in
     let piece = c.args.piece.now in
     let left = c.in-GrabChain.left in
     let at = at_chain p left (sym c.in-GrabChain.is ∙ s.state) in
     let inside : most ≤ length piece = omega arith in
-    let few : n ≤ most = omega (arith, length-take-le most piece inside, c.before_sentinel-n-in-GrabChain.ensures.within) in
+    let few : n ≤ most = omega (arith, length-take-le most piece inside, c.before_by_call-n-in-GrabChain.ensures.within) in
     run_written p (masked key piece) c.args.buffer.now _ c.args.self.now n most left _ _ s at.0 at.1
-    (omega (arith, inside, masked_length key piece)) few (nonzero_front key n most piece inside few c.before_sentinel-n-in-GrabChain.ensures.none) (omega arith) (omega arith) (omega arith) (omega arith)
+    (omega (arith, inside, masked_length key piece)) few (nonzero_front key n most piece inside few c.before_by_call-n-in-GrabChain.ensures.none) (omega arith) (omega arith) (omega arith) (omega arith)
     (part_written c.args.buffer.now c.copy.new.out c.args.self.now.len _ (omega arith)
     ∙ ap (λ m. written_over c.args.self.now.len m c.args.buffer.now) (c.copy.ensures ∙ sym (masked_take key n piece) ∙ sym (take-take n most (masked key piece) few)))
     refl

@@ -16,7 +16,7 @@ returns-then-run-left-clause-runs g c limit s b z i =
       sentinel_is = i.sentinel_is;
       state = (
         refl,
-        has_nothing limit s _ (ap length c.forget.ensures.buffer ∙ k.2.room) (c.forget.ensures.sentinel ∙ k.2.sentinel) k.2.byte c.forget.ensures.idle,
+        has_nothing limit s _ (ap length c.reset.ensures.buffer ∙ k.2.room) (c.reset.ensures.sentinel ∙ k.2.sentinel) k.2.byte c.reset.ensures.idle,
       );
     }
 
@@ -30,6 +30,6 @@ returns-clause-runs g c limit s b z i =
       sentinel_is = i.sentinel_is;
       state = (
         c.if-self.false,
-        has_run limit s _ _ _ k.0 c.args.run.now _ k.2 c.shorter.ensures z (nonzero_bytes s c.args.run.now k.2.byte z (λ n. (c.type_inv.run n).fits)) count c.decode_bytes.ensures.takes c.decode_bytes.ensures.sentinel,
+        has_run limit s _ _ _ k.0 c.args.run.now _ k.2 c.shorter.ensures z (nonzero_bytes s c.args.run.now k.2.byte z (λ n. (c.type_inv.run n).fits)) count c.push.ensures.takes c.push.ensures.sentinel,
       );
     }

@@ -15,7 +15,7 @@ use denote.Slice.{MutSlice, mut_slice_vals, mut_slice_Tells}
 use denote.Steps.{nothing}
 use denote.Struct.Tuple.{Tuple}
 use denote.Triple.Walked.{Stays, stay_dropped, ends_at, walk_of, Goes-spent_slice}
-use Rattle.spans.proofs.MemoryValues.{start_val, start_own, start_made, mark_val, mark_own, mark_made, pair_of, pair_val, says_three}
+use Rattle.spans.proofs.MemoryValues.{start_val, start_own, start_made, mark_val, mark_own, mark_made, pair_of, pair_val, says_four}
 use Rattle.spans.specs.contracts.memory.Start as S
 use Rattle.spans.specs.contracts.memory.Memory as M'
 use Rattle.spans.specs.contracts.memory.Writable as W'
@@ -48,7 +48,7 @@ of_spec 𝓤 𝓛 𝓜 𝓡 wired =
     let p = block_ptr b o in
     let m : (M'.the_row (record { mir = named 0; lft = κ }) W'.the_row wa.ghosts).Denot = record { mark = record {}; place = (b, o); name = s.ghost_name; bytes = s.now } in
     let t : (S.the_row).Denot = record { at = p } in
-    suffices ! _ (ends_at 𝓛 f.ended stayed c y (pair_val (start_val p) mark_val) (t, m) (tt, tt) (tt, tt)) $ says_three ! refl refl refl $
+    suffices ! _ (ends_at 𝓛 f.ended stayed c y (pair_val (start_val p) mark_val) (t, m) (tt, tt) (tt, tt)) $ says_four ! refl refl refl refl $
     use0 𝓛 (‵ (mark_own (mark_val ∷ []))) (mark_made 𝓛) $ fjoin ! $ use0 𝓛 (‵ (start_own p (start_val p ∷ []))) (start_made 𝓛 p) $
     let Mr = M'.the_row (record { mir = named 0; lft = κ }) W'.the_row wa.ghosts in
     use2 𝓛 (‵ ((Tuple (S.the_row ∷ Mr ∷ [])).own_val (t, m) (pair_val (start_val p) mark_val ∷ []))) (pair_of 𝓛 S.the_row Mr t m (start_val p) mark_val) $

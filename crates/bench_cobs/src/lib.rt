@@ -1,0 +1,199 @@
+//! The calls of `cobs` as C functions, for the benchmark in `bench/`.
+#![tactic(auto)]
+
+ghost use Rattle.std.specs.Prelude.{◌≡◌, ◌<◌, length, take, true, false, MatchResult};
+ghost use Rattle.cobs.specs.Frames.{shortest_frame, part};
+ghost use Rattle.cobs.specs.InPlace.{stretch, in_place, in_place_length, overwritten};
+ghost use Rattle.cobs.specs.Reports.{frame_size};
+ghost use Rattle.cobs.specs.Sentinel.{masked, frame_for};
+ghost use Rattle.cobs.specs.Whole.{frame_in, decoded_from, decoded_into};
+
+use cobs::{CobsDecoder, CobsEncoder};
+
+/// What a call answers: whether it was done, and how many bytes it gave; 0 where it wasn't.
+#[repr(C)]
+#[derive(Clone, Copy)]
+pub struct Answer {
+    pub done: bool,
+    pub count: usize,
+}
+
+/// As `cobs::try_encode`.
+#[unsafe(no_mangle)]
+pub extern "C" fn cobs_c_try_encode(source: &[u8], dest: &mut [u8]) -> Answer
+    ensures count { result.done ≡ true → result.count ≡ length (shortest_frame source.now) }
+    ensures frame { result.done ≡ true → take result.count dest.new ≡ shortest_frame source.now }
+    ensures too_small { result.done ≡ false → length dest.old < length (shortest_frame source.now) }
+    ensures unchanged { result.done ≡ false → dest.new ≡ dest.old }
+{
+    match cobs::try_encode(source, dest) {
+        Ok(count) => Answer { done: true, count },
+        Err(_) => Answer {
+            done: false,
+            count: 0,
+        },
+    }
+}
+
+/// A message in one push of a `cobs::CobsEncoder`, and its end. The caller owes that `dest` isn't empty.
+#[unsafe(no_mangle)]
+pub extern "C" fn cobs_c_push(source: &[u8], dest: &mut [u8]) -> Answer
+    requires { 0 < length dest.old }
+    ensures count { result.done ≡ true → result.count ≡ length (shortest_frame source.now) }
+    ensures frame { result.done ≡ true → take result.count dest.new ≡ shortest_frame source.now }
+    ensures too_small { result.done ≡ false → length dest.old < length (shortest_frame source.now) }
+{
+    let mut encoder = CobsEncoder::new(dest);
+    match encoder.push(source) {
+        Ok(()) => Answer {
+            done: true,
+            count: encoder.finalize(),
+        },
+        Err(_) => Answer {
+            done: false,
+            count: 0,
+        },
+    }
+}
+
+/// As `cobs::decode`, with the length of the message alone.
+#[unsafe(no_mangle)]
+pub extern "C" fn cobs_c_decode(source: &[u8], dest: &mut [u8]) -> Answer
+    ensures answer { MatchResult (decoded_from (length dest.old) source.now) (λ r. (result.done ≡ true) × (result.count ≡ frame_size r))
+        (λ _. result.done ≡ false) }
+    ensures dest { dest.new ≡ overwritten (part (frame_in source.now)) dest.old }
+{
+    match cobs::decode(source, dest) {
+        Ok(report) => Answer {
+            done: true,
+            count: report.frame_size(),
+        },
+        Err(_) => Answer {
+            done: false,
+            count: 0,
+        },
+    }
+}
+
+/// As `cobs::decode_in_place`.
+#[unsafe(no_mangle)]
+pub extern "C" fn cobs_c_decode_in_place(buf: &mut [u8]) -> Answer
+    ensures answer { MatchResult (in_place_length (stretch buf.old)) (λ n. (result.done ≡ true) × (result.count ≡ n))
+        (λ _. result.done ≡ false) }
+    ensures buffer { buf.new ≡ overwritten (part (stretch buf.old)) buf.old }
+{
+    match cobs::decode_in_place(buf) {
+        Ok(count) => Answer { done: true, count },
+        Err(_) => Answer {
+            done: false,
+            count: 0,
+        },
+    }
+}
+
+/// A message in one push of a `cobs::CobsEncoder` for a sentinel, and its end. The caller owes that `dest` isn't empty.
+#[unsafe(no_mangle)]
+pub extern "C" fn cobs_c_push_with_sentinel(source: &[u8], dest: &mut [u8], sentinel: u8) -> Answer
+    requires { 0 < length dest.old }
+    ensures count { result.done ≡ true → result.count ≡ length (shortest_frame source.now) }
+    ensures frame { result.done ≡ true → take result.count dest.new ≡ frame_for sentinel source.now }
+    ensures too_small { result.done ≡ false → length dest.old < length (shortest_frame source.now) }
+{
+    let mut encoder = CobsEncoder::new_with_sentinel(dest, sentinel);
+    match encoder.push(source) {
+        Ok(()) => Answer {
+            done: true,
+            count: encoder.finalize(),
+        },
+        Err(_) => Answer {
+            done: false,
+            count: 0,
+        },
+    }
+}
+
+/// As `cobs::decode_with_sentinel`.
+#[unsafe(no_mangle)]
+pub extern "C" fn cobs_c_decode_with_sentinel(
+    source: &[u8],
+    dest: &mut [u8],
+    sentinel: u8,
+) -> Answer
+    ensures answer { MatchResult (decoded_into (length dest.old) (stretch (masked sentinel source.now)))
+        (λ n. (result.done ≡ true) × (result.count ≡ n)) (λ _. result.done ≡ false) }
+    ensures dest { dest.new ≡ overwritten (part (stretch (masked sentinel source.now))) dest.old }
+{
+    match cobs::decode_with_sentinel(source, dest, sentinel) {
+        Ok(count) => Answer { done: true, count },
+        Err(_) => Answer {
+            done: false,
+            count: 0,
+        },
+    }
+}
+
+/// As `cobs::decode_in_place_report_with_sentinel`, with the length of the message alone.
+#[unsafe(no_mangle)]
+pub extern "C" fn cobs_c_decode_in_place_with_sentinel(buf: &mut [u8], sentinel: u8) -> Answer
+    ensures answer { MatchResult (in_place (stretch (masked sentinel buf.old)))
+        (λ r. (result.done ≡ true) × (result.count ≡ frame_size r)) (λ _. result.done ≡ false) }
+    ensures buffer { buf.new ≡ overwritten (part (stretch (masked sentinel buf.old))) buf.old }
+{
+    match cobs::decode_in_place_report_with_sentinel(buf, sentinel) {
+        Ok(report) => Answer {
+            done: true,
+            count: report.frame_size(),
+        },
+        Err(_) => Answer {
+            done: false,
+            count: 0,
+        },
+    }
+}
+
+/// What was found in a stream: how many messages, how many refusals, and how many bytes the messages have.
+#[repr(C)]
+#[derive(Clone, Copy)]
+pub struct Found {
+    pub values: u64,
+    pub refused: u64,
+    pub sum: u64,
+}
+
+/// Pushes a piece, then the rest of it behind each message.
+fn push_piece(decoder: &mut CobsDecoder<'_>, piece: &[u8], found: &mut Found) {
+    let mut rest = piece;
+    for _ in 0..=piece.len() {
+        match decoder.push(rest) {
+            Ok(None) => return,
+            Ok(Some(report)) => {
+                found.values = found.values.wrapping_add(1);
+                found.sum = found.sum.wrapping_add(report.frame_size() as u64);
+                rest = &rest[report.parsed_size()..];
+            }
+            Err(_) => {
+                found.refused = found.refused.wrapping_add(1);
+                return;
+            }
+        }
+    }
+}
+
+/// Hands a stream in pieces of `piece` bytes to a `cobs::CobsDecoder` over 512 bytes, and counts what it answers. Nothing is
+/// found where `piece` is 0.
+#[unsafe(no_mangle)]
+pub extern "C" fn cobs_c_stream(stream: &[u8], piece: usize, found: &mut Found) {
+    let mut buffer = [0u8; 512];
+    let mut decoder = CobsDecoder::new(&mut buffer);
+    let mut counts = Found {
+        values: 0,
+        refused: 0,
+        sum: 0,
+    };
+    if piece > 0 {
+        for bytes in stream.chunks(piece) {
+            push_piece(&mut decoder, bytes, &mut counts);
+        }
+    }
+    *found = counts;
+}

@@ -1,0 +1,5 @@
+pub mod Replies
+pub mod Asking
+pub mod Refusing
+pub mod Unheard
+pub mod Rounds

@@ -1,0 +1,5 @@
+use Rattle.calls.specs.ServedLaws.{rises}
+use Rattle.calls.proofs.laws.executes_once.Goals as goal
+
+pub returns : goal.returns
+returns g c kept later qs log out h = rises kept later qs log out h

@@ -1,0 +1,6 @@
+pub mod Calls
+pub mod Places
+pub mod Serving
+pub mod ServedLaws
+pub mod Asking
+pub mod Waits

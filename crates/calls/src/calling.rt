@@ -1,0 +1,154 @@
+//! Calling, and calling again.
+ghost use Rattle.std.specs.Prelude.{◌≡◌, ℕ, ◌<◌, Some, None, false, MatchOption};
+ghost use Rattle.link.specs.declared.receiver.Answer.TheVariants.{Value};
+ghost use Rattle.link.specs.Senders.{writer_of, clean_of, sentinel_of};
+ghost use Rattle.calls.specs.Places.{place_of, HasSaid};
+ghost use Rattle.calls.specs.Asking.{asker_of, sender_of, number_of, stepped, ends, IsCalled, IsRepeated};
+
+use crate::client::{CallError, Client};
+use crate::saying::say;
+use line_io::Outlet;
+use link::{Answer, Sender};
+use postcard::Serialize;
+
+impl<W: Outlet, Q: Serialize + Drop, const N: usize> Client<W, Q, N> {
+    /// A client whose first call has this number, which is to be above those of all clients before it. Its requests go out as frames
+    /// of at most N bytes between zeros. The caller owes that N is at least 1.
+    pub fn new(writer: W, first: u64) -> Client<W, Q, N>
+        requires { 0 < N }
+        ensures asker { asker_of result ≡ record { next = first; pending = None } }
+        ensures writer { writer_of (sender_of result) ≡ writer }
+        ensures clean { clean_of (sender_of result) ≡ false }
+        ensures sentinel { sentinel_of (sender_of result) ≡ 0 }
+    {
+        Client::new_with_sentinel(writer, first, 0)
+    }
+
+    /// The same with a sentinel in place of zero.
+    pub fn new_with_sentinel(writer: W, first: u64, sentinel: u8) -> Client<W, Q, N>
+        requires { 0 < N }
+        ensures asker { asker_of result ≡ record { next = first; pending = None } }
+        ensures writer { writer_of (sender_of result) ≡ writer }
+        ensures clean { clean_of (sender_of result) ≡ false }
+        ensures sentinel { sentinel_of (sender_of result) ≡ sentinel }
+    {
+        Client {
+            sender: Sender::new_with_sentinel(writer, sentinel),
+            next: first,
+            pending: None,
+        }
+    }
+
+    /// The number of the next call, where one is left.
+    pub fn next(&self) -> u64
+        ensures { result ≡ (asker_of self.now).next }
+    {
+        self.next
+    }
+
+    /// The number of the call that is pending.
+    pub fn pending(&self) -> Option<u64>
+        ensures { result ≡ number_of (asker_of self.now).pending }
+    {
+        match &self.pending {
+            Some(pending) => Some(pending.0),
+            None => None,
+        }
+    }
+
+    /// Calls, with a new number, in place of a call that is pending: no reply to that one is taken then.
+    ///
+    /// At `Unsent` the call is pending all the same: the server may have heard it, and `again` sends it again. At `Full` nothing
+    /// was sent and nothing has changed: the greatest u64 is no call's number.
+    pub fn call(&mut self, request: Q) -> Result<(), CallError>
+        ensures called { IsCalled (asker_of self.old) (asker_of self.new) request result (sender_of self.new ≡ sender_of self.old)
+            (λ p r. HasSaid N (⟦<(u64, Q) as Serialize>⟧.writes p) (⟦<(u64, Q) as Serialize>⟧.valid p)
+            (place_of W.written W.faults W.calls_left (sender_of self.old)) (place_of W.written W.faults W.calls_left (sender_of self.new)) r) }
+    {
+        if self.next == u64::MAX {
+            return Err(CallError::Full);
+        }
+        let pending = (self.next, request);
+        let sent = say(&mut self.sender, &pending);
+        self.next += 1;
+        self.pending = Some(pending);
+        match sent {
+            Ok(()) => Ok(()),
+            Err(error) => Err(CallError::Unsent(error)),
+        }
+    }
+
+    /// Sends the pending call again, with its number.
+    pub fn again(&mut self) -> Result<(), CallError>
+        ensures repeated { IsRepeated (asker_of self.old) (asker_of self.new) result (sender_of self.new ≡ sender_of self.old)
+            (λ p r. HasSaid N (⟦<(u64, Q) as Serialize>⟧.writes p) (⟦<(u64, Q) as Serialize>⟧.valid p)
+            (place_of W.written W.faults W.calls_left (sender_of self.old)) (place_of W.written W.faults W.calls_left (sender_of self.new)) r) }
+    {
+        match &self.pending {
+            None => Err(CallError::Idle),
+            Some(pending) => match say(&mut self.sender, pending) {
+                Ok(()) => Ok(()),
+                Err(error) => Err(CallError::Unsent(error)),
+            },
+        }
+    }
+
+    /// Takes an answer of the line: what is said to the pending call, which is then over. Anything else changes nothing.
+    pub fn hear<R: Drop>(&mut self, answer: Answer<(u64, R)>) -> Option<R>
+        ensures accepts { MatchOption result (asker_of self.new ≡ asker_of self.old)
+            (λ said. (n : ℕ) × (q : Q) × ((asker_of self.old).pending ≡ Some (n, q)) × (answer ≡ Value (n, said)) × (asker_of self.new ≡ stepped (asker_of self.old) ends)) }
+        ensures taken { (n : ℕ) (q : Q) (said : R) → (asker_of self.old).pending ≡ Some (n, q) → answer ≡ Value (n, said) → result ≡ Some said }
+        ensures sender { sender_of self.new ≡ sender_of self.old }
+    {
+        let Some(pending) = &self.pending else {
+            return None;
+        };
+        let Answer::Value((number, said)) = answer else {
+            return None;
+        };
+        if number != pending.0 {
+            return None;
+        }
+        self.pending = None;
+        Some(said)
+    }
+
+    /// Gives the pending call up: no reply to it is taken then.
+    pub fn give_up(&mut self)
+        ensures asker { asker_of self.new ≡ stepped (asker_of self.old) ends }
+        ensures sender { sender_of self.new ≡ sender_of self.old }
+    {
+        self.pending = None;
+    }
+
+    /// What it writes to.
+    pub fn get_ref(&self) -> &W
+        ensures { result.now ≡ writer_of (sender_of self.now) }
+    {
+        self.sender.get_ref()
+    }
+
+    /// Puts another writer in the place of the one that it writes to, as after a line that broke, and gives that one, after all its
+    /// writes. The pending call stays, and `again` sends it over the new one. What comes is to stand behind what went before.
+    pub fn replace_inner(&mut self, writer: W) -> W
+        ensures before { result ≡ writer_of (sender_of self.old) }
+        ensures writer { writer_of (sender_of self.new) ≡ writer }
+        ensures clean { clean_of (sender_of self.new) ≡ clean_of (sender_of self.old) }
+        ensures sentinel { sentinel_of (sender_of self.new) ≡ sentinel_of (sender_of self.old) }
+        ensures asker { asker_of self.new ≡ asker_of self.old }
+    {
+        self.sender.replace_inner(writer)
+    }
+
+    /// What it writes to, after all its writes.
+    pub fn into_inner(self) -> W
+        ensures { result ≡ writer_of (sender_of self) }
+    {
+        let Client {
+            sender,
+            next: _,
+            pending: _,
+        } = self;
+        sender.into_inner()
+    }
+}

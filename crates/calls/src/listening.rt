@@ -1,0 +1,59 @@
+//! Reading until a hearer has had enough.
+ghost use Rattle.std.specs.Prelude.{◌≡◌, ℕ, List, ◌++◌, None, true};
+ghost use Rattle.postcard.specs.Frames.{Holds};
+ghost use Rattle.link.specs.Stream.{HoldsExactly};
+ghost use Rattle.link.specs.Receivers.{SameTerms};
+ghost use Rattle.link.specs.Listening.{Hears};
+ghost use Rattle.link.specs.Each.{Handed, IsHeardNow, HasReadNow};
+ghost use Rattle.link.specs.declared.receiver.Answer.{Answer};
+
+use line_io::Inlet;
+use link::{Answer, Decoding, End, Hearer, Reception};
+use postcard::{DeserializeOwned, Exact};
+use std::alloc::Global;
+
+// Listens until the hearer has had enough, or the reading ended.
+pub(crate) fn listen_until<T: DeserializeOwned, R: Inlet, D: Decoding, H: Hearer<T>>(
+    alloc: Global,
+    receiver: &mut Reception<D>,
+    reader: &mut R,
+    hearer: &mut H,
+) -> Option<End>
+    ensures heard { (limit s : ℕ) (stream : List ℕ) (given : List (Answer T)) → Hears D.inside (Holds T.takes) T.reads limit s receiver.old given stream
+        → (bytes : List ℕ) × HasReadNow (R.to_come reader.old) (R.to_come reader.new) (R.faults reader.old) (R.faults reader.new) (R.calls_left reader.new) result bytes
+        × Handed H.hears hearer.old hearer.new (λ more. IsHeardNow D.inside (Holds T.takes) T.reads limit s result receiver.new (given ++ more) (stream ++ bytes)) }
+    ensures enough { result ≡ None → H.enough hearer.new ≡ true }
+    ensures same { SameTerms D.inside receiver.old receiver.new }
+{
+    loop {
+        if hearer.has_enough() {
+            return None;
+        }
+        if let Some(end) = receiver.listen::<T, R, H>(alloc, reader, hearer) {
+            return Some(end);
+        }
+    }
+}
+
+// The same by what sending makes alone.
+pub(crate) fn listen_until_strict<T: DeserializeOwned + Exact, R: Inlet, D: Decoding, H: Hearer<T>>(
+    alloc: Global,
+    receiver: &mut Reception<D>,
+    reader: &mut R,
+    hearer: &mut H,
+) -> Option<End>
+    ensures heard { (limit s : ℕ) (stream : List ℕ) (given : List (Answer T)) → Hears D.inside (HoldsExactly T.takes) T.reads limit s receiver.old given stream
+        → (bytes : List ℕ) × HasReadNow (R.to_come reader.old) (R.to_come reader.new) (R.faults reader.old) (R.faults reader.new) (R.calls_left reader.new) result bytes
+        × Handed H.hears hearer.old hearer.new (λ more. IsHeardNow D.inside (HoldsExactly T.takes) T.reads limit s result receiver.new (given ++ more) (stream ++ bytes)) }
+    ensures enough { result ≡ None → H.enough hearer.new ≡ true }
+    ensures same { SameTerms D.inside receiver.old receiver.new }
+{
+    loop {
+        if hearer.has_enough() {
+            return None;
+        }
+        if let Some(end) = receiver.listen_strict::<T, R, H>(alloc, reader, hearer) {
+            return Some(end);
+        }
+    }
+}

@@ -1,0 +1,35 @@
+-- What a reply says that came over two lines.
+use Rattle.std.specs.Prelude.{◌≡◌, ℕ, List, Option, None}
+use Rattle.postcard_tree.specs.Tree.{Tree}
+use Rattle.link.specs.Run.{Send, IsRun, line}
+use Rattle.link.specs.Listening.{HasAnswered}
+use Rattle.link_laws.specs.Values.{runs_of, AreSends, values_sent}
+use Rattle.calls.specs.Calls.{Execution, ServesAll, Rises, In, OnePerNumber}
+use Rattle.calls.specs.Serving.{requests_of}
+use Rattle.link.specs.declared.receiver.Answer.{Answer}
+
+-- Values of a type went over a line: senders left the line of this run of them, each send perhaps broken off at any byte, and these
+-- are the answers of a receiver that was given that line.
+pub record WentOver {V : Type 0} (takes : Tree → Type 0) (holds : List ℕ → Tree → Type 0) (reads : Tree → V → Type 0) (writes : V → Option Tree) (valid : V → Type 0) (limit s : ℕ) (run : List (List (V × Send))) (answers : List (Answer V)) : Type 0 where
+  pub is : IsRun takes limit s (runs_of run)
+  pub of : AreSends writes valid run
+  pub answered : HasAnswered holds reads limit s answers (line s (runs_of run))
+
+-- By this number, one request was executed, once, alike the one that was called, and what was said then is alike the reply.
+pub record WasExecuted {Q R : Type 0} (alike_asked : Q → Q → Type 0) (alike_said : R → R → Type 0) (log : List (Execution Q R)) (n : ℕ) (asked : Q) (taken : R) : Type 0 where
+  pub call : Execution Q R
+  pub executed : In call log
+  pub numbered : call.number ≡ n
+  pub asks_alike : alike_asked asked call.asks
+  pub says_alike : alike_said call.says taken
+  pub once : Rises 0 log
+
+-- Requests go over a line to a new server, and its replies over another one: a reply to a call's number is what was said when that
+-- call was executed.
+abbrev pub RepliesAreRight : {Q R : Type 0} → (Q → Q → Type 0) → (R → R → Type 0) → (ℕ → ℕ → List (List ((ℕ × Q) × Send)) → List (Answer (ℕ × Q)) → Type 0) → (ℕ → ℕ → List (List ((ℕ × R) × Send)) → List (Answer (ℕ × R)) → Type 0) → Type 0
+RepliesAreRight {Q} {R} alike_asked alike_said asked_over said_over =
+    (limit s limit' s' : ℕ) (asked : List (List ((ℕ × Q) × Send))) (said : List (List ((ℕ × R) × Send))) (heard : List (Answer (ℕ × Q))) (answers : List (Answer (ℕ × R)))
+    (log : List (Execution Q R)) (out : List (ℕ × R)) (later : Option (ℕ × R)) (n : ℕ) (q : Q) (r : R)
+    → asked_over limit s asked heard → ServesAll None (requests_of heard) log out later → said_over limit' s' said answers → values_sent said ≡ out
+    → OnePerNumber (values_sent asked) → In (n, q) (values_sent asked) → In (n, r) (requests_of answers)
+    → WasExecuted alike_asked alike_said log n q r

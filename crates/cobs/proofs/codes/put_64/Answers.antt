@@ -1,0 +1,14 @@
+use Rattle.std.proofs.Common.{arith}
+use Rattle.cobs.proofs.Masking.{masked_zero}
+use Rattle.cobs.proofs.Stepping.{stepped, stepped_clear}
+use Rattle.cobs.proofs.codes.put_64.Goals as goal
+
+pub returns-then-is_clear : goal.returns-then-is_clear
+returns-then-is_clear c =
+    stepped_clear c.args.sentinel c.args.dest.now c.copy_64.new.buffer c.args.bytes.now c.args.code_at c.args.from (omega (arith, c.requires.long)) c.requires.block.begins c.requires.block.short c.requires.block.within
+    c.copy_64.ensures (λ k l. rw (masked_zero c.args.bytes.now) at (c.is_clear.ensures c.if-is_clear.true k (omega (arith, l, c.requires.long))))
+
+pub returns-else-is_clear : goal.returns-else-is_clear
+returns-else-is_clear c =
+    stepped c.args.sentinel c.args.dest.now c.copy_64.new.buffer _ c.args.bytes.now c.args.code_at c.args.from c.put_codes_of_64.result (omega (arith, c.requires.long)) c.requires.block.short c.requires.block.within
+    c.copy_64.ensures c.put_codes_of_64.ensures

@@ -1,0 +1,16 @@
+use Rattle.std.proofs.Common.{◌≡◌, ℕ, List, ◌+◌, ◌<◌, ◌≤◌, ◌++◌, length}
+use Rattle.cobs.specs.Codes.{Open}
+use Rattle.cobs.specs.Sentinel.{masked}
+use Rattle.cobs.proofs.codes.put_bytes.Given as goal
+
+abbrev pub invariant-loop-rest : goal.invariant-loop-rest
+invariant-loop-rest l = record {
+  later : l.fn.code_at ≤ l.code;
+  begins : l.code < l.at;
+  end : l.at + length l.rest ≡ l.fn.from + length l.fn.bytes;
+  some : 0 < length l.rest;
+  whole : (front : List ℕ) × (l.fn.bytes ≡ front ++ l.rest) × ((m : List ℕ) → Open (masked l.sentinel l.fn.dest) l.fn.code_at l.fn.from m → Open (masked l.sentinel l.dest) l.code l.at (m ++ front));
+}
+
+abbrev pub decreases-loop-rest : goal.decreases-loop-rest
+decreases-loop-rest l = length l.rest

@@ -1,0 +1,5 @@
+use Rattle.std.proofs.Common.{arith}
+use Rattle.cobs.proofs.codes.put_codes_of_marks.Goals as goal
+
+pub put_codes_of_zeros-requires-clause-zeros : goal.put_codes_of_zeros-requires-clause-zeros
+put_codes_of_zeros-requires-clause-zeros c = λ k l. c.requires.marks.zeros k (c.are_all_marked.ensures c.if-are_all_marked.true k l (omega (arith, l, c.requires.few)))

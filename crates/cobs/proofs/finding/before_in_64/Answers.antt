@@ -1,0 +1,6 @@
+use Rattle.std.proofs.Common.{arith}
+use Rattle.cobs.proofs.Sources.{clear_byte}
+use Rattle.cobs.proofs.finding.before_in_64.Goals as goal
+
+pub returns-then-is_clear-clause-none : goal.returns-then-is_clear-clause-none
+returns-then-is_clear-clause-none c = λ k l. clear_byte c.args.sentinel c.args.bytes.now k (omega (arith, l, c.requires)) (c.is_clear.ensures c.if-is_clear.true k l)

@@ -1,0 +1,20 @@
+use Rattle.std.proofs.Common.{◌≡◌, ◌≢◌, ◌<◌, ◌≤◌, ℕ, List, length, take, get_or, sym, ap, ◌∙◌}
+use Rattle.std.proofs.lemmas.List.{length-take-le}
+use Rattle.cobs.specs.InPlace.{stretch}
+use Rattle.cobs.specs.Sentinel.{masked}
+use Rattle.cobs.proofs.Masking.{masked_length}
+use Rattle.cobs.proofs.Sources.{stretch_front}
+use Rattle.cobs.proofs.finding.before_sentinel.Goals as goal
+
+counted : (sentinel : ℕ) (bytes : List ℕ) (n : ℕ) → n ≤ length bytes → ((k : ℕ) → k < n → get_or bytes k 0 ≢ sentinel) → (n < length bytes → get_or bytes n 0 ≡ sentinel) → n ≡ length (stretch (masked sentinel bytes))
+counted s bytes n w none end =
+    sym (length-take-le n bytes w) ∙ sym (masked_length s (take n bytes)) ∙ ap length (stretch_front s bytes n w none end)
+
+pub returns-then-bytes-lt8-clause-before : goal.returns-then-bytes-lt8-clause-before
+returns-then-bytes-lt8-clause-before c = counted c.args.sentinel c.args.bytes.now c.before_near.result c.before_near.ensures.within c.before_near.ensures.none c.before_near.ensures.end
+
+pub returns-then-bytes-le256-clause-before : goal.returns-then-bytes-le256-clause-before
+returns-then-bytes-le256-clause-before c = counted c.args.sentinel c.args.bytes.now c.before_by_64.result c.before_by_64.ensures.within c.before_by_64.ensures.none c.before_by_64.ensures.end
+
+pub returns-else-bytes-le256-clause-before : goal.returns-else-bytes-le256-clause-before
+returns-else-bytes-le256-clause-before c = counted c.args.sentinel c.args.bytes.now c.before_far.result c.before_far.ensures.within c.before_far.ensures.none c.before_far.ensures.end

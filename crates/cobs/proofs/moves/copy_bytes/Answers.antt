@@ -1,0 +1,22 @@
+use Rattle.std.proofs.Common.{◌≡◌, ◌+◌, length, take, set, get_or, ap, ◌∙◌, ◌∷◌, [], sym, arith}
+use Rattle.std.proofs.lemmas.List.{take_more, length-take-le}
+use Rattle.std.specs.Prelude.{bit_xor}
+use Rattle.cobs.specs.InPlace.{written_over}
+use Rattle.cobs.specs.Sentinel.{masked}
+use Rattle.cobs.proofs.Masking.{masked_length, masked_append}
+use Rattle.cobs.proofs.Windows.{written_next}
+use Rattle.cobs.proofs.moves.copy_bytes.Goals as goal
+
+pub loop-i-preserved : goal.loop-i-preserved
+loop-i-preserved c =
+    let s = c.args.sentinel in
+    let m = c.args.bytes.now in
+    let i = c.loop-i.i in
+    let old = c.args.buffer.now in
+    let done = masked s (take i m) in
+    let x = bit_xor s (get_or m i 0) in
+    let long : length done ≡ i = masked_length s (take i m) ∙ length-take-le i m (omega (arith, c.loop-i-test.true)) in
+    ap (λ b. set b (c.args.place + i) x) c.loop-i.invariant
+    ∙ ap (λ j. set (written_over c.args.place done old) j x) (omega (arith, long))
+    ∙ written_next done old c.args.place x (omega (arith, long, c.requires, c.loop-i-test.true))
+    ∙ ap (λ b. written_over c.args.place b old) (sym (ap (masked s) (take_more m i 0 c.loop-i-test.true) ∙ masked_append s (take i m) (get_or m i 0 ∷ [])))

@@ -1,0 +1,122 @@
+//! Where the first sentinel is: masks of 64 bytes tell it, and those of the last bytes.
+ghost use Rattle.std.specs.Prelude.{◌≡◌, ◌≢◌, ℕ, ◌<◌, ◌≤◌, length, slice_index};
+ghost use Rattle.cobs.specs.InPlace.{stretch};
+ghost use Rattle.cobs.specs.Sentinel.{masked};
+
+use crate::codes::lowest;
+use crate::moves::{is_clear, zeros_of};
+use memchr::memchr;
+
+// How many of 8 to 64 bytes come before the first sentinel.
+#[inline(always)]
+fn before_of_64(bytes: &[u8], sentinel: u8) -> usize
+    requires some { 8 ≤ length bytes.now }
+    requires few { length bytes.now ≤ 64 }
+    ensures within { result ≤ length bytes.now }
+    ensures none { (k : ℕ) → k < result → slice_index bytes.now k ≢ sentinel }
+    ensures end { result < length bytes.now → slice_index bytes.now result ≡ sentinel }
+{
+    let marks = zeros_of(bytes, sentinel);
+    if marks == 0 {
+        return bytes.len();
+    }
+    lowest(marks).0
+}
+
+// The same of 64 bytes, which seldom have one.
+#[inline(always)]
+fn before_in_64(bytes: &[u8], sentinel: u8) -> usize
+    requires { length bytes.now ≡ 64 }
+    ensures within { result ≤ length bytes.now }
+    ensures none { (k : ℕ) → k < result → slice_index bytes.now k ≢ sentinel }
+    ensures end { result < length bytes.now → slice_index bytes.now result ≡ sentinel }
+{
+    if is_clear(bytes, sentinel) {
+        64
+    } else {
+        before_of_64(bytes, sentinel)
+    }
+}
+
+// The same of few bytes.
+#[inline(always)]
+fn before_near(bytes: &[u8], sentinel: u8) -> usize
+    ensures within { result ≤ length bytes.now }
+    ensures none { (k : ℕ) → k < result → slice_index bytes.now k ≢ sentinel }
+    ensures end { result < length bytes.now → slice_index bytes.now result ≡ sentinel }
+{
+    for (end, byte) in bytes.iter().enumerate() {
+        if *byte == sentinel {
+            return end;
+        }
+    }
+    bytes.len()
+}
+
+// The same of 8 bytes and more, in steps of 64: of the last ones some may be looked at twice.
+#[inline(always)]
+fn before_by_64(bytes: &[u8], sentinel: u8) -> usize
+    requires { 8 ≤ length bytes.now }
+    ensures within { result ≤ length bytes.now }
+    ensures none { (k : ℕ) → k < result → slice_index bytes.now k ≢ sentinel }
+    ensures end { result < length bytes.now → slice_index bytes.now result ≡ sentinel }
+{
+    let mut at = 0;
+    while 64 <= bytes.len() - at {
+        let n = before_in_64(&bytes[at..at + 64], sentinel);
+        if n < 64 {
+            return at + n;
+        }
+        at += 64;
+    }
+    let from = at.min(bytes.len() - 8);
+    from + before_of_64(&bytes[from..], sentinel)
+}
+
+// The same of many bytes: behind the first ones a call is worth its cost.
+#[inline(always)]
+fn before_far(bytes: &[u8], sentinel: u8) -> usize
+    requires { 256 ≤ length bytes.now }
+    ensures within { result ≤ length bytes.now }
+    ensures none { (k : ℕ) → k < result → slice_index bytes.now k ≢ sentinel }
+    ensures end { result < length bytes.now → slice_index bytes.now result ≡ sentinel }
+{
+    let (front, rest) = bytes.split_at(256);
+    let n = before_by_64(front, sentinel);
+    if n < 256 {
+        return n;
+    }
+    256 + memchr(sentinel, rest).unwrap_or(rest.len())
+}
+
+/// How many bytes come before the first one that is the sentinel; all where none is.
+///
+/// ```
+/// assert_eq!(before_sentinel(&[3, 10, 11, 0, 12], 0), 3);
+/// ```
+#[inline(always)]
+pub fn before_sentinel(bytes: &[u8], sentinel: u8) -> usize
+    ensures before { result ≡ length (stretch (masked sentinel bytes.now)) }
+    ensures within { result ≤ length bytes.now }
+    ensures none { (k : ℕ) → k < result → slice_index bytes.now k ≢ sentinel }
+    ensures end { result < length bytes.now → slice_index bytes.now result ≡ sentinel }
+{
+    if bytes.len() < 8 {
+        before_near(bytes, sentinel)
+    } else if bytes.len() <= 256 {
+        before_by_64(bytes, sentinel)
+    } else {
+        before_far(bytes, sentinel)
+    }
+}
+
+// The same, and that a byte is below 256, which nothing else says of a buffer that is lent on.
+#[inline(always)]
+pub(crate) fn end_in(bytes: &[u8], sentinel: u8) -> usize
+    ensures within { result ≤ length bytes.now }
+    ensures none { (k : ℕ) → k < result → slice_index bytes.now k ≢ sentinel }
+    ensures end { result < length bytes.now → slice_index bytes.now result ≡ sentinel }
+    ensures bytes { (k : ℕ) → slice_index bytes.now k < 256 }
+{
+    before_sentinel(bytes, sentinel)
+}

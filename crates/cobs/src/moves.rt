@@ -1,0 +1,257 @@
+//! Bytes that are copied and moved by vectors, each XORed with the sentinel.
+//!
+//! Of as many bytes as one to two vectors have, one vector takes those in front and one those at the end.
+ghost use Rattle.std.specs.Prelude.{◌≡◌, ℕ, ◌+◌, ◌<◌, ◌≤◌, length, take, drop, slice_index, true, ◌^◌};
+ghost use Rattle.cobs.specs.Codes.{Marks};
+ghost use Rattle.cobs.specs.InPlace.{written_over};
+ghost use Rattle.cobs.specs.Sentinel.{masked};
+
+use std::simd::prelude::*;
+
+// The bytes from a place on.
+#[inline(always)]
+fn load<const W: usize>(bytes: &[u8], at: usize) -> Simd<u8, W>
+    requires { at + W ≤ length bytes.now }
+    ensures { result ≡ take W (drop at bytes.now) }
+{
+    Simd::<u8, W>::from_slice(&bytes[at..])
+}
+
+// Writes them over a buffer, from a place on.
+#[inline(always)]
+fn store<const W: usize>(lanes: Simd<u8, W>, buffer: &mut [u8], at: usize, sentinel: u8)
+    requires long { length lanes ≡ W }
+    requires room { at + W ≤ length buffer.old }
+    ensures { buffer.new ≡ written_over at (masked sentinel lanes.entry) buffer.old }
+{
+    (Simd::<u8, W>::splat(sentinel) ^ lanes).copy_to_slice(&mut buffer[at..]);
+}
+
+// Copies bytes over a buffer, from a place on: as many as one to two vectors have.
+#[inline(always)]
+fn copy_ends<const W: usize>(bytes: &[u8], buffer: &mut [u8], place: usize, sentinel: u8)
+    requires some { W ≤ length bytes.now }
+    requires few { length bytes.now ≤ W + W }
+    requires room { place + length bytes.now ≤ length buffer.old }
+    ensures { buffer.new ≡ written_over place (masked sentinel bytes.now) buffer.old }
+{
+    let behind = bytes.len() - W;
+    let front = load::<W>(bytes, 0);
+    let back = load::<W>(bytes, behind);
+    store::<W>(front, buffer, place, sentinel);
+    store::<W>(back, buffer, place + behind, sentinel);
+}
+
+// The same of a few bytes.
+#[inline(always)]
+fn copy_bytes(bytes: &[u8], buffer: &mut [u8], place: usize, sentinel: u8)
+    requires room { place + length bytes.now ≤ length buffer.old }
+    ensures { buffer.new ≡ written_over place (masked sentinel bytes.now) buffer.old }
+{
+    for (i, byte) in bytes.iter().enumerate() {
+        buffer[place + i] = sentinel ^ *byte;
+    }
+}
+
+// The same of at most 64.
+#[inline(always)]
+pub(crate) fn copy_few(bytes: &[u8], buffer: &mut [u8], place: usize, sentinel: u8)
+    requires few { length bytes.now ≤ 64 }
+    requires room { place + length bytes.now ≤ length buffer.old }
+    ensures { buffer.new ≡ written_over place (masked sentinel bytes.now) buffer.old }
+{
+    if 32 <= bytes.len() {
+        copy_ends::<32>(bytes, buffer, place, sentinel);
+    } else if 16 <= bytes.len() {
+        copy_ends::<16>(bytes, buffer, place, sentinel);
+    } else if 8 <= bytes.len() {
+        copy_ends::<8>(bytes, buffer, place, sentinel);
+    } else if 4 <= bytes.len() {
+        copy_ends::<4>(bytes, buffer, place, sentinel);
+    } else {
+        copy_bytes(bytes, buffer, place, sentinel);
+    }
+}
+
+// The same of 64.
+#[inline(always)]
+pub(crate) fn copy_64(bytes: &[u8], buffer: &mut [u8], place: usize, sentinel: u8)
+    requires long { length bytes.now ≡ 64 }
+    requires room { place + 64 ≤ length buffer.old }
+    ensures { buffer.new ≡ written_over place (masked sentinel bytes.now) buffer.old }
+{
+    let lanes = load::<64>(bytes, 0);
+    store::<64>(lanes, buffer, place, sentinel);
+}
+
+// The same of any number.
+#[inline(always)]
+pub(crate) fn copy_over(bytes: &[u8], buffer: &mut [u8], place: usize, sentinel: u8)
+    requires room { place + length bytes.now ≤ length buffer.old }
+    ensures { buffer.new ≡ written_over place (masked sentinel bytes.now) buffer.old }
+{
+    let mut at = place;
+    let mut rest = bytes;
+    while 64 < rest.len() {
+        let (front, after) = rest.split_at(64);
+        copy_64(front, buffer, at, sentinel);
+        at += 64;
+        rest = after;
+    }
+    copy_few(rest, buffer, at, sentinel);
+}
+
+// The same of the bytes of a block: those of a full one take no loop.
+#[inline(always)]
+pub(crate) fn copy_block(bytes: &[u8], buffer: &mut [u8], place: usize, sentinel: u8)
+    requires room { place + length bytes.now ≤ length buffer.old }
+    ensures { buffer.new ≡ written_over place (masked sentinel bytes.now) buffer.old }
+{
+    if bytes.len() == 254 {
+        copy_over(&bytes[..254], buffer, place, sentinel);
+    } else {
+        copy_over(bytes, buffer, place, sentinel);
+    }
+}
+
+// The lesser bytes of two vectors, lane by lane.
+#[inline(always)]
+fn lesser(a: u8x16, b: u8x16) -> u8x16
+    requires { length a ≡ length b }
+    ensures long { length result ≡ length a }
+    ensures first { (k : ℕ) → k < length a → slice_index result k ≤ slice_index a k }
+    ensures second { (k : ℕ) → k < length a → slice_index result k ≤ slice_index b k }
+{
+    a.simd_min(b)
+}
+
+// 16 bytes from a place on, each XORed with the sentinel.
+#[inline(always)]
+fn load_masked(bytes: &[u8], at: usize, sentinel: u8) -> u8x16
+    requires { at + 16 ≤ length bytes.now }
+    ensures { result ≡ masked sentinel (take 16 (drop at bytes.now)) }
+{
+    u8x16::splat(sentinel) ^ load::<16>(bytes, at)
+}
+
+// Whether none of 64 bytes is the sentinel; it is only told where that is seen at once.
+#[inline(always)]
+pub(crate) fn is_clear(bytes: &[u8], sentinel: u8) -> bool
+    requires { length bytes.now ≡ 64 }
+    ensures { result ≡ true → (k : ℕ) → k < 64 → 0 < slice_index (masked sentinel bytes.now) k }
+{
+    let first = lesser(
+        load_masked(bytes, 0, sentinel),
+        load_masked(bytes, 16, sentinel),
+    );
+    let second = lesser(
+        load_masked(bytes, 32, sentinel),
+        load_masked(bytes, 48, sentinel),
+    );
+    let least = lesser(first, second);
+    least.simd_eq(u8x16::splat(0)).to_bitmask() == 0
+}
+
+// The bits of the bytes from a place on that are the sentinel.
+#[inline(always)]
+fn zeros_at<const W: usize>(bytes: &[u8], at: usize, sentinel: u8) -> u64
+    requires few { W ≤ 32 }
+    requires within { at + W ≤ length bytes.now }
+    ensures marks { Marks result 0 (masked sentinel (take W (drop at bytes.now))) }
+    ensures bound { result < 2 ^ W }
+{
+    (Simd::<u8, W>::splat(sentinel) ^ load::<W>(bytes, at))
+        .simd_eq(Simd::<u8, W>::splat(0))
+        .to_bitmask()
+}
+
+// The bits of the bytes that are the sentinel, of as many as one to two vectors have.
+#[inline(always)]
+fn zeros_of_ends<const W: usize>(bytes: &[u8], sentinel: u8) -> u64
+    requires wide { W ≤ 32 }
+    requires some { W ≤ length bytes.now }
+    requires few { length bytes.now ≤ W + W }
+    ensures { Marks result 0 (masked sentinel bytes.now) }
+{
+    let behind = bytes.len() - W;
+    zeros_at::<W>(bytes, 0, sentinel) | zeros_at::<W>(bytes, behind, sentinel) << behind
+}
+
+// The same of 8 to 64 bytes.
+#[inline(always)]
+pub(crate) fn zeros_of(bytes: &[u8], sentinel: u8) -> u64
+    requires some { 8 ≤ length bytes.now }
+    requires few { length bytes.now ≤ 64 }
+    ensures { Marks result 0 (masked sentinel bytes.now) }
+{
+    if 32 <= bytes.len() {
+        zeros_of_ends::<32>(bytes, sentinel)
+    } else if 16 <= bytes.len() {
+        zeros_of_ends::<16>(bytes, sentinel)
+    } else {
+        zeros_of_ends::<8>(bytes, sentinel)
+    }
+}
+
+// Moves n bytes towards the front, from a place on to another one: as many as one to two vectors have.
+#[inline(always)]
+fn move_ends<const W: usize>(buffer: &mut [u8], from: usize, n: usize, place: usize, sentinel: u8)
+    requires some { W ≤ n }
+    requires few { n ≤ W + W }
+    requires within { from + n ≤ length buffer.old }
+    requires down { place ≤ from }
+    ensures { buffer.new ≡ written_over place (masked sentinel (take n (drop from buffer.old))) buffer.old }
+{
+    let behind = n - W;
+    let front = load::<W>(buffer, from);
+    let back = load::<W>(buffer, from + behind);
+    store::<W>(front, buffer, place, sentinel);
+    store::<W>(back, buffer, place + behind, sentinel);
+}
+
+// The same of a few bytes.
+#[inline(always)]
+fn move_bytes(buffer: &mut [u8], from: usize, n: usize, place: usize, sentinel: u8)
+    requires within { from + n ≤ length buffer.old }
+    requires down { place ≤ from }
+    ensures { buffer.new ≡ written_over place (masked sentinel (take n (drop from buffer.old))) buffer.old }
+{
+    for i in 0..n {
+        buffer[place + i] = sentinel ^ buffer[from + i];
+    }
+}
+
+// The same of fewer than 64.
+#[inline(always)]
+fn move_few(buffer: &mut [u8], from: usize, n: usize, place: usize, sentinel: u8)
+    requires few { n < 64 }
+    requires within { from + n ≤ length buffer.old }
+    requires down { place ≤ from }
+    ensures { buffer.new ≡ written_over place (masked sentinel (take n (drop from buffer.old))) buffer.old }
+{
+    if 32 <= n {
+        move_ends::<32>(buffer, from, n, place, sentinel);
+    } else if 16 <= n {
+        move_ends::<16>(buffer, from, n, place, sentinel);
+    } else if 8 <= n {
+        move_ends::<8>(buffer, from, n, place, sentinel);
+    } else {
+        move_bytes(buffer, from, n, place, sentinel);
+    }
+}
+
+// The same of any number.
+#[inline(always)]
+pub(crate) fn move_down(buffer: &mut [u8], from: usize, n: usize, place: usize, sentinel: u8)
+    requires within { from + n ≤ length buffer.old }
+    requires down { place ≤ from }
+    ensures { buffer.new ≡ written_over place (masked sentinel (take n (drop from buffer.old))) buffer.old }
+{
+    let mut moved: usize = 0;
+    while 64 <= n - moved {
+        let lanes = load::<64>(buffer, from + moved);
+        store::<64>(lanes, buffer, place + moved, sentinel);
+        moved += 64;
+    }
+    move_few(buffer, from + moved, n - moved, place + moved, sentinel);
+}

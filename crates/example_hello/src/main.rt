@@ -1,0 +1,95 @@
+//! Sends a reading twice over a line that breaks off the first send, and prints what is heard.
+#![tactic(auto)]
+
+ghost use Rattle.postcard_tree.specs.ReadingLaws.{seen_as};
+ghost use Rattle.postcard_tree.specs.Shapes.{read_as_shape, written_as_shape};
+
+use line_io::memory::{Fault, In, Out};
+use link::{Sender, receive};
+use postcard::ser_flavors::Flavor;
+use postcard::{
+    AsShape, Formed, Readable, ReadableShape, Serialize, SerializeShape, Serializer, ShapeOf,
+    Shaped,
+};
+use std::io;
+
+/// A temperature, in tenths of a degree, and which sensor measured it.
+#[derive(Clone, Copy, Debug, PartialEq, Eq, Drop)]
+pub struct Reading {
+    pub sensor: u16,
+    pub temperature: i16,
+}
+
+impl Shaped for Reading {
+    type Shape = (u16, i16);
+
+    ghost shape = { λ v. (v.sensor, v.temperature) };
+
+    fn from_shape((sensor, temperature): (u16, i16)) -> Reading {
+        Reading {
+            sensor,
+            temperature,
+        }
+    }
+}
+
+impl Serialize for Reading {
+    ghost writes = { λ v. ⟦<ShapeOf<Self> as Serialize>⟧.writes (⟦<Self as Shaped>⟧.shape v) };
+
+    ghost valid = { λ v. ⟦<ShapeOf<Self> as Serialize>⟧.valid (⟦<Self as Shaped>⟧.shape v) };
+
+    fn serialize<F: Flavor>(&self, serializer: &mut Serializer<F>) -> postcard::Result<()> {
+        (&self.sensor, &self.temperature).serialize(serializer)
+    }
+}
+
+impl Formed for Reading {
+    type Form = AsShape;
+}
+
+impl Readable for Reading {
+    ghost takes = { ⟦<ShapeOf<Self> as Readable>⟧.takes };
+
+    ghost reads = { λ t v. ⟦<ShapeOf<Self> as Readable>⟧.reads t (⟦<Self as Shaped>⟧.shape v) };
+
+    ghost refuses = { ⟦<ShapeOf<Self> as Readable>⟧.refuses };
+
+    ghost alike = { λ v w. ⟦<ShapeOf<Self> as Readable>⟧.alike (⟦<Self as Shaped>⟧.shape v) (⟦<Self as Shaped>⟧.shape w) };
+
+    ghost growing = { ⟦<ShapeOf<Self> as Readable>⟧.growing };
+
+    ghost reading = { seen_as ⟦<Self as Shaped>⟧.shape ⟦<ShapeOf<Self> as Readable>⟧.reading };
+
+    fn grows() -> bool {
+        ShapeOf::<Self>::grows()
+    }
+}
+
+impl ReadableShape for Reading {
+    ghost read_as = { read_as_shape };
+}
+
+impl SerializeShape for Reading {
+    ghost written_as = { written_as_shape };
+}
+
+fn main(rt: HostRuntime) -> io::Result<()> {
+    let reading = Reading {
+        sensor: 7,
+        temperature: -52,
+    };
+    // a line that fails once, after three bytes
+    let mut bytes = [0u8; 64];
+    let line = Out::new(&mut bytes, 64, Some((3, Fault::Fail)));
+    let mut sender = Sender::<_, 16>::new(line);
+    println!(rt; "{:?}", sender.send(&reading))?;
+    println!(rt; "{:?}", sender.send(&reading))?;
+    let count = sender.into_inner().moved();
+    // what came over it, two bytes at a time
+    let reader = In::new(&bytes[..count], 2, None);
+    let received = receive::<Reading, _, 16>(rt.alloc(), reader);
+    for answer in &received.answers {
+        println!(rt; "{answer:?}")?;
+    }
+    Ok(())
+}

@@ -1,0 +1,49 @@
+//! Prints each reading that comes over standard input once its last byte is there, and where damage lies.
+#![tactic(auto)]
+
+mod reading;
+
+use line_io::{Inlet, Reads};
+use link::{Answer, NoMemory, Receiver};
+use reading::Reading;
+use std::io;
+
+fn tell(rt: &HostRuntime, answer: Answer<Reading>, from: u64, to: u64) -> io::Result<()> {
+    match answer {
+        Answer::Value(reading) => println!(rt; "{reading:?}"),
+        Answer::Damaged => println!(rt; "damaged at {from}..{to}"),
+        Answer::TooLong => println!(rt; "too long from {from} on"),
+        Answer::Cut => println!(rt; "cut at {to}"),
+    }
+}
+
+fn main(rt: HostRuntime) -> io::Result<()> {
+    let mut line = Reads::new(rt.stdin());
+    let mut receiver = Receiver::<16>::new();
+    let mut room = [0u8; 256];
+    // the offset of the byte that comes next
+    let mut at = 0u64;
+    for _ in 0..u64::MAX {
+        let Some(count @ 1..) = line.read(&mut room) else {
+            break;
+        };
+        for byte in &room[..count] {
+            let pushed = receiver.push::<Reading>(rt.alloc(), &[*byte]);
+            match pushed.answer {
+                Ok(Some(answer)) => tell(
+                    &rt,
+                    answer,
+                    at.saturating_sub(pushed.stretch as u64),
+                    at,
+                )?,
+                Ok(None) => {}
+                Err(NoMemory) => println!(rt; "no memory")?,
+            }
+            at = at.saturating_add(1);
+        }
+    }
+    match receiver.finish() {
+        Some(answer) => tell(&rt, answer, at, at),
+        None => Ok(()),
+    }
+}

@@ -1,0 +1,107 @@
+//! What is written and read back has equal fields, type by type.
+//!
+//! Each call writes a value at the front of a room and reads it there, as [`postcard::laws::round_trip`] does; its clause
+//! says what the value that comes back has in common with the first. Texts are compared by their bytes, lists and maps
+//! item by item.
+ghost use Rattle.std.specs.Prelude.{◌≡◌, IfOk, string_bytes};
+ghost use Rattle.postcard_tree.specs.Alike.{AlikeLists, AlikePairs};
+ghost use Rattle.example_station.specs.Same.{SameCommand};
+
+use crate::messages::{
+    Address, Command, Config, Event, Level, LogRecord, Packet, Ping, Report, SensorReading,
+};
+use postcard::laws::round_trip;
+use postcard::{Readable, Result};
+use std::alloc::Global;
+
+/// All four fields.
+pub fn sensor_reading<'a>(
+    alloc: Global,
+    v: &SensorReading,
+    room: &'a mut [u8],
+) -> Result<(SensorReading, &'a [u8])>
+    ensures { IfOk result (λ p. v.now ≡ p.0) }
+{
+    round_trip::<SensorReading>(alloc, v, &[], room)
+}
+
+/// The variant.
+pub fn level<'a>(alloc: Global, v: &Level, room: &'a mut [u8]) -> Result<(Level, &'a [u8])>
+    ensures { IfOk result (λ p. v.now ≡ p.0) }
+{
+    round_trip::<Level>(alloc, v, &[], room)
+}
+
+/// The level, the time, the text and the source.
+pub fn log_record<'a>(
+    alloc: Global,
+    v: &LogRecord,
+    room: &'a mut [u8],
+) -> Result<(LogRecord, &'a [u8])>
+    ensures level { IfOk result (λ p. v.now.level ≡ p.0.level) }
+    ensures at { IfOk result (λ p. v.now.at ≡ p.0.at) }
+    ensures text { IfOk result (λ p. string_bytes v.now.text ≡ string_bytes p.0.text) }
+    ensures source { IfOk result (λ p. v.now.source ≡ p.0.source) }
+{
+    round_trip::<LogRecord>(alloc, v, &[], room)
+}
+
+/// The number.
+pub fn address<'a>(alloc: Global, v: &Address, room: &'a mut [u8]) -> Result<(Address, &'a [u8])>
+    ensures { IfOk result (λ p. v.now ≡ p.0) }
+{
+    round_trip::<Address>(alloc, v, &[], room)
+}
+
+/// Nothing but its name.
+pub fn ping<'a>(alloc: Global, v: &Ping, room: &'a mut [u8]) -> Result<(Ping, &'a [u8])>
+    ensures { IfOk result (λ p. v.now ≡ p.0) }
+{
+    round_trip::<Ping>(alloc, v, &[], room)
+}
+
+/// The variant, and what it holds.
+pub fn command<'a>(alloc: Global, v: &Command, room: &'a mut [u8]) -> Result<(Command, &'a [u8])>
+    ensures { IfOk result (λ p. SameCommand ⟦<SensorReading as Readable>⟧.alike v.now p.0) }
+{
+    round_trip::<Command>(alloc, v, &[], room)
+}
+
+/// The name, the readings, the fallback, the gains and the labels.
+pub fn config<'a>(alloc: Global, v: &Config, room: &'a mut [u8]) -> Result<(Config, &'a [u8])>
+    ensures name { IfOk result (λ p. string_bytes v.now.name ≡ string_bytes p.0.name) }
+    ensures readings { IfOk result (λ p. AlikeLists ⟦<SensorReading as Readable>⟧.alike v.now.readings.items p.0.readings.items) }
+    ensures fallback { IfOk result (λ p. v.now.fallback ≡ p.0.fallback) }
+    ensures gains { IfOk result (λ p. AlikeLists ⟦<u16 as Readable>⟧.alike v.now.gains p.0.gains) }
+    ensures labels { IfOk result (λ p. AlikeLists (AlikePairs ⟦<u16 as Readable>⟧.alike ⟦<String as Readable>⟧.alike) v.now.labels.entries p.0.labels.entries) }
+{
+    postcard_tree::laws::keys_are_compared_alike();
+    round_trip::<Config>(alloc, v, &[], room)
+}
+
+/// The address, the text and the bytes.
+pub fn packet<'a>(
+    alloc: Global,
+    v: &Packet<'a>,
+    room: &'a mut [u8],
+) -> Result<(Packet<'a>, &'a [u8])>
+    ensures to { IfOk result (λ p. v.now.to ≡ p.0.to) }
+    ensures text { IfOk result (λ p. v.now.text.now ≡ p.0.text.now) }
+    ensures body { IfOk result (λ p. v.now.body.now ≡ p.0.body.now) }
+{
+    round_trip::<Packet<'a>>(alloc, v, &[], room)
+}
+
+/// All twelve fields.
+pub fn report<'a>(alloc: Global, v: &Report, room: &'a mut [u8]) -> Result<(Report, &'a [u8])>
+    ensures { IfOk result (λ p. v.now ≡ p.0) }
+{
+    round_trip::<Report>(alloc, v, &[], room)
+}
+
+/// The variant, and what it holds.
+pub fn event<'a>(alloc: Global, v: &Event, room: &'a mut [u8]) -> Result<(Event, &'a [u8])>
+    ensures { IfOk result (λ p. v.now ≡ p.0) }
+{
+    round_trip::<Event>(alloc, v, &[], room)
+}

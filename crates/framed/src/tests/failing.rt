@@ -1,0 +1,235 @@
+//! Devices that fail, and memory that isn't found.
+use crate::tests::{
+    FRAMED, FRAMED_HEX, PACK, PACK_HEX, ROOM, Row, STRETCH, STRICT_HEX, UNPACK, UNPACK_HEX, UNREAD,
+    VALUES, begin_alike, check_at, expect, holds, is_right, run_short,
+};
+use framed_lib::arguments::Mode;
+use line_io::Fault;
+use std::alloc::Global;
+use std::process::Abort;
+
+const UNREAD_ROWS: [Row<'static>; 7] = [
+    Row {
+        mode: Mode::Unpack,
+        text: b"\x00\x04\x02hi\x00\x04",
+        read_fault: Some(7),
+        out: b"value hi\n",
+        ..UNREAD
+    },
+    Row {
+        mode: Mode::Unpack,
+        text: &STRETCH,
+        read_fault: Some(1025),
+        out: b"too long\n",
+        ..UNREAD
+    },
+    Row {
+        mode: Mode::Strict,
+        text: b"\x04\x02hi\x00\x04\x01bc\x00\x04",
+        read_fault: Some(11),
+        out: b"value hi\ndamaged\n",
+        ..UNREAD
+    },
+    Row {
+        mode: Mode::Unpack,
+        hex: true,
+        text: b"00040268690004",
+        read_fault: Some(14),
+        ..UNREAD
+    },
+    Row {
+        mode: Mode::Strict,
+        hex: true,
+        text: b"00040268690004",
+        read_fault: Some(14),
+        ..UNREAD
+    },
+    Row {
+        text: b"hi\n",
+        read_fault: Some(3),
+        ..UNREAD
+    },
+    Row {
+        hex: true,
+        text: b"hi\n",
+        read_fault: Some(3),
+        ..UNREAD
+    },
+];
+
+#[test]
+fn reader_fails(rt: HostRuntime) {
+    expect(&rt, &UNREAD_ROWS);
+}
+
+/// Another kind of fault after as many bytes: nothing is taken.
+fn nothing_after(fault: Option<(usize, Fault)>) -> Option<(usize, Fault)> {
+    match fault {
+        Some((before, _)) => Some((before, Fault::Nothing)),
+        None => None,
+    }
+}
+
+/// The same, and nothing is taken in place of a fault.
+fn taking_nothing(row: Row<'_>) -> Row<'_> {
+    Row {
+        write_fault: nothing_after(row.write_fault),
+        saying_fault: nothing_after(row.saying_fault),
+        ..row
+    }
+}
+
+/// Expects it of each row, and of the same where nothing is taken in place of a fault.
+fn expect_at_each_fault<R: AllocGlobal + Abort>(rt: &R, rows: &[Row<'_>]) {
+    for (at, row) in rows.iter().enumerate() {
+        check_at(rt, at, is_right(rt.alloc(), *row));
+        check_at(rt, at, is_right(rt.alloc(), taking_nothing(*row)));
+    }
+}
+
+const UNWRITTEN: Row<'static> = Row {
+    write_fault: Some((2, Fault::Fail)),
+    said: b"write failed\n",
+    status: 3,
+    ..PACK
+};
+
+const UNWRITTEN_ROWS: [Row<'static>; 4] = [
+    Row {
+        text: b"hi",
+        out: b"\x00\x04",
+        ..UNWRITTEN
+    },
+    Row {
+        hex: true,
+        text: b"hi",
+        out: b"00",
+        ..UNWRITTEN
+    },
+    Row {
+        mode: Mode::Unpack,
+        text: b"\x04\x02hi\x00",
+        out: b"va",
+        ..UNWRITTEN
+    },
+    Row {
+        text: b"\xff\nhi",
+        out: b"\x00\x04",
+        said: b"line 1: refused\nwrite failed\n",
+        ..UNWRITTEN
+    },
+];
+
+#[test]
+fn writer_fails(rt: HostRuntime) {
+    expect_at_each_fault(&rt, &UNWRITTEN_ROWS);
+}
+
+const UNSAID: Row<'static> = Row {
+    saying_fault: Some((0, Fault::Fail)),
+    status: 3,
+    ..PACK
+};
+
+const UNSAID_ROWS: [Row<'static>; 5] = [
+    Row {
+        text: b"\xff",
+        ..UNSAID
+    },
+    Row {
+        text: b"\xff\nb",
+        ..UNSAID
+    },
+    Row {
+        text: b"\xff\nb",
+        saying_fault: Some((4, Fault::Fail)),
+        said: b"line",
+        ..UNSAID
+    },
+    Row {
+        mode: Mode::Unpack,
+        hex: true,
+        text: b"0g",
+        saying_fault: Some((3, Fault::Fail)),
+        said: b"bad",
+        ..UNSAID
+    },
+    Row {
+        mode: Mode::Unpack,
+        text: b"\x04\x02hi\x00",
+        read_fault: Some(5),
+        saying_fault: Some((4, Fault::Fail)),
+        out: b"value hi\n",
+        said: b"read",
+        ..UNSAID
+    },
+];
+
+#[test]
+fn standard_error_fails(rt: HostRuntime) {
+    expect_at_each_fault(&rt, &UNSAID_ROWS);
+}
+
+/// Whether a run writes what the row has and nothing is said, or a growth was refused: then it says so, and writes a
+/// beginning.
+fn is_right_or_lacks_memory(alloc: Global, row: Row<'_>) -> bool {
+    let mut written = [0u8; ROOM];
+    let mut told = [0u8; ROOM];
+    let left = run_short(alloc, row, &mut written, &mut told);
+    if left.status != 4 {
+        return left.status == 0 && holds(&written, left.written, row.out) && left.said == 0;
+    }
+    begin_alike(&written, row.out, left.written) && holds(&told, left.said, b"no memory\n")
+}
+
+/// Expects it of each row.
+fn expect_or_no_memory<R: AllocGlobal + Abort>(rt: &R, rows: &[Row<'_>]) {
+    for (at, row) in rows.iter().enumerate() {
+        check_at(rt, at, is_right_or_lacks_memory(rt.alloc(), *row));
+    }
+}
+
+const SHORT_RUNS: [Row<'static>; 3] = [
+    Row {
+        text: b"hi\n\nA",
+        out: FRAMED_HEX,
+        ..PACK_HEX
+    },
+    Row {
+        text: FRAMED_HEX,
+        out: VALUES,
+        ..UNPACK_HEX
+    },
+    Row {
+        text: FRAMED,
+        out: VALUES,
+        ..UNPACK
+    },
+];
+
+/// To be run with each growth refused in turn: `rt try --test --fail-alloc N`. The other tests ask for the whole.
+#[test]
+fn memory_runs_out(rt: HostRuntime) {
+    expect_or_no_memory(&rt, &SHORT_RUNS);
+}
+
+const SHORT_RUNS_BY_SENTINEL: [Row<'static>; 2] = [
+    Row {
+        sentinel: 0x0a,
+        text: b"hi",
+        out: b"0a0e0862630a\n",
+        ..PACK_HEX
+    },
+    Row {
+        sentinel: 0x0a,
+        text: b"0a0e0862630a\n",
+        out: b"value hi\n",
+        ..STRICT_HEX
+    },
+];
+
+/// To be run so too.
+#[test]
+fn memory_runs_out_with_sentinel(rt: HostRuntime) {
+    expect_or_no_memory(&rt, &SHORT_RUNS_BY_SENTINEL);
+}

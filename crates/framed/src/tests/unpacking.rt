@@ -1,0 +1,168 @@
+//! Frames and hexadecimal text, read.
+use crate::tests::{
+    BAD_HEX, FRAMED, FRAMED_HEX, PACK, PACK_HEX, Row, STRICT, STRICT_HEX, UNPACK, UNPACK_HEX,
+    VALUES, check, expect, is_right,
+};
+use framed_lib::arguments::Mode;
+use std::alloc::Global;
+
+const UNPACKED_HEX: [Row<'static>; 5] = [
+    Row {
+        text: FRAMED_HEX,
+        out: VALUES,
+        ..UNPACK_HEX
+    },
+    Row {
+        text: b"00040268690001010003014100",
+        out: VALUES,
+        ..UNPACK_HEX
+    },
+    Row {
+        text: b"05035c0a6100",
+        out: b"value \\\\\\na\n",
+        ..UNPACK_HEX
+    },
+    Row {
+        text: b"05035C0A6100",
+        out: b"value \\\\\\na\n",
+        ..UNPACK_HEX
+    },
+    Row {
+        text: b"0401626300",
+        out: b"value b\n",
+        ..UNPACK_HEX
+    },
+];
+
+#[test]
+fn unpacks_hex(rt: HostRuntime) {
+    expect(&rt, &UNPACKED_HEX);
+}
+
+const UNPACKED_STRICTLY: [Row<'static>; 3] = [
+    Row {
+        text: b"0401626300",
+        out: b"damaged\n",
+        status: 1,
+        ..STRICT_HEX
+    },
+    Row {
+        text: FRAMED,
+        out: VALUES,
+        ..STRICT
+    },
+    Row {
+        text: b"\x05\x82\x80hi\x00\x04\x02hi\x00",
+        out: b"damaged\nvalue hi\n",
+        status: 1,
+        ..STRICT
+    },
+];
+
+/// A text that sending spells otherwise, behind a byte that is no part of it, and one that it spells so.
+#[test]
+fn unpacks_strictly(rt: HostRuntime) {
+    expect(&rt, &UNPACKED_STRICTLY);
+}
+
+const BAD_HEX_ROWS: [Row<'static>; 3] = [
+    Row {
+        text: b"0g",
+        ..BAD_HEX
+    },
+    Row {
+        text: b"000",
+        ..BAD_HEX
+    },
+    Row {
+        text: b"0g",
+        mode: Mode::Strict,
+        ..BAD_HEX
+    },
+];
+
+#[test]
+fn refuses_bad_hex(rt: HostRuntime) {
+    expect(&rt, &BAD_HEX_ROWS);
+}
+
+const BY_SENTINEL: [Row<'static>; 4] = [
+    Row {
+        sentinel: 0x0a,
+        text: b"hi",
+        out: b"0a0e0862630a\n",
+        ..PACK_HEX
+    },
+    Row {
+        sentinel: 0x7e,
+        text: b"~\nhi",
+        out: b"~}\x7f\x00~z|\x16\x17~",
+        ..PACK
+    },
+    Row {
+        sentinel: 0x0a,
+        text: b"0a0e0862630a",
+        out: b"value hi\n",
+        ..UNPACK_HEX
+    },
+    Row {
+        sentinel: 0x7e,
+        text: b"~}\x7f\x00~z|\x16\x17~",
+        out: b"value ~\nvalue hi\n",
+        ..UNPACK
+    },
+];
+
+/// With another sentinel in place of zero.
+#[test]
+fn goes_by_the_sentinel(rt: HostRuntime) {
+    expect(&rt, &BY_SENTINEL);
+}
+
+const DAMAGED_BY_SENTINEL: [Row<'static>; 2] = [
+    Row {
+        sentinel: 0x0a,
+        text: b"\n\x0f\x62\n\x0e\x08\x62\x63\n\x0e",
+        out: b"damaged\nvalue hi\ncut\n",
+        status: 1,
+        ..UNPACK
+    },
+    Row {
+        sentinel: 0x0a,
+        text: b"0e0b68690a0e0862630a",
+        out: b"damaged\nvalue hi\n",
+        status: 1,
+        ..STRICT_HEX
+    },
+];
+
+/// So too: a frame that lacks bytes, one behind it, and one that nothing ends; a text with a byte behind it that is no part
+/// of it, and one that sending spells so.
+#[test]
+fn unpacks_damage_with_sentinel(rt: HostRuntime) {
+    expect(&rt, &DAMAGED_BY_SENTINEL);
+}
+
+/// Whether a stream, of which something is damaged, is said to hold this.
+fn is_unpacked<'a>(alloc: Global, text: &'a [u8], out: &'a [u8]) -> bool {
+    let row = Row {
+        text,
+        out,
+        status: 1,
+        ..UNPACK
+    };
+    is_right(alloc, row)
+}
+
+const DAMAGED: &[u8] = b"\x00\x04\x02hi\x00\x03\x01\x00\x02\xff\x00\x03\x01A";
+
+const DAMAGE: &[u8] = b"value hi\ndamaged\ndamaged\ncut\n";
+
+/// Stretches that hold no text, one that is too long, and one that nothing ends.
+#[test]
+fn unpacks_damage(rt: HostRuntime) {
+    let mut stream = [1u8; 1027];
+    stream[1025] = 0;
+    check(&rt, is_unpacked(rt.alloc(), DAMAGED, DAMAGE));
+    check(&rt, is_unpacked(rt.alloc(), &stream, b"too long\ncut\n"));
+}

@@ -1,0 +1,190 @@
+-- The sends of a text's lines, line by line.
+use Rattle.std.proofs.Common.{◌≡◌, ℕ, ◌+◌, ◌<◌, ◌==◌, inl, inr, Bool, ◌&&◌, true, false, List, [], ◌∷◌, ◌++◌, length, refl, sym, ap, ◌∙◌, arith, append_assoc}
+use Rattle.std.proofs.lemmas.List.{append-nil, length-append}
+use Rattle.std.proofs.lemmas.List.Folds.{list_all-append}
+use Rattle.std.proofs.lemmas.List.Splits.{slice_split_at, slice_split_none, length-slice_split}
+use Rattle.postcard_tree.specs.Tree.{Tree}
+use Rattle.link.specs.Run.{Send, completed, refused, broken, sent, written, clean_after, session_line}
+use Rattle.link.specs.Fates.{clean_after_all}
+use Rattle.framed_lib.specs.Pieces.{Lacks, pieces}
+use Rattle.framed_lib.specs.Program.{SaysFirst}
+use Rattle.framed_lib.specs.Sending.{filled, lines_in, IsSendable, IsSendOf, AreSendsOf, is_whole, all_sent, said_of, refusals, Sent}
+
+pieces-some : (bytes : List ℕ) → 0 < length (pieces 10 bytes)
+pieces-some bytes = omega (arith, length-slice_split (λ b. b == 10) bytes)
+
+filled-more : (line : List ℕ) (ps : List (List ℕ)) → 0 < length ps → filled (line ∷ ps) ≡ line ∷ filled ps
+filled-more line [] some = absurd (omega arith)
+filled-more [] (p ∷ ps) some = refl
+filled-more (b ∷ bytes) (p ∷ ps) some = refl
+
+lines-more : (line tail : List ℕ) → Lacks 10 line → lines_in (line ++ 10 ∷ tail) ≡ line ∷ lines_in tail
+lines-more line tail h = ap filled (slice_split_at (λ b. b == 10) line 10 tail h refl) ∙ filled-more line (pieces 10 tail) (pieces-some tail)
+
+filled-last : (rest : List ℕ) → 0 < length rest → filled (rest ∷ []) ≡ rest ∷ []
+filled-last [] some = absurd (omega arith)
+filled-last (b ∷ rest) some = refl
+
+lines-last : (rest : List ℕ) → Lacks 10 rest → 0 < length rest → lines_in rest ≡ rest ∷ []
+lines-last rest h some = ap filled (slice_split_none (λ b. b == 10) rest h) ∙ filled-last rest some
+
+lines-none : (rest : List ℕ) → length rest ≡ 0 → lines_in rest ≡ []
+lines-none [] h = refl
+lines-none (b ∷ rest) h = absurd (omega arith)
+
+sends-more : (lines : List (List ℕ)) (done : List Send) (line : List ℕ) (x : Send) → AreSendsOf lines done → IsSendOf line x → AreSendsOf (lines ++ line ∷ []) (done ++ x ∷ [])
+sends-more [] [] line x e o = (o, tt)
+sends-more [] (d ∷ done) line x e o = absurd e
+sends-more (l ∷ lines) [] line x e o = absurd e
+sends-more (l ∷ lines) (d ∷ done) line x e o = (e.0, sends-more lines done line x e.1 o)
+
+pub Sent-none : (text : List ℕ) → Sent text text []
+Sent-none text = record { seen = []; lines_are = refl; are = tt }
+
+-- the next line of the rest, and those behind it
+pub next-line : (rest line tail : List ℕ) → rest ≡ line ++ 10 ∷ tail → Lacks 10 line → lines_in rest ≡ line ∷ lines_in tail
+next-line rest line tail e h = ap lines_in e ∙ lines-more line tail h
+
+pub last-line : (rest : List ℕ) → Lacks 10 rest → 0 < length rest → lines_in rest ≡ rest ∷ []
+last-line rest h some = lines-last rest h some
+
+pub Sent-more : (text rest line tail : List ℕ) (done : List Send) (x : Send) → Sent text rest done
+    → lines_in rest ≡ line ∷ lines_in tail → IsSendOf line x → Sent text tail (done ++ x ∷ [])
+Sent-more text rest line tail done x p e o = record {
+  seen = p.seen ++ line ∷ [];
+  lines_are = p.lines_are ∙ (ap (λ l. p.seen ++ l) e ∙ sym (append_assoc p.seen (line ∷ []) (lines_in tail)));
+  are = sends-more p.seen done line x p.are o;
+}
+
+pub Sent-all : (text rest : List ℕ) (done : List Send) → Sent text rest done → length rest ≡ 0 → AreSendsOf (lines_in text) done
+Sent-all text rest done p h = rw (p.lines_are, lines-none rest h, append-nil p.seen) p.are
+
+-- standard error failed at the refusal of a line
+pub Sent-first : (text rest line : List ℕ) (later : List (List ℕ)) (done : List Send) (x : Send) → Sent text rest done → lines_in rest ≡ line ∷ later
+    → IsSendOf line x → SaysFirst text (refusals 1 (done ++ x ∷ []))
+Sent-first text rest line later done x p e o = record {
+  seen = p.seen ++ line ∷ [];
+  later = later;
+  lines_are = p.lines_are ∙ (ap (λ l. p.seen ++ l) e ∙ sym (append_assoc p.seen (line ∷ []) later));
+  sends = done ++ x ∷ [];
+  are = sends-more p.seen done line x p.are o;
+  said_is = refl;
+}
+
+-- what was said of all lines was said of the first ones
+pub all-first : (text : List ℕ) (sends : List Send) → AreSendsOf (lines_in text) sends → SaysFirst text (refusals 1 sends)
+all-first text sends h = record { seen = lines_in text; later = []; lines_are = sym (append-nil (lines_in text)); sends = sends; are = h; said_is = refl }
+
+clean-append : (clean : Bool) (a b : List Send) → clean_after_all clean (a ++ b) ≡ clean_after_all (clean_after_all clean a) b
+clean-append clean [] b = refl
+clean-append clean (x ∷ a) b = clean-append (clean_after clean x) a b
+
+session-append : (sentinel : ℕ) (clean : Bool) (a b : List Send) → session_line sentinel clean (a ++ b) ≡ session_line sentinel clean a ++ session_line sentinel (clean_after_all clean a) b
+session-append sentinel clean [] b = refl
+session-append sentinel clean (x ∷ a) b =
+    ap (λ l. written sentinel clean x ++ l) (session-append sentinel (clean_after clean x) a b)
+    ∙ sym (append_assoc (written sentinel clean x) (session_line sentinel (clean_after clean x) a) (session_line sentinel (clean_after_all (clean_after clean x) a) b))
+
+refusals-append : (n : ℕ) (a b : List Send) → refusals n (a ++ b) ≡ refusals n a ++ refusals (n + length a) b
+refusals-append n [] b = let k : n ≡ n + length {A = Send} [] = omega arith in ap (λ m. refusals m b) k
+refusals-append n (x ∷ a) b =
+    let k : (n + 1) + length a ≡ n + length (x ∷ a) = omega arith in
+    ap (λ l. said_of n x ++ l) (refusals-append (n + 1) a b ∙ ap (λ m. refusals (n + 1) a ++ refusals m b) k)
+    ∙ sym (append_assoc (said_of n x) (refusals (n + 1) a) (refusals (n + length (x ∷ a)) b))
+
+pub session-more : (sentinel : ℕ) (bytes new : List ℕ) (clean : Bool) (done : List Send) (x : Send) → bytes ≡ session_line sentinel false done → clean ≡ clean_after_all false done
+    → new ≡ bytes ++ written sentinel clean x → new ≡ session_line sentinel false (done ++ x ∷ [])
+session-more sentinel bytes new clean done x b c e =
+    e ∙ rw (b, c) (sym (session-append sentinel false done (x ∷ []) ∙ ap (λ l. session_line sentinel false done ++ l) (append-nil (written sentinel (clean_after_all false done) x))))
+
+-- what a sender with this sentinel wrote
+pub more-written : (bytes new : List ℕ) (found sentinel : ℕ) (clean : Bool) (x : Send) → found ≡ sentinel → new ≡ bytes ++ written found clean x
+    → new ≡ bytes ++ written sentinel clean x
+more-written bytes new found sentinel clean x m e = e ∙ ap (λ s. bytes ++ written s clean x) m
+
+pub clean-more : (clean new : Bool) (done : List Send) (x : Send) → clean ≡ clean_after_all false done → new ≡ clean_after clean x
+    → new ≡ clean_after_all false (done ++ x ∷ [])
+clean-more clean new done x c e = e ∙ rw c (sym (clean-append false done (x ∷ [])))
+
+-- one more send, where a front of what was sent is written, and the others are held
+pub held-more : (sentinel : ℕ) (front held new : List ℕ) (found : ℕ) (clean : Bool) (done : List Send) (x : Send) → session_line sentinel false done ≡ front ++ held
+    → clean ≡ clean_after_all false done → found ≡ sentinel → new ≡ held ++ written found clean x → session_line sentinel false (done ++ x ∷ []) ≡ front ++ new
+held-more sentinel front held new found clean done x e c m w =
+    sym (session-more sentinel (front ++ held) (front ++ new) clean done x (sym e) c
+    (ap (λ l. front ++ l) (more-written held new found sentinel clean x m w) ∙ sym (append_assoc front held (written sentinel clean x))))
+
+pub refusals-more : (n : ℕ) (done : List Send) (x : Send) → n ≡ length done + 1 → refusals 1 (done ++ x ∷ []) ≡ refusals 1 done ++ said_of n x
+refusals-more n done x e =
+    let k : 1 + length done ≡ n = omega arith in
+    refusals-append 1 done (x ∷ []) ∙ ap (λ m. refusals 1 done ++ refusals m (x ∷ [])) k ∙ ap (λ l. refusals 1 done ++ l) (append-nil (said_of n x))
+
+and-true : (a : Bool) → a && true ≡ a
+and-true true = refl
+and-true false = refl
+
+pub all-more : (good sent : Bool) (done : List Send) (x : Send) → good ≡ all_sent done → sent ≡ is_whole x → good && sent ≡ all_sent (done ++ x ∷ [])
+all-more good sent done x g s = rw (g, s) (ap (λ b. all_sent done && b) (sym (and-true (is_whole x))) ∙ sym (list_all-append is_whole done (x ∷ [])))
+
+module _ (text rest line : List ℕ) (later : List (List ℕ)) (number : ℕ) (done : List Send) (p : Sent text rest done) (next : lines_in rest ≡ line ∷ later)
+    (n : number ≡ length done + 1) (breaks untold : List ℕ → Type 0)
+    (fail : (x : Send) → breaks (said_of number x) → untold (refusals 1 done ++ said_of number x)) where
+  -- a line that ends the work on all lines
+  pub stops : (x : Send) × IsSendOf line x × breaks (said_of number x) → (said : List ℕ) × SaysFirst text said × untold said
+  stops h = (
+    refusals 1 (done ++ h.0 ∷ []),
+    Sent-first text rest line later done h.0 p next h.1,
+    rw (refusals-more number done h.0 n) (fail h.0 h.2),
+  )
+
+-- What comes of a line is one thing
+
+one-send : (line : List ℕ) (x y : Send) → IsSendOf line x → IsSendOf line y → x ≡ y
+one-send line (completed t) (completed u) p q = ap completed (p.0 ∙ sym q.0)
+one-send line (completed t) refused p (inl f) = absurd (f p.1.0)
+one-send line (completed t) refused p (inr f) = absurd (f p.1.1)
+one-send line refused (completed u) (inl f) q = absurd (f q.1.0)
+one-send line refused (completed u) (inr f) q = absurd (f q.1.1)
+one-send line refused refused p q = refl
+one-send line (broken t k) y p q = absurd p
+one-send line x (broken t k) p q = absurd q
+
+-- the sends of lines begin with those of the first ones
+pub sends-split : (seen more : List (List ℕ)) (done sends : List Send) → AreSendsOf (seen ++ more) sends → AreSendsOf seen done
+    → (later : List Send) × (sends ≡ done ++ later) × AreSendsOf more later
+sends-split [] more [] sends p q = (sends, refl, p)
+sends-split [] more (d ∷ done) sends p q = absurd q
+sends-split (l ∷ seen) more [] sends p q = absurd q
+sends-split (l ∷ seen) more (d ∷ done) [] p q = absurd p
+sends-split (l ∷ seen) more (d ∷ done) (x ∷ sends) p q =
+    let k = sends-split seen more done sends p.1 q.1 in
+    (k.0, ap (λ y. y ∷ sends) (one-send l x d p.0 q.0) ∙ ap (λ ys. d ∷ ys) k.1, k.2)
+
+-- the sends of a text's lines begin with those of its first lines
+pub Sent-split : (text rest : List ℕ) (done sends : List Send) → Sent text rest done → AreSendsOf (lines_in text) sends
+    → (later : List Send) × (sends ≡ done ++ later) × AreSendsOf (lines_in rest) later
+Sent-split text rest done sends p h = sends-split p.seen (lines_in rest) done sends (rw p.lines_are at h) p.are
+
+pub session-join : (sentinel : ℕ) (done later : List Send) → session_line sentinel false (done ++ later) ≡ session_line sentinel false done ++ session_line sentinel (clean_after_all false done) later
+session-join sentinel done later = session-append sentinel false done later
+
+pub none-sent : (rest : List ℕ) (later : List Send) → length rest ≡ 0 → AreSendsOf (lines_in rest) later → later ≡ []
+none-sent [] [] l a = refl
+none-sent [] (x ∷ later) l a = absurd a
+none-sent (b ∷ rest) later l a = absurd (omega arith)
+
+-- where one of the lines can be sent, there are bytes to write
+end-some : (sentinel : ℕ) (lead frame : List ℕ) → 0 < length (lead ++ (frame ++ (sentinel ∷ [])))
+end-some sentinel lead frame = omega (arith, length-append lead (frame ++ (sentinel ∷ [])), length-append frame (sentinel ∷ []))
+
+sent-some : (sentinel : ℕ) (clean : Bool) (t : Tree) → 0 < length (sent sentinel clean t)
+sent-some sentinel clean t = end-some sentinel _ _
+
+-- the first line's bytes
+pub next-some : (sentinel : ℕ) (clean : Bool) (line : List ℕ) (more : List (List ℕ)) (sends : List Send) → AreSendsOf (line ∷ more) sends → IsSendable line
+    → 0 < length (session_line sentinel clean sends)
+next-some sentinel clean line more [] h s = absurd h
+next-some sentinel clean line more (completed t ∷ sends) h s =
+    let some = sent-some sentinel clean t in omega (arith, length-append (sent sentinel clean t) (session_line sentinel true sends))
+next-some sentinel clean line more (refused ∷ sends) (inl f, h) s = absurd (f s.0)
+next-some sentinel clean line more (refused ∷ sends) (inr f, h) s = absurd (f s.1)
+next-some sentinel clean line more (broken t k ∷ sends) h s = absurd h.0

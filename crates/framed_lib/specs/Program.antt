@@ -1,0 +1,218 @@
+-- What the program writes, what it says, and its status.
+use Rattle.std.specs.Prelude.{◌≡◌, ℕ, Bool, true, false, List, [], ◌∷◌, ◌++◌, ◌⊎◌, codes, if◌then◌else◌, Ok, IsErr}
+use Rattle.std.specs.List.{list_all}
+use Rattle.hex.specs.Hex.{encode_lower, decode_of}
+use Rattle.line_io.specs.Transfers.{Fate, whole, broken, Reach, ended, stopped, failed}
+use Rattle.link.specs.Stream.{Verdict}
+use Rattle.link.specs.Run.{Send, session_line}
+use Rattle.framed_lib.specs.declared.arguments.Mode.{Mode}
+use Rattle.framed_lib.specs.declared.arguments.Mode.TheVariants.{Pack, Unpack, Strict}
+use Rattle.framed_lib.specs.Lines.{AreAnswers, lines_of, is_value}
+use Rattle.framed_lib.specs.Sending.{lines_in, AreSendsOf, refusals, all_sent}
+
+-- the text without the line feed at its end, where it has one
+abbrev pub DropsLineFeed : List ℕ → List ℕ → Type 0
+DropsLineFeed text digits =
+    (text ≡ digits ++ 10 ∷ []) ⊎ ((text ≡ digits) × ((front : List ℕ) → text ≡ front ++ 10 ∷ [] → ⊥))
+
+-- framed bytes as they are written: as they are, or as hexadecimal digits and a line feed
+abbrev pub framed_text : Bool → List ℕ → List ℕ
+framed_text false bytes = bytes
+framed_text true bytes = encode_lower bytes ++ 10 ∷ []
+
+-- some of the framed bytes as they are written
+abbrev pub shown : Bool → List ℕ → List ℕ
+shown false bytes = bytes
+shown true bytes = encode_lower bytes
+
+-- what is written behind all of them
+abbrev pub shown_end : Bool → List ℕ
+shown_end false = []
+shown_end true = 10 ∷ []
+
+-- the bytes that a text is read as: those that it has, or those of its digits
+abbrev pub StandsFor : Bool → List ℕ → List ℕ → Type 0
+StandsFor false text stream = stream ≡ text
+StandsFor true text stream = (digits : List ℕ) × DropsLineFeed text digits × (decode_of digits ≡ Ok stream)
+
+-- the text should be hexadecimal, and isn't
+abbrev pub IsNotHex : Bool → List ℕ → Type 0
+IsNotHex false text = ⊥
+IsNotHex true text = (digits : List ℕ) × DropsLineFeed text digits × IsErr (decode_of digits)
+
+-- what is said of a text that isn't hexadecimal
+abbrev pub bad_hex : List ℕ
+bad_hex = codes "bad hex" ++ 10 ∷ []
+
+-- what is said of a failed read
+abbrev pub read_failed : List ℕ
+read_failed = codes "read failed" ++ 10 ∷ []
+
+-- what is said of a failed write
+abbrev pub write_failed : List ℕ
+write_failed = codes "write failed" ++ 10 ∷ []
+
+-- what is said when out of memory
+abbrev pub no_memory : List ℕ
+no_memory = codes "no memory" ++ 10 ∷ []
+
+-- One session over the text's lines is written, and the refused lines are said.
+pub record Packs (hex : Bool) (sentinel : ℕ) (text out said : List ℕ) (status : ℕ) : Type 0 where
+  pub sends : List Send
+  pub are : AreSendsOf (lines_in text) sends
+  pub out_is : out ≡ framed_text hex (session_line sentinel false sends)
+  pub said_is : said ≡ refusals 1 sends
+  pub status_is : status ≡ (if all_sent sends then 0 else 1)
+
+-- The lines of the stream's answers are written, and nothing is said.
+pub record Unpacks (strict hex : Bool) (sentinel : ℕ) (text out said : List ℕ) (status : ℕ) : Type 0 where
+  pub stream : List ℕ
+  pub stands : StandsFor hex text stream
+  pub verdicts : List Verdict
+  pub are : AreAnswers strict sentinel ended stream verdicts
+  pub out_is : out ≡ lines_of verdicts
+  pub said_is : said ≡ []
+  pub status_is : status ≡ (if list_all is_value verdicts then 0 else 1)
+
+-- Text that isn't hexadecimal is said to be so, and nothing is written.
+pub record Refuses (hex : Bool) (text out said : List ℕ) (status : ℕ) : Type 0 where
+  pub not_hex : IsNotHex hex text
+  pub out_is : out ≡ []
+  pub said_is : said ≡ bad_hex
+  pub status_is : status ≡ 2
+
+-- the program's text: what a run writes for what it reads, what it says, and its status
+abbrev pub Program : Mode → Bool → ℕ → List ℕ → List ℕ → List ℕ → ℕ → Type 0
+Program Pack hex sentinel text out said status = Packs hex sentinel text out said status
+Program Unpack hex sentinel text out said status = Unpacks false hex sentinel text out said status ⊎ Refuses hex text out said status
+Program Strict hex sentinel text out said status = Unpacks true hex sentinel text out said status ⊎ Refuses hex text out said status
+
+-- what is written for the text that was read before a read or a write failed: the lines of what it gives
+abbrev pub GivesLines : Bool → ℕ → List ℕ → List ℕ → Type 0
+GivesLines strict sentinel text out = (verdicts : List Verdict) × AreAnswers strict sentinel failed text verdicts × (out ≡ lines_of verdicts)
+
+-- The same, but nothing while lines are sent, or where a text is to be hexadecimal.
+abbrev pub WritesGiven : Mode → Bool → ℕ → List ℕ → List ℕ → Type 0
+WritesGiven Pack hex sentinel text out = out ≡ []
+WritesGiven Unpack true sentinel text out = out ≡ []
+WritesGiven Unpack false sentinel text out = GivesLines false sentinel text out
+WritesGiven Strict true sentinel text out = out ≡ []
+WritesGiven Strict false sentinel text out = GivesLines true sentinel text out
+
+-- The refusals of the text's first lines, as many as were looked at.
+pub record SaysFirst (text said : List ℕ) : Type 0 where
+  pub seen : List (List ℕ)
+  pub later : List (List ℕ)
+  pub lines_are : lines_in text ≡ seen ++ later
+  pub sends : List Send
+  pub are : AreSendsOf seen sends
+  pub said_is : said ≡ refusals 1 sends
+
+-- The lines of the first answers to a stream that was read as far as this front: not all that it has.
+pub record WritesFirst (strict : Bool) (sentinel : ℕ) (stream out : List ℕ) : Type 0 where
+  pub front : List ℕ
+  pub rest : List ℕ
+  pub stream_is : stream ≡ front ++ rest
+  pub verdicts : List Verdict
+  pub first : AreAnswers strict sentinel stopped front verdicts
+  pub out_is : out ≡ lines_of verdicts
+
+-- What is written and said for a text before 'no memory' is said, by how far it was read: to its end, or to where no
+-- memory was found for more. While lines are sent nothing is written, and of a text that wasn't read to its end nothing is
+-- said. Nothing is written of a text that is to be hexadecimal before all of it was read and its bytes were found memory.
+abbrev pub LacksLines : Bool → Bool → ℕ → Reach → List ℕ → List ℕ → List ℕ → Type 0
+LacksLines strict false sentinel stopped text out said =
+    (said ≡ []) × (verdicts : List Verdict) × AreAnswers strict sentinel stopped text verdicts × (out ≡ lines_of verdicts)
+LacksLines strict true sentinel stopped text out said = (said ≡ []) × (out ≡ [])
+LacksLines strict false sentinel ended text out said = ⊥
+LacksLines strict true sentinel ended text out said =
+    (said ≡ []) × ((out ≡ []) ⊎ ((stream : List ℕ) × StandsFor true text stream × WritesFirst strict sentinel stream out))
+LacksLines strict hex sentinel failed text out said = ⊥
+
+-- The same by the mode: `pack` writes and says nothing before all its text is there.
+abbrev pub Lacks : Mode → Bool → ℕ → Reach → List ℕ → List ℕ → List ℕ → Type 0
+Lacks Pack hex sentinel ended text out said = ⊥
+Lacks Pack hex sentinel stopped text out said = (out ≡ []) × (said ≡ [])
+Lacks Pack hex sentinel failed text out said = ⊥
+Lacks Unpack hex sentinel reach text out said = LacksLines false hex sentinel reach text out said
+Lacks Strict hex sentinel reach text out said = LacksLines true hex sentinel reach text out said
+
+-- Status 0, 1 and 2: the text was read to its end, and the program's text went out. No device failed.
+pub record Finishes (mode : Mode) (hex : Bool) (sentinel : ℕ) (status : ℕ) (reading : Reach → List ℕ → Type 0)
+    (writing saying : Fate → List ℕ → Type 0) : Type 0 where
+  pub text : List ℕ
+  pub out : List ℕ
+  pub said : List ℕ
+  pub is : Program mode hex sentinel text out said status
+  pub read : reading ended text
+  pub wrote : writing whole out
+  pub told : saying whole said
+
+-- A read failed: what the text so far gives was written, and 'read failed' was said.
+pub record ReadFails (mode : Mode) (hex : Bool) (sentinel : ℕ) (reading : Reach → List ℕ → Type 0) (writing : Fate → List ℕ → Type 0)
+    (says : List ℕ → Type 0) : Type 0 where
+  pub text : List ℕ
+  pub out : List ℕ
+  pub is : WritesGiven mode hex sentinel text out
+  pub read : reading failed text
+  pub wrote : writing whole out
+  pub told : says read_failed
+
+-- What is to be written and said for a text, by how far it was read, where the writer may fail. Reading may stop there, with the
+-- lines of what was read by then to be written.
+abbrev pub IsToWrite : Mode → Bool → ℕ → Reach → List ℕ → List ℕ → List ℕ → Type 0
+IsToWrite mode hex sentinel ended text out said = ((status : ℕ) × Program mode hex sentinel text out said status) ⊎ Lacks mode hex sentinel ended text out said
+IsToWrite mode hex sentinel stopped text out said = Lacks mode hex sentinel stopped text out said ⊎ (WritesGiven mode hex sentinel text out × (said ≡ []))
+IsToWrite mode hex sentinel failed text out said = WritesGiven mode hex sentinel text out × (said ≡ [])
+
+-- A write failed: the writer has a beginning, and 'write failed' was said after what was said before.
+pub record WriteFails (mode : Mode) (hex : Bool) (sentinel : ℕ) (reading : Reach → List ℕ → Type 0) (writing : Fate → List ℕ → Type 0)
+    (says : List ℕ → Type 0) : Type 0 where
+  pub reach : Reach
+  pub text : List ℕ
+  pub out : List ℕ
+  pub said : List ℕ
+  pub is : IsToWrite mode hex sentinel reach text out said
+  pub read : reading reach text
+  pub wrote : writing broken out
+  pub told : says (said ++ write_failed)
+
+-- Memory ran out: what was answered by then went out, and 'no memory' was said after what was said before.
+pub record LacksMemory (mode : Mode) (hex : Bool) (sentinel : ℕ) (reading : Reach → List ℕ → Type 0) (writing : Fate → List ℕ → Type 0)
+    (says : List ℕ → Type 0) : Type 0 where
+  pub reach : Reach
+  pub text : List ℕ
+  pub out : List ℕ
+  pub said : List ℕ
+  pub is : Lacks mode hex sentinel reach text out said
+  pub read : reading reach text
+  pub wrote : writing whole out
+  pub told : says (said ++ no_memory)
+
+-- what is said of a text before anything is written
+abbrev pub Says : Mode → Bool → List ℕ → List ℕ → Type 0
+Says Pack hex text said = SaysFirst text said
+Says Unpack hex text said = IsNotHex hex text × (said ≡ bad_hex)
+Says Strict hex text said = IsNotHex hex text × (said ≡ bad_hex)
+
+-- Standard error failed while the refusals or 'bad hex' were said: nothing was written.
+pub record SaysInVain (mode : Mode) (hex : Bool) (reading : Reach → List ℕ → Type 0) (writing : Fate → List ℕ → Type 0)
+    (says : List ℕ → Type 0) : Type 0 where
+  pub text : List ℕ
+  pub said : List ℕ
+  pub is : Says mode hex text said
+  pub read : reading ended text
+  pub wrote : writing whole []
+  pub told : says said
+
+-- Standard error failed, there or while the last line was said: it has a beginning of what was to be said.
+abbrev pub SayingFails : Mode → Bool → ℕ → (Reach → List ℕ → Type 0) → (Fate → List ℕ → Type 0) → (List ℕ → Type 0) → Type 0
+SayingFails mode hex sentinel reading writing says =
+    SaysInVain mode hex reading writing says ⊎ (ReadFails mode hex sentinel reading writing says
+    ⊎ (WriteFails mode hex sentinel reading writing says ⊎ LacksMemory mode hex sentinel reading writing says))
+
+-- Status 3: the reader, the writer or standard error failed.
+abbrev pub Fails : Mode → Bool → ℕ → (Reach → List ℕ → Type 0) → (writing saying : Fate → List ℕ → Type 0) → Type 0
+Fails mode hex sentinel reading writing saying =
+    ReadFails mode hex sentinel reading writing (saying whole)
+    ⊎ (WriteFails mode hex sentinel reading writing (saying whole) ⊎ SayingFails mode hex sentinel reading writing (saying broken))

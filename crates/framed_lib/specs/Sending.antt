@@ -1,0 +1,71 @@
+-- The sends of a text's lines, and what is said of lines that are refused.
+use Rattle.std.specs.Prelude.{◌≡◌, ℕ, ◌+◌, Bool, true, false, List, [], ◌∷◌, ◌++◌, codes, decimal, IsUtf8, ◌⊎◌, Option}
+use Rattle.std.specs.List.{AllZip, list_all}
+use Rattle.line_io.specs.Device.{Wrote}
+use Rattle.postcard_tree.specs.Tree.{IsTree, text_of}
+use Rattle.link.specs.Run.{Send, completed, refused, broken, written, clean_after, IsFramed}
+use Rattle.link.specs.Senders.{writer_of, clean_of, sentinel_of}
+use Rattle.link.specs.declared.sender.Sender.{Sender}
+use Rattle.framed_lib.specs.Pieces.{pieces}
+
+-- the pieces but for an empty one at the end
+abbrev pub filled : List (List ℕ) → List (List ℕ)
+filled [] = []
+filled ([] ∷ []) = []
+filled ((b ∷ bytes) ∷ []) = (b ∷ bytes) ∷ []
+filled (piece ∷ next ∷ pieces) = piece ∷ filled (next ∷ pieces)
+
+-- the lines of a text: what stands between line feeds, and what stands behind the last one where that isn't empty
+abbrev pub lines_in : List ℕ → List (List ℕ)
+lines_in text = filled (pieces 10 text)
+
+-- the line is text, and its frame is of at most 1024 bytes
+abbrev pub IsSendable : List ℕ → Type 0
+IsSendable line = IsUtf8 line × IsFramed IsTree 1024 (text_of line)
+
+-- What comes of a line: it is sent as a text; or it is refused, where it isn't text or its frame is longer than 1024 bytes.
+abbrev pub IsSendOf : List ℕ → Send → Type 0
+IsSendOf line (completed t) = (t ≡ text_of line) × IsSendable line
+IsSendOf line refused = (IsUtf8 line → ⊥) ⊎ (IsFramed IsTree 1024 (text_of line) → ⊥)
+IsSendOf line (broken t k) = ⊥
+
+-- what comes of each of these lines
+abbrev pub AreSendsOf : List (List ℕ) → List Send → Type 0
+AreSendsOf = AllZip IsSendOf
+
+-- whether a send went out whole
+abbrev pub is_whole : Send → Bool
+is_whole (completed t) = true
+is_whole refused = false
+is_whole (broken t k) = false
+
+-- whether no line is refused
+abbrev pub all_sent : List Send → Bool
+all_sent sends = list_all is_whole sends
+
+-- what is said of a refused line, by its number
+abbrev pub refusal : ℕ → List ℕ
+refusal number = codes "line " ++ (decimal number ++ (codes ": refused" ++ 10 ∷ []))
+
+-- what is said of the send of the line with this number
+abbrev pub said_of : ℕ → Send → List ℕ
+said_of number (completed t) = []
+said_of number refused = refusal number
+said_of number (broken t k) = []
+
+-- what is said of the sends of lines, the first of which has this number
+abbrev pub refusals : ℕ → List Send → List ℕ
+refusals number [] = []
+refusals number (x ∷ xs) = said_of number x ++ refusals (number + 1) xs
+
+-- what came of a text's first lines, where the rest of it is still to be read
+pub record Sent (text rest : List ℕ) (done : List Send) : Type 0 where
+  pub seen : List (List ℕ)
+  pub lines_are : lines_in text ≡ seen ++ lines_in rest
+  pub are : AreSendsOf seen done
+
+-- one more send by a sender
+abbrev pub Adds : {W : Type 0} → (W → Option (List ℕ)) → (W → ℕ) → Sender W 1024 → Sender W 1024 → Send → Type 0
+Adds told faults old new x =
+    Wrote (told (writer_of old)) (told (writer_of new)) (faults (writer_of old)) (faults (writer_of new)) (written (sentinel_of old) (clean_of old) x)
+    × (clean_of new ≡ clean_after (clean_of old) x) × (sentinel_of new ≡ sentinel_of old)

@@ -1,0 +1,88 @@
+-- How the work of a run ends, before its last line is said.
+use Rattle.std.specs.Prelude.{◌≡◌, ℕ, Bool, true, false, List, [], ◌++◌, ◌⊎◌, Option, Some, None, Result, Ok, Err, if◌then◌else◌}
+use Rattle.std.specs.List.{list_all}
+use Rattle.framed_lib.specs.declared.arguments.Mode.{Mode}
+use Rattle.framed_lib.specs.declared.arguments.Mode.TheVariants.{Unpack, Strict}
+use Rattle.framed_lib.specs.declared.stop.Stop.{Stop}
+use Rattle.framed_lib.specs.declared.stop.Stop.TheVariants as stop
+use Rattle.line_io.specs.Transfers.{Fate, whole, broken, Reach, ended, stopped, failed}
+use Rattle.link.specs.Stream.{Verdict}
+use Rattle.link.specs.declared.listening.End.{End}
+use Rattle.link.specs.declared.listening.End.TheVariants.{Ended, ReadFault, NoMemory}
+use Rattle.framed_lib.specs.declared.devices.WriteFault.{WriteFault}
+use Rattle.framed_lib.specs.Lines.{AreAnswers, lines_of, is_value}
+use Rattle.framed_lib.specs.Program.{Finishes, ReadFails, WriteFails, LacksMemory, SayingFails, WritesFirst, read_failed, write_failed, no_memory}
+
+-- the text was read to its end
+abbrev pub IsWhole : List ℕ → Reach → List ℕ → Type 0
+IsWhole bytes ended text = text ≡ bytes
+IsWhole bytes stopped text = ⊥
+IsWhole bytes failed text = ⊥
+
+-- the mode that reads frames, strictly or not
+abbrev pub unpacking : Bool → Mode
+unpacking false = Unpack
+unpacking true = Strict
+
+-- nothing is said
+abbrev pub says_nothing : Fate → List ℕ → Type 0
+says_nothing whole bytes = bytes ≡ []
+says_nothing broken bytes = ⊥
+
+-- the bytes end in the line, and what stands before it was said
+abbrev pub Before : List ℕ → (List ℕ → Type 0) → List ℕ → Type 0
+Before line says bytes = (said : List ℕ) × (bytes ≡ said ++ line) × says said
+
+-- how the work ends: with a status, or with what is to be said last
+abbrev pub Worked : Mode → Bool → ℕ → (Reach → List ℕ → Type 0) → (writing saying : Fate → List ℕ → Type 0) → Result ℕ Stop → Type 0
+Worked mode hex sentinel reading writing saying (Ok status) = Finishes mode hex sentinel status reading writing saying
+Worked mode hex sentinel reading writing saying (Err stop.ReadFault) = ReadFails mode hex sentinel reading writing (Before read_failed (saying whole))
+Worked mode hex sentinel reading writing saying (Err stop.WriteFault) = WriteFails mode hex sentinel reading writing (Before write_failed (saying whole))
+Worked mode hex sentinel reading writing saying (Err stop.SayingFault) = SayingFails mode hex sentinel reading writing (saying broken)
+Worked mode hex sentinel reading writing saying (Err stop.NoMemory) = LacksMemory mode hex sentinel reading writing (Before no_memory (saying whole))
+
+-- The line was said, with a status; or standard error failed.
+abbrev pub SaysLast : (Fate → List ℕ → Type 0) → List ℕ → ℕ → ℕ → Type 0
+SaysLast saying line planned status = ((status ≡ planned) × saying whole line) ⊎ ((status ≡ 3) × saying broken line)
+
+-- what is said last of how the work ended, and the status then: nothing where the work is done or standard error failed
+abbrev pub Reports : {D : Type 0} → D → D → (Fate → List ℕ → Type 0) → Result ℕ Stop → ℕ → Type 0
+Reports old new saying (Ok planned) status = (status ≡ planned) × (new ≡ old)
+Reports old new saying (Err stop.ReadFault) status = SaysLast saying read_failed 3 status
+Reports old new saying (Err stop.WriteFault) status = SaysLast saying write_failed 3 status
+Reports old new saying (Err stop.SayingFault) status = (status ≡ 3) × (new ≡ old)
+Reports old new saying (Err stop.NoMemory) status = SaysLast saying no_memory 4 status
+
+-- how the work on answers ends, by how the reception ended, whether the lines were written, and whether all are values
+abbrev pub outcome_of : End → Result (Unit {0}) WriteFault → Bool → Result ℕ Stop
+outcome_of end (Err fault) good = Err stop.WriteFault
+outcome_of Ended (Ok u) good = Ok (if good then 0 else 1)
+outcome_of ReadFault (Ok u) good = Err stop.ReadFault
+outcome_of NoMemory (Ok u) good = Err stop.NoMemory
+
+-- the same of a reception that ends too where a write failed
+abbrev pub outcome_now : Option End → Result (Unit {0}) WriteFault → Bool → Result ℕ Stop
+outcome_now None written good = Err stop.WriteFault
+outcome_now (Some end) written good = outcome_of end written good
+
+-- the end of a reception from memory, and its answers, where a fault is taken as out of memory
+abbrev pub without_fault_of : End → End
+without_fault_of Ended = Ended
+without_fault_of ReadFault = NoMemory
+without_fault_of NoMemory = NoMemory
+
+-- the answers, and none where the reception ended by a fault
+abbrev pub unless_fault : {X : Type 0} → End → List X → List X
+unless_fault Ended answers = answers
+unless_fault ReadFault answers = []
+unless_fault NoMemory answers = answers
+
+-- What comes of a stream in memory: how the work ends, and what is written.
+abbrev pub AnswersStream : Bool → ℕ → List ℕ → (Fate → List ℕ → Type 0) → Result ℕ Stop → Type 0
+AnswersStream strict sentinel stream writing (Ok status) =
+    (verdicts : List Verdict) × AreAnswers strict sentinel ended stream verdicts × (status ≡ (if list_all is_value verdicts then 0 else 1)) × writing whole (lines_of verdicts)
+AnswersStream strict sentinel stream writing (Err stop.WriteFault) =
+    (out : List ℕ) × (((verdicts : List Verdict) × AreAnswers strict sentinel ended stream verdicts × (out ≡ lines_of verdicts)) ⊎ WritesFirst strict sentinel stream out) × writing broken out
+AnswersStream strict sentinel stream writing (Err stop.NoMemory) = (out : List ℕ) × ((out ≡ []) ⊎ WritesFirst strict sentinel stream out) × writing whole out
+AnswersStream strict sentinel stream writing (Err stop.ReadFault) = ⊥
+AnswersStream strict sentinel stream writing (Err stop.SayingFault) = ⊥

@@ -1,0 +1,58 @@
+ghost use Rattle.std.specs.Prelude.{◌≡◌, ◌≢◌, ℕ, Bool, map, string_bytes, IfSome, IfNone};
+ghost use Rattle.framed_lib.specs.Words.{mode_text, NamesSentinel, AreWordsFor};
+
+/// What the program does.
+#[derive(Clone, Copy, Debug, PartialEq, Eq, Drop)]
+pub enum Mode {
+    /// Text lines to frames.
+    Pack,
+    /// Frames to text lines.
+    Unpack,
+    /// Frames to text lines, but of the frames only those count that sending makes.
+    Strict,
+}
+
+/// The mode that a word names.
+fn mode_of(word: &str) -> Option<Mode>
+    ensures some { IfSome result (λ mode. word.now ≡ mode_text mode) }
+    ensures none { IfNone result ((mode : Mode) → word.now ≢ mode_text mode) }
+{
+    match word {
+        "pack" => Some(Mode::Pack),
+        "unpack" => Some(Mode::Unpack),
+        "strict" => Some(Mode::Strict),
+        _ => None,
+    }
+}
+
+/// The sentinel that a word like `sentinel=0a` names.
+fn sentinel_of(word: &str) -> Option<u8>
+    ensures some { IfSome result (λ sentinel. NamesSentinel sentinel word.now) }
+    ensures none { IfNone result ((sentinel : ℕ) → NamesSentinel sentinel word.now → ⊥) }
+{
+    let digits = word.strip_prefix("sentinel=")?;
+    let mut sentinel = [0u8];
+    hex::decode_to_slice(digits, &mut sentinel).ok()?;
+    Some(sentinel[0])
+}
+
+/// The mode, whether the framed side is hexadecimal text, and the sentinel, by the words after the program's name:
+/// `pack`, `unpack` or `strict`, then `hex` or nothing, and then a word like `sentinel=0a` or nothing, which means zero.
+/// `None` where they are other words.
+pub fn arguments(words: &[String]) -> Option<(Mode, bool, u8)>
+    ensures some { IfSome result (λ found. AreWordsFor found.0 found.1 found.2 (map string_bytes words.now)) }
+    ensures none { IfNone result ((mode : Mode) (hex : Bool) (sentinel : ℕ) → AreWordsFor mode hex sentinel (map string_bytes words.now) → ⊥) }
+{
+    match words {
+        [mode] => Some((mode_of(mode.as_str())?, false, 0)),
+        [mode, word] => match word.as_str() {
+            "hex" => Some((mode_of(mode.as_str())?, true, 0)),
+            word => Some((mode_of(mode.as_str())?, false, sentinel_of(word)?)),
+        },
+        [mode, hex, word] => match hex.as_str() {
+            "hex" => Some((mode_of(mode.as_str())?, true, sentinel_of(word.as_str())?)),
+            _ => None,
+        },
+        _ => None,
+    }
+}

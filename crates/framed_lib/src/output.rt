@@ -1,0 +1,29 @@
+ghost use Rattle.std.specs.Prelude.{◌≡◌, ◌++◌, OnOk, OnErr};
+ghost use Rattle.line_io.specs.Transfers.{Writing, whole, broken};
+ghost use Rattle.framed_lib.specs.Output.{Puts};
+
+use crate::devices::{WriteFault, write_whole};
+use arrayvec::ArrayVec;
+use line_io::Outlet;
+
+/// How many bytes are held back, to be written at once.
+pub const ROOM: usize = 65536;
+
+/// Bytes on their way to an outlet.
+pub type Held = ArrayVec<u8, ROOM>;
+
+/// Puts bytes behind those that are held, and writes what is held first where there is no room.
+pub fn put<W: Outlet>(outlet: &mut W, held: &mut Held, bytes: &[u8]) -> Result<(), WriteFault>
+    ensures ok { OnOk result (Puts W.written W.faults outlet.old outlet.new held.old.items held.new.items bytes.now) }
+    ensures err { OnErr result (Writing W.written W.faults W.calls_left outlet.old outlet.new broken (held.old.items ++ bytes.now)) }
+{
+    if held.try_extend_from_slice(bytes).is_ok() {
+        return Ok(());
+    }
+    write_whole(outlet, held.as_slice())?;
+    held.clear();
+    if held.try_extend_from_slice(bytes).is_ok() {
+        return Ok(());
+    }
+    write_whole(outlet, bytes)
+}

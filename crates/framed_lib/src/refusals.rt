@@ -1,0 +1,74 @@
+ghost use Rattle.std.specs.Prelude.{◌≡◌, ℕ, ◌<◌, List, [], ◌++◌, IfOk, OnOk, OnErr};
+ghost use Rattle.line_io.specs.Transfers.{Writing, whole, broken};
+ghost use Rattle.framed_lib.specs.Output.{Puts};
+ghost use Rattle.link.specs.Run.{Send};
+ghost use Rattle.framed_lib.specs.Program.{SaysFirst};
+ghost use Rattle.framed_lib.specs.Sending.{lines_in, IsSendOf, AreSendsOf, is_whole, all_sent, refusal, refusals, said_of};
+
+use crate::devices::{WriteFault, write_whole};
+use crate::output::{Held, put};
+use crate::pieces::next_line;
+use crate::trial::is_sendable;
+use arrayvec::ArrayVec;
+use itoa::Buffer;
+use line_io::Outlet;
+
+/// Says that the line with this number is refused.
+fn refuse<E: Outlet>(faults: &mut E, held: &mut Held, number: usize) -> Result<(), WriteFault>
+    ensures ok { OnOk result (Puts E.written E.faults faults.old faults.new held.old.items held.new.items (refusal number)) }
+    ensures err { OnErr result (Writing E.written E.faults E.calls_left faults.old faults.new broken (held.old.items ++ refusal number)) }
+{
+    put(faults, held, b"line ")?;
+    put(faults, held, Buffer::new().format(number).as_bytes())?;
+    put(faults, held, b": refused\n")
+}
+
+/// Says that the line with this number is refused, where it is. Answers whether it isn't.
+fn judge_line<E: Outlet>(
+    line: &[u8],
+    number: usize,
+    faults: &mut E,
+    held: &mut Held,
+) -> Result<bool, WriteFault>
+    ensures ok { IfOk result (λ sendable. (x : Send) × IsSendOf line.now x × (sendable ≡ is_whole x)
+        × Puts E.written E.faults faults.old faults.new held.old.items held.new.items (said_of number x)) }
+    ensures err { OnErr result ((x : Send) × IsSendOf line.now x
+        × Writing E.written E.faults E.calls_left faults.old faults.new broken (held.old.items ++ said_of number x)) }
+{
+    if is_sendable(line) {
+        return Ok(true);
+    }
+    refuse(faults, held, number)?;
+    Ok(false)
+}
+
+/// Says which lines of the text are refused. Answers whether none is.
+fn judge_lines<E: Outlet>(text: &[u8], faults: &mut E, held: &mut Held) -> Result<bool, WriteFault>
+    requires held { held.old.items ≡ [] }
+    ensures ok { IfOk result (λ good. (sends : List Send) × AreSendsOf (lines_in text.now) sends × (good ≡ all_sent sends)
+        × Puts E.written E.faults faults.old faults.new [] held.new.items (refusals 1 sends)) }
+    ensures err { OnErr result ((said : List ℕ) × SaysFirst text.now said × Writing E.written E.faults E.calls_left faults.old faults.new broken said) }
+{
+    let mut rest = text;
+    let mut lines = 0;
+    let mut good = true;
+    while let Some((line, after)) = next_line(rest) {
+        let sendable = judge_line(line, lines + 1, faults, held)?;
+        good = good & sendable;
+        lines += 1;
+        rest = after;
+    }
+    Ok(good)
+}
+
+/// Says which lines of the text are refused, before any is sent. Answers whether none is.
+pub fn say_refusals<E: Outlet>(text: &[u8], faults: &mut E) -> Result<bool, WriteFault>
+    ensures ok { IfOk result (λ good. (sends : List Send) × AreSendsOf (lines_in text.now) sends × (good ≡ all_sent sends)
+        × Writing E.written E.faults E.calls_left faults.old faults.new whole (refusals 1 sends)) }
+    ensures err { OnErr result ((said : List ℕ) × SaysFirst text.now said × Writing E.written E.faults E.calls_left faults.old faults.new broken said) }
+{
+    let mut held: Held = ArrayVec::new();
+    let good = judge_lines(text, faults, &mut held)?;
+    write_whole(faults, held.as_slice())?;
+    Ok(good)
+}

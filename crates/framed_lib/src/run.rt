@@ -1,0 +1,125 @@
+ghost use Rattle.std.specs.Prelude.{◌≡◌, ◌<◌, ◌≤◌};
+ghost use Rattle.line_io.specs.Transfers.{Writing, Reading, whole};
+ghost use Rattle.framed_lib.specs.Program.{Finishes, Fails, LacksMemory};
+ghost use Rattle.framed_lib.specs.Working.{Worked, SaysLast, Reports};
+
+use crate::arguments::Mode;
+use crate::devices::write_whole;
+use crate::pack::pack;
+use crate::stop::Stop;
+use crate::unpack::unpack;
+use line_io::{Inlet, Outlet};
+use std::alloc::Global;
+
+/// What a run leaves.
+#[derive(Drop)]
+pub struct Ran<R, W, E> {
+    /// The status that the program ends with, from 0 to 4.
+    pub status: u8,
+    /// The reader, after this run's reads.
+    pub reader: R,
+    /// The writer, after this run's writes.
+    pub writer: W,
+    /// Standard error, after what this run said.
+    pub faults: E,
+}
+
+/// Does the work of the program: reads a text to its end, writes what the mode makes of it, and says on `faults` what
+/// went wrong.
+///
+/// `Mode::Pack` sends each line as text by one sender, and says `line K: refused` of a line that isn't UTF-8 or whose frame
+/// is longer than 1024 bytes; the refusals are said before the frames are written. `Mode::Unpack` writes a line for each
+/// answer to the framed bytes: `value` and the text, with a backslash as `\\` and a line feed as `\n`; `damaged`;
+/// `too long`, of a stretch of more than 1024 bytes; or `cut`. `Mode::Strict` does the same, but a stretch that isn't
+/// exactly what sending its text makes is `damaged`. With `hex` the framed side is hexadecimal text, in lower case where it
+/// is written. The sentinel stands on the line round each frame, whose bytes are XORed with it.
+///
+/// The status is 0; 1 where a line was refused or an answer isn't a value; 2 where the text isn't hexadecimal; 3 where a
+/// device failed; 4 where memory ran out. Statuses 2 to 4 end the run, and the last line on `faults` says why.
+pub fn run<R: Inlet, W: Outlet, E: Outlet>(
+    alloc: Global,
+    mode: Mode,
+    hex: bool,
+    sentinel: u8,
+    reader: R,
+    writer: W,
+    mut faults: E,
+) -> Ran<R, W, E>
+    // The text was read to its end, and all that the program writes and says for it went out.
+    ensures finished { result.status < 3 → Finishes mode hex sentinel result.status
+        (Reading R.to_come R.faults R.calls_left reader result.reader)
+        (Writing W.written W.faults W.calls_left writer result.writer)
+        (Writing E.written E.faults E.calls_left faults result.faults) }
+
+    // A device failed.
+    ensures failed { result.status ≡ 3 → Fails mode hex sentinel
+        (Reading R.to_come R.faults R.calls_left reader result.reader)
+        (Writing W.written W.faults W.calls_left writer result.writer)
+        (Writing E.written E.faults E.calls_left faults result.faults) }
+
+    // Memory ran out, and no device failed: the lines of the first answers went out.
+    ensures memory { result.status ≡ 4 → LacksMemory mode hex sentinel
+        (Reading R.to_come R.faults R.calls_left reader result.reader)
+        (Writing W.written W.faults W.calls_left writer result.writer)
+        (Writing E.written E.faults E.calls_left faults result.faults whole) }
+
+    ensures range { result.status ≤ 4 }
+{
+    let (reader, writer, worked) = work(alloc, mode, hex, sentinel, reader, writer, &mut faults);
+    let status = report(&mut faults, worked);
+    Ran {
+        status,
+        reader,
+        writer,
+        faults,
+    }
+}
+
+/// Does the work, but for the last line on `faults`.
+fn work<R: Inlet, W: Outlet, E: Outlet>(
+    alloc: Global,
+    mode: Mode,
+    hex: bool,
+    sentinel: u8,
+    reader: R,
+    writer: W,
+    faults: &mut E,
+) -> (R, W, Result<u8, Stop>)
+    ensures { Worked mode hex sentinel (Reading R.to_come R.faults R.calls_left reader result.0)
+        (Writing W.written W.faults W.calls_left writer result.1)
+        (Writing E.written E.faults E.calls_left faults.old faults.new) result.2 }
+{
+    match mode {
+        Mode::Pack => {
+            let mut reader = reader;
+            let mut writer = writer;
+            let worked = pack(alloc, hex, sentinel, &mut reader, &mut writer, faults);
+            (reader, writer, worked)
+        }
+        Mode::Unpack => unpack(alloc, false, hex, sentinel, reader, writer, faults),
+        Mode::Strict => unpack(alloc, true, hex, sentinel, reader, writer, faults),
+    }
+}
+
+/// Says why the work ended early, and gives the status.
+fn report<E: Outlet>(faults: &mut E, worked: Result<u8, Stop>) -> u8
+    ensures { Reports faults.old faults.new (Writing E.written E.faults E.calls_left faults.old faults.new) worked result }
+{
+    match worked {
+        Ok(status) => status,
+        Err(Stop::ReadFault) => say_last(faults, b"read failed\n", 3),
+        Err(Stop::WriteFault) => say_last(faults, b"write failed\n", 3),
+        Err(Stop::SayingFault) => 3,
+        Err(Stop::NoMemory) => say_last(faults, b"no memory\n", 4),
+    }
+}
+
+/// Says the last line, and gives the status.
+fn say_last<E: Outlet>(faults: &mut E, line: &[u8], status: u8) -> u8
+    ensures { SaysLast (Writing E.written E.faults E.calls_left faults.old faults.new) line.now status result }
+{
+    match write_whole(faults, line) {
+        Ok(()) => status,
+        Err(_) => 3,
+    }
+}

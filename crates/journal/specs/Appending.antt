@@ -1,0 +1,61 @@
+-- What appending and opening do.
+use Rattle.std.specs.Prelude.{◌≡◌, ℕ, ◌+◌, ◌-◌, ◌^◌, ◌<◌, Bool, true, false, List, [], ◌∷◌, length, Option, Some, IfSome, Result, Ok, Err}
+use Rattle.cobs.specs.Frames.{shortest_frame}
+use Rattle.line_io.specs.Device.{Wrote}
+use Rattle.postcard_tree.specs.Tree.{Tree, IsTree}
+use Rattle.postcard_tree.specs.declared.error.Error.TheVariants.{SerializeBufferFull}
+use Rattle.postcard.specs.Written.{UnlessRefused}
+use Rattle.link.specs.Run.{Send, completed, refused, broken, written, IsSend}
+use Rattle.link.specs.declared.receiver.Answer.{Answer}
+use Rattle.stores.specs.Store.{Settles}
+use Rattle.journal.specs.Records.{numbered, record_of}
+use Rattle.journal.specs.Reading.{IsHanded}
+use Rattle.journal.specs.declared.log.AppendError.{AppendError}
+use Rattle.journal.specs.declared.log.AppendError.TheVariants.{Refused, Line, Spent, Full}
+
+-- what an append did, as a send of a clean sender on the log's line, by its answer: the record with this number went out whole, or
+-- a beginning of its bytes did, or it was refused
+abbrev pub IsAppend : ℕ → Bool → ℕ → Option Tree → Result ℕ AppendError → Send → Type 0
+IsAppend limit spent n writes (Ok m) x = (m ≡ n) × ((v : Tree) × (writes ≡ Some v) × (x ≡ completed (numbered n v)))
+IsAppend limit spent n writes (Err Line) x = (v : Tree) × (k : ℕ) × (writes ≡ Some v) × (x ≡ broken (numbered n v) k)
+IsAppend limit spent n writes (Err (Refused e)) x = (x ≡ refused) × UnlessRefused (record_of n writes) (λ bytes. (e ≡ SerializeBufferFull) × (limit < length (shortest_frame bytes)))
+IsAppend limit spent n writes (Err Spent) x = (x ≡ refused) × (spent ≡ true)
+IsAppend limit spent n writes (Err Full) x = (x ≡ refused) × (n ≡ 2 ^ 64 - 1)
+
+-- the number behind an append, and whether the journal is spent then
+abbrev pub next_after : ℕ → Result ℕ AppendError → ℕ
+next_after n (Ok m) = n + 1
+next_after n (Err e) = n
+
+-- it is spent from the first append on that failed by the line
+abbrev pub spent_after : Bool → Result ℕ AppendError → Bool
+spent_after spent (Err Line) = true
+spent_after spent r = spent
+
+-- an append to a store that held the first and now holds the second
+pub record Appended (limit : ℕ) (spent : Bool) (n : ℕ) (writes : Option Tree) (r : Result ℕ AppendError) (old new : Option (List ℕ)) (before after : ℕ) : Type 0 where
+  pub send : Send
+  pub is_send : IsSend IsTree limit 0 true send
+  pub is : IsAppend limit spent n writes r send
+  pub wrote : Wrote old new before after (written 0 true send)
+
+-- a fact where the store failed to take bytes
+abbrev pub OnLine : Result ℕ AppendError → Type 0 → Type 0
+OnLine (Err Line) P = P
+OnLine _ P = Unit {0}
+
+-- a fact where nothing was tried
+abbrev pub Unless : Result ℕ AppendError → Type 0 → Type 0
+Unless (Ok m) P = Unit {0}
+Unless (Err Line) P = Unit {0}
+Unless (Err (Refused e)) P = P
+Unless (Err Spent) P = P
+Unless (Err Full) P = P
+
+-- A log was opened: a zero was put behind what the store held; no crash takes any of that; and what is read of it was handed on.
+pub record IsOpened {S V : Type 0} (took : S → List (Answer (ℕ × V)) → S → Type 0) (takes : Tree → Type 0) (reads : Tree → V → Type 0) (limit first : ℕ) (old new : Option (List ℕ)) (before after settled : ℕ) (visitor later : S) (next : ℕ) (spent : Bool) : Type 0 where
+  pub wrote : Wrote old new before after (0 ∷ [])
+  pub quiet : after ≡ before
+  pub settles : Settles new settled
+  pub read : IfSome new (λ bytes. IsHanded took takes reads limit first visitor later next bytes)
+  pub ready : spent ≡ false

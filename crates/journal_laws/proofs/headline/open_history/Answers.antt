@@ -1,0 +1,6 @@
+use Rattle.journal_laws.proofs.Opened.{opens_history}
+use Rattle.journal_laws.proofs.headline.open_history.Goals as goal
+
+pub returns-in-Ok : goal.returns-in-Ok
+returns-in-Ok g c =
+    opens_history g.V.Visitor.took g.T.Readable.takes g.T.Readable.reads g.row.N (c.counts_on.ensures.strict g.row.N 0) (c.append.ensures.strict g.row.N 0) _ _ _ _ _ _ _ _ _ c.in-Ok.ensures.opened

@@ -1,0 +1,5 @@
+use Rattle.journal_scan.proofs.Standing.{stands_longer}
+use Rattle.journal_scan.proofs.laws.goes_on.Goals as goal
+
+pub returns : goal.returns
+returns c limit bytes more scan s = stands_longer bytes more s

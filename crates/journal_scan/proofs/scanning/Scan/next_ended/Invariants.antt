@@ -1,0 +1,16 @@
+use Rattle.std.proofs.Common.{◌≡◌, ℕ, List, Some, take}
+use Rattle.link.specs.Stream.{ended}
+use Rattle.journal_scan.specs.Scanning.{IsScanning, offset_of}
+use Rattle.journal_scan.proofs.scanning.Scan.next_ended.Given as goal
+
+-- no stretch ended so far
+abbrev pub invariant-loop-stretch : goal.invariant-loop-stretch
+invariant-loop-stretch g l = record {
+  held : g.S.Store.held l.store ≡ g.S.Store.held l.fn.store;
+  settled : g.S.Store.settled l.store ≡ g.S.Store.settled l.fn.store;
+  quiet : g.S.Store.faults l.store ≡ g.S.Store.faults l.fn.store;
+  goes : (limit : ℕ) (bytes : List ℕ) → g.S.Store.held l.fn.store ≡ Some bytes → IsScanning limit bytes l.fn.self → IsScanning limit bytes l.self × (ended 0 (take (offset_of l.self) bytes) ≡ ended 0 (take (offset_of l.fn.self) bytes));
+}
+
+abbrev pub decreases-loop-stretch : goal.decreases-loop-stretch
+decreases-loop-stretch g l = g.S.Store.calls_left l.store

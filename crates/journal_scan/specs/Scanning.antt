@@ -1,0 +1,89 @@
+-- Where a scan of a log stands, and what it finds.
+use Rattle.std.specs.Prelude.{◌≡◌, ℕ, ◌+◌, ◌<◌, ◌≤◌, nat_lt, Bool, List, [], ◌∷◌, ◌++◌, length, take, drop, Option, Some, None, Result, Ok, Err}
+use Rattle.cobs.specs.Frames.{NoZero}
+use Rattle.cobs.specs.declared.dec.CobsDecoderOwned.{CobsDecoderOwned}
+use Rattle.postcard_tree.specs.Tree.{Tree}
+use Rattle.link.specs.Stream.{Verdict, ended, unfinished, IsAnswer, HoldsExactly}
+use Rattle.link.specs.Laws.{EndsBetween}
+use Rattle.link.specs.Pushes.{Matches}
+use Rattle.link.specs.Decoding.{in_owner}
+use Rattle.link.specs.Receivers.{IsBehind}
+use Rattle.link.specs.declared.reception.Reception.{Reception}
+use Rattle.link.specs.declared.receiver.Answer.{Answer}
+use Rattle.link.specs.declared.receiver.Answer.TheVariants.{TooLong, Cut}
+use Rattle.journal.specs.Records.{takes_record, reads_record}
+use Rattle.journal_scan.specs.declared.scanning.Scan.{Scan}
+use Rattle.journal_scan.specs.declared.scanning.ScanError.{ScanError}
+use Rattle.journal_scan.specs.declared.scanning.Stretch.{Stretch}
+
+-- The bytes from..to of a log are this stretch; it stands behind a zero or at the front, a zero stands behind it, and this is the
+-- answer to it.
+pub record IsStretchAt {V : Type 0} (holds : List ℕ → Tree → Type 0) (reads : Tree → V → Type 0) (limit : ℕ) (bytes stretch : List ℕ) (from to : ℕ) (answer : Answer V) : Type 0 where
+  pub front : List ℕ
+  pub rest : List ℕ
+  pub bytes_are : bytes ≡ front ++ (stretch ++ (0 ∷ rest))
+  pub from_is : length front ≡ from
+  pub to_is : from + length stretch ≡ to
+  pub between : EndsBetween 0 front
+  pub nonzero : NoZero stretch
+  pub some : 0 < length stretch
+  pub verdict : Verdict
+  pub says : Matches reads answer verdict
+  pub is : IsAnswer holds limit stretch verdict
+
+-- Between an offset and a later one the stretches that end are this one alone.
+pub record IsNext {V : Type 0} (holds : List ℕ → Tree → Type 0) (reads : Tree → V → Type 0) (limit : ℕ) (bytes : List ℕ) (old new from to : ℕ) (answer : Answer V) : Type 0 where
+  pub stretch : List ℕ
+  pub is : IsStretchAt holds reads limit bytes stretch from to answer
+  pub behind : new ≡ to + 1
+  pub next : ended 0 (take new bytes) ≡ ended 0 (take old bytes) ++ (stretch ∷ [])
+
+-- Where a scan stands in a log's bytes: what it read last is what stands at its offset; its receiver stands behind the bytes before;
+-- and the unfinished stretch of these begins at `from`.
+pub record Stands (limit : ℕ) (receiver : Reception CobsDecoderOwned) (at from : ℕ) (past : Bool) (unread bytes : List ℕ) : Type 0 where
+  pub within : at ≤ length bytes
+  pub rest : List ℕ
+  pub unread_is : drop at bytes ≡ unread ++ rest
+  pub from_is : from + length (unfinished 0 (take at bytes)) ≡ at
+  pub behind : IsBehind in_owner limit 0 receiver (take at bytes)
+  pub past_is : past ≡ nat_lt limit (length (unfinished 0 (take at bytes)))
+
+-- a scan of these bytes, with stretches of at most so many
+abbrev pub IsScanning : ℕ → List ℕ → Scan → Type 0
+IsScanning limit bytes scan = Stands limit scan.receiver scan.at scan.from scan.past (drop scan.start (take scan.end scan.room.items)) bytes
+
+-- the offset of a scan's next byte
+abbrev pub offset_of : Scan → ℕ
+offset_of scan = scan.at
+
+-- what a scan found between two offsets, strictly: no stretch ends there, or this one does
+abbrev pub Found : {V : Type 0} → (Tree → Type 0) → (Tree → V → Type 0) → ℕ → List ℕ → ℕ → ℕ → Option (Stretch V) → Type 0
+Found takes reads limit bytes old new None = ended 0 (take new bytes) ≡ ended 0 (take old bytes)
+Found takes reads limit bytes old new (Some s) = IsNext (HoldsExactly (takes_record takes)) (reads_record reads) limit bytes old new s.from s.to s.answer
+
+-- what a scan found of these bytes; at an error it found nothing
+abbrev pub Goes : {V : Type 0} → (Tree → Type 0) → (Tree → V → Type 0) → ℕ → List ℕ → Scan → Scan → Result (Option (Stretch V)) ScanError → Type 0
+Goes takes reads limit bytes old new (Ok o) = IsScanning limit bytes new × Found takes reads limit bytes old.at new.at o
+Goes takes reads limit bytes old new (Err e) = IsScanning limit bytes new
+
+-- what is next in a log: a stretch; or no further stretch ends in it, and the scan is behind its last byte
+abbrev pub FoundAll : {V : Type 0} → (Tree → Type 0) → (Tree → V → Type 0) → ℕ → List ℕ → ℕ → ℕ → Option (Stretch V) → Type 0
+FoundAll takes reads limit bytes old new None = (new ≡ length bytes) × (ended 0 bytes ≡ ended 0 (take old bytes))
+FoundAll takes reads limit bytes old new (Some s) = Found takes reads limit bytes old new (Some s)
+
+-- the answer to a stretch of so many bytes that no zero ends
+abbrev pub IsOver : {V : Type 0} → ℕ → ℕ → Answer V → Type 0
+IsOver limit n TooLong = limit < n
+IsOver limit n Cut = n ≤ limit
+IsOver limit n a = ⊥
+
+-- the stretch that no zero ends: its place, and whether it is too long
+abbrev pub IsUnfinished : {V : Type 0} → ℕ → List ℕ → ℕ → Option (Stretch V) → Type 0
+IsUnfinished limit bytes at None = unfinished 0 (take at bytes) ≡ []
+IsUnfinished limit bytes at (Some s) =
+    (0 < length (unfinished 0 (take at bytes))) × (s.to ≡ at) × (s.from + length (unfinished 0 (take at bytes)) ≡ at)
+    × IsOver limit (length (unfinished 0 (take at bytes))) s.answer
+
+-- A scan of a log is one of each longer log that begins with it.
+abbrev pub GoesOn : Type 0
+GoesOn = (limit : ℕ) (bytes more : List ℕ) (scan : Scan) → IsScanning limit bytes scan → IsScanning limit (bytes ++ more) scan

@@ -1,0 +1,269 @@
+//! Going over a log stretch by stretch, with the places of the stretches.
+ghost use Rattle.std.specs.Prelude.{◌≡◌, ◌+◌, ◌-◌, ◌<◌, ◌≤◌, ◌^◌, ℕ, List, ◌∷◌, ◌++◌, Err, OnOk, IfOk, IfErr, IfSome, MatchOption, MatchResult, length, take, drop, vec_len, true, false};
+ghost use Rattle.line_io.specs.Transfers.{Failed};
+ghost use Rattle.link.specs.Laws.{EndsBetween};
+ghost use Rattle.link.specs.Stream.{ended};
+ghost use Rattle.stores.specs.Store.{EndsBefore};
+
+use link::{Answer, OwnedReceiver, Pushed};
+use postcard::{DeserializeOwned, Exact};
+use std::alloc::Global;
+use stores::Store;
+use thiserror::Error;
+
+// How many bytes are asked for in one read.
+const ROOM: usize = 1024;
+
+/// Why the next stretch isn't known.
+#[derive(Clone, Copy, PartialEq, Eq, Debug, Drop, Error)]
+pub enum ScanError {
+    /// A read failed, or the store has no call left.
+    #[error("read failed")]
+    Fault,
+    /// No memory was found for a value.
+    #[error("no memory")]
+    NoMemory,
+}
+
+/// A stretch of a log: the bytes from..to of the store, which are no zeros, and the answer to them. Behind it stands a zero, or the
+/// store's end.
+#[derive(Drop)]
+pub struct Stretch<T> {
+    /// The offset of its first byte.
+    pub from: u64,
+    /// The offset behind its last byte.
+    pub to: u64,
+    /// What it is.
+    pub answer: Answer<(u64, T)>,
+}
+
+/// Goes over a log, and keeps one read's bytes of it.
+#[derive(Drop)]
+pub struct Scan {
+    receiver: OwnedReceiver,
+    // what was read last: start..end of it stands at the offset `at`, and wasn't gone over yet
+    room: Vec<u8>,
+    start: usize,
+    end: usize,
+    at: u64,
+    // where the unfinished stretch begins, and whether it is too long
+    from: u64,
+    past: bool,
+    ghost order: { start ≤ end },
+    ghost in_room: { end ≤ vec_len room },
+    ghost some_room: { 0 < vec_len room },
+    ghost fits: { at + (end - start) < 2 ^ 64 },
+}
+
+impl Scan {
+    ghost use Rattle.journal_scan.specs.Scanning.{IsScanning, offset_of, Goes, Found, FoundAll, IsUnfinished};
+
+    /// From an offset on, which is 0 or stands behind a zero, with stretches of at most `limit` bytes. Takes memory for one
+    /// stretch's and one read's bytes.
+    pub fn new(alloc: Global, limit: usize, at: u64) -> Result<Scan, ScanError>
+        ensures stands { IfOk result (λ scan. (bytes : List ℕ) → at ≤ length bytes → EndsBetween 0 (take at bytes) → IsScanning limit bytes scan) }
+        ensures at { IfOk result (λ scan. offset_of scan ≡ at) }
+    {
+        let Ok(receiver) = OwnedReceiver::new(alloc, limit, 0) else {
+            return Err(ScanError::NoMemory);
+        };
+        let mut room = Vec::new(alloc);
+        match room.resize(ROOM, 0u8) {
+            Ok(()) => Ok(Scan {
+                receiver,
+                room,
+                start: 0,
+                end: 0,
+                at,
+                from: at,
+                past: false,
+            }),
+            Err(_) => Err(ScanError::NoMemory),
+        }
+    }
+
+    /// The offset of the next byte.
+    pub fn at(&self) -> u64
+        ensures { result ≡ offset_of self.now }
+    {
+        self.at
+    }
+
+    // Reads what stands at the offset; false is the end.
+    fn fill<S: Store>(&mut self, store: &mut S) -> Result<bool, ScanError>
+        ensures stands { (limit : ℕ) (bytes : List ℕ) → S.held store.old ≡ Some bytes → IsScanning limit bytes self.old → IsScanning limit bytes self.new }
+        ensures at { self.new.at ≡ self.old.at }
+        ensures end { IfOk result (λ more. more ≡ false → EndsBefore (S.held store.old) self.old.at) }
+        ensures held { S.held store.new ≡ S.held store.old }
+        ensures settled { S.settled store.new ≡ S.settled store.old }
+        ensures quiet { OnOk result (S.faults store.new ≡ S.faults store.old) }
+        ensures fault { IfErr result (λ e. Failed (S.faults store.old) (S.faults store.new) (S.calls_left store.new)) }
+        ensures calls { OnOk result (S.calls_left store.new < S.calls_left store.old) }
+    {
+        match store.read_at(self.at, &mut self.room) {
+            None => {
+                self.start = 0;
+                self.end = 0;
+                Err(ScanError::Fault)
+            }
+            Some(n) => {
+                self.start = 0;
+                self.end = n;
+                Ok(n > 0)
+            }
+        }
+    }
+
+    // Passes the zeros in front, where no stretch is begun.
+    fn skip_zeros(&mut self)
+        ensures stands { (limit : ℕ) (bytes : List ℕ) → IsScanning limit bytes self.old → IsScanning limit bytes self.new × (ended 0 (take self.new.at bytes) ≡ ended 0 (take self.old.at bytes)) }
+        ensures past { self.new.past ≡ self.old.past }
+        ensures first { self.new.from ≡ self.new.at → (rest : List ℕ) → drop self.new.start (take self.new.end self.new.room.items) ≡ 0 ∷ rest → ⊥ }
+    {
+        if self.from < self.at {
+            return;
+        }
+        while self.start < self.end && self.room[self.start] == 0 {
+            self.start += 1;
+            self.at += 1;
+            self.from = self.at;
+        }
+    }
+
+    // Gives the receiver what was read, up to the first answer.
+    fn push<T: DeserializeOwned + Exact>(
+        &mut self,
+        alloc: Global,
+    ) -> Result<Option<Stretch<T>>, ScanError>
+        requires first { self.old.from ≡ self.old.at → (rest : List ℕ) → drop self.old.start (take self.old.end self.old.room.items) ≡ 0 ∷ rest → ⊥ }
+        requires within { self.old.past ≡ false }
+        ensures goes { (limit : ℕ) (bytes : List ℕ) → IsScanning limit bytes self.old → Goes T.takes T.reads limit bytes self.old self.new result }
+        ensures memory { IfErr result (λ e. e ≡ ScanError.NoMemory) }
+    {
+        if self.start == self.end {
+            return Ok(None);
+        }
+        let (front, _) = self.room.split_at(self.end);
+        let (_, rest) = front.split_at(self.start);
+        let Pushed { used, answer, .. } = self.receiver.push_strict::<(u64, T)>(alloc, rest);
+        let from = self.from;
+        let to = self.at + (used - 1) as u64;
+        self.start += used;
+        self.at += used as u64;
+        match answer {
+            Ok(None) => Ok(None),
+            Ok(Some(Answer::TooLong)) => {
+                self.past = true;
+                Ok(None)
+            }
+            Ok(Some(Answer::Value(record))) => {
+                self.from = self.at;
+                let answer = Answer::Value(record);
+                Ok(Some(Stretch { from, to, answer }))
+            }
+            Ok(Some(Answer::Damaged)) => {
+                self.from = self.at;
+                let answer = Answer::Damaged;
+                Ok(Some(Stretch { from, to, answer }))
+            }
+            Ok(Some(Answer::Cut)) => {
+                self.from = self.at;
+                let answer = Answer::Cut;
+                Ok(Some(Stretch { from, to, answer }))
+            }
+            Err(_) => {
+                self.from = self.at;
+                Err(ScanError::NoMemory)
+            }
+        }
+    }
+
+    // Passes a stretch that is too long, and answers it where its zero was read.
+    fn pass<T: DeserializeOwned>(&mut self) -> Option<Stretch<T>>
+        requires past { self.old.past ≡ true }
+        ensures stands { (limit : ℕ) (bytes : List ℕ) → IsScanning limit bytes self.old → IsScanning limit bytes self.new × Found T.takes T.reads limit bytes self.old.at self.new.at result }
+    {
+        while self.start < self.end {
+            let byte = self.room[self.start];
+            let (from, to) = (self.from, self.at);
+            self.start += 1;
+            self.at += 1;
+            if byte == 0 {
+                let _ = self.receiver.restart::<()>();
+                self.from = self.at;
+                self.past = false;
+                return Some(Stretch {
+                    from,
+                    to,
+                    answer: Answer::TooLong,
+                });
+            }
+        }
+        None
+    }
+
+    /// The stretch that no zero ends yet, where one is begun: `Cut`, or `TooLong`.
+    pub fn unfinished<T>(&self) -> Option<Stretch<T>>
+        ensures { (limit : ℕ) (bytes : List ℕ) → IsScanning limit bytes self.now → IsUnfinished limit bytes (offset_of self.now) result }
+    {
+        let (from, to) = (self.from, self.at);
+        if from == to {
+            return None;
+        }
+        let answer = if self.past {
+            Answer::TooLong
+        } else {
+            Answer::Cut
+        };
+        Some(Stretch { from, to, answer })
+    }
+
+    // The next stretch that a zero ends in what was read.
+    fn next_read<T: DeserializeOwned + Exact>(
+        &mut self,
+        alloc: Global,
+    ) -> Result<Option<Stretch<T>>, ScanError>
+        ensures goes { (limit : ℕ) (bytes : List ℕ) → IsScanning limit bytes self.old → Goes T.takes T.reads limit bytes self.old self.new result }
+        ensures memory { IfErr result (λ e. e ≡ ScanError.NoMemory) }
+    {
+        if self.past {
+            return Ok(self.pass::<T>());
+        }
+        self.skip_zeros();
+        match self.push::<T>(alloc)? {
+            Some(stretch) => Ok(Some(stretch)),
+            None => {
+                if self.past {
+                    Ok(self.pass::<T>())
+                } else {
+                    Ok(None)
+                }
+            }
+        }
+    }
+
+    /// The next stretch that a zero ends; nothing at the end of what the store holds now. Called again later, it goes on behind
+    /// what was appended since. At `NoMemory` it stands behind the stretch whose value had no memory, at `Fault` where it stood.
+    pub fn next_ended<T: DeserializeOwned + Exact, S: Store>(
+        &mut self,
+        alloc: Global,
+        store: &mut S,
+    ) -> Result<Option<Stretch<T>>, ScanError>
+        ensures stands { (limit : ℕ) (bytes : List ℕ) → S.held store.old ≡ Some bytes → IsScanning limit bytes self.old → IsScanning limit bytes self.new }
+        ensures found { IfOk result (λ o. (limit : ℕ) (bytes : List ℕ) → S.held store.old ≡ Some bytes → IsScanning limit bytes self.old → FoundAll T.takes T.reads limit bytes (offset_of self.old) (offset_of self.new) o) }
+        ensures held { S.held store.new ≡ S.held store.old }
+        ensures settled { S.settled store.new ≡ S.settled store.old }
+        ensures quiet { OnOk result (S.faults store.new ≡ S.faults store.old) }
+        ensures fault { result ≡ Err ScanError.Fault → Failed (S.faults store.old) (S.faults store.new) (S.calls_left store.new) }
+    {
+        loop {
+            match self.next_read::<T>(alloc)? {
+                Some(stretch) => return Ok(Some(stretch)),
+                None => {}
+            }
+            if !self.fill(store)? {
+                return Ok(None);
+            }
+        }
+    }
+}

@@ -1,0 +1,15 @@
+use Rattle.std.proofs.Common.{◌≡◌, ◌≤◌, ◌+◌, ℕ, List, ◌++◌, length}
+use Rattle.line_io.specs.Transfers.{WentOut}
+use Rattle.line_io.proofs.transfers.write_all.Given as goal
+
+abbrev pub invariant-loop-rest : goal.invariant-loop-rest
+invariant-loop-rest g l = record {
+  sent : List ℕ;
+  are : l.bytes ≡ sent ++ l.rest;
+  out : WentOut (g.W.Outlet.written l.fn.outlet) (g.W.Outlet.written l.outlet) (g.W.Outlet.faults l.fn.outlet) (g.W.Outlet.faults l.outlet) sent;
+  calls : g.W.Outlet.calls_left l.outlet ≤ g.W.Outlet.calls_left l.fn.outlet;
+  few : g.W.Outlet.calls_left l.fn.outlet ≤ g.W.Outlet.calls_left l.outlet + length sent;
+}
+
+abbrev pub decreases-loop-rest : goal.decreases-loop-rest
+decreases-loop-rest g l = length l.rest

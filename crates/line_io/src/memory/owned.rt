@@ -1,0 +1,112 @@
+ghost use Rattle.std.specs.Prelude.{◌≡◌, ℕ, ◌+◌, ◌-◌, ◌≤◌, ◌<◌, ◌^◌, length, Option, None, Some, IfSome};
+ghost use Rattle.line_io.specs.Device.{Wrote, moved_front, write_faults};
+ghost use Rattle.line_io.specs.Plan.{GoesOn};
+
+use crate::memory::Fault;
+use crate::traits::Outlet;
+
+/// An [`Outlet`](crate::Outlet) into memory of its own, which grows.
+///
+/// Each write takes its piece, and at most `each` bytes of it. A growth that finds no memory is a fault.
+///
+/// It tells its bytes after a fault too, and what owns it can hand it on: so a contract can say what was written.
+///
+/// ```
+/// let mut out = OwnedOut::new(Vec::new(alloc), 2, None);
+/// assert!(rt; out.write(b"abc") == Some(2));
+/// assert!(rt; out.into_bytes() == *b"ab");
+/// ```
+#[derive(Drop)]
+pub struct OwnedOut {
+    bytes: Vec<u8>,
+    each: usize,
+    fault: Option<(usize, Fault)>,
+    faults: u64,
+    calls: u64,
+    ghost some_each: { 0 < each },
+    ghost counted: { faults + calls ≤ 2 ^ 64 - 1 },
+}
+
+impl OwnedOut {
+    ghost use Rattle.line_io.specs.Memory.{owned_bytes, owned_plan};
+
+    /// A device that writes behind these bytes, at most `each` a call; the caller owes 1 or more.
+    ///
+    /// After as many bytes as `fault` says, the next write of a nonempty piece is that fault, and then it goes on.
+    pub fn new(bytes: Vec<u8>, each: usize, fault: Option<(usize, Fault)>) -> OwnedOut
+        requires { 0 < each }
+        ensures written { ⟦<OwnedOut as Outlet>⟧.written result ≡ Some bytes.items }
+        ensures faults { ⟦<OwnedOut as Outlet>⟧.faults result ≡ 0 }
+        ensures calls { ⟦<OwnedOut as Outlet>⟧.calls_left result ≡ 2 ^ 64 - 1 }
+        ensures plan { owned_plan result ≡ record { each = each; fault = fault } }
+    {
+        OwnedOut {
+            bytes,
+            each,
+            fault,
+            faults: 0,
+            calls: u64::MAX,
+        }
+    }
+
+    /// The bytes that it was given at first, and behind them those that it has taken.
+    pub fn into_bytes(self) -> Vec<u8>
+        ensures { ⟦<OwnedOut as Outlet>⟧.written self ≡ Some result.items }
+    {
+        let OwnedOut {
+            bytes,
+            each: _,
+            fault: _,
+            faults: _,
+            calls: _,
+        } = self;
+        bytes
+    }
+}
+
+impl Outlet for OwnedOut {
+    ghost use Rattle.line_io.specs.Memory.{owned_bytes, owned_plan, owned_faults, owned_calls};
+
+    ghost written = { λ s. Some (owned_bytes s) };
+
+    ghost faults = { owned_faults };
+
+    ghost calls_left = { owned_calls };
+
+    fn write(&mut self, piece: &[u8]) -> Option<usize>
+        ensures bound { IfSome result (λ n. n ≤ length piece.now) }
+        ensures bytes { Wrote (Some (owned_bytes self.old)) (Some (owned_bytes self.new)) (owned_faults self.old) (owned_faults self.new) (moved_front result piece.now) }
+        ensures faults { owned_faults self.new ≡ owned_faults self.old + write_faults (owned_calls self.old) result piece.now }
+        ensures calls { owned_calls self.new ≡ owned_calls self.old - 1 }
+        ensures spent { owned_calls self.old ≡ 0 → result ≡ None }
+        ensures plan { GoesOn (owned_plan self.old) (owned_calls self.old) (length piece.now) result (owned_plan self.new) }
+    {
+        if self.calls == 0 {
+            return None;
+        }
+        self.calls -= 1;
+        if piece.is_empty() {
+            return Some(0);
+        }
+        let mut count = piece.len().min(self.each);
+        let mut fault = None;
+        if let Some((before, kind)) = self.fault {
+            if before == 0 {
+                self.fault = None;
+                self.faults += 1;
+                return match kind {
+                    Fault::Fail => None,
+                    Fault::Nothing => Some(0),
+                };
+            }
+            count = count.min(before);
+            fault = Some((before - count, kind));
+        }
+        if self.bytes.extend_from_slice(&piece[..count]).is_err() {
+            self.faults += 1;
+            return None;
+        }
+        self.fault = fault;
+        Some(count)
+    }
+}

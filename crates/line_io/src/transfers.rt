@@ -1,0 +1,78 @@
+ghost use Rattle.std.specs.Prelude.{◌≡◌, ℕ, ◌+◌, ◌-◌, ◌≤◌, List, ◌++◌, length, OnOk, OnErr};
+ghost use Rattle.line_io.specs.Transfers.{Writing, Reading, whole, broken, ended, stopped, failed};
+ghost use Rattle.line_io.specs.declared.transfers.End.{End};
+ghost use Rattle.line_io.specs.declared.transfers.End.TheVariants.{Ended, ReadFault, NoMemory};
+
+use crate::traits::{Inlet, Outlet};
+
+/// How many bytes are asked for in one read.
+const ROOM: usize = 16384;
+
+/// A write failed, was interrupted or took nothing.
+#[derive(Clone, Copy, Debug, PartialEq, Eq, Drop)]
+pub struct WriteFault;
+
+/// Writes the bytes, in as many writes as the device needs.
+///
+/// The first fault ends it: nothing is tried again.
+///
+/// ```
+/// let mut room = [0u8; 8];
+/// let mut out = Out::new(&mut room, 1, None);
+/// assert!(rt; write_all(&mut out, b"hello").is_ok());
+/// ```
+pub fn write_all<W: Outlet>(outlet: &mut W, bytes: &[u8]) -> Result<(), WriteFault>
+    ensures ok { OnOk result (Writing W.written W.faults W.calls_left outlet.old outlet.new whole bytes.now) }
+    ensures err { OnErr result (Writing W.written W.faults W.calls_left outlet.old outlet.new broken bytes.now) }
+    ensures calls { W.calls_left outlet.new ≤ W.calls_left outlet.old }
+    ensures few { W.calls_left outlet.old ≤ W.calls_left outlet.new + length bytes.now }
+{
+    let mut rest = bytes;
+    while !rest.is_empty() {
+        let taken = outlet.write(rest).unwrap_or(0);
+        if taken == 0 {
+            return Err(WriteFault);
+        }
+        let (_, more) = rest.split_at(taken);
+        rest = more;
+    }
+    Ok(())
+}
+
+/// How a reading ended.
+#[derive(Clone, Copy, Debug, PartialEq, Eq, Drop)]
+pub enum End {
+    /// There was nothing left to read.
+    Ended,
+    /// A read failed.
+    ReadFault,
+    /// A growth was refused.
+    NoMemory,
+}
+
+/// Reads all there is, and puts it behind what the vector holds.
+///
+/// Where memory runs out, the vector has got a front of what was read.
+pub fn read_to_end<R: Inlet>(inlet: &mut R, bytes: &mut Vec<u8>) -> End
+    ensures ended { result ≡ Ended → (text : List ℕ) × (bytes.new.items ≡ bytes.old.items ++ text)
+        × Reading R.to_come R.faults R.calls_left inlet.old inlet.new ended text }
+    ensures failed { result ≡ ReadFault → (text : List ℕ) × (bytes.new.items ≡ bytes.old.items ++ text)
+        × Reading R.to_come R.faults R.calls_left inlet.old inlet.new failed text }
+    ensures memory { result ≡ NoMemory → (text : List ℕ) × (lost : List ℕ) × (bytes.new.items ≡ bytes.old.items ++ text)
+        × Reading R.to_come R.faults R.calls_left inlet.old inlet.new stopped (text ++ lost) }
+    ensures calls { R.calls_left inlet.new ≤ R.calls_left inlet.old }
+    ensures few { R.calls_left inlet.old + length bytes.old.items ≤ R.calls_left inlet.new + length bytes.new.items + 1 }
+{
+    let mut room = [0u8; ROOM];
+    loop {
+        match inlet.read(&mut room) {
+            None => return End::ReadFault,
+            Some(0) => return End::Ended,
+            Some(n) => {
+                if bytes.extend_from_slice(&room[..n]).is_err() {
+                    return End::NoMemory;
+                }
+            }
+        }
+    }
+}

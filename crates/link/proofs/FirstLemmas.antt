@@ -1,0 +1,120 @@
+-- The first answers of a reception, where a list kept no more.
+use Rattle.std.proofs.Common.{◌≡◌, ℕ, Bool, true, false, List, [], ◌∷◌, ◌++◌, Option, Some, None, refl, sym, ap, ◌∙◌, subst, append_assoc}
+use Rattle.std.specs.Prelude.{◌≢◌}
+use Rattle.std.specs.List.{AllZip}
+use Rattle.std.proofs.lemmas.List.{append-nil}
+use Rattle.postcard_tree.specs.Tree.{Tree}
+use Rattle.link.specs.Stream.{Verdict, IsAnswer, begun_answers, cut_answers, Answers}
+use Rattle.link.specs.Judged.{IsJudged}
+use Rattle.link.specs.Pushes.{Matches}
+use Rattle.link.specs.Listening.{HasGiven, HasAnswered, HasBegun, HasRead, IsReceived}
+use Rattle.link.specs.Each.{HasReadNow, IsReceivedNow}
+use Rattle.link.specs.Firsts.{KeepsFirst, listed_end}
+use Rattle.link.specs.declared.receiver.Answer.{Answer}
+use Rattle.link.specs.declared.listening.End.{End}
+use Rattle.link.specs.declared.listening.End.TheVariants.{Ended, ReadFault, NoMemory}
+use Rattle.link.specs.HeardLaws.{zip_parts, heard_once}
+use Rattle.link.specs.OneAnswers.{one_answer}
+use Rattle.link.proofs.Prefixes.{given_front}
+
+-- one answer
+module _ {V : Type 0} (xs : List V) (a : V) where
+  pub keeps_one : KeepsFirst xs (xs ++ a ∷ []) false false (a ∷ [])
+  keeps_one = record { kept = a ∷ []; lost = []; parts = sym (append-nil (a ∷ [])); items = refl; whole = λ e. (refl, refl); later = λ e. cc; missed = λ e f. cc }
+
+  pub keeps_missed : KeepsFirst xs xs false true (a ∷ [])
+  keeps_missed = record { kept = []; lost = a ∷ []; parts = refl; items = sym (append-nil xs); whole = λ e. cc; later = λ e. refl; missed = λ e f z. cc }
+
+  pub keeps_later : KeepsFirst xs xs true true (a ∷ [])
+  keeps_later = record { kept = []; lost = a ∷ []; parts = refl; items = sym (append-nil xs); whole = λ e. cc; later = λ e. refl; missed = λ e f. cc }
+
+some_zip : {A B : Type 0} (R : A → B → Type 0) (xs : List A) (ys : List B) → xs ≢ [] → AllZip R xs ys → (y : B) × (more : List B) × (ys ≡ y ∷ more)
+some_zip R [] ys n h = absurd (n refl)
+some_zip R (x ∷ xs) [] n h = absurd h
+some_zip R (x ∷ xs) (y ∷ ys) n h = (y, ys, refl)
+
+module _ {V : Type 0} (holds : List ℕ → Tree → Type 0) (judged : IsJudged holds) (reads : Tree → V → Type 0) (limit s : ℕ) (stream : List ℕ) (kept lost : List (Answer V)) where
+  -- the verdicts of those that were kept, and at least one more
+  record Apart (verdicts : List Verdict) : Type 0 where
+    pub first : List Verdict
+    pub next : Verdict
+    pub more : List Verdict
+    pub parts : verdicts ≡ first ++ next ∷ more
+    pub matching : AllZip (Matches reads) kept first
+
+  apart : (verdicts : List Verdict) → lost ≢ [] → AllZip (Matches reads) (kept ++ lost) verdicts → Apart verdicts
+  apart verdicts n h =
+      let z = zip_parts (Matches reads) kept lost verdicts h in
+      let m = some_zip (Matches reads) lost z.vs n z.second in
+      record { first = z.us; next = m.0; more = m.1; parts = z.whole ∙ ap (λ y. z.us ++ y) m.2; matching = z.first }
+
+  of_given : lost ≢ [] → HasGiven holds reads limit s (kept ++ lost) stream → HasBegun holds reads limit s kept stream
+  of_given n g =
+      let p = apart g.verdicts n g.matching in
+      record {
+        verdicts = p.first;
+        begins = λ all a.
+            let t = given_front holds limit s (one_answer holds limit judged.one) stream [] g.verdicts all g.given (subst (λ x. Answers holds limit s x all) (sym (append-nil stream)) a) in
+            (p.next, p.more ++ t.0, t.1 ∙ ap (λ y. y ++ t.0) p.parts ∙ append_assoc p.first (p.next ∷ p.more) t.0);
+        matching = p.matching;
+      }
+
+  of_answered : lost ≢ [] → HasAnswered holds reads limit s (kept ++ lost) stream → HasBegun holds reads limit s kept stream
+  of_answered n g =
+      let p = apart g.verdicts n g.matching in
+      record {
+        verdicts = p.first;
+        begins = λ all a. (p.next, p.more, heard_once (IsAnswer holds limit) (λ stretch. begun_answers limit stretch ++ cut_answers limit stretch) s (one_answer holds limit judged.one) stream all g.verdicts a g.all ∙ p.parts);
+        matching = p.matching;
+      }
+
+  of_begun : lost ≢ [] → HasBegun holds reads limit s (kept ++ lost) stream → HasBegun holds reads limit s kept stream
+  of_begun n g =
+      let p = apart g.verdicts n g.matching in
+      record {
+        verdicts = p.first;
+        begins = λ all a.
+            let t = g.begins all a in
+            (p.next, p.more ++ t.0 ∷ t.1, t.2 ∙ ap (λ y. y ++ t.0 ∷ t.1) p.parts ∙ append_assoc p.first (p.next ∷ p.more) (t.0 ∷ t.1));
+        matching = p.matching;
+      }
+
+  by_end : (end : Option End) → lost ≢ [] → (end ≡ Some ReadFault → ⊥) → IsReceivedNow holds reads limit s end (kept ++ lost) stream → HasBegun holds reads limit s kept stream
+  by_end None n m h = of_given n h
+  by_end (Some Ended) n m h = of_answered n h
+  by_end (Some ReadFault) n m h = absurd (m refl)
+  by_end (Some NoMemory) n m h = of_begun n h
+
+no_both : (b : Bool) → b ≡ true → b ≡ false → ⊥
+no_both b e f = cc
+
+received_by : {V : Type 0} (holds : List ℕ → Tree → Type 0) (judged : IsJudged holds) (reads : Tree → V → Type 0) (limit s : ℕ) (stream : List ℕ) (end : Option End) (full : Bool) (old items answers : List (Answer V)) → old ≡ []
+    → KeepsFirst old items false full answers → (end ≡ None → full ≡ true) → (end ≡ Some ReadFault → full ≡ false) → IsReceivedNow holds reads limit s end answers stream → IsReceived holds reads limit s (listed_end end full) items stream
+received_by holds judged reads limit s stream end true old items answers o k n m h =
+    let same : items ≡ k.kept = k.items ∙ ap (λ y. y ++ k.kept) o in
+    subst (λ y. HasBegun holds reads limit s y stream) (sym same)
+    (by_end holds judged reads limit s stream k.kept k.lost end (k.missed refl refl) (λ e. absurd (no_both true refl (m e))) (subst (λ y. IsReceivedNow holds reads limit s end y stream) k.parts h))
+received_by holds judged reads limit s stream None false old items answers o k n m h = absurd (no_both false (n refl) refl)
+received_by holds judged reads limit s stream (Some end) false old items answers o k n m h =
+    let same : answers ≡ items = k.parts ∙ ap (λ y. k.kept ++ y) (k.whole refl).1 ∙ append-nil k.kept ∙ sym (k.items ∙ ap (λ y. y ++ k.kept) o) in
+    subst (λ y. IsReceived holds reads limit s end y stream) same h
+
+read_by : (old new : Option (List ℕ)) (before after calls : ℕ) (bytes : List ℕ) (end : Option End) (full : Bool) → (end ≡ None → full ≡ true) → (end ≡ Some ReadFault → full ≡ false)
+    → HasReadNow old new before after calls end bytes → HasRead old new before after calls (listed_end end full) bytes
+read_by old new before after calls bytes None true n m h = h
+read_by old new before after calls bytes (Some Ended) true n m h = (h.0, h.1)
+read_by old new before after calls bytes (Some ReadFault) true n m h = absurd (no_both true refl (m refl))
+read_by old new before after calls bytes (Some NoMemory) true n m h = h
+read_by old new before after calls bytes None false n m h = absurd (no_both false (n refl) refl)
+read_by old new before after calls bytes (Some end) false n m h = h
+
+-- what a list keeps is what is received
+pub listed_received : {V : Type 0} (holds : List ℕ → Tree → Type 0) (judged : IsJudged holds) (reads : Tree → V → Type 0) (limit s : ℕ) (stream : List ℕ) (end : Option End) (full : Bool) (result : End) (old items answers : List (Answer V)) → result ≡ listed_end end full → old ≡ []
+    → KeepsFirst old items false full answers → (end ≡ None → full ≡ true) → (end ≡ Some ReadFault → full ≡ false) → IsReceivedNow holds reads limit s end answers stream → IsReceived holds reads limit s result items stream
+listed_received holds judged reads limit s stream end full result old items answers e o k n m h =
+    subst (λ x. IsReceived holds reads limit s x items stream) (sym e) (received_by holds judged reads limit s stream end full old items answers o k n m h)
+
+-- and what was read
+pub listed_read : (old new : Option (List ℕ)) (before after calls : ℕ) (bytes : List ℕ) (end : Option End) (full : Bool) (result : End) → result ≡ listed_end end full → (end ≡ None → full ≡ true) → (end ≡ Some ReadFault → full ≡ false)
+    → HasReadNow old new before after calls end bytes → HasRead old new before after calls result bytes
+listed_read old new before after calls bytes end full result e n m h = subst (λ x. HasRead old new before after calls x bytes) (sym e) (read_by old new before after calls bytes end full n m h)

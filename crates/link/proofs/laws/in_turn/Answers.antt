@@ -1,0 +1,5 @@
+use Rattle.link.proofs.InTurn.{in_turn}
+use Rattle.link.proofs.laws.in_turn.Goals as goal
+
+pub returns : goal.returns
+returns g c s = in_turn g.T.Readable.takes g.T.Readable.reads s

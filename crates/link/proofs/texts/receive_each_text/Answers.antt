@@ -1,0 +1,8 @@
+use Rattle.link.proofs.Handing.{had_memory}
+use Rattle.link.proofs.texts.receive_each_text.Goals as goal
+
+pub returns-clause-received : goal.returns-clause-received
+returns-clause-received g c = c.receive_each_by.ensures.received _ c.args.sentinel c.new_with_sentinel-receiver.ensures.after
+
+pub returns-clause-memory : goal.returns-clause-memory
+returns-clause-memory g c = had_memory _ c.receive_each_by.ensures.memory

@@ -1,0 +1,4 @@
+pub mod Decoding
+pub mod Kept
+pub mod Whole
+pub mod First

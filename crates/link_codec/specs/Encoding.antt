@@ -1,0 +1,33 @@
+-- What an encoder writes, by the definitions of link.
+use Rattle.std.specs.Prelude.{◌≡◌, ℕ, Bool, true, List, length, Option, Some}
+use Rattle.postcard_tree.specs.Tree.{Tree, IsTree}
+use Rattle.link.specs.Run.{completed, sent, written, IsSend}
+use Rattle.link.specs.Senders.{IsRefusal}
+use Rattle.link_codec.specs.declared.encoder.LinkEncoder.{LinkEncoder}
+use Rattle.link_codec.specs.declared.error.EncodeError.{EncodeError}
+use Rattle.link_codec.specs.declared.error.EncodeError.TheVariants.{Refused, Io}
+use Rattle.tokio_util.specs.Codec.Chunks.{LacksRoom}
+
+module _ {N : ℕ} where
+  -- whether an encoder has written a value
+  abbrev pub encoder_clean : LinkEncoder N → Bool
+  encoder_clean e = e.clean
+
+  -- its sentinel
+  abbrev pub encoder_sentinel : LinkEncoder N → ℕ
+  encoder_sentinel e = e.sentinel
+
+  -- these bytes are what a completed send of the value leaves on the line
+  pub record Encodes (s : LinkEncoder N) (writes : Option Tree) (holds_of_it : Type 0) (frame : List ℕ) (t : LinkEncoder N) : Type 0 where
+    pub tree : Tree
+    pub of : writes ≡ Some tree
+    pub is : IsSend IsTree N (encoder_sentinel s) (encoder_clean s) (completed tree)
+    pub valid : holds_of_it
+    pub bytes : frame ≡ written (encoder_sentinel s) (encoder_clean s) (completed tree)
+    pub clean : encoder_clean t ≡ true
+    pub sentinel : encoder_sentinel t ≡ encoder_sentinel s
+
+  -- the value is refused as a sender refuses it, or its bytes had no room
+  abbrev pub Refuses : LinkEncoder N → Option Tree → ℕ → EncodeError → Type 0
+  Refuses s writes spare (Refused e) = IsRefusal N writes e
+  Refuses s writes spare (Io e) = (tree : Tree) × (writes ≡ Some tree) × LacksRoom (length (sent (encoder_sentinel s) (encoder_clean s) tree)) spare e

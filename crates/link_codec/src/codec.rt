@@ -1,0 +1,55 @@
+//! A decoder and an encoder in one, as `Framed` wants them.
+ghost use Rattle.std.specs.Prelude.{◌≡◌};
+
+use crate::encoder::LinkEncoder;
+use crate::error::EncodeError;
+use bytes::BytesMut;
+use postcard::Serialize;
+use tokio_util::codec::{Decoder, Encoder};
+
+/// Reads by its decoder and writes by its encoder, neither of which the other sees.
+#[derive(Drop)]
+pub struct LinkCodec<C, const N: usize> {
+    /// What it reads by.
+    pub decoder: C,
+    /// What it writes by.
+    pub encoder: LinkEncoder<N>,
+}
+
+impl<C: Decoder, const N: usize> Decoder for LinkCodec<C, N> {
+    ghost use Rattle.link_codec.specs.Beside.{gives_beside, stable_beside, partial_beside, end_beside};
+
+    type Item = C::Item;
+
+    type Error = C::Error;
+
+    ghost gives = { gives_beside (λ c. c.decoder) (λ c. c.encoder) C.gives };
+
+    ghost stable = { stable_beside (λ c. c.decoder) (λ c. c.encoder) C.gives C.stable };
+
+    ghost partial_has_no_frame = { partial_beside (λ c. c.decoder) (λ c. c.encoder) C.gives C.partial_has_no_frame };
+
+    ghost end_is_partial = { end_beside (λ c. c.decoder) (λ c. c.encoder) C.gives C.end_is_partial };
+
+    fn decode(&mut self, src: &mut BytesMut) -> Result<Option<C::Item>, C::Error> {
+        self.decoder.decode(src)
+    }
+
+    fn decode_eof(&mut self, src: &mut BytesMut) -> Result<Option<C::Item>, C::Error> {
+        self.decoder.decode_eof(src)
+    }
+}
+
+impl<T: Serialize + Drop, C, const N: usize> Encoder<T> for LinkCodec<C, N> {
+    ghost use Rattle.link_codec.specs.Encoding.{Encodes, Refuses};
+
+    type Error = EncodeError;
+
+    ghost encodes = { λ s item frame t. Encodes s.encoder (T.writes item) (T.valid item) frame t.encoder × (t.decoder ≡ s.decoder) };
+
+    ghost refuses = { λ s item spare e. Refuses s.encoder (T.writes item) spare e };
+
+    fn encode(&mut self, item: T, dst: &mut BytesMut) -> Result<(), EncodeError> {
+        self.encoder.encode(item, dst)
+    }
+}

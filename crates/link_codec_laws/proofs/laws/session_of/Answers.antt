@@ -1,0 +1,5 @@
+use Rattle.link_codec_laws.proofs.Sessions.{session_of}
+use Rattle.link_codec_laws.proofs.laws.session_of.Goals as goal
+
+pub returns : goal.returns
+returns g c = session_of g.T.Serialize.writes g.T.Serialize.valid c.args.values.now c.args.encoder.now

@@ -1,0 +1,62 @@
+//! The declarations of message types, which lend their words from the tokens that they were read from.
+use crate::tokens::Token;
+
+/// A field.
+#[derive(Clone, Copy, Drop)]
+pub struct Field<'a> {
+    /// Its place among the fields.
+    pub place: usize,
+    /// Its name; empty where it has none.
+    pub name: &'a str,
+    /// The words of its type.
+    pub of: &'a [Token],
+}
+
+/// How fields are written.
+#[derive(Clone, Copy, Drop)]
+pub enum Form {
+    /// Not at all.
+    Unit,
+    /// By their places, in parentheses.
+    Tuple,
+    /// By their names, in braces.
+    Named,
+}
+
+/// The fields of a struct or of a variant.
+#[derive(Drop)]
+pub struct Fields<'a> {
+    pub form: Form,
+    pub items: Vec<Field<'a>>,
+}
+
+/// A variant of an enum.
+#[derive(Drop)]
+pub struct VariantOf<'a> {
+    pub name: &'a str,
+    pub fields: Fields<'a>,
+}
+
+/// What is declared.
+#[derive(Drop)]
+pub enum Body<'a> {
+    Struct(Fields<'a>),
+    Enum(Vec<VariantOf<'a>>),
+}
+
+/// What a declaration is marked for: one of them at least.
+#[derive(Clone, Copy, Drop)]
+pub struct Marks {
+    pub written: bool,
+    pub read: bool,
+}
+
+/// A message type.
+#[derive(Drop)]
+pub struct Declaration<'a> {
+    pub name: &'a str,
+    /// Its lifetimes and type parameters.
+    pub parameters: Vec<&'a str>,
+    pub body: Body<'a>,
+    pub marks: Marks,
+}

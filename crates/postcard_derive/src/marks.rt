@@ -1,0 +1,90 @@
+//! Comments that mark a declaration, and those that seem meant to.
+use crate::tokens::is_of_word;
+
+/// What marks a declaration.
+const MESSAGE: &str = "message";
+
+/// How many letters a word has in common with `message`, from the front and from the back, that seems meant for it.
+const COMMON: usize = 5;
+
+/// How long such a word is at most, in bytes.
+const LONGEST: usize = 9;
+
+/// Whether a line marks the declaration behind it.
+pub fn is_mark(line: &str) -> bool {
+    line == "// message" || line.starts_with("// message:")
+}
+
+/// Whether a comment, which begins with its slashes, is almost a mark: it begins with a word like `message`, and behind that
+/// it has nothing to read, a colon, or the name of what messages can be marked for.
+pub fn is_almost_mark(comment: &str) -> bool {
+    let is_doc = comment.starts_with("///");
+    let (word, rest) = first_word(comment.trim_start_matches('/').trim_start());
+    let is_meant = if is_doc {
+        word == MESSAGE
+    } else {
+        is_like_message(word)
+    };
+    is_meant && is_behind_mark(rest)
+}
+
+/// The word at the front of a text, and the rest.
+fn first_word(text: &str) -> (&str, &str) {
+    let rest = text.trim_start_matches(is_of_word);
+    let length = text.len().saturating_sub(rest.len());
+    (text.get(..length).unwrap_or(""), rest)
+}
+
+/// Whether a word is `message` but for a letter or two.
+fn is_like_message(word: &str) -> bool {
+    let front = common_front(word);
+    front > 0 && word.len() <= LONGEST && front.saturating_add(common_back(word)) >= COMMON
+}
+
+/// How many letters a word begins with as `message` does.
+fn common_front(word: &str) -> usize {
+    let mut count: usize = 0;
+    for (letter, wanted) in word.chars().zip(MESSAGE.chars()) {
+        if !letter.eq_ignore_ascii_case(&wanted) {
+            break;
+        }
+        count = count.saturating_add(1);
+    }
+    count
+}
+
+/// How many letters a word ends with as `message` does.
+fn common_back(word: &str) -> usize {
+    let mut count: usize = 0;
+    for (letter, wanted) in word.chars().rev().zip(MESSAGE.chars().rev()) {
+        if !letter.eq_ignore_ascii_case(&wanted) {
+            break;
+        }
+        count = count.saturating_add(1);
+    }
+    count
+}
+
+/// Whether what stands behind a word like `message` is as behind a mark.
+fn is_behind_mark(rest: &str) -> bool {
+    let rest = rest.trim_start();
+    if rest.starts_with(':') {
+        return true;
+    }
+    let mut has_words = false;
+    for word in rest.split_whitespace() {
+        if is_marked_for(word.trim_matches(',')) {
+            return true;
+        }
+        has_words = has_words || word.chars().any(is_of_word);
+    }
+    !has_words
+}
+
+/// Whether a word names what messages are marked for, or were thought to be.
+fn is_marked_for(word: &str) -> bool {
+    word.eq_ignore_ascii_case("Serialize")
+        || word.eq_ignore_ascii_case("Deserialize")
+        || word.eq_ignore_ascii_case("MaxSize")
+        || word.eq_ignore_ascii_case("Exact")
+}

@@ -1,0 +1,398 @@
+//! From declarations to implementations, laid out as `rt fmt` leaves them.
+use crate::declarations::{Body, Declaration, Fields, Form};
+use crate::names::{Module, names_used};
+use crate::parts::{Parts, ROW, Spelling};
+use crate::text::Text;
+use crate::tokens::is_lifetime;
+use std::alloc::{AllocError, Global};
+
+/// How long a line may be.
+pub const WIDTH: usize = 100;
+
+/// How long the parts of a tuple or of a call may be in one line, with their parentheses.
+const PARTS: usize = 62;
+
+/// How long the fields of a struct may be in one line, with their braces.
+const LITERAL: usize = 23;
+
+/// How what is written begins.
+const HEAD: &str = "//! How the message types of the module above are written and read.
+// Written by postcard_derive from their declarations: change those, and write this anew.
+";
+
+/// How a value is made of its shape, up to its argument.
+pub const FROM_SHAPE: &str = "
+    fn from_shape(";
+
+/// That a type's laws and its reading come from its shape.
+const FORMED: &str = "
+impl%% Formed for %Name% {
+    type Form = AsShape;
+}
+";
+
+/// What a type that is read takes from its shape.
+const READ: &str = "
+impl%: Readable% Readable for %Name% {
+    ghost takes = { ⟦<ShapeOf<Self> as Readable>⟧.takes };
+
+    ghost reads = { λ t v. ⟦<ShapeOf<Self> as Readable>⟧.reads t (⟦<Self as Shaped>⟧.shape v) };
+
+    ghost refuses = { ⟦<ShapeOf<Self> as Readable>⟧.refuses };
+
+    ghost alike = { λ v w. ⟦<ShapeOf<Self> as Readable>⟧.alike (⟦<Self as Shaped>⟧.shape v) (⟦<Self as Shaped>⟧.shape w) };
+
+    ghost growing = { ⟦<ShapeOf<Self> as Readable>⟧.growing };
+
+    ghost reading = { seen_as ⟦<Self as Shaped>⟧.shape ⟦<ShapeOf<Self> as Readable>⟧.reading };
+
+    fn grows() -> bool";
+
+/// What a function of the trait promises, which is written again for a type with parameters.
+const GROWS: &str = "
+        ensures { result ≡ ⟦<ShapeOf<Self> as Readable>⟧.growing }
+    {";
+
+/// What stands behind it.
+const READ_AS_SHAPE: &str = "
+        ShapeOf::<Self>::grows()
+    }
+}
+
+impl%: Readable% ReadableShape for %Name% {
+    ghost read_as = { read_as_shape };
+}
+";
+
+/// How the writing of a value begins.
+pub const WRITTEN: &str = "
+impl%: Serialize% Serialize for %Name% {
+    ghost writes = { λ v. ⟦<ShapeOf<Self> as Serialize>⟧.writes (⟦<Self as Shaped>⟧.shape v) };
+
+    ghost valid = { λ v. ⟦<ShapeOf<Self> as Serialize>⟧.valid (⟦<Self as Shaped>⟧.shape v) };
+
+    fn serialize<F: Flavor>(&self, serializer: &mut Serializer<F>) -> postcard::Result<()> {
+";
+
+/// What stands behind it.
+const WRITTEN_AS_SHAPE: &str = "
+impl%: Serialize% SerializeShape for %Name% {
+    ghost written_as = { written_as_shape };
+}
+";
+
+impl Text {
+    /// Appends type parameters, each with this behind it; a lifetime without.
+    fn put_parameters(&mut self, parameters: &[&str], bound: &str) {
+        if parameters.is_empty() {
+            return;
+        }
+        let mut before = "<";
+        for parameter in parameters {
+            let bound = if is_lifetime(parameter) { "" } else { bound };
+            self.put_all(&[before, parameter, bound]);
+            before = ", ";
+        }
+        self.put(">");
+    }
+
+    /// Appends a type's name, with this behind it, and its parameters.
+    pub fn put_whole_name(&mut self, it: &Declaration, suffix: &str) {
+        self.put_all(&[it.name, suffix]);
+        self.put_parameters(&it.parameters, "");
+    }
+
+    /// Appends the names that are used of a module.
+    fn put_used(&mut self, names: &[&str]) {
+        if let [name] = names {
+            return self.put_all(&[name, ";"]);
+        }
+        let mut before = "{";
+        for name in names {
+            self.put_all(&[before, name]);
+            before = ", ";
+        }
+        self.put("};");
+    }
+
+    /// Appends a text in which a word between two `%` stands for a part of a declaration: `Name` for its name and `NameShape`
+    /// for that of its shape, both with the type parameters, and another for the type parameters, each with that behind it.
+    pub fn fill(&mut self, it: &Declaration, text: &str) {
+        for (place, piece) in text.split('%').enumerate() {
+            if place % 2 == 0 {
+                self.put(piece);
+            } else {
+                self.put_part_of(it, piece);
+            }
+        }
+    }
+
+    /// Appends what such a word stands for.
+    fn put_part_of(&mut self, it: &Declaration, word: &str) {
+        match word {
+            "Name" => self.put_whole_name(it, ""),
+            "NameShape" => self.put_whole_name(it, "Shape"),
+            bound => self.put_parameters(&it.parameters, bound),
+        }
+    }
+
+    /// Begins a line that is indented so far, with this.
+    pub fn begin(&mut self, indent: usize, piece: &str) {
+        self.put_times(indent, " ");
+        self.put(piece);
+    }
+
+    /// Ends a line with this.
+    pub fn end(&mut self, piece: &str) {
+        self.put(piece);
+        self.put("\n");
+    }
+
+    /// Writes a line.
+    pub fn line(&mut self, indent: usize, text: &str) {
+        self.begin(indent, "");
+        self.end(text);
+    }
+
+    /// Writes parts a line each, with a comma behind.
+    fn lines(&mut self, indent: usize, parts: Parts) {
+        for field in parts.fields {
+            self.begin(indent, "");
+            self.put_part(field, parts.spelling);
+            self.put(",\n");
+        }
+    }
+
+    /// Ends the line that is begun with a text that is at most so long and with this, if both fit in it, and says whether they do.
+    pub fn fitted(&mut self, text: Text, most: usize, after: &str) -> bool {
+        let behind = text.len().saturating_add(after.len());
+        let fits = text.len() <= most && self.column().saturating_add(behind) <= WIDTH;
+        if fits {
+            self.put_text(&text);
+            self.end(after);
+        }
+        fits
+    }
+
+    /// Writes a row of a tuple, with a comma behind.
+    fn row(&mut self, indent: usize, parts: Parts) {
+        let mut text = Text::new(self.alloc);
+        text.put_row(parts);
+        self.begin(indent, "");
+        if !self.fitted(text, PARTS, ",") {
+            self.put("(\n");
+            self.lines(indent.saturating_add(4), parts);
+            self.line(indent, "),");
+        }
+    }
+
+    /// Writes the parts of a tuple a line each; more than six stand in rows.
+    fn parts(&mut self, indent: usize, parts: Parts) {
+        if parts.fields.len() <= ROW {
+            return self.lines(indent, parts);
+        }
+        for row in parts.fields.chunks(ROW) {
+            self.row(indent, parts.row(row));
+        }
+    }
+
+    /// Ends a line that is begun, and indented so far, with a tuple and a text behind it. A call, as `.call()`, stands in a line
+    /// of its own behind a tuple that is broken.
+    pub fn tuple(&mut self, indent: usize, parts: Parts, after: &str) {
+        if parts.fields.len() < 2 {
+            self.put_tuple(parts);
+            return self.end(after);
+        }
+        let mut text = Text::new(self.alloc);
+        text.put_tuple(parts);
+        if !self.fitted(text, PARTS, after) {
+            self.long_tuple(indent, parts, after);
+        }
+    }
+
+    /// As [`tuple`](Text::tuple), over lines.
+    fn long_tuple(&mut self, indent: usize, parts: Parts, after: &str) {
+        let deeper = indent.saturating_add(4);
+        self.put("(\n");
+        self.parts(deeper, parts);
+        self.begin(indent, ")");
+        if after.starts_with('.') {
+            self.put("\n");
+            self.begin(deeper, "");
+        }
+        self.end(after);
+    }
+
+    /// Ends a line that is begun, and indented so far, with the fields behind the name of a struct or a variant, and a text
+    /// behind them.
+    pub fn literal(&mut self, indent: usize, fields: &Fields, after: &str) {
+        if fields.items.is_empty() {
+            self.put_fields(fields);
+            return self.end(after);
+        }
+        let mut text = Text::new(self.alloc);
+        text.put_fields(fields);
+        let most = match fields.form {
+            Form::Named => LITERAL,
+            _ => PARTS,
+        };
+        if !self.fitted(text, most, after) {
+            self.long_literal(indent, fields, after);
+        }
+    }
+
+    /// As [`literal`](Text::literal), over lines.
+    fn long_literal(&mut self, indent: usize, fields: &Fields, after: &str) {
+        let (open, close) = match fields.form {
+            Form::Tuple => ("(\n", ")"),
+            _ => (" {\n", "}"),
+        };
+        self.put(open);
+        self.lines(indent.saturating_add(4), fields.spelled(Spelling::Bound));
+        self.begin(indent, close);
+        self.end(after);
+    }
+
+    /// Writes which names are used of a module, unless none are.
+    fn uses(&mut self, all: &[Declaration], module: Module) {
+        match names_used(self.alloc, all, module) {
+            Ok(names) if names.is_empty() => {}
+            Ok(names) => self.uses_names(module, &names),
+            Err(_) => self.note(true),
+        }
+    }
+
+    /// Writes that these names are used of a module.
+    fn uses_names(&mut self, module: Module, names: &[&str]) {
+        self.put_all(&["use ", module.path(), "::"]);
+        let mut text = Text::new(self.alloc);
+        text.put_used(names);
+        if !self.fitted(text, WIDTH, "") {
+            self.put("{\n");
+            self.wrapped(names);
+            self.put("};\n");
+        }
+    }
+
+    /// Writes names with a comma behind each, as many a line as fit.
+    fn wrapped(&mut self, names: &[&str]) {
+        for name in names {
+            let before = self.before_name(name.len());
+            self.put(before);
+            self.put_all(&[name, ","]);
+        }
+        self.put("\n");
+    }
+
+    /// What stands before a name that is so long: a blank, or what begins a line.
+    fn before_name(&self, length: usize) -> &'static str {
+        let column = self.column();
+        if column == 0 {
+            "    "
+        } else if column.saturating_add(length).saturating_add(2) <= WIDTH {
+            " "
+        } else {
+            "\n    "
+        }
+    }
+
+    /// Writes what ghost text brings in for types that are used so.
+    fn lemmas(&mut self, used: Uses) {
+        if used.stated {
+            self.line(0, "ghost use Rattle.std.specs.Prelude.{◌≡◌};");
+        }
+        if used.read {
+            self.line(
+                0,
+                "ghost use Rattle.postcard_tree.specs.ReadingLaws.{seen_as};",
+            );
+        }
+        let names = match (used.read, used.written) {
+            (true, true) => "read_as_shape, written_as_shape",
+            (true, false) => "read_as_shape",
+            _ => "written_as_shape",
+        };
+        self.put_all(&[
+            "ghost use Rattle.postcard_tree.specs.Shapes.{",
+            names,
+            "};\n\n",
+        ]);
+    }
+
+    /// Writes what stands before the implementations.
+    fn top(&mut self, all: &[Declaration]) {
+        self.put(HEAD);
+        let used = uses_of(all);
+        self.lemmas(used);
+        self.uses(all, Module::Above);
+        if used.written {
+            self.line(0, "use postcard::ser_flavors::Flavor;");
+        }
+        self.uses(all, Module::Postcard);
+    }
+
+    /// Writes the implementations of a declaration.
+    fn put_declaration(&mut self, it: &Declaration, path: &str) {
+        match &it.body {
+            Body::Struct(fields) => self.struct_shape(it, fields),
+            Body::Enum(variants) => self.enum_shape(it, variants, path),
+        }
+        self.fill(it, FORMED);
+        if it.marks.read {
+            self.fill(it, READ);
+            self.put(if it.parameters.is_empty() {
+                " {"
+            } else {
+                GROWS
+            });
+            self.fill(it, READ_AS_SHAPE);
+        }
+        if it.marks.written {
+            self.written(it);
+        }
+    }
+
+    /// Writes how the values of a declaration are written.
+    fn written(&mut self, it: &Declaration) {
+        self.fill(it, WRITTEN);
+        match &it.body {
+            Body::Struct(fields) => self.struct_written(fields),
+            Body::Enum(variants) => self.enum_written(it.name, variants),
+        }
+        self.put("    }\n}\n");
+        self.fill(it, WRITTEN_AS_SHAPE);
+    }
+}
+
+/// How types are used: whether one is written, one is read, and one that is read has parameters.
+#[derive(Clone, Copy, Drop)]
+struct Uses {
+    written: bool,
+    read: bool,
+    stated: bool,
+}
+
+/// How these are used.
+fn uses_of(all: &[Declaration]) -> Uses {
+    let mut used = Uses {
+        written: false,
+        read: false,
+        stated: false,
+    };
+    for it in all {
+        used.written = used.written || it.marks.written;
+        used.read = used.read || it.marks.read;
+        used.stated = used.stated || (it.marks.read && !it.parameters.is_empty());
+    }
+    used
+}
+
+/// Writes the implementations of these declarations. `path` is that of the definitions of the module in which they stand.
+pub fn write_all(alloc: Global, path: &str, all: &[Declaration]) -> Result<String, AllocError> {
+    let mut text = Text::new(alloc);
+    text.top(all);
+    for it in all {
+        text.put_declaration(it, path);
+    }
+    text.finished()
+}

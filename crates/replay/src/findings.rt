@@ -1,0 +1,123 @@
+//! What differs.
+ghost use Rattle.std.specs.Prelude.{◌≡◌, ◌≢◌, ◌<◌, ◌≤◌, ◌↔◌, IsTrue, OnOk};
+ghost use Rattle.replay.specs.Findings.{noted};
+
+use crate::words::{Trouble, digits};
+use std::alloc::{AllocError, Global};
+
+/// The answers of a line's calls that aren't those of the line.
+#[derive(Drop)]
+pub struct Findings {
+    alloc: Global,
+    text: String,
+}
+
+impl Findings {
+    /// No findings.
+    pub fn new(alloc: Global) -> Findings
+        ensures { noted result ≡ 0 }
+    {
+        Findings {
+            alloc,
+            text: String::new(alloc),
+        }
+    }
+
+    /// Whether nothing was found to differ.
+    pub fn is_empty(&self) -> bool
+        ensures { IsTrue result ↔ (noted self.now ≡ 0) }
+    {
+        self.text.is_empty()
+    }
+
+    /// Each answer that differs, behind its call.
+    pub fn text(&self) -> &str {
+        self.text.as_str()
+    }
+
+    /// Notes the answer of a call as one that differs.
+    pub fn add(&mut self, call: &str, answer: &str) -> Result<(), AllocError>
+        ensures adds { OnOk result (0 < noted self.new) }
+        ensures kept { noted self.old ≤ noted self.new }
+    {
+        self.text.push_str(" | ")?;
+        self.text.push_str(call)?;
+        self.text.push_str(": ")?;
+        self.text.push_str(answer)
+    }
+
+    /// Compares what a call answered, in the line's words.
+    pub fn compare(&mut self, call: &str, answer: &str, wanted: &str) -> Result<(), AllocError>
+        ensures equal { answer.now ≡ wanted.now → noted self.new ≡ noted self.old }
+        ensures differs { answer.now ≢ wanted.now → OnOk result (0 < noted self.new) }
+        ensures kept { noted self.old ≤ noted self.new }
+    {
+        if answer == wanted {
+            return Ok(());
+        }
+        self.add(call, answer)
+    }
+
+    /// Compares the bytes that a call gave.
+    pub fn compare_bytes(
+        &mut self,
+        call: &str,
+        answer: &[u8],
+        wanted: &[u8],
+    ) -> Result<(), AllocError>
+        ensures equal { answer.now ≡ wanted.now → noted self.new ≡ noted self.old }
+        ensures differs { answer.now ≢ wanted.now → OnOk result (0 < noted self.new) }
+        ensures kept { noted self.old ≤ noted self.new }
+    {
+        if answer == wanted {
+            return Ok(());
+        }
+        let answer = digits(self.alloc, answer)?;
+        self.add(call, answer.as_str())
+    }
+
+    /// Compares the number that a call gave.
+    pub fn compare_number(
+        &mut self,
+        call: &str,
+        answer: usize,
+        wanted: usize,
+    ) -> Result<(), AllocError>
+        ensures equal { answer ≡ wanted → noted self.new ≡ noted self.old }
+        ensures differs { answer ≢ wanted → OnOk result (0 < noted self.new) }
+        ensures kept { noted self.old ≤ noted self.new }
+    {
+        if answer == wanted {
+            return Ok(());
+        }
+        let answer = format!(in self.alloc; "{answer}")?;
+        self.add(call, answer.as_str())
+    }
+
+    /// As [`compare`](Findings::compare), of an answer in the line's words that was just made.
+    pub fn check(
+        &mut self,
+        call: &str,
+        answer: Result<String, Trouble>,
+        wanted: &str,
+    ) -> Result<(), Trouble> {
+        let answer = answer?;
+        self.compare(call, answer.as_str(), wanted)?;
+        Ok(())
+    }
+
+    /// As [`compare_bytes`](Findings::compare_bytes), of bytes that were just made, or refused.
+    pub fn check_bytes(
+        &mut self,
+        call: &str,
+        answer: Result<Vec<u8>, Trouble>,
+        wanted: &[u8],
+    ) -> Result<(), Trouble> {
+        match answer {
+            Ok(bytes) => self.compare_bytes(call, &bytes, wanted)?,
+            Err(Trouble::Refused) => self.add(call, "refused")?,
+            Err(trouble) => return Err(trouble),
+        }
+        Ok(())
+    }
+}

@@ -1,0 +1,24 @@
+//! A message type with a sum of its bytes: damage that still reads as a message is told from what was sent.
+//!
+//! [`Sealed`] holds a value, and stands for that value with the CRC-32 of its spelling behind it, as four bytes, the lowest first.
+//! It is written and read as every message type is; a value whose sum is wrong isn't read.
+//!
+//! ```text
+//! let front = postcard::to_slice(&Sealed(300u32), &mut room)?; // AC 02, and four bytes
+//! let Sealed(value): Sealed<u32> = postcard::from_bytes(alloc, front)?;
+//! ```
+//!
+//! A frame tells where a message ends and that none of its bytes is the sentinel; it is no checksum. Of the single flipped bits in
+//! a run of frames about half read as another message. CRC-32 finds each damage of up to 32 bits in a row, and of all others it
+//! lets one of 2^32 pass.
+#![tactic(auto)]
+
+mod checksum;
+pub mod laws;
+mod reading;
+mod sizes;
+mod summing;
+mod value;
+
+pub use checksum::crc32;
+pub use value::Sealed;

@@ -1,0 +1,71 @@
+//! Reading a value and its sum.
+ghost use Rattle.std.specs.Prelude.{◌≡◌, ◌<◌, ◌^◌, IfOk, IfErr, IfSome};
+ghost use Rattle.postcard_tree.specs.declared.error.Error.TheVariants.{DeserializeBadCrc};
+ghost use Rattle.postcard_tree.specs.Spelling.{short};
+ghost use Rattle.sealed.specs.Checksum.{sum_of_bytes};
+
+use crate::checksum::FIRST;
+use crate::summing::{Nowhere, Summing};
+use crate::value::Sealed;
+use postcard::de_flavors::{Bytes, Flavor};
+use postcard::fixint::LE;
+use postcard::{
+    Deserialize, DeserializeOwned, Deserializer, Error, Exact, Result, Serialize, Serializer,
+};
+
+// The sum of what a value writes; an error where it refuses itself.
+fn sum_of<T: Serialize>(value: &T) -> Result<u32>
+    ensures ok { IfOk result (λ n. IfSome (T.writes value.now) (λ t. n ≡ sum_of_bytes (short t))) }
+    ensures err { IfErr result (λ e. IfSome (T.writes value.now) (λ t. ⊥)) }
+{
+    let mut serializer = Serializer {
+        output: Summing {
+            output: Nowhere,
+            register: FIRST,
+        },
+    };
+    value.serialize(&mut serializer)?;
+    Ok(serializer.output.register ^ FIRST)
+}
+
+// A value with a number behind it, where that is the sum of what the value writes.
+fn sealed_with<T: Serialize + Drop>(value: T, sum: u32) -> Result<Sealed<T>>
+    ensures ok { IfOk result (λ v. (v.0 ≡ value) × IfSome (T.writes value) (λ t. sum ≡ sum_of_bytes (short t))) }
+    ensures err { IfErr result (λ e. (e ≡ DeserializeBadCrc) × IfSome (T.writes value) (λ t.
+        (sum_of_bytes (short t) < 2 ^ 32) × (sum ≡ sum_of_bytes (short t) → ⊥))) }
+{
+    match sum_of(&value) {
+        Ok(wanted) => {
+            if wanted == sum {
+                Ok(Sealed(value))
+            } else {
+                Err(Error::DeserializeBadCrc)
+            }
+        }
+        Err(_) => Err(Error::DeserializeBadCrc),
+    }
+}
+
+impl<B: Bytes, T: Deserialize<B> + Exact> Deserialize<B> for Sealed<T> {
+    fn deserialize<F: Flavor<Taken = B>>(d: &mut Deserializer<F>) -> Result<Sealed<T>> {
+        match <(T, LE<u32>) as Deserialize<B>>::deserialize(d) {
+            Ok(pair) => {
+                let (value, LE(sum)) = pair;
+                sealed_with(value, sum)
+            }
+            Err(e) => Err(e),
+        }
+    }
+}
+
+impl<T: DeserializeOwned + Exact> DeserializeOwned for Sealed<T> {
+    fn deserialize_owned<F: Flavor>(d: &mut Deserializer<F>) -> Result<Sealed<T>> {
+        match <(T, LE<u32>) as DeserializeOwned>::deserialize_owned(d) {
+            Ok(pair) => {
+                let (value, LE(sum)) = pair;
+                sealed_with(value, sum)
+            }
+            Err(e) => Err(e),
+        }
+    }
+}

@@ -1,0 +1,87 @@
+//! A value with the sum of its spelling behind it.
+ghost use Rattle.std.specs.Prelude.{◌≡◌, Some, IfOk, OnOk, IfSome};
+ghost use Rattle.postcard_tree.specs.Spelling.{short};
+ghost use Rattle.postcard_tree.specs.ReadingLaws.{seen_as};
+ghost use Rattle.postcard_ser.specs.Writing.{Writes};
+ghost use Rattle.sealed.specs.Checksum.{sum_of_bytes};
+ghost use Rattle.sealed.specs.Seals.{writes_sealed, TakesSealed, ReadsSealed, RefusesSealed, sealed_laws, sealed_back, sealed_written};
+
+use crate::checksum::FIRST;
+use crate::summing::Summing;
+use postcard::fixint::LE;
+use postcard::ser_flavors::Flavor;
+use postcard::{Exact, Lawful, Readable, Result, Serialize, Serializer};
+
+/// A value with the CRC-32 of its spelling behind it.
+///
+/// The sum is that of the shortest spelling of the value, which is the one that is written: four bytes, the lowest first. A value is
+/// read exactly where these four bytes are the sum of what it writes; where they aren't, the answer is
+/// `DeserializeBadCrc`, after all refusals of the value itself, and of fewer than four bytes.
+#[derive(Drop)]
+pub struct Sealed<T>(pub T);
+
+impl<T: Readable> Readable for Sealed<T> {
+    ghost takes = { TakesSealed T.takes };
+
+    ghost reads = { λ t v. ReadsSealed T.reads t v.0 };
+
+    ghost refuses = { RefusesSealed T.takes T.refuses };
+
+    ghost alike = { λ v w. T.alike v.0 w.0 };
+
+    ghost growing = { T.growing };
+
+    ghost reading = { seen_as (λ v. v.0) (sealed_laws T.reading) };
+
+    fn grows() -> bool {
+        T::grows()
+    }
+}
+
+// Writes a value, hands the loan back, and answers the sum of what was written.
+fn write_summed<'b, T: Serialize, F: Flavor>(
+    value: &T,
+    output: &'b mut F,
+) -> (Result<u32>, &'b mut F)
+    ensures writes { Writes F.took F.refused output.entry.now (T.writes value.now) result.0 result.1.now }
+    ensures sum { IfOk result.0 (λ n. IfSome (T.writes value.now) (λ t. n ≡ sum_of_bytes (short t))) }
+    ensures same { F.same output.entry.now result.1.now }
+    ensures valid { OnOk result.0 (T.valid value.now) }
+    ensures same_reference { result.1.ghost_name ≡ output.entry.ghost_name }
+{
+    let mut serializer = Serializer {
+        output: Summing {
+            output,
+            register: FIRST,
+        },
+    };
+    let written = value.serialize(&mut serializer);
+    let Serializer { output: summing } = serializer;
+    let Summing { output, register } = summing;
+    match written {
+        Ok(()) => (Ok(register ^ FIRST), output),
+        Err(e) => (Err(e), output),
+    }
+}
+
+impl<T: Serialize> Serialize for Sealed<T> {
+    ghost writes = { λ v. writes_sealed (T.writes v.0) };
+
+    ghost valid = { λ v. T.valid v.0 };
+
+    fn serialize<F: Flavor>(&self, serializer: &mut Serializer<F>) -> Result<()> {
+        let (written, _) = write_summed(&self.0, &mut serializer.output);
+        match written {
+            Ok(sum) => LE(sum).serialize(serializer),
+            Err(e) => Err(e),
+        }
+    }
+}
+
+impl<T: Lawful> Lawful for Sealed<T> {
+    ghost reads_back = { λ v t h e. sealed_back T.reads v.0 (T.writes v.0) t (λ u k. T.reads_back v.0 u h k) e };
+}
+
+impl<T: Exact> Exact for Sealed<T> {
+    ghost writes_back = { λ t v h. sealed_written T.reads T.writes T.writes_back t v.0 h };
+}

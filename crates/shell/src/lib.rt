@@ -1,0 +1,13 @@
+//! A device that is spoken to by commands: what they are, what it does with them, and how they are said in words.
+#![tactic(auto)]
+
+mod device;
+mod messages;
+mod words;
+
+pub use device::Device;
+pub use messages::{Command, Refusal, Report};
+pub use words::command_of;
+
+/// The bytes of a frame at most, on both lines. The longest message is a number and a state of 22 bytes, whose frame has 23.
+pub const FRAME: usize = 32;

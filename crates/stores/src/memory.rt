@@ -1,0 +1,128 @@
+//! A store in memory, for tests.
+ghost use Rattle.std.specs.Prelude.{◌≡◌, ℕ, ◌+◌, ◌-◌, ◌<◌, ◌≤◌, ◌^◌, List, [], ◌++◌, length, take, replicate, Option, None, Some, IfSome, max};
+
+use crate::traits::{Store, SyncFault};
+use std::alloc::Global;
+
+/// A store in memory. It can be made to take so many bytes more and then fail once, and to crash.
+#[derive(Drop)]
+pub struct Memory {
+    bytes: Vec<u8>,
+    settled: usize,
+    fault: Option<usize>,
+    faults: u64,
+    calls: u64,
+    ghost settled_in: { settled ≤ length bytes.items },
+    ghost counted: { faults + calls ≤ 2 ^ 64 - 1 },
+}
+
+impl Memory {
+    ghost use Rattle.stores.specs.Memory.{bytes_in, settled_in};
+
+    /// A store that holds these bytes, all of them settled.
+    pub fn new(bytes: Vec<u8>) -> Memory
+        ensures bytes { bytes_in result ≡ bytes.items }
+        ensures settled { settled_in result ≡ length bytes.items }
+    {
+        Memory {
+            settled: bytes.len(),
+            bytes,
+            fault: None,
+            faults: 0,
+            calls: u64::MAX,
+        }
+    }
+
+    /// After so many bytes more, an append fails once; before that it takes what is left of these.
+    pub fn fail_after(&mut self, count: usize)
+        ensures bytes { bytes_in self.new ≡ bytes_in self.old }
+        ensures settled { settled_in self.new ≡ settled_in self.old }
+    {
+        self.fault = Some(count);
+    }
+
+    /// The bytes that it holds.
+    pub fn bytes(&self) -> &[u8]
+        ensures { result.now ≡ bytes_in self.now }
+    {
+        &self.bytes
+    }
+
+    /// How many of them no crash takes.
+    pub fn settled(&self) -> usize
+        ensures { result ≡ settled_in self.now }
+    {
+        self.settled
+    }
+
+    /// The store after a crash: so many of the bytes that aren't settled are left, and so many zeros stand behind them, as a file
+    /// system shows bytes that were never written. All of that is settled. `None` when out of memory.
+    pub fn crash(self, left: usize, zeros: usize) -> Option<Memory>
+        ensures bytes { IfSome result (λ m. bytes_in m ≡ take (settled_in self + left) (bytes_in self) ++ replicate zeros 0) }
+        ensures settled { IfSome result (λ m. settled_in m ≡ length (bytes_in m)) }
+    {
+        let Memory {
+            mut bytes,
+            settled,
+            fault: _,
+            faults: _,
+            calls: _,
+        } = self;
+        let kept = settled + left.min(bytes.len() - settled);
+        bytes.truncate(kept);
+        bytes.resize(kept.checked_add(zeros)?, 0).ok()?;
+        Some(Memory::new(bytes))
+    }
+}
+
+impl Store for Memory {
+    ghost use Rattle.stores.specs.Memory.{held_in, settled_in, faults_in, calls_in};
+
+    ghost held = { held_in };
+
+    ghost settled = { settled_in };
+
+    ghost faults = { faults_in };
+
+    ghost calls_left = { calls_in };
+
+    fn append(&mut self, piece: &[u8]) -> Option<usize> {
+        if self.calls == 0 {
+            return None;
+        }
+        self.calls -= 1;
+        let mut count = piece.len();
+        if let Some(before) = self.fault {
+            if before == 0 && !piece.is_empty() {
+                self.fault = None;
+                self.faults += 1;
+                return None;
+            }
+            count = count.min(before);
+            self.fault = Some(before - count);
+        }
+        match self.bytes.extend_from_slice(&piece[..count]) {
+            Ok(()) => Some(count),
+            Err(_) => {
+                self.faults += 1;
+                None
+            }
+        }
+    }
+
+    fn read_at(&mut self, at: u64, room: &mut [u8]) -> Option<usize> {
+        if self.calls == 0 {
+            return None;
+        }
+        self.calls -= 1;
+        let start = (at as usize).min(self.bytes.len());
+        let count = room.len().min(self.bytes.len() - start);
+        room[..count].copy_from_slice(&self.bytes[start..start + count]);
+        Some(count)
+    }
+
+    fn sync(&mut self) -> Result<(), SyncFault> {
+        self.settled = self.bytes.len();
+        Ok(())
+    }
+}

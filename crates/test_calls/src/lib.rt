@@ -1,0 +1,9 @@
+//! Tests of `calls`, by its public calls alone.
+#![tactic(auto)]
+
+#[cfg(test)]
+mod exchanges;
+#[cfg(test)]
+mod noise;
+#[cfg(test)]
+mod served;

@@ -1,0 +1,11 @@
+//! Tests of `stores`, `sealed`, `journal` and `journal_scan`, by their public calls alone.
+#![tactic(auto)]
+
+#[cfg(test)]
+mod damage;
+#[cfg(test)]
+mod logs;
+#[cfg(test)]
+mod offsets;
+#[cfg(test)]
+mod seals;

@@ -1,0 +1,338 @@
+//! `link`: each answer is handed on before the next byte is asked for. The reader gives a byte a call, and a pause comes behind
+//! each: so the number of pauses tells by which byte an answer came.
+ghost use Rattle.std.specs.Prelude.{◌≡◌, ⊤};
+ghost use Rattle.link.specs.Each.{HeardAnyhow, heard_anyhow};
+
+use crate::checks::check;
+use line_io::memory::In;
+use link::{
+    Answer, End, Hearer, OwnedReceiver, Pushed, Receiver, TextHearer, receive_each,
+    receive_each_owned, receive_each_owned_strict, receive_each_strict,
+    receive_each_strict_with_sentinel, receive_each_text, receive_each_text_owned,
+    receive_each_text_owned_strict, receive_each_text_strict, receive_each_with_sentinel,
+};
+use std::alloc::Global;
+
+/// What is to be heard, each answer by the byte of this offset.
+#[derive(Drop)]
+struct Wanted<'a, T> {
+    answers: &'a [(usize, Answer<T>)],
+    /// How many answers were heard.
+    heard: usize,
+    pauses: usize,
+    /// Whether they were these so far, each at its byte.
+    are_right: bool,
+    /// How many answers are enough, and whether so many were heard.
+    most: usize,
+    is_full: bool,
+}
+
+impl<'a, T> Wanted<'a, T> {
+    fn new(answers: &'a [(usize, Answer<T>)]) -> Wanted<'a, T> {
+        Wanted {
+            answers,
+            heard: 0,
+            pauses: 0,
+            are_right: true,
+            most: usize::MAX,
+            is_full: false,
+        }
+    }
+
+    /// Notes an answer.
+    fn note(&mut self, is_wanted: bool) {
+        self.are_right = self.are_right && is_wanted;
+        self.heard = self.heard.saturating_add(1);
+        self.is_full = self.heard >= self.most;
+    }
+
+    /// Whether so many answers were heard, and they are right.
+    fn has_heard(&self, count: usize) -> bool {
+        self.are_right && self.heard == count
+    }
+}
+
+impl<'a, T: PartialEq + Drop> Hearer<T> for Wanted<'a, T> {
+    ghost hears = { HeardAnyhow };
+
+    ghost laws = { heard_anyhow };
+
+    ghost enough = { λ w. w.is_full };
+
+    fn hear(&mut self, answer: Answer<T>)
+        ensures { ⊤ }
+    {
+        let is_wanted = match self.answers.get(self.heard) {
+            Some((at, wanted)) => *at == self.pauses && *wanted == answer,
+            None => false,
+        };
+        self.note(is_wanted);
+    }
+
+    fn pause(&mut self)
+        ensures { ⊤ }
+    {
+        self.pauses = self.pauses.saturating_add(1);
+    }
+
+    fn has_enough(&self) -> bool
+        ensures { result ≡ self.now.is_full }
+    {
+        self.is_full
+    }
+}
+
+impl<'a> TextHearer for Wanted<'a, &'static str> {
+    ghost hears = { HeardAnyhow };
+
+    ghost laws = { heard_anyhow };
+
+    ghost enough = { λ w. w.is_full };
+
+    fn hear_text(&mut self, answer: Answer<&str>) {
+        let is_wanted = match self.answers.get(self.heard) {
+            Some((at, wanted)) => *at == self.pauses && are_alike(wanted, &answer),
+            None => false,
+        };
+        self.note(is_wanted);
+    }
+
+    fn pause(&mut self) {
+        self.pauses = self.pauses.saturating_add(1);
+    }
+
+    fn has_enough(&self) -> bool {
+        self.is_full
+    }
+}
+
+// Whether two answers are the same.
+fn are_alike(wanted: &Answer<&str>, answer: &Answer<&str>) -> bool {
+    match (wanted, answer) {
+        (Answer::Value(one), Answer::Value(other)) => **one == **other,
+        (Answer::Damaged, Answer::Damaged) => true,
+        (Answer::TooLong, Answer::TooLong) => true,
+        (Answer::Cut, Answer::Cut) => true,
+        _ => false,
+    }
+}
+
+// Under a limit of 4: 5; 300; a frame that lacks a byte; two zeros; five bytes and more; 300; 5 with two bytes behind it; and a
+// beginning.
+const LINE: [u8; 28] = [
+    2, 5, 0, 3, 0xAC, 2, 0, 3, 5, 0, 0, 1, 1, 1, 1, 1, 1, 0, 3, 0xAC, 2, 0, 4, 5, 1, 1, 0, 2,
+];
+
+const HEARD: [(usize, Answer<u32>); 7] = [
+    (2, Answer::Value(5)),
+    (6, Answer::Value(300)),
+    (9, Answer::Damaged),
+    (15, Answer::TooLong),
+    (21, Answer::Value(300)),
+    (26, Answer::Value(5)),
+    (28, Answer::Cut),
+];
+
+// Strictly: no bytes are behind 5.
+const HEARD_STRICTLY: [(usize, Answer<u32>); 7] = [
+    (2, Answer::Value(5)),
+    (6, Answer::Value(300)),
+    (9, Answer::Damaged),
+    (15, Answer::TooLong),
+    (21, Answer::Value(300)),
+    (26, Answer::Damaged),
+    (28, Answer::Cut),
+];
+
+// The same line where the sentinel is 0A.
+const MARKED: [u8; 28] = [
+    0x08, 0x0F, 0x0A, 0x09, 0xA6, 0x08, 0x0A, 0x09, 0x0F, 0x0A, 0x0A, 0x0B, 0x0B, 0x0B, 0x0B, 0x0B,
+    0x0B, 0x0A, 0x09, 0xA6, 0x08, 0x0A, 0x0E, 0x0F, 0x0B, 0x0B, 0x0A, 0x08,
+];
+
+#[test]
+fn each_at_its_byte(rt: HostRuntime) {
+    let mut wanted = Wanted::new(&HEARD);
+    let mut reader = In::new(&LINE, 1, None);
+    let end = receive_each::<u32, _, _, 4>(rt.alloc(), &mut reader, &mut wanted);
+    check(&rt, end == Some(End::Ended) && wanted.has_heard(7));
+    let mut wanted = Wanted::new(&HEARD_STRICTLY);
+    let mut reader = In::new(&LINE, 1, None);
+    let end = receive_each_strict::<u32, _, _, 4>(rt.alloc(), &mut reader, &mut wanted);
+    check(&rt, end == Some(End::Ended) && wanted.has_heard(7));
+}
+
+#[test]
+fn each_by_a_sentinel(rt: HostRuntime) {
+    let alloc = rt.alloc();
+    let mut wanted = Wanted::new(&HEARD);
+    let mut reader = In::new(&MARKED, 1, None);
+    let end = receive_each_with_sentinel::<u32, _, _, 4>(alloc, &mut reader, &mut wanted, 10);
+    check(&rt, end == Some(End::Ended) && wanted.has_heard(7));
+    let mut wanted = Wanted::new(&HEARD_STRICTLY);
+    let mut reader = In::new(&MARKED, 1, None);
+    let end = receive_each_strict_with_sentinel::<u32, _, _, 4>(
+        alloc,
+        &mut reader,
+        &mut wanted,
+        10,
+    );
+    check(&rt, end == Some(End::Ended) && wanted.has_heard(7));
+}
+
+#[test]
+fn each_by_a_limit(rt: HostRuntime) {
+    let alloc = rt.alloc();
+    let mut wanted = Wanted::new(&HEARD);
+    let mut reader = In::new(&MARKED, 1, None);
+    let end = receive_each_owned::<u32, _, _>(alloc, &mut reader, &mut wanted, 4, 10);
+    check(&rt, end == Ok(Some(End::Ended)) && wanted.has_heard(7));
+    let mut wanted = Wanted::new(&HEARD_STRICTLY);
+    let mut reader = In::new(&LINE, 1, None);
+    let end = receive_each_owned_strict::<u32, _, _>(alloc, &mut reader, &mut wanted, 4, 0);
+    check(&rt, end == Ok(Some(End::Ended)) && wanted.has_heard(7));
+}
+
+/// One read a call, and nothing that it has brought about is left.
+#[test]
+fn each_read(rt: HostRuntime) {
+    let mut receiver = Receiver::<4>::new();
+    let mut wanted = Wanted::new(&HEARD);
+    let mut reader = In::new(&LINE, 1, None);
+    for count in 1..29 {
+        let end = receiver.listen::<u32, _, _>(rt.alloc(), &mut reader, &mut wanted);
+        check(&rt, end.is_none() && reader.moved() == count);
+    }
+    let end = receiver.listen::<u32, _, _>(rt.alloc(), &mut reader, &mut wanted);
+    check(&rt, end == Some(End::Ended) && wanted.has_heard(6));
+    check(&rt, receiver.finish::<u32>() == Some(Answer::Cut));
+}
+
+/// The same strictly, by a receiver with a limit that is a value.
+#[test]
+fn each_read_strictly(rt: HostRuntime) {
+    let mut wanted = Wanted::new(&HEARD_STRICTLY);
+    let mut reader = In::new(&LINE, 1, None);
+    let Ok(mut receiver) = OwnedReceiver::new(rt.alloc(), 4, 0) else {
+        check(&rt, false);
+        return;
+    };
+    for _ in 0..28 {
+        let end = receiver.listen_strict::<u32, _, _>(rt.alloc(), &mut reader, &mut wanted);
+        check(&rt, end.is_none());
+    }
+    check(&rt, wanted.has_heard(6) && reader.moved() == 28);
+}
+
+/// A read that fails changes nothing: what comes behind it is heard as ever.
+#[test]
+fn behind_a_fault(rt: HostRuntime) {
+    let mut receiver = Receiver::<4>::new();
+    let mut wanted = Wanted::new(&HEARD);
+    let mut reader = In::new(&LINE, 1, Some(5));
+    let mut faults = 0usize;
+    for _ in 0..29 {
+        match receiver.listen::<u32, _, _>(rt.alloc(), &mut reader, &mut wanted) {
+            Some(end) => {
+                check(&rt, end == End::ReadFault && reader.moved() == 5);
+                faults = faults.saturating_add(1);
+            }
+            None => {}
+        }
+    }
+    check(&rt, faults == 1 && wanted.has_heard(6));
+}
+
+/// The hearer has had enough, and no byte more is asked for; a read that fails ends all.
+#[test]
+fn until_enough(rt: HostRuntime) {
+    let mut wanted = Wanted::new(&HEARD);
+    wanted.most = 2;
+    let mut reader = In::new(&LINE, 1, None);
+    let end = receive_each::<u32, _, _, 4>(rt.alloc(), &mut reader, &mut wanted);
+    check(
+        &rt,
+        end.is_none() && wanted.has_heard(2) && reader.moved() == 7,
+    );
+    let mut wanted = Wanted::new(&HEARD);
+    let mut reader = In::new(&LINE, 1, Some(8));
+    let end = receive_each::<u32, _, _, 4>(rt.alloc(), &mut reader, &mut wanted);
+    check(&rt, end == Some(End::ReadFault) && wanted.has_heard(2));
+}
+
+// "hi", one with a byte behind it, bytes that are no text, and a beginning.
+const TEXTS: [u8; 17] = [
+    4, 2, 0x68, 0x69, 0, 5, 2, 0x68, 0x69, 7, 0, 3, 1, 0xFF, 0, 4, 2,
+];
+
+const TEXTS_HEARD: [(usize, Answer<&str>); 4] = [
+    (4, Answer::Value("hi")),
+    (10, Answer::Value("hi")),
+    (14, Answer::Damaged),
+    (17, Answer::Cut),
+];
+
+const TEXTS_HEARD_STRICTLY: [(usize, Answer<&str>); 4] = [
+    (4, Answer::Value("hi")),
+    (10, Answer::Damaged),
+    (14, Answer::Damaged),
+    (17, Answer::Cut),
+];
+
+#[test]
+fn texts_where_they_lie(rt: HostRuntime) {
+    let mut wanted = Wanted::new(&TEXTS_HEARD);
+    let mut reader = In::new(&TEXTS, 1, None);
+    let end = receive_each_text::<_, _, 8>(rt.alloc(), &mut reader, &mut wanted, 0);
+    check(&rt, end == Some(End::Ended) && wanted.has_heard(4));
+    let mut wanted = Wanted::new(&TEXTS_HEARD_STRICTLY);
+    let mut reader = In::new(&TEXTS, 1, None);
+    let end = receive_each_text_strict::<_, _, 8>(rt.alloc(), &mut reader, &mut wanted, 0);
+    check(&rt, end == Some(End::Ended) && wanted.has_heard(4));
+}
+
+/// The same by a receiver with a limit that is a value.
+#[test]
+fn texts_by_a_limit(rt: HostRuntime) {
+    let alloc = rt.alloc();
+    let mut wanted = Wanted::new(&TEXTS_HEARD);
+    let mut reader = In::new(&TEXTS, 1, None);
+    let end = receive_each_text_owned(alloc, &mut reader, &mut wanted, 8, 0);
+    check(&rt, end == Ok(Some(End::Ended)) && wanted.has_heard(4));
+    let mut wanted = Wanted::new(&TEXTS_HEARD_STRICTLY);
+    let mut reader = In::new(&TEXTS, 1, None);
+    let end = receive_each_text_owned_strict(alloc, &mut reader, &mut wanted, 8, 0);
+    check(&rt, end == Ok(Some(End::Ended)) && wanted.has_heard(4));
+}
+
+// Whether the first answer in a piece is about so many bytes before the last that was used.
+fn spans(
+    alloc: Global,
+    receiver: &mut Receiver<4>,
+    piece: &[u8],
+    used: usize,
+    stretch: usize,
+) -> bool {
+    let Pushed {
+        used: found,
+        stretch: length,
+        answer: _,
+    } = receiver.push::<u32>(alloc, piece);
+    found == used && length == stretch
+}
+
+/// How long the answered stretch was, also where earlier pushes took its beginning.
+#[test]
+fn lengths_of_stretches(rt: HostRuntime) {
+    let mut receiver = Receiver::<4>::new();
+    check(&rt, spans(rt.alloc(), &mut receiver, &LINE, 3, 2));
+    check(&rt, spans(rt.alloc(), &mut receiver, &LINE[3..5], 2, 0));
+    check(&rt, spans(rt.alloc(), &mut receiver, &LINE[5..], 2, 3));
+    check(&rt, spans(rt.alloc(), &mut receiver, &LINE[7..], 3, 2));
+    // a zero, and five bytes, of which the last is past the limit
+    check(&rt, spans(rt.alloc(), &mut receiver, &LINE[10..], 6, 4));
+    // the rest of that stretch, and the next one
+    check(&rt, spans(rt.alloc(), &mut receiver, &LINE[16..], 6, 3));
+    check(&rt, spans(rt.alloc(), &mut receiver, &LINE[22..], 5, 4));
+    check(&rt, spans(rt.alloc(), &mut receiver, &LINE[27..], 1, 0));
+}

@@ -1,0 +1,808 @@
+//! Out of memory: in a run in which a growth is refused, each call answers so or gives its whole answer.
+//!
+//! The tests whose names begin with `said` are also run with each growth refused in turn, by `.ci/refusals`. In the gate
+//! none is refused, and `whole_answers` passes too.
+ghost use Rattle.std.specs.Prelude.{◌≡◌, ◌<◌, false, ⊤};
+ghost use Rattle.link.specs.Each.{HeardAnyhow, heard_anyhow};
+
+use crate::checks::{are_bytes, are_fates, check, is_answer, is_told};
+use cobs::{CobsDecoderOwned, DecodeVecError};
+use line_io::memory::{In, Out};
+use link::{
+    Answer, End, Fate, Gathered, Hearer, NoMemory, OwnedReceiver, Pushed, Received, Receiver,
+    Sender, read_in_place, read_in_place_with_sentinel, receive, receive_by_accumulator,
+    receive_by_accumulator_with_sentinel, receive_each, receive_each_owned_strict, receive_owned,
+    receive_owned_strict, receive_strict, receive_strict_with_sentinel, receive_with_sentinel,
+    send_each,
+};
+use postcard::accumulator::{CobsAccumulator, FeedResult};
+use postcard::experimental::serialized_size;
+use postcard::{
+    Error, from_bytes, from_bytes_cobs, from_bytes_cobs_with_sentinel, from_bytes_owned, from_io,
+    take_from_bytes, take_from_bytes_cobs, take_from_bytes_cobs_with_sentinel, to_allocvec,
+    to_allocvec_cobs, to_allocvec_cobs_with_sentinel, to_extend, to_io, to_slice, to_slice_cobs,
+    to_stdvec, to_stdvec_cobs, to_stdvec_cobs_with_sentinel, to_vec, to_vec_cobs,
+};
+use samples::Chain;
+use std::alloc::{AllocError, Global};
+use std::collections::BTreeMap;
+
+/// What was answered so far.
+#[derive(Drop)]
+struct Wants {
+    /// How many calls found no memory.
+    count: usize,
+    /// Whether each other answer was the whole one.
+    are_whole: bool,
+}
+
+impl Wants {
+    fn new() -> Wants {
+        Wants {
+            count: 0,
+            are_whole: true,
+        }
+    }
+
+    fn add(&mut self) {
+        self.count = self.count.saturating_add(1);
+    }
+
+    fn expect(&mut self, is_right: bool) {
+        self.are_whole = self.are_whole && is_right;
+    }
+
+    /// Whether no more calls than these found no memory, and the others are right.
+    fn are_at_most(&self, count: usize) -> bool {
+        self.are_whole && self.count <= count
+    }
+
+    /// The value; nothing when out of memory, which is this refusal, and no other refusal.
+    fn value<T: Drop, E: PartialEq + Drop>(&mut self, answer: Result<T, E>, want: E) -> Option<T> {
+        match answer {
+            Ok(value) => Some(value),
+            Err(cause) => {
+                self.expect(cause == want);
+                self.add();
+                None
+            }
+        }
+    }
+
+    /// These bytes, or out of memory, which is this refusal.
+    fn bytes<E: PartialEq + Drop>(&mut self, answer: Result<Vec<u8>, E>, want: E, whole: &[u8]) {
+        if let Some(bytes) = self.value(answer, want) {
+            self.expect(are_bytes(&bytes, whole));
+        }
+    }
+
+    /// These bytes, or out of memory, by a call of `postcard`.
+    fn written(&mut self, answer: postcard::Result<Vec<u8>>, whole: &[u8]) {
+        self.bytes(answer, Error::OutOfMemory, whole);
+    }
+
+    /// The vector of a 7, or out of memory.
+    fn told(&mut self, answer: Result<Answer<Vec<u8>>, NoMemory>) {
+        if let Some(answer) = self.value(answer, NoMemory) {
+            self.expect(is_vector(&answer, 7));
+        }
+    }
+}
+
+// Whether an answer is the vector of this byte.
+fn is_vector(answer: &Answer<Vec<u8>>, byte: u8) -> bool {
+    match answer {
+        Answer::Value(bytes) => are_bytes(bytes, &[byte]),
+        _ => false,
+    }
+}
+
+// 10, 11, 0, 12
+const MESSAGE: [u8; 4] = [10, 11, 0, 12];
+
+/// The vector forms of `cobs` that encode.
+fn encode(alloc: Global, wants: &mut Wants) {
+    let plain = cobs::encode_vec(alloc, &MESSAGE);
+    wants.bytes(plain, AllocError, &[3, 10, 11, 2, 12]);
+    let between = cobs::encode_vec_including_sentinels(alloc, &MESSAGE);
+    wants.bytes(between, AllocError, &[0, 3, 10, 11, 2, 12, 0]);
+    let masked = cobs::encode_vec_with_sentinel(alloc, &MESSAGE, 10);
+    wants.bytes(masked, AllocError, &[9, 0, 1, 8, 6]);
+}
+
+/// The vector forms of `cobs` that decode.
+fn decode(alloc: Global, wants: &mut Wants) {
+    let plain = cobs::decode_vec(alloc, &[3, 10, 11, 2, 12]);
+    wants.bytes(plain, DecodeVecError::OutOfMemory, &MESSAGE);
+    let unmasked = cobs::decode_vec_with_sentinel(alloc, &[9, 0, 1, 8, 6], 10);
+    wants.bytes(unmasked, DecodeVecError::OutOfMemory, &MESSAGE);
+}
+
+// Whether a decoder that owns three bytes fills one of them by this frame of a 7.
+fn fills_one(decoder: &mut CobsDecoderOwned, frame: &[u8]) -> bool {
+    are_bytes(decoder.dest(), &[0, 0, 0])
+        && decoder.push(frame).is_ok()
+        && are_bytes(decoder.dest(), &[7, 0, 0])
+}
+
+impl Wants {
+    /// A decoder that owns three bytes, and fills one of them by this frame of a 7; or out of memory.
+    fn owned(&mut self, decoder: Result<CobsDecoderOwned, AllocError>, frame: &[u8]) {
+        if let Some(mut decoder) = self.value(decoder, AllocError) {
+            self.expect(fills_one(&mut decoder, frame));
+        }
+    }
+}
+
+/// Frames of `cobs`, and its decoder that owns its room.
+fn frame(alloc: Global, wants: &mut Wants) {
+    encode(alloc, wants);
+    decode(alloc, wants);
+    wants.owned(CobsDecoderOwned::new(alloc, 3), &[2, 7, 0]);
+}
+
+// The tuple (1, 10, "Hello!").
+const WHOLE: [u8; 9] = [1, 10, 6, 0x48, 0x65, 0x6C, 0x6C, 0x6F, 0x21];
+
+// The frame of "Hi!".
+const FRAMED: [u8; 6] = [5, 3, 0x48, 0x69, 0x21, 0];
+
+const ONES: [u8; 40] = [1; 40];
+
+// The message of forty ones.
+const LONG: [u8; 41] = [
+    40, 1, 1, 1, 1, 1, 1, 1, 1, 1, 1, 1, 1, 1, 1, 1, 1, 1, 1, 1, 1, 1, 1, 1, 1, 1, 1, 1, 1, 1, 1,
+    1, 1, 1, 1, 1, 1, 1, 1, 1, 1,
+];
+
+/// Calls that write into a vector.
+fn write(alloc: Global, wants: &mut Wants) {
+    let value = (1u8, 10u32, "Hello!");
+    wants.written(to_allocvec(alloc, &value), &WHOLE);
+    wants.written(to_stdvec(alloc, &value), &WHOLE);
+    wants.written(to_extend(&value, Vec::new(alloc)), &WHOLE);
+    wants.written(to_allocvec_cobs(alloc, &"Hi!"), &FRAMED);
+    wants.written(to_stdvec_cobs(alloc, &"Hi!"), &FRAMED);
+    let ones = ONES.as_slice();
+    wants.written(to_allocvec(alloc, &ones), &LONG);
+    wants.written(to_extend(&ones, Vec::new(alloc)), &LONG);
+}
+
+/// A text, bytes and a box.
+fn read_parts(alloc: Global, wants: &mut Wants) {
+    let text = from_bytes::<String>(alloc, &[3, 0x48, 0x69, 0x21]);
+    if let Some(text) = wants.value(text, Error::OutOfMemory) {
+        wants.expect(text.as_str() == "Hi!");
+    }
+    wants.written(from_bytes::<Vec<u8>>(alloc, &LONG), &ONES);
+    let boxed = from_bytes::<Box<u8>>(alloc, &[7]);
+    if let Some(boxed) = wants.value(boxed, Error::OutOfMemory) {
+        wants.expect(*boxed == 7);
+    }
+}
+
+// Whether a map has the entries 1 to 5 and 2 to 6, and no others.
+fn is_the_map(map: &BTreeMap<u8, u8>) -> bool {
+    map.len() == 2 && map.get(&1) == Some(&5) && map.get(&2) == Some(&6)
+}
+
+/// A map.
+fn read_map(alloc: Global, wants: &mut Wants) {
+    let read = from_bytes::<BTreeMap<u8, u8>>(alloc, &[2, 2, 6, 1, 5]);
+    if let Some(map) = wants.value(read, Error::OutOfMemory) {
+        wants.expect(is_the_map(&map));
+    }
+}
+
+// A chain of 7 and 8.
+const CHAIN: [u8; 5] = [1, 7, 1, 8, 0];
+
+// Whether a chain is written as that one.
+fn is_the_chain(chain: &Chain) -> bool {
+    match to_vec::<_, 8>(chain) {
+        Ok(written) => are_bytes(written.as_slice(), &CHAIN),
+        Err(_) => false,
+    }
+}
+
+/// A value that holds itself.
+fn read_chain(alloc: Global, wants: &mut Wants) {
+    let read = from_bytes::<Chain>(alloc, &CHAIN);
+    if let Some(chain) = wants.value(read, Error::OutOfMemory) {
+        wants.expect(is_the_chain(&chain));
+    }
+}
+
+// The frame of the vector of a 7, and a byte more.
+const SEVEN: [u8; 5] = [3, 1, 7, 0, 9];
+
+/// A frame of a value that asks for memory.
+fn read_frame(alloc: Global, wants: &mut Wants) {
+    let mut line = SEVEN;
+    wants.written(from_bytes_cobs(alloc, &mut line), &[7]);
+}
+
+/// As above, with the bytes behind it.
+fn take_frame(alloc: Global, wants: &mut Wants) {
+    let mut line = SEVEN;
+    let taken = take_from_bytes_cobs::<Vec<u8>>(alloc, &mut line);
+    if let Some((bytes, rest)) = wants.value(taken, Error::OutOfMemory) {
+        wants.expect(rest.len() == 1 && are_bytes(&bytes, &[7]));
+    }
+}
+
+/// As above, by `link`.
+fn read_stretch(alloc: Global, wants: &mut Wants) {
+    let mut line = SEVEN;
+    match read_in_place::<Vec<u8>>(alloc, &mut line) {
+        Some((answer, rest)) => {
+            wants.expect(rest.len() == 1);
+            wants.told(answer);
+        }
+        None => wants.expect(false),
+    }
+}
+
+/// Values that ask for memory, and frames of such values.
+fn read_all(alloc: Global, wants: &mut Wants) {
+    read_parts(alloc, wants);
+    read_map(alloc, wants);
+    read_chain(alloc, wants);
+    read_frame(alloc, wants);
+    take_frame(alloc, wants);
+    read_stretch(alloc, wants);
+}
+
+// Two frames: the vectors of a 7 and of an 8.
+const PAIR: [u8; 8] = [3, 1, 7, 0, 3, 1, 8, 0];
+
+/// An accumulator answers a frame by `DeserError` where no memory is found, and goes on behind it.
+fn feed(alloc: Global, wants: &mut Wants) {
+    let mut accumulator: CobsAccumulator<8> = CobsAccumulator::new();
+    wants.fed(accumulator.feed(alloc, &PAIR), 4, 7);
+    wants.fed(accumulator.feed(alloc, &PAIR[4..]), 0, 8);
+}
+
+impl Wants {
+    /// A vector of this byte with so many bytes behind it, or out of memory with as many.
+    fn fed(&mut self, answer: FeedResult<'_, Vec<u8>>, left: usize, byte: u8) {
+        match answer {
+            FeedResult::Success { value, remaining } => {
+                self.expect(remaining.len() == left && are_bytes(&value, &[byte]));
+            }
+            FeedResult::DeserError(remaining) => {
+                self.expect(remaining.len() == left);
+                self.add();
+            }
+            _ => self.expect(false),
+        }
+    }
+}
+
+/// A receiver is between stretches behind a frame for which no memory was found, and goes on.
+fn push(alloc: Global, wants: &mut Wants) {
+    let mut receiver = Receiver::<8>::new();
+    wants.pushed(receiver.push(alloc, &PAIR), 7);
+    wants.expect(receiver.is_between());
+    wants.pushed(receiver.push(alloc, &PAIR[4..]), 8);
+    wants.expect(receiver.is_between());
+    wants.pushed(receiver.push_strict(alloc, &PAIR), 7);
+    wants.expect(receiver.is_between());
+}
+
+impl Wants {
+    /// Four bytes were used, for a vector of this byte or out of memory.
+    fn pushed(&mut self, pushed: Pushed<Vec<u8>>, byte: u8) {
+        self.expect(pushed.used == 4);
+        match pushed.answer {
+            Ok(Some(answer)) => self.expect(is_vector(&answer, byte)),
+            Ok(None) => self.expect(false),
+            Err(NoMemory) => self.add(),
+        }
+    }
+}
+
+// Six frames: the vectors of one byte, from 1 to 6.
+const LINE: [u8; 24] = [
+    3, 1, 1, 0, 3, 1, 2, 0, 3, 1, 3, 0, 3, 1, 4, 0, 3, 1, 5, 0, 3, 1, 6, 0,
+];
+
+impl Wants {
+    /// What was heard to the end if it is whole, and else until out of memory.
+    fn ended(&mut self, end: End, is_whole: bool) {
+        if is_whole {
+            self.expect(end == End::Ended);
+        } else {
+            self.expect(end == End::NoMemory);
+            self.add();
+        }
+    }
+
+    /// All six values, or the first ones and out of memory.
+    fn received(&mut self, got: Received<Vec<u8>, In<'_>>) {
+        self.expect(are_first(&got.answers));
+        self.ended(got.end, got.answers.len() == 6);
+    }
+
+    /// The six values, but that one may be left out; or the first ones and out of memory.
+    fn gathered(&mut self, got: Gathered<Vec<u8>, In<'_>>) {
+        let count = got.values.len();
+        let last = greatest(&got.values);
+        match got.end {
+            End::Ended => self.expect(last.is_some() && 5 <= count),
+            End::NoMemory => self.expect(last == Some(count)),
+            End::ReadFault => self.expect(false),
+        }
+        if count < 6 {
+            self.add();
+        }
+    }
+}
+
+// Whether the answers are the vectors of one byte from 1 on.
+fn are_first(answers: &[Answer<Vec<u8>>]) -> bool {
+    let mut next = 1u8;
+    for answer in answers {
+        if !is_vector(answer, next) {
+            return false;
+        }
+        next = next.saturating_add(1);
+    }
+    true
+}
+
+// The greatest byte of vectors of one byte, at most 6 and each greater than the one before it; of none of them 0.
+fn greatest(values: &[Vec<u8>]) -> Option<usize> {
+    let mut last = 0u8;
+    for value in values {
+        match value.as_slice() {
+            [byte] if last < *byte && *byte <= 6 => last = *byte,
+            _ => return None,
+        }
+    }
+    Some(usize::from(last))
+}
+
+/// How many vectors of one byte were heard, from 1 on.
+#[derive(Drop)]
+struct Vectors {
+    next: u8,
+    are_right: bool,
+}
+
+impl Vectors {
+    fn new() -> Vectors {
+        Vectors {
+            next: 1,
+            are_right: true,
+        }
+    }
+}
+
+impl Hearer<Vec<u8>> for Vectors {
+    ghost hears = { HeardAnyhow };
+
+    ghost laws = { heard_anyhow };
+
+    ghost enough = { λ v. false };
+
+    fn hear(&mut self, answer: Answer<Vec<u8>>)
+        ensures { ⊤ }
+    {
+        self.are_right = self.are_right && is_vector(&answer, self.next);
+        self.next = self.next.saturating_add(1);
+    }
+
+    fn pause(&mut self)
+        ensures { ⊤ }
+    {}
+
+    fn has_enough(&self) -> bool
+        ensures { result ≡ false }
+    {
+        false
+    }
+}
+
+impl Wants {
+    /// All six values were handed on, or the first ones and then out of memory.
+    fn handed(&mut self, end: Option<End>, vectors: &Vectors) {
+        self.expect(vectors.are_right);
+        match end {
+            Some(end) => self.ended(end, vectors.next == 7),
+            None => self.expect(false),
+        }
+    }
+}
+
+/// The same, each handed on.
+fn hand_on(alloc: Global, wants: &mut Wants, each: usize)
+    requires { 0 < each }
+{
+    let mut vectors = Vectors::new();
+    let mut line = In::new(&LINE, each, None);
+    let end = receive_each::<Vec<u8>, _, _, 8>(alloc, &mut line, &mut vectors);
+    wants.handed(end, &vectors);
+}
+
+/// The same, with a limit that is a value: where the receiver finds no memory, nothing is read.
+fn hand_on_owned(alloc: Global, wants: &mut Wants) {
+    let mut vectors = Vectors::new();
+    let mut line = In::new(&LINE, 7, None);
+    match receive_each_owned_strict::<Vec<u8>, _, _>(alloc, &mut line, &mut vectors, 8, 0) {
+        Ok(end) => wants.handed(end, &vectors),
+        Err(NoMemory) => {
+            wants.expect(vectors.next == 1 && line.moved() == 0);
+            wants.add();
+        }
+    }
+}
+
+/// Receptions to the end, in pieces of this size.
+fn listen(alloc: Global, wants: &mut Wants, each: usize)
+    requires { 0 < each }
+{
+    wants.received(receive::<_, _, 8>(alloc, In::new(&LINE, each, None)));
+    wants.received(receive_strict::<_, _, 8>(alloc, In::new(&LINE, each, None)));
+    wants.gathered(receive_by_accumulator::<_, _, 8>(alloc, In::new(&LINE, each, None)));
+    hand_on(alloc, wants, each);
+}
+
+// The same six frames where the line's mark is FF.
+const MARKED: [u8; 24] = [
+    252, 254, 254, 255, 252, 254, 253, 255, 252, 254, 252, 255, 252, 254, 251, 255, 252, 254, 250,
+    255, 252, 254, 249, 255,
+];
+
+// 5, 3, "Hi!", 0 for such a line
+const HI_MARKED: [u8; 6] = [0xFA, 0xFC, 0xB7, 0x96, 0xDE, 0xFF];
+
+/// Calls that write for such a line, and the decoder that owns its room.
+fn write_marked(alloc: Global, wants: &mut Wants) {
+    let framed = to_allocvec_cobs_with_sentinel(alloc, &"Hi!", 0xFF);
+    wants.written(framed, &HI_MARKED);
+    let framed = to_stdvec_cobs_with_sentinel(alloc, &"Hi!", 0xFF);
+    wants.written(framed, &HI_MARKED);
+    let decoder = CobsDecoderOwned::new_with_sentinel(alloc, 3, 0xFF);
+    wants.owned(decoder, &[0xFD, 0xF8, 0xFF]);
+}
+
+// 3, 1, 7, 0, and a byte more
+const SEVEN_MARKED: [u8; 5] = [0xFC, 0xFE, 0xF8, 0xFF, 9];
+
+/// A frame of such a line.
+fn read_marked(alloc: Global, wants: &mut Wants) {
+    let mut line = SEVEN_MARKED;
+    wants.written(from_bytes_cobs_with_sentinel(alloc, &mut line, 0xFF), &[7]);
+}
+
+/// As above, with the bytes behind it.
+fn take_marked(alloc: Global, wants: &mut Wants) {
+    let mut line = SEVEN_MARKED;
+    let taken = take_from_bytes_cobs_with_sentinel::<Vec<u8>>(alloc, &mut line, 0xFF);
+    if let Some((bytes, rest)) = wants.value(taken, Error::OutOfMemory) {
+        wants.expect(rest.len() == 1 && are_bytes(&bytes, &[7]));
+    }
+}
+
+/// As above, by `link`.
+fn read_marked_in_place(alloc: Global, wants: &mut Wants) {
+    let mut line = SEVEN_MARKED;
+    match read_in_place_with_sentinel::<Vec<u8>>(alloc, &mut line, 0xFF) {
+        Some((answer, rest)) => {
+            wants.expect(rest.len() == 1);
+            wants.told(answer);
+        }
+        None => wants.expect(false),
+    }
+}
+
+/// Receptions of such a line.
+fn listen_for_mark(alloc: Global, wants: &mut Wants) {
+    let line = In::new(&MARKED, 7, None);
+    wants.received(receive_with_sentinel::<_, _, 8>(alloc, line, 0xFF));
+    let line = In::new(&MARKED, 7, None);
+    wants.received(receive_strict_with_sentinel::<_, _, 8>(alloc, line, 0xFF));
+    let line = In::new(&MARKED, 7, None);
+    wants.gathered(receive_by_accumulator_with_sentinel::<_, _, 8>(alloc, line, 0xFF));
+}
+
+/// Receptions with a limit that is a value.
+fn listen_owned(alloc: Global, wants: &mut Wants) {
+    wants.received(receive_owned(alloc, In::new(&MARKED, 7, None), 8, 0xFF));
+    wants.received(receive_owned_strict(alloc, In::new(&LINE, 7, None), 8, 0));
+    hand_on_owned(alloc, wants);
+}
+
+impl Wants {
+    /// These answers, or the first of them and out of memory.
+    fn heard<T: PartialEq + Drop>(&mut self, got: Received<T, In<'_>>, whole: &[Answer<T>]) {
+        self.expect(whole.starts_with(&got.answers));
+        self.ended(got.end, got.answers.len() == whole.len());
+    }
+}
+
+/// Short lines, by a receiver whose limit is a value.
+fn own_short(alloc: Global, wants: &mut Wants) {
+    let line = [5u8, 1, 1, 1, 1, 0, 2, 1, 0];
+    let got = receive_owned::<bool, _>(alloc, In::new(&line, 2, None), 3, 0);
+    wants.heard(got, &[Answer::TooLong, Answer::Value(true)]);
+    let got = receive_owned::<(), _>(alloc, In::new(&[1, 0], 2, None), 0, 0);
+    wants.heard(got, &[Answer::TooLong]);
+    let got = receive_owned::<(), _>(alloc, In::new(&[1, 0], 2, None), 1, 0);
+    wants.heard(got, &[Answer::Value(())]);
+}
+
+// 1018 letters, whose frame has 1025 bytes.
+const LETTERS: [u8; 1018] = [b'a'; 1018];
+
+/// Whether their text is sent, and fills this room.
+fn fills(room: &mut [u8; 1027]) -> bool {
+    let text = str::from_utf8(&LETTERS).unwrap_or("");
+    let mut sender = Sender::<_, 1025>::new(Out::new(room, 1027, None));
+    let sent = sender.send(&text);
+    let count = sender.into_inner().moved();
+    sent.is_ok() && count == 1027
+}
+
+/// The line of that text, by a receiver with this limit, within which the text fits or not.
+fn own_long(alloc: Global, wants: &mut Wants, line: &[u8], limit: usize, fits: bool) {
+    let got = receive_owned(alloc, In::new(line, 500, None), limit, 0);
+    wants.text(got, fits);
+    let got = receive_owned_strict(alloc, In::new(line, 500, None), limit, 0);
+    wants.text(got, fits);
+}
+
+impl Wants {
+    /// One answer: the letters if they fit, and else that they are too long; or none and out of memory.
+    fn text(&mut self, got: Received<String, In<'_>>, fits: bool) {
+        let is_one = !got.answers.is_empty();
+        self.ended(got.end, is_one);
+        self.expect(!is_one || is_long(&got.answers, fits));
+    }
+}
+
+// Whether the one answer is the letters, or that they are too long.
+fn is_long(answers: &[Answer<String>], fits: bool) -> bool {
+    match answers {
+        [Answer::Value(text)] => fits && are_bytes(text.as_bytes(), &LETTERS),
+        [Answer::TooLong] => !fits,
+        _ => false,
+    }
+}
+
+/// A limit that can't be raised stays as it is.
+fn raise(alloc: Global, wants: &mut Wants) {
+    let Ok(mut receiver) = OwnedReceiver::new(alloc, 1, 0) else {
+        return wants.add();
+    };
+    if receiver.set_limit(64).is_ok() {
+        wants.expect(receiver.limit() == 64);
+    } else {
+        wants.expect(receiver.limit() == 1);
+        wants.add();
+    }
+    let pushed = receiver.push::<()>(alloc, &[1, 0]);
+    wants.expect(is_answer(&pushed.answer, &Answer::Value(())));
+}
+
+/// Receivers whose limit is a value.
+fn own_values(alloc: Global, wants: &mut Wants) {
+    listen_owned(alloc, wants);
+    own_short(alloc, wants);
+    let mut line = [0u8; 1027];
+    wants.expect(fills(&mut line));
+    own_long(alloc, wants, &line, 1025, true);
+    own_long(alloc, wants, &line, 1024, false);
+    raise(alloc, wants);
+}
+
+/// All calls that receive frames of a line whose mark is zero, to the end in pieces of some sizes.
+fn receive_all(alloc: Global, wants: &mut Wants) {
+    feed(alloc, wants);
+    push(alloc, wants);
+    listen(alloc, wants, 1);
+    listen(alloc, wants, 7);
+    listen(alloc, wants, 24);
+}
+
+/// All calls for a line whose mark is FF.
+fn mark_all(alloc: Global, wants: &mut Wants) {
+    write_marked(alloc, wants);
+    read_marked(alloc, wants);
+    take_marked(alloc, wants);
+    read_marked_in_place(alloc, wants);
+    listen_for_mark(alloc, wants);
+}
+
+#[test]
+fn said_by_frames(rt: HostRuntime) {
+    let mut wants = Wants::new();
+    frame(rt.alloc(), &mut wants);
+    check(&rt, wants.are_at_most(1));
+}
+
+#[test]
+fn said_by_writing(rt: HostRuntime) {
+    let mut wants = Wants::new();
+    write(rt.alloc(), &mut wants);
+    check(&rt, wants.are_at_most(1));
+}
+
+#[test]
+fn said_by_reading(rt: HostRuntime) {
+    let mut wants = Wants::new();
+    read_all(rt.alloc(), &mut wants);
+    check(&rt, wants.are_at_most(1));
+}
+
+#[test]
+fn said_by_receiving(rt: HostRuntime) {
+    let mut wants = Wants::new();
+    receive_all(rt.alloc(), &mut wants);
+    check(&rt, wants.are_at_most(1));
+}
+
+#[test]
+fn said_with_a_mark(rt: HostRuntime) {
+    let mut wants = Wants::new();
+    mark_all(rt.alloc(), &mut wants);
+    check(&rt, wants.are_at_most(1));
+}
+
+#[test]
+fn said_by_owning(rt: HostRuntime) {
+    let mut wants = Wants::new();
+    own_values(rt.alloc(), &mut wants);
+    check(&rt, wants.are_at_most(1));
+}
+
+#[test]
+fn whole_answers(rt: HostRuntime) {
+    let alloc = rt.alloc();
+    let mut wants = Wants::new();
+    frame(alloc, &mut wants);
+    write(alloc, &mut wants);
+    read_all(alloc, &mut wants);
+    receive_all(alloc, &mut wants);
+    mark_all(alloc, &mut wants);
+    own_values(alloc, &mut wants);
+    check(&rt, wants.are_at_most(0));
+}
+
+// With each growth refused in turn the tests below meet none.
+
+#[test]
+fn none_asked_by_cobs(rt: HostRuntime) {
+    let mut room = [0u8; 8];
+    check(&rt, cobs::encode(&MESSAGE, &mut room) == 5);
+    let tried = cobs::try_encode(&MESSAGE, &mut room);
+    check(&rt, matches!(&tried, Ok(5)));
+    let mut back = [0u8; 4];
+    let decoded = cobs::decode(&room[..5], &mut back);
+    check(&rt, decoded.is_ok() && are_bytes(&back, &MESSAGE));
+    let decoded = cobs::decode_in_place(&mut room[..5]);
+    check(&rt, matches!(&decoded, Ok(4)));
+}
+
+#[test]
+fn none_asked_by_sending(rt: HostRuntime) {
+    let mut room = [0u8; 16];
+    let mut sender = Sender::<_, 8>::new(Out::new(&mut room, 1, None));
+    let sent = sender.send(&300u32);
+    check(&rt, sent.is_ok() && sender.into_inner().moved() == 5);
+    let mut fates = [Fate::Refused; 1];
+    let out = send_each::<u32, _, 8>(Out::new(&mut room, 1, None), &[300], &mut fates);
+    check(&rt, out.moved() == 5 && are_fates(&fates, &[Fate::Done]));
+}
+
+// Whether so many bytes were written.
+fn has_length(written: postcard::Result<&mut [u8]>, length: usize) -> bool {
+    match written {
+        Ok(bytes) => bytes.len() == length,
+        Err(_) => false,
+    }
+}
+
+#[test]
+fn none_asked_by_writing(rt: HostRuntime) {
+    let mut room = [0u8; 16];
+    check(&rt, has_length(to_slice(&"Hi!", &mut room), 4));
+    check(&rt, has_length(to_slice_cobs(&"Hi!", &mut room), 6));
+    let written = to_io(&"Hi!", &mut room[..]);
+    check(&rt, written.is_ok());
+    let size = serialized_size(&"Hi!");
+    check(&rt, matches!(&size, Ok(4)));
+}
+
+#[test]
+fn none_asked_by_arrays(rt: HostRuntime) {
+    let plain = to_vec::<_, 4>(&"Hi!");
+    check(&rt, matches!(&plain, Ok(it) if it.len() == 4));
+    let framed = to_vec_cobs::<_, 6>(&"Hi!");
+    check(&rt, matches!(&framed, Ok(it) if it.len() == 6));
+}
+
+// The message of "Hi!".
+const HI: [u8; 4] = [3, 0x48, 0x69, 0x21];
+
+// Whether this value was read.
+fn is_value<T: PartialEq>(read: &postcard::Result<T>, wanted: &T) -> bool {
+    match read {
+        Ok(value) => *value == *wanted,
+        Err(_) => false,
+    }
+}
+
+#[test]
+fn none_asked_by_reading(rt: HostRuntime) {
+    let text = from_bytes::<&str>(rt.alloc(), &HI);
+    check(&rt, is_value(&text, &"Hi!"));
+    let bytes = from_bytes_owned::<[u8; 4]>(rt.alloc(), &HI);
+    check(&rt, is_value(&bytes, &HI));
+    let taken = take_from_bytes::<u8>(rt.alloc(), &HI);
+    check(&rt, matches!(&taken, Ok((3, _))));
+}
+
+#[test]
+fn none_asked_by_readers(rt: HostRuntime) {
+    let mut buffer = [0u8; 3];
+    let read = from_io::<&str, _>(rt.alloc(), (HI.as_slice(), &mut buffer));
+    check(&rt, matches!(&read, Ok((text, _)) if *text == "Hi!"));
+}
+
+// The frame of 5, twice.
+const FIVES: [u8; 6] = [2, 5, 0, 2, 5, 0];
+
+// Whether a receiver answered 5.
+fn brings_five(pushed: &Pushed<u32>) -> bool {
+    is_answer(&pushed.answer, &Answer::Value(5))
+}
+
+#[test]
+fn none_asked_by_receiving(rt: HostRuntime) {
+    let mut receiver = Receiver::<8>::new();
+    check(&rt, brings_five(&receiver.push(rt.alloc(), &FIVES)));
+    check(&rt, brings_five(&receiver.push_strict(rt.alloc(), &FIVES)));
+    check(&rt, brings_five(&receiver.push_ref(rt.alloc(), &FIVES)));
+}
+
+// Whether an accumulator answered 5.
+fn is_five(answer: FeedResult<'_, u32>) -> bool {
+    match answer {
+        FeedResult::Success { value, .. } => value == 5,
+        _ => false,
+    }
+}
+
+#[test]
+fn none_asked_by_accumulators(rt: HostRuntime) {
+    let mut accumulator: CobsAccumulator<8> = CobsAccumulator::new();
+    check(&rt, is_five(accumulator.feed(rt.alloc(), &FIVES)));
+    check(&rt, is_five(accumulator.feed_ref(rt.alloc(), &FIVES)));
+}
+
+#[test]
+fn none_asked_by_frames(rt: HostRuntime) {
+    let mut line = FIVES;
+    let read = from_bytes_cobs::<u32>(rt.alloc(), &mut line);
+    check(&rt, is_value(&read, &5));
+}
+
+#[test]
+fn none_asked_by_frames_with_a_rest(rt: HostRuntime) {
+    let mut line = FIVES;
+    let taken = take_from_bytes_cobs::<u32>(rt.alloc(), &mut line);
+    check(&rt, matches!(&taken, Ok((5, _))));
+}
+
+#[test]
+fn none_asked_in_place(rt: HostRuntime) {
+    let mut line = FIVES;
+    match read_in_place::<u32>(rt.alloc(), &mut line) {
+        Some((answer, rest)) => {
+            check(&rt, is_told(&answer, &Answer::Value(5)) && rest.len() == 3);
+        }
+        None => check(&rt, false),
+    }
+}

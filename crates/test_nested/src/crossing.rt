@@ -1,0 +1,247 @@
+//! Each type goes over a line at three sentinels. The bytes are as postcard's format has them.
+use crate::messages::{
+    Borrower, Deep, Lent, Lists, Message, Outer, Pair, Pairs, Point, Text, Third, Triangle, Widths,
+};
+use line_io::memory::{In, Out};
+use link::{Answer, Sender, read_in_place_with_sentinel, receive_with_sentinel};
+use postcard::experimental::max_size::MaxSize;
+use postcard::fixint::{BE, LE};
+use postcard::{Deserialize, DeserializeOwned, Serialize, from_bytes, from_bytes_owned, to_slice};
+use std::alloc::Global;
+use std::process::Abort;
+
+/// The sentinels.
+const SENTINELS: [u8; 3] = [0, 0x0A, 0xFF];
+
+/// Ends a test that isn't right.
+fn check(rt: &impl Abort, is_right: bool) {
+    assert!(rt; is_right);
+}
+
+/// Whether a value is written as these bytes.
+fn writes<T: Serialize>(value: &T, bytes: &[u8]) -> bool {
+    let mut room = [0u8; 64];
+    match to_slice(value, &mut room) {
+        Ok(written) => *written == *bytes,
+        Err(_) => false,
+    }
+}
+
+/// How many bytes a value's frame has on a line, if it was sent.
+fn send<T: Serialize>(value: &T, line: &mut [u8; 80], sentinel: u8) -> Option<usize> {
+    let mut sender = Sender::<_, 64>::new_with_sentinel(Out::new(line, 80, None), sentinel);
+    match sender.send(value) {
+        Ok(()) => Some(sender.into_inner().moved()),
+        Err(_) => None,
+    }
+}
+
+/// Whether a value of these bytes is heard alone on a line, read seven bytes at a time.
+fn hears<T: Serialize + DeserializeOwned + Drop>(
+    alloc: Global,
+    line: &[u8],
+    sentinel: u8,
+    bytes: &[u8],
+) -> bool {
+    let received = receive_with_sentinel::<T, _, 64>(alloc, In::new(line, 7, None), sentinel);
+    match received.answers.as_slice() {
+        [Answer::Value(value)] => writes(value, bytes),
+        _ => false,
+    }
+}
+
+/// Whether a value is heard as these bytes where it was sent at a sentinel.
+fn crosses_at<T: Serialize + DeserializeOwned + Drop>(
+    alloc: Global,
+    value: &T,
+    bytes: &[u8],
+    sentinel: u8,
+) -> bool {
+    let mut line = [0u8; 80];
+    let sent = send(value, &mut line, sentinel);
+    match sent.and_then(|count| line.get(..count)) {
+        Some(frame) => hears::<T>(alloc, frame, sentinel, bytes),
+        None => false,
+    }
+}
+
+/// Whether the value of these bytes is written as they are, and crosses a line at each sentinel.
+fn crosses<T: Serialize + DeserializeOwned + Drop>(alloc: Global, bytes: &[u8]) -> bool {
+    let Ok(value) = from_bytes_owned::<T>(alloc, bytes) else {
+        return false;
+    };
+    for sentinel in SENTINELS {
+        if !crosses_at(alloc, &value, bytes, sentinel) {
+            return false;
+        }
+    }
+    writes(&value, bytes)
+}
+
+const TEXT: &[u8] = &[2, 72, 105, 7];
+
+const OUTER: &[u8] = &[2, 72, 105, 7, 9];
+
+const THIRD: &[u8] = &[2, 72, 105, 7, 9, 2, 1, 0, 2, 1, 1, 97, 172, 2, 1, 98];
+
+const LISTS: &[u8] = &[
+    2, 2, 72, 105, 7, 0, 0, 1, 2, 72, 105, 7, 9, 1, 5, 1, 120, 1, 0, 0, 0,
+];
+
+#[test]
+fn growing(rt: HostRuntime) {
+    let alloc = rt.alloc();
+    check(&rt, crosses::<Text>(alloc, TEXT));
+    check(&rt, crosses::<Outer>(alloc, OUTER));
+    check(&rt, crosses::<Third>(alloc, THIRD));
+    check(&rt, crosses::<Lists>(alloc, LISTS));
+}
+
+const TRIANGLE: &[u8] = &[1, 1, 0, 0, 255, 1];
+
+const WIDTHS: &[u8] = &[
+    205, 171, 1, 2, 3, 4, 172, 2, 1, 0, 0, 0, 0, 0, 0, 0, 0, 0, 0, 0, 0, 0, 0, 0,
+];
+
+#[test]
+fn plain(rt: HostRuntime) {
+    let alloc = rt.alloc();
+    check(&rt, crosses::<Point>(alloc, &[255, 1]));
+    check(&rt, crosses::<Triangle>(alloc, TRIANGLE));
+    check(&rt, crosses::<Widths>(alloc, WIDTHS));
+}
+
+const PAIR: &[u8] = &[2, 72, 105, 7, 0];
+
+const PAIRS: &[u8] = &[2, 72, 105, 7, 0, 0, 1, 1, 2, 72, 105, 7, 9];
+
+const DEEP: &[u8] = &[2, 72, 105, 7, 1, 2, 3, 4, 5, 6, 7, 8, 9, 10, 11, 12];
+
+#[test]
+fn generic(rt: HostRuntime) {
+    let alloc = rt.alloc();
+    check(&rt, crosses::<Pair<Text>>(alloc, PAIR));
+    check(&rt, crosses::<Pairs>(alloc, PAIRS));
+    check(&rt, crosses::<Deep>(alloc, DEEP));
+}
+
+/// A message of each variant.
+const MESSAGES: [&[u8]; 8] = [
+    &[0, 2, 72, 105, 7],
+    &[1, 2, 72, 105, 7, 9],
+    &[2, 2, 72, 105, 7, 9, 2, 1, 0, 2, 1, 1, 97, 172, 2, 1, 98],
+    &[
+        3, 2, 2, 72, 105, 7, 0, 0, 1, 2, 72, 105, 7, 9, 1, 5, 1, 120, 1, 0, 0, 0,
+    ],
+    &[4, 1, 1, 0, 0, 255, 1],
+    &[
+        5, 205, 171, 1, 2, 3, 4, 172, 2, 1, 0, 0, 0, 0, 0, 0, 0, 0, 0, 0, 0, 0, 0, 0, 0,
+    ],
+    &[
+        6, 2, 72, 105, 7, 0, 0, 1, 1, 2, 72, 105, 7, 9, 2, 72, 105, 7, 1, 2, 3, 4, 5, 6, 7, 8, 9,
+        10, 11, 12,
+    ],
+    &[
+        7, 1, 2, 3, 4, 10, 0, 0, 0, 0, 0, 0, 0, 0, 0, 0, 0, 0, 0, 0, 0, 128, 1,
+    ],
+];
+
+/// Whether each of these messages crosses.
+fn are_crossing(alloc: Global) -> bool {
+    for bytes in MESSAGES {
+        if !crosses::<Message>(alloc, bytes) {
+            return false;
+        }
+    }
+    true
+}
+
+#[test]
+fn variants(rt: HostRuntime) {
+    check(&rt, are_crossing(rt.alloc()));
+}
+
+/// Whether what lies in a frame is lent as these bytes.
+fn is_lent<'a, T: Serialize + Deserialize<&'a [u8]> + Drop>(
+    alloc: Global,
+    frame: &'a mut [u8],
+    sentinel: u8,
+    bytes: &[u8],
+) -> bool {
+    match read_in_place_with_sentinel::<T>(alloc, frame, sentinel) {
+        Some((Ok(Answer::Value(value)), _)) => writes(&value, bytes),
+        _ => false,
+    }
+}
+
+const LENT: &[u8] = &[2, 72, 105, 2, 0, 10];
+
+const BORROWER: &[u8] = &[2, 72, 105, 2, 0, 10, 1, 0, 0, 2, 72, 105, 7];
+
+/// Whether the value of these bytes is sent at a sentinel.
+fn is_sent<'a, T: Serialize + Deserialize<&'a [u8]> + Drop>(
+    alloc: Global,
+    bytes: &'a [u8],
+    line: &mut [u8; 80],
+    sentinel: u8,
+) -> bool {
+    match from_bytes::<T>(alloc, bytes) {
+        Ok(value) => send(&value, line, sentinel).is_some(),
+        Err(_) => false,
+    }
+}
+
+/// Whether what is lent crosses at a sentinel.
+fn lent_crosses(alloc: Global, sentinel: u8) -> bool {
+    let mut line = [0u8; 80];
+    is_sent::<Lent<'_>>(alloc, LENT, &mut line, sentinel)
+        && is_lent::<Lent<'_>>(alloc, &mut line, sentinel, LENT)
+}
+
+/// Whether what holds it does.
+fn borrower_crosses(alloc: Global, sentinel: u8) -> bool {
+    let mut line = [0u8; 80];
+    is_sent::<Borrower<'_>>(alloc, BORROWER, &mut line, sentinel)
+        && is_lent::<Borrower<'_>>(alloc, &mut line, sentinel, BORROWER)
+}
+
+#[test]
+fn lent(rt: HostRuntime) {
+    for sentinel in SENTINELS {
+        check(&rt, lent_crosses(rt.alloc(), sentinel));
+        check(&rt, borrower_crosses(rt.alloc(), sentinel));
+    }
+}
+
+/// Whether it is what its bytes say.
+fn is_the_third(third: &Third) -> bool {
+    let named = match third.names.get(&300) {
+        Some(name) => name.as_str() == "b",
+        None => false,
+    };
+    third.outer.text.text.as_str() == "Hi"
+        && third.outer.count == 9
+        && third.data.as_slice() == [1, 0].as_slice()
+        && named
+}
+
+const THE_WIDTHS: Widths = Widths {
+    short: LE(0xABCD),
+    word: BE(0x0102_0304),
+    whole: 300,
+    long: LE(1),
+};
+
+#[test]
+fn contents(rt: HostRuntime) {
+    let third = from_bytes_owned::<Third>(rt.alloc(), THIRD);
+    let widths = from_bytes_owned::<Widths>(rt.alloc(), WIDTHS);
+    check(&rt, matches!(&third, Ok(it) if is_the_third(it)));
+    check(&rt, widths == Ok(THE_WIDTHS));
+}
+
+#[test]
+fn greatest_sizes(rt: HostRuntime) {
+    check(&rt, Triangle::postcard_max_size() == Some(6));
+    check(&rt, Widths::postcard_max_size() == Some(2 + 4 + 19 + 16));
+}

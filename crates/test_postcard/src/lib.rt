@@ -1,0 +1,24 @@
+//! Tests of `postcard_de`, `postcard` and `samples`, by their public calls alone: outside vectors and worked rows, each
+//! call once on its happy path, each generic one at a concrete type, writers and readers that fail.
+//!
+//! They stand in a crate of their own because a crate with tests is proved twice, once with and once without them.
+#![tactic(auto)]
+
+#[cfg(test)]
+mod any_sentinel;
+#[cfg(test)]
+mod checks;
+#[cfg(test)]
+mod de;
+#[cfg(test)]
+mod large;
+#[cfg(test)]
+mod messages;
+#[cfg(test)]
+mod postcard_frames;
+#[cfg(test)]
+mod postcard_reading;
+#[cfg(test)]
+mod postcard_writing;
+#[cfg(test)]
+mod ser_frames;

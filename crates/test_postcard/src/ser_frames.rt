@@ -1,0 +1,83 @@
+//! `postcard`: the flavor that makes a frame.
+use crate::checks::{check, check_all, fails, is_array, is_slice};
+use postcard::ser_flavors::{AllocVec, Cobs, Flavor, HVec, Slice};
+use postcard::{Error, Result as Answer, Serialize, Serializer};
+
+/// Writes a value by a flavor that was just made.
+fn framed<T: Serialize, F: Flavor>(value: &T, flavor: Answer<F>) -> Answer<F::Output> {
+    let mut serializer = Serializer { output: flavor? };
+    match value.serialize(&mut serializer) {
+        Ok(()) => serializer.output.finalize(),
+        Err(cause) => Err(cause),
+    }
+}
+
+/// Whether a value's frame in a slice is this one.
+fn is_framed<T: Serialize>(value: &T, frame: &[u8]) -> bool {
+    let mut room = [0u8; 8];
+    is_slice(framed(value, Cobs::try_new(Slice::new(&mut room))), frame)
+}
+
+#[test]
+fn rows(rt: HostRuntime) {
+    check(
+        &rt,
+        is_framed(&false, &[1, 1, 0]) && is_framed(&"Hi!", &[5, 3, 0x48, 0x69, 0x21, 0]),
+    );
+}
+
+#[test]
+fn arrays_with_and_without_room(rt: HostRuntime) {
+    let value = (5u8, 0u8);
+    let mut none = [0u8; 0];
+    check_all(
+        &rt,
+        [
+            is_array(
+                framed(&value, Cobs::try_new(HVec::<4>::new())),
+                &[2, 5, 1, 0],
+            ),
+            fails(
+                framed(&value, Cobs::try_new(HVec::<3>::new())),
+                Error::SerializeBufferFull,
+            ),
+            fails(Cobs::try_new(HVec::<0>::new()), Error::SerializeBufferFull),
+            fails(
+                Cobs::try_new(Slice::new(&mut none)),
+                Error::SerializeBufferFull,
+            ),
+        ],
+    );
+}
+
+// Whether a value's frame for the sentinel 10 is that of the bytes AC 02.
+fn is_masked<T: Serialize>(value: &T) -> bool {
+    let written = framed(value, Cobs::try_new_with_sentinel(HVec::<4>::new(), 0x0A));
+    is_array(written, &[0x09, 0xA6, 0x08, 0x0A])
+}
+
+#[test]
+fn another_sentinel(rt: HostRuntime) {
+    check(&rt, is_masked(&300u32) && is_masked(&(0xACu8, 2u8)));
+}
+
+// Whether these bytes are a full block, one of nothing behind it, and the end.
+fn is_full_block(frame: &[u8]) -> bool {
+    frame.len() == 257 && matches!(frame, [255, .., 1, 1, 0])
+}
+
+#[test]
+fn full_blocks(rt: HostRuntime) {
+    let written = framed(&[1u8; 254], Cobs::try_new(AllocVec::new(rt.alloc())));
+    check(&rt, matches!(&written, Ok(frame) if is_full_block(frame)));
+}
+
+/// Each growth that is refused is out of memory, and nothing else.
+#[test]
+fn want_of_memory(rt: HostRuntime) {
+    let is_right = match framed(&[7u8; 100], Cobs::try_new(AllocVec::new(rt.alloc()))) {
+        Err(cause) => cause == Error::OutOfMemory,
+        Ok(bytes) => bytes.len() == 102,
+    };
+    check(&rt, is_right);
+}
