@@ -49,12 +49,12 @@ pub fn append_each<T: Lawful, S: Store, const N: usize>(
 
 /// Opens a log and appends values in turn. Where what the store held is what a history leaves, what it holds then is what that
 /// history leaves with this session behind it.
-pub fn session<T: DeserializeOwned + Exact + Lawful, S: Store + Drop, V: Visitor<T>, const N: usize>(
-    alloc: Global,
-    store: S,
-    visitor: &mut V,
-    values: &[T],
-) -> Option<Journal<S, N>>
+pub fn session<
+    T: DeserializeOwned + Exact + Lawful,
+    S: Store + Drop,
+    V: Visitor<T>,
+    const N: usize,
+>(alloc: Global, store: S, visitor: &mut V, values: &[T]) -> Option<Journal<S, N>>
     requires some { 1 < N }
     requires fits { ReceiverFitsInMemory N.row }
     ensures { IfSome result (λ j. GoesOnFrom T.takes T.writes N (S.held store) (S.held (store_of j)) values.now) }
