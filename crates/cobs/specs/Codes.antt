@@ -14,7 +14,8 @@ pub record Coding (bytes : List ℕ) (code_at at : ℕ) (message rest : List ℕ
   pub begins : code_at ≡ length closed
   pub ends : at ≡ length closed + suc (length run)
   pub short : length run + length rest ≤ 254
-  pub goes_on : (more : List ℕ) → shortest_frame (message ++ more) ≡ closed ++ shortest_from run (rest ++ more)
+  pub goes_on : (more : List ℕ)
+      → shortest_frame (message ++ more) ≡ closed ++ shortest_from run (rest ++ more)
 
 -- The same where the bytes that are still to be coded aren't copied yet: they have room behind the open run.
 pub record Putting (bytes : List ℕ) (code_at at : ℕ) (message rest : List ℕ) : Type 0 where
@@ -27,7 +28,8 @@ pub record Putting (bytes : List ℕ) (code_at at : ℕ) (message rest : List �
   pub ends : at ≡ length closed + suc (length run)
   pub short : length run + length rest ≤ 254
   pub room : length rest ≤ length tail
-  pub goes_on : (more : List ℕ) → shortest_frame (message ++ more) ≡ closed ++ shortest_from run (rest ++ more)
+  pub goes_on : (more : List ℕ)
+      → shortest_frame (message ++ more) ≡ closed ++ shortest_from run (rest ++ more)
 
 -- The bytes stand, from a place on, within the buffer and the open block.
 pub record InBlock (buffer : List ℕ) (code_at from : ℕ) (bytes : List ℕ) : Type 0 where
@@ -36,10 +38,12 @@ pub record InBlock (buffer : List ℕ) (code_at from : ℕ) (bytes : List ℕ) :
   pub short : from + length bytes ≤ code_at + 255
 
 -- They are coded, and the code that is still to come goes to this place.
-pub record Coded (before : List ℕ) (code_at from : ℕ) (bytes buffer : List ℕ) (last : ℕ) : Type 0 where
+pub record Coded (before : List ℕ) (code_at from : ℕ)
+    (bytes buffer : List ℕ) (last : ℕ) : Type 0 where
   pub begins : last < from + length bytes
   pub later : code_at ≤ last
-  pub coding : (message more : List ℕ) → Coding before code_at from message (bytes ++ more) → Coding buffer last (from + length bytes) message more
+  pub coding : (message more : List ℕ) → Coding before code_at from message (bytes ++ more)
+      → Coding buffer last (from + length bytes) message more
 
 -- The buffer has closed blocks, a place for the code of the open run, that run, and then anything: a byte behind the message goes
 -- on from the run.
@@ -52,13 +56,16 @@ pub record Open (bytes : List ℕ) (code_at at : ℕ) (message : List ℕ) : Typ
   pub begins : code_at ≡ length closed
   pub ends : at ≡ length closed + suc (length run)
   pub short : length run ≤ 254
-  pub goes_on : (byte : ℕ) (more : List ℕ) → shortest_frame (message ++ byte ∷ more) ≡ closed ++ shortest_from run (byte ∷ more)
+  pub goes_on : (byte : ℕ) (more : List ℕ)
+      → shortest_frame (message ++ byte ∷ more) ≡ closed ++ shortest_from run (byte ∷ more)
 
 -- Bytes were copied into the open block and coded, and the code that is still to come goes to this place.
-pub record Stepped (before : List ℕ) (code_at from : ℕ) (bytes buffer : List ℕ) (last : ℕ) : Type 0 where
+pub record Stepped (before : List ℕ) (code_at from : ℕ)
+    (bytes buffer : List ℕ) (last : ℕ) : Type 0 where
   pub begins : last < from + length bytes
   pub later : code_at ≤ last
-  pub coding : (message : List ℕ) → Open before code_at from message → Coding buffer last (from + length bytes) (message ++ bytes) []
+  pub coding : (message : List ℕ) → Open before code_at from message
+      → Coding buffer last (from + length bytes) (message ++ bytes) []
 
 -- the bits that are set are the places, from one on, of the bytes that are zero
 pub record Marks (bits from : ℕ) (bytes : List ℕ) : Type 0 where

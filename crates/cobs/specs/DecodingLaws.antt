@@ -16,7 +16,8 @@ use Rattle.cobs.specs.declared.dec.DecodeError.TheVariants.{EmptyFrame, InvalidF
 -- the bytes of a message that the table tells while it is fed these
 abbrev pub data_from : DecoderState → List ℕ → List ℕ
 data_from state [] = []
-data_from state (byte ∷ bytes) = listed (told_by (fed state byte)) ++ data_from (next state byte) bytes
+data_from state (byte ∷ bytes) =
+    listed (told_by (fed state byte)) ++ data_from (next state byte) bytes
 
 -- where it stands behind them
 abbrev pub state_from : DecoderState → List ℕ → DecoderState
@@ -25,47 +26,60 @@ state_from state (byte ∷ bytes) = state_from (next state byte) bytes
 
 -- Over a frame and a zero, from Idle, the table tells the frame's message, and the zero completes it.
 abbrev pub TellsMessages : Type 0
-TellsMessages = (frame message : List ℕ) → Frame frame message → (data_from Idle (frame ++ 0 ∷ []) ≡ message) × (fed (state_from Idle frame) 0 ≡ Ok DataComplete)
+TellsMessages = (frame message : List ℕ) → Frame frame message
+    → (data_from Idle (frame ++ 0 ∷ []) ≡ message)
+    × (fed (state_from Idle frame) 0 ≡ Ok DataComplete)
 
 -- The zero behind a frame gives the length of its message, where there is room for it.
 abbrev pub AnswersFrames : Type 0
-AnswersFrames = (room : ℕ) (frame message : List ℕ) → Frame frame message → at_zero room frame ≡ (if nat_lt room (length message) then Err TargetBufTooSmall else Ok (Some (length message)))
+AnswersFrames = (room : ℕ) (frame message : List ℕ) → Frame frame message → at_zero room frame
+    ≡ (if nat_lt room (length message) then Err TargetBufTooSmall else Ok (Some (length message)))
 
 -- The zero behind other bytes is refused, with how many bytes they decide that had room.
 abbrev pub RefusesOthers : Type 0
-RefusesOthers = (room : ℕ) (bytes : List ℕ) → AllByRecursion (λ b. (0 < b) × (b < 256)) bytes → bytes ≢ [] → ((message : List ℕ) → Frame bytes message → ⊥) → at_zero room bytes ≡ Err (InvalidFrame (min (length (part bytes)) room))
+RefusesOthers = (room : ℕ) (bytes : List ℕ) → AllByRecursion (λ b. (0 < b) × (b < 256)) bytes
+    → bytes ≢ [] → ((message : List ℕ) → Frame bytes message → ⊥)
+    → at_zero room bytes ≡ Err (InvalidFrame (min (length (part bytes)) room))
 
 -- Bytes whose zero gives a length are a frame, of a message of that length.
 abbrev pub AnswersOnlyFrames : Type 0
-AnswersOnlyFrames = (room n : ℕ) (bytes : List ℕ) → AllByRecursion (λ b. (0 < b) × (b < 256)) bytes → at_zero room bytes ≡ Ok (Some n) → Frame bytes (part bytes) × (n ≡ length (part bytes))
+AnswersOnlyFrames = (room n : ℕ) (bytes : List ℕ) → AllByRecursion (λ b. (0 < b) × (b < 256)) bytes
+    → at_zero room bytes ≡ Ok (Some n) → Frame bytes (part bytes) × (n ≡ length (part bytes))
 
 -- A source that has a frame behind its leading zeros gives the length of the message, where there is room for it. Used are
 -- the zeros, the frame, and its zero where there is one.
 abbrev pub DecodesFrames : Type 0
 DecodesFrames = (room : ℕ) (source message : List ℕ) → Frame (frame_in source) message
     → decoded_from room source ≡ (if nat_lt room (length message) then Err TargetBufTooSmall
-    else Ok (report (min (length source - length (unpadded source) + length (frame_in source) + 1) (length source)) (length message)))
+    else Ok (report (min (length source - length (unpadded source) + length (frame_in source) + 1)
+    (length source)) (length message)))
 
 -- the refusal of bytes that are no frame: there are none, or what they decide has no room, or they end inside a block
 abbrev pub refusal : ℕ → List ℕ → DecodeError
 refusal room [] = EmptyFrame
 refusal room (code ∷ bytes) =
-    if nat_lt room (length (part (code ∷ bytes))) then TargetBufTooSmall else InvalidFrame (length (part (code ∷ bytes)))
+    if nat_lt room (length (part (code ∷ bytes))) then TargetBufTooSmall
+    else InvalidFrame (length (part (code ∷ bytes)))
 
 -- Every other source is refused so.
 abbrev pub RefusesSources : Type 0
-RefusesSources = (room : ℕ) (source : List ℕ) → AllByRecursion (λ b. b < 256) (frame_in source) → ((message : List ℕ) → Frame (frame_in source) message → ⊥)
+RefusesSources = (room : ℕ) (source : List ℕ) → AllByRecursion (λ b. b < 256) (frame_in source)
+    → ((message : List ℕ) → Frame (frame_in source) message → ⊥)
     → decoded_from room source ≡ Err (refusal room (frame_in source))
 
 -- Where bytes that were XORed with a sentinel, or go into a vector, are a frame, they give its message.
 abbrev pub DecodesStretches : Type 0
 DecodesStretches = (room : ℕ) (bytes message : List ℕ) → Frame bytes message
-    → (decoded_into room bytes ≡ (if nat_lt room (length message) then Err TargetBufTooSmall else Ok (length message))) × (message_of_stretch bytes ≡ Ok message)
+    → (decoded_into room bytes
+    ≡ (if nat_lt room (length message) then Err TargetBufTooSmall else Ok (length message)))
+    × (message_of_stretch bytes ≡ Ok message)
 
 -- Other such bytes are refused, with how many bytes they decide.
 abbrev pub RefusesStretches : Type 0
-RefusesStretches = (room : ℕ) (bytes : List ℕ) → AllByRecursion (λ b. (0 < b) × (b < 256)) bytes → bytes ≢ [] → ((message : List ℕ) → Frame bytes message → ⊥)
-    → (decoded_into room bytes ≡ Err (InvalidFrame (length (part bytes)))) × (message_of_stretch bytes ≡ Err (InvalidFrame (length (part bytes))))
+RefusesStretches = (room : ℕ) (bytes : List ℕ) → AllByRecursion (λ b. (0 < b) × (b < 256)) bytes
+    → bytes ≢ [] → ((message : List ℕ) → Frame bytes message → ⊥)
+    → (decoded_into room bytes ≡ Err (InvalidFrame (length (part bytes))))
+    × (message_of_stretch bytes ≡ Err (InvalidFrame (length (part bytes))))
 
 -- what pushing comes to: the answer, the bytes of the frame so far, and the buffer
 pub record Outcome : Type 0 where
@@ -78,14 +92,16 @@ abbrev pub pushed : ℕ → List ℕ → List ℕ → List ℕ → Outcome
 pushed room frame buffer piece = record { answer = first_answer room frame piece 0; frame = frame_left room frame piece; buffer = buffer_left room frame piece buffer }
 
 -- the same answer, counted from so many bytes earlier
-abbrev pub moved : ℕ → Result (Option DecodeReport) DecodeError → Result (Option DecodeReport) DecodeError
+abbrev pub moved : ℕ → Result (Option DecodeReport) DecodeError
+    → Result (Option DecodeReport) DecodeError
 moved earlier (Ok None) = Ok None
 moved earlier (Ok (Some r)) = Ok (Some (report (earlier + parsed_size r) (frame_size r)))
 moved earlier (Err e) = Err e
 
 -- the first outcome that has an answer
 abbrev pub or_later : Result (Option DecodeReport) DecodeError → Outcome → ℕ → Outcome → Outcome
-or_later (Ok None) now used later = record { answer = moved used later.answer; frame = later.frame; buffer = later.buffer }
+or_later (Ok None) now used later =
+    record { answer = moved used later.answer; frame = later.frame; buffer = later.buffer }
 or_later (Ok (Some r)) now used later = now
 or_later (Err e) now used later = now
 
@@ -93,7 +109,8 @@ or_later (Err e) now used later = now
 abbrev pub pushed_in_turn : ℕ → List ℕ → List ℕ → List (List ℕ) → Outcome
 pushed_in_turn room frame buffer [] = record { answer = Ok None; frame = frame; buffer = buffer }
 pushed_in_turn room frame buffer (piece ∷ pieces) =
-    or_later (first_answer room frame piece 0) (pushed room frame buffer piece) (length piece) (pushed_in_turn room (frame_left room frame piece) (buffer_left room frame piece buffer) pieces)
+    or_later (first_answer room frame piece 0) (pushed room frame buffer piece) (length piece)
+    (pushed_in_turn room (frame_left room frame piece) (buffer_left room frame piece buffer) pieces)
 
 -- pieces, one behind the other
 abbrev pub joined_up : List (List ℕ) → List ℕ
@@ -102,4 +119,5 @@ joined_up (piece ∷ pieces) = piece ++ joined_up pieces
 
 -- Where bytes are cut into pieces makes no difference.
 abbrev pub IgnoresCuts : Type 0
-IgnoresCuts = (room : ℕ) (frame buffer : List ℕ) (pieces : List (List ℕ)) → pushed_in_turn room frame buffer pieces ≡ pushed room frame buffer (joined_up pieces)
+IgnoresCuts = (room : ℕ) (frame buffer : List ℕ) (pieces : List (List ℕ))
+    → pushed_in_turn room frame buffer pieces ≡ pushed room frame buffer (joined_up pieces)

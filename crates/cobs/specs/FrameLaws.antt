@@ -8,23 +8,28 @@ use Rattle.cobs.specs.Thinner.{Within}
 
 -- A frame is one block, or a block and then a frame.
 abbrev pub GoesByBlocks : Type 0
-GoesByBlocks = (frame message : List ℕ) → (Frame frame message) ↔ (OneBlock frame message ⊎ MoreBlocks frame message)
+GoesByBlocks = (frame message : List ℕ) → (Frame frame message)
+    ↔ (OneBlock frame message ⊎ MoreBlocks frame message)
 
 -- A message has one shortest frame.
 abbrev pub HasOneShortest : Type 0
-HasOneShortest = (message : List ℕ) → Shortest (shortest_frame message) message × ((frame : List ℕ) → Shortest frame message → frame ≡ shortest_frame message)
+HasOneShortest = (message : List ℕ) → Shortest (shortest_frame message) message
+    × ((frame : List ℕ) → Shortest frame message → frame ≡ shortest_frame message)
 
 -- A message has one longest frame.
 abbrev pub HasOneLongest : Type 0
-HasOneLongest = (message : List ℕ) → Longest (longest_frame message) message × ((frame : List ℕ) → Longest frame message → frame ≡ longest_frame message)
+HasOneLongest = (message : List ℕ) → Longest (longest_frame message) message
+    × ((frame : List ℕ) → Longest frame message → frame ≡ longest_frame message)
 
 -- A message has a frame beside its shortest one exactly where it ends in a full run: the same and then a block 01.
 abbrev pub HasOneOther : Type 0
-HasOneOther = (frame message : List ℕ) → (Frame frame message × (frame ≢ shortest_frame message)) ↔ (IsFull (trailing message) × (frame ≡ shortest_frame message ++ 1 ∷ []))
+HasOneOther = (frame message : List ℕ) → (Frame frame message × (frame ≢ shortest_frame message))
+    ↔ (IsFull (trailing message) × (frame ≡ shortest_frame message ++ 1 ∷ []))
 
 -- The longest frame is that other one, or else the shortest one.
 abbrev pub LongestIsOther : Type 0
-LongestIsOther = (message : List ℕ) → (IsFull (trailing message) × (longest_frame message ≡ shortest_frame message ++ 1 ∷ []))
+LongestIsOther = (message : List ℕ)
+    → (IsFull (trailing message) × (longest_frame message ≡ shortest_frame message ++ 1 ∷ []))
     ⊎ ((¬ IsFull (trailing message)) × (longest_frame message ≡ shortest_frame message))
 
 -- A frame has one message, which its bytes decide.
@@ -37,7 +42,8 @@ EndsWithItsBlock = (frame message : List ℕ) → Frame frame message → missin
 
 -- Nonzero bytes that end where a block ends are a frame.
 abbrev pub IsFrameAtBlockEnd : Type 0
-IsFrameAtBlockEnd = (bytes : List ℕ) → AllByRecursion (λ b. (0 < b) × (b < 256)) bytes → bytes ≢ [] → missing bytes ≡ 0 → Frame bytes (part bytes)
+IsFrameAtBlockEnd = (bytes : List ℕ) → AllByRecursion (λ b. (0 < b) × (b < 256)) bytes → bytes ≢ []
+    → missing bytes ≡ 0 → Frame bytes (part bytes)
 
 -- What bytes decide of a message is shorter than they are.
 abbrev pub DecidesLess : Type 0
@@ -49,7 +55,8 @@ HoldsNoZero = (frame message : List ℕ) → Frame frame message → NoZero fram
 
 -- No byte of a frame that was XORed with a sentinel is that sentinel.
 abbrev pub HoldsNoSentinel : Type 0
-HoldsNoSentinel = (sentinel : ℕ) (frame message : List ℕ) → Frame frame message → AllByRecursion (λ b. b ≢ sentinel) (masked sentinel frame)
+HoldsNoSentinel = (sentinel : ℕ) (frame message : List ℕ) → Frame frame message
+    → AllByRecursion (λ b. b ≢ sentinel) (masked sentinel frame)
 
 -- For the sentinel zero nothing is masked.
 abbrev pub IsUnmaskedByZero : Type 0
@@ -65,26 +72,32 @@ IsUnmaskedByTwo = (sentinel : ℕ) (bytes : List ℕ) → masked sentinel (maske
 
 -- The shortest frame is longer than its message, and no longer than `most_length` says.
 abbrev pub IsWithinLengths : Type 0
-IsWithinLengths = (message : List ℕ) → (length message + 1 ≤ length (shortest_frame message)) × (length (shortest_frame message) ≤ most_length (length message))
+IsWithinLengths = (message : List ℕ) → (length message + 1 ≤ length (shortest_frame message))
+    × (length (shortest_frame message) ≤ most_length (length message))
 
 -- Where the message has no zero, it is as long as that.
 abbrev pub ReachesMostLength : Type 0
-ReachesMostLength = (message : List ℕ) → NoZero message → length (shortest_frame message) ≡ most_length (length message)
+ReachesMostLength = (message : List ℕ) → NoZero message
+    → length (shortest_frame message) ≡ most_length (length message)
 
 -- Each further byte of a message makes its shortest frame longer.
 abbrev pub GrowsWithItsMessage : Type 0
-GrowsWithItsMessage = (message more : List ℕ) → length (shortest_frame message) + length more ≤ length (shortest_frame (message ++ more))
+GrowsWithItsMessage = (message more : List ℕ)
+    → length (shortest_frame message) + length more ≤ length (shortest_frame (message ++ more))
 
 -- A nonempty front of a frame is itself a frame exactly where it ends at a block's end.
 abbrev pub IsFrameAtEachBlockEnd : Type 0
-IsFrameAtEachBlockEnd = (frame message front rest : List ℕ) → Frame frame message → frame ≡ front ++ rest → front ≢ []
+IsFrameAtEachBlockEnd =
+    (frame message front rest : List ℕ) → Frame frame message → frame ≡ front ++ rest → front ≢ []
     → ((begun : List ℕ) × Frame front begun) ↔ (missing front ≡ 0)
 
 -- Where a proper front of a shortest frame is itself a frame, its message is a proper beginning of the message.
 abbrev pub BeginsProperly : Type 0
-BeginsProperly = (frame message front rest begun : List ℕ) → Shortest frame message → frame ≡ front ++ rest → rest ≢ [] → Frame front begun
+BeginsProperly = (frame message front rest begun : List ℕ) → Shortest frame message
+    → frame ≡ front ++ rest → rest ≢ [] → Frame front begun
     → (later : List ℕ) × (message ≡ begun ++ later) × (later ≢ [])
 
 -- Where a message's zeros and other bytes are, in order, among those of another, its shortest frame isn't longer.
 abbrev pub GrowsWithItsBytes : Type 0
-GrowsWithItsBytes = (a b : List ℕ) → Within a b → length (shortest_frame a) ≤ length (shortest_frame b)
+GrowsWithItsBytes =
+    (a b : List ℕ) → Within a b → length (shortest_frame a) ≤ length (shortest_frame b)

@@ -15,33 +15,42 @@ use Rattle.cobs.specs.declared.dec.Progress.{Progress}
 
 -- A byte is fed, behind any bytes p of a frame: which bytes those are then, the answer, what stands in the buffer; where
 -- its front had the message so far, that it still has, and that an answer is a whole message.
-pub record TakesByte (before : Progress) (old : List ℕ) (byte : ℕ) (result : Result (Option ℕ) DecodeError) (behind : Progress) (new : List ℕ) : Type 0 where
+pub record TakesByte (before : Progress) (old : List ℕ) (byte : ℕ)
+    (result : Result (Option ℕ) DecodeError) (behind : Progress) (new : List ℕ) : Type 0 where
   pub has : (p : List ℕ) → Stands before p → Stands behind (frame_after p byte)
   pub answer : (p : List ℕ) → Stands before p → result ≡ answer_of (length old) p byte
   pub buffer : (p : List ℕ) → Stands before p → new ≡ placed p byte old
   pub decoded : (p : List ℕ) → Stands before p → Decoded old p → Decoded new (frame_after p byte)
-  pub message : (p : List ℕ) → Stands before p → Decoded old p → IfOk result (λ o. IfSome o (λ n. take n new ≡ part p))
+  pub message : (p : List ℕ) → Stands before p → Decoded old p
+      → IfOk result (λ o. IfSome o (λ n. take n new ≡ part p))
   pub within : IfOk result (λ o. IfSome o (λ n. n ≤ length new))
   pub room : length new ≡ length old
 
 -- A piece is pushed: the same, up to the first answer.
-pub record TakesPiece (before : Progress) (old piece : List ℕ) (result : Result (Option DecodeReport) DecodeError) (behind : Progress) (new : List ℕ) : Type 0 where
+pub record TakesPiece (before : Progress) (old piece : List ℕ)
+    (result : Result (Option DecodeReport) DecodeError)
+    (behind : Progress) (new : List ℕ) : Type 0 where
   pub has : (p : List ℕ) → Stands before p → Stands behind (frame_left (length old) p piece)
   pub answer : (p : List ℕ) → Stands before p → result ≡ first_answer (length old) p piece 0
   pub buffer : (p : List ℕ) → Stands before p → new ≡ buffer_left (length old) p piece old
-  pub decoded : (p : List ℕ) → Stands before p → Decoded old p → Decoded new (frame_left (length old) p piece)
-  pub message : (p : List ℕ) → Stands before p → Decoded old p → IfOk result (λ o. IfSome o (λ r. take (frame_size r) new ≡ part (frame_met (length old) p piece)))
-  pub within : IfOk result (λ o. IfSome o (λ r. (parsed_size r ≤ length piece) × (frame_size r ≤ length new)))
+  pub decoded : (p : List ℕ) → Stands before p → Decoded old p
+      → Decoded new (frame_left (length old) p piece)
+  pub message : (p : List ℕ) → Stands before p → Decoded old p → IfOk result
+      (λ o. IfSome o (λ r. take (frame_size r) new ≡ part (frame_met (length old) p piece)))
+  pub within : IfOk result
+      (λ o. IfSome o (λ r. (parsed_size r ≤ length piece) × (frame_size r ≤ length new)))
   pub room : length new ≡ length old
 
 -- The first n bytes of a piece are taken in at once (private contracts alone): none is zero, and all that they decide has
 -- room, where there are any.
-pub record TakesFront (p piece old : List ℕ) (n : ℕ) (behind : Progress) (new : List ℕ) : Type 0 where
+pub record TakesFront (p piece old : List ℕ) (n : ℕ)
+    (behind : Progress) (new : List ℕ) : Type 0 where
   pub within : n ≤ length piece
   pub clear : NoZero (take n piece)
   pub fits : 0 < n → length (part (p ++ take n piece)) ≤ length old
   pub has : Stands behind (p ++ take n piece)
-  pub buffer : 0 < n → new ≡ written_over (length (part p)) (part_from (after 0 false p).0 (after 0 false p).1 (take n piece)) old
+  pub buffer : 0 < n → new ≡ written_over (length (part p))
+      (part_from (after 0 false p).0 (after 0 false p).1 (take n piece)) old
   pub same : n ≡ 0 → new ≡ old
 
 -- How many bytes of the open block are left, and where a decoder stands behind some of them (private contracts alone).

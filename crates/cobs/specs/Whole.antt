@@ -27,18 +27,20 @@ reported limit (Err e) = Err e
 
 -- the answer, with so much room: the first that a streaming decoder gives, where the end of the source counts as a zero would
 abbrev pub decoded_from : ℕ → List ℕ → Result DecodeReport DecodeError
-decoded_from room source = reported (length source) (first_answer room [] (frame_in source ++ 0 ∷ []) (length source - length (unpadded source)))
+decoded_from room source = reported (length source)
+    (first_answer room [] (frame_in source ++ 0 ∷ []) (length source - length (unpadded source)))
 
 -- the answer to bytes without zeros, with so much room
 abbrev pub decoded_into : ℕ → List ℕ → Result ℕ DecodeError
 decoded_into room bytes =
-    if missing bytes == 0
-    then (if nat_lt room (length (part bytes)) then Err TargetBufTooSmall else Ok (length (part bytes)))
+    if missing bytes == 0 then (if nat_lt room (length (part bytes)) then Err TargetBufTooSmall
+    else Ok (length (part bytes)))
     else Err (InvalidFrame (length (part bytes)))
 
 -- the message of bytes without zeros
 abbrev pub message_of_stretch : List ℕ → Result (List ℕ) DecodeError
-message_of_stretch bytes = if missing bytes == 0 then Ok (part bytes) else Err (InvalidFrame (length (part bytes)))
+message_of_stretch bytes =
+    if missing bytes == 0 then Ok (part bytes) else Err (InvalidFrame (length (part bytes)))
 
 -- the same where no bytes are no frame
 abbrev pub message_of_frame : List ℕ → Result (List ℕ) DecodeError

@@ -14,7 +14,8 @@ use std::simd::prelude::*;
 // Writes a code at each zero of bytes that stand in the open block, from a place on, and answers where the last code is to be.
 fn put_codes_near(dest: &mut [u8], code_at: usize, from: usize, bytes: &[u8], sentinel: u8) -> usize
     requires { InBlock dest.old code_at from bytes.now }
-    ensures { Coded (masked sentinel dest.old) code_at from bytes.now (masked sentinel dest.new) result }
+    ensures { Coded (masked sentinel dest.old) code_at from bytes.now
+        (masked sentinel dest.new) result }
 {
     let mut code = code_at;
     for (i, byte) in bytes.iter().enumerate() {
@@ -66,7 +67,8 @@ fn put_codes_marked(
     requires block { InBlock dest.old code_at from bytes.now }
     requires few { length bytes.now ≤ 64 }
     requires marks { Marks marks 0 bytes.now }
-    ensures { Coded (masked sentinel dest.old) code_at from bytes.now (masked sentinel dest.new) result }
+    ensures { Coded (masked sentinel dest.old) code_at from bytes.now
+        (masked sentinel dest.new) result }
 {
     let mut code = code_at;
     let mut zeros = marks;
@@ -92,7 +94,8 @@ fn put_codes_of_zeros(
     requires block { InBlock dest.old code_at from bytes.now }
     requires some { 0 < length bytes.now }
     requires zeros { (k : ℕ) → k < length bytes.now → slice_index bytes.now k ≡ 0 }
-    ensures { Coded (masked sentinel dest.old) code_at from bytes.now (masked sentinel dest.new) result }
+    ensures { Coded (masked sentinel dest.old) code_at from bytes.now
+        (masked sentinel dest.new) result }
 {
     let end = from + bytes.len();
     dest[code_at] = sentinel ^ (from - code_at) as u8;
@@ -111,7 +114,8 @@ fn put_codes_of_64(
 ) -> usize
     requires block { InBlock dest.old code_at from bytes.now }
     requires long { length bytes.now ≡ 64 }
-    ensures { Coded (masked sentinel dest.old) code_at from bytes.now (masked sentinel dest.new) result }
+    ensures { Coded (masked sentinel dest.old) code_at from bytes.now
+        (masked sentinel dest.new) result }
 {
     let marks = zeros_of_64(bytes);
     if marks == u64::MAX {
@@ -135,7 +139,8 @@ fn put_codes_of_marks(
     requires some { 0 < length bytes.now }
     requires few { length bytes.now ≤ 64 }
     requires marks { Marks marks 0 bytes.now }
-    ensures { Coded (masked sentinel dest.old) code_at from bytes.now (masked sentinel dest.new) result }
+    ensures { Coded (masked sentinel dest.old) code_at from bytes.now
+        (masked sentinel dest.new) result }
 {
     if are_all_marked(marks, bytes.len()) {
         put_codes_of_zeros(dest, code_at, from, bytes, sentinel)
@@ -160,7 +165,8 @@ fn are_all_marked(marks: u64, n: usize) -> bool
 fn put_64(dest: &mut [u8], code_at: usize, from: usize, bytes: &[u8], sentinel: u8) -> usize
     requires block { InBlock dest.old code_at from bytes.now }
     requires long { length bytes.now ≡ 64 }
-    ensures { Stepped (masked sentinel dest.old) code_at from bytes.now (masked sentinel dest.new) result }
+    ensures { Stepped (masked sentinel dest.old) code_at from bytes.now
+        (masked sentinel dest.new) result }
 {
     copy_64(bytes, dest, from, sentinel);
     if is_clear(bytes, 0) {
@@ -176,7 +182,8 @@ fn put_short(dest: &mut [u8], code_at: usize, from: usize, bytes: &[u8], sentine
     requires block { InBlock dest.old code_at from bytes.now }
     requires some { 0 < length bytes.now }
     requires few { length bytes.now ≤ 64 }
-    ensures { Stepped (masked sentinel dest.old) code_at from bytes.now (masked sentinel dest.new) result }
+    ensures { Stepped (masked sentinel dest.old) code_at from bytes.now
+        (masked sentinel dest.new) result }
 {
     copy_few(bytes, dest, from, sentinel);
     if bytes.len() < 8 {
@@ -191,7 +198,8 @@ fn put_short(dest: &mut [u8], code_at: usize, from: usize, bytes: &[u8], sentine
 fn put_bytes(dest: &mut [u8], code_at: usize, from: usize, bytes: &[u8], sentinel: u8) -> usize
     requires block { InBlock dest.old code_at from bytes.now }
     requires some { 0 < length bytes.now }
-    ensures { Stepped (masked sentinel dest.old) code_at from bytes.now (masked sentinel dest.new) result }
+    ensures { Stepped (masked sentinel dest.old) code_at from bytes.now
+        (masked sentinel dest.new) result }
 {
     let mut code = code_at;
     let mut at = from;
@@ -231,7 +239,8 @@ pub(crate) fn put_block(
 ) -> usize
     requires block { InBlock dest.old code_at from bytes.now }
     requires some { 0 < length bytes.now }
-    ensures { Stepped (masked sentinel dest.old) code_at from bytes.now (masked sentinel dest.new) result }
+    ensures { Stepped (masked sentinel dest.old) code_at from bytes.now
+        (masked sentinel dest.new) result }
 {
     if is_full_block(bytes) {
         copy_block(bytes, dest, from, sentinel);

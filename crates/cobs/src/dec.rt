@@ -202,10 +202,12 @@ fn told_by(answer: Result<DecodeResult, DecodeError>) -> Option<u8>
 /// stands in front.
 pub fn decode_in_place_report(buf: &mut [u8]) -> Result<DecodeReport, DecodeError>
     ensures answer { result ≡ in_place (stretch buf.old) }
-    ensures frame { IfOk result (λ r. stretch buf.old ≢ [] → Frame (stretch buf.old) (take (frame_size r) buf.new)) }
+    ensures frame { IfOk result (λ r. stretch buf.old ≢ []
+        → Frame (stretch buf.old) (take (frame_size r) buf.new)) }
     ensures no_frame { OnErr result ((m : List ℕ) → Frame (stretch buf.old) m → ⊥) }
     ensures buffer { buf.new ≡ overwritten (part (stretch buf.old)) buf.old }
-    ensures rest { drop (length (stretch buf.old)) buf.new ≡ drop (length (stretch buf.old)) buf.old }
+    ensures rest { drop (length (stretch buf.old)) buf.new
+        ≡ drop (length (stretch buf.old)) buf.old }
 {
     decode_in_place_report_with_sentinel(buf, 0)
 }
@@ -227,10 +229,13 @@ pub fn decode_in_place_report_with_sentinel(
     sentinel: u8,
 ) -> Result<DecodeReport, DecodeError>
     ensures answer { result ≡ in_place (stretch (masked sentinel buf.old)) }
-    ensures frame { let p = stretch (masked sentinel buf.old) in IfOk result (λ r. p ≢ [] → Frame p (take (frame_size r) buf.new)) }
-    ensures no_frame { OnErr result ((m : List ℕ) → Frame (stretch (masked sentinel buf.old)) m → ⊥) }
+    ensures frame { let p = stretch (masked sentinel buf.old) in
+        IfOk result (λ r. p ≢ [] → Frame p (take (frame_size r) buf.new)) }
+    ensures no_frame { OnErr result
+        ((m : List ℕ) → Frame (stretch (masked sentinel buf.old)) m → ⊥) }
     ensures buffer { buf.new ≡ overwritten (part (stretch (masked sentinel buf.old))) buf.old }
-    ensures rest { let n = length (stretch (masked sentinel buf.old)) in drop n buf.new ≡ drop n buf.old }
+    ensures rest { let n = length (stretch (masked sentinel buf.old)) in
+        drop n buf.new ≡ drop n buf.old }
 {
     let end = end_in(buf, sentinel);
     let mut progress = Progress::new();
@@ -258,10 +263,12 @@ pub fn decode_in_place_report_with_sentinel(
 /// As `decode_in_place_report`, with the length of the message alone.
 pub fn decode_in_place(buf: &mut [u8]) -> Result<usize, DecodeError>
     ensures answer { result ≡ in_place_length (stretch buf.old) }
-    ensures frame { IfOk result (λ n. stretch buf.old ≢ [] → Frame (stretch buf.old) (take n buf.new)) }
+    ensures frame { IfOk result (λ n. stretch buf.old ≢ []
+        → Frame (stretch buf.old) (take n buf.new)) }
     ensures no_frame { OnErr result ((m : List ℕ) → Frame (stretch buf.old) m → ⊥) }
     ensures buffer { buf.new ≡ overwritten (part (stretch buf.old)) buf.old }
-    ensures rest { drop (length (stretch buf.old)) buf.new ≡ drop (length (stretch buf.old)) buf.old }
+    ensures rest { drop (length (stretch buf.old)) buf.new
+        ≡ drop (length (stretch buf.old)) buf.old }
 {
     decode_in_place_report(buf).map(|report| report.frame_size())
 }
@@ -271,10 +278,14 @@ pub fn decode_in_place(buf: &mut [u8]) -> Result<usize, DecodeError>
 /// Bytes behind the first sentinel are left XORed.
 pub fn decode_in_place_with_sentinel(buf: &mut [u8], sentinel: u8) -> Result<usize, DecodeError>
     ensures answer { result ≡ in_place_length (stretch (masked sentinel buf.old)) }
-    ensures frame { let p = stretch (masked sentinel buf.old) in IfOk result (λ n. p ≢ [] → Frame p (take n buf.new)) }
-    ensures no_frame { OnErr result ((m : List ℕ) → Frame (stretch (masked sentinel buf.old)) m → ⊥) }
-    ensures buffer { buf.new ≡ overwritten (part (stretch (masked sentinel buf.old))) (masked sentinel buf.old) }
-    ensures rest { let n = length (stretch (masked sentinel buf.old)) in drop n buf.new ≡ drop n (masked sentinel buf.old) }
+    ensures frame { let p = stretch (masked sentinel buf.old) in
+        IfOk result (λ n. p ≢ [] → Frame p (take n buf.new)) }
+    ensures no_frame { OnErr result
+        ((m : List ℕ) → Frame (stretch (masked sentinel buf.old)) m → ⊥) }
+    ensures buffer { buf.new
+        ≡ overwritten (part (stretch (masked sentinel buf.old))) (masked sentinel buf.old) }
+    ensures rest { let n = length (stretch (masked sentinel buf.old)) in
+        drop n buf.new ≡ drop n (masked sentinel buf.old) }
 {
     mask(buf, sentinel);
     decode_in_place(buf)
@@ -355,7 +366,8 @@ fn copy_run(bytes: &[u8], buffer: &mut [u8], place: usize, sentinel: u8) -> usiz
     requires { place + length bytes.now ≤ length buffer.old }
     ensures within { result ≤ length bytes.now }
     ensures none { (k : ℕ) → k < result → slice_index bytes.now k ≢ sentinel }
-    ensures buffer { buffer.new ≡ written_over place (take result (masked sentinel bytes.now)) buffer.old }
+    ensures buffer { buffer.new
+        ≡ written_over place (take result (masked sentinel bytes.now)) buffer.old }
 {
     for (i, byte) in bytes.iter().enumerate() {
         if *byte == sentinel {
@@ -418,7 +430,8 @@ fn put_zeros(out: &mut [u8], left: u8) -> DecoderState
 fn decode_window(bytes: &[u8], out: &mut [u8], left: u8, sentinel: u8) -> DecoderState
     requires long { length bytes.now ≡ length out.old }
     requires short { length bytes.now ≤ 254 }
-    requires nonzero { (k : ℕ) → k < length bytes.now → 0 < slice_index (masked sentinel bytes.now) k }
+    requires nonzero { (k : ℕ) → k < length bytes.now
+        → 0 < slice_index (masked sentinel bytes.now) k }
     ensures out { out.new ≡ part_from left true (masked sentinel bytes.now) }
     ensures state { result ≡ stands_by (after left true (masked sentinel bytes.now)) }
 {
@@ -431,7 +444,8 @@ fn decode_window(bytes: &[u8], out: &mut [u8], left: u8, sentinel: u8) -> Decode
 fn decode_at_once(bytes: &[u8], out: &mut [u8], left: u8, sentinel: u8) -> DecoderState
     requires long { length bytes.now ≡ length out.old }
     requires short { length bytes.now ≤ 254 }
-    requires nonzero { (k : ℕ) → k < length bytes.now → 0 < slice_index (masked sentinel bytes.now) k }
+    requires nonzero { (k : ℕ) → k < length bytes.now
+        → 0 < slice_index (masked sentinel bytes.now) k }
     ensures out { out.new ≡ part_from left true (masked sentinel bytes.now) }
     ensures state { result ≡ stands_by (after left true (masked sentinel bytes.now)) }
 {
@@ -474,7 +488,8 @@ impl Progress {
     fn take_in(&mut self, buffer: &mut [u8], byte: u8) -> Result<Option<usize>, DecodeError>
         requires { 0 < byte }
         ensures stands { (p : List ℕ) → Stands self.old p → Stands self.new (p ++ byte ∷ []) }
-        ensures answer { (p : List ℕ) → Stands self.old p → result ≡ at_byte (length buffer.old) p byte }
+        ensures answer { (p : List ℕ) → Stands self.old p
+            → result ≡ at_byte (length buffer.old) p byte }
         ensures buffer { (p : List ℕ) → Stands self.old p → buffer.new ≡ placed p byte buffer.old }
         ensures none { IfOk result IsNone }
     {
@@ -497,7 +512,8 @@ impl Progress {
     #[inline(always)]
     fn take_window(&mut self, buffer: &mut [u8], piece: &[u8], sentinel: u8) -> usize
         ensures within { result ≤ length piece.now }
-        ensures front { (p : List ℕ) → Stands self.old p → TakesFront p (masked sentinel piece.now) buffer.old result self.new buffer.new }
+        ensures front { (p : List ℕ) → Stands self.old p
+            → TakesFront p (masked sentinel piece.now) buffer.old result self.new buffer.new }
     {
         let len = self.len;
         if buffer.len() <= len {
@@ -539,7 +555,8 @@ impl Progress {
         requires room { self.old.len + length bytes.now ≤ length buffer.old }
         requires clear { (k : ℕ) → k < length bytes.now → slice_index bytes.now k ≢ sentinel }
         ensures within { result ≤ length bytes.now }
-        ensures front { (p : List ℕ) → Stands self.old p → TakesFront p (masked sentinel bytes.now) buffer.old result self.new buffer.new }
+        ensures front { (p : List ℕ) → Stands self.old p
+            → TakesFront p (masked sentinel bytes.now) buffer.old result self.new buffer.new }
     {
         let len = self.len;
         match self.state {
@@ -577,7 +594,9 @@ impl Progress {
         requires behind { self.old.len ≤ read }
         requires clear { (k : ℕ) → read ≤ k → k < end → slice_index buffer.old k ≢ sentinel }
         ensures within { result ≤ end - read }
-        ensures front { (p : List ℕ) → Stands self.old p → TakesFront p (masked sentinel (take (end - read) (drop read buffer.old))) buffer.old result self.new buffer.new }
+        ensures front { (p : List ℕ) → Stands self.old p
+            → TakesFront p (masked sentinel (take (end - read) (drop read buffer.old)))
+            buffer.old result self.new buffer.new }
     {
         let len = self.len;
         match self.state {
@@ -611,7 +630,8 @@ impl Progress {
     #[inline(always)]
     fn take_run(&mut self, buffer: &mut [u8], piece: &[u8], sentinel: u8) -> usize
         ensures within { result ≤ length piece.now }
-        ensures front { (p : List ℕ) → Stands self.old p → TakesFront p (masked sentinel piece.now) buffer.old result self.new buffer.new }
+        ensures front { (p : List ℕ) → Stands self.old p
+            → TakesFront p (masked sentinel piece.now) buffer.old result self.new buffer.new }
     {
         let Progress { state, len } = *self;
         let left = state.left();
@@ -629,7 +649,8 @@ impl Progress {
     #[inline(always)]
     fn take_front(&mut self, buffer: &mut [u8], piece: &[u8], sentinel: u8, few: bool) -> usize
         ensures within { result ≤ length piece.now }
-        ensures front { (p : List ℕ) → Stands self.old p → TakesFront p (masked sentinel piece.now) buffer.old result self.new buffer.new }
+        ensures front { (p : List ℕ) → Stands self.old p
+            → TakesFront p (masked sentinel piece.now) buffer.old result self.new buffer.new }
     {
         if few {
             self.take_run(buffer, piece, sentinel)
@@ -682,7 +703,8 @@ impl Progress {
         sentinel: u8,
         few: bool,
     ) -> Result<Option<DecodeReport>, DecodeError>
-        ensures { TakesPiece self.old buffer.old (masked sentinel piece.now) result self.new buffer.new }
+        ensures { TakesPiece self.old buffer.old
+            (masked sentinel piece.now) result self.new buffer.new }
     {
         let mut at = 0;
         while at < piece.len() {
@@ -747,7 +769,8 @@ impl Progress {
         piece: &[u8],
         sentinel: u8,
     ) -> Result<Option<DecodeReport>, DecodeError>
-        ensures { TakesPiece self.old buffer.old (masked sentinel piece.now) result self.new buffer.new }
+        ensures { TakesPiece self.old buffer.old
+            (masked sentinel piece.now) result self.new buffer.new }
     {
         if piece.len() < FEW {
             self.push_fronts(buffer, piece, sentinel, true)
@@ -776,7 +799,8 @@ impl Progress {
         piece: &[u8],
         sentinel: u8,
     ) -> Result<Option<DecodeReport>, DecodeError>
-        ensures { TakesPiece self.old buffer.old (masked sentinel piece.now) result self.new buffer.new }
+        ensures { TakesPiece self.old buffer.old
+            (masked sentinel piece.now) result self.new buffer.new }
     {
         self.push_any(buffer, piece, sentinel)
     }
@@ -789,7 +813,8 @@ impl Progress {
         piece: &[u8],
         sentinel: u8,
     ) -> Result<Option<DecodeReport>, DecodeError>
-        ensures { TakesPiece self.old buffer.old (masked sentinel piece.now) result self.new buffer.new }
+        ensures { TakesPiece self.old buffer.old
+            (masked sentinel piece.now) result self.new buffer.new }
     {
         if let [byte] = piece {
             self.push_byte(buffer, sentinel ^ *byte)
@@ -1014,7 +1039,8 @@ fn decode_first(source: &[u8], dest: &mut [u8]) -> Result<DecodeReport, DecodeEr
 pub fn decode(source: &[u8], dest: &mut [u8]) -> Result<DecodeReport, DecodeError>
     ensures answer { result ≡ decoded_from (length dest.old) source.now }
     ensures frame { IfOk result (λ r. Frame (frame_in source.now) (take (frame_size r) dest.new)) }
-    ensures no_frame { OnErr result ((m : List ℕ) → Frame (frame_in source.now) m → length dest.old < length m) }
+    ensures no_frame { OnErr result ((m : List ℕ) → Frame (frame_in source.now) m
+        → length dest.old < length m) }
     ensures dest { dest.new ≡ overwritten (part (frame_in source.now)) dest.old }
 {
     decode_first(source, dest)
@@ -1038,7 +1064,8 @@ fn decode_counted(frame: &[u8], dest: &mut [u8], sentinel: u8) -> Result<usize, 
 // As `decode_with_sentinel`.
 #[inline(always)]
 fn decode_stretch(source: &[u8], dest: &mut [u8], sentinel: u8) -> Result<usize, DecodeError>
-    ensures answer { result ≡ decoded_into (length dest.old) (stretch (masked sentinel source.now)) }
+    ensures answer { result
+        ≡ decoded_into (length dest.old) (stretch (masked sentinel source.now)) }
     ensures dest { dest.new ≡ overwritten (part (stretch (masked sentinel source.now))) dest.old }
 {
     let frame = before(source, sentinel);
@@ -1060,9 +1087,12 @@ pub fn decode_with_sentinel(
     dest: &mut [u8],
     sentinel: u8,
 ) -> Result<usize, DecodeError>
-    ensures answer { result ≡ decoded_into (length dest.old) (stretch (masked sentinel source.now)) }
-    ensures frame { let p = stretch (masked sentinel source.now) in IfOk result (λ n. p ≢ [] → Frame p (take n dest.new)) }
-    ensures no_frame { OnErr result ((m : List ℕ) → Frame (stretch (masked sentinel source.now)) m → length dest.old < length m) }
+    ensures answer { result
+        ≡ decoded_into (length dest.old) (stretch (masked sentinel source.now)) }
+    ensures frame { let p = stretch (masked sentinel source.now) in
+        IfOk result (λ n. p ≢ [] → Frame p (take n dest.new)) }
+    ensures no_frame { OnErr result ((m : List ℕ) → Frame (stretch (masked sentinel source.now)) m
+        → length dest.old < length m) }
     ensures dest { dest.new ≡ overwritten (part (stretch (masked sentinel source.now))) dest.old }
 {
     decode_stretch(source, dest, sentinel)
@@ -1071,7 +1101,8 @@ pub fn decode_with_sentinel(
 // Decodes the bytes of a vector before its first sentinel, each XORed with it, over themselves.
 #[inline(always)]
 fn decode_vector(bytes: Vec<u8>, sentinel: u8) -> Result<Vec<u8>, DecodeVecError>
-    ensures { MatchResult result (λ v. message_of_stretch (stretch (masked sentinel bytes.items)) ≡ Ok v.items)
+    ensures { MatchResult result
+        (λ v. message_of_stretch (stretch (masked sentinel bytes.items)) ≡ Ok v.items)
         (λ e. Refuses e (message_of_stretch (stretch (masked sentinel bytes.items)))) }
 {
     let mut bytes = bytes;
@@ -1087,7 +1118,8 @@ fn decode_vector(bytes: Vec<u8>, sentinel: u8) -> Result<Vec<u8>, DecodeVecError
 // As `decode_vec`.
 #[inline(always)]
 fn decode_first_vec(alloc: Global, source: &[u8]) -> Result<Vec<u8>, DecodeVecError>
-    ensures { MatchResult result (λ v. message_of_frame (frame_in source.now) ≡ Ok v.items) (λ e. Refuses e (message_of_frame (frame_in source.now))) }
+    ensures { MatchResult result (λ v. message_of_frame (frame_in source.now) ≡ Ok v.items)
+        (λ e. Refuses e (message_of_frame (frame_in source.now))) }
 {
     let frame = before(behind_zeros(source), 0);
     if frame.is_empty() {
@@ -1103,7 +1135,8 @@ fn decode_first_vec(alloc: Global, source: &[u8]) -> Result<Vec<u8>, DecodeVecEr
 ///
 /// Where the source holds no frame and no memory is found, either may be answered.
 pub fn decode_vec(alloc: Global, source: &[u8]) -> Result<Vec<u8>, DecodeVecError>
-    ensures answer { MatchResult result (λ v. message_of_frame (frame_in source.now) ≡ Ok v.items) (λ e. Refuses e (message_of_frame (frame_in source.now))) }
+    ensures answer { MatchResult result (λ v. message_of_frame (frame_in source.now) ≡ Ok v.items)
+        (λ e. Refuses e (message_of_frame (frame_in source.now))) }
     ensures frame { IfOk result (λ v. Frame (frame_in source.now) v.items) }
 {
     decode_first_vec(alloc, source)
@@ -1117,7 +1150,8 @@ pub fn decode_vec_with_sentinel(
     source: &[u8],
     sentinel: u8,
 ) -> Result<Vec<u8>, DecodeVecError>
-    ensures { MatchResult result (λ v. message_of_stretch (stretch (masked sentinel source.now)) ≡ Ok v.items)
+    ensures { MatchResult result
+        (λ v. message_of_stretch (stretch (masked sentinel source.now)) ≡ Ok v.items)
         (λ e. Refuses e (message_of_stretch (stretch (masked sentinel source.now)))) }
 {
     let bytes = before(source, sentinel)
@@ -1175,7 +1209,9 @@ impl<'a> CobsDecoder<'a> {
     /// `InvalidFrame` at a sentinel inside a block, with how many bytes were decoded and had room. After every sentinel the
     /// decoder is between frames.
     pub fn feed(&mut self, data: u8) -> Result<Option<usize>, DecodeError>
-        ensures takes { TakesByte (progress_of self.old) (buffer_of self.old) (bit_xor (sentinel_of self.old) «data») result (progress_of self.new) (buffer_of self.new) }
+        ensures takes { TakesByte (progress_of self.old) (buffer_of self.old)
+            (bit_xor (sentinel_of self.old) «data») result
+            (progress_of self.new) (buffer_of self.new) }
         ensures sentinel { sentinel_of self.new ≡ sentinel_of self.old }
         ensures lent { lent_name self.new ≡ lent_name self.old }
     {
@@ -1185,7 +1221,9 @@ impl<'a> CobsDecoder<'a> {
     /// Takes in bytes up to the first answer that `feed` gives. `parsed_size` counts the bytes of this piece, the sentinel
     /// included. Where a byte is refused, the decoder stands behind it.
     pub fn push(&mut self, data: &[u8]) -> Result<Option<DecodeReport>, DecodeError>
-        ensures takes { TakesPiece (progress_of self.old) (buffer_of self.old) (masked (sentinel_of self.old) «data».now) result (progress_of self.new) (buffer_of self.new) }
+        ensures takes { TakesPiece (progress_of self.old) (buffer_of self.old)
+            (masked (sentinel_of self.old) «data».now) result
+            (progress_of self.new) (buffer_of self.new) }
         ensures sentinel { sentinel_of self.new ≡ sentinel_of self.old }
         ensures lent { lent_name self.new ≡ lent_name self.old }
     {
@@ -1268,7 +1306,9 @@ impl CobsDecoderOwned {
     /// `InvalidFrame` at a sentinel inside a block, with how many bytes were decoded and had room. After every sentinel the
     /// decoder is between frames.
     pub fn feed(&mut self, data: u8) -> Result<Option<usize>, DecodeError>
-        ensures takes { TakesByte (owned_progress self.old) (owned_buffer self.old) (bit_xor (owned_sentinel self.old) «data») result (owned_progress self.new) (owned_buffer self.new) }
+        ensures takes { TakesByte (owned_progress self.old) (owned_buffer self.old)
+            (bit_xor (owned_sentinel self.old) «data») result
+            (owned_progress self.new) (owned_buffer self.new) }
         ensures sentinel { owned_sentinel self.new ≡ owned_sentinel self.old }
     {
         self.progress
@@ -1278,7 +1318,9 @@ impl CobsDecoderOwned {
     /// Takes in bytes up to the first answer that `feed` gives. `parsed_size` counts the bytes of this piece, the sentinel
     /// included. Where a byte is refused, the decoder stands behind it.
     pub fn push(&mut self, data: &[u8]) -> Result<Option<DecodeReport>, DecodeError>
-        ensures takes { TakesPiece (owned_progress self.old) (owned_buffer self.old) (masked (owned_sentinel self.old) «data».now) result (owned_progress self.new) (owned_buffer self.new) }
+        ensures takes { TakesPiece (owned_progress self.old) (owned_buffer self.old)
+            (masked (owned_sentinel self.old) «data».now) result
+            (owned_progress self.new) (owned_buffer self.new) }
         ensures sentinel { owned_sentinel self.new ≡ owned_sentinel self.old }
     {
         self.progress
@@ -1311,7 +1353,8 @@ impl CobsDecoderOwned {
         requires { OwnedHas self.old [] }
         ensures idle { OwnedHas self.new [] }
         ensures sentinel { owned_sentinel self.new ≡ owned_sentinel self.old }
-        ensures buffer { OnOk result (owned_buffer self.new ≡ take size (owned_buffer self.old) ++ replicate (size - length (owned_buffer self.old)) 0) }
+        ensures buffer { OnOk result (owned_buffer self.new ≡ take size (owned_buffer self.old)
+            ++ replicate (size - length (owned_buffer self.old)) 0) }
         ensures refused { OnErr result (owned_buffer self.new ≡ owned_buffer self.old) }
         ensures granted { size ≤ length (owned_buffer self.old) → IsOk result }
     {
@@ -1339,7 +1382,8 @@ impl CobsDecoderOwned {
     /// The caller owes the room: `place + bytes.len()` is no more than the buffer's length.
     pub fn overwrite(&mut self, place: usize, bytes: &[u8])
         requires { place + length bytes.now ≤ length (owned_buffer self.old) }
-        ensures buffer { owned_buffer self.new ≡ written_over place bytes.now (owned_buffer self.old) }
+        ensures buffer { owned_buffer self.new
+            ≡ written_over place bytes.now (owned_buffer self.old) }
         ensures progress { owned_progress self.new ≡ owned_progress self.old }
         ensures sentinel { owned_sentinel self.new ≡ owned_sentinel self.old }
     {
@@ -1380,7 +1424,8 @@ impl<const N: usize> CobsDecoderHeapless<N> {
     /// An idle decoder of frames that end in zeros, whose buffer has the vector's bytes, and then zeros.
     pub fn new_with_vec(vec: ArrayVec<u8, N>) -> CobsDecoderHeapless<N>
         ensures idle { ArrayHas result [] }
-        ensures buffer { array_buffer result ≡ vec.entry.items ++ replicate (N - length vec.entry.items) 0 }
+        ensures buffer { array_buffer result
+            ≡ vec.entry.items ++ replicate (N - length vec.entry.items) 0 }
         ensures sentinel { array_sentinel result ≡ 0 }
         ensures room { length (array_buffer result) ≡ N }
     {
@@ -1390,7 +1435,8 @@ impl<const N: usize> CobsDecoderHeapless<N> {
     // The same for any sentinel.
     fn filled(vec: ArrayVec<u8, N>, sentinel: u8) -> CobsDecoderHeapless<N>
         ensures idle { ArrayHas result [] }
-        ensures buffer { array_buffer result ≡ vec.entry.items ++ replicate (N - length vec.entry.items) 0 }
+        ensures buffer { array_buffer result
+            ≡ vec.entry.items ++ replicate (N - length vec.entry.items) 0 }
         ensures sentinel { array_sentinel result ≡ sentinel }
         ensures room { length (array_buffer result) ≡ N }
     {
@@ -1412,7 +1458,9 @@ impl<const N: usize> CobsDecoderHeapless<N> {
     /// `InvalidFrame` at a sentinel inside a block, with how many bytes were decoded and had room. After every sentinel the
     /// decoder is between frames.
     pub fn feed(&mut self, data: u8) -> Result<Option<usize>, DecodeError>
-        ensures takes { TakesByte (array_progress self.old) (array_buffer self.old) (bit_xor (array_sentinel self.old) «data») result (array_progress self.new) (array_buffer self.new) }
+        ensures takes { TakesByte (array_progress self.old) (array_buffer self.old)
+            (bit_xor (array_sentinel self.old) «data») result
+            (array_progress self.new) (array_buffer self.new) }
         ensures sentinel { array_sentinel self.new ≡ array_sentinel self.old }
     {
         self.progress
@@ -1422,7 +1470,9 @@ impl<const N: usize> CobsDecoderHeapless<N> {
     /// Takes in bytes up to the first answer that `feed` gives. `parsed_size` counts the bytes of this piece, the sentinel
     /// included. Where a byte is refused, the decoder stands behind it.
     pub fn push(&mut self, data: &[u8]) -> Result<Option<DecodeReport>, DecodeError>
-        ensures takes { TakesPiece (array_progress self.old) (array_buffer self.old) (masked (array_sentinel self.old) «data».now) result (array_progress self.new) (array_buffer self.new) }
+        ensures takes { TakesPiece (array_progress self.old) (array_buffer self.old)
+            (masked (array_sentinel self.old) «data».now) result
+            (array_progress self.new) (array_buffer self.new) }
         ensures sentinel { array_sentinel self.new ≡ array_sentinel self.old }
     {
         self.progress
@@ -1459,7 +1509,8 @@ impl<const N: usize> CobsDecoderHeapless<N> {
     /// The caller owes the room: `place + bytes.len()` is no more than the buffer's length.
     pub fn overwrite(&mut self, place: usize, bytes: &[u8])
         requires { place + length bytes.now ≤ length (array_buffer self.old) }
-        ensures buffer { array_buffer self.new ≡ written_over place bytes.now (array_buffer self.old) }
+        ensures buffer { array_buffer self.new
+            ≡ written_over place bytes.now (array_buffer self.old) }
         ensures progress { array_progress self.new ≡ array_progress self.old }
         ensures sentinel { array_sentinel self.new ≡ array_sentinel self.old }
     {
@@ -1470,7 +1521,8 @@ impl<const N: usize> CobsDecoderHeapless<N> {
 impl<const N: usize> Default for CobsDecoderHeapless<N> {
     ghost use Rattle.cobs.specs.Arrays.{ArrayHas, array_buffer, array_sentinel};
 
-    ghost is_default = { λ d. ArrayHas d [] × (array_buffer d ≡ replicate N 0) × (array_sentinel d ≡ 0) };
+    ghost is_default = { λ d.
+        ArrayHas d [] × (array_buffer d ≡ replicate N 0) × (array_sentinel d ≡ 0) };
 
     fn default() -> CobsDecoderHeapless<N> {
         CobsDecoderHeapless::new()

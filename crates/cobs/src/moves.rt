@@ -200,7 +200,8 @@ fn move_ends<const W: usize>(buffer: &mut [u8], from: usize, n: usize, place: us
     requires few { n ≤ W + W }
     requires within { from + n ≤ length buffer.old }
     requires down { place ≤ from }
-    ensures { buffer.new ≡ written_over place (masked sentinel (take n (drop from buffer.old))) buffer.old }
+    ensures { buffer.new
+        ≡ written_over place (masked sentinel (take n (drop from buffer.old))) buffer.old }
 {
     let behind = n - W;
     let front = load::<W>(buffer, from);
@@ -214,7 +215,8 @@ fn move_ends<const W: usize>(buffer: &mut [u8], from: usize, n: usize, place: us
 fn move_bytes(buffer: &mut [u8], from: usize, n: usize, place: usize, sentinel: u8)
     requires within { from + n ≤ length buffer.old }
     requires down { place ≤ from }
-    ensures { buffer.new ≡ written_over place (masked sentinel (take n (drop from buffer.old))) buffer.old }
+    ensures { buffer.new
+        ≡ written_over place (masked sentinel (take n (drop from buffer.old))) buffer.old }
 {
     for i in 0..n {
         buffer[place + i] = sentinel ^ buffer[from + i];
@@ -227,7 +229,8 @@ fn move_few(buffer: &mut [u8], from: usize, n: usize, place: usize, sentinel: u8
     requires few { n < 64 }
     requires within { from + n ≤ length buffer.old }
     requires down { place ≤ from }
-    ensures { buffer.new ≡ written_over place (masked sentinel (take n (drop from buffer.old))) buffer.old }
+    ensures { buffer.new
+        ≡ written_over place (masked sentinel (take n (drop from buffer.old))) buffer.old }
 {
     if 32 <= n {
         move_ends::<32>(buffer, from, n, place, sentinel);
@@ -245,7 +248,8 @@ fn move_few(buffer: &mut [u8], from: usize, n: usize, place: usize, sentinel: u8
 pub(crate) fn move_down(buffer: &mut [u8], from: usize, n: usize, place: usize, sentinel: u8)
     requires within { from + n ≤ length buffer.old }
     requires down { place ≤ from }
-    ensures { buffer.new ≡ written_over place (masked sentinel (take n (drop from buffer.old))) buffer.old }
+    ensures { buffer.new
+        ≡ written_over place (masked sentinel (take n (drop from buffer.old))) buffer.old }
 {
     let mut moved: usize = 0;
     while 64 <= n - moved {

@@ -42,11 +42,14 @@ pub fn exchange(
     b: &Reading,
     c: &Reading,
 ) -> Exchanged
-    ensures whole { result.first ≡ Ok tt → result.second ≡ Ok tt → result.third ≡ Ok tt → result.end ≡ Ended
+    ensures whole { result.first ≡ Ok tt → result.second ≡ Ok tt → result.third ≡ Ok tt
+        → result.end ≡ Ended
         → result.answers.items ≡ Value a.now ∷ Value b.now ∷ Value c.now ∷ [] }
-    ensures broken { result.first ≡ Ok tt → result.second ≡ Err Line → result.third ≡ Ok tt → result.end ≡ Ended
+    ensures broken { result.first ≡ Ok tt → result.second ≡ Err Line → result.third ≡ Ok tt
+        → result.end ≡ Ended
         → HeardByFront ⟦<Reading as Serialize>⟧.writes b.now result.answers.items
-        (Value a.now ∷ Value c.now ∷ []) (Value a.now ∷ Damaged ∷ Value c.now ∷ []) (Value a.now ∷ Value b.now ∷ Value c.now ∷ []) }
+        (Value a.now ∷ Value c.now ∷ []) (Value a.now ∷ Damaged ∷ Value c.now ∷ [])
+        (Value a.now ∷ Value b.now ∷ Value c.now ∷ []) }
 {
     alike();
     link_laws::carries::<Reading>();
@@ -89,7 +92,8 @@ pub struct SentAgain {
 pub fn send_again(alloc: Global, before: usize, reading: &Reading) -> SentAgain
     ensures { result.first ≡ Err Line → result.second ≡ Ok tt → result.end ≡ Ended
         → HeardByFront ⟦<Reading as Serialize>⟧.writes reading.now result.answers.items
-        (Value reading.now ∷ []) (Damaged ∷ Value reading.now ∷ []) (Value reading.now ∷ Value reading.now ∷ []) }
+        (Value reading.now ∷ []) (Damaged ∷ Value reading.now ∷ [])
+        (Value reading.now ∷ Value reading.now ∷ []) }
 {
     alike();
     link_laws::carries::<Reading>();

@@ -20,7 +20,8 @@ use std::alloc::Global;
 pub fn letter<'a>(alloc: Global, v: &Letter, room: &'a mut [u8]) -> Result<(Letter, &'a [u8])>
     ensures text { IfOk result (λ p. string_bytes v.now.text.text ≡ string_bytes p.0.text.text) }
     ensures kind { IfOk result (λ p. v.now.text.kind ≡ p.0.text.kind) }
-    ensures bytes { IfOk result (λ p. AlikeLists ⟦<u8 as Readable>⟧.alike v.now.data.items p.0.data.items) }
+    ensures bytes { IfOk result
+        (λ p. AlikeLists ⟦<u8 as Readable>⟧.alike v.now.data.items p.0.data.items) }
 {
     round_trip::<Letter>(alloc, v, &[], room)
 }
@@ -34,9 +35,12 @@ pub fn mail<'a>(alloc: Global, v: &Mail, room: &'a mut [u8]) -> Result<(Mail, &'
 
 /// Lists, options, arrays, maps and boxes of structs.
 pub fn holders<'a>(alloc: Global, v: &Holders, room: &'a mut [u8]) -> Result<(Holders, &'a [u8])>
-    ensures texts { IfOk result (λ p. AlikeLists ⟦<Text as Readable>⟧.alike v.now.texts.items p.0.texts.items) }
-    ensures letter { IfOk result (λ p. ⟦<Option<Letter> as Readable>⟧.alike v.now.letter p.0.letter) }
-    ensures boxed { IfOk result (λ p. ⟦<Letter as Readable>⟧.alike v.now.boxed.value p.0.boxed.value) }
+    ensures texts { IfOk result
+        (λ p. AlikeLists ⟦<Text as Readable>⟧.alike v.now.texts.items p.0.texts.items) }
+    ensures letter { IfOk result
+        (λ p. ⟦<Option<Letter> as Readable>⟧.alike v.now.letter p.0.letter) }
+    ensures boxed { IfOk result
+        (λ p. ⟦<Letter as Readable>⟧.alike v.now.boxed.value p.0.boxed.value) }
 {
     round_trip::<Holders>(alloc, v, &[], room)
 }
@@ -83,14 +87,16 @@ pub fn message<'a>(alloc: Global, v: &Message, room: &'a mut [u8]) -> Result<(Me
 
 /// What lies in bytes is read from them.
 pub fn borrower_from_bytes<'a>(alloc: Global, s: &'a [u8]) -> Result<Borrower<'a>>
-    ensures { IfOk result (λ v. (rest : List ℕ) × ReadsFront ⟦<Borrower<'a> as Readable>⟧.reads s.now rest v) }
+    ensures { IfOk result
+        (λ v. (rest : List ℕ) × ReadsFront ⟦<Borrower<'a> as Readable>⟧.reads s.now rest v) }
 {
     from_bytes::<Borrower<'a>>(alloc, s)
 }
 
 /// What keeps none of the bytes is read from them.
 pub fn holders_from_bytes(alloc: Global, s: &[u8]) -> Result<Holders>
-    ensures { IfOk result (λ v. (rest : List ℕ) × ReadsFront ⟦<Holders as Readable>⟧.reads s.now rest v) }
+    ensures { IfOk result
+        (λ v. (rest : List ℕ) × ReadsFront ⟦<Holders as Readable>⟧.reads s.now rest v) }
 {
     from_bytes_owned::<Holders>(alloc, s)
 }
@@ -114,14 +120,16 @@ fn read_as_written<T: Exact>()
 
 /// What is read as a drawing writes what was read.
 pub fn drawing_exact()
-    ensures { (t : Tree) (v : Drawings) → ⟦<Drawing as Readable>⟧.reads t v → ⟦<Drawing as Serialize>⟧.writes v ≡ Some t }
+    ensures { (t : Tree) (v : Drawings) → ⟦<Drawing as Readable>⟧.reads t v
+        → ⟦<Drawing as Serialize>⟧.writes v ≡ Some t }
 {
     read_as_written::<Drawing>();
 }
 
 /// What is read as a letter writes what was read.
 pub fn letter_exact()
-    ensures { (t : Tree) (v : Letters) → ⟦<Letter as Readable>⟧.reads t v → ⟦<Letter as Serialize>⟧.writes v ≡ Some t }
+    ensures { (t : Tree) (v : Letters) → ⟦<Letter as Readable>⟧.reads t v
+        → ⟦<Letter as Serialize>⟧.writes v ≡ Some t }
 {
     read_as_written::<Letter>();
 }

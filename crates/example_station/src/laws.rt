@@ -70,10 +70,13 @@ pub fn command<'a>(alloc: Global, v: &Command, room: &'a mut [u8]) -> Result<(Co
 /// The name, the readings, the fallback, the gains and the labels.
 pub fn config<'a>(alloc: Global, v: &Config, room: &'a mut [u8]) -> Result<(Config, &'a [u8])>
     ensures name { IfOk result (λ p. string_bytes v.now.name ≡ string_bytes p.0.name) }
-    ensures readings { IfOk result (λ p. AlikeLists ⟦<SensorReading as Readable>⟧.alike v.now.readings.items p.0.readings.items) }
+    ensures readings { IfOk result (λ p. AlikeLists ⟦<SensorReading as Readable>⟧.alike
+        v.now.readings.items p.0.readings.items) }
     ensures fallback { IfOk result (λ p. v.now.fallback ≡ p.0.fallback) }
     ensures gains { IfOk result (λ p. AlikeLists ⟦<u16 as Readable>⟧.alike v.now.gains p.0.gains) }
-    ensures labels { IfOk result (λ p. AlikeLists (AlikePairs ⟦<u16 as Readable>⟧.alike ⟦<String as Readable>⟧.alike) v.now.labels.entries p.0.labels.entries) }
+    ensures labels { IfOk result
+        (λ p. AlikeLists (AlikePairs ⟦<u16 as Readable>⟧.alike ⟦<String as Readable>⟧.alike)
+        v.now.labels.entries p.0.labels.entries) }
 {
     postcard_tree::laws::keys_are_compared_alike();
     round_trip::<Config>(alloc, v, &[], room)

@@ -38,8 +38,10 @@ pub fn level()
 
 /// The level, the time, the text and the source.
 pub fn log_record()
-    ensures { (v : LogRecords) → ⟦<LogRecord as Serialize>⟧.writes v ≡ group_of (parts (⟦<Level as Serialize>⟧.writes v.level ∷ Some (number 64 v.at)
-        ∷ Some (text_of (string_bytes v.text)) ∷ option_writes (λ n. Some (number 16 n)) v.source ∷ [])) }
+    ensures { (v : LogRecords) → ⟦<LogRecord as Serialize>⟧.writes v
+        ≡ group_of (parts (⟦<Level as Serialize>⟧.writes v.level ∷ Some (number 64 v.at)
+        ∷ Some (text_of (string_bytes v.text))
+        ∷ option_writes (λ n. Some (number 16 n)) v.source ∷ [])) }
 {}
 
 /// The number.
@@ -55,46 +57,69 @@ pub fn ping()
 /// The variants by their numbers, each before what it holds.
 pub fn command()
     ensures stop { ⟦<Command as Serialize>⟧.writes Stop ≡ variant_of 0 (Some (group end)) }
-    ensures sample { (v : Readings) → ⟦<Command as Serialize>⟧.writes (Sample v) ≡ variant_of 1 (reading_tree v) }
-    ensures moved { (x y : ℤ) → ⟦<Command as Serialize>⟧.writes (Move x y) ≡ variant_of 2 (group_of (parts (Some (number 32 (zigzag x)) ∷ Some (number 32 (zigzag y)) ∷ []))) }
-    ensures both { (a b : ℕ) → ⟦<Command as Serialize>⟧.writes (Both a b) ≡ variant_of 3 (group_of (parts (Some (byte a) ∷ Some (number 16 b) ∷ []))) }
-    ensures say { (v : _) → ⟦<Command as Serialize>⟧.writes (Say v) ≡ variant_of 4 (Some (text_of (string_bytes v))) }
-    ensures many { (v : _) → ⟦<Command as Serialize>⟧.writes (Many v) ≡ variant_of 5 (sequence_of (parts (map reading_tree v.items))) }
+    ensures sample { (v : Readings)
+        → ⟦<Command as Serialize>⟧.writes (Sample v) ≡ variant_of 1 (reading_tree v) }
+    ensures moved { (x y : ℤ) → ⟦<Command as Serialize>⟧.writes (Move x y) ≡ variant_of 2
+        (group_of (parts (Some (number 32 (zigzag x)) ∷ Some (number 32 (zigzag y)) ∷ []))) }
+    ensures both { (a b : ℕ) → ⟦<Command as Serialize>⟧.writes (Both a b)
+        ≡ variant_of 3 (group_of (parts (Some (byte a) ∷ Some (number 16 b) ∷ []))) }
+    ensures say { (v : _) → ⟦<Command as Serialize>⟧.writes (Say v)
+        ≡ variant_of 4 (Some (text_of (string_bytes v))) }
+    ensures many { (v : _) → ⟦<Command as Serialize>⟧.writes (Many v)
+        ≡ variant_of 5 (sequence_of (parts (map reading_tree v.items))) }
 {}
 
 /// The name, the readings, the fallback, the gains and the labels.
 pub fn config()
-    ensures { (v : Configs) → ⟦<Config as Serialize>⟧.writes v ≡ group_of (parts (Some (text_of (string_bytes v.name)) ∷ sequence_of (parts (map reading_tree v.readings.items))
-        ∷ option_writes ⟦<Level as Serialize>⟧.writes v.fallback ∷ group_of (parts (map (λ n. Some (number 16 n)) v.gains))
-        ∷ sequence_of (parts (map (pair_writes (λ n. Some (number 16 n)) (λ s. Some (text_of (string_bytes s)))) v.labels.entries)) ∷ [])) }
+    ensures { (v : Configs) → ⟦<Config as Serialize>⟧.writes v
+        ≡ group_of (parts (Some (text_of (string_bytes v.name))
+        ∷ sequence_of (parts (map reading_tree v.readings.items))
+        ∷ option_writes ⟦<Level as Serialize>⟧.writes v.fallback
+        ∷ group_of (parts (map (λ n. Some (number 16 n)) v.gains))
+        ∷ sequence_of (parts (map (pair_writes (λ n. Some (number 16 n))
+        (λ s. Some (text_of (string_bytes s)))) v.labels.entries)) ∷ [])) }
 {}
 
 /// The address, the text and the bytes.
 pub fn packet<'a>()
-    ensures { (v : Packets) → ⟦<Packet<'a> as Serialize>⟧.writes v ≡ group_of (parts (Some (number 32 v.to.0) ∷ Some (text_of v.text.now)
+    ensures { (v : Packets) → ⟦<Packet<'a> as Serialize>⟧.writes v
+        ≡ group_of (parts (Some (number 32 v.to.0) ∷ Some (text_of v.text.now)
         ∷ sequence_of (parts (map (λ b. Some (byte b)) v.body.now)) ∷ [])) }
 {}
 
 /// Twelve fields, as two groups of six: a group has no bytes of its own.
 pub fn report()
-    ensures { (v : Reports) → ⟦<Report as Serialize>⟧.writes v ≡ group_of (parts (
-        group_of (parts (Some (byte v.a) ∷ Some (number 16 v.b) ∷ Some (number 32 v.c) ∷ Some (number 64 v.d) ∷ Some (byte (cast_unsigned w8 v.e)) ∷ Some (number 16 (zigzag v.f)) ∷ []))
-        ∷ group_of (parts (Some (number 32 (zigzag v.g)) ∷ Some (number 64 (zigzag v.h)) ∷ Some (byte (if v.i then 1 else 0)) ∷ Some (character v.j)
-        ∷ option_writes (λ n. Some (byte n)) v.k ∷ group_of (parts (Some (byte v.l.0) ∷ Some (number 16 v.l.1) ∷ [])) ∷ [])) ∷ [])) }
+    ensures { (v : Reports) → ⟦<Report as Serialize>⟧.writes v
+        ≡ group_of (parts (group_of (parts (Some (byte v.a) ∷ Some (number 16 v.b)
+        ∷ Some (number 32 v.c) ∷ Some (number 64 v.d) ∷ Some (byte (cast_unsigned w8 v.e))
+        ∷ Some (number 16 (zigzag v.f)) ∷ []))
+        ∷ group_of (parts (Some (number 32 (zigzag v.g)) ∷ Some (number 64 (zigzag v.h))
+        ∷ Some (byte (if v.i then 1 else 0)) ∷ Some (character v.j)
+        ∷ option_writes (λ n. Some (byte n)) v.k
+        ∷ group_of (parts (Some (byte v.l.0) ∷ Some (number 16 v.l.1) ∷ [])) ∷ [])) ∷ [])) }
 {}
 
 /// The variants by their numbers, each before what it holds.
 pub fn event()
     ensures started { ⟦<Event as Serialize>⟧.writes Started ≡ variant_of 0 (Some (group end)) }
     ensures stopped { ⟦<Event as Serialize>⟧.writes Stopped ≡ variant_of 1 (Some (group end)) }
-    ensures measured { (v : Readings) → ⟦<Event as Serialize>⟧.writes (Measured v) ≡ variant_of 2 (reading_tree v) }
-    ensures moved { (x y : ℤ) → ⟦<Event as Serialize>⟧.writes (Moved x y) ≡ variant_of 3 (group_of (parts (Some (number 32 (zigzag x)) ∷ Some (number 32 (zigzag y)) ∷ []))) }
-    ensures counted { (n : ℕ) → ⟦<Event as Serialize>⟧.writes (Counted n) ≡ variant_of 4 (Some (number 32 n)) }
-    ensures named { (c : ℕ) → ⟦<Event as Serialize>⟧.writes (Named c) ≡ variant_of 5 (Some (character c)) }
-    ensures pair { (a b : ℕ) → ⟦<Event as Serialize>⟧.writes (Pair a b) ≡ variant_of 6 (group_of (parts (Some (byte a) ∷ Some (byte b) ∷ []))) }
-    ensures failed { (l : Levels) → ⟦<Event as Serialize>⟧.writes (Failed l) ≡ variant_of 7 (⟦<Level as Serialize>⟧.writes l) }
-    ensures retried { (n : Option ℕ) → ⟦<Event as Serialize>⟧.writes (Retried n) ≡ variant_of 8 (option_writes (λ k. Some (number 16 k)) n) }
+    ensures measured { (v : Readings)
+        → ⟦<Event as Serialize>⟧.writes (Measured v) ≡ variant_of 2 (reading_tree v) }
+    ensures moved { (x y : ℤ) → ⟦<Event as Serialize>⟧.writes (Moved x y) ≡ variant_of 3
+        (group_of (parts (Some (number 32 (zigzag x)) ∷ Some (number 32 (zigzag y)) ∷ []))) }
+    ensures counted { (n : ℕ) → ⟦<Event as Serialize>⟧.writes (Counted n)
+        ≡ variant_of 4 (Some (number 32 n)) }
+    ensures named { (c : ℕ) → ⟦<Event as Serialize>⟧.writes (Named c)
+        ≡ variant_of 5 (Some (character c)) }
+    ensures pair { (a b : ℕ) → ⟦<Event as Serialize>⟧.writes (Pair a b)
+        ≡ variant_of 6 (group_of (parts (Some (byte a) ∷ Some (byte b) ∷ []))) }
+    ensures failed { (l : Levels) → ⟦<Event as Serialize>⟧.writes (Failed l)
+        ≡ variant_of 7 (⟦<Level as Serialize>⟧.writes l) }
+    ensures retried { (n : Option ℕ) → ⟦<Event as Serialize>⟧.writes (Retried n)
+        ≡ variant_of 8 (option_writes (λ k. Some (number 16 k)) n) }
     ensures cleared { ⟦<Event as Serialize>⟧.writes Cleared ≡ variant_of 9 (Some (group end)) }
-    ensures paired { (a b : ℕ) → ⟦<Event as Serialize>⟧.writes (Paired (a, b)) ≡ variant_of 10 (group_of (parts (Some (byte a) ∷ Some (number 16 b) ∷ []))) }
-    ensures reset { (b : Bool) → ⟦<Event as Serialize>⟧.writes (Reset b) ≡ variant_of 11 (Some (byte (if b then 1 else 0))) }
+    ensures paired { (a b : ℕ) → ⟦<Event as Serialize>⟧.writes (Paired (a, b))
+        ≡ variant_of 10 (group_of (parts (Some (byte a) ∷ Some (number 16 b) ∷ []))) }
+    ensures reset { (b : Bool) → ⟦<Event as Serialize>⟧.writes (Reset b)
+        ≡ variant_of 11 (Some (byte (if b then 1 else 0))) }
 {}

@@ -22,9 +22,12 @@ reads_text t s = ReadsText t (string_bytes s)
 -- The answers to a stream in stretches of at most 1024 bytes, which sentinels end, by how far it was read: all of them;
 -- those that are given before its end is known; or the first of them, and not all.
 abbrev pub AreAnswers : Bool → ℕ → Reach → List ℕ → List Verdict → Type 0
-AreAnswers strict sentinel ended stream verdicts = Answers (holds_text strict) 1024 sentinel stream verdicts
-AreAnswers strict sentinel failed stream verdicts = Given (holds_text strict) 1024 sentinel stream verdicts
-AreAnswers strict sentinel stopped stream verdicts = BeginsProperly (holds_text strict) 1024 sentinel stream verdicts
+AreAnswers strict sentinel ended stream verdicts =
+    Answers (holds_text strict) 1024 sentinel stream verdicts
+AreAnswers strict sentinel failed stream verdicts =
+    Given (holds_text strict) 1024 sentinel stream verdicts
+AreAnswers strict sentinel stopped stream verdicts =
+    BeginsProperly (holds_text strict) 1024 sentinel stream verdicts
 
 -- the bytes of these parts, each of which is one
 abbrev pub bytes_in : Trees → List ℕ

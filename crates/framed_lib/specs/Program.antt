@@ -13,7 +13,8 @@ use Rattle.framed_lib.specs.Sending.{lines_in, AreSendsOf, refusals, all_sent}
 -- the text without the line feed at its end, where it has one
 abbrev pub DropsLineFeed : List ℕ → List ℕ → Type 0
 DropsLineFeed text digits =
-    (text ≡ digits ++ 10 ∷ []) ⊎ ((text ≡ digits) × ((front : List ℕ) → text ≡ front ++ 10 ∷ [] → ⊥))
+    (text ≡ digits ++ 10 ∷ [])
+    ⊎ ((text ≡ digits) × ((front : List ℕ) → text ≡ front ++ 10 ∷ [] → ⊥))
 
 -- framed bytes as they are written: as they are, or as hexadecimal digits and a line feed
 abbrev pub framed_text : Bool → List ℕ → List ℕ
@@ -33,7 +34,8 @@ shown_end true = 10 ∷ []
 -- the bytes that a text is read as: those that it has, or those of its digits
 abbrev pub StandsFor : Bool → List ℕ → List ℕ → Type 0
 StandsFor false text stream = stream ≡ text
-StandsFor true text stream = (digits : List ℕ) × DropsLineFeed text digits × (decode_of digits ≡ Ok stream)
+StandsFor true text stream =
+    (digits : List ℕ) × DropsLineFeed text digits × (decode_of digits ≡ Ok stream)
 
 -- the text should be hexadecimal, and isn't
 abbrev pub IsNotHex : Bool → List ℕ → Type 0
@@ -65,7 +67,8 @@ pub record Packs (hex : Bool) (sentinel : ℕ) (text out said : List ℕ) (statu
   pub status_is : status ≡ (if all_sent sends then 0 else 1)
 
 -- The lines of the stream's answers are written, and nothing is said.
-pub record Unpacks (strict hex : Bool) (sentinel : ℕ) (text out said : List ℕ) (status : ℕ) : Type 0 where
+pub record Unpacks (strict hex : Bool) (sentinel : ℕ)
+    (text out said : List ℕ) (status : ℕ) : Type 0 where
   pub stream : List ℕ
   pub stands : StandsFor hex text stream
   pub verdicts : List Verdict
@@ -84,12 +87,15 @@ pub record Refuses (hex : Bool) (text out said : List ℕ) (status : ℕ) : Type
 -- the program's text: what a run writes for what it reads, what it says, and its status
 abbrev pub Program : Mode → Bool → ℕ → List ℕ → List ℕ → List ℕ → ℕ → Type 0
 Program Pack hex sentinel text out said status = Packs hex sentinel text out said status
-Program Unpack hex sentinel text out said status = Unpacks false hex sentinel text out said status ⊎ Refuses hex text out said status
-Program Strict hex sentinel text out said status = Unpacks true hex sentinel text out said status ⊎ Refuses hex text out said status
+Program Unpack hex sentinel text out said status =
+    Unpacks false hex sentinel text out said status ⊎ Refuses hex text out said status
+Program Strict hex sentinel text out said status =
+    Unpacks true hex sentinel text out said status ⊎ Refuses hex text out said status
 
 -- what is written for the text that was read before a read or a write failed: the lines of what it gives
 abbrev pub GivesLines : Bool → ℕ → List ℕ → List ℕ → Type 0
-GivesLines strict sentinel text out = (verdicts : List Verdict) × AreAnswers strict sentinel failed text verdicts × (out ≡ lines_of verdicts)
+GivesLines strict sentinel text out = (verdicts : List Verdict)
+    × AreAnswers strict sentinel failed text verdicts × (out ≡ lines_of verdicts)
 
 -- The same, but nothing while lines are sent, or where a text is to be hexadecimal.
 abbrev pub WritesGiven : Mode → Bool → ℕ → List ℕ → List ℕ → Type 0
@@ -122,11 +128,14 @@ pub record WritesFirst (strict : Bool) (sentinel : ℕ) (stream out : List ℕ) 
 -- said. Nothing is written of a text that is to be hexadecimal before all of it was read and its bytes were found memory.
 abbrev pub LacksLines : Bool → Bool → ℕ → Reach → List ℕ → List ℕ → List ℕ → Type 0
 LacksLines strict false sentinel stopped text out said =
-    (said ≡ []) × (verdicts : List Verdict) × AreAnswers strict sentinel stopped text verdicts × (out ≡ lines_of verdicts)
+    (said ≡ [])
+    × (verdicts : List Verdict) × AreAnswers strict sentinel stopped text verdicts
+    × (out ≡ lines_of verdicts)
 LacksLines strict true sentinel stopped text out said = (said ≡ []) × (out ≡ [])
 LacksLines strict false sentinel ended text out said = ⊥
 LacksLines strict true sentinel ended text out said =
-    (said ≡ []) × ((out ≡ []) ⊎ ((stream : List ℕ) × StandsFor true text stream × WritesFirst strict sentinel stream out))
+    (said ≡ []) × ((out ≡ [])
+    ⊎ ((stream : List ℕ) × StandsFor true text stream × WritesFirst strict sentinel stream out))
 LacksLines strict hex sentinel failed text out said = ⊥
 
 -- The same by the mode: `pack` writes and says nothing before all its text is there.
@@ -138,8 +147,8 @@ Lacks Unpack hex sentinel reach text out said = LacksLines false hex sentinel re
 Lacks Strict hex sentinel reach text out said = LacksLines true hex sentinel reach text out said
 
 -- Status 0, 1 and 2: the text was read to its end, and the program's text went out. No device failed.
-pub record Finishes (mode : Mode) (hex : Bool) (sentinel : ℕ) (status : ℕ) (reading : Reach → List ℕ → Type 0)
-    (writing saying : Fate → List ℕ → Type 0) : Type 0 where
+pub record Finishes (mode : Mode) (hex : Bool) (sentinel : ℕ) (status : ℕ)
+    (reading : Reach → List ℕ → Type 0) (writing saying : Fate → List ℕ → Type 0) : Type 0 where
   pub text : List ℕ
   pub out : List ℕ
   pub said : List ℕ
@@ -149,8 +158,8 @@ pub record Finishes (mode : Mode) (hex : Bool) (sentinel : ℕ) (status : ℕ) (
   pub told : saying whole said
 
 -- A read failed: what the text so far gives was written, and 'read failed' was said.
-pub record ReadFails (mode : Mode) (hex : Bool) (sentinel : ℕ) (reading : Reach → List ℕ → Type 0) (writing : Fate → List ℕ → Type 0)
-    (says : List ℕ → Type 0) : Type 0 where
+pub record ReadFails (mode : Mode) (hex : Bool) (sentinel : ℕ) (reading : Reach → List ℕ → Type 0)
+    (writing : Fate → List ℕ → Type 0) (says : List ℕ → Type 0) : Type 0 where
   pub text : List ℕ
   pub out : List ℕ
   pub is : WritesGiven mode hex sentinel text out
@@ -161,13 +170,17 @@ pub record ReadFails (mode : Mode) (hex : Bool) (sentinel : ℕ) (reading : Reac
 -- What is to be written and said for a text, by how far it was read, where the writer may fail. Reading may stop there, with the
 -- lines of what was read by then to be written.
 abbrev pub IsToWrite : Mode → Bool → ℕ → Reach → List ℕ → List ℕ → List ℕ → Type 0
-IsToWrite mode hex sentinel ended text out said = ((status : ℕ) × Program mode hex sentinel text out said status) ⊎ Lacks mode hex sentinel ended text out said
-IsToWrite mode hex sentinel stopped text out said = Lacks mode hex sentinel stopped text out said ⊎ (WritesGiven mode hex sentinel text out × (said ≡ []))
-IsToWrite mode hex sentinel failed text out said = WritesGiven mode hex sentinel text out × (said ≡ [])
+IsToWrite mode hex sentinel ended text out said =
+    ((status : ℕ) × Program mode hex sentinel text out said status)
+    ⊎ Lacks mode hex sentinel ended text out said
+IsToWrite mode hex sentinel stopped text out said = Lacks mode hex sentinel stopped text out said
+    ⊎ (WritesGiven mode hex sentinel text out × (said ≡ []))
+IsToWrite mode hex sentinel failed text out said =
+    WritesGiven mode hex sentinel text out × (said ≡ [])
 
 -- A write failed: the writer has a beginning, and 'write failed' was said after what was said before.
-pub record WriteFails (mode : Mode) (hex : Bool) (sentinel : ℕ) (reading : Reach → List ℕ → Type 0) (writing : Fate → List ℕ → Type 0)
-    (says : List ℕ → Type 0) : Type 0 where
+pub record WriteFails (mode : Mode) (hex : Bool) (sentinel : ℕ) (reading : Reach → List ℕ → Type 0)
+    (writing : Fate → List ℕ → Type 0) (says : List ℕ → Type 0) : Type 0 where
   pub reach : Reach
   pub text : List ℕ
   pub out : List ℕ
@@ -178,8 +191,8 @@ pub record WriteFails (mode : Mode) (hex : Bool) (sentinel : ℕ) (reading : Rea
   pub told : says (said ++ write_failed)
 
 -- Memory ran out: what was answered by then went out, and 'no memory' was said after what was said before.
-pub record LacksMemory (mode : Mode) (hex : Bool) (sentinel : ℕ) (reading : Reach → List ℕ → Type 0) (writing : Fate → List ℕ → Type 0)
-    (says : List ℕ → Type 0) : Type 0 where
+pub record LacksMemory (mode : Mode) (hex : Bool) (sentinel : ℕ) (reading : Reach → List ℕ → Type 0)
+    (writing : Fate → List ℕ → Type 0) (says : List ℕ → Type 0) : Type 0 where
   pub reach : Reach
   pub text : List ℕ
   pub out : List ℕ
@@ -196,8 +209,8 @@ Says Unpack hex text said = IsNotHex hex text × (said ≡ bad_hex)
 Says Strict hex text said = IsNotHex hex text × (said ≡ bad_hex)
 
 -- Standard error failed while the refusals or 'bad hex' were said: nothing was written.
-pub record SaysInVain (mode : Mode) (hex : Bool) (reading : Reach → List ℕ → Type 0) (writing : Fate → List ℕ → Type 0)
-    (says : List ℕ → Type 0) : Type 0 where
+pub record SaysInVain (mode : Mode) (hex : Bool) (reading : Reach → List ℕ → Type 0)
+    (writing : Fate → List ℕ → Type 0) (says : List ℕ → Type 0) : Type 0 where
   pub text : List ℕ
   pub said : List ℕ
   pub is : Says mode hex text said
@@ -206,13 +219,18 @@ pub record SaysInVain (mode : Mode) (hex : Bool) (reading : Reach → List ℕ �
   pub told : says said
 
 -- Standard error failed, there or while the last line was said: it has a beginning of what was to be said.
-abbrev pub SayingFails : Mode → Bool → ℕ → (Reach → List ℕ → Type 0) → (Fate → List ℕ → Type 0) → (List ℕ → Type 0) → Type 0
+abbrev pub SayingFails : Mode → Bool → ℕ → (Reach → List ℕ → Type 0)
+    → (Fate → List ℕ → Type 0) → (List ℕ → Type 0) → Type 0
 SayingFails mode hex sentinel reading writing says =
-    SaysInVain mode hex reading writing says ⊎ (ReadFails mode hex sentinel reading writing says
-    ⊎ (WriteFails mode hex sentinel reading writing says ⊎ LacksMemory mode hex sentinel reading writing says))
+    SaysInVain mode hex reading writing says
+    ⊎ (ReadFails mode hex sentinel reading writing says
+    ⊎ (WriteFails mode hex sentinel reading writing says
+    ⊎ LacksMemory mode hex sentinel reading writing says))
 
 -- Status 3: the reader, the writer or standard error failed.
-abbrev pub Fails : Mode → Bool → ℕ → (Reach → List ℕ → Type 0) → (writing saying : Fate → List ℕ → Type 0) → Type 0
+abbrev pub Fails : Mode → Bool → ℕ → (Reach → List ℕ → Type 0)
+    → (writing saying : Fate → List ℕ → Type 0) → Type 0
 Fails mode hex sentinel reading writing saying =
     ReadFails mode hex sentinel reading writing (saying whole)
-    ⊎ (WriteFails mode hex sentinel reading writing (saying whole) ⊎ SayingFails mode hex sentinel reading writing (saying broken))
+    ⊎ (WriteFails mode hex sentinel reading writing (saying whole)
+    ⊎ SayingFails mode hex sentinel reading writing (saying broken))

@@ -65,7 +65,9 @@ pub record Sent (text rest : List ℕ) (done : List Send) : Type 0 where
   pub are : AreSendsOf seen done
 
 -- one more send by a sender
-abbrev pub Adds : {W : Type 0} → (W → Option (List ℕ)) → (W → ℕ) → Sender W 1024 → Sender W 1024 → Send → Type 0
+abbrev pub Adds : {W : Type 0} → (W → Option (List ℕ)) → (W → ℕ)
+    → Sender W 1024 → Sender W 1024 → Send → Type 0
 Adds told faults old new x =
-    Wrote (told (writer_of old)) (told (writer_of new)) (faults (writer_of old)) (faults (writer_of new)) (written (sentinel_of old) (clean_of old) x)
+    Wrote (told (writer_of old)) (told (writer_of new))
+    (faults (writer_of old)) (faults (writer_of new)) (written (sentinel_of old) (clean_of old) x)
     × (clean_of new ≡ clean_after (clean_of old) x) × (sentinel_of new ≡ sentinel_of old)

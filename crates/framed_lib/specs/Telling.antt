@@ -17,8 +17,10 @@ module _ {W : Type 0} (written : W → Option (List ℕ)) (faults calls_left : W
   -- These bytes are put behind what is held, unless a write failed before; and whether they are lines of values alone is known.
   pub record PutsLines (old new : Telling W) (bytes : List ℕ) (values : Bool) : Type 0 where
     pub good : new.good ≡ (old.good && values)
-    pub went : old.failed ≡ false → new.failed ≡ false → Puts written faults old.writer new.writer old.held.items new.held.items bytes
-    pub broke : old.failed ≡ false → new.failed ≡ true → Writing written faults calls_left old.writer new.writer broken (old.held.items ++ bytes)
+    pub went : old.failed ≡ false → new.failed ≡ false
+        → Puts written faults old.writer new.writer old.held.items new.held.items bytes
+    pub broke : old.failed ≡ false → new.failed ≡ true
+        → Writing written faults calls_left old.writer new.writer broken (old.held.items ++ bytes)
     pub silent : old.failed ≡ true → (new.failed ≡ true) × (new.writer ≡ old.writer)
 
   -- the lines of these answers are put
@@ -37,18 +39,22 @@ module _ {W : Type 0} (written : W → Option (List ℕ)) (faults calls_left : W
   no_both b e f = cc
 
   -- one answer's line
-  pub tells_one : {A : Type 0} (old new : Telling W) (answer : Answer (String A)) → PutsLines old new (answer_line answer) (has_value answer) → Tells old (answer ∷ []) new
+  pub tells_one : {A : Type 0} (old new : Telling W) (answer : Answer (String A))
+      → PutsLines old new (answer_line answer) (has_value answer) → Tells old (answer ∷ []) new
   tells_one old new answer h =
       subst (λ x. PutsLines old new x (has_value answer && true)) (sym (append-nil (answer_line answer)))
       (subst (λ b. PutsLines old new (answer_line answer) b) (and_true (has_value answer)) h)
 
   module _ {A : Type 0} (h k m : Telling W) (a b : List (Answer (String A))) (p : Tells h a k) (q : Tells k b m) where
-    went-more : (f : Bool) → k.failed ≡ f → h.failed ≡ false → m.failed ≡ false → Puts written faults h.writer m.writer h.held.items m.held.items (answer_lines (a ++ b))
+    went-more : (f : Bool) → k.failed ≡ f → h.failed ≡ false → m.failed ≡ false
+        → Puts written faults h.writer m.writer h.held.items m.held.items (answer_lines (a ++ b))
     went-more false e start end =
         subst (λ x. Puts written faults h.writer m.writer h.held.items m.held.items x) (sym (flat_map-append answer_line a b)) (put-then (p.went start e) (q.went e end))
     went-more true e start end = absurd (no_both m.failed (q.silent e).0 end)
 
-    broke-more : (f : Bool) → k.failed ≡ f → h.failed ≡ false → m.failed ≡ true → Writing written faults calls_left h.writer m.writer broken (h.held.items ++ answer_lines (a ++ b))
+    broke-more : (f : Bool) → k.failed ≡ f → h.failed ≡ false → m.failed ≡ true
+        → Writing written faults calls_left h.writer m.writer broken
+        (h.held.items ++ answer_lines (a ++ b))
     broke-more false e start end =
         subst (λ x. Writing written faults calls_left h.writer m.writer broken (h.held.items ++ x)) (sym (flat_map-append answer_line a b))
         (put-broke (answer_lines b) (p.went start e) (q.broke e end))

@@ -18,7 +18,9 @@ words_for mode true = mode_text mode ∷ codes "hex" ∷ []
 -- the word names the sentinel: two hexadecimal digits, of either case, stand for it
 abbrev pub NamesSentinel : ℕ → List ℕ → Type 0
 NamesSentinel sentinel word =
-    (digits : List ℕ) × (word ≡ codes "sentinel=" ++ digits) × (length digits ≡ 2) × (decode_of digits ≡ Ok (sentinel ∷ []))
+    (digits : List ℕ) × (word ≡ codes "sentinel=" ++ digits)
+    × (length digits ≡ 2)
+    × (decode_of digits ≡ Ok (sentinel ∷ []))
 
 -- The words for a mode, for hexadecimal text on the framed side or not, and for a sentinel: its word stands last, and no
 -- word means that it is zero.

@@ -34,16 +34,23 @@ abbrev pub Before : List ℕ → (List ℕ → Type 0) → List ℕ → Type 0
 Before line says bytes = (said : List ℕ) × (bytes ≡ said ++ line) × says said
 
 -- how the work ends: with a status, or with what is to be said last
-abbrev pub Worked : Mode → Bool → ℕ → (Reach → List ℕ → Type 0) → (writing saying : Fate → List ℕ → Type 0) → Result ℕ Stop → Type 0
-Worked mode hex sentinel reading writing saying (Ok status) = Finishes mode hex sentinel status reading writing saying
-Worked mode hex sentinel reading writing saying (Err stop.ReadFault) = ReadFails mode hex sentinel reading writing (Before read_failed (saying whole))
-Worked mode hex sentinel reading writing saying (Err stop.WriteFault) = WriteFails mode hex sentinel reading writing (Before write_failed (saying whole))
-Worked mode hex sentinel reading writing saying (Err stop.SayingFault) = SayingFails mode hex sentinel reading writing (saying broken)
-Worked mode hex sentinel reading writing saying (Err stop.NoMemory) = LacksMemory mode hex sentinel reading writing (Before no_memory (saying whole))
+abbrev pub Worked : Mode → Bool → ℕ → (Reach → List ℕ → Type 0)
+    → (writing saying : Fate → List ℕ → Type 0) → Result ℕ Stop → Type 0
+Worked mode hex sentinel reading writing saying (Ok status) =
+    Finishes mode hex sentinel status reading writing saying
+Worked mode hex sentinel reading writing saying (Err stop.ReadFault) =
+    ReadFails mode hex sentinel reading writing (Before read_failed (saying whole))
+Worked mode hex sentinel reading writing saying (Err stop.WriteFault) =
+    WriteFails mode hex sentinel reading writing (Before write_failed (saying whole))
+Worked mode hex sentinel reading writing saying (Err stop.SayingFault) =
+    SayingFails mode hex sentinel reading writing (saying broken)
+Worked mode hex sentinel reading writing saying (Err stop.NoMemory) =
+    LacksMemory mode hex sentinel reading writing (Before no_memory (saying whole))
 
 -- The line was said, with a status; or standard error failed.
 abbrev pub SaysLast : (Fate → List ℕ → Type 0) → List ℕ → ℕ → ℕ → Type 0
-SaysLast saying line planned status = ((status ≡ planned) × saying whole line) ⊎ ((status ≡ 3) × saying broken line)
+SaysLast saying line planned status =
+    ((status ≡ planned) × saying whole line) ⊎ ((status ≡ 3) × saying broken line)
 
 -- what is said last of how the work ended, and the status then: nothing where the work is done or standard error failed
 abbrev pub Reports : {D : Type 0} → D → D → (Fate → List ℕ → Type 0) → Result ℕ Stop → ℕ → Type 0
@@ -80,9 +87,14 @@ unless_fault NoMemory answers = answers
 -- What comes of a stream in memory: how the work ends, and what is written.
 abbrev pub AnswersStream : Bool → ℕ → List ℕ → (Fate → List ℕ → Type 0) → Result ℕ Stop → Type 0
 AnswersStream strict sentinel stream writing (Ok status) =
-    (verdicts : List Verdict) × AreAnswers strict sentinel ended stream verdicts × (status ≡ (if list_all is_value verdicts then 0 else 1)) × writing whole (lines_of verdicts)
+    (verdicts : List Verdict) × AreAnswers strict sentinel ended stream verdicts
+    × (status ≡ (if list_all is_value verdicts then 0 else 1)) × writing whole (lines_of verdicts)
 AnswersStream strict sentinel stream writing (Err stop.WriteFault) =
-    (out : List ℕ) × (((verdicts : List Verdict) × AreAnswers strict sentinel ended stream verdicts × (out ≡ lines_of verdicts)) ⊎ WritesFirst strict sentinel stream out) × writing broken out
-AnswersStream strict sentinel stream writing (Err stop.NoMemory) = (out : List ℕ) × ((out ≡ []) ⊎ WritesFirst strict sentinel stream out) × writing whole out
+    (out : List ℕ) × (((verdicts : List Verdict) × AreAnswers strict sentinel ended stream verdicts
+    × (out ≡ lines_of verdicts))
+    ⊎ WritesFirst strict sentinel stream out)
+    × writing broken out
+AnswersStream strict sentinel stream writing (Err stop.NoMemory) =
+    (out : List ℕ) × ((out ≡ []) ⊎ WritesFirst strict sentinel stream out) × writing whole out
 AnswersStream strict sentinel stream writing (Err stop.ReadFault) = ⊥
 AnswersStream strict sentinel stream writing (Err stop.SayingFault) = ⊥

@@ -17,8 +17,10 @@ pub fn receive_texts<R: Inlet>(
     sentinel: u8,
     reader: R,
 ) -> Received<String, R>
-    ensures { (bytes : List ℕ) × HasRead (R.to_come reader) (R.to_come result.reader) (R.faults reader) (R.faults result.reader) (R.calls_left result.reader) result.end bytes
-        × IsReceived (holds_text strict) reads_text 1024 sentinel result.end result.answers.items bytes }
+    ensures { (bytes : List ℕ) × HasRead (R.to_come reader) (R.to_come result.reader)
+        (R.faults reader) (R.faults result.reader) (R.calls_left result.reader) result.end bytes
+        × IsReceived (holds_text strict) reads_text 1024 sentinel
+        result.end result.answers.items bytes }
 {
     if strict {
         return receive_strict_with_sentinel::<String, R, 1024>(alloc, reader, sentinel);
@@ -34,8 +36,10 @@ pub fn hand_texts<R: Inlet, H: Hearer<String>>(
     reader: &mut R,
     hearer: &mut H,
 ) -> Option<End>
-    ensures received { (bytes : List ℕ) × HasReadNow (R.to_come reader.old) (R.to_come reader.new) (R.faults reader.old) (R.faults reader.new) (R.calls_left reader.new) result bytes
-        × Handed H.hears hearer.old hearer.new (λ answers. IsReceivedNow (holds_text strict) reads_text 1024 sentinel result answers bytes) }
+    ensures received { (bytes : List ℕ) × HasReadNow (R.to_come reader.old) (R.to_come reader.new)
+        (R.faults reader.old) (R.faults reader.new) (R.calls_left reader.new) result bytes
+        × Handed H.hears hearer.old hearer.new (λ answers. IsReceivedNow (holds_text strict)
+        reads_text 1024 sentinel result answers bytes) }
     ensures enough { result ≡ None → H.enough hearer.new ≡ true }
 {
     if strict {

@@ -40,8 +40,10 @@ fn sentinel_of(word: &str) -> Option<u8>
 /// `pack`, `unpack` or `strict`, then `hex` or nothing, and then a word like `sentinel=0a` or nothing, which means zero.
 /// `None` where they are other words.
 pub fn arguments(words: &[String]) -> Option<(Mode, bool, u8)>
-    ensures some { IfSome result (λ found. AreWordsFor found.0 found.1 found.2 (map string_bytes words.now)) }
-    ensures none { IfNone result ((mode : Mode) (hex : Bool) (sentinel : ℕ) → AreWordsFor mode hex sentinel (map string_bytes words.now) → ⊥) }
+    ensures some { IfSome result
+        (λ found. AreWordsFor found.0 found.1 found.2 (map string_bytes words.now)) }
+    ensures none { IfNone result ((mode : Mode) (hex : Bool) (sentinel : ℕ)
+        → AreWordsFor mode hex sentinel (map string_bytes words.now) → ⊥) }
 {
     match words {
         [mode] => Some((mode_of(mode.as_str())?, false, 0)),

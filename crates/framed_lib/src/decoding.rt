@@ -11,9 +11,13 @@ const AT_ONCE: usize = 2048;
 fn decode_some(digits: &mut [u8], at: usize, count: usize, room: &mut [u8]) -> bool
     requires within { 2 * (at + count) ≤ length digits.old }
     requires room { count ≤ length room.old }
-    ensures ok { IsTrue result → (bytes : List ℕ) × (decode_pairs 0 (take (2 * count) (drop (2 * at) digits.old)) ≡ Ok bytes) × (length bytes ≡ count)
+    ensures ok { IsTrue result
+        → (bytes : List ℕ)
+        × (decode_pairs 0 (take (2 * count) (drop (2 * at) digits.old)) ≡ Ok bytes)
+        × (length bytes ≡ count)
         × (digits.new ≡ (take at digits.old ++ bytes) ++ drop (at + count) digits.old) }
-    ensures bad { result ≡ false → IsErr (decode_pairs 0 (take (2 * count) (drop (2 * at) digits.old))) }
+    ensures bad { result ≡ false
+        → IsErr (decode_pairs 0 (take (2 * count) (drop (2 * at) digits.old))) }
     ensures same { length digits.new ≡ length digits.old }
     ensures same_room { length room.new ≡ length room.old }
 {
@@ -28,7 +32,8 @@ fn decode_some(digits: &mut [u8], at: usize, count: usize, room: &mut [u8]) -> b
 /// Puts the bytes of digits at their front, and says whether they are digits. The caller owes an even number of them.
 fn decode_front(digits: &mut [u8]) -> bool
     requires { length digits.old % 2 ≡ 0 }
-    ensures ok { IsTrue result → decode_pairs 0 digits.old ≡ Ok (take (length digits.old / 2) digits.new) }
+    ensures ok { IsTrue result
+        → decode_pairs 0 digits.old ≡ Ok (take (length digits.old / 2) digits.new) }
     ensures bad { result ≡ false → IsErr (decode_pairs 0 digits.old) }
     ensures same { length digits.new ≡ length digits.old }
 {
@@ -50,7 +55,8 @@ fn decode_front(digits: &mut [u8]) -> bool
 fn decode_first(text: &mut [u8], count: usize) -> bool
     requires within { count ≤ length text.old }
     requires even { count % 2 ≡ 0 }
-    ensures ok { IsTrue result → decode_pairs 0 (take count text.old) ≡ Ok (take (count / 2) text.new) }
+    ensures ok { IsTrue result
+        → decode_pairs 0 (take count text.old) ≡ Ok (take (count / 2) text.new) }
     ensures bad { result ≡ false → IsErr (decode_pairs 0 (take count text.old)) }
 {
     decode_front(&mut text[..count])

@@ -14,8 +14,10 @@ pub struct WriteFault;
 
 /// Writes the bytes.
 pub fn write_whole<W: Outlet>(outlet: &mut W, bytes: &[u8]) -> Result<(), WriteFault>
-    ensures ok { OnOk result (Writing W.written W.faults W.calls_left outlet.old outlet.new whole bytes.now) }
-    ensures err { OnErr result (Writing W.written W.faults W.calls_left outlet.old outlet.new broken bytes.now) }
+    ensures ok { OnOk result
+        (Writing W.written W.faults W.calls_left outlet.old outlet.new whole bytes.now) }
+    ensures err { OnErr result
+        (Writing W.written W.faults W.calls_left outlet.old outlet.new broken bytes.now) }
 {
     let mut rest = bytes;
     while !rest.is_empty() {
@@ -31,7 +33,8 @@ pub fn write_whole<W: Outlet>(outlet: &mut W, bytes: &[u8]) -> Result<(), WriteF
 
 /// Uses up the calls that an outlet still answers, or meets a fault of it: then it has failed, before any byte went out.
 pub fn use_up<W: Outlet>(outlet: &mut W)
-    ensures { (bytes : List ℕ) → 0 < length bytes → Writing W.written W.faults W.calls_left outlet.old outlet.new broken bytes }
+    ensures { (bytes : List ℕ) → 0 < length bytes
+        → Writing W.written W.faults W.calls_left outlet.old outlet.new broken bytes }
 {
     while outlet.write(&[]).is_some() {}
 }
@@ -50,10 +53,13 @@ pub enum End {
 /// Reads all there is into an empty vector. Where memory runs out, the vector has a front of what was read.
 pub fn read_whole<R: Inlet>(inlet: &mut R, bytes: &mut Vec<u8>) -> End
     requires { bytes.old.items ≡ [] }
-    ensures ended { result ≡ Ended → Reading R.to_come R.faults R.calls_left inlet.old inlet.new ended bytes.new.items }
-    ensures failed { result ≡ ReadFault → Reading R.to_come R.faults R.calls_left inlet.old inlet.new failed bytes.new.items }
+    ensures ended { result ≡ Ended
+        → Reading R.to_come R.faults R.calls_left inlet.old inlet.new ended bytes.new.items }
+    ensures failed { result ≡ ReadFault
+        → Reading R.to_come R.faults R.calls_left inlet.old inlet.new failed bytes.new.items }
     ensures memory { result ≡ NoMemory → (lost : List ℕ)
-        × Reading R.to_come R.faults R.calls_left inlet.old inlet.new stopped (bytes.new.items ++ lost) }
+        × Reading R.to_come R.faults R.calls_left inlet.old inlet.new stopped
+        (bytes.new.items ++ lost) }
 {
     let mut room = [0u8; ROOM];
     loop {

@@ -12,8 +12,10 @@ const AT_ONCE: usize = 16384;
 /// Writes the digits of a few bytes, by way of the room.
 fn write_few<W: Outlet>(writer: &mut W, bytes: &[u8], room: &mut [u8]) -> Result<(), WriteFault>
     requires { 2 * length bytes.now ≤ length room.old }
-    ensures ok { OnOk result (Writing W.written W.faults W.calls_left writer.old writer.new whole (encode_lower bytes.now)) }
-    ensures err { OnErr result (Writing W.written W.faults W.calls_left writer.old writer.new broken (encode_lower bytes.now)) }
+    ensures ok { OnOk result (Writing W.written W.faults W.calls_left writer.old writer.new whole
+        (encode_lower bytes.now)) }
+    ensures err { OnErr result (Writing W.written W.faults W.calls_left writer.old writer.new broken
+        (encode_lower bytes.now)) }
 {
     let digits = &mut room[..2 * bytes.len()];
     match hex::encode_to_slice(bytes, digits) {
@@ -24,8 +26,10 @@ fn write_few<W: Outlet>(writer: &mut W, bytes: &[u8], room: &mut [u8]) -> Result
 
 /// Writes the hexadecimal digits of the bytes, in lower case.
 fn write_digits<W: Outlet>(writer: &mut W, bytes: &[u8]) -> Result<(), WriteFault>
-    ensures ok { OnOk result (Writing W.written W.faults W.calls_left writer.old writer.new whole (encode_lower bytes.now)) }
-    ensures err { OnErr result (Writing W.written W.faults W.calls_left writer.old writer.new broken (encode_lower bytes.now)) }
+    ensures ok { OnOk result (Writing W.written W.faults W.calls_left writer.old writer.new whole
+        (encode_lower bytes.now)) }
+    ensures err { OnErr result (Writing W.written W.faults W.calls_left writer.old writer.new broken
+        (encode_lower bytes.now)) }
 {
     let mut room = [0u8; 2 * AT_ONCE];
     let mut rest = bytes;
@@ -39,8 +43,10 @@ fn write_digits<W: Outlet>(writer: &mut W, bytes: &[u8]) -> Result<(), WriteFaul
 
 /// Writes some of the framed bytes: as they are, or as hexadecimal digits.
 pub fn write_part<W: Outlet>(writer: &mut W, hex: bool, bytes: &[u8]) -> Result<(), WriteFault>
-    ensures ok { OnOk result (Writing W.written W.faults W.calls_left writer.old writer.new whole (shown hex bytes.now)) }
-    ensures err { OnErr result (Writing W.written W.faults W.calls_left writer.old writer.new broken (shown hex bytes.now)) }
+    ensures ok { OnOk result (Writing W.written W.faults W.calls_left writer.old writer.new whole
+        (shown hex bytes.now)) }
+    ensures err { OnErr result (Writing W.written W.faults W.calls_left writer.old writer.new broken
+        (shown hex bytes.now)) }
 {
     if !hex {
         return write_whole(writer, bytes);
@@ -50,8 +56,10 @@ pub fn write_part<W: Outlet>(writer: &mut W, hex: bool, bytes: &[u8]) -> Result<
 
 /// Writes what stands behind all framed bytes: the line feed behind hexadecimal digits.
 pub fn write_end<W: Outlet>(writer: &mut W, hex: bool) -> Result<(), WriteFault>
-    ensures ok { OnOk result (Writing W.written W.faults W.calls_left writer.old writer.new whole (shown_end hex)) }
-    ensures err { OnErr result (Writing W.written W.faults W.calls_left writer.old writer.new broken (shown_end hex)) }
+    ensures ok { OnOk result
+        (Writing W.written W.faults W.calls_left writer.old writer.new whole (shown_end hex)) }
+    ensures err { OnErr result
+        (Writing W.written W.faults W.calls_left writer.old writer.new broken (shown_end hex)) }
 {
     let end: &[u8] = if hex { b"\n" } else { b"" };
     write_whole(writer, end)

@@ -28,8 +28,10 @@ fn split_at_escape(text: &[u8]) -> Option<(&[u8], &[u8], &[u8])>
 
 /// Puts the text, with a backslash before each backslash, and each line feed as `\n`.
 fn put_escaped<W: Outlet>(outlet: &mut W, held: &mut Held, text: &[u8]) -> Result<(), WriteFault>
-    ensures ok { OnOk result (Puts W.written W.faults outlet.old outlet.new held.old.items held.new.items (flat_map escape text.now)) }
-    ensures err { OnErr result (Writing W.written W.faults W.calls_left outlet.old outlet.new broken (held.old.items ++ flat_map escape text.now)) }
+    ensures ok { OnOk result (Puts W.written W.faults outlet.old outlet.new
+        held.old.items held.new.items (flat_map escape text.now)) }
+    ensures err { OnErr result (Writing W.written W.faults W.calls_left outlet.old outlet.new broken
+        (held.old.items ++ flat_map escape text.now)) }
 {
     let mut rest = text;
     while let Some((run, escaped, after)) = split_at_escape(rest) {
@@ -42,8 +44,10 @@ fn put_escaped<W: Outlet>(outlet: &mut W, held: &mut Held, text: &[u8]) -> Resul
 
 /// Puts the line of a text.
 fn put_value<W: Outlet>(outlet: &mut W, held: &mut Held, text: &[u8]) -> Result<(), WriteFault>
-    ensures ok { OnOk result (Puts W.written W.faults outlet.old outlet.new held.old.items held.new.items (value_line text.now)) }
-    ensures err { OnErr result (Writing W.written W.faults W.calls_left outlet.old outlet.new broken (held.old.items ++ value_line text.now)) }
+    ensures ok { OnOk result (Puts W.written W.faults outlet.old outlet.new
+        held.old.items held.new.items (value_line text.now)) }
+    ensures err { OnErr result (Writing W.written W.faults W.calls_left outlet.old outlet.new broken
+        (held.old.items ++ value_line text.now)) }
 {
     put(outlet, held, b"value ")?;
     put_escaped(outlet, held, text)?;
@@ -56,8 +60,10 @@ pub fn put_answer<W: Outlet>(
     held: &mut Held,
     answer: &Answer<String>,
 ) -> Result<(), WriteFault>
-    ensures ok { OnOk result (Puts W.written W.faults outlet.old outlet.new held.old.items held.new.items (answer_line answer.now)) }
-    ensures err { OnErr result (Writing W.written W.faults W.calls_left outlet.old outlet.new broken (held.old.items ++ answer_line answer.now)) }
+    ensures ok { OnOk result (Puts W.written W.faults outlet.old outlet.new
+        held.old.items held.new.items (answer_line answer.now)) }
+    ensures err { OnErr result (Writing W.written W.faults W.calls_left outlet.old outlet.new broken
+        (held.old.items ++ answer_line answer.now)) }
 {
     match answer {
         Answer::Value(text) => put_value(outlet, held, text.as_bytes()),
@@ -73,8 +79,10 @@ fn put_answers<W: Outlet>(
     held: &mut Held,
     answers: &[Answer<String>],
 ) -> Result<(), WriteFault>
-    ensures ok { OnOk result (Puts W.written W.faults outlet.old outlet.new held.old.items held.new.items (answer_lines answers.now)) }
-    ensures err { OnErr result (Writing W.written W.faults W.calls_left outlet.old outlet.new broken (held.old.items ++ answer_lines answers.now)) }
+    ensures ok { OnOk result (Puts W.written W.faults outlet.old outlet.new
+        held.old.items held.new.items (answer_lines answers.now)) }
+    ensures err { OnErr result (Writing W.written W.faults W.calls_left outlet.old outlet.new broken
+        (held.old.items ++ answer_lines answers.now)) }
 {
     let mut rest = answers;
     while let Some((answer, after)) = rest.split_first() {
@@ -89,8 +97,10 @@ pub fn write_answers<W: Outlet>(
     writer: &mut W,
     answers: &[Answer<String>],
 ) -> Result<(), WriteFault>
-    ensures ok { OnOk result (Writing W.written W.faults W.calls_left writer.old writer.new whole (answer_lines answers.now)) }
-    ensures err { OnErr result (Writing W.written W.faults W.calls_left writer.old writer.new broken (answer_lines answers.now)) }
+    ensures ok { OnOk result (Writing W.written W.faults W.calls_left writer.old writer.new whole
+        (answer_lines answers.now)) }
+    ensures err { OnErr result (Writing W.written W.faults W.calls_left writer.old writer.new broken
+        (answer_lines answers.now)) }
 {
     let mut held: Held = ArrayVec::new();
     put_answers(writer, &mut held, answers)?;

@@ -40,8 +40,10 @@ fn write_held<W: Outlet>(
     ensures bytes { collected_bytes (writer_of sender.new) ≡ [] }
     ensures clean { clean_of sender.new ≡ clean_of sender.old }
     ensures sentinel { sentinel_of sender.new ≡ sentinel_of sender.old }
-    ensures ok { OnOk result (Writing W.written W.faults W.calls_left writer.old writer.new whole (shown hex (collected_bytes (writer_of sender.old)))) }
-    ensures err { OnErr result (Writing W.written W.faults W.calls_left writer.old writer.new broken (shown hex (collected_bytes (writer_of sender.old)))) }
+    ensures ok { OnOk result (Writing W.written W.faults W.calls_left writer.old writer.new whole
+        (shown hex (collected_bytes (writer_of sender.old)))) }
+    ensures err { OnErr result (Writing W.written W.faults W.calls_left writer.old writer.new broken
+        (shown hex (collected_bytes (writer_of sender.old)))) }
 {
     let mut bytes = sender.replace_inner(Collected::over(spare)).into_bytes();
     write_part(writer, hex, &bytes)?;
@@ -64,9 +66,11 @@ fn write_frames<W: Outlet>(
     requires room { room.items ≡ [] }
     requires spare { spare.items ≡ [] }
     ensures ok { OnOk result ((sends : List Send) → AreSendsOf (lines_in text.now) sends
-        → Writing W.written W.faults W.calls_left writer.old writer.new whole (framed_text hex (session_line sentinel false sends))) }
+        → Writing W.written W.faults W.calls_left writer.old writer.new whole
+        (framed_text hex (session_line sentinel false sends))) }
     ensures err { OnErr result ((sends : List Send) → AreSendsOf (lines_in text.now) sends
-        → Writing W.written W.faults W.calls_left writer.old writer.new broken (framed_text hex (session_line sentinel false sends))) }
+        → Writing W.written W.faults W.calls_left writer.old writer.new broken
+        (framed_text hex (session_line sentinel false sends))) }
 {
     let mut sender = Lines::new_with_sentinel(Collected::over(room), sentinel);
     let mut spare = spare;
@@ -97,7 +101,8 @@ fn pack_text<W: Outlet, E: Outlet>(
 ) -> Result<u8, Stop>
     requires room { room.items ≡ [] }
     requires spare { spare.items ≡ [] }
-    ensures { Worked Pack hex sentinel (IsWhole text.now) (Writing W.written W.faults W.calls_left writer.old writer.new)
+    ensures { Worked Pack hex sentinel
+        (IsWhole text.now) (Writing W.written W.faults W.calls_left writer.old writer.new)
         (Writing E.written E.faults E.calls_left faults.old faults.new) result }
 {
     let good = match say_refusals(text, faults) {
@@ -119,7 +124,8 @@ pub fn pack<R: Inlet, W: Outlet, E: Outlet>(
     writer: &mut W,
     faults: &mut E,
 ) -> Result<u8, Stop>
-    ensures { Worked Pack hex sentinel (Reading R.to_come R.faults R.calls_left reader.old reader.new)
+    ensures { Worked Pack hex sentinel
+        (Reading R.to_come R.faults R.calls_left reader.old reader.new)
         (Writing W.written W.faults W.calls_left writer.old writer.new)
         (Writing E.written E.faults E.calls_left faults.old faults.new) result }
 {

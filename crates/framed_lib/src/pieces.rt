@@ -6,7 +6,8 @@ use memchr::memchr;
 
 /// The bytes before the first one that is `mark`, and those after it.
 pub fn split_at_mark(bytes: &[u8], mark: u8) -> Option<(&[u8], &[u8])>
-    ensures { MatchOption result (Lacks mark bytes.now) (λ p. (bytes.now ≡ p.0.now ++ (mark ∷ p.1.now)) × Lacks mark p.0.now) }
+    ensures { MatchOption result (Lacks mark bytes.now)
+        (λ p. (bytes.now ≡ p.0.now ++ (mark ∷ p.1.now)) × Lacks mark p.0.now) }
 {
     match memchr(mark, bytes) {
         Some(at) => Some((&bytes[..at], &bytes[at + 1..])),
@@ -16,7 +17,8 @@ pub fn split_at_mark(bytes: &[u8], mark: u8) -> Option<(&[u8], &[u8])>
 
 /// The first line of a text, and the text behind it.
 pub fn next_line(text: &[u8]) -> Option<(&[u8], &[u8])>
-    ensures { MatchOption result (text.now ≡ []) (λ p. (lines_in text.now ≡ p.0.now ∷ lines_in p.1.now) × (length p.1.now < length text.now)) }
+    ensures { MatchOption result (text.now ≡ []) (λ p.
+        (lines_in text.now ≡ p.0.now ∷ lines_in p.1.now) × (length p.1.now < length text.now)) }
 {
     if text.is_empty() {
         return None;

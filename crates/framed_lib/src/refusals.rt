@@ -15,8 +15,10 @@ use line_io::Outlet;
 
 /// Says that the line with this number is refused.
 fn refuse<E: Outlet>(faults: &mut E, held: &mut Held, number: usize) -> Result<(), WriteFault>
-    ensures ok { OnOk result (Puts E.written E.faults faults.old faults.new held.old.items held.new.items (refusal number)) }
-    ensures err { OnErr result (Writing E.written E.faults E.calls_left faults.old faults.new broken (held.old.items ++ refusal number)) }
+    ensures ok { OnOk result (Puts E.written E.faults faults.old faults.new
+        held.old.items held.new.items (refusal number)) }
+    ensures err { OnErr result (Writing E.written E.faults E.calls_left faults.old faults.new broken
+        (held.old.items ++ refusal number)) }
 {
     put(faults, held, b"line ")?;
     put(faults, held, Buffer::new().format(number).as_bytes())?;
@@ -31,9 +33,11 @@ fn judge_line<E: Outlet>(
     held: &mut Held,
 ) -> Result<bool, WriteFault>
     ensures ok { IfOk result (λ sendable. (x : Send) × IsSendOf line.now x × (sendable ≡ is_whole x)
-        × Puts E.written E.faults faults.old faults.new held.old.items held.new.items (said_of number x)) }
+        × Puts E.written E.faults faults.old faults.new held.old.items held.new.items
+        (said_of number x)) }
     ensures err { OnErr result ((x : Send) × IsSendOf line.now x
-        × Writing E.written E.faults E.calls_left faults.old faults.new broken (held.old.items ++ said_of number x)) }
+        × Writing E.written E.faults E.calls_left faults.old faults.new broken
+        (held.old.items ++ said_of number x)) }
 {
     if is_sendable(line) {
         return Ok(true);
@@ -45,9 +49,11 @@ fn judge_line<E: Outlet>(
 /// Says which lines of the text are refused. Answers whether none is.
 fn judge_lines<E: Outlet>(text: &[u8], faults: &mut E, held: &mut Held) -> Result<bool, WriteFault>
     requires held { held.old.items ≡ [] }
-    ensures ok { IfOk result (λ good. (sends : List Send) × AreSendsOf (lines_in text.now) sends × (good ≡ all_sent sends)
+    ensures ok { IfOk result (λ good. (sends : List Send) × AreSendsOf (lines_in text.now) sends
+        × (good ≡ all_sent sends)
         × Puts E.written E.faults faults.old faults.new [] held.new.items (refusals 1 sends)) }
-    ensures err { OnErr result ((said : List ℕ) × SaysFirst text.now said × Writing E.written E.faults E.calls_left faults.old faults.new broken said) }
+    ensures err { OnErr result ((said : List ℕ) × SaysFirst text.now said
+        × Writing E.written E.faults E.calls_left faults.old faults.new broken said) }
 {
     let mut rest = text;
     let mut lines = 0;
@@ -63,9 +69,11 @@ fn judge_lines<E: Outlet>(text: &[u8], faults: &mut E, held: &mut Held) -> Resul
 
 /// Says which lines of the text are refused, before any is sent. Answers whether none is.
 pub fn say_refusals<E: Outlet>(text: &[u8], faults: &mut E) -> Result<bool, WriteFault>
-    ensures ok { IfOk result (λ good. (sends : List Send) × AreSendsOf (lines_in text.now) sends × (good ≡ all_sent sends)
+    ensures ok { IfOk result (λ good. (sends : List Send) × AreSendsOf (lines_in text.now) sends
+        × (good ≡ all_sent sends)
         × Writing E.written E.faults E.calls_left faults.old faults.new whole (refusals 1 sends)) }
-    ensures err { OnErr result ((said : List ℕ) × SaysFirst text.now said × Writing E.written E.faults E.calls_left faults.old faults.new broken said) }
+    ensures err { OnErr result ((said : List ℕ) × SaysFirst text.now said
+        × Writing E.written E.faults E.calls_left faults.old faults.new broken said) }
 {
     let mut held: Held = ArrayVec::new();
     let good = judge_lines(text, faults, &mut held)?;

@@ -103,7 +103,8 @@ fn work<R: Inlet, W: Outlet, E: Outlet>(
 
 /// Says why the work ended early, and gives the status.
 fn report<E: Outlet>(faults: &mut E, worked: Result<u8, Stop>) -> u8
-    ensures { Reports faults.old faults.new (Writing E.written E.faults E.calls_left faults.old faults.new) worked result }
+    ensures { Reports faults.old faults.new
+        (Writing E.written E.faults E.calls_left faults.old faults.new) worked result }
 {
     match worked {
         Ok(status) => status,
@@ -116,7 +117,8 @@ fn report<E: Outlet>(faults: &mut E, worked: Result<u8, Stop>) -> u8
 
 /// Says the last line, and gives the status.
 fn say_last<E: Outlet>(faults: &mut E, line: &[u8], status: u8) -> u8
-    ensures { SaysLast (Writing E.written E.faults E.calls_left faults.old faults.new) line.now status result }
+    ensures { SaysLast
+        (Writing E.written E.faults E.calls_left faults.old faults.new) line.now status result }
 {
     match write_whole(faults, line) {
         Ok(()) => status,

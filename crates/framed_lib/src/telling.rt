@@ -25,8 +25,10 @@ pub struct Telling<W> {
 
 /// Writes what is held, which is nothing then.
 fn flush<W: Outlet>(writer: &mut W, held: &mut Held) -> Result<(), WriteFault>
-    ensures ok { OnOk result (Puts W.written W.faults writer.old writer.new held.old.items held.new.items []) }
-    ensures err { OnErr result (Writing W.written W.faults W.calls_left writer.old writer.new broken (held.old.items ++ [])) }
+    ensures ok { OnOk result
+        (Puts W.written W.faults writer.old writer.new held.old.items held.new.items []) }
+    ensures err { OnErr result (Writing W.written W.faults W.calls_left writer.old writer.new broken
+        (held.old.items ++ [])) }
 {
     write_whole(writer, held.as_slice())?;
     held.clear();
@@ -35,9 +37,11 @@ fn flush<W: Outlet>(writer: &mut W, held: &mut Held) -> Result<(), WriteFault>
 
 /// Writes what is held, unless a write failed before.
 pub fn write_rest<W: Outlet>(writer: &mut W, failed: bool, held: &Held) -> Result<(), WriteFault>
-    ensures ok { OnOk result ((failed ≡ false) × Writing W.written W.faults W.calls_left writer.old writer.new whole held.now.items) }
+    ensures ok { OnOk result ((failed ≡ false)
+        × Writing W.written W.faults W.calls_left writer.old writer.new whole held.now.items) }
     ensures err { OnErr result (((failed ≡ true) × (writer.new ≡ writer.old))
-        ⊎ ((failed ≡ false) × Writing W.written W.faults W.calls_left writer.old writer.new broken held.now.items)) }
+        ⊎ ((failed ≡ false)
+        × Writing W.written W.faults W.calls_left writer.old writer.new broken held.now.items)) }
 {
     if failed {
         return Err(WriteFault);
@@ -48,7 +52,8 @@ pub fn write_rest<W: Outlet>(writer: &mut W, failed: bool, held: &Held) -> Resul
 impl<W: Outlet> Telling<W> {
     /// Puts the line of an answer.
     fn tell(&mut self, answer: &Answer<String>)
-        ensures { PutsLines W.written W.faults W.calls_left self.old self.new (answer_line answer.now) (has_value answer.now) }
+        ensures { PutsLines W.written W.faults W.calls_left self.old self.new
+            (answer_line answer.now) (has_value answer.now) }
     {
         if !is_value(answer) {
             self.good = false;

@@ -50,7 +50,8 @@ fn unpack_bytes<R: Inlet, W: Outlet>(
     reader: R,
     writer: W,
 ) -> (R, W, Result<u8, Stop>)
-    ensures { Worked (unpacking strict) false sentinel (Reading R.to_come R.faults R.calls_left reader result.0)
+    ensures { Worked (unpacking strict) false sentinel
+        (Reading R.to_come R.faults R.calls_left reader result.0)
         (Writing W.written W.faults W.calls_left writer result.1) says_nothing result.2 }
 {
     let mut reader = reader;
@@ -93,7 +94,8 @@ fn unpack_stream<W: Outlet>(
     stream: &[u8],
     writer: &mut W,
 ) -> Result<u8, Stop>
-    ensures { AnswersStream strict sentinel stream.now (Writing W.written W.faults W.calls_left writer.old writer.new) result }
+    ensures { AnswersStream strict sentinel stream.now
+        (Writing W.written W.faults W.calls_left writer.old writer.new) result }
 {
     let device = In::new(stream, usize::MAX, None);
     let Received {
@@ -115,7 +117,8 @@ fn unpack_digits<W: Outlet, E: Outlet>(
     writer: &mut W,
     faults: &mut E,
 ) -> Result<u8, Stop>
-    ensures { Worked (unpacking strict) true sentinel (IsWhole text.items) (Writing W.written W.faults W.calls_left writer.old writer.new)
+    ensures { Worked (unpacking strict) true sentinel
+        (IsWhole text.items) (Writing W.written W.faults W.calls_left writer.old writer.new)
         (Writing E.written E.faults E.calls_left faults.old faults.new) result }
 {
     if !decode_hex(&mut text) {
@@ -136,7 +139,8 @@ fn unpack_hex<R: Inlet, W: Outlet, E: Outlet>(
     writer: &mut W,
     faults: &mut E,
 ) -> Result<u8, Stop>
-    ensures { Worked (unpacking strict) true sentinel (Reading R.to_come R.faults R.calls_left reader.old reader.new)
+    ensures { Worked (unpacking strict) true sentinel
+        (Reading R.to_come R.faults R.calls_left reader.old reader.new)
         (Writing W.written W.faults W.calls_left writer.old writer.new)
         (Writing E.written E.faults E.calls_left faults.old faults.new) result }
 {
@@ -158,7 +162,8 @@ pub fn unpack<R: Inlet, W: Outlet, E: Outlet>(
     writer: W,
     faults: &mut E,
 ) -> (R, W, Result<u8, Stop>)
-    ensures { Worked (unpacking strict) hex sentinel (Reading R.to_come R.faults R.calls_left reader result.0)
+    ensures { Worked (unpacking strict) hex sentinel
+        (Reading R.to_come R.faults R.calls_left reader result.0)
         (Writing W.written W.faults W.calls_left writer result.1)
         (Writing E.written E.faults E.calls_left faults.old faults.new) result.2 }
 {

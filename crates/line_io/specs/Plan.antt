@@ -30,7 +30,8 @@ step_fault (Some (suc before, kind)) most = Some (suc before - min most (suc bef
 abbrev pub planned_answer : Plan → ℕ → ℕ → ℕ → Option ℕ
 planned_answer plan zero left asked = None
 planned_answer plan (suc calls) left zero = Some 0
-planned_answer plan (suc calls) left (suc asked) = step_answer plan.fault (min (min (suc asked) plan.each) left)
+planned_answer plan (suc calls) left (suc asked) =
+    step_answer plan.fault (min (min (suc asked) plan.each) left)
 
 -- the plan after that call
 abbrev pub plan_after : Plan → ℕ → ℕ → ℕ → Plan

@@ -12,7 +12,8 @@ pub record WentOut (old new : Option (List ℕ)) (before after : ℕ) (bytes : L
   pub quiet : after ≡ before
 
 -- A front of the bytes went out that isn't all of them, and then the device failed.
-pub record BrokeOff (old new : Option (List ℕ)) (before after calls_left : ℕ) (bytes : List ℕ) : Type 0 where
+pub record BrokeOff (old new : Option (List ℕ)) (before after calls_left : ℕ)
+    (bytes : List ℕ) : Type 0 where
   pub front : List ℕ
   pub rest : List ℕ
   pub bytes_are : bytes ≡ front ++ rest
@@ -26,9 +27,12 @@ pub data Fate : Type 0 where
   broken : Fate
 
 -- What happened to a device that was handed bytes to write.
-abbrev pub Writing : {D : Type 0} → (D → Option (List ℕ)) → (D → ℕ) → (D → ℕ) → D → D → Fate → List ℕ → Type 0
-Writing written faults calls_left old new whole bytes = WentOut (written old) (written new) (faults old) (faults new) bytes
-Writing written faults calls_left old new broken bytes = BrokeOff (written old) (written new) (faults old) (faults new) (calls_left new) bytes
+abbrev pub Writing : {D : Type 0} → (D → Option (List ℕ)) → (D → ℕ)
+    → (D → ℕ) → D → D → Fate → List ℕ → Type 0
+Writing written faults calls_left old new whole bytes =
+    WentOut (written old) (written new) (faults old) (faults new) bytes
+Writing written faults calls_left old new broken bytes =
+    BrokeOff (written old) (written new) (faults old) (faults new) (calls_left new) bytes
 
 -- how far a text was read: to its end; to a place where reading stopped; to a place where the device failed
 pub data Reach : Type 0 where
@@ -37,10 +41,14 @@ pub data Reach : Type 0 where
   failed : Reach
 
 -- What happened to a device that a text was read from.
-abbrev pub Reading : {D : Type 0} → (D → Option (List ℕ)) → (D → ℕ) → (D → ℕ) → D → D → Reach → List ℕ → Type 0
+abbrev pub Reading : {D : Type 0} → (D → Option (List ℕ)) → (D → ℕ)
+    → (D → ℕ) → D → D → Reach → List ℕ → Type 0
 Reading to_come faults calls_left old new ended text =
-    Gave (to_come old) (to_come new) (faults old) (faults new) text × (faults new ≡ faults old) × IfSome (to_come new) (λ rest. rest ≡ [])
+    Gave (to_come old) (to_come new) (faults old) (faults new) text
+    × (faults new ≡ faults old)
+    × IfSome (to_come new) (λ rest. rest ≡ [])
 Reading to_come faults calls_left old new stopped text =
     Gave (to_come old) (to_come new) (faults old) (faults new) text × (faults new ≡ faults old)
 Reading to_come faults calls_left old new failed text =
-    Gave (to_come old) (to_come new) (faults old) (faults new) text × Failed (faults old) (faults new) (calls_left new)
+    Gave (to_come old) (to_come new) (faults old) (faults new) text
+    × Failed (faults old) (faults new) (calls_left new)

@@ -70,7 +70,8 @@ impl<R: Read> Reads<R> {
     /// The reader, after the calls so far.
     pub fn into_inner(self) -> R
         ensures inner { result ≡ inner_reader self }
-        ensures told { ⟦<Reads<R> as Inlet>⟧.faults self ≡ 0 → R.remaining result ≡ ⟦<Reads<R> as Inlet>⟧.to_come self }
+        ensures told { ⟦<Reads<R> as Inlet>⟧.faults self ≡ 0
+            → R.remaining result ≡ ⟦<Reads<R> as Inlet>⟧.to_come self }
     {
         let Reads {
             inner,
@@ -92,9 +93,12 @@ impl<R: Read> Inlet for Reads<R> {
 
     fn read(&mut self, room: &mut [u8]) -> Option<usize>
         ensures bound { IfSome result (λ n. n ≤ length room.new) }
-        ensures bytes { Gave (reads_told R.remaining self.old) (reads_told R.remaining self.new) (reads_faults self.old) (reads_faults self.new) (moved_front result room.new) }
-        ensures end { result ≡ Some 0 → 0 < length room.new → IfSome (reads_told R.remaining self.new) (λ rest. rest ≡ []) }
-        ensures faults { reads_faults self.new ≡ reads_faults self.old + read_faults (reads_calls self.old) result }
+        ensures bytes { Gave (reads_told R.remaining self.old) (reads_told R.remaining self.new)
+            (reads_faults self.old) (reads_faults self.new) (moved_front result room.new) }
+        ensures end { result ≡ Some 0 → 0 < length room.new
+            → IfSome (reads_told R.remaining self.new) (λ rest. rest ≡ []) }
+        ensures faults { reads_faults self.new
+            ≡ reads_faults self.old + read_faults (reads_calls self.old) result }
         ensures calls { reads_calls self.new ≡ reads_calls self.old - 1 }
         ensures spent { reads_calls self.old ≡ 0 → result ≡ None }
         ensures past { drop (unwrap_or result 0) room.new ≡ drop (unwrap_or result 0) room.old }
@@ -102,9 +106,11 @@ impl<R: Read> Inlet for Reads<R> {
         // What the reader will give is its own to tell, after a fault too.
         ensures inner { MatchOption result
             (Keeps (R.remaining (inner_reader self.old)) (R.remaining (inner_reader self.new)))
-            (λ n. Consumes (R.remaining (inner_reader self.old)) (R.remaining (inner_reader self.new)) (take n room.new)) }
+            (λ n. Consumes (R.remaining (inner_reader self.old))
+            (R.remaining (inner_reader self.new)) (take n room.new)) }
         // It has ended only where the reader has, after a fault too.
-        ensures inner_end { result ≡ Some 0 → 0 < length room.new → IsAtEnd (R.remaining (inner_reader self.new)) }
+        ensures inner_end { result ≡ Some 0 → 0 < length room.new
+            → IsAtEnd (R.remaining (inner_reader self.new)) }
     {
         if self.calls == 0 {
             return None;

@@ -22,8 +22,10 @@ pub struct WriteFault;
 /// assert!(rt; write_all(&mut out, b"hello").is_ok());
 /// ```
 pub fn write_all<W: Outlet>(outlet: &mut W, bytes: &[u8]) -> Result<(), WriteFault>
-    ensures ok { OnOk result (Writing W.written W.faults W.calls_left outlet.old outlet.new whole bytes.now) }
-    ensures err { OnErr result (Writing W.written W.faults W.calls_left outlet.old outlet.new broken bytes.now) }
+    ensures ok { OnOk result
+        (Writing W.written W.faults W.calls_left outlet.old outlet.new whole bytes.now) }
+    ensures err { OnErr result
+        (Writing W.written W.faults W.calls_left outlet.old outlet.new broken bytes.now) }
     ensures calls { W.calls_left outlet.new ≤ W.calls_left outlet.old }
     ensures few { W.calls_left outlet.old ≤ W.calls_left outlet.new + length bytes.now }
 {
@@ -56,12 +58,15 @@ pub enum End {
 pub fn read_to_end<R: Inlet>(inlet: &mut R, bytes: &mut Vec<u8>) -> End
     ensures ended { result ≡ Ended → (text : List ℕ) × (bytes.new.items ≡ bytes.old.items ++ text)
         × Reading R.to_come R.faults R.calls_left inlet.old inlet.new ended text }
-    ensures failed { result ≡ ReadFault → (text : List ℕ) × (bytes.new.items ≡ bytes.old.items ++ text)
+    ensures failed { result ≡ ReadFault
+        → (text : List ℕ) × (bytes.new.items ≡ bytes.old.items ++ text)
         × Reading R.to_come R.faults R.calls_left inlet.old inlet.new failed text }
-    ensures memory { result ≡ NoMemory → (text : List ℕ) × (lost : List ℕ) × (bytes.new.items ≡ bytes.old.items ++ text)
+    ensures memory { result ≡ NoMemory
+        → (text : List ℕ) × (lost : List ℕ) × (bytes.new.items ≡ bytes.old.items ++ text)
         × Reading R.to_come R.faults R.calls_left inlet.old inlet.new stopped (text ++ lost) }
     ensures calls { R.calls_left inlet.new ≤ R.calls_left inlet.old }
-    ensures few { R.calls_left inlet.old + length bytes.old.items ≤ R.calls_left inlet.new + length bytes.new.items + 1 }
+    ensures few { R.calls_left inlet.old + length bytes.old.items
+        ≤ R.calls_left inlet.new + length bytes.new.items + 1 }
 {
     let mut room = [0u8; ROOM];
     loop {

@@ -42,7 +42,8 @@ impl<W: Write> Writes<W> {
     /// The writer, after the calls so far. Nothing is flushed.
     pub fn into_inner(self) -> W
         ensures inner { result ≡ inner_writer self }
-        ensures told { ⟦<Writes<W> as Outlet>⟧.faults self ≡ 0 → W.contents result ≡ ⟦<Writes<W> as Outlet>⟧.written self }
+        ensures told { ⟦<Writes<W> as Outlet>⟧.faults self ≡ 0
+            → W.contents result ≡ ⟦<Writes<W> as Outlet>⟧.written self }
     {
         let Writes {
             inner,
@@ -64,15 +65,18 @@ impl<W: Write> Outlet for Writes<W> {
 
     fn write(&mut self, piece: &[u8]) -> Option<usize>
         ensures bound { IfSome result (λ n. n ≤ length piece.now) }
-        ensures bytes { Wrote (writes_told W.contents self.old) (writes_told W.contents self.new) (writes_faults self.old) (writes_faults self.new) (moved_front result piece.now) }
-        ensures faults { writes_faults self.new ≡ writes_faults self.old + write_faults (writes_calls self.old) result piece.now }
+        ensures bytes { Wrote (writes_told W.contents self.old) (writes_told W.contents self.new)
+            (writes_faults self.old) (writes_faults self.new) (moved_front result piece.now) }
+        ensures faults { writes_faults self.new
+            ≡ writes_faults self.old + write_faults (writes_calls self.old) result piece.now }
         ensures calls { writes_calls self.new ≡ writes_calls self.old - 1 }
         ensures spent { writes_calls self.old ≡ 0 → result ≡ None }
         ensures silent { 0 < writes_faults self.new → writes_told W.contents self.new ≡ None }
         // What the writer holds is its own to tell, after a fault too.
         ensures inner { MatchOption result
             (Keeps (W.contents (inner_writer self.old)) (W.contents (inner_writer self.new)))
-            (λ n. Appends (W.contents (inner_writer self.old)) (W.contents (inner_writer self.new)) (take n piece.now)) }
+            (λ n. Appends (W.contents (inner_writer self.old)) (W.contents (inner_writer self.new))
+            (take n piece.now)) }
     {
         if self.calls == 0 {
             return None;

@@ -14,8 +14,10 @@ pub record Inside : Type 0 where
 
 -- of one that holds an array
 abbrev pub in_array : {N : ℕ} → CobsDecoderHeapless N → Inside
-in_array d = record { progress = array_progress d; buffer = array_buffer d; sentinel = array_sentinel d }
+in_array d =
+    record { progress = array_progress d; buffer = array_buffer d; sentinel = array_sentinel d }
 
 -- of one that owns its buffer
 abbrev pub in_owner : CobsDecoderOwned → Inside
-in_owner d = record { progress = owned_progress d; buffer = owned_buffer d; sentinel = owned_sentinel d }
+in_owner d =
+    record { progress = owned_progress d; buffer = owned_buffer d; sentinel = owned_sentinel d }

@@ -54,7 +54,9 @@ module _ (takes : Tree → Type 0) (facts : Facts takes) where
     has_no_zero t = breaking.nonzero _ _ (is_frame t)
 
     -- a nonempty proper front of it holds nothing
-    pub front_holds_nothing : (t : Tree) (front rest : List ℕ) → takes t → shortest_frame (short t) ≡ front ++ rest → rest ≢ [] → (u : Tree) → Holds takes front u → ⊥
+    pub front_holds_nothing : (t : Tree) (front rest : List ℕ) → takes t
+        → shortest_frame (short t) ≡ front ++ rest → rest ≢ []
+        → (u : Tree) → Holds takes front u → ⊥
     front_holds_nothing t front rest h e n u k =
         let later = breaking.begins (shortest_frame (short t)) (short t) front rest k.message (facts.one_shortest (short t)).0 e n k.frame in
         breaking.no_beginning t k.message later.0 h later.1 later.2 u k.front k.rest k.taken k.spelled k.begins

@@ -45,7 +45,8 @@ FewBroke before after calls_left broken_off = (before + broken_off ≤ after) �
 -- a send of a value that writes this tree, where it writes one
 abbrev pub IsSendOf : ℕ → Option Tree → Type 0 → Send → Type 0
 IsSendOf limit writes valid (completed t) = (writes ≡ Some t) × valid
-IsSendOf limit writes valid refused = UnlessRefused writes (λ bytes. limit < length (shortest_frame bytes))
+IsSendOf limit writes valid refused =
+    UnlessRefused writes (λ bytes. limit < length (shortest_frame bytes))
 IsSendOf limit writes valid (broken t k) = (writes ≡ Some t) × valid
 
 -- whether the next send needs no sentinel in front, behind these
@@ -54,14 +55,17 @@ clean_after_all clean [] = clean
 clean_after_all clean (x ∷ xs) = clean_after_all (clean_after clean x) xs
 
 -- what a sender did to its line: no more of its calls failed or took nothing than sends broke off, so that nothing is tried twice
-pub record Did (old new : Option (List ℕ)) (before after calls_before calls_after : ℕ) (bytes : List ℕ) (broken_off : ℕ) : Type 0 where
+pub record Did (old new : Option (List ℕ)) (before after calls_before calls_after : ℕ)
+    (bytes : List ℕ) (broken_off : ℕ) : Type 0 where
   pub wrote : Wrote old new before after bytes
   pub few : FewBroke before after calls_after broken_off
   pub once : after ≤ before + broken_off
   pub calls : calls_after ≤ calls_before
 
 -- one send
-pub record SendsOne (limit s : ℕ) (writes : Option Tree) (valid : Type 0) (clean later : Bool) (old new : Option (List ℕ)) (before after calls_before calls_after : ℕ) (fate : Fate) : Type 0 where
+pub record SendsOne (limit s : ℕ) (writes : Option Tree) (valid : Type 0) (clean later : Bool)
+    (old new : Option (List ℕ))
+    (before after calls_before calls_after : ℕ) (fate : Fate) : Type 0 where
   pub send : Send
   pub is : IsSend IsTree limit s clean send
   pub of : IsSendOf limit writes valid send
@@ -70,14 +74,20 @@ pub record SendsOne (limit s : ℕ) (writes : Option Tree) (valid : Type 0) (cle
   pub then : later ≡ clean_after clean send
 
 -- the sends of these values, and what became of them
-pub record SendsAll {V : Type 0} (limit s : ℕ) (writes : V → Option Tree) (valid : V → Type 0) (clean later : Bool) (old new : Option (List ℕ)) (before after calls_before calls_after : ℕ) (values : List V) (fates : List Fate) : Type 0 where
+pub record SendsAll {V : Type 0} (limit s : ℕ) (writes : V → Option Tree) (valid : V → Type 0)
+    (clean later : Bool) (old new : Option (List ℕ)) (before after calls_before calls_after : ℕ)
+    (values : List V) (fates : List Fate) : Type 0 where
   pub sends : List Send
   pub are : IsSession IsTree limit s clean sends
   pub of : AllZip (λ v x. IsSendOf limit (writes v) (valid v) x) values sends
   pub fated : fates ≡ fates_of sends
-  pub did : Did old new before after calls_before calls_after (session_line s clean sends) (brokens sends)
+  pub did : Did old new before after calls_before calls_after
+      (session_line s clean sends) (brokens sends)
   pub then : later ≡ clean_after_all clean sends
 
 -- A session of values that are valid is one of trees that the type takes.
-abbrev pub IsCarried : {V : Type 0} → (Tree → Type 0) → (V → Option Tree) → (V → Type 0) → List V → Type 0
-IsCarried takes writes valid values = (limit s : ℕ) (clean : Bool) (xs : List Send) → AllZip (λ v x. IsSendOf limit (writes v) (valid v) x) values xs → IsSession IsTree limit s clean xs → IsSession takes limit s clean xs
+abbrev pub IsCarried : {V : Type 0} → (Tree → Type 0)
+    → (V → Option Tree) → (V → Type 0) → List V → Type 0
+IsCarried takes writes valid values = (limit s : ℕ) (clean : Bool) (xs : List Send)
+    → AllZip (λ v x. IsSendOf limit (writes v) (valid v) x) values xs
+    → IsSession IsTree limit s clean xs → IsSession takes limit s clean xs

@@ -30,13 +30,15 @@ IsSpan limit (ended p) n = n ≡ length p
 IsSpan limit passed n = n ≡ limit
 
 -- the first bytes brought nothing about, and this is begun now
-pub record BringsNothing (limit s : ℕ) (b : Begun) (bytes : List ℕ) (used : ℕ) (At : Begun → Type 0) : Type 0 where
+pub record BringsNothing (limit s : ℕ) (b : Begun) (bytes : List ℕ)
+    (used : ℕ) (At : Begun → Type 0) : Type 0 where
   pub now : Begun
   pub at : At now
   pub rest : course_of limit s b bytes ≡ ahead used (course_of limit s now (drop used bytes))
 
 -- the course ends at the last of the first bytes, with what is found
-pub record BringsAbout (limit s : ℕ) (b : Begun) (bytes : List ℕ) (used : ℕ) (buffer : List ℕ) (found : Found) (At : Begun → Type 0) : Type 0 where
+pub record BringsAbout (limit s : ℕ) (b : Begun) (bytes : List ℕ) (used : ℕ) (buffer : List ℕ)
+    (found : Found) (At : Begun → Type 0) : Type 0 where
   pub used_is : used ≡ (course_of limit s b bytes).used
   pub finds : Finds (course_of limit s b bytes).event buffer found
   pub at : At (course_of limit s b bytes).begun
@@ -45,11 +47,14 @@ pub record BringsAbout (limit s : ℕ) (b : Begun) (bytes : List ℕ) (used : �
 abbrev pub Brings : ℕ → ℕ → Begun → List ℕ → ℕ → List ℕ → Found → (Begun → Type 0) → Type 0
 Brings limit s b bytes used buffer Nothing At = BringsNothing limit s b bytes used At
 Brings limit s b bytes used buffer TooMuch At = BringsAbout limit s b bytes used buffer TooMuch At
-Brings limit s b bytes used buffer (Broken stretch) At = BringsAbout limit s b bytes used buffer (Broken stretch) At
-Brings limit s b bytes used buffer (Whole size stretch) At = BringsAbout limit s b bytes used buffer (Whole size stretch) At
+Brings limit s b bytes used buffer (Broken stretch) At =
+    BringsAbout limit s b bytes used buffer (Broken stretch) At
+Brings limit s b bytes used buffer (Whole size stretch) At =
+    BringsAbout limit s b bytes used buffer (Whole size stretch) At
 
 -- the answer to a stretch that a sentinel ended, within the limit, by which trees a stretch holds
-abbrev pub AnswersStretch : {V : Type 0} → (List ℕ → Tree → Type 0) → (Tree → V → Type 0) → List ℕ → Result (Option (Answer V)) NoMemory → Type 0
+abbrev pub AnswersStretch : {V : Type 0} → (List ℕ → Tree → Type 0) → (Tree → V → Type 0) → List ℕ
+    → Result (Option (Answer V)) NoMemory → Type 0
 AnswersStretch holds reads p (Ok None) = ⊥
 AnswersStretch holds reads p (Ok (Some (Value v))) = (t : Tree) × holds p t × reads t v
 AnswersStretch holds reads p (Ok (Some Damaged)) = (t : Tree) → holds p t → ⊥
@@ -57,7 +62,8 @@ AnswersStretch holds reads p (Ok (Some _)) = ⊥
 AnswersStretch holds reads p (Err e) = (m : List ℕ) × Frame p m
 
 -- the answer to an event
-abbrev pub Replies : {V : Type 0} → (List ℕ → Tree → Type 0) → (Tree → V → Type 0) → Event → Result (Option (Answer V)) NoMemory → Type 0
+abbrev pub Replies : {V : Type 0} → (List ℕ → Tree → Type 0) → (Tree → V → Type 0) → Event
+    → Result (Option (Answer V)) NoMemory → Type 0
 Replies holds reads quiet r = r ≡ Ok None
 Replies holds reads passed r = r ≡ Ok (Some TooLong)
 Replies holds reads (ended p) r = AnswersStretch holds reads p r

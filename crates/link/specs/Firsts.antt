@@ -8,7 +8,8 @@ use Rattle.link.specs.declared.listening.End.TheVariants.{NoMemory}
 
 -- The first of these answers were put behind the others: all of them, or those before one that found no memory. Behind such a one
 -- none is kept.
-pub record KeepsFirst {V : Type 0} (old new : List V) (was full : Bool) (answers : List V) : Type 0 where
+pub record KeepsFirst {V : Type 0} (old new : List V)
+    (was full : Bool) (answers : List V) : Type 0 where
   pub kept : List V
   pub lost : List V
   pub parts : answers ≡ kept ++ lost
@@ -35,7 +36,8 @@ module _ {V : Type 0} where
   none_left (x ∷ xs) ys e = cc
 
   module _ (o m n : List V) (w f : Bool) (a b : List V) where
-    keeps_then : (x : Bool) → KeepsFirst o m w x a → KeepsFirst m n x f b → KeepsFirst o n w f (a ++ b)
+    keeps_then : (x : Bool) → KeepsFirst o m w x a → KeepsFirst m n x f b
+        → KeepsFirst o n w f (a ++ b)
     keeps_then true p q = record {
       kept = p.kept;
       lost = p.lost ++ b;
@@ -56,7 +58,8 @@ module _ {V : Type 0} where
     }
 
 -- what has such a list is a hearer
-pub keeps_laws : {H V : Type 0} (items : H → List (Answer V)) (full : H → Bool) → HearerLaws (λ h answers k. KeepsFirst (items h) (items k) (full h) (full k) answers)
+pub keeps_laws : {H V : Type 0} (items : H → List (Answer V)) (full : H → Bool)
+    → HearerLaws (λ h answers k. KeepsFirst (items h) (items k) (full h) (full k) answers)
 keeps_laws items full = record {
   none = λ h. keeps_none (items h) (full h);
   more = λ h k m a b p q. keeps_then (items h) (items k) (items m) (full h) (full m) a b (full k) p q;

@@ -17,29 +17,40 @@ AccumulatorFitsInMemory N = FitsInMemory (accumulator.the_row N)
 
 -- From these held bytes the piece was fed until `rest` of it was left, and these values came: whatever the loop gives from
 -- there, it gives behind them.
-pub record GathersFront {V : Type 0} (takes : Tree → Type 0) (reads : Tree → V → Type 0) (growing : Bool) (room : ℕ) (held piece kept rest : List ℕ) (old new : List V) : Type 0 where
+pub record GathersFront {V : Type 0} (takes : Tree → Type 0) (reads : Tree → V → Type 0)
+    (growing : Bool) (room : ℕ) (held piece kept rest : List ℕ) (old new : List V) : Type 0 where
   pub got : List V
   pub values : new ≡ old ++ got
-  pub goes_on : (may_stop : Bool) (later : List (List ℕ)) (vs : List V) → Loops takes reads growing may_stop room kept (rest ∷ later) vs → Loops takes reads growing may_stop room held (piece ∷ later) (got ++ vs)
+  pub goes_on : (may_stop : Bool) (later : List (List ℕ)) (vs : List V)
+      → Loops takes reads growing may_stop room kept (rest ∷ later) vs
+      → Loops takes reads growing may_stop room held (piece ∷ later) (got ++ vs)
 
 -- The same of the whole piece.
-pub record GathersPiece {V : Type 0} (takes : Tree → Type 0) (reads : Tree → V → Type 0) (growing : Bool) (room : ℕ) (held piece kept : List ℕ) (old new : List V) : Type 0 where
+pub record GathersPiece {V : Type 0} (takes : Tree → Type 0) (reads : Tree → V → Type 0)
+    (growing : Bool) (room : ℕ) (held piece kept : List ℕ) (old new : List V) : Type 0 where
   pub got : List V
   pub values : new ≡ old ++ got
-  pub goes_on : (may_stop : Bool) (later : List (List ℕ)) (vs : List V) → Loops takes reads growing may_stop room kept later vs → Loops takes reads growing may_stop room held (piece ∷ later) (got ++ vs)
+  pub goes_on : (may_stop : Bool) (later : List (List ℕ)) (vs : List V)
+      → Loops takes reads growing may_stop room kept later vs
+      → Loops takes reads growing may_stop room held (piece ∷ later) (got ++ vs)
 
 -- A further value had no place in the list: whatever the loop would have given from there comes behind it.
-pub record LacksPlace {V : Type 0} (takes : Tree → Type 0) (reads : Tree → V → Type 0) (growing : Bool) (room : ℕ) (held piece : List ℕ) (old new : List V) : Type 0 where
+pub record LacksPlace {V : Type 0} (takes : Tree → Type 0) (reads : Tree → V → Type 0)
+    (growing : Bool) (room : ℕ) (held piece : List ℕ) (old new : List V) : Type 0 where
   pub got : List V
   pub lost : V
   pub kept : List ℕ
   pub rest : List ℕ
   pub values : new ≡ old ++ got
-  pub goes_on : (may_stop : Bool) (later : List (List ℕ)) (vs : List V) → Loops takes reads growing may_stop room kept (rest ∷ later) vs → Loops takes reads growing may_stop room held (piece ∷ later) (got ++ (lost ∷ vs))
+  pub goes_on : (may_stop : Bool) (later : List (List ℕ)) (vs : List V)
+      → Loops takes reads growing may_stop room kept (rest ∷ later) vs
+      → Loops takes reads growing may_stop room held (piece ∷ later) (got ++ (lost ∷ vs))
 
 -- `roads`' law of an accumulator, of any values
-abbrev pub AreSameByAccumulator : {V : Type 0} → (Tree → Type 0) → (Tree → V → Type 0) → Bool → Type 0
-AreSameByAccumulator {V} takes reads growing = (values : List V) (s : ℕ) → IsSameByAccumulator takes reads growing values s
+abbrev pub AreSameByAccumulator : {V : Type 0} → (Tree → Type 0) → (Tree → V → Type 0)
+    → Bool → Type 0
+AreSameByAccumulator {V} takes reads growing =
+    (values : List V) (s : ℕ) → IsSameByAccumulator takes reads growing values s
 
 -- a byte or none
 abbrev pub some_held : List ℕ → ℕ
@@ -47,19 +58,25 @@ some_held [] = 0
 some_held (b ∷ held) = 1
 
 -- The same of pieces one behind another.
-pub record GathersPieces {V : Type 0} (takes : Tree → Type 0) (reads : Tree → V → Type 0) (growing : Bool) (room : ℕ) (held : List ℕ) (pieces : List (List ℕ)) (kept : List ℕ) (old new : List V) : Type 0 where
+pub record GathersPieces {V : Type 0} (takes : Tree → Type 0) (reads : Tree → V → Type 0)
+    (growing : Bool) (room : ℕ) (held : List ℕ) (pieces : List (List ℕ))
+    (kept : List ℕ) (old new : List V) : Type 0 where
   pub got : List V
   pub values : new ≡ old ++ got
-  pub goes_on : (may_stop : Bool) (later : List (List ℕ)) (vs : List V) → Loops takes reads growing may_stop room kept later vs → Loops takes reads growing may_stop room held (pieces ++ later) (got ++ vs)
+  pub goes_on : (may_stop : Bool) (later : List (List ℕ)) (vs : List V)
+      → Loops takes reads growing may_stop room kept later vs
+      → Loops takes reads growing may_stop room held (pieces ++ later) (got ++ vs)
 
 -- pieces of these bytes on the line
-pub record Gathers {V : Type 0} (takes : Tree → Type 0) (reads : Tree → V → Type 0) (growing : Bool) (room s : ℕ) (held bytes kept : List ℕ) (old new : List V) : Type 0 where
+pub record Gathers {V : Type 0} (takes : Tree → Type 0) (reads : Tree → V → Type 0) (growing : Bool)
+    (room s : ℕ) (held bytes kept : List ℕ) (old new : List V) : Type 0 where
   pub pieces : List (List ℕ)
   pub are : joined pieces ≡ bytes
   pub gathers : GathersPieces takes reads growing room held (map (masked s) pieces) kept old new
 
 -- pieces of these bytes on the line; then a further value had no place in the list
-pub record Lacks {V : Type 0} (takes : Tree → Type 0) (reads : Tree → V → Type 0) (growing : Bool) (room s : ℕ) (held bytes : List ℕ) (old new : List V) : Type 0 where
+pub record Lacks {V : Type 0} (takes : Tree → Type 0) (reads : Tree → V → Type 0) (growing : Bool)
+    (room s : ℕ) (held bytes : List ℕ) (old new : List V) : Type 0 where
   pub pieces : List (List ℕ)
   pub are : joined pieces ≡ bytes
   pub got : List V
@@ -68,38 +85,59 @@ pub record Lacks {V : Type 0} (takes : Tree → Type 0) (reads : Tree → V → 
   pub loops : Loops takes reads growing true room held (map (masked s) pieces) (got ++ lost ∷ [])
 
 -- what was gathered, by how the reading ended
-abbrev pub IsGathered : {V : Type 0} → (Tree → Type 0) → (Tree → V → Type 0) → Bool → ℕ → ℕ → List ℕ → List ℕ → List ℕ → List V → List V → End → Type 0
-IsGathered takes reads growing room s held bytes kept old new Ended = Gathers takes reads growing room s held bytes kept old new
-IsGathered takes reads growing room s held bytes kept old new ReadFault = Gathers takes reads growing room s held bytes kept old new
-IsGathered takes reads growing room s held bytes kept old new NoMemory = Lacks takes reads growing room s held bytes old new
+abbrev pub IsGathered : {V : Type 0} → (Tree → Type 0) → (Tree → V → Type 0) → Bool → ℕ → ℕ → List ℕ
+    → List ℕ → List ℕ → List V → List V → End → Type 0
+IsGathered takes reads growing room s held bytes kept old new Ended =
+    Gathers takes reads growing room s held bytes kept old new
+IsGathered takes reads growing room s held bytes kept old new ReadFault =
+    Gathers takes reads growing room s held bytes kept old new
+IsGathered takes reads growing room s held bytes kept old new NoMemory =
+    Lacks takes reads growing room s held bytes old new
 
 -- Where the stretches of the bytes fit, the values are those of the answers.
-abbrev pub AreThose : {V : Type 0} → (Tree → Type 0) → (Tree → V → Type 0) → Bool → ℕ → ℕ → List ℕ → List V → Type 0
-AreThose takes reads growing room s bytes values = (answers : List Verdict) → AllFit room s bytes → Answers (Holds takes) room s bytes answers → AreValues reads growing (values_of answers) values
+abbrev pub AreThose : {V : Type 0} → (Tree → Type 0) → (Tree → V → Type 0)
+    → Bool → ℕ → ℕ → List ℕ → List V → Type 0
+AreThose takes reads growing room s bytes values =
+    (answers : List Verdict) → AllFit room s bytes → Answers (Holds takes) room s bytes answers
+    → AreValues reads growing (values_of answers) values
 
 -- The same of these values and one more, which had no place in the list, and of the first of the answers.
-pub record AreBefore {V : Type 0} (takes : Tree → Type 0) (reads : Tree → V → Type 0) (growing : Bool) (room s : ℕ) (bytes : List ℕ) (values : List V) : Type 0 where
+pub record AreBefore {V : Type 0} (takes : Tree → Type 0) (reads : Tree → V → Type 0)
+    (growing : Bool) (room s : ℕ) (bytes : List ℕ) (values : List V) : Type 0 where
   pub lost : V
-  pub those : (answers : List Verdict) → AllFit room s bytes → Answers (Holds takes) room s bytes answers → AreFirst reads growing true (values_of answers) (values ++ lost ∷ [])
+  pub those : (answers : List Verdict) → AllFit room s bytes
+      → Answers (Holds takes) room s bytes answers
+      → AreFirst reads growing true (values_of answers) (values ++ lost ∷ [])
 
 -- by how the reading ended
-abbrev pub AreThoseFor : {V : Type 0} → (Tree → Type 0) → (Tree → V → Type 0) → Bool → ℕ → ℕ → List ℕ → List V → End → Type 0
-AreThoseFor takes reads growing room s bytes values Ended = AreThose takes reads growing room s bytes values
-AreThoseFor takes reads growing room s bytes values ReadFault = AreThose takes reads growing room s bytes values
-AreThoseFor takes reads growing room s bytes values NoMemory = AreBefore takes reads growing room s bytes values
+abbrev pub AreThoseFor : {V : Type 0} → (Tree → Type 0) → (Tree → V → Type 0)
+    → Bool → ℕ → ℕ → List ℕ → List V → End → Type 0
+AreThoseFor takes reads growing room s bytes values Ended =
+    AreThose takes reads growing room s bytes values
+AreThoseFor takes reads growing room s bytes values ReadFault =
+    AreThose takes reads growing room s bytes values
+AreThoseFor takes reads growing room s bytes values NoMemory =
+    AreBefore takes reads growing room s bytes values
 
 -- The documented loop over pieces of these bytes gives these values, whether or not their stretches fit.
-pub record LoopsOver {V : Type 0} (takes : Tree → Type 0) (reads : Tree → V → Type 0) (growing may_stop : Bool) (room s : ℕ) (bytes : List ℕ) (values : List V) : Type 0 where
+pub record LoopsOver {V : Type 0} (takes : Tree → Type 0) (reads : Tree → V → Type 0)
+    (growing may_stop : Bool) (room s : ℕ) (bytes : List ℕ) (values : List V) : Type 0 where
   pub pieces : List (List ℕ)
   pub are : joined pieces ≡ bytes
   pub loops : Loops takes reads growing may_stop room [] (map (masked s) pieces) values
 
 -- by how the reading ended: when out of memory one more value had no place in the list
-abbrev pub AreLooped : {V : Type 0} → (Tree → Type 0) → (Tree → V → Type 0) → Bool → ℕ → ℕ → List ℕ → List V → End → Type 0
-AreLooped takes reads growing room s bytes values Ended = LoopsOver takes reads growing false room s bytes values
-AreLooped takes reads growing room s bytes values ReadFault = LoopsOver takes reads growing false room s bytes values
-AreLooped {V} takes reads growing room s bytes values NoMemory = (lost : V) × LoopsOver takes reads growing true room s bytes (values ++ lost ∷ [])
+abbrev pub AreLooped : {V : Type 0} → (Tree → Type 0) → (Tree → V → Type 0)
+    → Bool → ℕ → ℕ → List ℕ → List V → End → Type 0
+AreLooped takes reads growing room s bytes values Ended =
+    LoopsOver takes reads growing false room s bytes values
+AreLooped takes reads growing room s bytes values ReadFault =
+    LoopsOver takes reads growing false room s bytes values
+AreLooped {V} takes reads growing room s bytes values NoMemory =
+    (lost : V) × LoopsOver takes reads growing true room s bytes (values ++ lost ∷ [])
 
 -- the same at the sentinel zero
-abbrev pub AreThoseBy : {V : Type 0} → (Tree → Type 0) → (Tree → V → Type 0) → Bool → ℕ → List ℕ → List V → End → Type 0
-AreThoseBy takes reads growing room bytes values end = AreThoseFor takes reads growing room 0 bytes values end
+abbrev pub AreThoseBy : {V : Type 0} → (Tree → Type 0) → (Tree → V → Type 0)
+    → Bool → ℕ → List ℕ → List V → End → Type 0
+AreThoseBy takes reads growing room bytes values end =
+    AreThoseFor takes reads growing room 0 bytes values end

@@ -26,7 +26,8 @@ same_or_not (b ∷ x) (c ∷ y) = elim (cases_eq b c) [
 ]
 
 -- a frame is the shortest one of its message, or one byte longer
-shortest_or_longer : HasOneOther → (frame message : List ℕ) → Frame frame message → (frame ≡ shortest_frame message) ⊎ (length frame ≡ length (shortest_frame message) + 1)
+shortest_or_longer : HasOneOther → (frame message : List ℕ) → Frame frame message
+    → (frame ≡ shortest_frame message) ⊎ (length frame ≡ length (shortest_frame message) + 1)
 shortest_or_longer other frame message f = elim (same_or_not frame (shortest_frame message)) [
   | inl e ↦ inl e
   | inr n ↦ inr (ap length ((other frame message).0 (f, n)).1 ∙ length-append (shortest_frame message) (1 ∷ []))
@@ -55,15 +56,19 @@ module _ (takes : Tree → Type 0) (facts : Facts takes) (other : HasOneOther) w
       ]
 
   -- what the contract of `laws::by_lengths` says
-  pub by_lengths : ((t : Tree) (x : List ℕ) → IsTree t → Spells t x → (x ≡ short t) ⊎ (length (short t) < length x)) → IsToldByLengths takes
+  pub by_lengths : ((t : Tree) (x : List ℕ) → IsTree t → Spells t x
+      → (x ≡ short t) ⊎ (length (short t) < length x))
+      → IsToldByLengths takes
   by_lengths least p t h = (there, back)
     where
-      there : HoldsExactly takes p t → (length h.message ≡ length (short t)) × (length p ≡ length (shortest_frame h.message))
+      there : HoldsExactly takes p t
+          → (length h.message ≡ length (short t)) × (length p ≡ length (shortest_frame h.message))
       there (k, e) =
           let same : h.message ≡ short t = facts.one_message p h.message h.frame ∙ sym (facts.one_message p (short t) (subst (λ f. Frame f (short t)) (sym e) (is_frame takes facts t))) in
           (ap length same, ap length e ∙ ap (λ m. length (shortest_frame m)) (sym same))
 
-      back : (length h.message ≡ length (short t)) × (length p ≡ length (shortest_frame h.message)) → HoldsExactly takes p t
+      back : (length h.message ≡ length (short t)) × (length p ≡ length (shortest_frame h.message))
+          → HoldsExactly takes p t
       back (a, b) =
           let both : length h.message ≡ length h.front + length h.rest = ap length h.begins ∙ length-append h.front h.rest in
           let front : h.front ≡ short t = elim (least t h.front (facts.trees t h.taken) h.spelled) [
@@ -81,7 +86,9 @@ most_grows : (n m : ℕ) → n ≤ m → most_length n ≤ most_length m
 most_grows n m l = omega arith
 
 -- what the contract of `laws::room` says
-pub has_room : IsWithinLengths → (greatest : Option ℕ) (writes : Option Tree) → SizeWithin writes greatest → HasRoom greatest writes
+pub has_room : IsWithinLengths
+    → (greatest : Option ℕ) (writes : Option Tree) → SizeWithin writes greatest
+    → HasRoom greatest writes
 has_room lengths greatest writes size limit n t e l w =
     let s : length (short t) ≤ n = size.at_most t n w e in
     omega (arith, (lengths (short t)).1, most_grows (length (short t)) n s)

@@ -17,7 +17,8 @@ pub one_tree_exactly : (takes : Tree → Type 0) → Facts takes → IsOne (Hold
 one_tree_exactly takes facts p t u h k = one_tree takes facts p t u (exactly_holds takes facts p t h) (exactly_holds takes facts p u k)
 
 -- under a limit too
-pub one_answer : (holds : List ℕ → Tree → Type 0) (limit : ℕ) → IsOne holds → IsOne (IsAnswer holds limit)
+pub one_answer : (holds : List ℕ → Tree → Type 0) (limit : ℕ) → IsOne holds
+    → IsOne (IsAnswer holds limit)
 one_answer holds limit one p too_long too_long h k = refl
 one_answer holds limit one p too_long (value u) h k = absurd (omega (arith, h, k.0))
 one_answer holds limit one p too_long damaged h k = absurd (omega (arith, h, k.0))

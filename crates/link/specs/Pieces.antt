@@ -37,7 +37,8 @@ pub isn't_sentinel : (s b : ℕ) → 0 < b → eqb (bit_xor s b) s ≡ false
 isn't_sentinel s b l = ne_eqb (bit_xor s b) s (λ e. let z : b ≡ 0 = masked_is_sentinel s b e in omega arith)
 
 module _ (s : ℕ) where
-  split_at : (p rest : List ℕ) → NoZero p → slice_split (λ b. b == s) (masked s p ++ (s ∷ rest)) ≡ masked s p ∷ slice_split (λ b. b == s) rest
+  split_at : (p rest : List ℕ) → NoZero p → slice_split (λ b. b == s) (masked s p ++ (s ∷ rest))
+      ≡ masked s p ∷ slice_split (λ b. b == s) rest
   split_at [] rest z = slice_split-cons_yes (λ b. b == s) s rest (eq-eqb s s refl)
   split_at (b ∷ p) rest z =
       slice_split-cons_no (λ b. b == s) (bit_xor s b) (masked s p ++ (s ∷ rest)) (isn't_sentinel s b z.0) ∙ ap (onto_first (bit_xor s b)) (split_at p rest z.1)
@@ -48,7 +49,8 @@ module _ (s : ℕ) where
       slice_split-cons_no (λ b. b == s) (bit_xor s b) (masked s p) (isn't_sentinel s b z.0) ∙ ap (onto_first (bit_xor s b)) (split_alone p z.1)
 
   -- the pieces of a stretch, a sentinel and a stream, and of a stretch alone
-  pub pieces_at : (p rest : List ℕ) → NoZero p → pieces s (masked s p ++ (s ∷ rest)) ≡ p ∷ pieces s rest
+  pub pieces_at : (p rest : List ℕ) → NoZero p
+      → pieces s (masked s p ++ (s ∷ rest)) ≡ p ∷ pieces s rest
   pieces_at p rest z = ap (map (masked s)) (split_at p rest z) ∙ ap (λ x. x ∷ pieces s rest) (masked_twice s p)
 
   pub pieces_alone : (p : List ℕ) → NoZero p → pieces s (masked s p) ≡ p ∷ []
@@ -74,7 +76,8 @@ module _ (s : ℕ) where
   -- a stream is a stretch alone, or a piece and a sentinel and a stream
   pub data Parted : List ℕ → Type 0 where
     alone : {x : List ℕ} (p : List ℕ) → NoZero p → x ≡ masked s p → Parted x
-    more : {x : List ℕ} (p rest : List ℕ) → NoZero p → x ≡ masked s p ++ (s ∷ rest) → Parted rest → Parted x
+    more : {x : List ℕ} (p rest : List ℕ) → NoZero p
+        → x ≡ masked s p ++ (s ∷ rest) → Parted rest → Parted x
 
   longer : {x : List ℕ} (b : ℕ) → (b ≡ s → ⊥) → Parted x → Parted (b ∷ x)
   longer {x} b ne (alone p z e) = alone (bit_xor s b ∷ p) (masked_nonzero s b ne, z) (ap (λ y. b ∷ y) e ∙ ap (λ c. c ∷ masked s p) (sym (mask_twice s b)))
@@ -88,10 +91,12 @@ module _ (s : ℕ) where
     | inr ne ↦ longer b ne (parted x)
   ]
 
-  pieces_go_on : (p rest b : List ℕ) → NoZero p → pieces s ((masked s p ++ (s ∷ rest)) ++ b) ≡ p ∷ pieces s (rest ++ b)
+  pieces_go_on : (p rest b : List ℕ) → NoZero p
+      → pieces s ((masked s p ++ (s ∷ rest)) ++ b) ≡ p ∷ pieces s (rest ++ b)
   pieces_go_on p rest b z = ap (pieces s) (append_assoc (masked s p) (s ∷ rest) b) ∙ pieces_at p (rest ++ b) z
 
-  joined_from : {a : List ℕ} → Parted a → (b : List ℕ) → pieces s (a ++ (s ∷ b)) ≡ pieces s a ++ pieces s b
+  joined_from : {a : List ℕ} → Parted a
+      → (b : List ℕ) → pieces s (a ++ (s ∷ b)) ≡ pieces s a ++ pieces s b
   joined_from {a} (alone p z e) b = ap (λ y. pieces s (y ++ (s ∷ b))) e ∙ pieces_at p b z ∙ sym (ap (λ y. pieces s y ++ pieces s b) e ∙ ap (λ y. y ++ pieces s b) (pieces_alone p z))
   joined_from {a} (more p rest z e k) b =
       ap (λ y. pieces s (y ++ (s ∷ b))) e ∙ pieces_go_on p rest (s ∷ b) z ∙ ap (λ y. p ∷ y) (joined_from k b) ∙ sym (ap (λ y. pieces s y ++ pieces s b) e ∙ ap (λ y. y ++ pieces s b) (pieces_at p rest z))
@@ -111,14 +116,16 @@ module _ (s : ℕ) where
       all_twice (p ∷ ps) = ap (λ q. q ∷ map (masked s) (map (masked s) ps)) (masked_twice s p) ∙ ap (λ qs. p ∷ qs) (all_twice ps)
 
 -- stretches of pieces one after another
-pub ended_joined : (ps : List (List ℕ)) (q : List ℕ) (qs : List (List ℕ)) → ended_of (ps ++ (q ∷ qs)) ≡ ended_of (ps ++ ([] ∷ [])) ++ ended_of (q ∷ qs)
+pub ended_joined : (ps : List (List ℕ)) (q : List ℕ) (qs : List (List ℕ))
+    → ended_of (ps ++ (q ∷ qs)) ≡ ended_of (ps ++ ([] ∷ [])) ++ ended_of (q ∷ qs)
 ended_joined [] q qs = refl
 ended_joined ([] ∷ []) q qs = refl
 ended_joined ((b ∷ p) ∷ []) q qs = refl
 ended_joined ([] ∷ p ∷ ps) q qs = ended_joined (p ∷ ps) q qs
 ended_joined ((b ∷ r) ∷ p ∷ ps) q qs = ap (λ x. (b ∷ r) ∷ x) (ended_joined (p ∷ ps) q qs)
 
-pub unfinished_joined : (ps : List (List ℕ)) (q : List ℕ) (qs : List (List ℕ)) → unfinished_of (ps ++ (q ∷ qs)) ≡ unfinished_of (q ∷ qs)
+pub unfinished_joined : (ps : List (List ℕ)) (q : List ℕ) (qs : List (List ℕ))
+    → unfinished_of (ps ++ (q ∷ qs)) ≡ unfinished_of (q ∷ qs)
 unfinished_joined [] q qs = refl
 unfinished_joined (p ∷ []) q qs = refl
 unfinished_joined (p ∷ r ∷ ps) q qs = unfinished_joined (r ∷ ps) q qs
@@ -139,12 +146,14 @@ module _ (s : ℕ) where
   unfinished_skip stream = let k = some_pieces s stream in ap unfinished_of (pieces_at s [] stream tt ∙ ap (λ x. [] ∷ x) k.are) ∙ ap unfinished_of (sym k.are)
 
   -- a stretch and a sentinel in front
-  pub ended_at : (b : ℕ) (p stream : List ℕ) → NoZero (b ∷ p) → ended s (masked s (b ∷ p) ++ (s ∷ stream)) ≡ (b ∷ p) ∷ ended s stream
+  pub ended_at : (b : ℕ) (p stream : List ℕ) → NoZero (b ∷ p)
+      → ended s (masked s (b ∷ p) ++ (s ∷ stream)) ≡ (b ∷ p) ∷ ended s stream
   ended_at b p stream z =
       let k = some_pieces s stream in
       ap ended_of (pieces_at s (b ∷ p) stream z ∙ ap (λ x. (b ∷ p) ∷ x) k.are) ∙ ap (λ x. (b ∷ p) ∷ ended_of x) (sym k.are)
 
-  pub unfinished_at : (p stream : List ℕ) → NoZero p → unfinished s (masked s p ++ (s ∷ stream)) ≡ unfinished s stream
+  pub unfinished_at : (p stream : List ℕ) → NoZero p
+      → unfinished s (masked s p ++ (s ∷ stream)) ≡ unfinished s stream
   unfinished_at p stream z = let k = some_pieces s stream in ap unfinished_of (pieces_at s p stream z ∙ ap (λ x. p ∷ x) k.are) ∙ ap unfinished_of (sym k.are)
 
   -- a stretch alone
@@ -200,7 +209,8 @@ module _ (s : ℕ) where
         whole = e ∙ ap (λ y. masked s p ++ (s ∷ y)) h.whole ∙ sym (append_assoc (masked s p) (s ∷ h.front) (masked s (unfinished s rest))) ∙ ap (λ y. (masked s p ++ (s ∷ h.front)) ++ masked s y) (sym u);
       }
     where
-      go : (p front : List ℕ) → EndsBetween s front → (x : List ℕ) × (masked s p ++ (s ∷ front) ≡ x ++ (s ∷ []))
+      go : (p front : List ℕ) → EndsBetween s front
+          → (x : List ℕ) × (masked s p ++ (s ∷ front) ≡ x ++ (s ∷ []))
       go p front (inl e) = (masked s p, ap (λ y. masked s p ++ (s ∷ y)) e)
       go p front (inr (x, e)) = (masked s p ++ (s ∷ x), ap (λ y. masked s p ++ (s ∷ y)) e ∙ sym (append_assoc (masked s p) (s ∷ x) (s ∷ [])))
 

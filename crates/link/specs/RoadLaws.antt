@@ -28,7 +28,9 @@ no_values_at_end limit [] = grind arith
 no_values_at_end limit (b ∷ p) = grind arith
 
 -- under a limit that they fit, stretches are answered as without one
-contents : (holds : List ℕ → Tree → Type 0) (room : ℕ) (ps : List (List ℕ)) (us : List Verdict) → AllByRecursion (λ p. length p < room) ps → AllZip (IsAnswer holds room) ps us → AllZip (IsContent holds) ps us
+contents : (holds : List ℕ → Tree → Type 0) (room : ℕ) (ps : List (List ℕ)) (us : List Verdict)
+    → AllByRecursion (λ p. length p < room) ps → AllZip (IsAnswer holds room) ps us
+    → AllZip (IsContent holds) ps us
 contents holds room [] [] f h = tt
 contents holds room [] (u ∷ us) f h = absurd h
 contents holds room (p ∷ ps) [] f h = absurd h
@@ -67,7 +69,8 @@ some_unended [] n = absurd (n refl)
 some_unended (b ∷ p) n = refl
 
 module _ (holds : List ℕ → Tree → Type 0) (s : ℕ) where
-  in_place_heard : {stream : List ℕ} {answers : List Verdict} → ReadsInPlace holds s stream answers → Heard (IsContent holds) unended s stream answers
+  in_place_heard : {stream : List ℕ} {answers : List Verdict} → ReadsInPlace holds s stream answers
+      → Heard (IsContent holds) unended s stream answers
   in_place_heard nothing = heard_alone (IsContent holds) unended s [] tt
   in_place_heard (skipped {stream = stream} {answers = answers} h) = heard_skip (IsContent holds) unended s stream answers (in_place_heard h)
   in_place_heard (answered {stream = stream} {answers = answers} p a rest z n e c h) =
@@ -124,18 +127,21 @@ zeroed (suc b ∷ x) = record {
 pub whole_length : (x : List ℕ) → x ≡ stretch x → length (stretch x) ≡ length x
 whole_length x e = ap length (sym e)
 
-pub less_length : (x : List ℕ) → x ≡ stretch x ++ (0 ∷ drop (length (stretch x) + 1) x) → length (stretch x) < length x
+pub less_length : (x : List ℕ) → x ≡ stretch x ++ (0 ∷ drop (length (stretch x) + 1) x)
+    → length (stretch x) < length x
 less_length x e = omega (arith, ap length e, length-append (stretch x) (0 ∷ drop (length (stretch x) + 1) x))
 
 -- the stretches of a stream without a sentinel, and behind the first
 no_ended : (p : List ℕ) → NoZero p → ended 0 p ≡ []
 no_ended p z = ap (ended 0) (sym (plain p)) ∙ ended_alone 0 p z
 
-first_ended : (b : ℕ) (p stream : List ℕ) → NoZero (b ∷ p) → ended 0 ((b ∷ p) ++ (0 ∷ stream)) ≡ (b ∷ p) ∷ ended 0 stream
+first_ended : (b : ℕ) (p stream : List ℕ) → NoZero (b ∷ p)
+    → ended 0 ((b ∷ p) ++ (0 ∷ stream)) ≡ (b ∷ p) ∷ ended 0 stream
 first_ended b p stream z = ap (λ y. ended 0 (y ++ (0 ∷ stream))) (sym (plain (b ∷ p))) ∙ ended_at 0 b p stream z
 
 -- a stretch that fits, where it has bytes
-fits : (room : ℕ) (p stream : List ℕ) → 0 < room → NoZero p → AllByRecursion (λ q. length q < room) (ended 0 (p ++ (0 ∷ stream))) → length p < room
+fits : (room : ℕ) (p stream : List ℕ) → 0 < room → NoZero p
+    → AllByRecursion (λ q. length q < room) (ended 0 (p ++ (0 ∷ stream))) → length p < room
 fits room [] stream l z f = l
 fits room (b ∷ p) stream l z f = (subst (AllByRecursion (λ q. length q < room)) (first_ended b p stream z) f).0
 
@@ -145,17 +151,24 @@ module _ {A : Type 0} (takes : Tree → Type 0) (reads : Tree → A → Type 0) 
     later : List Verdict
     each : AllZip (IsContent (Holds takes)) (ended 0 stream) later
     fit : AllFit room 0 stream
-    skips : ((t : Tree) → Holds takes p t → growing ≡ true) → (vs : List A) → AreFirst reads growing may_stop (values_of later) vs → AreFirst reads growing may_stop (values_of us) vs
-    takes_value : (t : Tree) → Holds takes p t → (v : A) → reads t v → (vs : List A) → AreFirst reads growing may_stop (values_of later) vs → AreFirst reads growing may_stop (values_of us) (v ∷ vs)
+    skips : ((t : Tree) → Holds takes p t → growing ≡ true)
+        → (vs : List A) → AreFirst reads growing may_stop (values_of later) vs
+        → AreFirst reads growing may_stop (values_of us) vs
+    takes_value : (t : Tree) → Holds takes p t → (v : A) → reads t v
+        → (vs : List A) → AreFirst reads growing may_stop (values_of later) vs
+        → AreFirst reads growing may_stop (values_of us) (v ∷ vs)
 
-  skip_one : (t : Tree) (ts : List Tree) (vs : List A) → growing ≡ true → AreValues reads growing ts vs → AreValues reads growing (t ∷ ts) vs
+  skip_one : (t : Tree) (ts : List Tree) (vs : List A) → growing ≡ true
+      → AreValues reads growing ts vs → AreValues reads growing (t ∷ ts) vs
   skip_one t ts [] g h = record { all = λ e. let no : true ≡ false = sym g ∙ e in cc; some = tt }
   skip_one t ts (v ∷ vs) g h = record { all = λ e. let no : true ≡ false = sym g ∙ e in cc; some = inr h.some }
 
-  first_skips : (t : Tree) (ts : List Tree) (vs : List A) → growing ≡ true → AreFirst reads growing may_stop ts vs → AreFirst reads growing may_stop (t ∷ ts) vs
+  first_skips : (t : Tree) (ts : List Tree) (vs : List A) → growing ≡ true
+      → AreFirst reads growing may_stop ts vs → AreFirst reads growing may_stop (t ∷ ts) vs
   first_skips t ts vs g k = record { first = t ∷ k.first; more = k.more; parts = ap (λ x. t ∷ x) k.parts; are = skip_one t k.first vs g k.are; whole = k.whole }
 
-  first_takes : (t : Tree) (ts : List Tree) (v : A) (vs : List A) → reads t v → AreFirst reads growing may_stop ts vs → AreFirst reads growing may_stop (t ∷ ts) (v ∷ vs)
+  first_takes : (t : Tree) (ts : List Tree) (v : A) (vs : List A) → reads t v
+      → AreFirst reads growing may_stop ts vs → AreFirst reads growing may_stop (t ∷ ts) (v ∷ vs)
   first_takes t ts v vs r k = record {
     first = t ∷ k.first;
     more = k.more;
@@ -164,7 +177,9 @@ module _ {A : Type 0} (takes : Tree → Type 0) (reads : Tree → A → Type 0) 
     whole = k.whole;
   }
 
-  rest_some : (b : ℕ) (p stream : List ℕ) (us : List Verdict) → AllByRecursion (λ q. length q < room) ((b ∷ p) ∷ ended 0 stream) → AllZip (IsContent (Holds takes)) ((b ∷ p) ∷ ended 0 stream) us → Rest (b ∷ p) stream us
+  rest_some : (b : ℕ) (p stream : List ℕ) (us : List Verdict)
+      → AllByRecursion (λ q. length q < room) ((b ∷ p) ∷ ended 0 stream)
+      → AllZip (IsContent (Holds takes)) ((b ∷ p) ∷ ended 0 stream) us → Rest (b ∷ p) stream us
   rest_some b p stream [] f h = absurd h
   rest_some b p stream (value t ∷ us) f h = record {
     later = us;
@@ -177,7 +192,8 @@ module _ {A : Type 0} (takes : Tree → Type 0) (reads : Tree → A → Type 0) 
   rest_some b p stream (too_long ∷ us) f h = absurd h.0
   rest_some b p stream (cut ∷ us) f h = absurd h.0
 
-  rest_of : (p stream : List ℕ) (us : List Verdict) → NoZero p → AllFit room 0 (p ++ (0 ∷ stream)) → AllZip (IsContent (Holds takes)) (ended 0 (p ++ (0 ∷ stream))) us → Rest p stream us
+  rest_of : (p stream : List ℕ) (us : List Verdict) → NoZero p → AllFit room 0 (p ++ (0 ∷ stream))
+      → AllZip (IsContent (Holds takes)) (ended 0 (p ++ (0 ∷ stream))) us → Rest p stream us
   rest_of [] stream us z f h = record {
     later = us;
     each = subst (λ ps. AllZip (IsContent (Holds takes)) ps us) (ended_skip 0 stream) h;
@@ -189,8 +205,10 @@ module _ {A : Type 0} (takes : Tree → Type 0) (reads : Tree → A → Type 0) 
       rest_some b p stream us (subst (AllByRecursion (λ q. length q < room)) (first_ended b p stream z) f) (subst (λ ps. AllZip (IsContent (Holds takes)) ps us) (first_ended b p stream z) h)
 
   -- what is held, this piece and the rest, where the piece has a zero
-  split_piece : (held piece rest : List ℕ) → piece ≡ stretch piece ++ (0 ∷ drop (length (stretch piece) + 1) piece)
-      → held ++ (piece ++ rest) ≡ (held ++ stretch piece) ++ (0 ∷ (drop (length (stretch piece) + 1) piece ++ rest))
+  split_piece : (held piece rest : List ℕ) → piece
+      ≡ stretch piece ++ (0 ∷ drop (length (stretch piece) + 1) piece)
+      → held ++ (piece ++ rest)
+      ≡ (held ++ stretch piece) ++ (0 ∷ (drop (length (stretch piece) + 1) piece ++ rest))
   split_piece held piece rest e =
       ap (λ y. held ++ (y ++ rest)) e ∙ ap (λ y. held ++ y) (append_assoc (stretch piece) (0 ∷ drop (length (stretch piece) + 1) piece) rest)
       ∙ sym (append_assoc held (stretch piece) (0 ∷ (drop (length (stretch piece) + 1) piece ++ rest)))
@@ -199,8 +217,11 @@ module _ {A : Type 0} (takes : Tree → Type 0) (reads : Tree → A → Type 0) 
   no_values [] h = refl
   no_values (u ∷ us) h = absurd h
 
-  gathered : {held : List ℕ} {pieces : List (List ℕ)} {vs : List A} (us : List Verdict) → Loops takes reads growing may_stop room held pieces vs → NoZero held
-      → AllFit room 0 (held ++ joined pieces) → AllZip (IsContent (Holds takes)) (ended 0 (held ++ joined pieces)) us → AreFirst reads growing may_stop (values_of us) vs
+  gathered : {held : List ℕ} {pieces : List (List ℕ)} {vs : List A} (us : List Verdict)
+      → Loops takes reads growing may_stop room held pieces vs → NoZero held
+      → AllFit room 0 (held ++ joined pieces)
+      → AllZip (IsContent (Holds takes)) (ended 0 (held ++ joined pieces)) us
+      → AreFirst reads growing may_stop (values_of us) vs
   gathered us (done {held = held}) z f h =
       let e : us ≡ [] = no_values us (subst (λ ps. AllZip (IsContent (Holds takes)) ps us) (ap (ended 0) (append-nil held) ∙ no_ended held z) h) in
       subst (λ y. AreFirst reads growing may_stop (values_of y) []) (sym e) (record { first = []; more = []; parts = refl; are = record { all = λ _. tt; some = tt }; whole = λ _. refl })
@@ -286,9 +307,13 @@ module _ {A : Type 0} (takes : Tree → Type 0) (reads : Tree → A → Type 0) 
         ]
       ]
 
-at_zero : {A : Type 0} (takes : Tree → Type 0) (reads : Tree → A → Type 0) (growing : Bool) (values : List A) → IsOne (Holds takes)
-    → (may_stop : Bool) (room : ℕ) (pieces : List (List ℕ)) (answers : List Verdict) → 0 < room → AllFit room 0 (joined pieces)
-    → Answers (Holds takes) room 0 (joined pieces) answers → Loops takes reads growing may_stop room [] pieces values → AreFirst reads growing may_stop (values_of answers) values
+at_zero : {A : Type 0} (takes : Tree → Type 0) (reads : Tree → A → Type 0) (growing : Bool)
+    (values : List A) → IsOne (Holds takes)
+    → (may_stop : Bool) (room : ℕ) (pieces : List (List ℕ)) (answers : List Verdict) → 0 < room
+    → AllFit room 0 (joined pieces)
+    → Answers (Holds takes) room 0 (joined pieces) answers
+    → Loops takes reads growing may_stop room [] pieces values
+    → AreFirst reads growing may_stop (values_of answers) values
 at_zero takes reads growing values one may_stop room pieces answers l f h k =
     let g = gathered takes reads growing may_stop room l one h.done k tt f (contents (Holds takes) room (ended 0 (joined pieces)) h.done f h.each) in
     let same : values_of answers ≡ values_of h.done = ap values_of h.whole ∙ values_joined h.done (at_end room (unfinished 0 (joined pieces))) (no_values_at_end room (unfinished 0 (joined pieces))) in
@@ -310,7 +335,8 @@ module _ (s : ℕ) where
   same_unfinished : (x : List ℕ) → unfinished s x ≡ unfinished 0 (masked s x)
   same_unfinished x = ap unfinished_of (sym (unmasked_pieces (parted s x)))
 
-  same_heard : (R : List ℕ → Verdict → Type 0) (said : List ℕ → List Verdict) (x : List ℕ) (us : List Verdict) → Heard R said s x us → Heard R said 0 (masked s x) us
+  same_heard : (R : List ℕ → Verdict → Type 0) (said : List ℕ → List Verdict) (x : List ℕ)
+      (us : List Verdict) → Heard R said s x us → Heard R said 0 (masked s x) us
   same_heard R said x us h = record {
     done = h.done;
     each = subst (λ ps. AllZip R ps h.done) (same_ended x) h.each;
@@ -321,7 +347,9 @@ module _ (s : ℕ) where
   joined_masked [] = refl
   joined_masked (p ∷ ps) = map-append (bit_xor s) p (joined ps) ∙ ap (λ y. masked s p ++ y) (joined_masked ps)
 
-pub same_by_accumulator : {A : Type 0} (takes : Tree → Type 0) (reads : Tree → A → Type 0) (growing : Bool) (values : List A) (s : ℕ) → IsOne (Holds takes) → IsSameByAccumulator takes reads growing values s
+pub same_by_accumulator : {A : Type 0} (takes : Tree → Type 0) (reads : Tree → A → Type 0)
+    (growing : Bool) (values : List A) (s : ℕ) → IsOne (Holds takes)
+    → IsSameByAccumulator takes reads growing values s
 same_by_accumulator takes reads growing values s one may_stop room pieces answers l f h k =
     let x = joined pieces in
     let line = joined_masked s pieces in

@@ -15,12 +15,14 @@ end_of (b ∷ p) = ended (b ∷ p)
 
 -- one byte, as it is on the line
 abbrev pub event_at : ℕ → ℕ → Begun → ℕ → Event
-event_at limit s (kept p) byte = if byte == s then end_of p else (if nat_lt (length p) limit then quiet else passed)
+event_at limit s (kept p) byte =
+    if byte == s then end_of p else (if nat_lt (length p) limit then quiet else passed)
 event_at limit s over byte = quiet
 
 -- what is begun behind that byte
 abbrev pub begun_at : ℕ → ℕ → Begun → ℕ → Begun
-begun_at limit s (kept p) byte = if byte == s then kept [] else (if nat_lt (length p) limit then kept (p ++ bit_xor s byte ∷ []) else over)
+begun_at limit s (kept p) byte = if byte == s then kept []
+    else (if nat_lt (length p) limit then kept (p ++ bit_xor s byte ∷ []) else over)
 begun_at limit s over byte = if byte == s then kept [] else over
 
 -- what comes of a piece: how many bytes are used, to the first event or all, that event, and what is begun then
@@ -38,7 +40,8 @@ course_on passed b later = record { used = 1; event = passed; begun = b }
 -- the course of a piece, byte by byte
 abbrev pub course_of : ℕ → ℕ → Begun → List ℕ → Course
 course_of limit s b [] = record { used = 0; event = quiet; begun = b }
-course_of limit s b (byte ∷ bytes) = course_on (event_at limit s b byte) (begun_at limit s b byte) (course_of limit s (begun_at limit s b byte) bytes)
+course_of limit s b (byte ∷ bytes) = course_on (event_at limit s b byte) (begun_at limit s b byte)
+    (course_of limit s (begun_at limit s b byte) bytes)
 
 -- the same course, of a piece with so many bytes in front
 abbrev pub ahead : ℕ → Course → Course
@@ -48,9 +51,12 @@ ahead n k = record { used = n + k.used; event = k.event; begun = k.begun }
 pub record RunsOn (limit s : ℕ) (b : Begun) (run : List ℕ) (At : Begun → Type 0) : Type 0 where
   pub now : Begun
   pub at : At now
-  pub rest : (later : List ℕ) → course_of limit s b (run ++ later) ≡ ahead (length run) (course_of limit s now later)
+  pub rest : (later : List ℕ)
+      → course_of limit s b (run ++ later) ≡ ahead (length run) (course_of limit s now later)
 
 -- So many bytes of a run went past the limit.
-pub record RunsPast (limit s : ℕ) (b : Begun) (run : List ℕ) (used : ℕ) (At : Begun → Type 0) : Type 0 where
+pub record RunsPast (limit s : ℕ) (b : Begun) (run : List ℕ)
+    (used : ℕ) (At : Begun → Type 0) : Type 0 where
   pub at : At over
-  pub rest : (later : List ℕ) → course_of limit s b (run ++ later) ≡ record { used = used; event = passed; begun = over }
+  pub rest : (later : List ℕ)
+      → course_of limit s b (run ++ later) ≡ record { used = used; event = passed; begun = over }

@@ -13,12 +13,14 @@ filled ((b ∷ p) ∷ ps) = (b ∷ p) ∷ filled ps
 
 module _ (s : ℕ) where
   -- those that aren't empty are the ended ones, and the last is the unfinished one
-  pub ended_is : (stream : List ℕ) (ps : List (List ℕ)) (u : List ℕ) → Stretches s stream ps u → ended s stream ≡ filled ps
+  pub ended_is : (stream : List ℕ) (ps : List (List ℕ)) (u : List ℕ) → Stretches s stream ps u
+      → ended s stream ≡ filled ps
   ended_is stream [] u (z, e) = ap (ended s) e ∙ ended_alone s u z
   ended_is stream ([] ∷ ps) u (after, z, e, h) = ap (ended s) e ∙ ended_skip s after ∙ ended_is after ps u h
   ended_is stream ((b ∷ p) ∷ ps) u (after, z, e, h) = ap (ended s) e ∙ ended_at s b p after z ∙ ap (λ x. (b ∷ p) ∷ x) (ended_is after ps u h)
 
-  pub unfinished_is : (stream : List ℕ) (ps : List (List ℕ)) (u : List ℕ) → Stretches s stream ps u → unfinished s stream ≡ u
+  pub unfinished_is : (stream : List ℕ) (ps : List (List ℕ)) (u : List ℕ) → Stretches s stream ps u
+      → unfinished s stream ≡ u
   unfinished_is stream [] u (z, e) = ap (unfinished s) e ∙ unfinished_alone s u z
   unfinished_is stream (p ∷ ps) u (after, z, e, h) = ap (unfinished s) e ∙ unfinished_at s p after z ∙ unfinished_is after ps u h
 

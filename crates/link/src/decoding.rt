@@ -14,12 +14,16 @@ pub trait Decoding {
 
     /// Takes a byte of a frame.
     fn feed(&mut self, byte: u8) -> Result<Option<usize>, DecodeError>
-        ensures takes { TakesByte (inside self.old).progress (inside self.old).buffer (bit_xor (inside self.old).sentinel byte) result (inside self.new).progress (inside self.new).buffer }
+        ensures takes { TakesByte (inside self.old).progress (inside self.old).buffer
+            (bit_xor (inside self.old).sentinel byte) result
+            (inside self.new).progress (inside self.new).buffer }
         ensures sentinel { (inside self.new).sentinel ≡ (inside self.old).sentinel };
 
     /// Takes bytes of frames, up to the end of one.
     fn push(&mut self, bytes: &[u8]) -> Result<Option<DecodeReport>, DecodeError>
-        ensures takes { TakesPiece (inside self.old).progress (inside self.old).buffer (masked (inside self.old).sentinel bytes.now) result (inside self.new).progress (inside self.new).buffer }
+        ensures takes { TakesPiece (inside self.old).progress (inside self.old).buffer
+            (masked (inside self.old).sentinel bytes.now) result
+            (inside self.new).progress (inside self.new).buffer }
         ensures sentinel { (inside self.new).sentinel ≡ (inside self.old).sentinel };
 
     /// Forgets what was taken of a frame.

@@ -55,10 +55,14 @@ impl<D: Decoding> Reception<D> {
         piece: &[u8],
         hearer: &mut H,
     ) -> Result<(), NoMemory>
-        ensures ok { OnOk result ((limit s : ℕ) (stream : List ℕ) (given : List (Answer V)) → Hears D.inside E.holds E.reads limit s self.old given stream
-            → Handed E.hears hearer.old hearer.new (λ more. Hears D.inside E.holds E.reads limit s self.new (given ++ more) (stream ++ piece.now))) }
-        ensures err { OnErr result ((limit s : ℕ) (stream : List ℕ) (given : List (Answer V)) → Hears D.inside E.holds E.reads limit s self.old given stream
-            → Handed E.hears hearer.old hearer.new (λ more. Stopped E.holds E.reads limit s (given ++ more) (stream ++ piece.now))) }
+        ensures ok { OnOk result ((limit s : ℕ) (stream : List ℕ) (given : List (Answer V))
+            → Hears D.inside E.holds E.reads limit s self.old given stream
+            → Handed E.hears hearer.old hearer.new (λ more. Hears D.inside E.holds E.reads limit s
+            self.new (given ++ more) (stream ++ piece.now))) }
+        ensures err { OnErr result ((limit s : ℕ) (stream : List ℕ) (given : List (Answer V))
+            → Hears D.inside E.holds E.reads limit s self.old given stream
+            → Handed E.hears hearer.old hearer.new
+            (λ more. Stopped E.holds E.reads limit s (given ++ more) (stream ++ piece.now))) }
         ensures memory { OnErr result (E.growing ≡ true) }
         ensures same { SameTerms D.inside self.old self.new }
     {
@@ -81,13 +85,18 @@ impl<D: Decoding> Reception<D> {
         reader: &mut R,
         hearer: &mut H,
     ) -> Option<End>
-        ensures heard { (limit s : ℕ) (stream : List ℕ) (given : List (Answer V)) → Hears D.inside E.holds E.reads limit s self.old given stream
-            → (bytes : List ℕ) × HasReadNow (R.to_come reader.old) (R.to_come reader.new) (R.faults reader.old) (R.faults reader.new) (R.calls_left reader.new) result bytes
-            × Handed E.hears hearer.old hearer.new (λ more. IsHeardNow D.inside E.holds E.reads limit s result self.new (given ++ more) (stream ++ bytes)) }
+        ensures heard { (limit s : ℕ) (stream : List ℕ) (given : List (Answer V))
+            → Hears D.inside E.holds E.reads limit s self.old given stream
+            → (bytes : List ℕ) × HasReadNow (R.to_come reader.old) (R.to_come reader.new)
+            (R.faults reader.old) (R.faults reader.new) (R.calls_left reader.new) result bytes
+            × Handed E.hears hearer.old hearer.new (λ more. IsHeardNow D.inside E.holds E.reads
+            limit s result self.new (given ++ more) (stream ++ bytes)) }
         ensures calls { R.calls_left reader.new ≡ R.calls_left reader.old - 1 }
         ensures spent { R.calls_left reader.old ≡ 0 → result ≡ Some ReadFault }
         ensures memory { MayLackMemory E.growing result }
-        ensures few { UsesFew (R.to_come reader.old) (R.to_come reader.new) (R.faults reader.old) (R.faults reader.new) (R.calls_left reader.old) (R.calls_left reader.new) (last_call result) }
+        ensures few { UsesFew (R.to_come reader.old) (R.to_come reader.new)
+            (R.faults reader.old) (R.faults reader.new)
+            (R.calls_left reader.old) (R.calls_left reader.new) (last_call result) }
         ensures fault { result ≡ Some ReadFault → hearer.new ≡ hearer.old }
         ensures same { SameTerms D.inside self.old self.new }
     {
@@ -119,9 +128,12 @@ impl<D: Decoding> Reception<D> {
         reader: &mut R,
         hearer: &mut H,
     ) -> Option<End>
-        ensures heard { (limit s : ℕ) (stream : List ℕ) (given : List (Answer T)) → Hears D.inside (Holds T.takes) T.reads limit s self.old given stream
-            → (bytes : List ℕ) × HasReadNow (R.to_come reader.old) (R.to_come reader.new) (R.faults reader.old) (R.faults reader.new) (R.calls_left reader.new) result bytes
-            × Handed H.hears hearer.old hearer.new (λ more. IsHeardNow D.inside (Holds T.takes) T.reads limit s result self.new (given ++ more) (stream ++ bytes)) }
+        ensures heard { (limit s : ℕ) (stream : List ℕ) (given : List (Answer T))
+            → Hears D.inside (Holds T.takes) T.reads limit s self.old given stream
+            → (bytes : List ℕ) × HasReadNow (R.to_come reader.old) (R.to_come reader.new)
+            (R.faults reader.old) (R.faults reader.new) (R.calls_left reader.new) result bytes
+            × Handed H.hears hearer.old hearer.new (λ more. IsHeardNow D.inside
+            (Holds T.takes) T.reads limit s result self.new (given ++ more) (stream ++ bytes)) }
         ensures calls { R.calls_left reader.new ≡ R.calls_left reader.old - 1 }
         ensures spent { R.calls_left reader.old ≡ 0 → result ≡ Some ReadFault }
         ensures same { SameTerms D.inside self.old self.new }
@@ -137,9 +149,13 @@ impl<D: Decoding> Reception<D> {
         reader: &mut R,
         hearer: &mut H,
     ) -> Option<End>
-        ensures heard { (limit s : ℕ) (stream : List ℕ) (given : List (Answer T)) → Hears D.inside (HoldsExactly T.takes) T.reads limit s self.old given stream
-            → (bytes : List ℕ) × HasReadNow (R.to_come reader.old) (R.to_come reader.new) (R.faults reader.old) (R.faults reader.new) (R.calls_left reader.new) result bytes
-            × Handed H.hears hearer.old hearer.new (λ more. IsHeardNow D.inside (HoldsExactly T.takes) T.reads limit s result self.new (given ++ more) (stream ++ bytes)) }
+        ensures heard { (limit s : ℕ) (stream : List ℕ) (given : List (Answer T))
+            → Hears D.inside (HoldsExactly T.takes) T.reads limit s self.old given stream
+            → (bytes : List ℕ) × HasReadNow (R.to_come reader.old) (R.to_come reader.new)
+            (R.faults reader.old) (R.faults reader.new) (R.calls_left reader.new) result bytes
+            × Handed H.hears hearer.old hearer.new
+            (λ more. IsHeardNow D.inside (HoldsExactly T.takes) T.reads limit s result self.new
+            (given ++ more) (stream ++ bytes)) }
         ensures calls { R.calls_left reader.new ≡ R.calls_left reader.old - 1 }
         ensures spent { R.calls_left reader.old ≡ 0 → result ≡ Some ReadFault }
         ensures same { SameTerms D.inside self.old self.new }
@@ -155,13 +171,18 @@ fn listen_each<V, E: Effect<V, H>, R: Inlet, D: Decoding, H>(
     reader: &mut R,
     hearer: &mut H,
 ) -> Option<End>
-    ensures heard { (limit s : ℕ) (stream : List ℕ) (given : List (Answer V)) → Hears D.inside E.holds E.reads limit s receiver.old given stream
-        → (bytes : List ℕ) × HasReadNow (R.to_come reader.old) (R.to_come reader.new) (R.faults reader.old) (R.faults reader.new) (R.calls_left reader.new) result bytes
-        × Handed E.hears hearer.old hearer.new (λ more. IsHeardNow D.inside E.holds E.reads limit s result receiver.new (given ++ more) (stream ++ bytes)) }
+    ensures heard { (limit s : ℕ) (stream : List ℕ) (given : List (Answer V))
+        → Hears D.inside E.holds E.reads limit s receiver.old given stream
+        → (bytes : List ℕ) × HasReadNow (R.to_come reader.old) (R.to_come reader.new)
+        (R.faults reader.old) (R.faults reader.new) (R.calls_left reader.new) result bytes
+        × Handed E.hears hearer.old hearer.new (λ more. IsHeardNow D.inside E.holds E.reads limit s
+        result receiver.new (given ++ more) (stream ++ bytes)) }
     ensures enough { result ≡ None → E.enough hearer.new ≡ true }
     ensures fault { result ≡ Some ReadFault → E.enough hearer.new ≡ false }
     ensures memory { MayLackMemory E.growing result }
-    ensures calls { UsesFew (R.to_come reader.old) (R.to_come reader.new) (R.faults reader.old) (R.faults reader.new) (R.calls_left reader.old) (R.calls_left reader.new) (last_call result) }
+    ensures calls { UsesFew (R.to_come reader.old) (R.to_come reader.new)
+        (R.faults reader.old) (R.faults reader.new)
+        (R.calls_left reader.old) (R.calls_left reader.new) (last_call result) }
 {
     loop {
         if E::has_enough(hearer) {
@@ -180,8 +201,10 @@ fn conclude_each<V, E: Effect<V, H>, D: Decoding, H>(
     end: End,
 )
     ensures fault { end ≡ ReadFault → hearer.new ≡ hearer.old }
-    ensures handed { (limit s : ℕ) (stream : List ℕ) (given : List (Answer V)) → IsHeardNow D.inside E.holds E.reads limit s (Some end) receiver.now given stream
-        → Handed E.hears hearer.old hearer.new (λ more. IsKeptNow E.holds E.reads limit s (Some end) (given ++ more) stream) }
+    ensures handed { (limit s : ℕ) (stream : List ℕ) (given : List (Answer V))
+        → IsHeardNow D.inside E.holds E.reads limit s (Some end) receiver.now given stream
+        → Handed E.hears hearer.old hearer.new
+        (λ more. IsKeptNow E.holds E.reads limit s (Some end) (given ++ more) stream) }
 {
     match end {
         End::Ended => match receiver.ending() {
@@ -204,12 +227,16 @@ pub(crate) fn receive_each_by<V, E: Effect<V, H>, R: Inlet, D: Decoding, H>(
     hearer: &mut H,
 ) -> Option<End>
     ensures received { (limit s : ℕ) → IsBehind D.inside limit s receiver.old []
-        → (bytes : List ℕ) × HasReadNow (R.to_come reader.old) (R.to_come reader.new) (R.faults reader.old) (R.faults reader.new) (R.calls_left reader.new) result bytes
-        × Handed E.hears hearer.old hearer.new (λ answers. IsReceivedNow E.holds E.reads limit s result answers bytes) }
+        → (bytes : List ℕ) × HasReadNow (R.to_come reader.old) (R.to_come reader.new)
+        (R.faults reader.old) (R.faults reader.new) (R.calls_left reader.new) result bytes
+        × Handed E.hears hearer.old hearer.new
+        (λ answers. IsReceivedNow E.holds E.reads limit s result answers bytes) }
     ensures enough { result ≡ None → E.enough hearer.new ≡ true }
     ensures fault { result ≡ Some ReadFault → E.enough hearer.new ≡ false }
     ensures memory { MayLackMemory E.growing result }
-    ensures calls { UsesFew (R.to_come reader.old) (R.to_come reader.new) (R.faults reader.old) (R.faults reader.new) (R.calls_left reader.old) (R.calls_left reader.new) (last_call result) }
+    ensures calls { UsesFew (R.to_come reader.old) (R.to_come reader.new)
+        (R.faults reader.old) (R.faults reader.new)
+        (R.calls_left reader.old) (R.calls_left reader.new) (last_call result) }
 {
     E::show();
     match listen_each::<V, E, R, D, H>(alloc, receiver, reader, hearer) {
@@ -233,11 +260,15 @@ pub fn receive_each<T: DeserializeOwned, R: Inlet, H: Hearer<T>, const N: usize>
     hearer: &mut H,
 ) -> Option<End>
     requires { ReceiverFitsInMemory N.row }
-    ensures received { (bytes : List ℕ) × HasReadNow (R.to_come reader.old) (R.to_come reader.new) (R.faults reader.old) (R.faults reader.new) (R.calls_left reader.new) result bytes
-        × Handed H.hears hearer.old hearer.new (λ answers. IsReceivedNow (Holds T.takes) T.reads N 0 result answers bytes) }
+    ensures received { (bytes : List ℕ) × HasReadNow (R.to_come reader.old) (R.to_come reader.new)
+        (R.faults reader.old) (R.faults reader.new) (R.calls_left reader.new) result bytes
+        × Handed H.hears hearer.old hearer.new
+        (λ answers. IsReceivedNow (Holds T.takes) T.reads N 0 result answers bytes) }
     ensures enough { result ≡ None → H.enough hearer.new ≡ true }
     ensures fault { result ≡ Some ReadFault → H.enough hearer.new ≡ false }
-    ensures calls { UsesFew (R.to_come reader.old) (R.to_come reader.new) (R.faults reader.old) (R.faults reader.new) (R.calls_left reader.old) (R.calls_left reader.new) (last_call result) }
+    ensures calls { UsesFew (R.to_come reader.old) (R.to_come reader.new)
+        (R.faults reader.old) (R.faults reader.new)
+        (R.calls_left reader.old) (R.calls_left reader.new) (last_call result) }
 {
     receive_each_with_sentinel::<T, R, H, N>(alloc, reader, hearer, 0)
 }
@@ -250,11 +281,15 @@ pub fn receive_each_with_sentinel<T: DeserializeOwned, R: Inlet, H: Hearer<T>, c
     sentinel: u8,
 ) -> Option<End>
     requires { ReceiverFitsInMemory N.row }
-    ensures received { (bytes : List ℕ) × HasReadNow (R.to_come reader.old) (R.to_come reader.new) (R.faults reader.old) (R.faults reader.new) (R.calls_left reader.new) result bytes
-        × Handed H.hears hearer.old hearer.new (λ answers. IsReceivedNow (Holds T.takes) T.reads N sentinel result answers bytes) }
+    ensures received { (bytes : List ℕ) × HasReadNow (R.to_come reader.old) (R.to_come reader.new)
+        (R.faults reader.old) (R.faults reader.new) (R.calls_left reader.new) result bytes
+        × Handed H.hears hearer.old hearer.new
+        (λ answers. IsReceivedNow (Holds T.takes) T.reads N sentinel result answers bytes) }
     ensures enough { result ≡ None → H.enough hearer.new ≡ true }
     ensures fault { result ≡ Some ReadFault → H.enough hearer.new ≡ false }
-    ensures calls { UsesFew (R.to_come reader.old) (R.to_come reader.new) (R.faults reader.old) (R.faults reader.new) (R.calls_left reader.old) (R.calls_left reader.new) (last_call result) }
+    ensures calls { UsesFew (R.to_come reader.old) (R.to_come reader.new)
+        (R.faults reader.old) (R.faults reader.new)
+        (R.calls_left reader.old) (R.calls_left reader.new) (last_call result) }
 {
     let mut receiver = Receiver::<N>::new_with_sentinel(sentinel);
     receive_each_by::<T, ByValue<Ordinary>, R, CobsDecoderHeapless<N>, H>(
@@ -273,11 +308,15 @@ pub fn receive_each_strict<T: DeserializeOwned + Exact, R: Inlet, H: Hearer<T>, 
     hearer: &mut H,
 ) -> Option<End>
     requires { ReceiverFitsInMemory N.row }
-    ensures received { (bytes : List ℕ) × HasReadNow (R.to_come reader.old) (R.to_come reader.new) (R.faults reader.old) (R.faults reader.new) (R.calls_left reader.new) result bytes
-        × Handed H.hears hearer.old hearer.new (λ answers. IsReceivedNow (HoldsExactly T.takes) T.reads N 0 result answers bytes) }
+    ensures received { (bytes : List ℕ) × HasReadNow (R.to_come reader.old) (R.to_come reader.new)
+        (R.faults reader.old) (R.faults reader.new) (R.calls_left reader.new) result bytes
+        × Handed H.hears hearer.old hearer.new
+        (λ answers. IsReceivedNow (HoldsExactly T.takes) T.reads N 0 result answers bytes) }
     ensures enough { result ≡ None → H.enough hearer.new ≡ true }
     ensures fault { result ≡ Some ReadFault → H.enough hearer.new ≡ false }
-    ensures calls { UsesFew (R.to_come reader.old) (R.to_come reader.new) (R.faults reader.old) (R.faults reader.new) (R.calls_left reader.old) (R.calls_left reader.new) (last_call result) }
+    ensures calls { UsesFew (R.to_come reader.old) (R.to_come reader.new)
+        (R.faults reader.old) (R.faults reader.new)
+        (R.calls_left reader.old) (R.calls_left reader.new) (last_call result) }
 {
     receive_each_strict_with_sentinel::<T, R, H, N>(alloc, reader, hearer, 0)
 }
@@ -290,11 +329,15 @@ pub fn receive_each_strict_with_sentinel<
     const N: usize,
 >(alloc: Global, reader: &mut R, hearer: &mut H, sentinel: u8) -> Option<End>
     requires { ReceiverFitsInMemory N.row }
-    ensures received { (bytes : List ℕ) × HasReadNow (R.to_come reader.old) (R.to_come reader.new) (R.faults reader.old) (R.faults reader.new) (R.calls_left reader.new) result bytes
-        × Handed H.hears hearer.old hearer.new (λ answers. IsReceivedNow (HoldsExactly T.takes) T.reads N sentinel result answers bytes) }
+    ensures received { (bytes : List ℕ) × HasReadNow (R.to_come reader.old) (R.to_come reader.new)
+        (R.faults reader.old) (R.faults reader.new) (R.calls_left reader.new) result bytes
+        × Handed H.hears hearer.old hearer.new
+        (λ answers. IsReceivedNow (HoldsExactly T.takes) T.reads N sentinel result answers bytes) }
     ensures enough { result ≡ None → H.enough hearer.new ≡ true }
     ensures fault { result ≡ Some ReadFault → H.enough hearer.new ≡ false }
-    ensures calls { UsesFew (R.to_come reader.old) (R.to_come reader.new) (R.faults reader.old) (R.faults reader.new) (R.calls_left reader.old) (R.calls_left reader.new) (last_call result) }
+    ensures calls { UsesFew (R.to_come reader.old) (R.to_come reader.new)
+        (R.faults reader.old) (R.faults reader.new)
+        (R.calls_left reader.old) (R.calls_left reader.new) (last_call result) }
 {
     let mut receiver = Receiver::<N>::new_with_sentinel(sentinel);
     receive_each_by::<T, ByValue<Strict>, R, CobsDecoderHeapless<N>, H>(
@@ -314,11 +357,16 @@ pub fn receive_each_owned<T: DeserializeOwned, R: Inlet, H: Hearer<T>>(
     limit: usize,
     sentinel: u8,
 ) -> Result<Option<End>, NoMemory>
-    ensures received { IfOk result (λ end. (bytes : List ℕ) × HasReadNow (R.to_come reader.old) (R.to_come reader.new) (R.faults reader.old) (R.faults reader.new) (R.calls_left reader.new) end bytes
-        × Handed H.hears hearer.old hearer.new (λ answers. IsReceivedNow (Holds T.takes) T.reads limit sentinel end answers bytes)) }
+    ensures received { IfOk result
+        (λ end. (bytes : List ℕ) × HasReadNow (R.to_come reader.old) (R.to_come reader.new)
+        (R.faults reader.old) (R.faults reader.new) (R.calls_left reader.new) end bytes
+        × Handed H.hears hearer.old hearer.new
+        (λ answers. IsReceivedNow (Holds T.takes) T.reads limit sentinel end answers bytes)) }
     ensures enough { IfOk result (λ end. end ≡ None → H.enough hearer.new ≡ true) }
     ensures fault { IfOk result (λ end. end ≡ Some ReadFault → H.enough hearer.new ≡ false) }
-    ensures calls { UsesFew (R.to_come reader.old) (R.to_come reader.new) (R.faults reader.old) (R.faults reader.new) (R.calls_left reader.old) (R.calls_left reader.new) 1 }
+    ensures calls { UsesFew (R.to_come reader.old) (R.to_come reader.new)
+        (R.faults reader.old) (R.faults reader.new)
+        (R.calls_left reader.old) (R.calls_left reader.new) 1 }
     ensures unmade { OnErr result ((reader.new ≡ reader.old) × (hearer.new ≡ hearer.old)) }
 {
     let mut receiver = OwnedReceiver::new(alloc, limit, sentinel)?;
@@ -339,11 +387,16 @@ pub fn receive_each_owned_strict<T: DeserializeOwned + Exact, R: Inlet, H: Heare
     limit: usize,
     sentinel: u8,
 ) -> Result<Option<End>, NoMemory>
-    ensures received { IfOk result (λ end. (bytes : List ℕ) × HasReadNow (R.to_come reader.old) (R.to_come reader.new) (R.faults reader.old) (R.faults reader.new) (R.calls_left reader.new) end bytes
-        × Handed H.hears hearer.old hearer.new (λ answers. IsReceivedNow (HoldsExactly T.takes) T.reads limit sentinel end answers bytes)) }
+    ensures received { IfOk result
+        (λ end. (bytes : List ℕ) × HasReadNow (R.to_come reader.old) (R.to_come reader.new)
+        (R.faults reader.old) (R.faults reader.new) (R.calls_left reader.new) end bytes
+        × Handed H.hears hearer.old hearer.new (λ answers. IsReceivedNow (HoldsExactly T.takes)
+        T.reads limit sentinel end answers bytes)) }
     ensures enough { IfOk result (λ end. end ≡ None → H.enough hearer.new ≡ true) }
     ensures fault { IfOk result (λ end. end ≡ Some ReadFault → H.enough hearer.new ≡ false) }
-    ensures calls { UsesFew (R.to_come reader.old) (R.to_come reader.new) (R.faults reader.old) (R.faults reader.new) (R.calls_left reader.old) (R.calls_left reader.new) 1 }
+    ensures calls { UsesFew (R.to_come reader.old) (R.to_come reader.new)
+        (R.faults reader.old) (R.faults reader.new)
+        (R.calls_left reader.old) (R.calls_left reader.new) 1 }
     ensures unmade { OnErr result ((reader.new ≡ reader.old) × (hearer.new ≡ hearer.old)) }
 {
     let mut receiver = OwnedReceiver::new(alloc, limit, sentinel)?;

@@ -48,8 +48,11 @@ pub(crate) trait Effect<V, H> {
         hearer: &mut H,
     ) -> Result<(), NoMemory>
         requires { IsWithin (length (buffer_in D.inside receiver.now)) found }
-        ensures ok { OnOk result ((e : Event) → Finds e (buffer_in D.inside receiver.now) found → Handed hears hearer.old hearer.new (HandsOn holds reads e)) }
-        ensures err { OnErr result ((hearer.new ≡ hearer.old) × ((e : Event) → Finds e (buffer_in D.inside receiver.now) found → Withholds holds reads e)) }
+        ensures ok { OnOk result ((e : Event) → Finds e (buffer_in D.inside receiver.now) found
+            → Handed hears hearer.old hearer.new (HandsOn holds reads e)) }
+        ensures err { OnErr result ((hearer.new ≡ hearer.old)
+            × ((e : Event) → Finds e (buffer_in D.inside receiver.now) found
+            → Withholds holds reads e)) }
         ensures memory { OnErr result (growing ≡ true) };
 
     // Hands on what the end of the stream adds.
@@ -73,7 +76,8 @@ fn hand_value<T: Readable + Drop, H: Hearer<T>>(
     hearer: &mut H,
     answer: Result<Option<Answer<T>>, NoMemory>,
 ) -> Result<(), NoMemory>
-    ensures ok { OnOk result (Handed H.hears hearer.old hearer.new (λ answers. Keeps answer [] answers)) }
+    ensures ok { OnOk result
+        (Handed H.hears hearer.old hearer.new (λ answers. Keeps answer [] answers)) }
     ensures err { OnErr result ((hearer.new ≡ hearer.old) × (answer ≡ Ok None → ⊥) × IsErr answer) }
 {
     match answer {
@@ -137,8 +141,10 @@ fn hand_text<H: TextHearer>(
     hearer: &mut H,
     answer: Result<Option<Answer<&str>>, NoMemory>,
 ) -> Result<(), NoMemory>
-    ensures ok { OnOk result (Handed H.hears hearer.old hearer.new (λ answers. Keeps answer.entry [] answers)) }
-    ensures err { OnErr result ((hearer.new ≡ hearer.old) × (answer.entry ≡ Ok None → ⊥) × IsErr answer.entry) }
+    ensures ok { OnOk result
+        (Handed H.hears hearer.old hearer.new (λ answers. Keeps answer.entry [] answers)) }
+    ensures err { OnErr result
+        ((hearer.new ≡ hearer.old) × (answer.entry ≡ Ok None → ⊥) × IsErr answer.entry) }
 {
     match answer {
         Ok(answer) => match answer {

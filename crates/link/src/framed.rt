@@ -29,7 +29,8 @@ impl<'a> Framed<'a> {
     /// Over a buffer, with nothing pushed and the sentinel zero. The caller owes that the buffer isn't empty.
     pub fn new(buffer: &'a mut [u8]) -> Framed<'a>
         requires { 0 < length buffer.old }
-        ensures ready { framing_of result ≡ record { message = []; room = length buffer.old; spent = false } }
+        ensures ready { framing_of result
+            ≡ record { message = []; room = length buffer.old; spent = false } }
         ensures lent { lent_as result ≡ buffer.entry.ghost_name }
         ensures sentinel { sentinel_of result ≡ 0 }
     {
@@ -39,7 +40,8 @@ impl<'a> Framed<'a> {
     /// The same with a sentinel of the caller's choice.
     pub fn new_with_sentinel(buffer: &'a mut [u8], sentinel: u8) -> Framed<'a>
         requires { 0 < length buffer.old }
-        ensures ready { framing_of result ≡ record { message = []; room = length buffer.old; spent = false } }
+        ensures ready { framing_of result
+            ≡ record { message = []; room = length buffer.old; spent = false } }
         ensures lent { lent_as result ≡ buffer.entry.ghost_name }
         ensures sentinel { sentinel_of result ≡ sentinel }
     {
@@ -83,7 +85,8 @@ impl<'a> Flavor for Framed<'a> {
 
     fn finalize(self) -> Result<usize>
         ensures ends { Finishes (framing_of self.entry) result }
-        ensures frame { IfOk result (λ n. take n self.exit.0.now ≡ frame_for (sentinel_of self.entry) (framing_of self.entry).message) }
+        ensures frame { IfOk result (λ n. take n self.exit.0.now
+            ≡ frame_for (sentinel_of self.entry) (framing_of self.entry).message) }
     {
         let Framed { buffer: _, front } = self;
         let length = front.length();
@@ -101,8 +104,10 @@ impl<'a> Flavor for Framed<'a> {
 /// Where both hold, either cause may be named.
 pub fn frame_into<T: Serialize>(value: &T, buffer: &mut [u8]) -> Result<usize>
     requires { 0 < length buffer.old }
-    ensures ok { IfOk result (λ n. WrittenAs (T.writes value.now) (λ bytes. (n ≡ length (shortest_frame bytes)) × (take n buffer.new ≡ frame_for 0 bytes))) }
-    ensures err { IfErr result (λ e. UnlessRefused (T.writes value.now) (λ bytes. (e ≡ SerializeBufferFull) × (length buffer.old < length (shortest_frame bytes)))) }
+    ensures ok { IfOk result (λ n. WrittenAs (T.writes value.now)
+        (λ bytes. (n ≡ length (shortest_frame bytes)) × (take n buffer.new ≡ frame_for 0 bytes))) }
+    ensures err { IfErr result (λ e. UnlessRefused (T.writes value.now) (λ bytes.
+        (e ≡ SerializeBufferFull) × (length buffer.old < length (shortest_frame bytes)))) }
     ensures valid { OnOk result (T.valid value.now) }
 {
     frame_into_with_sentinel(value, buffer, 0)
@@ -115,8 +120,10 @@ pub fn frame_into_with_sentinel<T: Serialize>(
     sentinel: u8,
 ) -> Result<usize>
     requires { 0 < length buffer.old }
-    ensures ok { IfOk result (λ n. WrittenAs (T.writes value.now) (λ bytes. (n ≡ length (shortest_frame bytes)) × (take n buffer.new ≡ frame_for sentinel bytes))) }
-    ensures err { IfErr result (λ e. UnlessRefused (T.writes value.now) (λ bytes. (e ≡ SerializeBufferFull) × (length buffer.old < length (shortest_frame bytes)))) }
+    ensures ok { IfOk result (λ n. WrittenAs (T.writes value.now) (λ bytes.
+        (n ≡ length (shortest_frame bytes)) × (take n buffer.new ≡ frame_for sentinel bytes))) }
+    ensures err { IfErr result (λ e. UnlessRefused (T.writes value.now) (λ bytes.
+        (e ≡ SerializeBufferFull) × (length buffer.old < length (shortest_frame bytes)))) }
     ensures valid { OnOk result (T.valid value.now) }
 {
     cobs::laws::longer();

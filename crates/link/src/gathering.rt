@@ -36,8 +36,11 @@ fn gather<T: DeserializeOwned, const N: usize>(
     piece: &[u8],
 ) -> Result<(), NoMemory>
     requires { 0 < N }
-    ensures ok { OnOk result (GathersPiece T.takes T.reads T.growing N (held_of accumulator.old) (masked (sentinel_of accumulator.old) piece.now) (held_of accumulator.new) values.old.items values.new.items) }
-    ensures err { OnErr result (LacksPlace T.takes T.reads T.growing N (held_of accumulator.old) (masked (sentinel_of accumulator.old) piece.now) values.old.items values.new.items) }
+    ensures ok { OnOk result (GathersPiece T.takes T.reads T.growing N
+        (held_of accumulator.old) (masked (sentinel_of accumulator.old) piece.now)
+        (held_of accumulator.new) values.old.items values.new.items) }
+    ensures err { OnErr result (LacksPlace T.takes T.reads T.growing N (held_of accumulator.old)
+        (masked (sentinel_of accumulator.old) piece.now) values.old.items values.new.items) }
     ensures sentinel { sentinel_of accumulator.new ≡ sentinel_of accumulator.old }
 {
     let mut rest = piece;
@@ -65,9 +68,14 @@ fn collect<T: DeserializeOwned, R: Inlet, const N: usize>(
     values: &mut Vec<T>,
 ) -> End
     requires { 0 < N }
-    ensures gathered { (bytes : List ℕ) × HasRead (R.to_come reader.old) (R.to_come reader.new) (R.faults reader.old) (R.faults reader.new) (R.calls_left reader.new) result bytes
-        × IsGathered T.takes T.reads T.growing N (sentinel_of accumulator.old) (held_of accumulator.old) bytes (held_of accumulator.new) values.old.items values.new.items result }
-    ensures calls { UsesFew (R.to_come reader.old) (R.to_come reader.new) (R.faults reader.old) (R.faults reader.new) (R.calls_left reader.old) (R.calls_left reader.new) 1 }
+    ensures gathered { (bytes : List ℕ) × HasRead (R.to_come reader.old) (R.to_come reader.new)
+        (R.faults reader.old) (R.faults reader.new) (R.calls_left reader.new) result bytes
+        × IsGathered T.takes T.reads T.growing N
+        (sentinel_of accumulator.old) (held_of accumulator.old) bytes
+        (held_of accumulator.new) values.old.items values.new.items result }
+    ensures calls { UsesFew (R.to_come reader.old) (R.to_come reader.new)
+        (R.faults reader.old) (R.faults reader.new)
+        (R.calls_left reader.old) (R.calls_left reader.new) 1 }
 {
     let mut room = [0u8; ROOM];
     loop {
@@ -104,10 +112,13 @@ pub fn receive_by_accumulator<T: DeserializeOwned, R: Inlet, const N: usize>(
 ) -> Gathered<T, R>
     requires some { 0 < N }
     requires fits { AccumulatorFitsInMemory N.row }
-    ensures received { (bytes : List ℕ) × HasRead (R.to_come reader) (R.to_come result.reader) (R.faults reader) (R.faults result.reader) (R.calls_left result.reader) result.end bytes
+    ensures received { (bytes : List ℕ) × HasRead (R.to_come reader) (R.to_come result.reader)
+        (R.faults reader) (R.faults result.reader) (R.calls_left result.reader) result.end bytes
         × AreThoseBy T.takes T.reads T.growing N bytes result.values.items result.end
         × AreLooped T.takes T.reads T.growing N 0 bytes result.values.items result.end }
-    ensures calls { UsesFew (R.to_come reader) (R.to_come result.reader) (R.faults reader) (R.faults result.reader) (R.calls_left reader) (R.calls_left result.reader) 1 }
+    ensures calls { UsesFew (R.to_come reader) (R.to_come result.reader)
+        (R.faults reader) (R.faults result.reader)
+        (R.calls_left reader) (R.calls_left result.reader) 1 }
 {
     receive_by_accumulator_with_sentinel::<T, R, N>(alloc, reader, 0)
 }
@@ -120,10 +131,13 @@ pub fn receive_by_accumulator_with_sentinel<T: DeserializeOwned, R: Inlet, const
 ) -> Gathered<T, R>
     requires some { 0 < N }
     requires fits { AccumulatorFitsInMemory N.row }
-    ensures received { (bytes : List ℕ) × HasRead (R.to_come reader) (R.to_come result.reader) (R.faults reader) (R.faults result.reader) (R.calls_left result.reader) result.end bytes
+    ensures received { (bytes : List ℕ) × HasRead (R.to_come reader) (R.to_come result.reader)
+        (R.faults reader) (R.faults result.reader) (R.calls_left result.reader) result.end bytes
         × AreThoseFor T.takes T.reads T.growing N sentinel bytes result.values.items result.end
         × AreLooped T.takes T.reads T.growing N sentinel bytes result.values.items result.end }
-    ensures calls { UsesFew (R.to_come reader) (R.to_come result.reader) (R.faults reader) (R.faults result.reader) (R.calls_left reader) (R.calls_left result.reader) 1 }
+    ensures calls { UsesFew (R.to_come reader) (R.to_come result.reader)
+        (R.faults reader) (R.faults result.reader)
+        (R.calls_left reader) (R.calls_left result.reader) 1 }
 {
     let mut reader = reader;
     let mut accumulator = CobsAccumulator::<N>::new_with_sentinel(sentinel);

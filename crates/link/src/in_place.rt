@@ -30,7 +30,8 @@ fn read_stretch<'a, T: Deserialize<&'a [u8]>>(
     sentinel: u8,
 ) -> Result<Answer<T>, NoMemory>
     requires { stretch (masked sentinel bytes.now) ≡ [] → ⊥ }
-    ensures answer { AnswersEnded T.takes T.reads (stretch (masked sentinel bytes.entry.now)) result }
+    ensures answer { AnswersEnded T.takes T.reads
+        (stretch (masked sentinel bytes.entry.now)) result }
     ensures memory { OnErr result (T.growing ≡ true) }
 {
     cobs::laws::message_of_a_frame();
@@ -73,7 +74,8 @@ fn with_end(bytes: &mut [u8], sentinel: u8) -> (usize, &mut [u8])
 // The bytes through the end, and those behind it; nothing where there are fewer, or none to it.
 fn cut_behind(bytes: &mut [u8], end: usize) -> Option<(&mut [u8], &mut [u8])>
     ensures parts { (s : ℕ) → IsEnd s bytes.entry.now end → IsNext s end bytes.entry.now result }
-    ensures* lent { sem 𝓛 (LendsBothIf (Array u8 0) (Array u8 0) (Array u8 0) bytes.entry result ◌++◌ bytes.entry.now) }
+    ensures* lent { sem 𝓛 (LendsBothIf (Array u8 0) (Array u8 0) (Array u8 0)
+        bytes.entry result ◌++◌ bytes.entry.now) }
 {
     if end == 0 {
         return None;
@@ -92,7 +94,8 @@ fn read_next<'a, T: Deserialize<&'a [u8]>>(
     sentinel: u8,
 ) -> Option<(Result<Answer<T>, NoMemory>, &'a mut [u8])>
     requires { (bytes : List ℕ) × IsNext sentinel end bytes parts }
-    ensures { (bytes : List ℕ) → IsNext sentinel end bytes parts.entry → AnswersNext T.takes T.reads T.growing sentinel bytes result }
+    ensures { (bytes : List ℕ) → IsNext sentinel end bytes parts.entry
+        → AnswersNext T.takes T.reads T.growing sentinel bytes result }
 {
     match parts {
         None => {
@@ -119,7 +122,8 @@ pub fn read_in_place<'a, T: Deserialize<&'a [u8]>>(
     alloc: Global,
     bytes: &'a mut [u8],
 ) -> Option<(Result<Answer<T>, NoMemory>, &'a mut [u8])>
-    ensures some { IfSome result (λ p. ReadsNext T.takes T.reads (unpadded bytes.entry.now) p.0 p.1.now) }
+    ensures some { IfSome result
+        (λ p. ReadsNext T.takes T.reads (unpadded bytes.entry.now) p.0 p.1.now) }
     ensures none { IfNone result (unpadded bytes.entry.now ≡ []) }
     ensures memory { IfSome result (λ p. OnErr p.0 (T.growing ≡ true)) }
     ensures* unchanged { sem 𝓛 (KeptUnlessEnded bytes.entry result) }
@@ -133,7 +137,8 @@ pub fn read_in_place_with_sentinel<'a, T: Deserialize<&'a [u8]>>(
     bytes: &'a mut [u8],
     sentinel: u8,
 ) -> Option<(Result<Answer<T>, NoMemory>, &'a mut [u8])>
-    ensures some { IfSome result (λ p. ReadsNext T.takes T.reads (unpadded (masked sentinel bytes.entry.now)) p.0 (masked sentinel p.1.now)) }
+    ensures some { IfSome result (λ p. ReadsNext T.takes T.reads
+        (unpadded (masked sentinel bytes.entry.now)) p.0 (masked sentinel p.1.now)) }
     ensures none { IfNone result (unpadded (masked sentinel bytes.entry.now) ≡ []) }
     ensures memory { IfSome result (λ p. OnErr p.0 (T.growing ≡ true)) }
     ensures* unchanged { sem 𝓛 (KeptUnlessEnded bytes.entry result) }

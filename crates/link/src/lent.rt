@@ -42,7 +42,8 @@ impl<D: Decoding> Reception<D> {
     // Takes bytes of a piece, up to the first that brings something about, and lends the message of a frame.
     pub(crate) fn advance<'de>(&'de mut self, piece: &[u8]) -> Advanced<'de>
         ensures answer { Advances D.inside self.entry.now piece.now result }
-        ensures* after { sem 𝓛 (follows_so (the_row D.row) (the_row D.row) self.entry.ghost_name none (λ _ _. ⊤) (λ n. Leads D.inside self.entry.now piece.now n)) }
+        ensures* after { sem 𝓛 (follows_so (the_row D.row) (the_row D.row) self.entry.ghost_name
+            none (λ _ _. ⊤) (λ n. Leads D.inside self.entry.now piece.now n)) }
     {
         let Taken { used, found } = self.take(piece);
         let stretch = self.span(found);
@@ -77,8 +78,10 @@ impl<D: Decoding> Reception<D> {
         alloc: Global,
         piece: &[u8],
     ) -> Pushed<T>
-        ensures answer { AnswersBy D.inside T.takes T.reads T.growing self.entry.now piece.now result }
-        ensures* after { sem 𝓛 (follows_so (the_row D.row) (the_row D.row) self.entry.ghost_name none (λ _ _. ⊤) (λ n. StandsBy D.inside self.entry.now piece.now result n)) }
+        ensures answer { AnswersBy D.inside T.takes T.reads T.growing
+            self.entry.now piece.now result }
+        ensures* after { sem 𝓛 (follows_so (the_row D.row) (the_row D.row) self.entry.ghost_name
+            none (λ _ _. ⊤) (λ n. StandsBy D.inside self.entry.now piece.now result n)) }
     {
         let advanced = self.advance(piece);
         read_lent(alloc, advanced)
@@ -90,7 +93,8 @@ pub(crate) fn read_message<'de, T: Deserialize<&'de [u8]>>(
     alloc: Global,
     message: &'de [u8],
 ) -> Result<Option<Answer<T>>, NoMemory>
-    ensures stretch { (p : List ℕ) → Frame p message.now → AnswersStretch (Holds T.takes) T.reads p result }
+    ensures stretch { (p : List ℕ) → Frame p message.now
+        → AnswersStretch (Holds T.takes) T.reads p result }
     ensures memory { OnErr result (T.growing ≡ true) }
 {
     cobs::laws::message_of_a_frame();
@@ -109,7 +113,8 @@ pub(crate) fn read_exact_message<'de, T: Deserialize<&'de [u8]> + Exact>(
     message: &'de [u8],
     stretch: usize,
 ) -> Result<Option<Answer<T>>, NoMemory>
-    ensures stretch { (p : List ℕ) → Frame p message.now → stretch ≡ length p → AnswersStretch (HoldsExactly T.takes) T.reads p result }
+    ensures stretch { (p : List ℕ) → Frame p message.now → stretch ≡ length p
+        → AnswersStretch (HoldsExactly T.takes) T.reads p result }
     ensures memory { OnErr result (T.growing ≡ true) }
 {
     cobs::laws::message_of_a_frame();

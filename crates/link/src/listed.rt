@@ -13,14 +13,16 @@ pub(crate) struct Listed<T> {
 }
 
 impl<T: Drop> Hearer<T> for Listed<T> {
-    ghost hears = { λ old answers new. KeepsFirst old.answers.items new.answers.items old.full new.full answers };
+    ghost hears = { λ old answers new.
+        KeepsFirst old.answers.items new.answers.items old.full new.full answers };
 
     ghost laws = { keeps_laws (λ l. l.answers.items) (λ l. l.full) };
 
     ghost enough = { λ l. l.full };
 
     fn hear(&mut self, answer: Answer<T>)
-        ensures { KeepsFirst self.old.answers.items self.new.answers.items self.old.full self.new.full (answer ∷ []) }
+        ensures { KeepsFirst self.old.answers.items self.new.answers.items
+            self.old.full self.new.full (answer ∷ []) }
     {
         if self.full {
             return;
@@ -31,7 +33,8 @@ impl<T: Drop> Hearer<T> for Listed<T> {
     }
 
     fn pause(&mut self)
-        ensures { KeepsFirst self.old.answers.items self.new.answers.items self.old.full self.new.full [] }
+        ensures { KeepsFirst self.old.answers.items self.new.answers.items
+            self.old.full self.new.full [] }
     {}
 
     fn has_enough(&self) -> bool

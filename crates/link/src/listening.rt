@@ -67,9 +67,12 @@ fn receive_by<T: Readable + Drop, J: Judging<T>, R: Inlet, D: Decoding>(
     receiver: &mut Reception<D>,
 ) -> Received<T, R>
     ensures received { (limit s : ℕ) → IsBehind D.inside limit s receiver.old []
-        → (bytes : List ℕ) × HasRead (R.to_come reader) (R.to_come result.reader) (R.faults reader) (R.faults result.reader) (R.calls_left result.reader) result.end bytes
+        → (bytes : List ℕ) × HasRead (R.to_come reader) (R.to_come result.reader)
+        (R.faults reader) (R.faults result.reader) (R.calls_left result.reader) result.end bytes
         × IsReceived J.holds T.reads limit s result.end result.answers.items bytes }
-    ensures calls { UsesFew (R.to_come reader) (R.to_come result.reader) (R.faults reader) (R.faults result.reader) (R.calls_left reader) (R.calls_left result.reader) 1 }
+    ensures calls { UsesFew (R.to_come reader) (R.to_come result.reader)
+        (R.faults reader) (R.faults result.reader)
+        (R.calls_left reader) (R.calls_left result.reader) 1 }
 {
     J::show();
     let mut reader = reader;
@@ -100,9 +103,12 @@ pub fn receive<T: DeserializeOwned, R: Inlet, const N: usize>(
     reader: R,
 ) -> Received<T, R>
     requires { ReceiverFitsInMemory N.row }
-    ensures received { (bytes : List ℕ) × HasRead (R.to_come reader) (R.to_come result.reader) (R.faults reader) (R.faults result.reader) (R.calls_left result.reader) result.end bytes
+    ensures received { (bytes : List ℕ) × HasRead (R.to_come reader) (R.to_come result.reader)
+        (R.faults reader) (R.faults result.reader) (R.calls_left result.reader) result.end bytes
         × IsReceived (Holds T.takes) T.reads N 0 result.end result.answers.items bytes }
-    ensures calls { UsesFew (R.to_come reader) (R.to_come result.reader) (R.faults reader) (R.faults result.reader) (R.calls_left reader) (R.calls_left result.reader) 1 }
+    ensures calls { UsesFew (R.to_come reader) (R.to_come result.reader)
+        (R.faults reader) (R.faults result.reader)
+        (R.calls_left reader) (R.calls_left result.reader) 1 }
 {
     receive_with_sentinel::<T, R, N>(alloc, reader, 0)
 }
@@ -114,9 +120,12 @@ pub fn receive_with_sentinel<T: DeserializeOwned, R: Inlet, const N: usize>(
     sentinel: u8,
 ) -> Received<T, R>
     requires { ReceiverFitsInMemory N.row }
-    ensures received { (bytes : List ℕ) × HasRead (R.to_come reader) (R.to_come result.reader) (R.faults reader) (R.faults result.reader) (R.calls_left result.reader) result.end bytes
+    ensures received { (bytes : List ℕ) × HasRead (R.to_come reader) (R.to_come result.reader)
+        (R.faults reader) (R.faults result.reader) (R.calls_left result.reader) result.end bytes
         × IsReceived (Holds T.takes) T.reads N sentinel result.end result.answers.items bytes }
-    ensures calls { UsesFew (R.to_come reader) (R.to_come result.reader) (R.faults reader) (R.faults result.reader) (R.calls_left reader) (R.calls_left result.reader) 1 }
+    ensures calls { UsesFew (R.to_come reader) (R.to_come result.reader)
+        (R.faults reader) (R.faults result.reader)
+        (R.calls_left reader) (R.calls_left result.reader) 1 }
 {
     let mut receiver = Receiver::<N>::new_with_sentinel(sentinel);
     receive_by::<T, Ordinary, R, CobsDecoderHeapless<N>>(alloc, reader, &mut receiver)
@@ -129,9 +138,12 @@ pub fn receive_strict<T: DeserializeOwned + Exact, R: Inlet, const N: usize>(
     reader: R,
 ) -> Received<T, R>
     requires { ReceiverFitsInMemory N.row }
-    ensures received { (bytes : List ℕ) × HasRead (R.to_come reader) (R.to_come result.reader) (R.faults reader) (R.faults result.reader) (R.calls_left result.reader) result.end bytes
+    ensures received { (bytes : List ℕ) × HasRead (R.to_come reader) (R.to_come result.reader)
+        (R.faults reader) (R.faults result.reader) (R.calls_left result.reader) result.end bytes
         × IsReceived (HoldsExactly T.takes) T.reads N 0 result.end result.answers.items bytes }
-    ensures calls { UsesFew (R.to_come reader) (R.to_come result.reader) (R.faults reader) (R.faults result.reader) (R.calls_left reader) (R.calls_left result.reader) 1 }
+    ensures calls { UsesFew (R.to_come reader) (R.to_come result.reader)
+        (R.faults reader) (R.faults result.reader)
+        (R.calls_left reader) (R.calls_left result.reader) 1 }
 {
     receive_strict_with_sentinel::<T, R, N>(alloc, reader, 0)
 }
@@ -143,9 +155,13 @@ pub fn receive_strict_with_sentinel<T: DeserializeOwned + Exact, R: Inlet, const
     sentinel: u8,
 ) -> Received<T, R>
     requires { ReceiverFitsInMemory N.row }
-    ensures received { (bytes : List ℕ) × HasRead (R.to_come reader) (R.to_come result.reader) (R.faults reader) (R.faults result.reader) (R.calls_left result.reader) result.end bytes
-        × IsReceived (HoldsExactly T.takes) T.reads N sentinel result.end result.answers.items bytes }
-    ensures calls { UsesFew (R.to_come reader) (R.to_come result.reader) (R.faults reader) (R.faults result.reader) (R.calls_left reader) (R.calls_left result.reader) 1 }
+    ensures received { (bytes : List ℕ) × HasRead (R.to_come reader) (R.to_come result.reader)
+        (R.faults reader) (R.faults result.reader) (R.calls_left result.reader) result.end bytes
+        × IsReceived (HoldsExactly T.takes) T.reads N sentinel
+        result.end result.answers.items bytes }
+    ensures calls { UsesFew (R.to_come reader) (R.to_come result.reader)
+        (R.faults reader) (R.faults result.reader)
+        (R.calls_left reader) (R.calls_left result.reader) 1 }
 {
     let mut receiver = Receiver::<N>::new_with_sentinel(sentinel);
     receive_by::<T, Strict, R, CobsDecoderHeapless<N>>(alloc, reader, &mut receiver)
@@ -171,9 +187,12 @@ pub fn receive_owned<T: DeserializeOwned, R: Inlet>(
     sentinel: u8,
 ) -> Received<T, R>
     ensures received { IsUnmade reader result.reader result.end result.answers.items
-        ⊎ ((bytes : List ℕ) × HasRead (R.to_come reader) (R.to_come result.reader) (R.faults reader) (R.faults result.reader) (R.calls_left result.reader) result.end bytes
+        ⊎ ((bytes : List ℕ) × HasRead (R.to_come reader) (R.to_come result.reader)
+        (R.faults reader) (R.faults result.reader) (R.calls_left result.reader) result.end bytes
         × IsReceived (Holds T.takes) T.reads limit sentinel result.end result.answers.items bytes) }
-    ensures calls { UsesFew (R.to_come reader) (R.to_come result.reader) (R.faults reader) (R.faults result.reader) (R.calls_left reader) (R.calls_left result.reader) 1 }
+    ensures calls { UsesFew (R.to_come reader) (R.to_come result.reader)
+        (R.faults reader) (R.faults result.reader)
+        (R.calls_left reader) (R.calls_left result.reader) 1 }
 {
     match OwnedReceiver::new(alloc, limit, sentinel) {
         Ok(mut receiver) => receive_by::<T, Ordinary, R, CobsDecoderOwned>(
@@ -194,9 +213,13 @@ pub fn receive_owned_strict<T: DeserializeOwned + Exact, R: Inlet>(
     sentinel: u8,
 ) -> Received<T, R>
     ensures received { IsUnmade reader result.reader result.end result.answers.items
-        ⊎ ((bytes : List ℕ) × HasRead (R.to_come reader) (R.to_come result.reader) (R.faults reader) (R.faults result.reader) (R.calls_left result.reader) result.end bytes
-        × IsReceived (HoldsExactly T.takes) T.reads limit sentinel result.end result.answers.items bytes) }
-    ensures calls { UsesFew (R.to_come reader) (R.to_come result.reader) (R.faults reader) (R.faults result.reader) (R.calls_left reader) (R.calls_left result.reader) 1 }
+        ⊎ ((bytes : List ℕ) × HasRead (R.to_come reader) (R.to_come result.reader)
+        (R.faults reader) (R.faults result.reader) (R.calls_left result.reader) result.end bytes
+        × IsReceived (HoldsExactly T.takes) T.reads limit sentinel
+        result.end result.answers.items bytes) }
+    ensures calls { UsesFew (R.to_come reader) (R.to_come result.reader)
+        (R.faults reader) (R.faults result.reader)
+        (R.calls_left reader) (R.calls_left result.reader) 1 }
 {
     match OwnedReceiver::new(alloc, limit, sentinel) {
         Ok(mut receiver) => receive_by::<T, Strict, R, CobsDecoderOwned>(

@@ -44,8 +44,10 @@ impl Reception<CobsDecoderOwned> {
         ensures limit { OnOk result (limit_of in_owner self.new ≡ limit) }
         ensures refused { OnErr result (limit_of in_owner self.new ≡ limit_of in_owner self.old) }
         ensures granted { limit ≤ limit_of in_owner self.old → IsOk result }
-        ensures stands { (limit s : ℕ) (stream : List ℕ) → IsBehind in_owner limit s self.old stream → IsBehind in_owner (limit_of in_owner self.new) s self.new stream }
-        ensures anew { (limit s : ℕ) (stream : List ℕ) → IsBehind in_owner limit s self.old stream → IsBehind in_owner (limit_of in_owner self.new) s self.new [] }
+        ensures stands { (limit s : ℕ) (stream : List ℕ) → IsBehind in_owner limit s self.old stream
+            → IsBehind in_owner (limit_of in_owner self.new) s self.new stream }
+        ensures anew { (limit s : ℕ) (stream : List ℕ) → IsBehind in_owner limit s self.old stream
+            → IsBehind in_owner (limit_of in_owner self.new) s self.new [] }
         ensures between { IsBetween self.new }
         ensures sentinel { sentinel_of self.new ≡ sentinel_of self.old }
     {

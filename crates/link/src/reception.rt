@@ -66,8 +66,10 @@ impl<D: Decoding> Reception<D> {
 
     // Ends a stretch.
     fn close(&mut self) -> Found
-        ensures found { (limit s : ℕ) (p : List ℕ) → IsAt D.inside limit s self.old (kept p) → 0 < length p
-            → IsAt D.inside limit s self.new (kept []) × Finds (Event.ended p) (buffer_in D.inside self.new) result }
+        ensures found { (limit s : ℕ) (p : List ℕ) → IsAt D.inside limit s self.old (kept p)
+            → 0 < length p
+            → IsAt D.inside limit s self.new (kept [])
+            × Finds (Event.ended p) (buffer_in D.inside self.new) result }
         ensures within { IsWithin (length (buffer_in D.inside self.new)) result }
         ensures same { SameTerms D.inside self.old self.new }
     {
@@ -85,8 +87,10 @@ impl<D: Decoding> Reception<D> {
 
     // Takes a sentinel.
     fn take_sentinel(&mut self) -> Found
-        ensures at { (limit s : ℕ) (b : Begun) → IsAt D.inside limit s self.old b → IsAt D.inside limit s self.new (begun_at limit s b s) }
-        ensures finds { (limit s : ℕ) (b : Begun) → IsAt D.inside limit s self.old b → Finds (event_at limit s b s) (buffer_in D.inside self.new) result }
+        ensures at { (limit s : ℕ) (b : Begun) → IsAt D.inside limit s self.old b
+            → IsAt D.inside limit s self.new (begun_at limit s b s) }
+        ensures finds { (limit s : ℕ) (b : Begun) → IsAt D.inside limit s self.old b
+            → Finds (event_at limit s b s) (buffer_in D.inside self.new) result }
         ensures within { IsWithin (length (buffer_in D.inside self.new)) result }
         ensures same { SameTerms D.inside self.old self.new }
     {
@@ -102,8 +106,10 @@ impl<D: Decoding> Reception<D> {
 
     // Takes a run without sentinels. Where it goes past the limit, how many bytes of it do.
     fn take_run(&mut self, run: &[u8]) -> Option<usize>
-        ensures runs { (limit s : ℕ) (b : Begun) → NoZero (masked s run.now) → IsAt D.inside limit s self.old b
-            → MatchOption result (RunsOn limit s b run.now (IsAt D.inside limit s self.new)) (λ used. RunsPast limit s b run.now used (IsAt D.inside limit s self.new)) }
+        ensures runs { (limit s : ℕ) (b : Begun) → NoZero (masked s run.now)
+            → IsAt D.inside limit s self.old b
+            → MatchOption result (RunsOn limit s b run.now (IsAt D.inside limit s self.new))
+            (λ used. RunsPast limit s b run.now used (IsAt D.inside limit s self.new)) }
         ensures within { IfSome result (λ used. (0 < used) × (used ≤ length run.now)) }
         ensures same { SameTerms D.inside self.old self.new }
     {
@@ -125,7 +131,9 @@ impl<D: Decoding> Reception<D> {
 
     // Takes bytes through the first sentinel, or up to the byte past the limit.
     fn take_next(&mut self, bytes: &[u8]) -> Taken
-        ensures brings { (limit s : ℕ) (b : Begun) → IsAt D.inside limit s self.old b → Brings limit s b bytes.now result.used (buffer_in D.inside self.new) result.found (IsAt D.inside limit s self.new) }
+        ensures brings { (limit s : ℕ) (b : Begun) → IsAt D.inside limit s self.old b
+            → Brings limit s b bytes.now result.used (buffer_in D.inside self.new) result.found
+            (IsAt D.inside limit s self.new) }
         ensures within { IsWithin (length (buffer_in D.inside self.new)) result.found }
         ensures bound { result.used ≤ length bytes.now }
         ensures forward { 0 < length bytes.now → 0 < result.used }
@@ -156,9 +164,13 @@ impl<D: Decoding> Reception<D> {
 
     // Takes bytes of a piece, up to the first that brings something about.
     pub(crate) fn take(&mut self, piece: &[u8]) -> Taken
-        ensures used { (limit s : ℕ) (b : Begun) → IsAt D.inside limit s self.old b → result.used ≡ (course_of limit s b piece.now).used }
-        ensures at { (limit s : ℕ) (b : Begun) → IsAt D.inside limit s self.old b → IsAt D.inside limit s self.new (course_of limit s b piece.now).begun }
-        ensures finds { (limit s : ℕ) (b : Begun) → IsAt D.inside limit s self.old b → Finds (course_of limit s b piece.now).event (buffer_in D.inside self.new) result.found }
+        ensures used { (limit s : ℕ) (b : Begun) → IsAt D.inside limit s self.old b
+            → result.used ≡ (course_of limit s b piece.now).used }
+        ensures at { (limit s : ℕ) (b : Begun) → IsAt D.inside limit s self.old b
+            → IsAt D.inside limit s self.new (course_of limit s b piece.now).begun }
+        ensures finds { (limit s : ℕ) (b : Begun) → IsAt D.inside limit s self.old b
+            → Finds (course_of limit s b piece.now).event
+            (buffer_in D.inside self.new) result.found }
         ensures within { IsWithin (length (buffer_in D.inside self.new)) result.found }
         ensures bound { result.used ≤ length piece.now }
         ensures forward { 0 < length piece.now → 0 < result.used }
@@ -189,7 +201,8 @@ impl<D: Decoding> Reception<D> {
 
     // How many bytes of its stretch stand before the last byte of what was found.
     pub(crate) fn span(&self, found: Found) -> usize
-        ensures { (e : Event) → Finds e (buffer_in D.inside self.now) found → IsSpan (limit_of D.inside self.now) e result }
+        ensures { (e : Event) → Finds e (buffer_in D.inside self.now) found
+            → IsSpan (limit_of D.inside self.now) e result }
     {
         match found {
             Found::Nothing => 0,
@@ -206,7 +219,8 @@ impl<D: Decoding> Reception<D> {
         found: Found,
     ) -> Result<Option<Answer<T>>, NoMemory>
         requires { IsWithin (length (buffer_in D.inside self.now)) found }
-        ensures replies { (e : Event) → Finds e (buffer_in D.inside self.now) found → Replies J.holds T.reads e result }
+        ensures replies { (e : Event) → Finds e (buffer_in D.inside self.now) found
+            → Replies J.holds T.reads e result }
         ensures memory { OnErr result (T.growing ≡ true) }
     {
         J::show();
@@ -226,9 +240,14 @@ impl<D: Decoding> Reception<D> {
     ) -> Pushed<T>
         ensures within { result.used ≤ length piece.now }
         ensures forward { 0 < length piece.now → 0 < result.used }
-        ensures stands { (limit s : ℕ) (stream : List ℕ) → IsBehind D.inside limit s self.old stream → IsBehind D.inside limit s self.new (stream ++ take result.used piece.now) }
-        ensures answers { (limit s : ℕ) (stream : List ℕ) → IsBehind D.inside limit s self.old stream → Answered J.holds T.reads limit s stream piece.now result.used result.answer }
-        ensures stretch { (limit s : ℕ) (stream : List ℕ) → IsBehind D.inside limit s self.old stream → IsStretchOf s stream piece.now result.used result.answer result.stretch }
+        ensures stands { (limit s : ℕ) (stream : List ℕ) → IsBehind D.inside limit s self.old stream
+            → IsBehind D.inside limit s self.new (stream ++ take result.used piece.now) }
+        ensures answers { (limit s : ℕ) (stream : List ℕ)
+            → IsBehind D.inside limit s self.old stream
+            → Answered J.holds T.reads limit s stream piece.now result.used result.answer }
+        ensures stretch { (limit s : ℕ) (stream : List ℕ)
+            → IsBehind D.inside limit s self.old stream
+            → IsStretchOf s stream piece.now result.used result.answer result.stretch }
         ensures memory { OnErr result.answer (T.growing ≡ true) }
         ensures same { SameTerms D.inside self.old self.new }
     {
@@ -247,9 +266,14 @@ impl<D: Decoding> Reception<D> {
     pub fn push<T: DeserializeOwned>(&mut self, alloc: Global, piece: &[u8]) -> Pushed<T>
         ensures within { result.used ≤ length piece.now }
         ensures forward { 0 < length piece.now → 0 < result.used }
-        ensures stands { (limit s : ℕ) (stream : List ℕ) → IsBehind D.inside limit s self.old stream → IsBehind D.inside limit s self.new (stream ++ take result.used piece.now) }
-        ensures answers { (limit s : ℕ) (stream : List ℕ) → IsBehind D.inside limit s self.old stream → Answered (Holds T.takes) T.reads limit s stream piece.now result.used result.answer }
-        ensures stretch { (limit s : ℕ) (stream : List ℕ) → IsBehind D.inside limit s self.old stream → IsStretchOf s stream piece.now result.used result.answer result.stretch }
+        ensures stands { (limit s : ℕ) (stream : List ℕ) → IsBehind D.inside limit s self.old stream
+            → IsBehind D.inside limit s self.new (stream ++ take result.used piece.now) }
+        ensures answers { (limit s : ℕ) (stream : List ℕ)
+            → IsBehind D.inside limit s self.old stream
+            → Answered (Holds T.takes) T.reads limit s stream piece.now result.used result.answer }
+        ensures stretch { (limit s : ℕ) (stream : List ℕ)
+            → IsBehind D.inside limit s self.old stream
+            → IsStretchOf s stream piece.now result.used result.answer result.stretch }
         ensures memory { OnErr result.answer (T.growing ≡ true) }
         ensures same { SameTerms D.inside self.old self.new }
     {
@@ -265,9 +289,14 @@ impl<D: Decoding> Reception<D> {
     ) -> Pushed<T>
         ensures within { result.used ≤ length piece.now }
         ensures forward { 0 < length piece.now → 0 < result.used }
-        ensures stands { (limit s : ℕ) (stream : List ℕ) → IsBehind D.inside limit s self.old stream → IsBehind D.inside limit s self.new (stream ++ take result.used piece.now) }
-        ensures answers { (limit s : ℕ) (stream : List ℕ) → IsBehind D.inside limit s self.old stream → Answered (HoldsExactly T.takes) T.reads limit s stream piece.now result.used result.answer }
-        ensures stretch { (limit s : ℕ) (stream : List ℕ) → IsBehind D.inside limit s self.old stream → IsStretchOf s stream piece.now result.used result.answer result.stretch }
+        ensures stands { (limit s : ℕ) (stream : List ℕ) → IsBehind D.inside limit s self.old stream
+            → IsBehind D.inside limit s self.new (stream ++ take result.used piece.now) }
+        ensures answers { (limit s : ℕ) (stream : List ℕ)
+            → IsBehind D.inside limit s self.old stream → Answered (HoldsExactly T.takes) T.reads
+            limit s stream piece.now result.used result.answer }
+        ensures stretch { (limit s : ℕ) (stream : List ℕ)
+            → IsBehind D.inside limit s self.old stream
+            → IsStretchOf s stream piece.now result.used result.answer result.stretch }
         ensures memory { OnErr result.answer (T.growing ≡ true) }
         ensures same { SameTerms D.inside self.old self.new }
     {
@@ -277,14 +306,16 @@ impl<D: Decoding> Reception<D> {
     /// Whether no stretch is begun. After a `TooLong` one is, until its sentinel.
     pub fn is_between(&self) -> bool
         ensures state { IsTrue result ↔ IsBetween self.now }
-        ensures begun { (limit s : ℕ) (stream : List ℕ) → IsBehind D.inside limit s self.now stream → (IsTrue result ↔ (begun limit s stream ≡ kept [])) }
+        ensures begun { (limit s : ℕ) (stream : List ℕ) → IsBehind D.inside limit s self.now stream
+            → (IsTrue result ↔ (begun limit s stream ≡ kept [])) }
     {
         !self.past && self.count == 0
     }
 
     // What the end of the stream adds.
     pub(crate) fn ending<T>(&self) -> Option<Answer<T>>
-        ensures { (limit s : ℕ) (stream : List ℕ) → IsBehind D.inside limit s self.now stream → result ≡ finished (begun limit s stream) }
+        ensures { (limit s : ℕ) (stream : List ℕ) → IsBehind D.inside limit s self.now stream
+            → result ≡ finished (begun limit s stream) }
     {
         if self.past {
             return None;
@@ -298,8 +329,10 @@ impl<D: Decoding> Reception<D> {
     /// Ends the stream as `finish` does, and begins a new one: what comes is answered as by a receiver that was given nothing. It
     /// takes no memory.
     pub fn restart<T>(&mut self) -> Option<Answer<T>>
-        ensures answer { (limit s : ℕ) (stream : List ℕ) → IsBehind D.inside limit s self.old stream → result ≡ finished (begun limit s stream) }
-        ensures anew { (limit s : ℕ) (stream : List ℕ) → IsBehind D.inside limit s self.old stream → IsBehind D.inside limit s self.new [] }
+        ensures answer { (limit s : ℕ) (stream : List ℕ) → IsBehind D.inside limit s self.old stream
+            → result ≡ finished (begun limit s stream) }
+        ensures anew { (limit s : ℕ) (stream : List ℕ) → IsBehind D.inside limit s self.old stream
+            → IsBehind D.inside limit s self.new [] }
         ensures between { IsBetween self.new }
         ensures same { SameTerms D.inside self.old self.new }
     {
@@ -316,7 +349,8 @@ impl<D: Decoding + Drop> Reception<D> {
 
     /// Ends the stream: `Cut` for a stretch that was begun and not answered, else nothing.
     pub fn finish<T>(self) -> Option<Answer<T>>
-        ensures { (limit s : ℕ) (stream : List ℕ) → IsBehind D.inside limit s self stream → result ≡ finished (begun limit s stream) }
+        ensures { (limit s : ℕ) (stream : List ℕ) → IsBehind D.inside limit s self stream
+            → result ≡ finished (begun limit s stream) }
     {
         self.ending()
     }

@@ -20,8 +20,10 @@ pub enum Fate {
 
 // Sends a value.
 fn send_one<T: Serialize, W: Outlet, const N: usize>(sender: &mut Sender<W, N>, value: &T) -> Fate
-    ensures one { SendsOne N (sentinel_of sender.old) (T.writes value.now) (T.valid value.now) (clean_of sender.old) (clean_of sender.new)
-        (W.written (writer_of sender.old)) (W.written (writer_of sender.new)) (W.faults (writer_of sender.old)) (W.faults (writer_of sender.new))
+    ensures one { SendsOne N (sentinel_of sender.old) (T.writes value.now) (T.valid value.now)
+        (clean_of sender.old) (clean_of sender.new)
+        (W.written (writer_of sender.old)) (W.written (writer_of sender.new))
+        (W.faults (writer_of sender.old)) (W.faults (writer_of sender.new))
         (W.calls_left (writer_of sender.old)) (W.calls_left (writer_of sender.new)) result }
     ensures sentinel { sentinel_of sender.new ≡ sentinel_of sender.old }
 {
@@ -41,9 +43,12 @@ fn send_all<T: Serialize, W: Outlet, const N: usize>(
     fates: &mut [Fate],
 )
     requires { length values.now ≡ length fates.old }
-    ensures { SendsAll N (sentinel_of sender.old) T.writes T.valid (clean_of sender.old) (clean_of sender.new)
-        (W.written (writer_of sender.old)) (W.written (writer_of sender.new)) (W.faults (writer_of sender.old)) (W.faults (writer_of sender.new))
-        (W.calls_left (writer_of sender.old)) (W.calls_left (writer_of sender.new)) values.now fates.new }
+    ensures { SendsAll N (sentinel_of sender.old) T.writes T.valid
+        (clean_of sender.old) (clean_of sender.new)
+        (W.written (writer_of sender.old)) (W.written (writer_of sender.new))
+        (W.faults (writer_of sender.old)) (W.faults (writer_of sender.new))
+        (W.calls_left (writer_of sender.old)) (W.calls_left (writer_of sender.new))
+        values.now fates.new }
 {
     for i in 0..values.len() {
         fates[i] = send_one(sender, &values[i]);

@@ -63,7 +63,8 @@ pub(crate) trait JudgingText {
         message: &'de [u8],
         stretch: usize,
     ) -> Result<Option<Answer<&'de str>>, NoMemory>
-        ensures stretch { (p : List ℕ) → Frame p message.now → stretch ≡ length p → AnswersStretch holds reads_lent p result }
+        ensures stretch { (p : List ℕ) → Frame p message.now → stretch ≡ length p
+            → AnswersStretch holds reads_lent p result }
         ensures memory { IsOk result };
 
     // A stretch holds one text at most, and is a frame then.
@@ -112,7 +113,8 @@ impl<D: Decoding> Reception<D> {
         found: Found,
     ) -> Result<Option<Answer<&'de str>>, NoMemory>
         requires { IsWithin (length (buffer_in D.inside self.now)) found }
-        ensures replies { (e : Event) → Finds e (buffer_in D.inside self.now) found → Replies J.holds reads_lent e result }
+        ensures replies { (e : Event) → Finds e (buffer_in D.inside self.now) found
+            → Replies J.holds reads_lent e result }
         ensures memory { IsOk result }
     {
         J::show_text();
@@ -132,9 +134,12 @@ impl<D: Decoding> Reception<D> {
         reader: &mut R,
         hearer: &mut H,
     ) -> Option<End>
-        ensures heard { (limit s : ℕ) (stream : List ℕ) (given : List (Answer (Bor (List ℕ)))) → Hears D.inside (Holds TakesText) reads_lent limit s self.old given stream
-            → (bytes : List ℕ) × HasReadNow (R.to_come reader.old) (R.to_come reader.new) (R.faults reader.old) (R.faults reader.new) (R.calls_left reader.new) result bytes
-            × Handed H.hears hearer.old hearer.new (λ more. IsHeardNow D.inside (Holds TakesText) reads_lent limit s result self.new (given ++ more) (stream ++ bytes)) }
+        ensures heard { (limit s : ℕ) (stream : List ℕ) (given : List (Answer (Bor (List ℕ))))
+            → Hears D.inside (Holds TakesText) reads_lent limit s self.old given stream
+            → (bytes : List ℕ) × HasReadNow (R.to_come reader.old) (R.to_come reader.new)
+            (R.faults reader.old) (R.faults reader.new) (R.calls_left reader.new) result bytes
+            × Handed H.hears hearer.old hearer.new (λ more. IsHeardNow D.inside (Holds TakesText)
+            reads_lent limit s result self.new (given ++ more) (stream ++ bytes)) }
         ensures memory { HadMemory result }
         ensures calls { R.calls_left reader.new ≡ R.calls_left reader.old - 1 }
         ensures spent { R.calls_left reader.old ≡ 0 → result ≡ Some ReadFault }
@@ -151,9 +156,13 @@ impl<D: Decoding> Reception<D> {
         reader: &mut R,
         hearer: &mut H,
     ) -> Option<End>
-        ensures heard { (limit s : ℕ) (stream : List ℕ) (given : List (Answer (Bor (List ℕ)))) → Hears D.inside (HoldsExactly TakesText) reads_lent limit s self.old given stream
-            → (bytes : List ℕ) × HasReadNow (R.to_come reader.old) (R.to_come reader.new) (R.faults reader.old) (R.faults reader.new) (R.calls_left reader.new) result bytes
-            × Handed H.hears hearer.old hearer.new (λ more. IsHeardNow D.inside (HoldsExactly TakesText) reads_lent limit s result self.new (given ++ more) (stream ++ bytes)) }
+        ensures heard { (limit s : ℕ) (stream : List ℕ) (given : List (Answer (Bor (List ℕ))))
+            → Hears D.inside (HoldsExactly TakesText) reads_lent limit s self.old given stream
+            → (bytes : List ℕ) × HasReadNow (R.to_come reader.old) (R.to_come reader.new)
+            (R.faults reader.old) (R.faults reader.new) (R.calls_left reader.new) result bytes
+            × Handed H.hears hearer.old hearer.new
+            (λ more. IsHeardNow D.inside (HoldsExactly TakesText) reads_lent limit s result self.new
+            (given ++ more) (stream ++ bytes)) }
         ensures memory { HadMemory result }
         ensures calls { R.calls_left reader.new ≡ R.calls_left reader.old - 1 }
         ensures spent { R.calls_left reader.old ≡ 0 → result ≡ Some ReadFault }
@@ -172,12 +181,16 @@ pub fn receive_each_text<R: Inlet, H: TextHearer, const N: usize>(
     sentinel: u8,
 ) -> Option<End>
     requires { ReceiverFitsInMemory N.row }
-    ensures received { (bytes : List ℕ) × HasReadNow (R.to_come reader.old) (R.to_come reader.new) (R.faults reader.old) (R.faults reader.new) (R.calls_left reader.new) result bytes
-        × Handed H.hears hearer.old hearer.new (λ answers. IsReceivedNow (Holds TakesText) reads_lent N sentinel result answers bytes) }
+    ensures received { (bytes : List ℕ) × HasReadNow (R.to_come reader.old) (R.to_come reader.new)
+        (R.faults reader.old) (R.faults reader.new) (R.calls_left reader.new) result bytes
+        × Handed H.hears hearer.old hearer.new
+        (λ answers. IsReceivedNow (Holds TakesText) reads_lent N sentinel result answers bytes) }
     ensures memory { HadMemory result }
     ensures enough { result ≡ None → H.enough hearer.new ≡ true }
     ensures fault { result ≡ Some ReadFault → H.enough hearer.new ≡ false }
-    ensures calls { UsesFew (R.to_come reader.old) (R.to_come reader.new) (R.faults reader.old) (R.faults reader.new) (R.calls_left reader.old) (R.calls_left reader.new) (last_call result) }
+    ensures calls { UsesFew (R.to_come reader.old) (R.to_come reader.new)
+        (R.faults reader.old) (R.faults reader.new)
+        (R.calls_left reader.old) (R.calls_left reader.new) (last_call result) }
 {
     let mut receiver = Receiver::<N>::new_with_sentinel(sentinel);
     receive_each_by::<&'static str, ByText<Ordinary>, R, CobsDecoderHeapless<N>, H>(
@@ -197,12 +210,16 @@ pub fn receive_each_text_strict<R: Inlet, H: TextHearer, const N: usize>(
     sentinel: u8,
 ) -> Option<End>
     requires { ReceiverFitsInMemory N.row }
-    ensures received { (bytes : List ℕ) × HasReadNow (R.to_come reader.old) (R.to_come reader.new) (R.faults reader.old) (R.faults reader.new) (R.calls_left reader.new) result bytes
-        × Handed H.hears hearer.old hearer.new (λ answers. IsReceivedNow (HoldsExactly TakesText) reads_lent N sentinel result answers bytes) }
+    ensures received { (bytes : List ℕ) × HasReadNow (R.to_come reader.old) (R.to_come reader.new)
+        (R.faults reader.old) (R.faults reader.new) (R.calls_left reader.new) result bytes
+        × Handed H.hears hearer.old hearer.new (λ answers. IsReceivedNow (HoldsExactly TakesText)
+        reads_lent N sentinel result answers bytes) }
     ensures memory { HadMemory result }
     ensures enough { result ≡ None → H.enough hearer.new ≡ true }
     ensures fault { result ≡ Some ReadFault → H.enough hearer.new ≡ false }
-    ensures calls { UsesFew (R.to_come reader.old) (R.to_come reader.new) (R.faults reader.old) (R.faults reader.new) (R.calls_left reader.old) (R.calls_left reader.new) (last_call result) }
+    ensures calls { UsesFew (R.to_come reader.old) (R.to_come reader.new)
+        (R.faults reader.old) (R.faults reader.new)
+        (R.calls_left reader.old) (R.calls_left reader.new) (last_call result) }
 {
     let mut receiver = Receiver::<N>::new_with_sentinel(sentinel);
     receive_each_by::<&'static str, ByText<Strict>, R, CobsDecoderHeapless<N>, H>(
@@ -222,12 +239,17 @@ pub fn receive_each_text_owned<R: Inlet, H: TextHearer>(
     limit: usize,
     sentinel: u8,
 ) -> Result<Option<End>, NoMemory>
-    ensures received { IfOk result (λ end. (bytes : List ℕ) × HasReadNow (R.to_come reader.old) (R.to_come reader.new) (R.faults reader.old) (R.faults reader.new) (R.calls_left reader.new) end bytes
-        × Handed H.hears hearer.old hearer.new (λ answers. IsReceivedNow (Holds TakesText) reads_lent limit sentinel end answers bytes)) }
+    ensures received { IfOk result
+        (λ end. (bytes : List ℕ) × HasReadNow (R.to_come reader.old) (R.to_come reader.new)
+        (R.faults reader.old) (R.faults reader.new) (R.calls_left reader.new) end bytes
+        × Handed H.hears hearer.old hearer.new
+        (λ answers. IsReceivedNow (Holds TakesText) reads_lent limit sentinel end answers bytes)) }
     ensures memory { IfOk result HadMemory }
     ensures enough { IfOk result (λ end. end ≡ None → H.enough hearer.new ≡ true) }
     ensures fault { IfOk result (λ end. end ≡ Some ReadFault → H.enough hearer.new ≡ false) }
-    ensures calls { UsesFew (R.to_come reader.old) (R.to_come reader.new) (R.faults reader.old) (R.faults reader.new) (R.calls_left reader.old) (R.calls_left reader.new) 1 }
+    ensures calls { UsesFew (R.to_come reader.old) (R.to_come reader.new)
+        (R.faults reader.old) (R.faults reader.new)
+        (R.calls_left reader.old) (R.calls_left reader.new) 1 }
     ensures unmade { OnErr result ((reader.new ≡ reader.old) × (hearer.new ≡ hearer.old)) }
 {
     let mut receiver = OwnedReceiver::new(alloc, limit, sentinel)?;
@@ -248,12 +270,17 @@ pub fn receive_each_text_owned_strict<R: Inlet, H: TextHearer>(
     limit: usize,
     sentinel: u8,
 ) -> Result<Option<End>, NoMemory>
-    ensures received { IfOk result (λ end. (bytes : List ℕ) × HasReadNow (R.to_come reader.old) (R.to_come reader.new) (R.faults reader.old) (R.faults reader.new) (R.calls_left reader.new) end bytes
-        × Handed H.hears hearer.old hearer.new (λ answers. IsReceivedNow (HoldsExactly TakesText) reads_lent limit sentinel end answers bytes)) }
+    ensures received { IfOk result
+        (λ end. (bytes : List ℕ) × HasReadNow (R.to_come reader.old) (R.to_come reader.new)
+        (R.faults reader.old) (R.faults reader.new) (R.calls_left reader.new) end bytes
+        × Handed H.hears hearer.old hearer.new (λ answers. IsReceivedNow (HoldsExactly TakesText)
+        reads_lent limit sentinel end answers bytes)) }
     ensures memory { IfOk result HadMemory }
     ensures enough { IfOk result (λ end. end ≡ None → H.enough hearer.new ≡ true) }
     ensures fault { IfOk result (λ end. end ≡ Some ReadFault → H.enough hearer.new ≡ false) }
-    ensures calls { UsesFew (R.to_come reader.old) (R.to_come reader.new) (R.faults reader.old) (R.faults reader.new) (R.calls_left reader.old) (R.calls_left reader.new) 1 }
+    ensures calls { UsesFew (R.to_come reader.old) (R.to_come reader.new)
+        (R.faults reader.old) (R.faults reader.new)
+        (R.calls_left reader.old) (R.calls_left reader.new) 1 }
     ensures unmade { OnErr result ((reader.new ≡ reader.old) × (hearer.new ≡ hearer.old)) }
 {
     let mut receiver = OwnedReceiver::new(alloc, limit, sentinel)?;

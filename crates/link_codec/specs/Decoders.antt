@@ -14,8 +14,10 @@ abbrev pub IsGivenOwned : {V J : Type 0} (limit s : ℕ) → OwnedAnswerDecoder 
 IsGivenOwned limit s d stream = IsBehind in_owner limit s d.receiver stream
 
 -- each was given some stream
-pub stands : {V J : Type 0} {N : ℕ} (d : AnswerDecoder V J N) → ∥ ((limit : ℕ) × (s : ℕ) × (stream : List ℕ) × IsGiven limit s d stream) ∥₁
+pub stands : {V J : Type 0} {N : ℕ} (d : AnswerDecoder V J N)
+    → ∥ ((limit : ℕ) × (s : ℕ) × (stream : List ℕ) × IsGiven limit s d stream) ∥₁
 stands d = d.stands
 
-pub owned_stands : {V J : Type 0} (d : OwnedAnswerDecoder V J) → ∥ ((limit : ℕ) × (s : ℕ) × (stream : List ℕ) × IsGivenOwned limit s d stream) ∥₁
+pub owned_stands : {V J : Type 0} (d : OwnedAnswerDecoder V J)
+    → ∥ ((limit : ℕ) × (s : ℕ) × (stream : List ℕ) × IsGivenOwned limit s d stream) ∥₁
 owned_stands d = d.stands

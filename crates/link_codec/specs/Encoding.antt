@@ -18,7 +18,8 @@ module _ {N : ℕ} where
   encoder_sentinel e = e.sentinel
 
   -- these bytes are what a completed send of the value leaves on the line
-  pub record Encodes (s : LinkEncoder N) (writes : Option Tree) (holds_of_it : Type 0) (frame : List ℕ) (t : LinkEncoder N) : Type 0 where
+  pub record Encodes (s : LinkEncoder N) (writes : Option Tree) (holds_of_it : Type 0)
+      (frame : List ℕ) (t : LinkEncoder N) : Type 0 where
     pub tree : Tree
     pub of : writes ≡ Some tree
     pub is : IsSend IsTree N (encoder_sentinel s) (encoder_clean s) (completed tree)
@@ -30,4 +31,5 @@ module _ {N : ℕ} where
   -- the value is refused as a sender refuses it, or its bytes had no room
   abbrev pub Refuses : LinkEncoder N → Option Tree → ℕ → EncodeError → Type 0
   Refuses s writes spare (Refused e) = IsRefusal N writes e
-  Refuses s writes spare (Io e) = (tree : Tree) × (writes ≡ Some tree) × LacksRoom (length (sent (encoder_sentinel s) (encoder_clean s) tree)) spare e
+  Refuses s writes spare (Io e) = (tree : Tree) × (writes ≡ Some tree)
+      × LacksRoom (length (sent (encoder_sentinel s) (encoder_clean s) tree)) spare e

@@ -13,28 +13,36 @@ abbrev pub GivenBy : Type 0 → Type 1
 GivenBy C = (limit s : ℕ) → C → List ℕ → Type 0
 
 -- the first bytes of xs were taken, in so many
-pub record Takes {C : Type 0} (IsGiven : GivenBy C) (d : C) (xs : List ℕ) (used : ℕ) (t : C) (ys : List ℕ) : Type 0 where
+pub record Takes {C : Type 0} (IsGiven : GivenBy C) (d : C) (xs : List ℕ)
+    (used : ℕ) (t : C) (ys : List ℕ) : Type 0 where
   pub within : used ≤ length xs
   pub rest : ys ≡ drop used xs
-  pub given : (limit s : ℕ) (stream : List ℕ) → IsGiven limit s d stream → IsGiven limit s t (stream ++ take used xs)
+  pub given : (limit s : ℕ) (stream : List ℕ) → IsGiven limit s d stream
+      → IsGiven limit s t (stream ++ take used xs)
 
 module _ {C V : Type 0} (IsGiven : GivenBy C) (holds : List ℕ → Tree → Type 0) (reads : Tree → V → Type 0) (growing : Bool) where
   -- what the taken bytes add to the answers of the stream so far
   abbrev pub Adds : C → List ℕ → ℕ → Result (Answer V) DecodeError → Type 0
-  Adds d xs used (Ok a) = (limit s : ℕ) (stream : List ℕ) → IsGiven limit s d stream → Answered holds reads limit s stream xs used (Ok (Some a))
-  Adds d xs used (Err NoMemory) = (growing ≡ true) × ((limit s : ℕ) (stream : List ℕ) → IsGiven limit s d stream → IsLost holds limit s stream xs used)
+  Adds d xs used (Ok a) = (limit s : ℕ) (stream : List ℕ) → IsGiven limit s d stream
+      → Answered holds reads limit s stream xs used (Ok (Some a))
+  Adds d xs used (Err NoMemory) = (growing ≡ true)
+      × ((limit s : ℕ) (stream : List ℕ) → IsGiven limit s d stream
+      → IsLost holds limit s stream xs used)
   Adds d xs used (Err (Io e)) = ⊥
 
   -- they add nothing
   abbrev pub AddsNothing : C → List ℕ → Type 0
-  AddsNothing d xs = (limit s : ℕ) (stream : List ℕ) → IsGiven limit s d stream → IsPush holds limit s stream xs (length xs) None
+  AddsNothing d xs = (limit s : ℕ) (stream : List ℕ) → IsGiven limit s d stream
+      → IsPush holds limit s stream xs (length xs) None
 
   -- the end of the stream adds Cut or nothing, and the decoder begins anew
-  pub record Ends (d : C) (xs : List ℕ) (r : Result (Option (Answer V)) DecodeError) (t : C) (ys : List ℕ) : Type 0 where
+  pub record Ends (d : C) (xs : List ℕ)
+      (r : Result (Option (Answer V)) DecodeError) (t : C) (ys : List ℕ) : Type 0 where
     pub nothing : AddsNothing d xs
     pub rest : ys ≡ []
     pub anew : (limit s : ℕ) (stream : List ℕ) → IsGiven limit s d stream → IsGiven limit s t []
-    pub answer : (limit s : ℕ) (stream : List ℕ) → IsGiven limit s d stream → r ≡ Ok (finished (begun limit s (stream ++ xs)))
+    pub answer : (limit s : ℕ) (stream : List ℕ) → IsGiven limit s d stream
+        → r ≡ Ok (finished (begun limit s (stream ++ xs)))
 
   -- what decoding gives: an answer that the used bytes add, none that a part adds, and what the end adds
   abbrev pub gives_answers : Gives C (Answer V) DecodeError

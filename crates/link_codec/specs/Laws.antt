@@ -13,32 +13,38 @@ use Rattle.link_codec.specs.declared.error.DecodeError.TheVariants.{NoMemory, Io
 use Rattle.link_codec.specs.Gives.{GivenBy, Adds, gives_answers}
 use Rattle.tokio_util.specs.Codec.Next.{IsStable, PartialHasNoFrame, EndIsPartial}
 
-zip_length : {A B : Type 0} (R : A → B → Type 0) (xs : List A) (us : List B) → AllZip R xs us → length us ≡ length xs
+zip_length : {A B : Type 0} (R : A → B → Type 0) (xs : List A) (us : List B) → AllZip R xs us
+    → length us ≡ length xs
 zip_length R [] [] h = refl
 zip_length R [] (u ∷ us) h = absurd h
 zip_length R (x ∷ xs) [] h = absurd h
 zip_length R (x ∷ xs) (u ∷ us) h = omega (arith, zip_length R xs us h.1)
 
 -- lists of answers of a stream are equally long
-same_count : (holds : List ℕ → Tree → Type 0) (limit s : ℕ) (stream : List ℕ) (us vs : List Verdict) → Given holds limit s stream us → Given holds limit s stream vs → length us ≡ length vs
+same_count : (holds : List ℕ → Tree → Type 0) (limit s : ℕ) (stream : List ℕ) (us vs : List Verdict)
+    → Given holds limit s stream us → Given holds limit s stream vs → length us ≡ length vs
 same_count holds limit s stream us vs g h =
     let first = zip_length (IsAnswer holds limit) (ended s stream) g.done g.each in
     let second = zip_length (IsAnswer holds limit) (ended s stream) h.done h.each in
     omega (arith, ap length g.whole, ap length h.whole, length-append g.done (begun_answers limit (unfinished s stream)), length-append h.done (begun_answers limit (unfinished s stream)), first, second)
 
 -- that stretches have no answers is absurd
-some_each : (holds : List ℕ → Tree → Type 0) (limit : ℕ) (ps : List (List ℕ)) → (((answers : List Verdict) × AllZip (IsAnswer holds limit) ps answers) → ⊥) → ⊥
+some_each : (holds : List ℕ → Tree → Type 0) (limit : ℕ) (ps : List (List ℕ))
+    → (((answers : List Verdict) × AllZip (IsAnswer holds limit) ps answers) → ⊥) → ⊥
 some_each holds limit [] never = never ([], tt)
 some_each holds limit (p ∷ ps) never = some_each holds limit ps (λ h. elim (cases_lt limit (length p)) [
   | inl l ↦ never (too_long ∷ h.0, (l, h.1))
   | inr l ↦ never (damaged ∷ h.0, ((l, λ t x. never (value t ∷ h.0, ((l, x), h.1))), h.1))
 ])
 
-some_given : (holds : List ℕ → Tree → Type 0) (limit s : ℕ) (stream : List ℕ) → (((answers : List Verdict) × Given holds limit s stream answers) → ⊥) → ⊥
+some_given : (holds : List ℕ → Tree → Type 0) (limit s : ℕ) (stream : List ℕ)
+    → (((answers : List Verdict) × Given holds limit s stream answers) → ⊥) → ⊥
 some_given holds limit s stream never = some_each holds limit (ended s stream) (λ h. never (h.0 ++ begun_answers limit (unfinished s stream), record { done = h.0; each = h.1; whole = refl }))
 
 -- a push that adds an answer within bytes that add none
-pub no_push : (holds : List ℕ → Tree → Type 0) (limit s : ℕ) (stream xs : List ℕ) (used : ℕ) (a : Verdict) → used ≤ length xs → IsPush holds limit s stream xs (length xs) None → IsPush holds limit s stream xs used (Some a) → ⊥
+pub no_push : (holds : List ℕ → Tree → Type 0) (limit s : ℕ) (stream xs : List ℕ) (used : ℕ)
+    (a : Verdict) → used ≤ length xs → IsPush holds limit s stream xs (length xs) None
+    → IsPush holds limit s stream xs used (Some a) → ⊥
 no_push holds limit s stream xs used a within nothing push = some_given holds limit s stream (λ g.
     let more : Given holds limit s (stream ++ take used xs) (g.0 ++ a ∷ []) = push.gives g.0 g.1 in
     let count = length-append g.0 (a ∷ []) in
@@ -51,19 +57,25 @@ no_push holds limit s stream xs used a within nothing push = some_given holds li
     ])
 
 -- bytes behind those that are used
-least_append : (holds : List ℕ → Tree → Type 0) (limit s : ℕ) (stream xs more : List ℕ) (used : ℕ) → used ≤ length xs → IsLeast holds limit s stream xs used → IsLeast holds limit s stream (xs ++ more) used
+least_append : (holds : List ℕ → Tree → Type 0) (limit s : ℕ) (stream xs more : List ℕ) (used : ℕ)
+    → used ≤ length xs → IsLeast holds limit s stream xs used
+    → IsLeast holds limit s stream (xs ++ more) used
 least_append holds limit s stream xs more used within h = record {
   same = λ answers g u l. subst (λ x. Given holds limit s (stream ++ x) answers) (sym (take-append-le u xs more (omega (arith, l, within)))) (h.same answers g u l);
 }
 
-push_append : (holds : List ℕ → Tree → Type 0) (limit s : ℕ) (stream xs more : List ℕ) (used : ℕ) (a : Verdict) → used ≤ length xs → IsPush holds limit s stream xs used (Some a) → IsPush holds limit s stream (xs ++ more) used (Some a)
+push_append : (holds : List ℕ → Tree → Type 0) (limit s : ℕ) (stream xs more : List ℕ) (used : ℕ)
+    (a : Verdict) → used ≤ length xs → IsPush holds limit s stream xs used (Some a)
+    → IsPush holds limit s stream (xs ++ more) used (Some a)
 push_append holds limit s stream xs more used a within h = record {
   gives = λ answers g. subst (λ x. Given holds limit s (stream ++ x) (answers ++ a ∷ [])) (sym (take-append-le used xs more within)) (h.gives answers g);
   least = least_append holds limit s stream xs more used within h.least;
   whole = λ e. cc;
 }
 
-lost_append : (holds : List ℕ → Tree → Type 0) (limit s : ℕ) (stream xs more : List ℕ) (used : ℕ) → used ≤ length xs → IsLost holds limit s stream xs used → IsLost holds limit s stream (xs ++ more) used
+lost_append : (holds : List ℕ → Tree → Type 0) (limit s : ℕ) (stream xs more : List ℕ) (used : ℕ)
+    → used ≤ length xs → IsLost holds limit s stream xs used
+    → IsLost holds limit s stream (xs ++ more) used
 lost_append holds limit s stream xs more used within h =
     let same = take-append-le used xs more within in
     record {
@@ -78,12 +90,16 @@ lost_append holds limit s stream xs more used within h =
     }
 
 module _ {V : Type 0} (holds : List ℕ → Tree → Type 0) (reads : Tree → V → Type 0) where
-  answered_append : (limit s : ℕ) (stream xs more : List ℕ) (used : ℕ) (x : Answer V) → used ≤ length xs → Answered holds reads limit s stream xs used (Ok (Some x)) → Answered holds reads limit s stream (xs ++ more) used (Ok (Some x))
+  answered_append : (limit s : ℕ) (stream xs more : List ℕ) (used : ℕ) (x : Answer V)
+      → used ≤ length xs → Answered holds reads limit s stream xs used (Ok (Some x))
+      → Answered holds reads limit s stream (xs ++ more) used (Ok (Some x))
   answered_append limit s stream xs more used x within (a, says, push) =
       (Some says.0, (says.0, says.1, refl), push_append holds limit s stream xs more used says.0 within (subst (λ o. IsPush holds limit s stream xs used o) says.2 push))
 
 module _ {C V : Type 0} (IsGiven : GivenBy C) (holds : List ℕ → Tree → Type 0) (reads : Tree → V → Type 0) (growing : Bool) where
-  adds_append : (d : C) (xs more : List ℕ) (used : ℕ) (r : Result (Answer V) DecodeError) → used ≤ length xs → Adds IsGiven holds reads growing d xs used r → Adds IsGiven holds reads growing d (xs ++ more) used r
+  adds_append : (d : C) (xs more : List ℕ) (used : ℕ) (r : Result (Answer V) DecodeError)
+      → used ≤ length xs → Adds IsGiven holds reads growing d xs used r
+      → Adds IsGiven holds reads growing d (xs ++ more) used r
   adds_append d xs more used (Ok a) within h = λ limit s stream i. answered_append holds reads limit s stream xs more used a within (h limit s stream i)
   adds_append d xs more used (Err NoMemory) within h = (h.0, λ limit s stream i. lost_append holds limit s stream xs more used within (h.1 limit s stream i))
   adds_append d xs more used (Err (Io e)) within h = absurd h

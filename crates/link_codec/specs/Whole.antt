@@ -25,27 +25,36 @@ abbrev pub IsOfReader : Error → DecodeError → Type 0
 IsOfReader e r = r ≡ Io e
 
 -- a framed reader that hasn't been polled, whose decoder was given nothing, under this limit and with this sentinel
-pub record Begins {R D C : Type 0} (decoder_in : D → C) (IsGiven : GivenBy C) (limit s : ℕ) (f : Reads R D) : Type 0 where
+pub record Begins {R D C : Type 0} (decoder_in : D → C) (IsGiven : GivenBy C)
+    (limit s : ℕ) (f : Reads R D) : Type 0 where
   pub reading : IsReading f.frame
   pub none : unframed f.frame ≡ []
   pub given : IsGiven limit s (decoder_in f.codec) []
 
 -- these are the answers given of a front of the stream, or all answers of the whole stream
-abbrev pub IsHeardOf : {V : Type 0} → (List ℕ → Tree → Type 0) → (Tree → V → Type 0) → ℕ → ℕ → List (Answer V) → List ℕ → Type 0
-IsHeardOf holds reads limit s answers stream = ((front : List ℕ) × (rest : List ℕ) × (stream ≡ front ++ rest) × HasGiven holds reads limit s answers front) ⊎ HasAnswered holds reads limit s answers stream
+abbrev pub IsHeardOf : {V : Type 0} → (List ℕ → Tree → Type 0) → (Tree → V → Type 0)
+    → ℕ → ℕ → List (Answer V) → List ℕ → Type 0
+IsHeardOf holds reads limit s answers stream = ((front : List ℕ) × (rest : List ℕ)
+    × (stream ≡ front ++ rest) × HasGiven holds reads limit s answers front)
+    ⊎ HasAnswered holds reads limit s answers stream
 
 module _ {R D C V : Type 0} (gave : Passes R) (is_at_end : R → Type 0) (fails : R → Error → Type 0) (decoder_in : D → C) (IsGiven : GivenBy C) (gives : Gives D (Answer V) DecodeError) (holds : List ℕ → Tree → Type 0) (reads : Tree → V → Type 0) (f : Reads R D) where
   -- From a reader whose end is final, items that are no errors, up to the end, are the answers of all the bytes that it gave.
   abbrev pub IsAnsweredWhole : Type 0
   IsAnsweredWhole =
-      (limit s : ℕ) (items : List (Result (Answer V) DecodeError)) → EndIsFinal gave is_at_end → Begins decoder_in IsGiven limit s f → All IsOk items
+      (limit s : ℕ) (items : List (Result (Answer V) DecodeError)) → EndIsFinal gave is_at_end
+      → Begins decoder_in IsGiven limit s f → All IsOk items
       → Yields (PollsFrame gave is_at_end fails gives IsOfReader) f items None
-      → (bytes : List ℕ) × (last : R) × gave f.io bytes last × is_at_end last × HasAnswered holds reads limit s (answers_of items) bytes
+      → (bytes : List ℕ) × (last : R) × gave f.io bytes last × is_at_end last
+      × HasAnswered holds reads limit s (answers_of items) bytes
 
   -- From a reader whose end is final, the items before an error, or before any other item or the end, are answers given of a front of
   -- the bytes that it gave, or all their answers.
   abbrev pub IsAnsweredSoFar : Type 0
   IsAnsweredSoFar =
-      (limit s : ℕ) (items : List (Result (Answer V) DecodeError)) (next : Option (Result (Answer V) DecodeError)) → EndIsFinal gave is_at_end → Begins decoder_in IsGiven limit s f → All IsOk items
+      (limit s : ℕ) (items : List (Result (Answer V) DecodeError))
+      (next : Option (Result (Answer V) DecodeError))
+      → EndIsFinal gave is_at_end → Begins decoder_in IsGiven limit s f → All IsOk items
       → Yields (PollsFrame gave is_at_end fails gives IsOfReader) f items next
-      → (bytes : List ℕ) × (last : R) × gave f.io bytes last × IsHeardOf holds reads limit s (answers_of items) bytes
+      → (bytes : List ℕ) × (last : R) × gave f.io bytes last
+      × IsHeardOf holds reads limit s (answers_of items) bytes

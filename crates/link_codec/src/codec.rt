@@ -27,9 +27,11 @@ impl<C: Decoder, const N: usize> Decoder for LinkCodec<C, N> {
 
     ghost stable = { stable_beside (λ c. c.decoder) (λ c. c.encoder) C.gives C.stable };
 
-    ghost partial_has_no_frame = { partial_beside (λ c. c.decoder) (λ c. c.encoder) C.gives C.partial_has_no_frame };
+    ghost partial_has_no_frame = { partial_beside (λ c. c.decoder) (λ c. c.encoder)
+        C.gives C.partial_has_no_frame };
 
-    ghost end_is_partial = { end_beside (λ c. c.decoder) (λ c. c.encoder) C.gives C.end_is_partial };
+    ghost end_is_partial = { end_beside (λ c. c.decoder) (λ c. c.encoder)
+        C.gives C.end_is_partial };
 
     fn decode(&mut self, src: &mut BytesMut) -> Result<Option<C::Item>, C::Error> {
         self.decoder.decode(src)
@@ -45,7 +47,9 @@ impl<T: Serialize + Drop, C, const N: usize> Encoder<T> for LinkCodec<C, N> {
 
     type Error = EncodeError;
 
-    ghost encodes = { λ s item frame t. Encodes s.encoder (T.writes item) (T.valid item) frame t.encoder × (t.decoder ≡ s.decoder) };
+    ghost encodes = { λ s item frame t.
+        Encodes s.encoder (T.writes item) (T.valid item) frame t.encoder
+        × (t.decoder ≡ s.decoder) };
 
     ghost refuses = { λ s item spare e. Refuses s.encoder (T.writes item) spare e };
 

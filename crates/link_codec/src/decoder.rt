@@ -18,7 +18,8 @@ pub struct AnswerDecoder<T, J, const N: usize> {
     receiver: Receiver<N>,
     of: PhantomData<T>,
     by: PhantomData<J>,
-    ghost stands: { ∥ ((limit : ℕ) × (s : ℕ) × (stream : List ℕ) × IsBehind in_array limit s receiver stream) ∥₁ },
+    ghost stands: { ∥ ((limit : ℕ) × (s : ℕ) × (stream : List ℕ)
+        × IsBehind in_array limit s receiver stream) ∥₁ },
 }
 
 /// Answers as `Receiver::push` does.
@@ -68,7 +69,8 @@ impl<T: Readable + Drop, J: Judges<T>, const N: usize> Decoder for AnswerDecoder
     ghost end_is_partial = { answers_end IsGiven J.holds T.reads T.growing };
 
     fn decode(&mut self, src: &mut BytesMut) -> Result<Option<Answer<T>>, DecodeError>
-        ensures next { Decodes (gives_answers IsGiven J.holds T.reads T.growing) self.old src.old.items result self.new src.new.items }
+        ensures next { Decodes (gives_answers IsGiven J.holds T.reads T.growing) self.old
+            src.old.items result self.new src.new.items }
         ensures all { IfOk result (λ r. IfNone r (src.new.items ≡ [])) }
     {
         let alloc = *src.allocator();

@@ -57,7 +57,8 @@ impl<const N: usize> LinkEncoder<N> {
 // Appends the sentinel where none was written yet, the frame, and the sentinel; or nothing, where there is no room for all.
 fn append(dst: &mut BytesMut, clean: bool, frame: &[u8], sentinel: u8) -> Result<(), AllocError>
     ensures ok { OnOk result (dst.new.items ≡ dst.old.items ++ framed sentinel clean frame.now) }
-    ensures err { OnErr result ((dst.new.items ≡ dst.old.items) × (dst.old.spare < length (framed sentinel clean frame.now))) }
+    ensures err { OnErr result ((dst.new.items ≡ dst.old.items)
+        × (dst.old.spare < length (framed sentinel clean frame.now))) }
 {
     if clean {
         dst.reserve(frame.len() + 1)?;

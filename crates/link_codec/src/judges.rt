@@ -18,8 +18,12 @@ pub trait Judges<T: Readable> {
     /// The push of a receiver that answers so.
     fn push<D: Decoding>(receiver: &mut Reception<D>, alloc: Global, piece: &[u8]) -> Pushed<T>
         ensures within { result.used ≤ length piece.now }
-        ensures stands { (limit s : ℕ) (stream : List ℕ) → IsBehind D.inside limit s receiver.old stream → IsBehind D.inside limit s receiver.new (stream ++ take result.used piece.now) }
-        ensures answers { (limit s : ℕ) (stream : List ℕ) → IsBehind D.inside limit s receiver.old stream → Answered holds T.reads limit s stream piece.now result.used result.answer }
+        ensures stands { (limit s : ℕ) (stream : List ℕ)
+            → IsBehind D.inside limit s receiver.old stream
+            → IsBehind D.inside limit s receiver.new (stream ++ take result.used piece.now) }
+        ensures answers { (limit s : ℕ) (stream : List ℕ)
+            → IsBehind D.inside limit s receiver.old stream
+            → Answered holds T.reads limit s stream piece.now result.used result.answer }
         ensures memory { OnErr result.answer (T.growing ≡ true) }
         ensures same { SameTerms D.inside receiver.old receiver.new };
 }

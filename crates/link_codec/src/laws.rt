@@ -18,7 +18,8 @@ use tokio_util::codec::{Framed, FramedRead};
 pub fn answered_whole<T: Readable, J: Judges<T>, R: AsyncRead, const N: usize>(
     reader: &FramedRead<R, AnswerDecoder<T, J, N>>,
 )
-    ensures { IsAnsweredWhole R.reads R.is_at_end R.fails (λ d. d) IsGiven (gives_answers IsGiven J.holds T.reads T.growing) J.holds T.reads (framed_read reader.now) }
+    ensures { IsAnsweredWhole R.reads R.is_at_end R.fails (λ d. d) IsGiven
+        (gives_answers IsGiven J.holds T.reads T.growing) J.holds T.reads (framed_read reader.now) }
 {}
 
 /// However it goes on, as by an error of the reader or out of memory: the items before that are answers given of a front of the
@@ -26,21 +27,26 @@ pub fn answered_whole<T: Readable, J: Judges<T>, R: AsyncRead, const N: usize>(
 pub fn answered_so_far<T: Readable, J: Judges<T>, R: AsyncRead, const N: usize>(
     reader: &FramedRead<R, AnswerDecoder<T, J, N>>,
 )
-    ensures { IsAnsweredSoFar R.reads R.is_at_end R.fails (λ d. d) IsGiven (gives_answers IsGiven J.holds T.reads T.growing) J.holds T.reads (framed_read reader.now) }
+    ensures { IsAnsweredSoFar R.reads R.is_at_end R.fails (λ d. d) IsGiven
+        (gives_answers IsGiven J.holds T.reads T.growing) J.holds T.reads (framed_read reader.now) }
 {}
 
 /// As `answered_whole`, with a limit that is a value.
 pub fn owned_answered_whole<T: Readable, J: Judges<T>, R: AsyncRead>(
     reader: &FramedRead<R, OwnedAnswerDecoder<T, J>>,
 )
-    ensures { IsAnsweredWhole R.reads R.is_at_end R.fails (λ d. d) IsGivenOwned (gives_answers IsGivenOwned J.holds T.reads T.growing) J.holds T.reads (framed_read reader.now) }
+    ensures { IsAnsweredWhole R.reads R.is_at_end R.fails (λ d. d) IsGivenOwned
+        (gives_answers IsGivenOwned J.holds T.reads T.growing) J.holds T.reads
+        (framed_read reader.now) }
 {}
 
 /// As `answered_so_far`, with a limit that is a value.
 pub fn owned_answered_so_far<T: Readable, J: Judges<T>, R: AsyncRead>(
     reader: &FramedRead<R, OwnedAnswerDecoder<T, J>>,
 )
-    ensures { IsAnsweredSoFar R.reads R.is_at_end R.fails (λ d. d) IsGivenOwned (gives_answers IsGivenOwned J.holds T.reads T.growing) J.holds T.reads (framed_read reader.now) }
+    ensures { IsAnsweredSoFar R.reads R.is_at_end R.fails (λ d. d) IsGivenOwned
+        (gives_answers IsGivenOwned J.holds T.reads T.growing) J.holds T.reads
+        (framed_read reader.now) }
 {}
 
 /// As `answered_whole`, of what is read by a `Framed`, whatever is written meanwhile.
@@ -51,5 +57,8 @@ pub fn framed_answered_whole<
     const N: usize,
     const M: usize,
 >(framed: &Framed<S, LinkCodec<AnswerDecoder<T, J, N>, M>>)
-    ensures { IsAnsweredWhole S.reads S.is_at_end S.fails (λ c. c.decoder) IsGiven (gives_beside (λ c. c.decoder) (λ c. c.encoder) (gives_answers IsGiven J.holds T.reads T.growing)) J.holds T.reads (reading_side framed.now) }
+    ensures { IsAnsweredWhole S.reads S.is_at_end S.fails (λ c. c.decoder) IsGiven
+        (gives_beside (λ c. c.decoder) (λ c. c.encoder)
+        (gives_answers IsGiven J.holds T.reads T.growing))
+        J.holds T.reads (reading_side framed.now) }
 {}

@@ -19,7 +19,8 @@ pub struct OwnedAnswerDecoder<T, J> {
     receiver: OwnedReceiver,
     of: PhantomData<T>,
     by: PhantomData<J>,
-    ghost stands: { ∥ ((limit : ℕ) × (s : ℕ) × (stream : List ℕ) × IsBehind in_owner limit s receiver stream) ∥₁ },
+    ghost stands: { ∥ ((limit : ℕ) × (s : ℕ) × (stream : List ℕ)
+        × IsBehind in_owner limit s receiver stream) ∥₁ },
 }
 
 /// Answers as `OwnedReceiver::push` does.
@@ -61,12 +62,14 @@ impl<T: Readable + Drop, J: Judges<T>> Decoder for OwnedAnswerDecoder<T, J> {
 
     ghost stable = { answers_stable IsGivenOwned J.holds T.reads T.growing };
 
-    ghost partial_has_no_frame = { answers_partial IsGivenOwned J.holds T.reads T.growing owned_stands };
+    ghost partial_has_no_frame = { answers_partial IsGivenOwned
+        J.holds T.reads T.growing owned_stands };
 
     ghost end_is_partial = { answers_end IsGivenOwned J.holds T.reads T.growing };
 
     fn decode(&mut self, src: &mut BytesMut) -> Result<Option<Answer<T>>, DecodeError>
-        ensures next { Decodes (gives_answers IsGivenOwned J.holds T.reads T.growing) self.old src.old.items result self.new src.new.items }
+        ensures next { Decodes (gives_answers IsGivenOwned J.holds T.reads T.growing) self.old
+            src.old.items result self.new src.new.items }
         ensures all { IfOk result (λ r. IfNone r (src.new.items ≡ [])) }
     {
         let alloc = *src.allocator();

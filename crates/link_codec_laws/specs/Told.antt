@@ -21,27 +21,34 @@ use Rattle.tokio_util.specs.Codec.Whole.{EndIsFinal, EncodesAll}
 
 -- all that the reader gives up to its end are these bytes
 abbrev pub Brings : {R : Type 0} → Passes R → (R → Type 0) → R → List ℕ → Type 0
-Brings {R} gave is_at_end reader stream = (bytes : List ℕ) (last : R) → gave reader bytes last → is_at_end last → bytes ≡ stream
+Brings {R} gave is_at_end reader stream =
+    (bytes : List ℕ) (last : R) → gave reader bytes last → is_at_end last → bytes ≡ stream
 
 -- a completed send of each value
 abbrev pub SendsEach : {V : Type 0} → (V → Option Tree) → (V → Type 0) → List V → List Send → Type 0
-SendsEach writes valid = AllZip (λ v x. (t : Tree) × (writes v ≡ Some t) × valid v × (x ≡ completed t))
+SendsEach writes valid =
+    AllZip (λ v x. (t : Tree) × (writes v ≡ Some t) × valid v × (x ≡ completed t))
 
 -- the encoder wrote these bytes for these values, one after another
-abbrev pub Wrote : {V : Type 0} {N : ℕ} → LinkEncoder N → (V → Option Tree) → (V → Type 0) → List V → List ℕ → LinkEncoder N → Type 0
-Wrote e writes valid values bytes later = EncodesAll (λ s v frame t. Encodes s (writes v) (valid v) frame t) e values bytes later
+abbrev pub Wrote : {V : Type 0} {N : ℕ} → LinkEncoder N → (V → Option Tree) → (V → Type 0)
+    → List V → List ℕ → LinkEncoder N → Type 0
+Wrote e writes valid values bytes later =
+    EncodesAll (λ s v frame t. Encodes s (writes v) (valid v) frame t) e values bytes later
 
 -- the bytes are those of a session of these values from where the encoder stands
-abbrev pub IsSessionOf : {V : Type 0} {N : ℕ} → LinkEncoder N → (V → Option Tree) → (V → Type 0) → List V → Type 0
+abbrev pub IsSessionOf : {V : Type 0} {N : ℕ} → LinkEncoder N
+    → (V → Option Tree) → (V → Type 0) → List V → Type 0
 IsSessionOf {V} {N} e writes valid values =
     (bytes : List ℕ) (later : LinkEncoder N) → Wrote e writes valid values bytes later
-    → (sends : List Send) × SendsEach writes valid values sends × IsSession IsTree N (encoder_sentinel e) (encoder_clean e) sends
+    → (sends : List Send) × SendsEach writes valid values sends
+    × IsSession IsTree N (encoder_sentinel e) (encoder_clean e) sends
     × (bytes ≡ session_line (encoder_sentinel e) (encoder_clean e) sends)
 
 module _ {R C V : Type 0} (gave : Passes R) (is_at_end : R → Type 0) (fails : R → Error → Type 0) (IsGiven : GivenBy C) (gives : Gives C (Answer V) DecodeError) where
   -- Polled up to its end, a framed reader over a reader whose end is final and that brings this stream yielded these items, of which
   -- none is an error. It had begun with a decoder that was given nothing.
-  pub record YieldsOf (limit s : ℕ) (f : Reads R C) (stream : List ℕ) (items : List (Result (Answer V) DecodeError)) : Type 0 where
+  pub record YieldsOf (limit s : ℕ) (f : Reads R C) (stream : List ℕ)
+      (items : List (Result (Answer V) DecodeError)) : Type 0 where
     pub final : EndIsFinal gave is_at_end
     pub begins : Begins (λ d. d) IsGiven limit s f
     pub oks : All IsOk items
@@ -51,11 +58,15 @@ module _ {R C V : Type 0} (gave : Passes R) (is_at_end : R → Type 0) (fails : 
   -- From a reader that brings the line of a run, the items up to the end, where none is an error, are what is to be told of the run.
   abbrev pub IsToldWhole : (Tree → Type 0) → (Tree → V → Type 0) → Reads R C → Type 0
   IsToldWhole takes reads f =
-      (limit s : ℕ) (items : List (Result (Answer V) DecodeError)) (run : List (List Send)) → IsRun takes limit s run → YieldsOf limit s f (line s run) items
+      (limit s : ℕ) (items : List (Result (Answer V) DecodeError)) (run : List (List Send))
+      → IsRun takes limit s run → YieldsOf limit s f (line s run) items
       → AllZip (Matches reads) (answers_of items) (told s run)
 
   -- From a reader that brings what a new encoder wrote for some values, these are values alike those.
-  abbrev pub IsCarriedWhole : {N : ℕ} → (V → Option Tree) → (V → Type 0) → (V → V → Type 0) → LinkEncoder N → List V → ℕ → Reads R C → Type 0
+  abbrev pub IsCarriedWhole : {N : ℕ} → (V → Option Tree) → (V → Type 0)
+      → (V → V → Type 0) → LinkEncoder N → List V → ℕ → Reads R C → Type 0
   IsCarriedWhole {N} writes valid alike e values limit f =
-      (bytes : List ℕ) (later : LinkEncoder N) (items : List (Result (Answer V) DecodeError)) → encoder_clean e ≡ false → Wrote e writes valid values bytes later
-      → YieldsOf limit (encoder_sentinel e) f bytes items → AllZip (AlikeAnswers alike) (map Value values) (answers_of items)
+      (bytes : List ℕ) (later : LinkEncoder N) (items : List (Result (Answer V) DecodeError))
+      → encoder_clean e ≡ false → Wrote e writes valid values bytes later
+      → YieldsOf limit (encoder_sentinel e) f bytes items
+      → AllZip (AlikeAnswers alike) (map Value values) (answers_of items)

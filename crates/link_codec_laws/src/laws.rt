@@ -17,7 +17,9 @@ use tokio_util::codec::FramedRead;
 pub fn told_whole<T: DeserializeOwned, R: AsyncRead, const N: usize>(
     reader: &FramedRead<R, LinkDecoder<T, N>>,
 )
-    ensures { IsToldWhole R.reads R.is_at_end R.fails IsGiven (gives_answers IsGiven (Holds T.takes) T.reads T.growing) T.takes T.reads (framed_read reader.now) }
+    ensures { IsToldWhole R.reads R.is_at_end R.fails IsGiven
+        (gives_answers IsGiven (Holds T.takes) T.reads T.growing)
+        T.takes T.reads (framed_read reader.now) }
 {
     link_codec::laws::answered_whole(reader);
     link_laws::told::<T>();
@@ -27,7 +29,9 @@ pub fn told_whole<T: DeserializeOwned, R: AsyncRead, const N: usize>(
 pub fn strict_told_whole<T: DeserializeOwned + Exact, R: AsyncRead, const N: usize>(
     reader: &FramedRead<R, StrictLinkDecoder<T, N>>,
 )
-    ensures { IsToldWhole R.reads R.is_at_end R.fails IsGiven (gives_answers IsGiven (HoldsExactly T.takes) T.reads T.growing) T.takes T.reads (framed_read reader.now) }
+    ensures { IsToldWhole R.reads R.is_at_end R.fails IsGiven
+        (gives_answers IsGiven (HoldsExactly T.takes) T.reads T.growing)
+        T.takes T.reads (framed_read reader.now) }
 {
     link_codec::laws::answered_whole(reader);
     link_laws::told::<T>();
@@ -47,7 +51,9 @@ pub fn carried_whole<T: Lawful + DeserializeOwned, R: AsyncRead, const N: usize,
     reader: &FramedRead<R, LinkDecoder<T, L>>,
 )
     requires { N ≤ L }
-    ensures { IsCarriedWhole R.reads R.is_at_end R.fails IsGiven (gives_answers IsGiven (Holds T.takes) T.reads T.growing) T.writes T.valid T.alike encoder.now values.now L (framed_read reader.now) }
+    ensures { IsCarriedWhole R.reads R.is_at_end R.fails IsGiven
+        (gives_answers IsGiven (Holds T.takes) T.reads T.growing)
+        T.writes T.valid T.alike encoder.now values.now L (framed_read reader.now) }
 {
     session_of(encoder, values);
     link_laws::carried(values);

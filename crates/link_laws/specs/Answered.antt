@@ -10,9 +10,11 @@ use Rattle.link.specs.Run.{Send, completed, refused, broken, IsRun, line, told}
 use Rattle.link.specs.declared.receiver.Answer.{Answer}
 
 -- The answers of a receiver to a run's line are, one by one, what is to be told of the run.
-abbrev pub IsToldAs : {V : Type 0} → (Tree → Type 0) → (List ℕ → Tree → Type 0) → (Tree → V → Type 0) → List (Answer V) → ℕ → ℕ → Type 0
+abbrev pub IsToldAs : {V : Type 0} → (Tree → Type 0) → (List ℕ → Tree → Type 0)
+    → (Tree → V → Type 0) → List (Answer V) → ℕ → ℕ → Type 0
 IsToldAs takes holds reads answers limit s = (run : List (List Send)) → IsRun takes limit s run
-    → HasAnswered holds reads limit s answers (line s run) ↔ AllZip (Matches reads) answers (told s run)
+    → HasAnswered holds reads limit s answers (line s run)
+    ↔ AllZip (Matches reads) answers (told s run)
 
 -- Strictly a stretch holds what a value of an exact type is read from where it is the frame that sending makes of the value.
 abbrev pub IsFrameOf : Option Tree → List ℕ → Type 0

@@ -42,7 +42,8 @@ pub record LiesBetween (run : List (List Send)) (heard : List Tree) : Type 0 whe
 
 -- What is heard of a run's line has the value of each completed send, in order, and none that wasn't sent.
 abbrev pub IsHeardBetween : (Tree → Type 0) → (List ℕ → Tree → Type 0) → ℕ → ℕ → Type 0
-IsHeardBetween takes holds limit s = (run : List (List Send)) (answers : List Verdict) → IsRun takes limit s run
+IsHeardBetween takes holds limit s =
+    (run : List (List Send)) (answers : List Verdict) → IsRun takes limit s run
     → Answers holds limit s (line s run) answers → LiesBetween run (values_of answers)
 
 -- the same send, broken off after so many bytes
@@ -55,12 +56,14 @@ broken_at k (broken t j) = broken t k
 abbrev pub left_of : ℕ → Bool → ℕ → List Send → List Send
 left_of s clean k [] = []
 left_of s clean k (x ∷ sends) =
-    if nat_lt k (length (written s clean x)) then broken_at k x ∷ [] else x ∷ left_of s (clean_after clean x) (k - length (written s clean x)) sends
+    if nat_lt k (length (written s clean x)) then broken_at k x ∷ []
+    else x ∷ left_of s (clean_after clean x) (k - length (written s clean x)) sends
 
 -- what a run becomes where so many bytes of its line are left
 abbrev pub left : ℕ → ℕ → List (List Send) → List (List Send)
 left s k [] = []
-left s k (session ∷ run) = left_of s false k session ∷ left s (k - length (session_line s false session)) run
+left s k (session ∷ run) =
+    left_of s false k session ∷ left s (k - length (session_line s false session)) run
 
 -- these many bytes of a run's line are the line of what is left of the run, which tries nothing else
 pub record IsLine (takes : Tree → Type 0) (limit s k : ℕ) (run : List (List Send)) : Type 0 where
@@ -70,13 +73,16 @@ pub record IsLine (takes : Tree → Type 0) (limit s k : ℕ) (run : List (List 
 
 -- A front of a run's line is the line of a run.
 abbrev pub IsLeft : (Tree → Type 0) → ℕ → ℕ → Type 0
-IsLeft takes limit s = (run : List (List Send)) (k : ℕ) → IsRun takes limit s run → IsLine takes limit s k run
+IsLeft takes limit s =
+    (run : List (List Send)) (k : ℕ) → IsRun takes limit s run → IsLine takes limit s k run
 
 -- one run and then another one
-pub record AreRuns (takes : Tree → Type 0) (limit s : ℕ) (run later : List (List Send)) : Type 0 where
+pub record AreRuns (takes : Tree → Type 0) (limit s : ℕ)
+    (run later : List (List Send)) : Type 0 where
   pub is_run : IsRun takes limit s (run ++ later)
   pub bytes : line s (run ++ later) ≡ line s run ++ line s later
 
 -- Runs one after another are a run, and their lines its line.
 abbrev pub GoesOn : (Tree → Type 0) → ℕ → ℕ → Type 0
-GoesOn takes limit s = (run later : List (List Send)) → IsRun takes limit s run → IsRun takes limit s later → AreRuns takes limit s run later
+GoesOn takes limit s = (run later : List (List Send)) → IsRun takes limit s run
+    → IsRun takes limit s later → AreRuns takes limit s run later

@@ -8,7 +8,8 @@ use Rattle.link.specs.Roads.{joined}
 
 -- The limit is set anew behind bytes that are empty or end in a sentinel: the answers are those given of these bytes under the
 -- old limit, and then those of the rest under the new one.
-pub record HeardAnew (holds : List ℕ → Tree → Type 0) (limit next s : ℕ) (first rest : List ℕ) (answers : List Verdict) : Type 0 where
+pub record HeardAnew (holds : List ℕ → Tree → Type 0) (limit next s : ℕ)
+    (first rest : List ℕ) (answers : List Verdict) : Type 0 where
   pub between : EndsBetween s first
   pub front : List Verdict
   pub back : List Verdict
@@ -19,8 +20,11 @@ pub record HeardAnew (holds : List ℕ → Tree → Type 0) (limit next s : ℕ)
 -- Pushes of any pieces before the limit is set and behind it, with what is said of an unfinished stretch at the end, answer that.
 -- And where the limits are the same, these are the answers to the whole stream.
 pub record IsSetAnew (holds : List ℕ → Tree → Type 0) (s : ℕ) : Type 0 where
-  pub pushed : (limit next : ℕ) (before behind : List (List ℕ)) (us vs : List Verdict) → EndsBetween s (joined before)
+  pub pushed : (limit next : ℕ) (before behind : List (List ℕ)) (us vs : List Verdict)
+      → EndsBetween s (joined before)
       → Pushes holds limit s [] before us → Pushes holds next s [] behind vs
-      → HeardAnew holds limit next s (joined before) (joined behind) (us ++ (vs ++ cut_answers next (unfinished s (joined behind))))
+      → HeardAnew holds limit next s (joined before) (joined behind)
+      (us ++ (vs ++ cut_answers next (unfinished s (joined behind))))
   pub same : (limit : ℕ) (first rest : List ℕ) (answers : List Verdict) → EndsBetween s first
-      → HeardAnew holds limit limit s first rest answers ↔ Answers holds limit s (first ++ rest) answers
+      → HeardAnew holds limit limit s first rest answers
+      ↔ Answers holds limit s (first ++ rest) answers

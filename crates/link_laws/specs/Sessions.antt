@@ -28,60 +28,77 @@ use Rattle.link.specs.declared.listening.End.{End}
 use Rattle.link.specs.declared.listening.End.TheVariants.{Ended}
 
 -- a send of v: which one it was, what it left on the line, and whether the sender is clean behind it
-pub record LeavesSend {V : Type 0} (takes : Tree → Type 0) (writes : V → Option Tree) (valid : V → Type 0) (limit s : ℕ) (clean later : Bool) (old new : Option (List ℕ)) (before after : ℕ) (v : V) (x : Send) : Type 0 where
+pub record LeavesSend {V : Type 0} (takes : Tree → Type 0) (writes : V → Option Tree)
+    (valid : V → Type 0) (limit s : ℕ) (clean later : Bool) (old new : Option (List ℕ))
+    (before after : ℕ) (v : V) (x : Send) : Type 0 where
   pub is : IsSend takes limit s clean x
   pub of : Sends writes valid v x
   pub wrote : Wrote old new before after (written s clean x)
   pub then : later ≡ clean_after clean x
 
 -- sends of values by one sender, and what they left on the line
-pub record LeavesSession {V : Type 0} (takes : Tree → Type 0) (writes : V → Option Tree) (valid : V → Type 0) (limit s : ℕ) (clean : Bool) (old new : Option (List ℕ)) (before after : ℕ) (calls : List (V × Send)) : Type 0 where
+pub record LeavesSession {V : Type 0} (takes : Tree → Type 0) (writes : V → Option Tree)
+    (valid : V → Type 0) (limit s : ℕ) (clean : Bool) (old new : Option (List ℕ))
+    (before after : ℕ) (calls : List (V × Send)) : Type 0 where
   pub is : IsSession takes limit s clean (sends_of calls)
   pub of : AllByRecursion (λ c. Sends writes valid c.0 c.1) calls
   pub wrote : Wrote old new before after (session_line s clean (sends_of calls))
 
 -- sends of values by new senders one after another, and what they left on the line
-pub record LeavesRun {V : Type 0} (takes : Tree → Type 0) (writes : V → Option Tree) (valid : V → Type 0) (limit s : ℕ) (old new : Option (List ℕ)) (before after : ℕ) (run : List (List (V × Send))) : Type 0 where
+pub record LeavesRun {V : Type 0} (takes : Tree → Type 0) (writes : V → Option Tree)
+    (valid : V → Type 0) (limit s : ℕ) (old new : Option (List ℕ)) (before after : ℕ)
+    (run : List (List (V × Send))) : Type 0 where
   pub is : IsRun takes limit s (runs_of run)
   pub of : AreSends writes valid run
   pub wrote : Wrote old new before after (line s (runs_of run))
 
 -- These answers are what is to be told of the run; their values are alike those sent.
-pub record HeardOfRun {V : Type 0} (reads : Tree → V → Type 0) (alike : V → V → Type 0) (s : ℕ) (run : List (List (V × Send))) (answers : List (Answer V)) : Type 0 where
+pub record HeardOfRun {V : Type 0} (reads : Tree → V → Type 0) (alike : V → V → Type 0) (s : ℕ)
+    (run : List (List (V × Send))) (answers : List (Answer V)) : Type 0 where
   pub heard : AllZip (Matches reads) answers (told s (runs_of run))
   pub as_sent : AllZip (AlikeAnswers alike) (told_values s run) answers
 
 -- What is answered to the line of a run of values is what is to be told of it.
-abbrev pub HearsRuns : {V : Type 0} → (Tree → Type 0) → (List ℕ → Tree → Type 0) → (Tree → V → Type 0) → (V → V → Type 0) → (V → Option Tree) → (V → Type 0) → Type 0
-HearsRuns {V} takes holds reads alike writes valid = (limit s : ℕ) (run : List (List (V × Send))) (answers : List (Answer V)) → IsRun takes limit s (runs_of run) → AreSends writes valid run
-    → HasAnswered holds reads limit s answers (line s (runs_of run)) → HeardOfRun reads alike s run answers
+abbrev pub HearsRuns : {V : Type 0} → (Tree → Type 0) → (List ℕ → Tree → Type 0)
+    → (Tree → V → Type 0) → (V → V → Type 0) → (V → Option Tree) → (V → Type 0) → Type 0
+HearsRuns {V} takes holds reads alike writes valid = (limit s : ℕ) (run : List (List (V × Send)))
+    (answers : List (Answer V)) → IsRun takes limit s (runs_of run) → AreSends writes valid run
+    → HasAnswered holds reads limit s answers (line s (runs_of run))
+    → HeardOfRun reads alike s run answers
 
 -- A type's values are carried by a line: it takes the trees that its valid values write, and what is answered to the line of a run
 -- of them is what is to be told of it, ordinarily and strictly.
-pub record CarriesValues {V : Type 0} (takes : Tree → Type 0) (reads : Tree → V → Type 0) (alike : V → V → Type 0) (writes : V → Option Tree) (valid : V → Type 0) : Type 0 where
+pub record CarriesValues {V : Type 0} (takes : Tree → Type 0) (reads : Tree → V → Type 0)
+    (alike : V → V → Type 0) (writes : V → Option Tree) (valid : V → Type 0) : Type 0 where
   pub taken : (v : V) (t : Tree) → valid v → writes v ≡ Some t → takes t
   pub ordinary : HearsRuns takes (Holds takes) reads alike writes valid
   pub strict : HearsRuns takes (HoldsExactly takes) reads alike writes valid
 
 -- what `receive` and its kin say
-abbrev pub Receives : {V : Type 0} → (List ℕ → Tree → Type 0) → (Tree → V → Type 0) → ℕ → ℕ → Option (List ℕ) → Option (List ℕ) → ℕ → ℕ → ℕ → End → List (Answer V) → Type 0
+abbrev pub Receives : {V : Type 0} → (List ℕ → Tree → Type 0) → (Tree → V → Type 0) → ℕ → ℕ
+    → Option (List ℕ) → Option (List ℕ) → ℕ → ℕ → ℕ → End → List (Answer V) → Type 0
 Receives holds reads limit s old new before after calls_left end answers =
-    (bytes : List ℕ) × HasRead old new before after calls_left end bytes × IsReceived holds reads limit s end answers bytes
+    (bytes : List ℕ) × HasRead old new before after calls_left end bytes
+    × IsReceived holds reads limit s end answers bytes
 
 -- A reader that told its end gave all that was to come.
-pub all_read : (stream bytes : List ℕ) (new : Option (List ℕ)) (before after : ℕ) → Gave (Some stream) new before after bytes → after ≡ before → IfSome new (λ rest. rest ≡ []) → bytes ≡ stream
+pub all_read : (stream bytes : List ℕ) (new : Option (List ℕ)) (before after : ℕ)
+    → Gave (Some stream) new before after bytes → after ≡ before → IfSome new (λ rest. rest ≡ [])
+    → bytes ≡ stream
 all_read stream bytes None before after g e h = absurd (let l : before < after = g.came in omega arith)
 all_read stream bytes (Some rest) before after g e h = let w : stream ≡ bytes ++ rest = g.came in sym (w ∙ ap (λ x. bytes ++ x) h ∙ append-nil bytes)
 
 -- Bytes that were told stay told where all calls that wrote told theirs: on an empty line what was written is all that is there.
-pub all_written : (old : Option (List ℕ)) (stream bytes : List ℕ) (before after : ℕ) → old ≡ Some [] → Wrote old (Some stream) before after bytes → stream ≡ bytes
+pub all_written : (old : Option (List ℕ)) (stream bytes : List ℕ) (before after : ℕ) → old ≡ Some []
+    → Wrote old (Some stream) before after bytes → stream ≡ bytes
 all_written old stream bytes before after e w =
     let told = subst (λ o. Wrote o (Some stream) before after bytes) e w in
     let grew : stream ≡ [] ++ bytes = told.grew in
     grew
 
 -- Sends of values, each beside its value, are these sends.
-pub sends_beside : {V : Type 0} (R : V → Send → Type 0) (values : List V) (xs : List Send) → AllZip R values xs → sends_of (zip values xs) ≡ xs
+pub sends_beside : {V : Type 0} (R : V → Send → Type 0) (values : List V) (xs : List Send)
+    → AllZip R values xs → sends_of (zip values xs) ≡ xs
 sends_beside R [] [] h = refl
 sends_beside R [] (x ∷ xs) h = absurd h
 sends_beside R (v ∷ values) [] h = absurd h
@@ -89,7 +106,8 @@ sends_beside R (v ∷ values) (x ∷ xs) h = ap (λ l. x ∷ l) (sends_beside R 
 
 module _ {V : Type 0} (writes : V → Option Tree) (valid : V → Type 0) (limit : ℕ) where
   -- A send is one of its value, by what was answered.
-  pub sent_is : (v : V) (r : Result (Unit {0}) SendError) (x : Send) → IsSent limit (writes v) r x → UnlessRefusal r (valid v) → Sends writes valid v x
+  pub sent_is : (v : V) (r : Result (Unit {0}) SendError) (x : Send) → IsSent limit (writes v) r x
+      → UnlessRefusal r (valid v) → Sends writes valid v x
   sent_is v (Ok u) (completed t) h k = (k, h.1)
   sent_is v (Err e) (completed t) h k = absurd (let no : ◌≡◌ {A = Result (Unit {0}) SendError} (Err e) (Ok tt) = h.0 in cc)
   sent_is v r refused h k = tt
@@ -103,7 +121,9 @@ module _ {V : Type 0} (writes : V → Option Tree) (valid : V → Type 0) (limit
   one_of v (broken t k) h = (h.1, h.0)
 
   -- Sends by their fates are sends of their values.
-  pub all_of : (values : List V) (xs : List Send) → AllZip (λ v x. IsSendOf limit (writes v) (valid v) x) values xs → AllByRecursion (λ c. Sends writes valid c.0 c.1) (zip values xs)
+  pub all_of : (values : List V) (xs : List Send)
+      → AllZip (λ v x. IsSendOf limit (writes v) (valid v) x) values xs
+      → AllByRecursion (λ c. Sends writes valid c.0 c.1) (zip values xs)
   all_of [] [] h = tt
   all_of [] (x ∷ xs) h = absurd h
   all_of (v ∷ values) [] h = absurd h
@@ -111,66 +131,92 @@ module _ {V : Type 0} (writes : V → Option Tree) (valid : V → Type 0) (limit
 
 module _ {V : Type 0} {takes : Tree → Type 0} {writes : V → Option Tree} {valid : V → Type 0} (taken : (v : V) (t : Tree) → valid v → writes v ≡ Some t → takes t) (limit s : ℕ) where
   -- A send of a value is one of a tree that its type takes.
-  pub takes_send : (v : V) (x : Send) (clean : Bool) → Sends writes valid v x → IsSend IsTree limit s clean x → IsSend takes limit s clean x
+  pub takes_send : (v : V) (x : Send) (clean : Bool) → Sends writes valid v x
+      → IsSend IsTree limit s clean x → IsSend takes limit s clean x
   takes_send v (completed t) clean h k = record { taken = taken v t h.0 h.1; within = k.within }
   takes_send v refused clean h k = k
   takes_send v (broken t n) clean h k = (record { taken = taken v t h.0 h.1; within = k.0.within }, k.1)
 
-  takes_session : (calls : List (V × Send)) (clean : Bool) → AllByRecursion (λ c. Sends writes valid c.0 c.1) calls → IsSession IsTree limit s clean (sends_of calls) → IsSession takes limit s clean (sends_of calls)
+  takes_session : (calls : List (V × Send)) (clean : Bool)
+      → AllByRecursion (λ c. Sends writes valid c.0 c.1) calls
+      → IsSession IsTree limit s clean (sends_of calls)
+      → IsSession takes limit s clean (sends_of calls)
   takes_session [] clean h k = tt
   takes_session (c ∷ calls) clean h k = (takes_send c.0 c.1 clean h.0 k.0, takes_session calls (clean_after clean c.1) h.1 k.1)
 
-  takes_each : (run : List (List (V × Send))) → AreSends writes valid run → IsRun IsTree limit s (runs_of run) → IsRun takes limit s (runs_of run)
+  takes_each : (run : List (List (V × Send))) → AreSends writes valid run
+      → IsRun IsTree limit s (runs_of run) → IsRun takes limit s (runs_of run)
   takes_each [] h k = tt
   takes_each (calls ∷ run) h k = (takes_session calls false h.0 k.0, takes_each run h.1 k.1)
 
 -- A run of values is one of trees that their type takes.
-pub takes_run : {V : Type 0} {takes : Tree → Type 0} {writes : V → Option Tree} {valid : V → Type 0} → ((v : V) (t : Tree) → valid v → writes v ≡ Some t → takes t)
-    → {limit s : ℕ} {old new : Option (List ℕ)} {before after : ℕ} {run : List (List (V × Send))} → LeavesRun IsTree writes valid limit s old new before after run → LeavesRun takes writes valid limit s old new before after run
+pub takes_run : {V : Type 0} {takes : Tree → Type 0} {writes : V → Option Tree} {valid : V → Type 0}
+    → ((v : V) (t : Tree) → valid v → writes v ≡ Some t → takes t)
+    → {limit s : ℕ} {old new : Option (List ℕ)} {before after : ℕ} {run : List (List (V × Send))}
+    → LeavesRun IsTree writes valid limit s old new before after run
+    → LeavesRun takes writes valid limit s old new before after run
 takes_run taken {limit = limit} {s = s} {run = run} h = record { is = takes_each taken limit s run h.of h.is; of = h.of; wrote = h.wrote }
 
 module _ (takes : Tree → Type 0) (s : ℕ) where
-  wider_send : (n limit : ℕ) → n ≤ limit → (x : Send) (clean : Bool) → IsSend takes n s clean x → IsSend takes limit s clean x
+  wider_send : (n limit : ℕ) → n ≤ limit → (x : Send) (clean : Bool) → IsSend takes n s clean x
+      → IsSend takes limit s clean x
   wider_send n limit l (completed t) clean k = record { taken = k.taken; within = omega (arith, l, k.within) }
   wider_send n limit l refused clean k = k
   wider_send n limit l (broken t j) clean k = (record { taken = k.0.taken; within = omega (arith, l, k.0.within) }, k.1)
 
-  wider_session : (n limit : ℕ) → n ≤ limit → (xs : List Send) (clean : Bool) → IsSession takes n s clean xs → IsSession takes limit s clean xs
+  wider_session : (n limit : ℕ) → n ≤ limit
+      → (xs : List Send) (clean : Bool) → IsSession takes n s clean xs
+      → IsSession takes limit s clean xs
   wider_session n limit l [] clean k = tt
   wider_session n limit l (x ∷ xs) clean k = (wider_send n limit l x clean k.0, wider_session n limit l xs (clean_after clean x) k.1)
 
   -- A run under a limit is one under any greater limit.
-  pub wider_run : (n limit : ℕ) → n ≤ limit → (run : List (List Send)) → IsRun takes n s run → IsRun takes limit s run
+  pub wider_run : (n limit : ℕ) → n ≤ limit → (run : List (List Send)) → IsRun takes n s run
+      → IsRun takes limit s run
   wider_run n limit l [] k = tt
   wider_run n limit l (xs ∷ run) k = (wider_session n limit l xs false k.0, wider_run n limit l run k.1)
 
 module _ {V : Type 0} {takes : Tree → Type 0} {reads : Tree → V → Type 0} {alike : V → V → Type 0} {writes : V → Option Tree} {valid : V → Type 0} (law : CarriesValues takes reads alike writes valid) {limit s : ℕ} (v : V)
     {clean later : Bool} {old new : Option (List ℕ)} {before after : ℕ} {r : Result (Unit {0}) SendError} where
   -- What `send` says of a value, whatever it answered.
-  pub sent_somehow : HasSent limit s (writes v) clean later old new before after r → UnlessRefusal r (valid v) → (x : Send) × IsSent limit (writes v) r x × LeavesSend IsTree writes valid limit s clean later old new before after v x
+  pub sent_somehow : HasSent limit s (writes v) clean later old new before after r
+      → UnlessRefusal r (valid v)
+      → (x : Send) × IsSent limit (writes v) r x
+      × LeavesSend IsTree writes valid limit s clean later old new before after v x
   sent_somehow h k = (h.send, h.answered, record { is = h.is; of = sent_is writes valid limit v r h.send h.answered k; wrote = h.wrote; then = h.then })
 
   -- A send that was answered `Ok` completed.
-  pub sent_whole : HasSent limit s (writes v) clean later old new before after r → UnlessRefusal r (valid v) → r ≡ Ok tt → (t : Tree) × LeavesSend IsTree writes valid limit s clean later old new before after v (completed t)
+  pub sent_whole : HasSent limit s (writes v) clean later old new before after r
+      → UnlessRefusal r (valid v) → r ≡ Ok tt → (t : Tree)
+      × LeavesSend IsTree writes valid limit s clean later old new before after v (completed t)
   sent_whole h k e = let x = sent_somehow h k in by x.0 x.1 x.2
     where
-      by : (x : Send) → IsSent limit (writes v) r x → LeavesSend IsTree writes valid limit s clean later old new before after v x → (t : Tree) × LeavesSend IsTree writes valid limit s clean later old new before after v (completed t)
+      by : (x : Send) → IsSent limit (writes v) r x
+          → LeavesSend IsTree writes valid limit s clean later old new before after v x → (t : Tree)
+          × LeavesSend IsTree writes valid limit s clean later old new before after v (completed t)
       by (completed t) i l = (t, l)
       by refused i l = absurd (let no : ◌≡◌ {A = Result (Unit {0}) SendError} (Err (Refused i.0)) (Ok tt) = sym i.1 ∙ e in cc)
       by (broken t n) i l = absurd (let no : ◌≡◌ {A = Result (Unit {0}) SendError} (Err Line) (Ok tt) = sym i.0 ∙ e in cc)
 
   -- A send that was answered `Line` broke off.
-  pub sent_in_part : HasSent limit s (writes v) clean later old new before after r → UnlessRefusal r (valid v) → r ≡ Err Line → (t : Tree) × (k : ℕ) × LeavesSend IsTree writes valid limit s clean later old new before after v (broken t k)
+  pub sent_in_part : HasSent limit s (writes v) clean later old new before after r
+      → UnlessRefusal r (valid v) → r ≡ Err Line → (t : Tree) × (k : ℕ)
+      × LeavesSend IsTree writes valid limit s clean later old new before after v (broken t k)
   sent_in_part h k e = let x = sent_somehow h k in by x.0 x.1 x.2
     where
-      by : (x : Send) → IsSent limit (writes v) r x → LeavesSend IsTree writes valid limit s clean later old new before after v x → (t : Tree) × (k : ℕ) × LeavesSend IsTree writes valid limit s clean later old new before after v (broken t k)
+      by : (x : Send) → IsSent limit (writes v) r x
+          → LeavesSend IsTree writes valid limit s clean later old new before after v x
+          → (t : Tree) × (k : ℕ)
+          × LeavesSend IsTree writes valid limit s clean later old new before after v (broken t k)
       by (completed t) i l = absurd (let no : ◌≡◌ {A = Result (Unit {0}) SendError} (Ok tt) (Err Line) = sym i.0 ∙ e in cc)
       by refused i l = absurd (let no : ◌≡◌ {A = Result (Unit {0}) SendError} (Err (Refused i.0)) (Err Line) = sym i.1 ∙ e in cc)
       by (broken t n) i l = (t, n, l)
 
 module _ {V : Type 0} {writes : V → Option Tree} {valid : V → Type 0} {limit : ℕ} where
   -- What `send_each` says is a session.
-  pub all_sent : {s : ℕ} {clean later : Bool} {u v : Option (List ℕ)} {f g c d : ℕ} {values : List V} {fates : _} (all : SendsAll limit s writes valid clean later u v f g c d values fates)
+  pub all_sent : {s : ℕ} {clean later : Bool} {u v : Option (List ℕ)} {f g c d : ℕ}
+      {values : List V} {fates : _}
+      (all : SendsAll limit s writes valid clean later u v f g c d values fates)
       → LeavesSession IsTree writes valid limit s clean u v f g (zip values all.sends)
   all_sent {s = s} {clean = clean} {u = u} {v = v} {f = f} {g = g} {values = values} all =
       let beside = sym (sends_beside (λ v x. IsSendOf limit (writes v) (valid v) x) values all.sends all.of) in
@@ -182,12 +228,15 @@ module _ {V : Type 0} {writes : V → Option Tree} {valid : V → Type 0} {limit
 
 module _ {V : Type 0} {takes : Tree → Type 0} {writes : V → Option Tree} {valid : V → Type 0} {limit : ℕ} where
   -- A session may be empty.
-  pub none_sent : {s : ℕ} {clean : Bool} {now : Option (List ℕ)} {faults : ℕ} → LeavesSession takes writes valid limit s clean now now faults faults []
+  pub none_sent : {s : ℕ} {clean : Bool} {now : Option (List ℕ)} {faults : ℕ}
+      → LeavesSession takes writes valid limit s clean now now faults faults []
   none_sent {now = now} {faults = faults} = record { is = tt; of = tt; wrote = Wrote-none now faults }
 
   -- A send and then a session of the same sender, whose sentinel stays, are a session.
-  pub then_sent : {s s' : ℕ} {clean later : Bool} {u v w : Option (List ℕ)} {f g h : ℕ} {a : V} {x : Send} {calls : List (V × Send)}
-      → LeavesSend takes writes valid limit s clean later u v f g a x → s' ≡ s → LeavesSession takes writes valid limit s' later v w g h calls
+  pub then_sent : {s s' : ℕ} {clean later : Bool} {u v w : Option (List ℕ)} {f g h : ℕ} {a : V}
+      {x : Send} {calls : List (V × Send)}
+      → LeavesSend takes writes valid limit s clean later u v f g a x → s' ≡ s
+      → LeavesSession takes writes valid limit s' later v w g h calls
       → LeavesSession takes writes valid limit s clean u w f h ((a, x) ∷ calls)
   then_sent {s = s} {clean = clean} {later = later} {u = u} {v = v} {w = w} {f = f} {g = g} {h = h} {a = a} {x = x} {calls = calls} p e q =
       let q' = subst (λ z. LeavesSession takes writes valid limit s z v w g h calls) p.then (subst (λ z. LeavesSession takes writes valid limit z later v w g h calls) e q) in
@@ -198,12 +247,15 @@ module _ {V : Type 0} {takes : Tree → Type 0} {writes : V → Option Tree} {va
       }
 
   -- A run may be empty.
-  pub no_session : {s : ℕ} {now : Option (List ℕ)} {faults : ℕ} → LeavesRun takes writes valid limit s now now faults faults []
+  pub no_session : {s : ℕ} {now : Option (List ℕ)} {faults : ℕ}
+      → LeavesRun takes writes valid limit s now now faults faults []
   no_session {now = now} {faults = faults} = record { is = tt; of = tt; wrote = Wrote-none now faults }
 
   -- A session of a new sender, which isn't clean, and then a run are a run.
-  pub then_session : {s s' : ℕ} {clean : Bool} {u v w : Option (List ℕ)} {f g h : ℕ} {calls : List (V × Send)} {run : List (List (V × Send))}
-      → s' ≡ s → clean ≡ false → LeavesSession takes writes valid limit s' clean u v f g calls → LeavesRun takes writes valid limit s v w g h run
+  pub then_session : {s s' : ℕ} {clean : Bool} {u v w : Option (List ℕ)} {f g h : ℕ}
+      {calls : List (V × Send)} {run : List (List (V × Send))}
+      → s' ≡ s → clean ≡ false → LeavesSession takes writes valid limit s' clean u v f g calls
+      → LeavesRun takes writes valid limit s v w g h run
       → LeavesRun takes writes valid limit s u w f h (calls ∷ run)
   then_session {s = s} {clean = clean} {u = u} {v = v} {w = w} {f = f} {g = g} {h = h} {calls = calls} {run = run} e d p q =
       let p' = subst (λ z. LeavesSession takes writes valid limit s z u v f g calls) d (subst (λ z. LeavesSession takes writes valid limit z clean u v f g calls) e p) in
@@ -215,8 +267,10 @@ module _ {V : Type 0} {takes : Tree → Type 0} {writes : V → Option Tree} {va
 
 module _ {V : Type 0} {takes : Tree → Type 0} {reads : Tree → V → Type 0} {alike : V → V → Type 0} {writes : V → Option Tree} {valid : V → Type 0} (law : CarriesValues takes reads alike writes valid) where
   -- What is received of the line of a run, by a reader that gives it and told its end, is what is to be told of the run.
-  pub heard_of_run : {n limit s : ℕ} (run : List (List (V × Send))) (old new : Option (List ℕ)) (before after calls_left : ℕ) (end : End) (answers : List (Answer V))
-      → n ≤ limit → IsRun takes n s (runs_of run) → AreSends writes valid run → Receives (Holds takes) reads limit s old new before after calls_left end answers
+  pub heard_of_run : {n limit s : ℕ} (run : List (List (V × Send))) (old new : Option (List ℕ))
+      (before after calls_left : ℕ) (end : End) (answers : List (Answer V))
+      → n ≤ limit → IsRun takes n s (runs_of run) → AreSends writes valid run
+      → Receives (Holds takes) reads limit s old new before after calls_left end answers
       → old ≡ Some (line s (runs_of run)) → end ≡ Ended → HeardOfRun reads alike s run answers
   heard_of_run {n = n} {limit = limit} {s = s} run old new before after calls_left end answers l is of h comes ends =
       let read = subst (λ e. HasRead old new before after calls_left e h.0) ends h.1 in
@@ -227,15 +281,20 @@ module _ {V : Type 0} {takes : Tree → Type 0} {reads : Tree → V → Type 0} 
       (subst (λ z. HasAnswered (Holds takes) reads limit s answers z) same answered)
 
   -- Where the line was empty, and what the run left there is what comes, that is heard.
-  pub heard_of_line : {n limit s : ℕ} {run : List (List (V × Send))} {u v : Option (List ℕ)} {f g : ℕ} (stream : List ℕ) (old new : Option (List ℕ)) (before after calls_left : ℕ) (end : End) (answers : List (Answer V))
-      → LeavesRun IsTree writes valid n s u v f g run → Receives (Holds takes) reads limit s old new before after calls_left end answers
-      → n ≤ limit → u ≡ Some [] → v ≡ Some stream → old ≡ Some stream → end ≡ Ended → HeardOfRun reads alike s run answers
+  pub heard_of_line : {n limit s : ℕ} {run : List (List (V × Send))} {u v : Option (List ℕ)}
+      {f g : ℕ} (stream : List ℕ) (old new : Option (List ℕ)) (before after calls_left : ℕ)
+      (end : End) (answers : List (Answer V))
+      → LeavesRun IsTree writes valid n s u v f g run
+      → Receives (Holds takes) reads limit s old new before after calls_left end answers
+      → n ≤ limit → u ≡ Some [] → v ≡ Some stream → old ≡ Some stream → end ≡ Ended
+      → HeardOfRun reads alike s run answers
   heard_of_line {n = n} {s = s} {run = run} {u = u} {f = f} {g = g} stream old new before after calls_left end answers r h l empty wrote comes ends =
       let whole = all_written u stream (line s (runs_of run)) f g empty (subst (λ z. Wrote u z f g (line s (runs_of run))) wrote r.wrote) in
       heard_of_run run old new before after calls_left end answers l (takes_each law.taken n s run r.of r.is) r.of h (comes ∙ ap Some whole) ends
 
 -- Of a frame so many bytes had gone out where a send broke off: all of them at most.
-pub out_at_most : (s : ℕ) (clean : Bool) (t : Tree) (k : ℕ) → k < length (sent s clean t) → frame_bytes clean k ≤ length (shortest_frame (short t))
+pub out_at_most : (s : ℕ) (clean : Bool) (t : Tree) (k : ℕ) → k < length (sent s clean t)
+    → frame_bytes clean k ≤ length (shortest_frame (short t))
 out_at_most s true t k l = omega (arith, l, length-append (frame_for s (short t)) (s ∷ []), length-map (shortest_frame (short t)) (bit_xor s))
 out_at_most s false t zero l = omega arith
 out_at_most s false t (suc k) l = omega (arith, l, length-append (frame_for s (short t)) (s ∷ []), length-map (shortest_frame (short t)) (bit_xor s))
@@ -244,28 +303,39 @@ out_at_most s false t (suc k) l = omega (arith, l, length-append (frame_for s (s
 -- had gone out.
 module _ {V : Type 0} (s : ℕ) (clean : Bool) (b c : V) (t z : Tree) (k : ℕ) (calls : List (V × Send)) (later : List ℕ) where
   abbrev told_by : ℕ → List (Answer V)
-  told_by out = map (answer_of b) (told_broken t out (session_line s false (completed z ∷ sends_of calls) ++ later)) ++ (Value c ∷ told_values_session s true later calls)
+  told_by out = map (answer_of b)
+      (told_broken t out (session_line s false (completed z ∷ sends_of calls) ++ later))
+      ++ (Value c ∷ told_values_session s true later calls)
 
-  by_front : (out : ℕ) (front : Bool) → nat_lt out (length (shortest_frame (short t))) ≡ front → 0 < out → told_by out ≡ map (answer_of b) (cond front (damaged ∷ []) (value t ∷ [])) ++ (Value c ∷ told_values_session s true later calls)
+  by_front : (out : ℕ) (front : Bool) → nat_lt out (length (shortest_frame (short t))) ≡ front
+      → 0 < out → told_by out ≡ map (answer_of b) (cond front (damaged ∷ []) (value t ∷ []))
+      ++ (Value c ∷ told_values_session s true later calls)
   by_front zero front e l = absurd (omega arith)
   by_front (suc out) front e l = ap (λ x. map (answer_of b) (cond x (damaged ∷ []) (value t ∷ [])) ++ (Value c ∷ told_values_session s true later calls)) e
 
   -- None of it had: nothing is told of it.
-  pub told_before : frame_bytes clean k ≡ 0 → told_values_session s clean later ((b, broken t k) ∷ (c, completed z) ∷ calls) ≡ Value c ∷ told_values_session s true later calls
+  pub told_before : frame_bytes clean k ≡ 0
+      → told_values_session s clean later ((b, broken t k) ∷ (c, completed z) ∷ calls)
+      ≡ Value c ∷ told_values_session s true later calls
   told_before e = ap told_by e
 
   -- Some, and not all: damage is told.
-  pub told_inside : 0 < frame_bytes clean k → frame_bytes clean k < length (shortest_frame (short t))
-      → told_values_session s clean later ((b, broken t k) ∷ (c, completed z) ∷ calls) ≡ Damaged ∷ Value c ∷ told_values_session s true later calls
+  pub told_inside : 0 < frame_bytes clean k
+      → frame_bytes clean k < length (shortest_frame (short t))
+      → told_values_session s clean later ((b, broken t k) ∷ (c, completed z) ∷ calls)
+      ≡ Damaged ∷ Value c ∷ told_values_session s true later calls
   told_inside l m = by_front (frame_bytes clean k) true (lt-ltb (frame_bytes clean k) (length (shortest_frame (short t))) m) l
 
   -- All, and not the sentinel behind it: its value is told.
-  pub told_behind : 0 < frame_bytes clean k → length (shortest_frame (short t)) ≤ frame_bytes clean k
-      → told_values_session s clean later ((b, broken t k) ∷ (c, completed z) ∷ calls) ≡ Value b ∷ Value c ∷ told_values_session s true later calls
+  pub told_behind : 0 < frame_bytes clean k
+      → length (shortest_frame (short t)) ≤ frame_bytes clean k
+      → told_values_session s clean later ((b, broken t k) ∷ (c, completed z) ∷ calls)
+      ≡ Value b ∷ Value c ∷ told_values_session s true later calls
   told_behind l m = by_front (frame_bytes clean k) false (le-ltb (frame_bytes clean k) (length (shortest_frame (short t))) m) l
 
 -- Answers that are alike these are these, where alike values are equal.
-one_same : {V : Type 0} {alike : V → V → Type 0} → ((v w : V) → alike v w → v ≡ w) → (x y : Answer V) → AlikeAnswers alike x y → y ≡ x
+one_same : {V : Type 0} {alike : V → V → Type 0} → ((v w : V) → alike v w → v ≡ w)
+    → (x y : Answer V) → AlikeAnswers alike x y → y ≡ x
 one_same same (Value v) (Value w) h = ap (λ u. Value u) (sym (same v w h))
 one_same same (Value v) Damaged h = absurd h
 one_same same (Value v) TooLong h = absurd h
@@ -283,12 +353,15 @@ one_same same Cut Damaged h = absurd h
 one_same same Cut TooLong h = absurd h
 one_same same Cut Cut h = refl
 
-pub all_same : {V : Type 0} {alike : V → V → Type 0} → ((v w : V) → alike v w → v ≡ w) → (xs ys : List (Answer V)) → AllZip (AlikeAnswers alike) xs ys → ys ≡ xs
+pub all_same : {V : Type 0} {alike : V → V → Type 0} → ((v w : V) → alike v w → v ≡ w)
+    → (xs ys : List (Answer V)) → AllZip (AlikeAnswers alike) xs ys → ys ≡ xs
 all_same same [] [] h = refl
 all_same same [] (y ∷ ys) h = absurd h
 all_same same (x ∷ xs) [] h = absurd h
 all_same same (x ∷ xs) (y ∷ ys) h = ap (λ z. z ∷ ys) (one_same same x y h.0) ∙ ap (λ l. x ∷ l) (all_same same xs ys h.1)
 
 -- What is heard of a run are the very values sent, where alike values are equal.
-pub heard_is : {V : Type 0} {reads : Tree → V → Type 0} {alike : V → V → Type 0} {s : ℕ} {run : List (List (V × Send))} {answers : List (Answer V)} → ((v w : V) → alike v w → v ≡ w) → HeardOfRun reads alike s run answers → answers ≡ told_values s run
+pub heard_is : {V : Type 0} {reads : Tree → V → Type 0} {alike : V → V → Type 0} {s : ℕ}
+    {run : List (List (V × Send))} {answers : List (Answer V)} → ((v w : V) → alike v w → v ≡ w)
+    → HeardOfRun reads alike s run answers → answers ≡ told_values s run
 heard_is {s = s} {run = run} {answers = answers} same h = all_same same (told_values s run) answers h.as_sent

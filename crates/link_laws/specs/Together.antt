@@ -15,33 +15,48 @@ use Rattle.link.specs.declared.listening.End.{End}
 use Rattle.link.specs.declared.listening.End.TheVariants.{Ended}
 
 -- A send of a value by each of two senders in turn, by what each answered: what they left is the line of this run.
-pub record LeavesTwo {V : Type 0} (takes : Tree → Type 0) (writes : V → Option Tree) (valid : V → Type 0) (limit s : ℕ) (old new : Option (List ℕ)) (before after : ℕ) (v w : V) (first second : Result (Unit {0}) SendError) : Type 0 where
+pub record LeavesTwo {V : Type 0} (takes : Tree → Type 0) (writes : V → Option Tree)
+    (valid : V → Type 0) (limit s : ℕ) (old new : Option (List ℕ)) (before after : ℕ) (v w : V)
+    (first second : Result (Unit {0}) SendError) : Type 0 where
   pub one : Send
   pub other : Send
   pub first_is : IsSent limit (writes v) first one
   pub second_is : IsSent limit (writes w) second other
-  pub run : LeavesRun takes writes valid limit s old new before after (((v, one) ∷ []) ∷ ((w, other) ∷ []) ∷ [])
+  pub run : LeavesRun takes writes valid limit s old new before after
+      (((v, one) ∷ []) ∷ ((w, other) ∷ []) ∷ [])
 
 -- A session of values by each of two senders in turn, with these fates: what they left is the line of this run.
-pub record LeavesSessions {V : Type 0} (takes : Tree → Type 0) (writes : V → Option Tree) (valid : V → Type 0) (limit s : ℕ) (old new : Option (List ℕ)) (before after : ℕ) (firsts seconds : List V) (first_fates second_fates : List Fate) : Type 0 where
+pub record LeavesSessions {V : Type 0} (takes : Tree → Type 0) (writes : V → Option Tree)
+    (valid : V → Type 0) (limit s : ℕ) (old new : Option (List ℕ)) (before after : ℕ)
+    (firsts seconds : List V) (first_fates second_fates : List Fate) : Type 0 where
   pub one : List Send
   pub other : List Send
   pub first_of : AllZip (λ v x. IsSendOf limit (writes v) (valid v) x) firsts one
   pub second_of : AllZip (λ v x. IsSendOf limit (writes v) (valid v) x) seconds other
   pub first_fated : first_fates ≡ fates_of one
   pub second_fated : second_fates ≡ fates_of other
-  pub run : LeavesRun takes writes valid limit s old new before after (zip firsts one ∷ zip seconds other ∷ [])
+  pub run : LeavesRun takes writes valid limit s old new before after
+      (zip firsts one ∷ zip seconds other ∷ [])
 
 -- Where the line of a run of values comes, with frames within the limit, and the reader has told its end, these answers are what is
 -- to be told of the run, and their values are alike those sent.
-abbrev pub HearsValues : {V : Type 0} → ℕ → ℕ → (Tree → Type 0) → (Tree → V → Type 0) → (V → V → Type 0) → (V → Option Tree) → (V → Type 0) → Option (List ℕ) → End → List (Answer V) → Type 0
+abbrev pub HearsValues : {V : Type 0} → ℕ → ℕ → (Tree → Type 0) → (Tree → V → Type 0)
+    → (V → V → Type 0) → (V → Option Tree)
+    → (V → Type 0) → Option (List ℕ) → End → List (Answer V) → Type 0
 HearsValues {V} limit s takes reads alike writes valid to_come end answers =
-    (n : ℕ) (run : List (List (V × Send))) → n ≤ limit → IsRun takes n s (runs_of run) → AreSends writes valid run → to_come ≡ Some (line s (runs_of run)) → end ≡ Ended → HeardOfRun reads alike s run answers
+    (n : ℕ) (run : List (List (V × Send))) → n ≤ limit → IsRun takes n s (runs_of run)
+    → AreSends writes valid run → to_come ≡ Some (line s (runs_of run)) → end ≡ Ended
+    → HeardOfRun reads alike s run answers
 
 -- The two parts joined: where the line was empty, what senders left there is what comes, and the reader has told its end, that is heard.
-pub heard_in_turn : {V : Type 0} {takes : Tree → Type 0} {reads : Tree → V → Type 0} {alike : V → V → Type 0} {writes : V → Option Tree} {valid : V → Type 0} {n s : ℕ} {old new to_come : Option (List ℕ)} {before after : ℕ} {end : End} {run : List (List (V × Send))} {answers : List (Answer V)} (limit : ℕ) (stream : List ℕ)
-    → LeavesRun takes writes valid n s old new before after run → HearsValues limit s takes reads alike writes valid to_come end answers → n ≤ limit
-    → old ≡ Some [] → new ≡ Some stream → to_come ≡ Some stream → end ≡ Ended → HeardOfRun reads alike s run answers
+pub heard_in_turn : {V : Type 0} {takes : Tree → Type 0} {reads : Tree → V → Type 0}
+    {alike : V → V → Type 0} {writes : V → Option Tree} {valid : V → Type 0} {n s : ℕ}
+    {old new to_come : Option (List ℕ)} {before after : ℕ} {end : End}
+    {run : List (List (V × Send))} {answers : List (Answer V)} (limit : ℕ) (stream : List ℕ)
+    → LeavesRun takes writes valid n s old new before after run
+    → HearsValues limit s takes reads alike writes valid to_come end answers → n ≤ limit
+    → old ≡ Some [] → new ≡ Some stream → to_come ≡ Some stream → end ≡ Ended
+    → HeardOfRun reads alike s run answers
 heard_in_turn {n = n} {s = s} {old = old} {before = before} {after = after} {run = run} limit stream left hears l empty wrote comes ends =
     let bytes = line s (runs_of run) in
     let whole = all_written old stream bytes before after empty (subst (λ z. Wrote old z before after bytes) wrote left.wrote) in

@@ -25,15 +25,19 @@ answer_of v too_long = TooLong
 answer_of v cut = Cut
 
 -- what is told of the sends of one sender, by their values, where these bytes came on the line later
-abbrev pub told_values_session : {V : Type 0} → ℕ → Bool → List ℕ → List (V × Send) → List (Answer V)
+abbrev pub told_values_session : {V : Type 0} → ℕ → Bool → List ℕ → List (V × Send)
+    → List (Answer V)
 told_values_session s clean later [] = []
 told_values_session s clean later (c ∷ calls) =
-    map (answer_of c.0) (told_send clean (session_line s (clean_after clean c.1) (sends_of calls) ++ later) c.1) ++ told_values_session s (clean_after clean c.1) later calls
+    map (answer_of c.0)
+    (told_send clean (session_line s (clean_after clean c.1) (sends_of calls) ++ later) c.1)
+    ++ told_values_session s (clean_after clean c.1) later calls
 
 -- what is told of one sender after another
 abbrev pub told_values : {V : Type 0} → ℕ → List (List (V × Send)) → List (Answer V)
 told_values s [] = []
-told_values s (calls ∷ run) = told_values_session s false (line s (runs_of run)) calls ++ told_values s run
+told_values s (calls ∷ run) =
+    told_values_session s false (line s (runs_of run)) calls ++ told_values s run
 
 -- the same answer, of a value that is alike
 abbrev pub AlikeAnswers : {V : Type 0} → (V → V → Type 0) → Answer V → Answer V → Type 0
@@ -44,13 +48,19 @@ AlikeAnswers alike Cut Cut = Unit {0}
 AlikeAnswers alike _ _ = ⊥
 
 -- each value is valid and writes the tree of its send, where that wasn't refused
-abbrev pub AreSends : {V : Type 0} → (V → Option Tree) → (V → Type 0) → List (List (V × Send)) → Type 0
-AreSends writes valid run = AllByRecursion (λ calls. AllByRecursion (λ c. Sends writes valid c.0 c.1) calls) run
+abbrev pub AreSends : {V : Type 0} → (V → Option Tree)
+    → (V → Type 0) → List (List (V × Send)) → Type 0
+AreSends writes valid run =
+    AllByRecursion (λ calls. AllByRecursion (λ c. Sends writes valid c.0 c.1) calls) run
 
 -- What a receiver answers to the line of a run of values is, one by one, alike what is to be told of them.
-abbrev pub IsToldByValues : {V : Type 0} → (Tree → Type 0) → (List ℕ → Tree → Type 0) → (Tree → V → Type 0) → (V → V → Type 0) → (V → Option Tree) → (V → Type 0) → List (Answer V) → ℕ → ℕ → Type 0
-IsToldByValues {V} takes holds reads alike writes valid answers limit s = (run : List (List (V × Send))) → IsRun takes limit s (runs_of run) → AreSends writes valid run
-    → HasAnswered holds reads limit s answers (line s (runs_of run)) → AllZip (AlikeAnswers alike) (told_values s run) answers
+abbrev pub IsToldByValues : {V : Type 0} → (Tree → Type 0) → (List ℕ → Tree → Type 0)
+    → (Tree → V → Type 0) → (V → V → Type 0)
+    → (V → Option Tree) → (V → Type 0) → List (Answer V) → ℕ → ℕ → Type 0
+IsToldByValues {V} takes holds reads alike writes valid answers limit s =
+    (run : List (List (V × Send))) → IsRun takes limit s (runs_of run) → AreSends writes valid run
+    → HasAnswered holds reads limit s answers (line s (runs_of run))
+    → AllZip (AlikeAnswers alike) (told_values s run) answers
 
 -- every send completed
 abbrev pub AllCompleted : {V : Type 0} → List (V × Send) → Type 0
@@ -63,6 +73,11 @@ values_sent [] = []
 values_sent (calls ∷ run) = map (λ c. c.0) calls ++ values_sent run
 
 -- What a receiver answers to the line of a run whose sends completed is, one by one, a value alike the one sent.
-abbrev pub AreGivenBack : {V : Type 0} → (Tree → Type 0) → (List ℕ → Tree → Type 0) → (Tree → V → Type 0) → (V → V → Type 0) → (V → Option Tree) → (V → Type 0) → List (Answer V) → ℕ → ℕ → Type 0
-AreGivenBack {V} takes holds reads alike writes valid answers limit s = (run : List (List (V × Send))) → IsRun takes limit s (runs_of run) → AreSends writes valid run
-    → AllByRecursion AllCompleted run → HasAnswered holds reads limit s answers (line s (runs_of run)) → AllZip (AlikeAnswers alike) (map Value (values_sent run)) answers
+abbrev pub AreGivenBack : {V : Type 0} → (Tree → Type 0) → (List ℕ → Tree → Type 0)
+    → (Tree → V → Type 0) → (V → V → Type 0)
+    → (V → Option Tree) → (V → Type 0) → List (Answer V) → ℕ → ℕ → Type 0
+AreGivenBack {V} takes holds reads alike writes valid answers limit s =
+    (run : List (List (V × Send))) → IsRun takes limit s (runs_of run) → AreSends writes valid run
+    → AllByRecursion AllCompleted run
+    → HasAnswered holds reads limit s answers (line s (runs_of run))
+    → AllZip (AlikeAnswers alike) (map Value (values_sent run)) answers

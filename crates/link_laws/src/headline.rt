@@ -28,7 +28,8 @@ pub fn receive_run<T: DeserializeOwned, R: Inlet, const N: usize>(
     reader: R,
 ) -> Received<T, R>
     requires { ReceiverFitsInMemory N.row }
-    ensures { (run : List (List Send)) → IsRun T.takes N 0 run → R.to_come reader ≡ Some (line 0 run) → result.end ≡ Ended
+    ensures { (run : List (List Send)) → IsRun T.takes N 0 run
+        → R.to_come reader ≡ Some (line 0 run) → result.end ≡ Ended
         → AllZip (Matches T.reads) result.answers.items (told 0 run) }
 {
     receive_run_with_sentinel::<T, R, N>(alloc, reader, 0)
@@ -41,7 +42,8 @@ pub fn receive_run_with_sentinel<T: DeserializeOwned, R: Inlet, const N: usize>(
     sentinel: u8,
 ) -> Received<T, R>
     requires { ReceiverFitsInMemory N.row }
-    ensures { (run : List (List Send)) → IsRun T.takes N sentinel run → R.to_come reader ≡ Some (line sentinel run) → result.end ≡ Ended
+    ensures { (run : List (List Send)) → IsRun T.takes N sentinel run
+        → R.to_come reader ≡ Some (line sentinel run) → result.end ≡ Ended
         → AllZip (Matches T.reads) result.answers.items (told sentinel run) }
 {
     crate::told::<T>();
@@ -55,7 +57,8 @@ pub fn receive_owned_run<T: DeserializeOwned, R: Inlet>(
     limit: usize,
     sentinel: u8,
 ) -> Received<T, R>
-    ensures { (run : List (List Send)) → IsRun T.takes limit sentinel run → R.to_come reader ≡ Some (line sentinel run) → result.end ≡ Ended
+    ensures { (run : List (List Send)) → IsRun T.takes limit sentinel run
+        → R.to_come reader ≡ Some (line sentinel run) → result.end ≡ Ended
         → AllZip (Matches T.reads) result.answers.items (told sentinel run) }
 {
     crate::told::<T>();
@@ -69,7 +72,8 @@ pub fn receive_values<T: Lawful + DeserializeOwned, R: Inlet, const N: usize>(
     reader: R,
 ) -> Received<T, R>
     requires { ReceiverFitsInMemory N.row }
-    ensures { HearsValues N 0 T.takes T.reads T.alike T.writes T.valid (R.to_come reader) result.end result.answers.items }
+    ensures { HearsValues N 0 T.takes T.reads T.alike T.writes T.valid
+        (R.to_come reader) result.end result.answers.items }
 {
     receive_values_with_sentinel::<T, R, N>(alloc, reader, 0)
 }
@@ -81,7 +85,8 @@ pub fn receive_values_with_sentinel<T: Lawful + DeserializeOwned, R: Inlet, cons
     sentinel: u8,
 ) -> Received<T, R>
     requires { ReceiverFitsInMemory N.row }
-    ensures { HearsValues N sentinel T.takes T.reads T.alike T.writes T.valid (R.to_come reader) result.end result.answers.items }
+    ensures { HearsValues N sentinel T.takes T.reads T.alike T.writes T.valid
+        (R.to_come reader) result.end result.answers.items }
 {
     crate::carries::<T>();
     receive_with_sentinel::<T, R, N>(alloc, reader, sentinel)
@@ -107,8 +112,8 @@ pub fn send_in_turn<T: Lawful, W: Outlet, const N: usize>(
 ) -> InTurn<W>
     requires some { 0 < N }
     requires sender { SenderFitsInMemory W.row N.row }
-    ensures { LeavesTwo T.takes T.writes T.valid N 0 (W.written writer) (W.written result.writer) (W.faults writer) (W.faults result.writer)
-        first.now second.now result.first result.second }
+    ensures { LeavesTwo T.takes T.writes T.valid N 0 (W.written writer) (W.written result.writer)
+        (W.faults writer) (W.faults result.writer) first.now second.now result.first result.second }
 {
     send_in_turn_with_sentinel::<T, W, N>(writer, first, second, 0)
 }
@@ -122,7 +127,8 @@ pub fn send_in_turn_with_sentinel<T: Lawful, W: Outlet, const N: usize>(
 ) -> InTurn<W>
     requires some { 0 < N }
     requires sender { SenderFitsInMemory W.row N.row }
-    ensures { LeavesTwo T.takes T.writes T.valid N sentinel (W.written writer) (W.written result.writer) (W.faults writer) (W.faults result.writer)
+    ensures { LeavesTwo T.takes T.writes T.valid N sentinel
+        (W.written writer) (W.written result.writer) (W.faults writer) (W.faults result.writer)
         first.now second.now result.first result.second }
 {
     crate::carries::<T>();
@@ -151,7 +157,8 @@ pub fn send_each_in_turn<T: Lawful, W: Outlet, const N: usize>(
     requires second_places { length seconds.now ≡ length second_fates.old }
     requires some { 0 < N }
     requires sender { SenderFitsInMemory W.row N.row }
-    ensures { LeavesSessions T.takes T.writes T.valid N 0 (W.written writer) (W.written result) (W.faults writer) (W.faults result)
+    ensures { LeavesSessions T.takes T.writes T.valid N 0
+        (W.written writer) (W.written result) (W.faults writer) (W.faults result)
         firsts.now seconds.now first_fates.new second_fates.new }
 {
     send_each_in_turn_with_sentinel::<T, W, N>(
@@ -177,7 +184,8 @@ pub fn send_each_in_turn_with_sentinel<T: Lawful, W: Outlet, const N: usize>(
     requires second_places { length seconds.now ≡ length second_fates.old }
     requires some { 0 < N }
     requires sender { SenderFitsInMemory W.row N.row }
-    ensures { LeavesSessions T.takes T.writes T.valid N sentinel (W.written writer) (W.written result) (W.faults writer) (W.faults result)
+    ensures { LeavesSessions T.takes T.writes T.valid N sentinel
+        (W.written writer) (W.written result) (W.faults writer) (W.faults result)
         firsts.now seconds.now first_fates.new second_fates.new }
 {
     crate::carries::<T>();

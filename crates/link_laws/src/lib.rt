@@ -46,24 +46,30 @@ pub fn told<T: Readable>()
 
 /// The same of the answers that a receiver gives: each value is what its tree is read as.
 pub fn told_as<T: Readable>(answers: &[Answer<T>])
-    ensures ordinary { (limit s : ℕ) → IsToldAs T.takes (Holds T.takes) T.reads answers.now limit s }
-    ensures strict { (limit s : ℕ) → IsToldAs T.takes (HoldsExactly T.takes) T.reads answers.now limit s }
+    ensures ordinary { (limit s : ℕ)
+        → IsToldAs T.takes (Holds T.takes) T.reads answers.now limit s }
+    ensures strict { (limit s : ℕ)
+        → IsToldAs T.takes (HoldsExactly T.takes) T.reads answers.now limit s }
 {
     told::<T>();
 }
 
 /// The same of a run of a lawful type's values: a receiver's answers are, one by one, alike what is to be told of them.
 pub fn told_by_values<T: Lawful>(answers: &[Answer<T>])
-    ensures ordinary { (limit s : ℕ) → IsToldByValues T.takes (Holds T.takes) T.reads T.alike T.writes T.valid answers.now limit s }
-    ensures strict { (limit s : ℕ) → IsToldByValues T.takes (HoldsExactly T.takes) T.reads T.alike T.writes T.valid answers.now limit s }
+    ensures ordinary { (limit s : ℕ) → IsToldByValues T.takes
+        (Holds T.takes) T.reads T.alike T.writes T.valid answers.now limit s }
+    ensures strict { (limit s : ℕ) → IsToldByValues T.takes
+        (HoldsExactly T.takes) T.reads T.alike T.writes T.valid answers.now limit s }
 {
     told_as(answers);
 }
 
 /// Of a run of a lawful type's values whose sends all completed, a receiver's answers are values, one by one alike those sent.
 pub fn given_back<T: Lawful>(answers: &[Answer<T>])
-    ensures ordinary { (limit s : ℕ) → AreGivenBack T.takes (Holds T.takes) T.reads T.alike T.writes T.valid answers.now limit s }
-    ensures strict { (limit s : ℕ) → AreGivenBack T.takes (HoldsExactly T.takes) T.reads T.alike T.writes T.valid answers.now limit s }
+    ensures ordinary { (limit s : ℕ) → AreGivenBack T.takes
+        (Holds T.takes) T.reads T.alike T.writes T.valid answers.now limit s }
+    ensures strict { (limit s : ℕ) → AreGivenBack T.takes
+        (HoldsExactly T.takes) T.reads T.alike T.writes T.valid answers.now limit s }
 {
     told_by_values(answers);
 }
@@ -161,12 +167,14 @@ pub fn fronts_damaged<T: Readable>()
 /// What is answered where a valid value was sent is alike that value.
 pub fn as_sent<T: Lawful>(sent: &T, answered: &T)
     requires { T.valid sent.now }
-    ensures { (t : Tree) → T.writes sent.now ≡ Some t → T.reads t answered.now → T.alike sent.now answered.now }
+    ensures { (t : Tree) → T.writes sent.now ≡ Some t
+        → T.reads t answered.now → T.alike sent.now answered.now }
 {}
 
 /// Strictly a stretch holds what a value of an exact type is read from exactly where it is the frame of that value.
 pub fn strict_value<T: Exact>(value: &T)
-    ensures { (stretch : List ℕ) (t : Tree) → T.reads t value.now → HoldsExactly T.takes stretch t ↔ IsFrameOf (T.writes value.now) stretch }
+    ensures { (stretch : List ℕ) (t : Tree) → T.reads t value.now
+        → HoldsExactly T.takes stretch t ↔ IsFrameOf (T.writes value.now) stretch }
 {}
 
 /// Streams without a leading sentinel or two in a row, each empty or ending in one, all of whose strict answers are values
@@ -192,8 +200,10 @@ pub fn least<T: Readable>()
 
 /// The stretches of a stream, one by one, and what is heard of it in these words.
 pub fn stepwise<T: Readable>()
-    ensures ordinary { (limit : ℕ) (said : List ℕ → List Verdict) (s : ℕ) → IsHeardStepwise (IsAnswer (Holds T.takes) limit) said s }
-    ensures strict { (limit : ℕ) (said : List ℕ → List Verdict) (s : ℕ) → IsHeardStepwise (IsAnswer (HoldsExactly T.takes) limit) said s }
+    ensures ordinary { (limit : ℕ) (said : List ℕ → List Verdict) (s : ℕ)
+        → IsHeardStepwise (IsAnswer (Holds T.takes) limit) said s }
+    ensures strict { (limit : ℕ) (said : List ℕ → List Verdict) (s : ℕ)
+        → IsHeardStepwise (IsAnswer (HoldsExactly T.takes) limit) said s }
     ensures unfinished { (s : ℕ) → IsUnfinishedPart s }
 {}
 

@@ -11,36 +11,47 @@ ghost use Rattle.link_laws.specs.Rows.{t300, t5, true_tree};
 
 /// A send that is broken off in its frame and made again.
 pub fn broken_and_sent_again()
-    ensures line { line 0 ((broken t300 3 ∷ completed t300 ∷ []) ∷ []) ≡ 0 ∷ 3 ∷ 172 ∷ 0 ∷ 3 ∷ 172 ∷ 2 ∷ 0 ∷ [] }
+    ensures line { line 0 ((broken t300 3 ∷ completed t300 ∷ []) ∷ [])
+        ≡ 0 ∷ 3 ∷ 172 ∷ 0 ∷ 3 ∷ 172 ∷ 2 ∷ 0 ∷ [] }
     ensures told { told 0 ((broken t300 3 ∷ completed t300 ∷ []) ∷ []) ≡ damaged ∷ value t300 ∷ [] }
 {}
 
 /// A send that is broken off behind its whole frame and made again is told twice.
 pub fn whole_and_sent_again()
-    ensures line { line 0 ((broken t300 4 ∷ completed t300 ∷ []) ∷ []) ≡ 0 ∷ 3 ∷ 172 ∷ 2 ∷ 0 ∷ 3 ∷ 172 ∷ 2 ∷ 0 ∷ [] }
-    ensures told { told 0 ((broken t300 4 ∷ completed t300 ∷ []) ∷ []) ≡ value t300 ∷ value t300 ∷ [] }
+    ensures line { line 0 ((broken t300 4 ∷ completed t300 ∷ []) ∷ [])
+        ≡ 0 ∷ 3 ∷ 172 ∷ 2 ∷ 0 ∷ 3 ∷ 172 ∷ 2 ∷ 0 ∷ [] }
+    ensures told { told 0 ((broken t300 4 ∷ completed t300 ∷ []) ∷ [])
+        ≡ value t300 ∷ value t300 ∷ [] }
 {}
 
 /// Sends that are broken off before their first byte and behind their first sentinel.
 pub fn nothing_went_out()
     ensures none { told 0 ((broken t300 0 ∷ completed t300 ∷ []) ∷ []) ≡ value t300 ∷ [] }
-    ensures line { line 0 ((broken t300 1 ∷ completed t300 ∷ []) ∷ []) ≡ 0 ∷ 0 ∷ 3 ∷ 172 ∷ 2 ∷ 0 ∷ [] }
+    ensures line { line 0 ((broken t300 1 ∷ completed t300 ∷ []) ∷ [])
+        ≡ 0 ∷ 0 ∷ 3 ∷ 172 ∷ 2 ∷ 0 ∷ [] }
     ensures sentinel { told 0 ((broken t300 1 ∷ completed t300 ∷ []) ∷ []) ≡ value t300 ∷ [] }
 {}
 
 /// Three senders in turn: the first is broken off in its frame, the second before its first byte.
 pub fn three_senders()
-    ensures line { line 0 ((broken t300 2 ∷ []) ∷ (broken t5 0 ∷ []) ∷ (completed t5 ∷ []) ∷ []) ≡ 0 ∷ 3 ∷ 0 ∷ 2 ∷ 5 ∷ 0 ∷ [] }
-    ensures told { told 0 ((broken t300 2 ∷ []) ∷ (broken t5 0 ∷ []) ∷ (completed t5 ∷ []) ∷ []) ≡ damaged ∷ value t5 ∷ [] }
-    ensures line_later { line 0 ((broken t300 2 ∷ []) ∷ (broken t5 1 ∷ []) ∷ (completed t5 ∷ []) ∷ []) ≡ 0 ∷ 3 ∷ 0 ∷ 0 ∷ 2 ∷ 5 ∷ 0 ∷ [] }
-    ensures told_later { told 0 ((broken t300 2 ∷ []) ∷ (broken t5 1 ∷ []) ∷ (completed t5 ∷ []) ∷ []) ≡ damaged ∷ value t5 ∷ [] }
+    ensures line { line 0 ((broken t300 2 ∷ []) ∷ (broken t5 0 ∷ []) ∷ (completed t5 ∷ []) ∷ [])
+        ≡ 0 ∷ 3 ∷ 0 ∷ 2 ∷ 5 ∷ 0 ∷ [] }
+    ensures told { told 0 ((broken t300 2 ∷ []) ∷ (broken t5 0 ∷ []) ∷ (completed t5 ∷ []) ∷ [])
+        ≡ damaged ∷ value t5 ∷ [] }
+    ensures line_later { line 0
+        ((broken t300 2 ∷ []) ∷ (broken t5 1 ∷ []) ∷ (completed t5 ∷ []) ∷ [])
+        ≡ 0 ∷ 3 ∷ 0 ∷ 0 ∷ 2 ∷ 5 ∷ 0 ∷ [] }
+    ensures told_later { told 0
+        ((broken t300 2 ∷ []) ∷ (broken t5 1 ∷ []) ∷ (completed t5 ∷ []) ∷ [])
+        ≡ damaged ∷ value t5 ∷ [] }
 {}
 
 /// A whole frame that no sentinel follows, and one that another sender's follows.
 pub fn whole_frame()
     ensures line { line 0 ((broken t300 4 ∷ []) ∷ []) ≡ 0 ∷ 3 ∷ 172 ∷ 2 ∷ [] }
     ensures told { told 0 ((broken t300 4 ∷ []) ∷ []) ≡ cut ∷ [] }
-    ensures line_later { line 0 ((broken t300 4 ∷ []) ∷ (broken t5 1 ∷ []) ∷ []) ≡ 0 ∷ 3 ∷ 172 ∷ 2 ∷ 0 ∷ [] }
+    ensures line_later { line 0 ((broken t300 4 ∷ []) ∷ (broken t5 1 ∷ []) ∷ [])
+        ≡ 0 ∷ 3 ∷ 172 ∷ 2 ∷ 0 ∷ [] }
     ensures told_later { told 0 ((broken t300 4 ∷ []) ∷ (broken t5 1 ∷ []) ∷ []) ≡ value t300 ∷ [] }
 {}
 
@@ -51,7 +62,8 @@ pub fn another_sentinel()
 
 /// What a receiver of `u32` with a limit of 8 bytes answers to the line of three senders.
 pub fn heard_of_three_senders()
-    ensures { Answers (Holds (TakesNumber 32)) 8 0 (0 ∷ 3 ∷ 0 ∷ 0 ∷ 2 ∷ 5 ∷ 0 ∷ []) (damaged ∷ value t5 ∷ []) }
+    ensures { Answers (Holds (TakesNumber 32)) 8 0
+        (0 ∷ 3 ∷ 0 ∷ 0 ∷ 2 ∷ 5 ∷ 0 ∷ []) (damaged ∷ value t5 ∷ []) }
 {
     crate::told::<u32>();
 }
@@ -65,8 +77,10 @@ pub fn sentinel_of_ones()
 /// With the sentinel 0A, a send that is broken off in its frame and made again by another sender, and what a receiver of `u32`
 /// with a limit of 8 bytes answers.
 pub fn heard_with_another_sentinel()
-    ensures line { line 10 ((broken t300 2 ∷ []) ∷ (completed t300 ∷ []) ∷ []) ≡ 10 ∷ 9 ∷ 10 ∷ 9 ∷ 166 ∷ 8 ∷ 10 ∷ [] }
-    ensures heard { Answers (Holds (TakesNumber 32)) 8 10 (10 ∷ 9 ∷ 10 ∷ 9 ∷ 166 ∷ 8 ∷ 10 ∷ []) (damaged ∷ value t300 ∷ []) }
+    ensures line { line 10 ((broken t300 2 ∷ []) ∷ (completed t300 ∷ []) ∷ [])
+        ≡ 10 ∷ 9 ∷ 10 ∷ 9 ∷ 166 ∷ 8 ∷ 10 ∷ [] }
+    ensures heard { Answers (Holds (TakesNumber 32)) 8 10
+        (10 ∷ 9 ∷ 10 ∷ 9 ∷ 166 ∷ 8 ∷ 10 ∷ []) (damaged ∷ value t300 ∷ []) }
 {
     crate::told::<u32>();
 }

@@ -40,19 +40,22 @@ pub record SizeWithin (o : Option Tree) (g : Option ℕ) : Type 0 where
 
 -- the same for parts one after another
 pub record AllWithin (os : List (Option Tree)) (gs : List (Option ℕ)) : Type 0 where
-  pub at_most : (ts : Trees) (m : ℕ) → parts os ≡ Some ts → total gs ≡ Some m → length (short_all ts) ≤ m
+  pub at_most : (ts : Trees) (m : ℕ) → parts os ≡ Some ts → total gs ≡ Some m
+      → length (short_all ts) ≤ m
 
 -- Sizes
 
 size_of_is : (n m : ℕ) → size_of n ≡ Some m → n ≡ m
 size_of_is n m e = grind (arith, e)
 
-pub sum_some : (a b : Option ℕ) (m : ℕ) → sum_of a b ≡ Some m → (x : ℕ) × (y : ℕ) × (a ≡ Some x) × (b ≡ Some y) × (x + y ≡ m)
+pub sum_some : (a b : Option ℕ) (m : ℕ) → sum_of a b ≡ Some m
+    → (x : ℕ) × (y : ℕ) × (a ≡ Some x) × (b ≡ Some y) × (x + y ≡ m)
 sum_some None b m e = cc
 sum_some (Some a) None m e = cc
 sum_some (Some a) (Some b) m e = (a, b, refl, refl, size_of_is (a + b) m e)
 
-pub greater_some : (a b : Option ℕ) (m : ℕ) → greater_of a b ≡ Some m → (x : ℕ) × (y : ℕ) × (a ≡ Some x) × (b ≡ Some y) × (x ≤ m) × (y ≤ m)
+pub greater_some : (a b : Option ℕ) (m : ℕ) → greater_of a b ≡ Some m
+    → (x : ℕ) × (y : ℕ) × (a ≡ Some x) × (b ≡ Some y) × (x ≤ m) × (y ≤ m)
 greater_some None b m e = cc
 greater_some (Some a) None m e = cc
 greater_some (Some a) (Some b) m e = let k : max a b ≡ m = cc in (a, b, refl, refl, omega (arith, k), omega (arith, k))
@@ -131,15 +134,18 @@ character_within c =
 pub none_within : AllWithin [] []
 none_within = record { at_most = λ ts m e g. let q : end ≡ ts = cc in subst (λ u. length (short_all u) ≤ m) q (omega arith) }
 
-with_part_some : (t : Tree) (p : Option Trees) (ts : Trees) → with_part t p ≡ Some ts → (us : Trees) × (p ≡ Some us) × (part t us ≡ ts)
+with_part_some : (t : Tree) (p : Option Trees) (ts : Trees) → with_part t p ≡ Some ts
+    → (us : Trees) × (p ≡ Some us) × (part t us ≡ ts)
 with_part_some t None ts e = cc
 with_part_some t (Some us) ts e = (us, refl, cc)
 
-parts_some : (o : Option Tree) (os : List (Option Tree)) (ts : Trees) → parts (o ∷ os) ≡ Some ts → (t : Tree) × (us : Trees) × (o ≡ Some t) × (parts os ≡ Some us) × (part t us ≡ ts)
+parts_some : (o : Option Tree) (os : List (Option Tree)) (ts : Trees) → parts (o ∷ os) ≡ Some ts
+    → (t : Tree) × (us : Trees) × (o ≡ Some t) × (parts os ≡ Some us) × (part t us ≡ ts)
 parts_some None os ts e = cc
 parts_some (Some t) os ts e = let p = with_part_some t (parts os) ts e in (t, p.0, refl, p.1, p.2)
 
-pub part_within : {o : Option Tree} {os : List (Option Tree)} {g : Option ℕ} {gs : List (Option ℕ)} → SizeWithin o g → AllWithin os gs → AllWithin (o ∷ os) (g ∷ gs)
+pub part_within : {o : Option Tree} {os : List (Option Tree)} {g : Option ℕ} {gs : List (Option ℕ)}
+    → SizeWithin o g → AllWithin os gs → AllWithin (o ∷ os) (g ∷ gs)
 part_within {o} {os} {g} {gs} one more = record {
   at_most = λ ts m e q.
       let p = parts_some o os ts e in
@@ -147,11 +153,13 @@ part_within {o} {os} {g} {gs} one more = record {
       subst (λ u. length (short_all u) ≤ m) p.4 (omega (arith, length-append (short p.0) (short_all p.1), one.at_most p.0 s.0 p.2 s.2, more.at_most p.1 s.1 p.3 s.3, s.4));
 }
 
-group_some : (p : Option Trees) (t : Tree) → group_of p ≡ Some t → (ts : Trees) × (p ≡ Some ts) × (group ts ≡ t)
+group_some : (p : Option Trees) (t : Tree) → group_of p ≡ Some t
+    → (ts : Trees) × (p ≡ Some ts) × (group ts ≡ t)
 group_some None t e = cc
 group_some (Some ts) t e = (ts, refl, cc)
 
-pub group_within : {os : List (Option Tree)} {gs : List (Option ℕ)} → AllWithin os gs → SizeWithin (group_of (parts os)) (total gs)
+pub group_within : {os : List (Option Tree)} {gs : List (Option ℕ)} → AllWithin os gs
+    → SizeWithin (group_of (parts os)) (total gs)
 group_within {os} {gs} all = record {
   at_most = λ t m e q. let p = group_some (parts os) t e in subst (λ u. length (short u) ≤ m) p.2 (all.at_most p.0 m p.1 q);
 }
@@ -160,7 +168,9 @@ pub end_within : SizeWithin (Some (group end)) (Some 0)
 end_within = tree_within (group end) 0 (omega arith)
 
 -- a part of known size before a value
-pub first_then : (u : Tree) (n : ℕ) {o : Option Tree} {g : Option ℕ} → length (short u) ≤ n → SizeWithin o g → (t : Tree) (x m : ℕ) → group_of (parts (Some u ∷ o ∷ [])) ≡ Some t → g ≡ Some x → x + n ≤ m → length (short t) ≤ m
+pub first_then : (u : Tree) (n : ℕ) {o : Option Tree} {g : Option ℕ} → length (short u) ≤ n
+    → SizeWithin o g → (t : Tree) (x m : ℕ) → group_of (parts (Some u ∷ o ∷ [])) ≡ Some t
+    → g ≡ Some x → x + n ≤ m → length (short t) ≤ m
 first_then u n {o} {g} h one t x m e q l =
     let p = group_some (parts (Some u ∷ o ∷ [])) t e in
     let f = parts_some (Some u) (o ∷ []) p.0 p.1 in
@@ -173,7 +183,9 @@ first_then u n {o} {g} h one t x m e q l =
     let d : length (short_all p.0) ≤ m = subst (λ z. length (short_all z) ≤ m) f.4 (omega (arith, length-append (short f.0) (short_all f.1), a, c, l)) in
     subst (λ z. length (short z) ≤ m) p.2 d
 
-pub option_within : {A : Type 0} (V : A → Type 0) (w : A → Option Tree) (g : Option ℕ) → ((v : A) → V v → SizeWithin (w v) g) → (o : Option A) → IfSome o V → SizeWithin (option_writes w o) (sum_of g (Some 1))
+pub option_within : {A : Type 0} (V : A → Type 0) (w : A → Option Tree) (g : Option ℕ)
+    → ((v : A) → V v → SizeWithin (w v) g) → (o : Option A) → IfSome o V
+    → SizeWithin (option_writes w o) (sum_of g (Some 1))
 option_within V w g one None h = record {
   at_most = λ t m e q. let s = sum_some g (Some 1) m q in let k : byte 0 ≡ t = cc in let y : 1 ≡ s.1 = cc (s.3) in subst (λ u. length (short u) ≤ m) k (omega (arith, length_single 0, s.4, y));
 }
@@ -181,8 +193,11 @@ option_within V w g one (Some v) h = record {
   at_most = λ t m e q. let s = sum_some g (Some 1) m q in let y : 1 ≡ s.1 = cc (s.3) in first_then (byte 1) 1 (omega (arith, length_single 1)) (one v h) t s.0 m e s.2 (omega (arith, s.4, y));
 }
 
-pub result_within : {A B : Type 0} (V : A → Type 0) (W : B → Type 0) (wa : A → Option Tree) (wb : B → Option Tree) (g h : Option ℕ) → ((v : A) → V v → SizeWithin (wa v) g) → ((v : B) → W v → SizeWithin (wb v) h)
-    → (r : Result A B) → MatchResult r V W → SizeWithin (result_writes wa wb r) (sum_of (greater_of g h) (Some 1))
+pub result_within : {A B : Type 0} (V : A → Type 0) (W : B → Type 0) (wa : A → Option Tree)
+    (wb : B → Option Tree) (g h : Option ℕ)
+    → ((v : A) → V v → SizeWithin (wa v) g) → ((v : B) → W v → SizeWithin (wb v) h)
+    → (r : Result A B) → MatchResult r V W
+    → SizeWithin (result_writes wa wb r) (sum_of (greater_of g h) (Some 1))
 result_within V W wa wb g h one two (Ok v) k = record {
   at_most = λ t m e q.
       let s = sum_some (greater_of g h) (Some 1) m q in
@@ -209,7 +224,10 @@ rest_valid V x xs h = λ k d l. h (suc k) d (omega (arith, l))
 longer : (a n : ℕ) (s t : List ℕ) → length s ≤ a → length t ≤ a * n → length (s ++ t) ≤ a * suc n
 longer a n s t h k = let e : a * suc n ≡ a + a * n = omega arith in omega (arith, length-append s t, h, k, e)
 
-elements_within : {A : Type 0} (V : A → Type 0) (w : A → Option Tree) (g : Option ℕ) (a : ℕ) → g ≡ Some a → ((v : A) → V v → SizeWithin (w v) g) → (xs : List A) → All V xs → (ts : Trees) → parts (map w xs) ≡ Some ts → (length (short_all ts) ≤ a * length xs) × (count_of ts ≡ length xs)
+elements_within : {A : Type 0} (V : A → Type 0) (w : A → Option Tree) (g : Option ℕ) (a : ℕ)
+    → g ≡ Some a → ((v : A) → V v → SizeWithin (w v) g) → (xs : List A) → All V xs
+    → (ts : Trees) → parts (map w xs) ≡ Some ts
+    → (length (short_all ts) ≤ a * length xs) × (count_of ts ≡ length xs)
 elements_within V w g a k one [] h ts e = let q : end ≡ ts = cc in subst (λ u. (length (short_all u) ≤ a * 0) × (count_of u ≡ 0)) q (omega arith, refl)
 elements_within V w g a k one (x ∷ xs) h ts e =
     let p = parts_some (w x) (map w xs) ts e in
@@ -217,7 +235,9 @@ elements_within V w g a k one (x ∷ xs) h ts e =
     let f = (one x (first_valid V x xs h)).at_most p.0 a p.2 k in
     subst (λ u. (length (short_all u) ≤ a * length (x ∷ xs)) × (count_of u ≡ length (x ∷ xs))) p.4 (longer a (length xs) (short p.0) (short_all p.1) f r.0, omega (arith, r.1))
 
-pub array_within : {A : Type 0} (V : A → Type 0) (w : A → Option Tree) (g : Option ℕ) (n : ℕ) → ((v : A) → V v → SizeWithin (w v) g) → (xs : List A) → length xs ≡ n → All V xs → SizeWithin (group_of (parts (map w xs))) (times g n)
+pub array_within : {A : Type 0} (V : A → Type 0) (w : A → Option Tree) (g : Option ℕ) (n : ℕ)
+    → ((v : A) → V v → SizeWithin (w v) g) → (xs : List A) → length xs ≡ n → All V xs
+    → SizeWithin (group_of (parts (map w xs))) (times g n)
 array_within V w g n one xs l h = record {
   at_most = λ t m e q.
       let s = times_some g n m q in
@@ -226,14 +246,17 @@ array_within V w g n one xs l h = record {
       subst (λ z. length (short z) ≤ m) p.2 (subst (λ z. length (short_all p.0) ≤ z) (ap (λ z. s.0 * z) l ∙ s.2) r);
 }
 
-sequence_some : (p : Option Trees) (t : Tree) → sequence_of p ≡ Some t → (ts : Trees) × (p ≡ Some ts) × (sequence ts ≡ t)
+sequence_some : (p : Option Trees) (t : Tree) → sequence_of p ≡ Some t
+    → (ts : Trees) × (p ≡ Some ts) × (sequence ts ≡ t)
 sequence_some None t e = cc
 sequence_some (Some ts) t e = (ts, refl, cc)
 
 fewer_times : (a b n : ℕ) → b ≤ n → a * b ≤ a * n
 fewer_times a b n h = mul-le-mul_left a h
 
-pub sequence_within : {A : Type 0} (V : A → Type 0) (w : A → Option Tree) (g : Option ℕ) (n : ℕ) → ((v : A) → V v → SizeWithin (w v) g) → (xs : List A) → length xs ≤ n → All V xs → SizeWithin (sequence_of (parts (map w xs))) (sum_of (times g n) (Some (length (varint n))))
+pub sequence_within : {A : Type 0} (V : A → Type 0) (w : A → Option Tree) (g : Option ℕ) (n : ℕ)
+    → ((v : A) → V v → SizeWithin (w v) g) → (xs : List A) → length xs ≤ n → All V xs
+    → SizeWithin (sequence_of (parts (map w xs))) (sum_of (times g n) (Some (length (varint n))))
 sequence_within V w g n one xs l h = record {
   at_most = λ t m e q.
       let s = sum_some (times g n) (Some (length (varint n))) m q in
@@ -253,7 +276,8 @@ bytes_count : (bs : List ℕ) → count_of (bytes_of bs) ≡ length bs
 bytes_count [] = refl
 bytes_count (b ∷ bs) = omega (arith, bytes_count bs)
 
-pub text_within : (n : ℕ) (bs : List ℕ) → length bs ≤ n → SizeWithin (Some (text_of bs)) (sum_of (Some n) (Some (length (varint n))))
+pub text_within : (n : ℕ) (bs : List ℕ) → length bs ≤ n
+    → SizeWithin (Some (text_of bs)) (sum_of (Some n) (Some (length (varint n))))
 text_within n bs l = record {
   at_most = λ t m e q.
       let s = sum_some (Some n) (Some (length (varint n))) m q in
@@ -264,5 +288,6 @@ text_within n bs l = record {
       (omega (arith, length-append (varint (count_of (bytes_of bs))) (short_all (bytes_of bs)), bytes_short bs, varint_grows (count_of (bytes_of bs)) n (omega (arith, bytes_count bs, l)), l, x, y, s.4));
 }
 
-pub fixed_within : (bs : List ℕ) (n : ℕ) → length bs ≡ n → SizeWithin (Some (group (bytes_of bs))) (Some n)
+pub fixed_within : (bs : List ℕ) (n : ℕ) → length bs ≡ n
+    → SizeWithin (Some (group (bytes_of bs))) (Some n)
 fixed_within bs n l = tree_within (group (bytes_of bs)) n (omega (arith, bytes_short bs, l))

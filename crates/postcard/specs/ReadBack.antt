@@ -7,11 +7,15 @@ use Rattle.postcard.specs.Answer.{ReadsFront, AnswersFronts}
 use Rattle.postcard.specs.Written.{WrittenAs}
 
 -- s is what v was written as: each value that is read at its front is alike v
-abbrev pub IsReadBack : {A : Type 0} → (Tree → A → Type 0) → (A → A → Type 0) → Option Tree → A → Type 0
+abbrev pub IsReadBack : {A : Type 0} → (Tree → A → Type 0)
+    → (A → A → Type 0) → Option Tree → A → Type 0
 IsReadBack {A} reads alike o v =
-    (s : List ℕ) (r : Result A Error) → WrittenAs o (λ bytes. s ≡ bytes) → IfOk r (λ w. (rest : List ℕ) × ReadsFront reads s rest w) → IfOk r (λ w. alike v w)
+    (s : List ℕ) (r : Result A Error) → WrittenAs o (λ bytes. s ≡ bytes)
+    → IfOk r (λ w. (rest : List ℕ) × ReadsFront reads s rest w) → IfOk r (λ w. alike v w)
 
 -- and only being out of memory keeps it from being read
-abbrev pub IsNotRefused : {A : Type 0} → (Tree → Type 0) → (Tree → A → Type 0) → Bool → Option Tree → Type 0
+abbrev pub IsNotRefused : {A : Type 0} → (Tree → Type 0)
+    → (Tree → A → Type 0) → Bool → Option Tree → Type 0
 IsNotRefused {A} takes reads growing o =
-    (s : List ℕ) (r : Result A Error) → WrittenAs o (λ bytes. s ≡ bytes) → AnswersFronts takes reads growing s r → IfErr r (λ e. (e ≡ OutOfMemory) × (growing ≡ true))
+    (s : List ℕ) (r : Result A Error) → WrittenAs o (λ bytes. s ≡ bytes)
+    → AnswersFronts takes reads growing s r → IfErr r (λ e. (e ≡ OutOfMemory) × (growing ≡ true))

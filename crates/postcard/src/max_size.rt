@@ -280,7 +280,9 @@ impl<T: FixInt> MaxSizeForm<LE<T>> for Own {
 }
 
 impl<T: FixInt> MaxWrittenForm<LE<T>> for Own {
-    ghost form_longest = { λ v h. subst (λ z. SizeWithin z (Some T.size)) (sym (little_tree_is T.size (T.bits v.0))) (fixed_within (little_endian T.size (T.bits v.0)) T.size (length_little T.size (T.bits v.0))) };
+    ghost form_longest = { λ v h. subst (λ z. SizeWithin z (Some T.size))
+        (sym (little_tree_is T.size (T.bits v.0))) (fixed_within (little_endian T.size (T.bits v.0))
+        T.size (length_little T.size (T.bits v.0))) };
 }
 
 impl<T: FixInt> MaxSizeForm<BE<T>> for Own {
@@ -292,7 +294,9 @@ impl<T: FixInt> MaxSizeForm<BE<T>> for Own {
 }
 
 impl<T: FixInt> MaxWrittenForm<BE<T>> for Own {
-    ghost form_longest = { λ v h. subst (λ z. SizeWithin z (Some T.size)) (sym (big_tree_is T.size (T.bits v.0))) (fixed_within (big_endian T.size (T.bits v.0)) T.size (length_big T.size (T.bits v.0))) };
+    ghost form_longest = { λ v h.
+        subst (λ z. SizeWithin z (Some T.size)) (sym (big_tree_is T.size (T.bits v.0)))
+        (fixed_within (big_endian T.size (T.bits v.0)) T.size (length_big T.size (T.bits v.0))) };
 }
 
 impl MaxSizeForm<char> for Own {
@@ -455,7 +459,8 @@ impl<T: MaxSize, E: MaxSize> MaxSizeForm<Result<T, E>> for Own {
 }
 
 impl<T: MaxWritten, E: MaxWritten> MaxWrittenForm<Result<T, E>> for Own {
-    ghost form_longest = { result_within T.valid E.valid T.writes E.writes T.greatest E.greatest T.longest E.longest };
+    ghost form_longest = { result_within T.valid E.valid T.writes E.writes
+        T.greatest E.greatest T.longest E.longest };
 }
 
 impl<T: MaxSize, const N: usize> MaxSizeForm<[T; N]> for Own {
@@ -479,7 +484,8 @@ impl<T: MaxSize, const N: usize> MaxSizeForm<ArrayVec<T, N>> for Own {
 }
 
 impl<T: MaxWritten, const N: usize> MaxWrittenForm<ArrayVec<T, N>> for Own {
-    ghost form_longest = { λ v h. sequence_within T.valid T.writes T.greatest N T.longest v.items h.0 h.2 };
+    ghost form_longest = { λ v h.
+        sequence_within T.valid T.writes T.greatest N T.longest v.items h.0 h.2 };
 }
 
 impl<const N: usize> MaxSizeForm<ArrayString<N>> for Own {
@@ -575,7 +581,8 @@ impl<A: MaxSize, B: MaxSize> MaxSizeForm<(A, B)> for Own {
 }
 
 impl<A: MaxWritten, B: MaxWritten> MaxWrittenForm<(A, B)> for Own {
-    ghost form_longest = { λ v h. group_within (part_within (A.longest v.0 h.0) (part_within (B.longest v.1 h.1) none_within)) };
+    ghost form_longest = { λ v h. group_within (part_within (A.longest v.0 h.0)
+        (part_within (B.longest v.1 h.1) none_within)) };
 }
 
 impl<A: MaxSize, B: MaxSize, C: MaxSize> MaxSizeForm<(A, B, C)> for Own {
@@ -610,13 +617,15 @@ impl<A: MaxSize, B: MaxSize, C: MaxSize, D: MaxSize> MaxSizeForm<(A, B, C, D)> f
 
 impl<A: MaxWritten, B: MaxWritten, C: MaxWritten, D: MaxWritten> MaxWrittenForm<(A, B, C, D)>
     for Own {
-    ghost form_longest = { λ v h. group_within (part_within (A.longest v.0 h.0)
-        (part_within (B.longest v.1 h.1) (part_within (C.longest v.2 h.2) (part_within (D.longest v.3 h.3) none_within)))) };
+    ghost form_longest = { λ v h.
+        group_within (part_within (A.longest v.0 h.0) (part_within (B.longest v.1 h.1)
+        (part_within (C.longest v.2 h.2) (part_within (D.longest v.3 h.3) none_within)))) };
 }
 
 impl<A: MaxSize, B: MaxSize, C: MaxSize, D: MaxSize, E: MaxSize> MaxSizeForm<(A, B, C, D, E)>
     for Own {
-    ghost form_greatest = { total (A.greatest ∷ B.greatest ∷ C.greatest ∷ D.greatest ∷ E.greatest ∷ []) };
+    ghost form_greatest = { total
+        (A.greatest ∷ B.greatest ∷ C.greatest ∷ D.greatest ∷ E.greatest ∷ []) };
 
     fn form_max_size() -> Option<usize> {
         sum(
@@ -643,7 +652,8 @@ impl<A: MaxWritten, B: MaxWritten, C: MaxWritten, D: MaxWritten, E: MaxWritten> 
 impl<A: MaxSize, B: MaxSize, C: MaxSize, D: MaxSize, E: MaxSize, F: MaxSize> MaxSizeForm<
     (A, B, C, D, E, F),
 > for Own {
-    ghost form_greatest = { total (A.greatest ∷ B.greatest ∷ C.greatest ∷ D.greatest ∷ E.greatest ∷ F.greatest ∷ []) };
+    ghost form_greatest = { total
+        (A.greatest ∷ B.greatest ∷ C.greatest ∷ D.greatest ∷ E.greatest ∷ F.greatest ∷ []) };
 
     fn form_max_size() -> Option<usize> {
         sum(

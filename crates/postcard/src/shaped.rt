@@ -21,7 +21,8 @@ impl<M: SerializeShape> MaxWrittenForm<M> for AsShape
 where
     M::Shape: MaxWritten,
 {
-    ghost form_longest = { λ v h. subst (λ z. SizeWithin z M.Shape.greatest) (sym (M.written_as.same v))
+    ghost form_longest = { λ v h.
+        subst (λ z. SizeWithin z M.Shape.greatest) (sym (M.written_as.same v))
         (M.Shape.longest (M.shape v) (M.written_as.shown v h)) };
 }
 

@@ -13,7 +13,8 @@ where
     Self::Shape: Serialize,
 {
     /// What is written is what the shape writes, and a valid value's shape is valid.
-    ghost written_as: { WrittenAs Self.shape Self.Shape.writes Self.Shape.valid Self.writes Self.valid };
+    ghost written_as: { WrittenAs Self.shape Self.Shape.writes
+        Self.Shape.valid Self.writes Self.valid };
 }
 
 impl<'a, T: Serialize> Serialize for &'a T {

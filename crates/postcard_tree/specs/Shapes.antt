@@ -4,14 +4,16 @@ use Rattle.postcard_tree.specs.declared.error.Error.{Error}
 use Rattle.postcard_tree.specs.Tree.{Tree}
 
 -- a type with this view of its values reads as another does, whose reads, refuses and growing come first
-pub record ReadAs {A B : Type 0} (view : A → B) (reads : Tree → B → Type 0) (refuses : List ℕ → Error → Type 0) (growing : Bool)
-    (reads_it : Tree → A → Type 0) (refuses_it : List ℕ → Error → Type 0) (growing_it : Bool) : Type 0 where
+pub record ReadAs {A B : Type 0} (view : A → B) (reads : Tree → B → Type 0)
+    (refuses : List ℕ → Error → Type 0) (growing : Bool) (reads_it : Tree → A → Type 0)
+    (refuses_it : List ℕ → Error → Type 0) (growing_it : Bool) : Type 0 where
   pub to : (t : Tree) (v : A) → reads_it t v → reads t (view v)
   pub from : (t : Tree) (v : A) → reads t (view v) → reads_it t v
   pub refused : (s : List ℕ) (e : Error) → refuses s e → refuses_it s e
   pub grows : growing ≡ growing_it
 
-pub read_as_shape : {A B : Type 0} {view : A → B} {R : Tree → B → Type 0} {F : List ℕ → Error → Type 0} {g : Bool}
+pub read_as_shape : {A B : Type 0} {view : A → B} {R : Tree → B → Type 0}
+    {F : List ℕ → Error → Type 0} {g : Bool}
     → ReadAs view R F g (λ t v. R t (view v)) F g
 read_as_shape = record { to = λ t v h. h; from = λ t v h. h; refused = λ s e h. h; grows = refl }
 

@@ -26,7 +26,8 @@ impl Shaped for BasicEnum {
 
     type Shape = BasicEnumShape;
 
-    ghost shape = { λ v. elim v [ Bib ↦ This tt | Bim ↦ Other (This tt) | Bap ↦ Other (Other (Last tt)) ] };
+    ghost shape = { λ v.
+        elim v [ Bib ↦ This tt | Bim ↦ Other (This tt) | Bap ↦ Other (Other (Last tt)) ] };
 
     fn from_shape(it: BasicEnumShape) -> BasicEnum {
         match it {
@@ -48,7 +49,8 @@ impl Readable for BasicEnum {
 
     ghost refuses = { ⟦<ShapeOf<Self> as Readable>⟧.refuses };
 
-    ghost alike = { λ v w. ⟦<ShapeOf<Self> as Readable>⟧.alike (⟦<Self as Shaped>⟧.shape v) (⟦<Self as Shaped>⟧.shape w) };
+    ghost alike = { λ v w. ⟦<ShapeOf<Self> as Readable>⟧.alike
+        (⟦<Self as Shaped>⟧.shape v) (⟦<Self as Shaped>⟧.shape w) };
 
     ghost growing = { ⟦<ShapeOf<Self> as Readable>⟧.growing };
 
@@ -127,7 +129,8 @@ impl Readable for DataEnum {
 
     ghost refuses = { ⟦<ShapeOf<Self> as Readable>⟧.refuses };
 
-    ghost alike = { λ v w. ⟦<ShapeOf<Self> as Readable>⟧.alike (⟦<Self as Shaped>⟧.shape v) (⟦<Self as Shaped>⟧.shape w) };
+    ghost alike = { λ v w. ⟦<ShapeOf<Self> as Readable>⟧.alike
+        (⟦<Self as Shaped>⟧.shape v) (⟦<Self as Shaped>⟧.shape w) };
 
     ghost growing = { ⟦<ShapeOf<Self> as Readable>⟧.growing };
 

@@ -24,11 +24,14 @@ borrow_of place name bytes = record { ref_ptr = place; ghost_name = name; now = 
 
 -- what a `&mut` for κ of those bytes owns, lent under that name
 abbrev pub bytes_owned : Lft → Place → GName → List ℕ → Fml
-bytes_owned κ place name bytes = (MutSlice (named 0) κ u8).own_val (borrow_of place name bytes) (mut_slice_vals (borrow_of place name bytes))
+bytes_owned κ place name bytes = (MutSlice (named 0) κ u8).own_val (borrow_of place name bytes)
+    (mut_slice_vals (borrow_of place name bytes))
 
 -- what the holder of a `&` to that has
 abbrev pub bytes_lent : Lft → Place → GName → List ℕ → Lft → Fml
-bytes_lent κ place name bytes = beside (said (mut_slice_at u8 (borrow_of place name bytes) (mut_slice_vals (borrow_of place name bytes)))) (within κ (elements_shared u8 bytes place.0 place.1))
+bytes_lent κ place name bytes = beside (said (mut_slice_at u8 (borrow_of place name bytes)
+    (mut_slice_vals (borrow_of place name bytes))))
+    (within κ (elements_shared u8 bytes place.0 place.1))
 
 -- a `&` of those bytes
 abbrev pub view_of : Place → List ℕ → Bor (List ℕ)
@@ -36,11 +39,13 @@ view_of place bytes = record { ref_ptr = place; now = bytes }
 
 -- what a `&` for κ of those bytes owns
 abbrev pub bytes_seen : Lft → Place → List ℕ → Fml
-bytes_seen κ place bytes = (ShrSlice (named 0) κ u8).own_val (view_of place bytes) (shr_slice_vals (view_of place bytes))
+bytes_seen κ place bytes =
+    (ShrSlice (named 0) κ u8).own_val (view_of place bytes) (shr_slice_vals (view_of place bytes))
 
 -- those bytes lent by `&` for another lifetime
 abbrev pub seen_lent : Lft → Place → List ℕ → Lft → Fml
-seen_lent κ place bytes = beside (said (shr_slice_at u8 (view_of place bytes) (shr_slice_vals (view_of place bytes)))) (within κ (elements_shared u8 bytes place.0 place.1))
+seen_lent κ place bytes = beside (said (shr_slice_at u8 (view_of place bytes)
+    (shr_slice_vals (view_of place bytes)))) (within κ (elements_shared u8 bytes place.0 place.1))
 
 -- what a memory owns, by whether it may be written
 abbrev pub access_owned : Bool → Lft → Place → GName → List ℕ → Fml

@@ -156,7 +156,8 @@ impl<'a> Memory<'a, Writable> {
         ensures start { result.1.at ≡ block_ptr result.2.place.0 result.2.place.1 }
         ensures parts { self.entry.bytes ≡ result.0.bytes ++ result.2.bytes }
         ensures count { length result.0.bytes ≡ count }
-        ensures apart { Apart result.0.place (length result.0.bytes) result.2.place (length result.2.bytes) }
+        ensures apart { Apart result.0.place (length result.0.bytes)
+            result.2.place (length result.2.bytes) }
     {
         let Memory { mark: _ } = self;
         let at = unsafe { start.at.add(count) };
@@ -210,7 +211,8 @@ impl<'a> Memory<'a, ReadOnly> {
         ensures start { result.1.at ≡ block_ptr result.2.place.0 result.2.place.1 }
         ensures parts { self.entry.bytes ≡ result.0.bytes ++ result.2.bytes }
         ensures count { length result.0.bytes ≡ count }
-        ensures apart { Apart result.0.place (length result.0.bytes) result.2.place (length result.2.bytes) }
+        ensures apart { Apart result.0.place (length result.0.bytes)
+            result.2.place (length result.2.bytes) }
     {
         let Memory { mark: _ } = self;
         let at = unsafe { start.at.add(count) };

@@ -75,11 +75,14 @@ impl Outlet for OwnedOut {
 
     fn write(&mut self, piece: &[u8]) -> Option<usize>
         ensures bound { IfSome result (λ n. n ≤ length piece.now) }
-        ensures bytes { Wrote (Some (owned_bytes self.old)) (Some (owned_bytes self.new)) (owned_faults self.old) (owned_faults self.new) (moved_front result piece.now) }
-        ensures faults { owned_faults self.new ≡ owned_faults self.old + write_faults (owned_calls self.old) result piece.now }
+        ensures bytes { Wrote (Some (owned_bytes self.old)) (Some (owned_bytes self.new))
+            (owned_faults self.old) (owned_faults self.new) (moved_front result piece.now) }
+        ensures faults { owned_faults self.new
+            ≡ owned_faults self.old + write_faults (owned_calls self.old) result piece.now }
         ensures calls { owned_calls self.new ≡ owned_calls self.old - 1 }
         ensures spent { owned_calls self.old ≡ 0 → result ≡ None }
-        ensures plan { GoesOn (owned_plan self.old) (owned_calls self.old) (length piece.now) result (owned_plan self.new) }
+        ensures plan { GoesOn (owned_plan self.old) (owned_calls self.old)
+            (length piece.now) result (owned_plan self.new) }
     {
         if self.calls == 0 {
             return None;

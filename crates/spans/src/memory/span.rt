@@ -121,7 +121,8 @@ impl<'a> Span<'a, Writable> {
         ensures parts { ahead_of self.entry ≡ result.0.now ++ ahead_of result.1 }
         ensures count { length result.0.now ≡ count }
         ensures behind { behind_of result.1 ≡ [] }
-        ensures apart { Apart result.0.ref_ptr (length result.0.now) (place_of result.1) (length (ahead_of result.1)) }
+        ensures apart { Apart result.0.ref_ptr (length result.0.now)
+            (place_of result.1) (length (ahead_of result.1)) }
     {
         let Span {
             start,
@@ -221,7 +222,8 @@ impl<'a> Span<'a, ReadOnly> {
         ensures parts { ahead_of self.entry ≡ result.0.now ++ ahead_of result.1 }
         ensures count { length result.0.now ≡ count }
         ensures behind { behind_of result.1 ≡ [] }
-        ensures apart { Apart result.0.ref_ptr (length result.0.now) (place_of result.1) (length (ahead_of result.1)) }
+        ensures apart { Apart result.0.ref_ptr (length result.0.now)
+            (place_of result.1) (length (ahead_of result.1)) }
     {
         let Span {
             start,
