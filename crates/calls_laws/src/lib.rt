@@ -2,3 +2,4 @@
 #![tactic(auto)]
 
 pub mod headline;
+pub mod heard;
