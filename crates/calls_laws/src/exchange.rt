@@ -88,7 +88,9 @@ pub fn call_once<
     requires each_there { 0 < there.each }
     requires each_back { 0 < back.each }
     requires memory { SidesFitInMemory A.row W.row Q.row R.row N.row M.row }
-    ensures replied { IfSome result.said (λ taken. ExecutedOnce A.executes Q.alike application result.application request (λ says. R.alike says taken)) }
+    ensures replied { IfSome result.said (λ taken.
+        ExecutedOnce A.executes Q.alike application result.application request
+        (λ says. R.alike says taken)) }
     ensures at_most_once { ExecutedAtMostOnce A.executes Q.alike application result.application request }
 {
     link_laws::carries::<(u64, Q)>();
@@ -149,7 +151,9 @@ pub fn call_once_strict<
     requires each_there { 0 < there.each }
     requires each_back { 0 < back.each }
     requires memory { SidesFitInMemory A.row W.row Q.row R.row N.row M.row }
-    ensures replied { IfSome result.said (λ taken. ExecutedOnce A.executes Q.alike application result.application request (λ says. R.alike says taken)) }
+    ensures replied { IfSome result.said (λ taken.
+        ExecutedOnce A.executes Q.alike application result.application request
+        (λ says. R.alike says taken)) }
     ensures at_most_once { ExecutedAtMostOnce A.executes Q.alike application result.application request }
 {
     link_laws::carries::<(u64, Q)>();

@@ -25,8 +25,11 @@ fn repeat<Q: Serialize + Drop, W: Outlet, const N: usize>(
     again: usize,
 )
     requires { (asker_of client.old).pending ≡ None }
-    ensures { Repeats N ⟦<(u64, Q) as Serialize>⟧.writes ⟦<(u64, Q) as Serialize>⟧.valid ((asker_of client.old).next, request) (asker_of client.new).pending
-        (place_of W.written W.faults W.calls_left (sender_of client.old)) (place_of W.written W.faults W.calls_left (sender_of client.new)) }
+    ensures { Repeats N ⟦<(u64, Q) as Serialize>⟧.writes
+        ⟦<(u64, Q) as Serialize>⟧.valid
+        ((asker_of client.old).next, request) (asker_of client.new).pending
+        (place_of W.written W.faults W.calls_left (sender_of client.old))
+        (place_of W.written W.faults W.calls_left (sender_of client.new)) }
 {
     let _called = client.call(request);
     for _ in 0..again {
@@ -46,7 +49,9 @@ pub(crate) fn ask_all<Q: Serialize + Drop, W: Kept, const N: usize>(
     requires some { 0 < N }
     requires empty { W.written writer ≡ Some [] }
     requires client { ClientFitsInMemory W.row Q.row N.row }
-    ensures { AsksOnly N sentinel ⟦<(u64, Q) as Serialize>⟧.writes ⟦<(u64, Q) as Serialize>⟧.valid (number, request) (asker_of result.0).pending result.1.items }
+    ensures { AsksOnly N sentinel ⟦<(u64, Q) as Serialize>⟧.writes
+        ⟦<(u64, Q) as Serialize>⟧.valid
+        (number, request) (asker_of result.0).pending result.1.items }
 {
     let mut client = Client::<W, Q, N>::new_with_sentinel(writer, number, sentinel);
     repeat(&mut client, request, again);
@@ -78,7 +83,9 @@ pub(crate) fn serve_all<
     requires receiver { ReceiverFitsInMemory N.row }
     requires server { ServerFitsInMemory W.row R.row M.row }
     requires service { ServiceFitsInMemory A.row W.row R.row M.row }
-    ensures { ServesLine A.executes (Holds ⟦<(u64, Q) as Readable>⟧.takes) ⟦<(u64, Q) as Readable>⟧.reads ⟦<(u64, R) as Serialize>⟧.writes ⟦<(u64, R) as Serialize>⟧.valid
+    ensures { ServesLine A.executes (Holds ⟦<(u64, Q) as Readable>⟧.takes)
+        ⟦<(u64, Q) as Readable>⟧.reads
+        ⟦<(u64, R) as Serialize>⟧.writes ⟦<(u64, R) as Serialize>⟧.valid
         N sentinel M replies_sentinel application result.0 requests.now result.1.items }
 {
     let mut service = Service {
@@ -123,7 +130,9 @@ pub(crate) fn serve_all_strict<
     requires receiver { ReceiverFitsInMemory N.row }
     requires server { ServerFitsInMemory W.row R.row M.row }
     requires service { ServiceFitsInMemory A.row W.row R.row M.row }
-    ensures { ServesLine A.executes (HoldsExactly ⟦<(u64, Q) as Readable>⟧.takes) ⟦<(u64, Q) as Readable>⟧.reads ⟦<(u64, R) as Serialize>⟧.writes ⟦<(u64, R) as Serialize>⟧.valid
+    ensures { ServesLine A.executes (HoldsExactly ⟦<(u64, Q) as Readable>⟧.takes)
+        ⟦<(u64, Q) as Readable>⟧.reads
+        ⟦<(u64, R) as Serialize>⟧.writes ⟦<(u64, R) as Serialize>⟧.valid
         N sentinel M replies_sentinel application result.0 requests.now result.1.items }
 {
     let mut service = Service {
@@ -162,7 +171,8 @@ pub(crate) fn take_reply<
     requires each { 0 < each }
     requires receiver { ReceiverFitsInMemory M.row }
     requires waiting { WaitingFitsInMemory W.row Q.row R.row N.row }
-    ensures { IfSome result (TakesReply (Holds ⟦<(u64, R) as Readable>⟧.takes) ⟦<(u64, R) as Readable>⟧.reads M sentinel (asker_of client).pending replies.now) }
+    ensures { IfSome result (TakesReply (Holds ⟦<(u64, R) as Readable>⟧.takes)
+        ⟦<(u64, R) as Readable>⟧.reads M sentinel (asker_of client).pending replies.now) }
 {
     let mut waiting = Waiting { client, said: None };
     let mut receiver = Receiver::<M>::new_with_sentinel(sentinel);
@@ -190,7 +200,8 @@ pub(crate) fn take_reply_strict<
     requires each { 0 < each }
     requires receiver { ReceiverFitsInMemory M.row }
     requires waiting { WaitingFitsInMemory W.row Q.row R.row N.row }
-    ensures { IfSome result (TakesReply (HoldsExactly ⟦<(u64, R) as Readable>⟧.takes) ⟦<(u64, R) as Readable>⟧.reads M sentinel (asker_of client).pending replies.now) }
+    ensures { IfSome result (TakesReply (HoldsExactly ⟦<(u64, R) as Readable>⟧.takes)
+        ⟦<(u64, R) as Readable>⟧.reads M sentinel (asker_of client).pending replies.now) }
 {
     let mut waiting = Waiting { client, said: None };
     let mut receiver = Receiver::<M>::new_with_sentinel(sentinel);
