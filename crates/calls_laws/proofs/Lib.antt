@@ -1,1 +1,4 @@
+pub mod Fronts
+pub mod Outcomes
 pub mod Right
+pub mod Steps

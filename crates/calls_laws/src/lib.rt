@@ -1,4 +1,7 @@
-//! What holds of calls over two lines. Its functions do nothing; the contract of each is what it is for.
+//! What holds of calls over two lines: the laws, and a program whose contract says what a user may rely on.
 #![tactic(auto)]
 
+pub mod exchange;
 pub mod headline;
+pub mod heard;
+mod sides;

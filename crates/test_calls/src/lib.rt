@@ -7,3 +7,5 @@ mod exchanges;
 mod noise;
 #[cfg(test)]
 mod served;
+#[cfg(test)]
+mod whole;
