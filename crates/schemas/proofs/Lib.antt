@@ -1,0 +1,2 @@
+mod Tops
+mod Taking

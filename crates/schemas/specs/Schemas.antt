@@ -101,7 +101,72 @@ unfoldable pub SchemaRefuses : ℕ → List Node → ℕ → List ℕ → Error 
 SchemaRefuses zero nodes i = λ s e. e ≡ SerdeDeCustom
 SchemaRefuses (suc depth) nodes i = RefusesPlace (SchemaTakes depth nodes) (SchemaRefuses depth nodes) (slice_get nodes i)
 
--- Which values: `has` says it of the types inside
+-- Which values: `has` says it of the types inside. Each kind looks at one level of a value.
+
+-- a value of this kind at its top
+abbrev pub AtTop : (Value-F Value → Type 0) → Value → Type 0
+AtTop kind v = kind (out-Value v)
+
+-- a truth value
+abbrev pub OfBool : Value-F Value → Type 0
+OfBool (Value-F.Bool b) = Unit {0}
+OfBool _ = ⊥
+
+-- a byte
+abbrev pub OfByte : Value-F Value → Type 0
+OfByte (Value-F.Byte b) = Unit {0}
+OfByte _ = ⊥
+
+-- a signed byte
+abbrev pub OfSignedByte : Value-F Value → Type 0
+OfSignedByte (Value-F.SignedByte z) = Unit {0}
+OfSignedByte _ = ⊥
+
+-- a number; its tree says of how many bits
+abbrev pub OfNumber : Value-F Value → Type 0
+OfNumber (Value-F.Number bits n) = Unit {0}
+OfNumber _ = ⊥
+
+-- a signed number
+abbrev pub OfSigned : Value-F Value → Type 0
+OfSigned (Value-F.Signed bits z) = Unit {0}
+OfSigned _ = ⊥
+
+-- a character
+abbrev pub OfChar : Value-F Value → Type 0
+OfChar (Value-F.Char c) = Unit {0}
+OfChar _ = ⊥
+
+-- a text
+abbrev pub OfText : Value-F Value → Type 0
+OfText (Value-F.Text s) = Unit {0}
+OfText _ = ⊥
+
+-- bytes
+abbrev pub OfBytes : Value-F Value → Type 0
+OfBytes (Value-F.Bytes v) = Unit {0}
+OfBytes _ = ⊥
+
+-- no value, or one that has it
+abbrev pub OfOption : (Value → Type 0) → Value-F Value → Type 0
+OfOption has Value-F.Absent = Unit {0}
+OfOption has (Value-F.Present v) = has v.value
+OfOption has _ = ⊥
+
+-- elements with a count
+abbrev pub OfList : (List Value → Type 0) → Value-F Value → Type 0
+OfList have (Value-F.List v) = have v.items
+OfList have _ = ⊥
+
+-- elements or fields without a count
+abbrev pub OfGroup : (List Value → Type 0) → Value-F Value → Type 0
+OfGroup have (Value-F.Group v) = have v.items
+OfGroup have _ = ⊥
+
+-- a variant, by its index and what it holds
+abbrev pub OfVariant : (ℕ → Value → Type 0) → Value-F Value → Type 0
+OfVariant has (Value-F.Variant n v) = has n v.value
+OfVariant has _ = ⊥
 
 -- each value has it
 abbrev pub EachHas : (Value → Type 0) → List Value → Type 0
@@ -120,34 +185,32 @@ PayloadHas has [] n v = ⊥
 PayloadHas has (i ∷ is) zero v = has i v
 PayloadHas has (i ∷ is) (suc n) v = PayloadHas has is n v
 
--- a value of the kind of the node
+-- one level of a value of the node's kind
 abbrev pub NodeHas : (ℕ → Value → Type 0) → Node → Value-F Value → Type 0
-NodeHas has node.Bool (Value-F.Bool b) = Unit {0}
-NodeHas has node.U8 (Value-F.Byte b) = Unit {0}
-NodeHas has node.I8 (Value-F.SignedByte z) = Unit {0}
-NodeHas has node.U16 (Value-F.Number bits n) = Unit {0}
-NodeHas has node.U32 (Value-F.Number bits n) = Unit {0}
-NodeHas has node.U64 (Value-F.Number bits n) = Unit {0}
-NodeHas has node.U128 (Value-F.Number bits n) = Unit {0}
-NodeHas has node.I16 (Value-F.Signed bits z) = Unit {0}
-NodeHas has node.I32 (Value-F.Signed bits z) = Unit {0}
-NodeHas has node.I64 (Value-F.Signed bits z) = Unit {0}
-NodeHas has node.I128 (Value-F.Signed bits z) = Unit {0}
-NodeHas has node.Char (Value-F.Char c) = Unit {0}
-NodeHas has node.Text (Value-F.Text s) = Unit {0}
-NodeHas has node.Bytes (Value-F.Bytes v) = Unit {0}
-NodeHas has (node.Option i) Value-F.Absent = Unit {0}
-NodeHas has (node.Option i) (Value-F.Present v) = has i v.value
-NodeHas has (node.List i) (Value-F.List v) = EachHas (has i) v.items
-NodeHas has (node.Array n i) (Value-F.Group v) = EachHas (has i) v.items
-NodeHas has (node.Struct is) (Value-F.Group v) = FieldsHave has is.items v.items
-NodeHas has (node.Enum is) (Value-F.Variant n v) = PayloadHas has is.items n v.value
-NodeHas has _ _ = ⊥
+NodeHas has node.Bool = OfBool
+NodeHas has node.U8 = OfByte
+NodeHas has node.I8 = OfSignedByte
+NodeHas has node.U16 = OfNumber
+NodeHas has node.U32 = OfNumber
+NodeHas has node.U64 = OfNumber
+NodeHas has node.U128 = OfNumber
+NodeHas has node.I16 = OfSigned
+NodeHas has node.I32 = OfSigned
+NodeHas has node.I64 = OfSigned
+NodeHas has node.I128 = OfSigned
+NodeHas has node.Char = OfChar
+NodeHas has node.Text = OfText
+NodeHas has node.Bytes = OfBytes
+NodeHas has (node.Option i) = OfOption (has i)
+NodeHas has (node.List i) = OfList (EachHas (has i))
+NodeHas has (node.Array n i) = OfGroup (EachHas (has i))
+NodeHas has (node.Struct is) = OfGroup (FieldsHave has is.items)
+NodeHas has (node.Enum is) = OfVariant (PayloadHas has is.items)
 
 -- a place without a node has no value
 abbrev pub PlaceHas : (ℕ → Value → Type 0) → Option Node → Value → Type 0
 PlaceHas has None v = ⊥
-PlaceHas has (Some n) v = NodeHas has n (out-Value v)
+PlaceHas has (Some n) v = AtTop (NodeHas has n) v
 
 -- a value of the type at a place
 unfoldable pub SchemaHas : ℕ → List Node → ℕ → Value → Type 0
