@@ -1,2 +1,3 @@
 mod Tops
 mod Taking
+mod Fronts

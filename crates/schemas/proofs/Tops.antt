@@ -10,10 +10,10 @@ use Rattle.postcard_tree.specs.Once.{sequence_taken, byte_taken, numbers_taken}
 use Rattle.postcard_tree.specs.Kinds.{bool_taken, signed_byte_taken, signed_taken, character_taken}
 use Rattle.postcard_de.specs.Source.{SourceState, Reads, SpelledBytes}
 use Rattle.postcard_de.specs.Runs.{bytes_read}
-use Rattle.schemas.specs.declared.value.Value.{Value, out-Value, Bool as Truth, Byte, SignedByte, Number, Signed, Char, Text, Bytes, Absent, Present, List as Listed, Group, Variant, the_lemmas}
+use Rattle.schemas.specs.declared.value.Value.{Value, out-Value, Bool as Truth, U8, I8, U16, U32, U64, U128, I16, I32, I64, I128, Char, Text, Bytes, Absent, Present, List as Listed, Group, Variant, the_lemmas}
 use Rattle.schemas.specs.declared.value.Value.TheOpen.{Value-F}
 use Rattle.schemas.specs.Values.{tree_of, trees_in}
-use Rattle.schemas.specs.Schemas.{ReadsBy, AtTop, OfBool, OfByte, OfSignedByte, OfNumber, OfSigned, OfChar, OfText, OfBytes, OfOption, OfList, OfGroup, OfVariant}
+use Rattle.schemas.specs.Schemas.{ReadsBy, AtTop, OfBool, OfU8, OfI8, OfU16, OfU32, OfU64, OfU128, OfI16, OfI32, OfI64, OfI128, OfChar, OfText, OfBytes, OfOption, OfList, OfGroup, OfVariant}
 
 pub tree-Truth : (b : Bool) → tree_of (Truth b) ≡ byte (if b then 1 else 0)
 tree-Truth b = search (rules, the_lemmas)
@@ -21,29 +21,65 @@ tree-Truth b = search (rules, the_lemmas)
 out-Truth : (b : Bool) → out-Value (Truth b) ≡ Value-F.Bool b
 out-Truth b = search (rules, the_lemmas)
 
-pub tree-Byte : (b : _) → tree_of (Byte b) ≡ byte b
-tree-Byte b = search (rules, the_lemmas)
+pub tree-U8 : (n : _) → tree_of (U8 n) ≡ byte n
+tree-U8 n = search (rules, the_lemmas)
 
-out-Byte : (b : _) → out-Value (Byte b) ≡ Value-F.Byte b
-out-Byte b = search (rules, the_lemmas)
+out-U8 : (n : _) → out-Value (U8 n) ≡ Value-F.U8 n
+out-U8 n = search (rules, the_lemmas)
 
-pub tree-SignedByte : (z : _) → tree_of (SignedByte z) ≡ byte (cast_unsigned w8 z)
-tree-SignedByte z = search (rules, the_lemmas)
+pub tree-I8 : (n : _) → tree_of (I8 n) ≡ byte (cast_unsigned w8 n)
+tree-I8 n = search (rules, the_lemmas)
 
-out-SignedByte : (z : _) → out-Value (SignedByte z) ≡ Value-F.SignedByte z
-out-SignedByte z = search (rules, the_lemmas)
+out-I8 : (n : _) → out-Value (I8 n) ≡ Value-F.I8 n
+out-I8 n = search (rules, the_lemmas)
 
-pub tree-Number : (bits n : _) → tree_of (Number bits n) ≡ number bits n
-tree-Number bits n = search (rules, the_lemmas)
+pub tree-U16 : (n : _) → tree_of (U16 n) ≡ number 16 n
+tree-U16 n = search (rules, the_lemmas)
 
-out-Number : (bits n : _) → out-Value (Number bits n) ≡ Value-F.Number bits n
-out-Number bits n = search (rules, the_lemmas)
+out-U16 : (n : _) → out-Value (U16 n) ≡ Value-F.U16 n
+out-U16 n = search (rules, the_lemmas)
 
-pub tree-Signed : (bits : _) (z : _) → tree_of (Signed bits z) ≡ number bits (zigzag z)
-tree-Signed bits z = search (rules, the_lemmas)
+pub tree-U32 : (n : _) → tree_of (U32 n) ≡ number 32 n
+tree-U32 n = search (rules, the_lemmas)
 
-out-Signed : (bits : _) (z : _) → out-Value (Signed bits z) ≡ Value-F.Signed bits z
-out-Signed bits z = search (rules, the_lemmas)
+out-U32 : (n : _) → out-Value (U32 n) ≡ Value-F.U32 n
+out-U32 n = search (rules, the_lemmas)
+
+pub tree-U64 : (n : _) → tree_of (U64 n) ≡ number 64 n
+tree-U64 n = search (rules, the_lemmas)
+
+out-U64 : (n : _) → out-Value (U64 n) ≡ Value-F.U64 n
+out-U64 n = search (rules, the_lemmas)
+
+pub tree-U128 : (n : _) → tree_of (U128 n) ≡ number 128 n
+tree-U128 n = search (rules, the_lemmas)
+
+out-U128 : (n : _) → out-Value (U128 n) ≡ Value-F.U128 n
+out-U128 n = search (rules, the_lemmas)
+
+pub tree-I16 : (n : _) → tree_of (I16 n) ≡ number 16 (zigzag n)
+tree-I16 n = search (rules, the_lemmas)
+
+out-I16 : (n : _) → out-Value (I16 n) ≡ Value-F.I16 n
+out-I16 n = search (rules, the_lemmas)
+
+pub tree-I32 : (n : _) → tree_of (I32 n) ≡ number 32 (zigzag n)
+tree-I32 n = search (rules, the_lemmas)
+
+out-I32 : (n : _) → out-Value (I32 n) ≡ Value-F.I32 n
+out-I32 n = search (rules, the_lemmas)
+
+pub tree-I64 : (n : _) → tree_of (I64 n) ≡ number 64 (zigzag n)
+tree-I64 n = search (rules, the_lemmas)
+
+out-I64 : (n : _) → out-Value (I64 n) ≡ Value-F.I64 n
+out-I64 n = search (rules, the_lemmas)
+
+pub tree-I128 : (n : _) → tree_of (I128 n) ≡ number 128 (zigzag n)
+tree-I128 n = search (rules, the_lemmas)
+
+out-I128 : (n : _) → out-Value (I128 n) ≡ Value-F.I128 n
+out-I128 n = search (rules, the_lemmas)
 
 pub tree-Char : (c : _) → tree_of (Char c) ≡ character c
 tree-Char c = search (rules, the_lemmas)
@@ -98,17 +134,35 @@ out-Absent = search (rules, the_lemmas)
 top-Truth : (b : Bool) → AtTop OfBool (Truth b)
 top-Truth b = subst OfBool (sym (out-Truth b)) tt
 
-top-Byte : (b : _) → AtTop OfByte (Byte b)
-top-Byte b = subst OfByte (sym (out-Byte b)) tt
+pub top-U8 : (n : _) → AtTop OfU8 (U8 n)
+top-U8 n = subst OfU8 (sym (out-U8 n)) tt
 
-top-SignedByte : (z : _) → AtTop OfSignedByte (SignedByte z)
-top-SignedByte z = subst OfSignedByte (sym (out-SignedByte z)) tt
+pub top-I8 : (n : _) → AtTop OfI8 (I8 n)
+top-I8 n = subst OfI8 (sym (out-I8 n)) tt
 
-top-Number : (bits n : _) → AtTop OfNumber (Number bits n)
-top-Number bits n = subst OfNumber (sym (out-Number bits n)) tt
+pub top-U16 : (n : _) → AtTop OfU16 (U16 n)
+top-U16 n = subst OfU16 (sym (out-U16 n)) tt
 
-top-Signed : (bits : _) (z : _) → AtTop OfSigned (Signed bits z)
-top-Signed bits z = subst OfSigned (sym (out-Signed bits z)) tt
+pub top-U32 : (n : _) → AtTop OfU32 (U32 n)
+top-U32 n = subst OfU32 (sym (out-U32 n)) tt
+
+pub top-U64 : (n : _) → AtTop OfU64 (U64 n)
+top-U64 n = subst OfU64 (sym (out-U64 n)) tt
+
+pub top-U128 : (n : _) → AtTop OfU128 (U128 n)
+top-U128 n = subst OfU128 (sym (out-U128 n)) tt
+
+pub top-I16 : (n : _) → AtTop OfI16 (I16 n)
+top-I16 n = subst OfI16 (sym (out-I16 n)) tt
+
+pub top-I32 : (n : _) → AtTop OfI32 (I32 n)
+top-I32 n = subst OfI32 (sym (out-I32 n)) tt
+
+pub top-I64 : (n : _) → AtTop OfI64 (I64 n)
+top-I64 n = subst OfI64 (sym (out-I64 n)) tt
+
+pub top-I128 : (n : _) → AtTop OfI128 (I128 n)
+top-I128 n = subst OfI128 (sym (out-I128 n)) tt
 
 top-Char : (c : _) → AtTop OfChar (Char c)
 top-Char c = subst OfChar (sym (out-Char c)) tt
@@ -152,29 +206,31 @@ byte_tree : (t : Tree) (v : ℕ) → ReadsByte t v → byte v ≡ t
 byte_tree (byte b) v h = ap byte h
 byte_tree _ v h = absurd h
 
-pub byte_by : {a b : SourceState} (v : ℕ) → Reads a b (Spelled ReadsByte) v → Reads a b (Spelled (ReadsBy TakesByte (AtTop OfByte))) (Byte v)
-byte_by v h = read_as (Byte v) (λ t k. (byte_taken t v k, tree-Byte v ∙ byte_tree t v k, top-Byte v)) h
+pub byte_by : {a b : SourceState} (v : ℕ) → Reads a b (Spelled ReadsByte) v → Reads a b (Spelled (ReadsBy TakesByte (AtTop OfU8))) (U8 v)
+byte_by v h = read_as (U8 v) (λ t k. (byte_taken t v k, tree-U8 v ∙ byte_tree t v k, top-U8 v)) h
 
 signed_byte_tree : (t : Tree) (v : ℤ) → ReadsSignedByte t v → byte (cast_unsigned w8 v) ≡ t
 signed_byte_tree (byte b) v h = ap byte (sym h.0)
 signed_byte_tree _ v h = absurd h
 
-pub signed_byte_by : {a b : SourceState} {v : ℤ} (m : ℤ) → m ≡ v → Reads a b (Spelled ReadsSignedByte) v → Reads a b (Spelled (ReadsBy TakesOctet (AtTop OfSignedByte))) (SignedByte m)
-signed_byte_by {a} {b} {v} m e h = read_as (SignedByte m) (λ t k. (signed_byte_taken t v k, tree-SignedByte m ∙ ap (λ z. byte (cast_unsigned w8 z)) e ∙ signed_byte_tree t v k, top-SignedByte m)) h
+pub signed_byte_by : {a b : SourceState} {v : ℤ} (m : ℤ) → m ≡ v → Reads a b (Spelled ReadsSignedByte) v → Reads a b (Spelled (ReadsBy TakesOctet (AtTop OfI8))) (I8 m)
+signed_byte_by {a} {b} {v} m e h = read_as (I8 m) (λ t k. (signed_byte_taken t v k, tree-I8 m ∙ ap (λ z. byte (cast_unsigned w8 z)) e ∙ signed_byte_tree t v k, top-I8 m)) h
 
 number_tree : (bits : ℕ) (t : Tree) (v : ℕ) → ReadsNumber bits t v → number bits v ≡ t
 number_tree bits (number w n) v h = let e : w ≡ bits = h.0 in let f : v ≡ n = h.1 in cc
 number_tree bits _ v h = absurd h
 
-pub number_by : {a b : SourceState} {v : ℕ} (bits m : ℕ) → m ≡ v → Reads a b (Spelled (ReadsNumber bits)) v → Reads a b (Spelled (ReadsBy (TakesNumber bits) (AtTop OfNumber))) (Number bits m)
-number_by {a} {b} {v} bits m e h = read_as (Number bits m) (λ t k. (numbers_taken bits t v k, tree-Number bits m ∙ ap (number bits) e ∙ number_tree bits t v k, top-Number bits m)) h
+-- v is the number
+pub number_by : {H : Value → Type 0} {a b : SourceState} {n : ℕ} (bits : ℕ) (v : Value) → tree_of v ≡ number bits n → H v → Reads a b (Spelled (ReadsNumber bits)) n → Reads a b (Spelled (ReadsBy (TakesNumber bits) H)) v
+number_by {H} {a} {b} {n} bits v e k h = read_as v (λ t r. (numbers_taken bits t n r, e ∙ number_tree bits t n r, k)) h
 
 signed_tree : (bits : ℕ) (t : Tree) (v : ℤ) → ReadsSigned bits t v → number bits (zigzag v) ≡ t
 signed_tree bits (number w n) v h = let e : w ≡ bits = h.0 in let f : zigzag v ≡ n = h.1 in cc
 signed_tree bits _ v h = absurd h
 
-pub signed_by : {a b : SourceState} {v : ℤ} (bits : ℕ) (m : ℤ) → m ≡ v → Reads a b (Spelled (ReadsSigned bits)) v → Reads a b (Spelled (ReadsBy (TakesNumber bits) (AtTop OfSigned))) (Signed bits m)
-signed_by {a} {b} {v} bits m e h = read_as (Signed bits m) (λ t k. (signed_taken bits t v k, tree-Signed bits m ∙ ap (λ z. number bits (zigzag z)) e ∙ signed_tree bits t v k, top-Signed bits m)) h
+-- v is the signed number m, which was read
+pub signed_by : {H : Value → Type 0} {a b : SourceState} {z : ℤ} (bits : ℕ) (m : ℤ) (v : Value) → m ≡ z → tree_of v ≡ number bits (zigzag m) → H v → Reads a b (Spelled (ReadsSigned bits)) z → Reads a b (Spelled (ReadsBy (TakesNumber bits) H)) v
+signed_by {H} {a} {b} {z} bits m v i e k h = read_as v (λ t r. (signed_taken bits t z r, e ∙ ap (λ x. number bits (zigzag x)) i ∙ signed_tree bits t z r, k)) h
 
 char_tree : (t : Tree) (v : ℕ) → ReadsCharacter t v → character v ≡ t
 char_tree (character c) v h = ap character h.0

@@ -113,24 +113,54 @@ OfBool (Value-F.Bool b) = Unit {0}
 OfBool _ = ⊥
 
 -- a byte
-abbrev pub OfByte : Value-F Value → Type 0
-OfByte (Value-F.Byte b) = Unit {0}
-OfByte _ = ⊥
+abbrev pub OfU8 : Value-F Value → Type 0
+OfU8 (Value-F.U8 n) = Unit {0}
+OfU8 _ = ⊥
 
 -- a signed byte
-abbrev pub OfSignedByte : Value-F Value → Type 0
-OfSignedByte (Value-F.SignedByte z) = Unit {0}
-OfSignedByte _ = ⊥
+abbrev pub OfI8 : Value-F Value → Type 0
+OfI8 (Value-F.I8 n) = Unit {0}
+OfI8 _ = ⊥
 
--- a number; its tree says of how many bits
-abbrev pub OfNumber : Value-F Value → Type 0
-OfNumber (Value-F.Number bits n) = Unit {0}
-OfNumber _ = ⊥
+-- a number of 16 bits
+abbrev pub OfU16 : Value-F Value → Type 0
+OfU16 (Value-F.U16 n) = Unit {0}
+OfU16 _ = ⊥
 
--- a signed number
-abbrev pub OfSigned : Value-F Value → Type 0
-OfSigned (Value-F.Signed bits z) = Unit {0}
-OfSigned _ = ⊥
+-- a number of 32 bits
+abbrev pub OfU32 : Value-F Value → Type 0
+OfU32 (Value-F.U32 n) = Unit {0}
+OfU32 _ = ⊥
+
+-- a number of 64 bits
+abbrev pub OfU64 : Value-F Value → Type 0
+OfU64 (Value-F.U64 n) = Unit {0}
+OfU64 _ = ⊥
+
+-- a number of 128 bits
+abbrev pub OfU128 : Value-F Value → Type 0
+OfU128 (Value-F.U128 n) = Unit {0}
+OfU128 _ = ⊥
+
+-- a signed number of 16 bits
+abbrev pub OfI16 : Value-F Value → Type 0
+OfI16 (Value-F.I16 n) = Unit {0}
+OfI16 _ = ⊥
+
+-- a signed number of 32 bits
+abbrev pub OfI32 : Value-F Value → Type 0
+OfI32 (Value-F.I32 n) = Unit {0}
+OfI32 _ = ⊥
+
+-- a signed number of 64 bits
+abbrev pub OfI64 : Value-F Value → Type 0
+OfI64 (Value-F.I64 n) = Unit {0}
+OfI64 _ = ⊥
+
+-- a signed number of 128 bits
+abbrev pub OfI128 : Value-F Value → Type 0
+OfI128 (Value-F.I128 n) = Unit {0}
+OfI128 _ = ⊥
 
 -- a character
 abbrev pub OfChar : Value-F Value → Type 0
@@ -188,16 +218,16 @@ PayloadHas has (i ∷ is) (suc n) v = PayloadHas has is n v
 -- one level of a value of the node's kind
 abbrev pub NodeHas : (ℕ → Value → Type 0) → Node → Value-F Value → Type 0
 NodeHas has node.Bool = OfBool
-NodeHas has node.U8 = OfByte
-NodeHas has node.I8 = OfSignedByte
-NodeHas has node.U16 = OfNumber
-NodeHas has node.U32 = OfNumber
-NodeHas has node.U64 = OfNumber
-NodeHas has node.U128 = OfNumber
-NodeHas has node.I16 = OfSigned
-NodeHas has node.I32 = OfSigned
-NodeHas has node.I64 = OfSigned
-NodeHas has node.I128 = OfSigned
+NodeHas has node.U8 = OfU8
+NodeHas has node.I8 = OfI8
+NodeHas has node.U16 = OfU16
+NodeHas has node.U32 = OfU32
+NodeHas has node.U64 = OfU64
+NodeHas has node.U128 = OfU128
+NodeHas has node.I16 = OfI16
+NodeHas has node.I32 = OfI32
+NodeHas has node.I64 = OfI64
+NodeHas has node.I128 = OfI128
 NodeHas has node.Char = OfChar
 NodeHas has node.Text = OfText
 NodeHas has node.Bytes = OfBytes

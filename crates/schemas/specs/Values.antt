@@ -13,10 +13,16 @@ parts_as (t ∷ ts) = part t (parts_as ts)
 -- one level of a value, with each value inside already as its tree
 abbrev pub tree_step : Value-F Tree → Tree
 tree_step (Value-F.Bool b) = byte (if b then 1 else 0)
-tree_step (Value-F.Byte b) = byte b
-tree_step (Value-F.SignedByte z) = byte (cast_unsigned w8 z)
-tree_step (Value-F.Number bits n) = number bits n
-tree_step (Value-F.Signed bits z) = number bits (zigzag z)
+tree_step (Value-F.U8 b) = byte b
+tree_step (Value-F.I8 z) = byte (cast_unsigned w8 z)
+tree_step (Value-F.U16 n) = number 16 n
+tree_step (Value-F.U32 n) = number 32 n
+tree_step (Value-F.U64 n) = number 64 n
+tree_step (Value-F.U128 n) = number 128 n
+tree_step (Value-F.I16 z) = number 16 (zigzag z)
+tree_step (Value-F.I32 z) = number 32 (zigzag z)
+tree_step (Value-F.I64 z) = number 64 (zigzag z)
+tree_step (Value-F.I128 z) = number 128 (zigzag z)
 tree_step (Value-F.Char c) = character c
 tree_step (Value-F.Text s) = text_of (string_bytes s)
 tree_step (Value-F.Bytes v) = text_of v.items

@@ -2,7 +2,7 @@
 ghost use Rattle.std.specs.Prelude.{true};
 ghost use Rattle.postcard_tree.specs.Reading.{Spelled, TakesBool, RefusesBool, TakesByte, RefusesByte, TakesOctet, TakesNumber, RefusesGroups, TakesCharacter, RefusesCharacter, TakesText, RefusesText, TakesSequence, RefusesSequence, RefusesBytes, TakesOption, RefusesOption, TakesArray, RefusesEach, GroupOf, TakesVariant, RefusesVariant};
 ghost use Rattle.postcard_de.specs.Deserializer.{OutcomeOf};
-ghost use Rattle.schemas.specs.Schemas.{ReadsBy, AtTop, OfBool, OfByte, OfSignedByte, OfNumber, OfSigned, OfChar, OfText, OfBytes, OfOption, OfList, OfGroup, OfVariant, EachHas, FieldsHave, PayloadHas, NodeHas, TakesFields, TakesPayload, TakesNode, RefusesFields, RefusesPayload, RefusesNode, SchemaTakes, SchemaHas, SchemaReads, SchemaRefuses};
+ghost use Rattle.schemas.specs.Schemas.{ReadsBy, AtTop, OfBool, OfU8, OfI8, OfU16, OfU32, OfU64, OfU128, OfI16, OfI32, OfI64, OfI128, OfChar, OfText, OfBytes, OfOption, OfList, OfGroup, OfVariant, EachHas, FieldsHave, PayloadHas, NodeHas, TakesFields, TakesPayload, TakesNode, RefusesFields, RefusesPayload, RefusesNode, SchemaTakes, SchemaHas, SchemaReads, SchemaRefuses};
 
 use crate::{Node, Value};
 use postcard_de::Deserializer;
@@ -17,73 +17,73 @@ fn read_bool<F: Flavor>(d: &mut Deserializer<F>) -> Result<Value>
 }
 
 fn read_u8<F: Flavor>(d: &mut Deserializer<F>) -> Result<Value>
-    ensures { OutcomeOf F.source d.old d.new result (Spelled (ReadsBy TakesByte (AtTop OfByte))) RefusesByte true }
+    ensures { OutcomeOf F.source d.old d.new result (Spelled (ReadsBy TakesByte (AtTop OfU8))) RefusesByte true }
 {
     let v = d.deserialize_u8()?;
-    Ok(Value::Byte(v))
+    Ok(Value::U8(v))
 }
 
 fn read_i8<F: Flavor>(d: &mut Deserializer<F>) -> Result<Value>
-    ensures { OutcomeOf F.source d.old d.new result (Spelled (ReadsBy TakesOctet (AtTop OfSignedByte))) RefusesByte true }
+    ensures { OutcomeOf F.source d.old d.new result (Spelled (ReadsBy TakesOctet (AtTop OfI8))) RefusesByte true }
 {
     let v = d.deserialize_i8()?;
-    Ok(Value::SignedByte(v))
+    Ok(Value::I8(v))
 }
 
 fn read_u16<F: Flavor>(d: &mut Deserializer<F>) -> Result<Value>
-    ensures { OutcomeOf F.source d.old d.new result (Spelled (ReadsBy (TakesNumber 16) (AtTop OfNumber))) (RefusesGroups 3 3) true }
+    ensures { OutcomeOf F.source d.old d.new result (Spelled (ReadsBy (TakesNumber 16) (AtTop OfU16))) (RefusesGroups 3 3) true }
 {
     let v = d.deserialize_u16()?;
-    Ok(Value::Number(16, u128::from(v)))
+    Ok(Value::U16(v))
 }
 
 fn read_u32<F: Flavor>(d: &mut Deserializer<F>) -> Result<Value>
-    ensures { OutcomeOf F.source d.old d.new result (Spelled (ReadsBy (TakesNumber 32) (AtTop OfNumber))) (RefusesGroups 5 15) true }
+    ensures { OutcomeOf F.source d.old d.new result (Spelled (ReadsBy (TakesNumber 32) (AtTop OfU32))) (RefusesGroups 5 15) true }
 {
     let v = d.deserialize_u32()?;
-    Ok(Value::Number(32, u128::from(v)))
+    Ok(Value::U32(v))
 }
 
 fn read_u64<F: Flavor>(d: &mut Deserializer<F>) -> Result<Value>
-    ensures { OutcomeOf F.source d.old d.new result (Spelled (ReadsBy (TakesNumber 64) (AtTop OfNumber))) (RefusesGroups 10 1) true }
+    ensures { OutcomeOf F.source d.old d.new result (Spelled (ReadsBy (TakesNumber 64) (AtTop OfU64))) (RefusesGroups 10 1) true }
 {
     let v = d.deserialize_u64()?;
-    Ok(Value::Number(64, u128::from(v)))
+    Ok(Value::U64(v))
 }
 
 fn read_u128<F: Flavor>(d: &mut Deserializer<F>) -> Result<Value>
-    ensures { OutcomeOf F.source d.old d.new result (Spelled (ReadsBy (TakesNumber 128) (AtTop OfNumber))) (RefusesGroups 19 3) true }
+    ensures { OutcomeOf F.source d.old d.new result (Spelled (ReadsBy (TakesNumber 128) (AtTop OfU128))) (RefusesGroups 19 3) true }
 {
     let v = d.deserialize_u128()?;
-    Ok(Value::Number(128, v))
+    Ok(Value::U128(v))
 }
 
 fn read_i16<F: Flavor>(d: &mut Deserializer<F>) -> Result<Value>
-    ensures { OutcomeOf F.source d.old d.new result (Spelled (ReadsBy (TakesNumber 16) (AtTop OfSigned))) (RefusesGroups 3 3) true }
+    ensures { OutcomeOf F.source d.old d.new result (Spelled (ReadsBy (TakesNumber 16) (AtTop OfI16))) (RefusesGroups 3 3) true }
 {
     let v = d.deserialize_i16()?;
-    Ok(Value::Signed(16, i128::from(v)))
+    Ok(Value::I16(v))
 }
 
 fn read_i32<F: Flavor>(d: &mut Deserializer<F>) -> Result<Value>
-    ensures { OutcomeOf F.source d.old d.new result (Spelled (ReadsBy (TakesNumber 32) (AtTop OfSigned))) (RefusesGroups 5 15) true }
+    ensures { OutcomeOf F.source d.old d.new result (Spelled (ReadsBy (TakesNumber 32) (AtTop OfI32))) (RefusesGroups 5 15) true }
 {
     let v = d.deserialize_i32()?;
-    Ok(Value::Signed(32, i128::from(v)))
+    Ok(Value::I32(v))
 }
 
 fn read_i64<F: Flavor>(d: &mut Deserializer<F>) -> Result<Value>
-    ensures { OutcomeOf F.source d.old d.new result (Spelled (ReadsBy (TakesNumber 64) (AtTop OfSigned))) (RefusesGroups 10 1) true }
+    ensures { OutcomeOf F.source d.old d.new result (Spelled (ReadsBy (TakesNumber 64) (AtTop OfI64))) (RefusesGroups 10 1) true }
 {
     let v = d.deserialize_i64()?;
-    Ok(Value::Signed(64, i128::from(v)))
+    Ok(Value::I64(v))
 }
 
 fn read_i128<F: Flavor>(d: &mut Deserializer<F>) -> Result<Value>
-    ensures { OutcomeOf F.source d.old d.new result (Spelled (ReadsBy (TakesNumber 128) (AtTop OfSigned))) (RefusesGroups 19 3) true }
+    ensures { OutcomeOf F.source d.old d.new result (Spelled (ReadsBy (TakesNumber 128) (AtTop OfI128))) (RefusesGroups 19 3) true }
 {
     let v = d.deserialize_i128()?;
-    Ok(Value::Signed(128, v))
+    Ok(Value::I128(v))
 }
 
 fn read_char<F: Flavor>(d: &mut Deserializer<F>) -> Result<Value>

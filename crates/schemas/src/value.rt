@@ -6,13 +6,25 @@ pub enum Value {
     /// `true` or `false`.
     Bool(bool),
     /// A byte.
-    Byte(u8),
+    U8(u8),
     /// A signed byte.
-    SignedByte(i8),
-    /// A number, behind how many bits its type has: 16, 32, 64 or 128.
-    Number(u32, u128),
-    /// A signed number, behind how many bits its type has.
-    Signed(u32, i128),
+    I8(i8),
+    /// A number of 16 bits.
+    U16(u16),
+    /// A number of 32 bits.
+    U32(u32),
+    /// A number of 64 bits.
+    U64(u64),
+    /// A number of 128 bits.
+    U128(u128),
+    /// A signed number of 16 bits.
+    I16(i16),
+    /// A signed number of 32 bits.
+    I32(i32),
+    /// A signed number of 64 bits.
+    I64(i64),
+    /// A signed number of 128 bits.
+    I128(i128),
     /// A character.
     Char(char),
     /// A text.
