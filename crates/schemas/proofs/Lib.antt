@@ -1,3 +1,4 @@
 mod Tops
 mod Taking
 mod Fronts
+mod Pushed

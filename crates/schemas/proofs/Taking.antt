@@ -1,5 +1,5 @@
 -- What was read part by part is a value that the node takes.
-use Rattle.std.specs.Prelude.{Box, Result, ◌-◌, ◌+◌, ◌≡◌, ℕ, zero, suc, ◌<◌, ◌≤◌, List, [], ◌∷◌, ◌++◌, length, refl, Bool, true, Option, Some, None}
+use Rattle.std.specs.Prelude.{Box, Result, ◌-◌, ◌+◌, ◌≡◌, ℕ, zero, suc, ◌<◌, ◌≤◌, List, [], ◌∷◌, ◌++◌, length, refl, true, Option, Some, None}
 use Rattle.std.specs.List.{slice_get}
 use Rattle.std.specs.Global.{Global}
 use Rattle.std.proofs.Common.{sym, ◌∙◌, ap, subst, arith, append_assoc, get_or, drop, Vec}

@@ -1,8 +1,8 @@
 -- The tree and the kind of a value, by its constructor; and what is read as a leaf.
-use Rattle.std.specs.Prelude.{◌≡◌, ◌+◌, ℕ, ℤ, ◌<◌, List, [], ◌∷◌, refl, Bool, true, false, string_bytes, if◌then◌else◌}
+use Rattle.std.specs.Prelude.{◌≡◌, ℕ, ℤ, List, [], ◌∷◌, refl, Bool, string_bytes, if◌then◌else◌}
 use Rattle.std.specs.Global.{Global}
 use Rattle.std.specs.Int.{w8, cast_unsigned}
-use Rattle.std.proofs.Common.{sym, ◌∙◌, ap, subst, arith, rules, Vec}
+use Rattle.std.proofs.Common.{sym, ◌∙◌, ap, subst, rules, Vec}
 use Rattle.std.specs.Prelude.{Box}
 use Rattle.postcard_tree.specs.Tree.{Tree, byte, number, character, sequence, group, Trees, end, part, text_of, bytes_of, zigzag}
 use Rattle.postcard_tree.specs.Reading.{Spelled, TakesBool, ReadsBool, TakesByte, ReadsByte, TakesOctet, ReadsSignedByte, TakesNumber, ReadsNumber, ReadsSigned, TakesCharacter, ReadsCharacter, ReadsAll, ReadsBytes, TakesText, ReadsText, TakesSequence}

@@ -1,18 +1,18 @@
 -- What the trees that a type of a table takes, its values and the bytes that it refuses owe one another.
-use Rattle.std.specs.Prelude.{◌≡◌, ℕ, zero, suc, List, [], ◌∷◌, Option, Some, None, refl}
+use Rattle.std.specs.Prelude.{ℕ, zero, suc, List, [], ◌∷◌, Option, Some, None, refl}
 use Rattle.std.specs.List.{slice_get}
 use Rattle.std.proofs.Common.{sym, ◌∙◌}
 use Rattle.postcard_tree.specs.declared.error.Error.{Error}
 use Rattle.postcard_tree.specs.declared.error.Error.TheVariants.{SerdeDeCustom}
-use Rattle.postcard_tree.specs.Tree.{Tree, Trees}
+use Rattle.postcard_tree.specs.Tree.{Tree}
 use Rattle.postcard_tree.specs.Bounds.{part_trees, width_16, width_32, width_64, width_128}
 use Rattle.postcard_tree.specs.Once.{part_once, part_refused}
 use Rattle.postcard_tree.specs.ReadingLaws.{ReadingLaws, PartsLaws, byte_laws, number_laws, bool_laws, character_laws, signed_byte_laws, no_parts_laws, group_laws, option_laws, variant_laws, unknown_laws, sequence_laws, array_laws, bytes_laws, text_laws}
 use Rattle.schemas.specs.declared.node.Node.{Node}
 use Rattle.schemas.specs.declared.node.Node.TheVariants as node
 use Rattle.schemas.specs.declared.value.Value.{Value}
-use Rattle.schemas.specs.Values.{tree_of, AreOneTree}
-use Rattle.schemas.specs.Schemas.{ReadsBy, TakesFields, RefusesFields, TakesPayload, RefusesPayload, TakesNode, RefusesNode, TakesPlace, RefusesPlace, SchemaTakes, SchemaRefuses, SchemaHas, SchemaReads}
+use Rattle.schemas.specs.Values.{AreOneTree}
+use Rattle.schemas.specs.Schemas.{ReadsBy, TakesFields, RefusesFields, TakesPayload, RefusesPayload, TakesNode, RefusesNode, TakesPlace, RefusesPlace, SchemaTakes, SchemaRefuses, SchemaReads}
 
 -- of a type by its trees alone
 abbrev pub LawsBy : (Tree → Type 0) → (List ℕ → Error → Type 0) → Type 0

@@ -1,5 +1,5 @@
 -- The tree that a value stands for.
-use Rattle.std.specs.Prelude.{◌≡◌, ℕ, List, [], ◌∷◌, map, string_bytes, if◌then◌else◌}
+use Rattle.std.specs.Prelude.{◌≡◌, List, [], ◌∷◌, map, string_bytes, if◌then◌else◌}
 use Rattle.std.specs.Int.{w8, cast_unsigned}
 use Rattle.postcard_tree.specs.Tree.{Tree, byte, number, character, sequence, group, Trees, end, part, text_of, zigzag}
 use Rattle.schemas.specs.declared.value.Value.{Value, fold-Value}
