@@ -1,0 +1,4 @@
+mod Tops
+mod Taking
+mod Fronts
+mod Pushed

@@ -1,0 +1,257 @@
+-- The tree and the kind of a value, by its constructor; and what is read as a leaf.
+use Rattle.std.specs.Prelude.{◌≡◌, ℕ, ℤ, List, [], ◌∷◌, refl, Bool, string_bytes, if◌then◌else◌}
+use Rattle.std.specs.Global.{Global}
+use Rattle.std.specs.Int.{w8, cast_unsigned}
+use Rattle.std.proofs.Common.{sym, ◌∙◌, ap, subst, rules, Vec}
+use Rattle.std.specs.Prelude.{Box}
+use Rattle.postcard_tree.specs.Tree.{Tree, byte, number, character, sequence, group, Trees, end, part, text_of, bytes_of, zigzag}
+use Rattle.postcard_tree.specs.Reading.{Spelled, TakesBool, ReadsBool, TakesByte, ReadsByte, TakesOctet, ReadsSignedByte, TakesNumber, ReadsNumber, ReadsSigned, TakesCharacter, ReadsCharacter, ReadsAll, ReadsBytes, TakesText, ReadsText, TakesSequence}
+use Rattle.postcard_tree.specs.Once.{sequence_taken, byte_taken, numbers_taken}
+use Rattle.postcard_tree.specs.Kinds.{bool_taken, signed_byte_taken, signed_taken, character_taken}
+use Rattle.postcard_de.specs.Source.{SourceState, Reads, SpelledBytes}
+use Rattle.postcard_de.specs.Runs.{bytes_read}
+use Rattle.schemas.specs.declared.value.Value.{Value, out-Value, Bool as Truth, U8, I8, U16, U32, U64, U128, I16, I32, I64, I128, Char, Text, Bytes, Absent, Present, List as Listed, Group, Variant, the_lemmas}
+use Rattle.schemas.specs.declared.value.Value.TheOpen.{Value-F}
+use Rattle.schemas.specs.Values.{tree_of, trees_in}
+use Rattle.schemas.specs.Schemas.{ReadsBy, AtTop, OfBool, OfU8, OfI8, OfU16, OfU32, OfU64, OfU128, OfI16, OfI32, OfI64, OfI128, OfChar, OfText, OfBytes, OfOption, OfList, OfGroup, OfVariant}
+
+pub tree-Truth : (b : Bool) → tree_of (Truth b) ≡ byte (if b then 1 else 0)
+tree-Truth b = search (rules, the_lemmas)
+
+out-Truth : (b : Bool) → out-Value (Truth b) ≡ Value-F.Bool b
+out-Truth b = search (rules, the_lemmas)
+
+pub tree-U8 : (n : _) → tree_of (U8 n) ≡ byte n
+tree-U8 n = search (rules, the_lemmas)
+
+out-U8 : (n : _) → out-Value (U8 n) ≡ Value-F.U8 n
+out-U8 n = search (rules, the_lemmas)
+
+pub tree-I8 : (n : _) → tree_of (I8 n) ≡ byte (cast_unsigned w8 n)
+tree-I8 n = search (rules, the_lemmas)
+
+out-I8 : (n : _) → out-Value (I8 n) ≡ Value-F.I8 n
+out-I8 n = search (rules, the_lemmas)
+
+pub tree-U16 : (n : _) → tree_of (U16 n) ≡ number 16 n
+tree-U16 n = search (rules, the_lemmas)
+
+out-U16 : (n : _) → out-Value (U16 n) ≡ Value-F.U16 n
+out-U16 n = search (rules, the_lemmas)
+
+pub tree-U32 : (n : _) → tree_of (U32 n) ≡ number 32 n
+tree-U32 n = search (rules, the_lemmas)
+
+out-U32 : (n : _) → out-Value (U32 n) ≡ Value-F.U32 n
+out-U32 n = search (rules, the_lemmas)
+
+pub tree-U64 : (n : _) → tree_of (U64 n) ≡ number 64 n
+tree-U64 n = search (rules, the_lemmas)
+
+out-U64 : (n : _) → out-Value (U64 n) ≡ Value-F.U64 n
+out-U64 n = search (rules, the_lemmas)
+
+pub tree-U128 : (n : _) → tree_of (U128 n) ≡ number 128 n
+tree-U128 n = search (rules, the_lemmas)
+
+out-U128 : (n : _) → out-Value (U128 n) ≡ Value-F.U128 n
+out-U128 n = search (rules, the_lemmas)
+
+pub tree-I16 : (n : _) → tree_of (I16 n) ≡ number 16 (zigzag n)
+tree-I16 n = search (rules, the_lemmas)
+
+out-I16 : (n : _) → out-Value (I16 n) ≡ Value-F.I16 n
+out-I16 n = search (rules, the_lemmas)
+
+pub tree-I32 : (n : _) → tree_of (I32 n) ≡ number 32 (zigzag n)
+tree-I32 n = search (rules, the_lemmas)
+
+out-I32 : (n : _) → out-Value (I32 n) ≡ Value-F.I32 n
+out-I32 n = search (rules, the_lemmas)
+
+pub tree-I64 : (n : _) → tree_of (I64 n) ≡ number 64 (zigzag n)
+tree-I64 n = search (rules, the_lemmas)
+
+out-I64 : (n : _) → out-Value (I64 n) ≡ Value-F.I64 n
+out-I64 n = search (rules, the_lemmas)
+
+pub tree-I128 : (n : _) → tree_of (I128 n) ≡ number 128 (zigzag n)
+tree-I128 n = search (rules, the_lemmas)
+
+out-I128 : (n : _) → out-Value (I128 n) ≡ Value-F.I128 n
+out-I128 n = search (rules, the_lemmas)
+
+pub tree-Char : (c : _) → tree_of (Char c) ≡ character c
+tree-Char c = search (rules, the_lemmas)
+
+out-Char : (c : _) → out-Value (Char c) ≡ Value-F.Char c
+out-Char c = search (rules, the_lemmas)
+
+pub tree-Text : (s : _) → tree_of (Text s) ≡ text_of (string_bytes s)
+tree-Text s = search (rules, the_lemmas)
+
+out-Text : (s : _) → out-Value (Text s) ≡ Value-F.Text s
+out-Text s = search (rules, the_lemmas)
+
+pub tree-Bytes : (v : _) → tree_of (Bytes v) ≡ text_of v.items
+tree-Bytes v = search (rules, the_lemmas)
+
+out-Bytes : (v : _) → out-Value (Bytes v) ≡ Value-F.Bytes v
+out-Bytes v = search (rules, the_lemmas)
+
+pub tree-Present : (v : _) → tree_of (Present v) ≡ group (part (byte 1) (part (tree_of v.value) end))
+tree-Present v = search (rules, the_lemmas)
+
+out-Present : (v : _) → out-Value (Present v) ≡ Value-F.Present v
+out-Present v = search (rules, the_lemmas)
+
+pub tree-Listed : (v : _) → tree_of (Listed v) ≡ sequence (trees_in v.items)
+tree-Listed v = search (rules, the_lemmas)
+
+out-Listed : (v : _) → out-Value (Listed v) ≡ Value-F.List v
+out-Listed v = search (rules, the_lemmas)
+
+pub tree-Group : (v : _) → tree_of (Group v) ≡ group (trees_in v.items)
+tree-Group v = search (rules, the_lemmas)
+
+out-Group : (v : _) → out-Value (Group v) ≡ Value-F.Group v
+out-Group v = search (rules, the_lemmas)
+
+pub tree-Variant : (i : _) (v : _) → tree_of (Variant i v) ≡ group (part (number 32 i) (part (tree_of v.value) end))
+tree-Variant i v = search (rules, the_lemmas)
+
+out-Variant : (i : _) (v : _) → out-Value (Variant i v) ≡ Value-F.Variant i v
+out-Variant i v = search (rules, the_lemmas)
+
+pub tree-Absent : tree_of Absent ≡ byte 0
+tree-Absent = search (rules, the_lemmas)
+
+out-Absent : out-Value Absent ≡ Value-F.Absent
+out-Absent = search (rules, the_lemmas)
+
+-- its kind
+
+top-Truth : (b : Bool) → AtTop OfBool (Truth b)
+top-Truth b = subst OfBool (sym (out-Truth b)) tt
+
+pub top-U8 : (n : _) → AtTop OfU8 (U8 n)
+top-U8 n = subst OfU8 (sym (out-U8 n)) tt
+
+pub top-I8 : (n : _) → AtTop OfI8 (I8 n)
+top-I8 n = subst OfI8 (sym (out-I8 n)) tt
+
+pub top-U16 : (n : _) → AtTop OfU16 (U16 n)
+top-U16 n = subst OfU16 (sym (out-U16 n)) tt
+
+pub top-U32 : (n : _) → AtTop OfU32 (U32 n)
+top-U32 n = subst OfU32 (sym (out-U32 n)) tt
+
+pub top-U64 : (n : _) → AtTop OfU64 (U64 n)
+top-U64 n = subst OfU64 (sym (out-U64 n)) tt
+
+pub top-U128 : (n : _) → AtTop OfU128 (U128 n)
+top-U128 n = subst OfU128 (sym (out-U128 n)) tt
+
+pub top-I16 : (n : _) → AtTop OfI16 (I16 n)
+top-I16 n = subst OfI16 (sym (out-I16 n)) tt
+
+pub top-I32 : (n : _) → AtTop OfI32 (I32 n)
+top-I32 n = subst OfI32 (sym (out-I32 n)) tt
+
+pub top-I64 : (n : _) → AtTop OfI64 (I64 n)
+top-I64 n = subst OfI64 (sym (out-I64 n)) tt
+
+pub top-I128 : (n : _) → AtTop OfI128 (I128 n)
+top-I128 n = subst OfI128 (sym (out-I128 n)) tt
+
+top-Char : (c : _) → AtTop OfChar (Char c)
+top-Char c = subst OfChar (sym (out-Char c)) tt
+
+top-Text : (s : _) → AtTop OfText (Text s)
+top-Text s = subst OfText (sym (out-Text s)) tt
+
+top-Bytes : (v : _) → AtTop OfBytes (Bytes v)
+top-Bytes v = subst OfBytes (sym (out-Bytes v)) tt
+
+pub top-Absent : (H : Value → Type 0) → AtTop (OfOption H) Absent
+top-Absent H = subst (OfOption H) (sym out-Absent) tt
+
+pub top-Present : (H : Value → Type 0) (v : Box Value Global) → H v.value → AtTop (OfOption H) (Present v)
+top-Present H v h = subst (OfOption H) (sym (out-Present v)) h
+
+pub top-Listed : (H : List Value → Type 0) (v : Vec Value Global) → H v.items → AtTop (OfList H) (Listed v)
+top-Listed H v h = subst (OfList H) (sym (out-Listed v)) h
+
+pub top-Group : (H : List Value → Type 0) (v : Vec Value Global) → H v.items → AtTop (OfGroup H) (Group v)
+top-Group H v h = subst (OfGroup H) (sym (out-Group v)) h
+
+pub top-Variant : (H : ℕ → Value → Type 0) (i : ℕ) (v : Box Value Global) → H i v.value → AtTop (OfVariant H) (Variant i v)
+top-Variant H i v h = subst (OfVariant H) (sym (out-Variant i v)) h
+
+-- what was read is a value of the tree
+pub read_as : {A : Type 0} {R : Tree → A → Type 0} {P : Tree → Type 0} {H : Value → Type 0} {a b : SourceState} {x : A} (v : Value) → ((t : Tree) → R t x → P t × (tree_of v ≡ t) × H v)
+    → Reads a b (Spelled R) x → Reads a b (Spelled (ReadsBy P H)) v
+read_as {A} {R} {P} {H} {a} {b} {x} v so h = record { taken = h.taken; gave = h.gave; found = record { tree = h.found.tree; spells = h.found.spells; read = so h.found.tree h.found.read } }
+
+-- Leaves
+
+bool_tree : (t : Tree) (v : Bool) → ReadsBool t v → byte (if v then 1 else 0) ≡ t
+bool_tree (byte b) v h = ap byte (sym h)
+bool_tree _ v h = absurd h
+
+pub bool_by : {a b : SourceState} (v : Bool) → Reads a b (Spelled ReadsBool) v → Reads a b (Spelled (ReadsBy TakesBool (AtTop OfBool))) (Truth v)
+bool_by v h = read_as (Truth v) (λ t k. (bool_taken t v k, tree-Truth v ∙ bool_tree t v k, top-Truth v)) h
+
+byte_tree : (t : Tree) (v : ℕ) → ReadsByte t v → byte v ≡ t
+byte_tree (byte b) v h = ap byte h
+byte_tree _ v h = absurd h
+
+pub byte_by : {a b : SourceState} (v : ℕ) → Reads a b (Spelled ReadsByte) v → Reads a b (Spelled (ReadsBy TakesByte (AtTop OfU8))) (U8 v)
+byte_by v h = read_as (U8 v) (λ t k. (byte_taken t v k, tree-U8 v ∙ byte_tree t v k, top-U8 v)) h
+
+signed_byte_tree : (t : Tree) (v : ℤ) → ReadsSignedByte t v → byte (cast_unsigned w8 v) ≡ t
+signed_byte_tree (byte b) v h = ap byte (sym h.0)
+signed_byte_tree _ v h = absurd h
+
+pub signed_byte_by : {a b : SourceState} {v : ℤ} (m : ℤ) → m ≡ v → Reads a b (Spelled ReadsSignedByte) v → Reads a b (Spelled (ReadsBy TakesOctet (AtTop OfI8))) (I8 m)
+signed_byte_by {a} {b} {v} m e h = read_as (I8 m) (λ t k. (signed_byte_taken t v k, tree-I8 m ∙ ap (λ z. byte (cast_unsigned w8 z)) e ∙ signed_byte_tree t v k, top-I8 m)) h
+
+number_tree : (bits : ℕ) (t : Tree) (v : ℕ) → ReadsNumber bits t v → number bits v ≡ t
+number_tree bits (number w n) v h = let e : w ≡ bits = h.0 in let f : v ≡ n = h.1 in cc
+number_tree bits _ v h = absurd h
+
+-- v is the number
+pub number_by : {H : Value → Type 0} {a b : SourceState} {n : ℕ} (bits : ℕ) (v : Value) → tree_of v ≡ number bits n → H v → Reads a b (Spelled (ReadsNumber bits)) n → Reads a b (Spelled (ReadsBy (TakesNumber bits) H)) v
+number_by {H} {a} {b} {n} bits v e k h = read_as v (λ t r. (numbers_taken bits t n r, e ∙ number_tree bits t n r, k)) h
+
+signed_tree : (bits : ℕ) (t : Tree) (v : ℤ) → ReadsSigned bits t v → number bits (zigzag v) ≡ t
+signed_tree bits (number w n) v h = let e : w ≡ bits = h.0 in let f : zigzag v ≡ n = h.1 in cc
+signed_tree bits _ v h = absurd h
+
+-- v is the signed number m, which was read
+pub signed_by : {H : Value → Type 0} {a b : SourceState} {z : ℤ} (bits : ℕ) (m : ℤ) (v : Value) → m ≡ z → tree_of v ≡ number bits (zigzag m) → H v → Reads a b (Spelled (ReadsSigned bits)) z → Reads a b (Spelled (ReadsBy (TakesNumber bits) H)) v
+signed_by {H} {a} {b} {z} bits m v i e k h = read_as v (λ t r. (signed_taken bits t z r, e ∙ ap (λ x. number bits (zigzag x)) i ∙ signed_tree bits t z r, k)) h
+
+char_tree : (t : Tree) (v : ℕ) → ReadsCharacter t v → character v ≡ t
+char_tree (character c) v h = ap character h.0
+char_tree _ v h = absurd h
+
+pub char_by : {a b : SourceState} (v : ℕ) → Reads a b (Spelled ReadsCharacter) v → Reads a b (Spelled (ReadsBy TakesCharacter (AtTop OfChar))) (Char v)
+char_by v h = read_as (Char v) (λ t k. (character_taken t v k, tree-Char v ∙ char_tree t v k, top-Char v)) h
+
+bytes_tree : (ts : Trees) (s : List ℕ) → ReadsAll ReadsByte ts s → bytes_of s ≡ ts
+bytes_tree end [] h = refl
+bytes_tree end (x ∷ s) h = absurd h
+bytes_tree (part t ts) [] h = absurd h
+bytes_tree (part (byte b) ts) (x ∷ s) h = let e : x ≡ b = h.0 in let f : bytes_of s ≡ ts = bytes_tree ts s h.1 in cc
+bytes_tree (part _ ts) (x ∷ s) h = absurd h.0
+
+text_tree : (t : Tree) (s : List ℕ) → ReadsBytes t s → text_of s ≡ t
+text_tree (sequence ts) s h = ap sequence (bytes_tree ts s h.1)
+text_tree _ s h = absurd h
+
+pub bytes_by : {a b : SourceState} (v : _) → Reads a b (SpelledBytes (λ (w : Vec ℕ Global). w.items)) v → Reads a b (Spelled (ReadsBy (TakesSequence TakesByte) (AtTop OfBytes))) (Bytes v)
+bytes_by v h = read_as (Bytes v) (λ t k. (sequence_taken TakesByte ReadsByte byte_taken t v.items k, tree-Bytes v ∙ text_tree t v.items k, top-Bytes v)) (bytes_read (λ w. w.items) h)
+
+pub text_by : {a b : SourceState} (s : _) → Reads a b (Spelled (λ t v. ReadsText t (string_bytes v))) s → Reads a b (Spelled (ReadsBy TakesText (AtTop OfText))) (Text s)
+text_by s h = read_as (Text s) (λ t k. ((string_bytes s, k.0, k.1), tree-Text s ∙ text_tree t (string_bytes s) k.0, top-Text s)) h

@@ -1,0 +1,5 @@
+use Rattle.schemas.proofs.Tops.{char_by}
+use Rattle.schemas.proofs.read.read_char.Goals as goal
+
+pub returns : goal.returns
+returns g c = char_by _ c.in_ok-v.ensures.reads

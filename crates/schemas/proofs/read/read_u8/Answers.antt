@@ -1,0 +1,5 @@
+use Rattle.schemas.proofs.Tops.{byte_by}
+use Rattle.schemas.proofs.read.read_u8.Goals as goal
+
+pub returns : goal.returns
+returns g c = byte_by _ c.in_ok-v.ensures

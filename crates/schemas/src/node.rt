@@ -1,0 +1,44 @@
+//! What a message type is, as nodes of one table that name one another by their places.
+
+/// A type. The types inside are given by their places in the table, so that a type may hold itself.
+#[derive(Drop)]
+pub enum Node {
+    /// `bool`.
+    Bool,
+    /// `u8`.
+    U8,
+    /// `i8`.
+    I8,
+    /// `u16`.
+    U16,
+    /// `u32`.
+    U32,
+    /// `u64`, `usize`.
+    U64,
+    /// `u128`.
+    U128,
+    /// `i16`.
+    I16,
+    /// `i32`.
+    I32,
+    /// `i64`, `isize`.
+    I64,
+    /// `i128`.
+    I128,
+    /// `char`.
+    Char,
+    /// `String`, `&str`.
+    Text,
+    /// `Vec<u8>`, `&[u8]`.
+    Bytes,
+    /// `Option<T>`.
+    Option(usize),
+    /// `Vec<T>`; a map by the type of its pairs.
+    List(usize),
+    /// `[T; N]`: how many elements, and their type.
+    Array(u64, usize),
+    /// A tuple or a struct, by the types of its fields; without fields, `()`.
+    Struct(Vec<usize>),
+    /// An enum, by the types of what its variants hold; a `Result` by those of its value and its error.
+    Enum(Vec<usize>),
+}
