@@ -46,3 +46,25 @@ no-mode first second word n mode false s (inl e) = grind (arith, e.0)
 no-mode first second word n mode true s (inl e) = grind (arith, e.0)
 no-mode first second word n mode false s (inr e) = grind (arith, e.1)
 no-mode first second word n mode true s (inr e) = n mode (ap (λ x. get_or x 0 []) e.1)
+
+-- one part
+pub one-part : {A : Type 0} (xs : List A) (a : A) → length xs ≡ 1 → a ≡ get_or xs 0 a → xs ≡ a ∷ []
+one-part [] a l d = absurd (omega (arith, l))
+one-part (x ∷ []) a l d = rw d refl
+one-part (x ∷ y ∷ xs) a l d = absurd (omega (arith, l))
+
+-- the first word is no mode
+pub no-first : (first : List ℕ) (rest : List (List ℕ)) → ((mode : Mode) → first ≢ mode_text mode) → (mode : Mode) (hex : Bool) (s : ℕ)
+    → AreWordsFor mode hex s (first ∷ rest) → ⊥
+no-first first rest n mode false s (inl e) = n mode (ap (λ x. get_or x 0 []) e.0)
+no-first first rest n mode true s (inl e) = n mode (ap (λ x. get_or x 0 []) e.0)
+no-first first rest n mode false s (inr e) = n mode (ap (λ x. get_or x 0 []) e.1)
+no-first first rest n mode true s (inr e) = n mode (ap (λ x. get_or x 0 []) e.1)
+
+-- of three words the second isn't `hex`
+pub no-second : (first second word : List ℕ) → (second ≡ codes "hex" → ⊥) → (mode : Mode) (hex : Bool) (s : ℕ)
+    → AreWordsFor mode hex s (first ∷ second ∷ word ∷ []) → ⊥
+no-second first second word h mode false s (inl e) = grind (arith, e.0)
+no-second first second word h mode true s (inl e) = grind (arith, e.0)
+no-second first second word h mode false s (inr e) = grind (arith, e.1)
+no-second first second word h mode true s (inr e) = h (ap (λ x. get_or x 1 []) e.1)
