@@ -7,7 +7,7 @@ use crate::table::{duration, head, row, size, Report};
 use crate::timing::{best_peer, named, run, without, Side, Timed, Way, Work};
 use std::hint::black_box;
 
-const LENGTHS: [usize; 6] = [4, 16, 64, 200, 1024, 64 << 10];
+pub const LENGTHS: [usize; 6] = [4, 16, 64, 200, 1024, 64 << 10];
 const LARGE: usize = 64 << 10;
 
 fn side(calls: &Calls) -> Side {
@@ -48,7 +48,7 @@ fn in_place<'a, T: 'a>(source: &'a [u8], call: impl Fn(&mut [u8]) -> T + 'a) -> 
 }
 
 /// The greatest length of a frame.
-fn room(len: usize) -> usize {
+pub fn room(len: usize) -> usize {
     len + len.div_ceil(254).max(1)
 }
 
@@ -534,13 +534,7 @@ fn print_record(report: &mut Report, call: &str, timed: &[Timed], goal: f64) {
 /// A record to bytes and back.
 pub fn records(samples: usize, report: &mut Report) {
     let list = data::list(&mut Numbers(6), 32);
-    let record = Record {
-        number: 0xCDAB_3412,
-        big: 0x1234_5678_90AB_CDEF,
-        text: "twenty letters here!",
-        perhaps: Some(300),
-        list: &list,
-    };
+    let record = data::record(&list);
     let mut spelling = vec![0; 256];
     let count = by_hand::write(&record, &mut spelling).expect("there is room");
     spelling.truncate(count);

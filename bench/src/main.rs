@@ -1,8 +1,10 @@
-//! Times the calls of the proved libraries beside Rust peers that do the same work, and prints tables of ratios.
+//! Times the calls of the proved libraries beside Rust peers that do the same work, and prints tables of ratios; or counts their
+//! instructions.
 //!
-//! usage: calls [SAMPLES]
+//! usage: calls SAMPLES, or calls count FOLDER
 mod calls;
 mod cases;
+mod counts;
 mod data;
 mod frames;
 mod peers;
@@ -10,12 +12,10 @@ mod table;
 mod timing;
 
 use cases::{encoding_and_decoding, growth, records, sentinels, streams};
+use std::path::Path;
 use table::Report;
 
-fn main() {
-    let samples = std::env::args()
-        .nth(1)
-        .map_or(61, |word| word.parse().expect("a number"));
+fn measure(samples: usize) {
     let mut report = Report::new();
     encoding_and_decoding(samples, &mut report);
     sentinels(samples, &mut report);
@@ -24,4 +24,14 @@ fn main() {
     growth(samples.min(11), &mut report);
     report.print_goals();
     report.print_before();
+}
+
+fn main() {
+    let words: Vec<String> = std::env::args().skip(1).collect();
+    match words.iter().map(String::as_str).collect::<Vec<_>>()[..] {
+        ["count", folder] => counts::print(Path::new(folder)),
+        ["counted"] => counts::count_all(),
+        [samples] => measure(samples.parse().expect("a number of samples")),
+        _ => panic!("usage: calls SAMPLES, or calls count FOLDER"),
+    }
 }

@@ -76,31 +76,41 @@ fn write_framed(out: &mut impl Write, hex: bool, bytes: &[u8]) -> io::Result<()>
     }
 }
 
-/// Writes the frame of a line and a zero, and answers whether the line isn't refused.
-fn send(out: &mut impl Write, hex: bool, line: &[u8]) -> io::Result<bool> {
-    if line.len() > LIMIT || std::str::from_utf8(line).is_err() {
-        return Ok(false);
+/// Where lines are spelled and encoded, one after another.
+struct Sender {
+    spelling: [u8; LIMIT + 10],
+    frame: [u8; LIMIT + 20],
+}
+
+impl Sender {
+    /// Writes the frame of a line and a zero, and answers whether the line isn't refused.
+    fn send(&mut self, out: &mut impl Write, hex: bool, line: &[u8]) -> io::Result<bool> {
+        if line.len() > LIMIT || std::str::from_utf8(line).is_err() {
+            return Ok(false);
+        }
+        let mut groups = [0; 10];
+        let count = put_number(&mut groups, line.len());
+        let len = count + line.len();
+        self.spelling[..count].copy_from_slice(&groups[..count]);
+        self.spelling[count..len].copy_from_slice(line);
+        let len = runs::encode(&self.spelling[..len], &mut self.frame);
+        if len > LIMIT {
+            return Ok(false);
+        }
+        self.frame[len] = 0;
+        write_framed(out, hex, &self.frame[..=len])?;
+        Ok(true)
     }
-    let mut spelling = [0; LIMIT + 10];
-    let mut groups = [0; 10];
-    let count = put_number(&mut groups, line.len());
-    let len = count + line.len();
-    spelling[..count].copy_from_slice(&groups[..count]);
-    spelling[count..len].copy_from_slice(line);
-    let mut frame = [0; LIMIT + 20];
-    let len = runs::encode(&spelling[..len], &mut frame);
-    if len > LIMIT {
-        return Ok(false);
-    }
-    frame[len] = 0;
-    write_framed(out, hex, &frame[..=len])?;
-    Ok(true)
 }
 
 fn pack(hex: bool) -> io::Result<bool> {
     let mut reader = BufReader::with_capacity(BUFFER, io::stdin().lock());
     let mut out = BufWriter::with_capacity(BUFFER, io::stdout().lock());
     let mut line = Vec::new();
+    let mut sender = Sender {
+        spelling: [0; LIMIT + 10],
+        frame: [0; LIMIT + 20],
+    };
     let mut good = true;
     let mut number = 0;
     while reader.read_until(b'\n', &mut line)? > 0 {
@@ -109,7 +119,7 @@ fn pack(hex: bool) -> io::Result<bool> {
         }
         number += 1;
         let text = line.strip_suffix(b"\n").unwrap_or(&line);
-        if !send(&mut out, hex, text)? {
+        if !sender.send(&mut out, hex, text)? {
             eprintln!("line {number}: refused");
             good = false;
         }

@@ -1,6 +1,7 @@
-//! Times the program `framed` beside a plain Rust program, on files of so many million bytes, and prints a table.
+//! Times the program `framed` beside a plain Rust program, on files of so many million bytes, and prints a table; or counts the
+//! instructions of both by `valgrind --tool=callgrind`.
 //!
-//! usage: programs FRAMED PLAIN FOLDER MILLIONS REPEATS
+//! usage: programs FRAMED PLAIN FOLDER MILLIONS REPEATS, or programs FRAMED PLAIN FOLDER MILLIONS count
 //!
 //! It keeps little memory itself, since what a process uses at its start counts towards the peak of its child.
 
@@ -9,25 +10,30 @@ use std::io::{self, BufWriter, Write};
 use std::path::{Path, PathBuf};
 use std::process::{Command, Stdio};
 
-/// Times and peak memory of a child, as C's `struct rusage` has them on Linux.
+/// Times, peak memory and page faults of a child, as C's `struct rusage` has them on Linux.
 #[repr(C)]
 #[derive(Default)]
 struct Usage {
     user: [i64; 2],
     system: [i64; 2],
     peak_kib: i64,
-    others: [i64; 13],
+    sizes: [i64; 3],
+    faults: i64,
+    others: [i64; 9],
 }
 
 extern "C" {
     fn wait4(pid: i32, status: *mut i32, options: i32, usage: *mut Usage) -> i32;
 }
 
-/// What a run took: seconds of the processor, and its peak of memory in bytes.
+/// What a run took: seconds of the processor, those of them that the system had, its peak of memory in bytes, and the pages that it
+/// was first given.
 #[derive(Clone, Copy)]
 struct Took {
     seconds: f64,
+    system: f64,
     peak: f64,
+    pages: f64,
 }
 
 fn seconds([whole, millionths]: [i64; 2]) -> f64 {
@@ -55,7 +61,9 @@ fn run(program: &Path, words: &[&str], input: &Path, output: Option<&Path>) -> i
     }
     Ok(Took {
         seconds: seconds(usage.user) + seconds(usage.system),
+        system: seconds(usage.system),
         peak: usage.peak_kib as f64 * 1024.0,
+        pages: usage.faults as f64,
     })
 }
 
@@ -80,6 +88,21 @@ fn write_lines(path: &Path, bytes: u64, shortest: u64, longest: u64) -> io::Resu
         written += len + 1;
     }
     out.flush()
+}
+
+/// Instructions of a run, and the places that have most of them.
+struct Counted {
+    all: f64,
+    places: Vec<String>,
+}
+
+/// The name of a function, of a line of `callgrind_annotate`, without its file, its object and what the compiler added.
+fn place(line: &str) -> String {
+    let name = line.split(" [").next().unwrap_or(line).trim_start_matches("???:");
+    let name = name.rsplit_once(".c:").or(name.rsplit_once(".S:")).map_or(name, |(_, name)| name);
+    let name = name.split("::<#").next().unwrap_or(name);
+    let name = name.rsplit_once("::h").map_or(name, |(front, hash)| if hash.len() == 16 { front } else { name });
+    format!("`{name}`")
 }
 
 /// The two programs, and where the files are.
@@ -120,6 +143,27 @@ impl Programs {
         fs::remove_file(out)
     }
 
+    /// Counts the instructions of a run by valgrind: all of them, and the places that have most, each with its share.
+    fn count(&self, program: &Path, words: &[&str], input: &Path) -> io::Result<Counted> {
+        let counts = self.file("counts");
+        let mut command = Command::new("valgrind");
+        command.args(["-q", "--tool=callgrind"]).arg(format!("--callgrind-out-file={}", counts.display()));
+        command.arg(program).args(words).stdin(File::open(input)?).stdout(Stdio::null());
+        if !command.status()?.success() {
+            return Err(io::Error::other(format!("valgrind of {}", program.display())));
+        }
+        let output = Command::new("callgrind_annotate").arg(&counts).output()?;
+        let text = String::from_utf8_lossy(&output.stdout);
+        let mut rows = text.lines().filter_map(|line| {
+            let (number, rest) = line.trim().split_once(" (")?;
+            let number = number.replace(',', "").parse::<f64>().ok()?;
+            Some((number, rest.split_once("%)")?.1.trim().to_owned()))
+        });
+        let (all, _) = rows.next().ok_or_else(|| io::Error::other("nothing was counted"))?;
+        let places = rows.take(3).map(|(number, name)| format!("{} {:.0} %", place(&name), 100.0 * number / all));
+        Ok(Counted { all, places: places.collect() })
+    }
+
     /// Times ours and the plain ways in turn: medians of the seconds, and the greatest peaks.
     fn time(&self, case: &Case, name: &str, repeats: usize) -> io::Result<Vec<Took>> {
         let input = self.file(&format!("{name}.{}", case.input));
@@ -137,8 +181,8 @@ impl Programs {
 fn middle(mut runs: Vec<Took>) -> Took {
     runs.sort_by(|a, b| a.seconds.total_cmp(&b.seconds));
     Took {
-        seconds: runs[runs.len() / 2].seconds,
         peak: runs.iter().map(|took| took.peak).fold(0.0, f64::max),
+        ..runs[runs.len() / 2]
     }
 }
 
@@ -149,6 +193,9 @@ struct Case {
     plain: &'static [&'static [&'static str]],
     goal: f64,
 }
+
+/// The kinds of lines, and the lengths that they have.
+const LINES: [(&str, (u64, u64)); 2] = [("short", (5, 40)), ("long", (850, 950))];
 
 const CASES: [Case; 4] = [
     Case {
@@ -192,15 +239,45 @@ fn print(case: &Case, lines: &str, took: &[Took], missed: &mut Vec<String>) {
         .plain
         .iter()
         .zip(&took[1..])
-        .map(|(words, t)| format!("{}: {:.2} s, {}", words[0], t.seconds, megabytes(*t)))
+        .map(|(words, t)| format!("{}: {:.2} s, {:.2}, {}", words[0], t.seconds, t.system, megabytes(*t)))
         .collect();
     println!(
-        "| {what} | {:.2} s | {} | {} | {ratio:.2} ({}) |",
+        "| {what} | {:.2} s, {:.2} | {} | {} | {ratio:.2} ({}) |",
         ours.seconds,
+        ours.system,
         megabytes(ours),
         plain.join("; "),
         case.goal,
     );
+}
+
+/// Prints a table of the instructions for a byte of the text, ours and the plain program's.
+fn print_counts(programs: &Programs, millions: u64) -> io::Result<()> {
+    println!("\n### Instructions of the program for a byte of its text, of {millions} MB\n");
+    println!("| Case | Ours, pages | The plain Rust program, pages | Where ours go | Where those of the plain one go |");
+    println!("|---|---|---|---|---|");
+    for (lines, lengths) in LINES {
+        programs.make("large", millions * 1_000_000, lengths)?;
+        for case in &CASES {
+            let input = programs.file(&format!("large.{}", case.input));
+            let ours = programs.count(&programs.framed, case.ours, &input)?;
+            let plain = programs.count(&programs.plain, case.plain[0], &input)?;
+            let pages = |program: &Path, words| run(program, words, &input, None).map(|took| took.pages);
+            let each = |counted: &Counted| counted.all / (millions as f64 * 1e6);
+            println!(
+                "| `framed {}`, {lines} lines | {:.1}, {} | {}: {:.1}, {} | {} | {} |",
+                case.ours.join(" "),
+                each(&ours),
+                pages(&programs.framed, case.ours)?,
+                case.plain[0][0],
+                each(&plain),
+                pages(&programs.plain, case.plain[0])?,
+                ours.places.join(", "),
+                plain.places.join(", "),
+            );
+        }
+    }
+    Ok(())
 }
 
 fn main() -> io::Result<()> {
@@ -211,17 +288,21 @@ fn main() -> io::Result<()> {
         ));
     };
     let number = |word: &str| word.parse().map_err(io::Error::other);
-    let (millions, repeats): (u64, u64) = (number(millions)?, number(repeats)?);
+    let millions: u64 = number(millions)?;
     let programs = Programs {
         framed: framed.into(),
         plain: plain.into(),
         folder: folder.into(),
     };
+    if repeats == "count" {
+        return print_counts(&programs, millions);
+    }
+    let repeats = number(repeats)?;
     println!("\n### The program, on {millions} MB of text\n");
-    println!("| Case | Seconds | Peak memory | The plain Rust program | Seconds / seconds of the plain program's first (goal) |");
+    println!("| Case | Seconds, the system's of them | Peak memory | The plain Rust program | Seconds / seconds of the plain program's first (goal) |");
     println!("|---|---|---|---|---|");
     let mut missed = Vec::new();
-    for (lines, lengths) in [("short", (5, 40)), ("long", (850, 950))] {
+    for (lines, lengths) in LINES {
         programs.make("small", 300_000, lengths)?;
         programs.make("large", millions * 1_000_000, lengths)?;
         for case in &CASES {

@@ -1,0 +1,334 @@
+//! Counts the instructions of calls, ours and the peers', by `valgrind --tool=callgrind`, and prints tables of them. No load of
+//! the machine changes them.
+use crate::calls::{Calls, Found, Parts, OURS};
+use crate::cases::{room, LENGTHS};
+use crate::data::{self, message, record, Record, KINDS};
+use crate::frames::{bytes, runs, wide, windows};
+use crate::peers::{records as by_hand, streams as pieces};
+use crate::table::{head, row, size};
+use std::collections::BTreeMap;
+use std::hint::black_box;
+use std::path::Path;
+use std::process::Command;
+use std::{env, fs};
+
+const PIECES: [usize; 3] = [1, 64, 4096];
+/// How long a stream is, at least.
+const STREAM: usize = 64 << 10;
+/// So many calls are counted at once, behind one that isn't.
+const TIMES: u64 = 4;
+
+/// What is written for a table.
+const OURS_NAME: &str = "ours";
+
+mod callgrind {
+    use std::ffi::CStr;
+
+    /// Asks valgrind for something; elsewhere nothing happens.
+    #[cfg(target_arch = "x86_64")]
+    fn request(code: usize, text: *const i8) {
+        let words = [code, text as usize, 0, 0, 0, 0];
+        // SAFETY: the rotations come to a whole turn, and the exchange changes nothing. Valgrind reads the words.
+        unsafe {
+            std::arch::asm!(
+                "rol rdi, 3", "rol rdi, 13", "rol rdi, 61", "rol rdi, 51", "xchg rbx, rbx",
+                in("rax") words.as_ptr(), inout("rdx") 0usize => _,
+            );
+        }
+    }
+
+    #[cfg(not(target_arch = "x86_64"))]
+    fn request(_: usize, _: *const i8) {
+        panic!("the requests are x86-64's");
+    }
+
+    const BASE: usize = (b'C' as usize) << 24 | (b'T' as usize) << 16;
+
+    /// Begins to count from nothing.
+    pub fn zero() {
+        request(BASE + 1, std::ptr::null());
+    }
+
+    /// Writes what was counted, by a name.
+    pub fn dump(name: &CStr) {
+        request(BASE + 3, name.as_ptr().cast());
+    }
+}
+
+/// Counts some work, and gives it a name.
+fn count(name: &str, mut work: impl FnMut()) {
+    let name = std::ffi::CString::new(name).expect("a name without zeros");
+    work();
+    callgrind::zero();
+    for _ in 0..TIMES {
+        work();
+    }
+    callgrind::dump(&name);
+}
+
+type IntoBuffer = fn(&[u8], &mut [u8]) -> Option<usize>;
+type InPlace = fn(&mut [u8]) -> Option<usize>;
+type Taking = fn(&[u8], usize) -> Found;
+
+/// What takes bytes and makes others: a call, whose it is, and the function.
+const ENCODERS: [(&str, &str, IntoBuffer); 5] = [
+    ("try_encode", OURS_NAME, |s, d| OURS.try_encode(s, d)),
+    ("push", OURS_NAME, |s, d| OURS.push(s, d)),
+    ("encode", "bytes", |s, d| Some(bytes::encode(s, d))),
+    ("encode", "runs", |s, d| Some(runs::encode(s, d))),
+    ("encode", "16", |s, d| Some(wide::encode(s, d))),
+];
+const DECODERS: [(&str, &str, IntoBuffer); 5] = [
+    ("decode", OURS_NAME, |s, d| OURS.decode(s, d)),
+    ("decode", "bytes", bytes::decode),
+    ("decode", "runs", runs::decode),
+    ("decode", "16", wide::decode),
+    ("decode", "windows", windows::decode),
+];
+const IN_PLACE: [(&str, &str, InPlace); 4] = [
+    ("decode_in_place", OURS_NAME, |b| OURS.decode_in_place(b)),
+    ("decode_in_place", "bytes", bytes::decode_in_place),
+    ("decode_in_place", "runs", runs::decode_in_place),
+    ("decode_in_place", "windows", windows::decode_in_place),
+];
+/// Our calls of frames for a sentinel, by the sentinel.
+const OTHER: [(&str, &str, IntoBuffer); 4] = [
+    ("push_for", "zero", |s, d| OURS.push_for(s, d, 0)),
+    ("push_for", "another", |s, d| OURS.push_for(s, d, 10)),
+    ("decode_for", "zero", |s, d| OURS.decode_for(s, d, 0)),
+    ("decode_for", "another", |s, d| OURS.decode_for(s, d, 10)),
+];
+const OTHER_IN_PLACE: [(&str, &str, InPlace); 2] = [
+    ("in_place_for", "zero", |b| OURS.decode_in_place_for(b, 0)),
+    ("in_place_for", "another", |b| OURS.decode_in_place_for(b, 10)),
+];
+const STREAMS: [(&str, &str, Taking); 6] = [
+    ("push", OURS_NAME, |s, n| OURS.messages(s, n)),
+    ("push", "bytes", pieces::messages_by_bytes),
+    ("push", "runs", pieces::messages_by_runs),
+    ("feed", OURS_NAME, |s, n| OURS.records(s, n)),
+    ("feed", "accumulator", pieces::records_by_accumulator),
+    ("feed", "runs", pieces::records_by_runs),
+];
+
+/// The name of a count.
+fn named(call: &str, whose: &str, len: usize, kind: &str) -> String {
+    format!("{call}/{whose}/{len}/{kind}")
+}
+
+/// A function that is called as the counted ones are.
+#[inline(never)]
+fn nothing(source: &[u8], dest: &mut [u8]) -> Option<usize> {
+    black_box((source.len(), dest.len()));
+    None
+}
+
+fn count_into_buffer(name: &str, call: IntoBuffer, source: &[u8], room: usize) {
+    let mut dest = vec![0; room];
+    let call = black_box(call);
+    count(name, || {
+        black_box(call(black_box(source), black_box(&mut dest)));
+    });
+}
+
+fn count_in_place(name: &str, call: InPlace, source: &[u8]) {
+    let mut buf = source.to_vec();
+    let call = black_box(call);
+    count(name, || {
+        buf.copy_from_slice(black_box(source));
+        black_box(call(black_box(&mut buf)));
+    });
+}
+
+fn count_messages(len: usize, kind: &str) {
+    let source = message(kind, len);
+    let mut frame = vec![0; room(len) + 1];
+    let end = runs::encode(&source, &mut frame);
+    let frame = &frame[..=end];
+    count_into_buffer(&named("nothing", "into", len, kind), nothing, &source, room(len));
+    count_in_place(&named("nothing", "within", len, kind), |_| None, frame);
+    for (call, whose, encode) in ENCODERS {
+        count_into_buffer(&named(call, whose, len, kind), encode, &source, room(len));
+    }
+    for (call, whose, decode) in DECODERS {
+        count_into_buffer(&named(call, whose, len, kind), decode, frame, frame.len());
+    }
+    for (call, whose, decode) in IN_PLACE {
+        count_in_place(&named(call, whose, len, kind), decode, frame);
+    }
+    let other: Vec<u8> = frame.iter().map(|byte| byte ^ 10).collect();
+    let framed = |whose| if whose == "zero" { frame } else { &other };
+    for (call, whose, code) in OTHER {
+        let from = if call == "push_for" { &source } else { framed(whose) };
+        count_into_buffer(&named(call, whose, len, kind), code, from, room(len));
+    }
+    for (call, whose, decode) in OTHER_IN_PLACE {
+        count_in_place(&named(call, whose, len, kind), decode, framed(whose));
+    }
+}
+
+type Writing = fn(&Record<'_>, &mut [u8]) -> Option<usize>;
+type Reading = fn(&[u8]) -> Option<Parts>;
+
+fn read_by(ours: &Calls, bytes: &[u8]) -> Option<Parts> {
+    let mut parts = Parts::default();
+    ours.read(bytes, &mut parts).then_some(parts)
+}
+
+const WRITERS: [(&str, Writing); 3] = [
+    (OURS_NAME, |r, room| OURS.write(r, room)),
+    ("straight", by_hand::write),
+    ("crate", by_hand::crate_like::write),
+];
+const READERS: [(&str, Reading); 3] = [
+    (OURS_NAME, |bytes| read_by(&OURS, bytes)),
+    ("straight", by_hand::read),
+    ("crate", by_hand::crate_like::read),
+];
+
+fn count_record() {
+    let list = data::list(&mut data::Numbers(6), 32);
+    let record = record(&list);
+    let mut spelling = [0; 256];
+    let len = by_hand::write(&record, &mut spelling).expect("there is room");
+    for (whose, write) in WRITERS {
+        let mut room = [0; 256];
+        let write = black_box(write);
+        count(&named("to_slice", whose, 0, ""), || {
+            black_box(write(black_box(&record), black_box(&mut room)));
+        });
+    }
+    for (whose, read) in READERS {
+        let read = black_box(read);
+        count(&named("from_bytes", whose, 0, ""), || {
+            black_box(read(black_box(&spelling[..len])));
+        });
+    }
+}
+
+/// What is counted, where valgrind looks on.
+pub fn count_all() {
+    for len in LENGTHS {
+        for kind in KINDS {
+            count_messages(len, kind);
+        }
+    }
+    let stream = data::stream(STREAM);
+    for piece in PIECES {
+        for (call, whose, take) in STREAMS {
+            count(&named(call, whose, piece, "stream"), || {
+                black_box(take(black_box(&stream), black_box(piece)));
+            });
+        }
+    }
+    count_record();
+}
+
+/// Runs this program under valgrind, which writes a file for each count, and reads what each says for one call.
+fn counted(folder: &Path) -> BTreeMap<String, f64> {
+    let _ = fs::remove_dir_all(folder);
+    fs::create_dir_all(folder).expect("a folder");
+    let own = env::current_exe().expect("this program's path");
+    let files = format!("--callgrind-out-file={}", folder.join("count").display());
+    let mut valgrind = Command::new("valgrind");
+    let run = valgrind.args(["-q", "--tool=callgrind", "--dump-instr=yes", "--compress-strings=no", &files]).arg(own).arg("counted");
+    let output = run.output().expect("valgrind runs");
+    assert!(output.status.success(), "{}", String::from_utf8_lossy(&output.stderr));
+    let mut counts = BTreeMap::new();
+    for file in fs::read_dir(folder).expect("the folder") {
+        let text = fs::read_to_string(file.expect("a file").path()).expect("a text");
+        let after = |start: &str| text.lines().find_map(|line| line.strip_prefix(start).map(str::trim));
+        if let (Some(name), Some(total)) = (after("desc: Trigger: Client Request:"), after("totals:")) {
+            let total: f64 = total.parse().expect("a number");
+            counts.insert(name.to_owned(), total / TIMES as f64);
+        }
+    }
+    counts
+}
+
+/// The counts, each without what is around a call.
+struct Counts(BTreeMap<String, f64>);
+
+impl Counts {
+    fn of(&self, call: &str, whose: &str, len: usize, kind: &str) -> f64 {
+        self.0[&named(call, whose, len, kind)]
+    }
+
+    /// Of a call on a message, and of each peer.
+    fn cell(&self, call: &str, peers: &[(&str, &str)], len: usize, kind: &str) -> String {
+        let around = if call == "decode_in_place" { "within" } else { "into" };
+        let around = self.of("nothing", around, len, kind);
+        let ours = self.of(call, OURS_NAME, len, kind) - around;
+        let counted = peers.iter().map(|(call, whose)| (self.of(call, whose, len, kind) - around, whose));
+        let best = counted.min_by(|a, b| a.0.total_cmp(&b.0)).expect("a peer");
+        format!("{ours:.0} / {:.0} {}", best.0, &best.1)
+    }
+}
+
+fn print_grid(counts: &Counts, call: &str, peers: &[(&str, &str)]) {
+    let title = format!("Instructions: `{call}` / the peer with the fewest");
+    head(&title, &["Bytes", KINDS[0], KINDS[1], KINDS[2], KINDS[3]]);
+    for len in LENGTHS {
+        let mut cells = vec![size(len)];
+        cells.extend(KINDS.map(|kind| counts.cell(call, peers, len, kind)));
+        row(&cells);
+    }
+}
+
+fn print_sentinels(counts: &Counts) {
+    let title = "Instructions for another sentinel, over those for zero";
+    head(title, &["Bytes", "Kind", "`push`", "`decode_with_sentinel`", "in place"]);
+    for len in LENGTHS {
+        for kind in [KINDS[0], KINDS[2]] {
+            let ratio = |call: &str| {
+                let around = if call == "in_place_for" { "within" } else { "into" };
+                let around = counts.of("nothing", around, len, kind);
+                let of = |whose| counts.of(call, whose, len, kind) - around;
+                format!("{:.2}", of("another") / of("zero"))
+            };
+            let mut cells = vec![size(len), kind.to_owned()];
+            cells.extend(["push_for", "decode_for", "in_place_for"].map(ratio));
+            row(&cells);
+        }
+    }
+}
+
+fn print_streams(counts: &Counts, bytes: usize) {
+    let title = "Instructions for a byte of a stream";
+    head(title, &["Call", "Ours", "Peer", "Peer"]);
+    for (call, what) in [("push", "decoder's `push`"), ("feed", "accumulator's `feed`")] {
+        for piece in PIECES {
+            let ways = STREAMS.iter().filter(|way| way.0 == call);
+            let mut cells = vec![format!("{what}, pieces of {piece}")];
+            cells.extend(ways.map(|(_, whose, _)| {
+                let each = counts.of(call, whose, piece, "stream") / bytes as f64;
+                if *whose == OURS_NAME { format!("{each:.1}") } else { format!("{each:.1} ({whose})") }
+            }));
+            row(&cells);
+        }
+    }
+}
+
+fn print_record(counts: &Counts) {
+    head("Instructions for a record", &["Call", "Ours", "Straight", "As a crate does it"]);
+    for call in ["to_slice", "from_bytes"] {
+        let mut cells = vec![format!("`{call}`")];
+        cells.extend([OURS_NAME, "straight", "crate"].map(|w| format!("{:.0}", counts.of(call, w, 0, ""))));
+        row(&cells);
+    }
+}
+
+/// Counts, and prints what each call takes. What valgrind wrote stays in the folder.
+pub fn print(folder: &Path) {
+    let counts = Counts(counted(folder));
+    let encoders = ENCODERS[2..].iter().map(|way| (way.0, way.1)).collect::<Vec<_>>();
+    let decoders = DECODERS[1..].iter().map(|way| (way.0, way.1)).collect::<Vec<_>>();
+    let within = IN_PLACE[1..].iter().map(|way| (way.0, way.1)).collect::<Vec<_>>();
+    print_grid(&counts, "try_encode", &encoders);
+    print_grid(&counts, "push", &encoders);
+    print_grid(&counts, "decode", &decoders);
+    print_grid(&counts, "decode_in_place", &within);
+    print_sentinels(&counts);
+    print_streams(&counts, data::stream(STREAM).len());
+    print_record(&counts);
+}
