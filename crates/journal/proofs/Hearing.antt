@@ -7,7 +7,6 @@ use Rattle.std.specs.List.{AllZip}
 use Rattle.std.proofs.lemmas.List.{append-nil, take-append-drop, take-append-le, take_all, length-take}
 use Rattle.std.proofs.Math.Seq.{take-add}
 use Rattle.postcard_tree.specs.Tree.{Tree}
-use Rattle.link.specs.Stream.{HoldsExactly}
 use Rattle.cobs.specs.declared.dec.CobsDecoderHeapless.{CobsDecoderHeapless}
 use Rattle.link.specs.Decoding.{in_array}
 use Rattle.link.specs.Receivers.{IsBehind}
@@ -16,7 +15,7 @@ use Rattle.link.specs.declared.receiver.Answer.{Answer}
 use Rattle.link.specs.declared.receiver.NoMemory.{NoMemory}
 use Rattle.link.specs.declared.reception.Reception.{Reception}
 use Rattle.stores.specs.Store.{GaveAt, EndsBefore}
-use Rattle.journal.specs.Records.{takes_record, reads_record, past, past_all}
+use Rattle.journal.specs.Records.{reads_record, past, past_all}
 use Rattle.journal.specs.Visits.{VisitorLaws}
 use Rattle.journal.specs.Reading.{IsRead, Hears, HearsMore, HandsOn}
 
@@ -30,10 +29,10 @@ zip_one R [] (b ∷ ys) x y h r = absurd h
 zip_one R (a ∷ xs) [] x y h r = absurd h
 zip_one R (a ∷ xs) (b ∷ ys) x y h r = (h.0, zip_one R xs ys x y h.1 r)
 
-module _ {V : Type 0} (takes : Tree → Type 0) (reads : Tree → V → Type 0) (limit first : ℕ) (front rest : List ℕ) (used : ℕ) where
+module _ {V : Type 0} (holds : List ℕ → Tree → Type 0) (reads : Tree → V → Type 0) (limit first : ℕ) (front rest : List ℕ) (used : ℕ) where
   -- a push that answered nothing
-  pub read_quiet : (answers : List (Answer (ℕ × V))) (next : ℕ) → IsRead takes reads limit first answers next front
-      → Answered (HoldsExactly (takes_record takes)) (reads_record reads) limit 0 front rest used (Ok None) → IsRead takes reads limit first answers next (front ++ take used rest)
+  pub read_quiet : (answers : List (Answer (ℕ × V))) (next : ℕ) → IsRead holds reads limit first answers next front
+      → Answered holds (reads_record reads) limit 0 front rest used (Ok None) → IsRead holds reads limit first answers next (front ++ take used rest)
   read_quiet answers next g (a, says, push) = record {
     given = record {
       verdicts = g.given.verdicts ++ listed a;
@@ -44,8 +43,8 @@ module _ {V : Type 0} (takes : Tree → Type 0) (reads : Tree → V → Type 0) 
   }
 
   -- one that answered
-  pub read_answer : (answers : List (Answer (ℕ × V))) (next : ℕ) (x : Answer (ℕ × V)) → IsRead takes reads limit first answers next front
-      → Answered (HoldsExactly (takes_record takes)) (reads_record reads) limit 0 front rest used (Ok (Some x)) → IsRead takes reads limit first (answers ++ x ∷ []) (past next x) (front ++ take used rest)
+  pub read_answer : (answers : List (Answer (ℕ × V))) (next : ℕ) (x : Answer (ℕ × V)) → IsRead holds reads limit first answers next front
+      → Answered holds (reads_record reads) limit 0 front rest used (Ok (Some x)) → IsRead holds reads limit first (answers ++ x ∷ []) (past next x) (front ++ take used rest)
   read_answer answers next x g (a, says, push) = record {
     given = record {
       verdicts = g.given.verdicts ++ listed a;
@@ -57,48 +56,48 @@ module _ {V : Type 0} (takes : Tree → Type 0) (reads : Tree → V → Type 0) 
 
   -- either, and its answer was handed on
   pub read_on : {S : Type 0} {took : S → List (Answer (ℕ × V)) → S → Type 0} → VisitorLaws took → (answers more : List (Answer (ℕ × V))) (next later : ℕ) (r : Result (Option (Answer (ℕ × V))) NoMemory) (old mid new : S)
-      → took old more mid → IsRead takes reads limit first (answers ++ more) next front
-      → Answered (HoldsExactly (takes_record takes)) (reads_record reads) limit 0 front rest used r → HandsOn took r mid new next later
-      → (also : List (Answer (ℕ × V))) × took old also new × IsRead takes reads limit first (answers ++ also) later (front ++ take used rest)
+      → took old more mid → IsRead holds reads limit first (answers ++ more) next front
+      → Answered holds (reads_record reads) limit 0 front rest used r → HandsOn took r mid new next later
+      → (also : List (Answer (ℕ × V))) × took old also new × IsRead holds reads limit first (answers ++ also) later (front ++ take used rest)
   read_on {took} laws answers more next later (Ok None) old mid new before g h k = (
     more ++ [],
     laws.more old mid new more [] before k.0,
-    subst (λ z. IsRead takes reads limit first (answers ++ z) later (front ++ take used rest)) (sym (append-nil more))
-        (subst (λ n. IsRead takes reads limit first (answers ++ more) n (front ++ take used rest)) (sym k.1) (read_quiet (answers ++ more) next g h)),
+    subst (λ z. IsRead holds reads limit first (answers ++ z) later (front ++ take used rest)) (sym (append-nil more))
+        (subst (λ n. IsRead holds reads limit first (answers ++ more) n (front ++ take used rest)) (sym k.1) (read_quiet (answers ++ more) next g h)),
   )
   read_on {took} laws answers more next later (Ok (Some x)) old mid new before g h k = (
     more ++ x ∷ [],
     laws.more old mid new more (x ∷ []) before k.0,
-    subst (λ z. IsRead takes reads limit first z later (front ++ take used rest)) (append_assoc answers more (x ∷ []))
-        (subst (λ n. IsRead takes reads limit first ((answers ++ more) ++ x ∷ []) n (front ++ take used rest)) (sym k.1) (read_answer (answers ++ more) next x g h)),
+    subst (λ z. IsRead holds reads limit first z later (front ++ take used rest)) (append_assoc answers more (x ∷ []))
+        (subst (λ n. IsRead holds reads limit first ((answers ++ more) ++ x ∷ []) n (front ++ take used rest)) (sym k.1) (read_answer (answers ++ more) next x g h)),
   )
   read_on laws answers more next later (Err e) old mid new before g h k = absurd k
 
 -- nothing was heard yet
-pub heard_none : {S V : Type 0} {N : ℕ} {took : S → List (Answer (ℕ × V)) → S → Type 0} {takes : Tree → Type 0} {reads : Tree → V → Type 0} → VisitorLaws took → (first : ℕ) (visitor : S) (receiver : Reception (CobsDecoderHeapless N)) (answers : List (Answer (ℕ × V))) (next : ℕ) (stream : List ℕ)
-    → Hears takes reads first receiver answers next stream → HearsMore took takes reads first visitor visitor receiver answers next (stream ++ [])
-heard_none {takes} {reads} laws first visitor receiver answers next stream h = record {
+pub heard_none : {S V : Type 0} {N : ℕ} {took : S → List (Answer (ℕ × V)) → S → Type 0} {holds : List ℕ → Tree → Type 0} {reads : Tree → V → Type 0} → VisitorLaws took → (first : ℕ) (visitor : S) (receiver : Reception (CobsDecoderHeapless N)) (answers : List (Answer (ℕ × V))) (next : ℕ) (stream : List ℕ)
+    → Hears holds reads first receiver answers next stream → HearsMore took holds reads first visitor visitor receiver answers next (stream ++ [])
+heard_none {holds} {reads} laws first visitor receiver answers next stream h = record {
   more = [];
   handed = laws.nothing visitor;
-  hears = subst (λ z. Hears takes reads first receiver z next (stream ++ [])) (sym (append-nil answers)) (subst (λ z. Hears takes reads first receiver answers next z) (sym (append-nil stream)) h);
+  hears = subst (λ z. Hears holds reads first receiver z next (stream ++ [])) (sym (append-nil answers)) (subst (λ z. Hears holds reads first receiver answers next z) (sym (append-nil stream)) h);
 }
 
 -- at the start of a log
-pub heard_first : {S V : Type 0} {N : ℕ} {took : S → List (Answer (ℕ × V)) → S → Type 0} (takes : Tree → Type 0) (reads : Tree → V → Type 0) → VisitorLaws took → (first : ℕ) (visitor : S) (receiver : Reception (CobsDecoderHeapless N))
-    → IsBehind in_array N 0 receiver [] → HearsMore took takes reads first visitor visitor receiver [] first []
-heard_first takes reads laws first visitor receiver h = record {
+pub heard_first : {S V : Type 0} {N : ℕ} {took : S → List (Answer (ℕ × V)) → S → Type 0} (holds : List ℕ → Tree → Type 0) (reads : Tree → V → Type 0) → VisitorLaws took → (first : ℕ) (visitor : S) (receiver : Reception (CobsDecoderHeapless N))
+    → IsBehind in_array N 0 receiver [] → HearsMore took holds reads first visitor visitor receiver [] first []
+heard_first holds reads laws first visitor receiver h = record {
   more = [];
   handed = laws.nothing visitor;
   hears = record { after = h; read = record { given = record { verdicts = []; given = search rules; matching = tt }; next_is = refl } };
 }
 
 -- more was heard behind what was
-pub then_more : {S V : Type 0} {N : ℕ} {took : S → List (Answer (ℕ × V)) → S → Type 0} {takes : Tree → Type 0} {reads : Tree → V → Type 0} → VisitorLaws took → (first : ℕ) (old mid new : S) (receiver : Reception (CobsDecoderHeapless N)) (answers before : List (Answer (ℕ × V))) (next : ℕ) (stream : List ℕ)
-    → took old before mid → HearsMore took takes reads first mid new receiver (answers ++ before) next stream → HearsMore took takes reads first old new receiver answers next stream
-then_more {takes} {reads} laws first old mid new receiver answers before next stream b h = record {
+pub then_more : {S V : Type 0} {N : ℕ} {took : S → List (Answer (ℕ × V)) → S → Type 0} {holds : List ℕ → Tree → Type 0} {reads : Tree → V → Type 0} → VisitorLaws took → (first : ℕ) (old mid new : S) (receiver : Reception (CobsDecoderHeapless N)) (answers before : List (Answer (ℕ × V))) (next : ℕ) (stream : List ℕ)
+    → took old before mid → HearsMore took holds reads first mid new receiver (answers ++ before) next stream → HearsMore took holds reads first old new receiver answers next stream
+then_more {holds} {reads} laws first old mid new receiver answers before next stream b h = record {
   more = before ++ h.more;
   handed = laws.more old mid new before h.more b h.handed;
-  hears = subst (λ z. Hears takes reads first receiver z next stream) (append_assoc answers before h.more) h.hears;
+  hears = subst (λ z. Hears holds reads first receiver z next stream) (append_assoc answers before h.more) h.hears;
 }
 
 pub parts_on : (piece done rest : List ℕ) (used : ℕ) → piece ≡ done ++ rest → piece ≡ (done ++ take used rest) ++ drop used rest

@@ -6,7 +6,7 @@ use Rattle.std.proofs.lemmas.Bool.{le-ltb}
 use Rattle.std.proofs.lemmas.List.{append-nil}
 use Rattle.line_io.specs.Device.{Wrote}
 use Rattle.postcard_tree.specs.Tree.{Tree}
-use Rattle.link.specs.Stream.{Verdict, value, damaged, too_long, cut, HoldsExactly, Answers}
+use Rattle.link.specs.Stream.{Verdict, value, damaged, too_long, cut, Answers}
 use Rattle.link.specs.Run.{line}
 use Rattle.link.specs.Pushes.{Matches}
 use Rattle.link.specs.Roads.{values_of}
@@ -67,18 +67,18 @@ told_of None bytes P e h = cc
 told_of (Some x) bytes P e h = let same : x ≡ bytes = cc in subst P same h
 
 module _ {S V : Type 0} (took : S → List (Answer (ℕ × V)) → S → Type 0) (takes : Tree → Type 0) (reads : Tree → V → Type 0) (limit : ℕ)
-    (counts : CountsOn (takes_record takes) (HoldsExactly (takes_record takes)) limit 0) (append : Appends (HoldsExactly (takes_record takes)) limit 0) where
+    (holds : List ℕ → Tree → Type 0) (counts : CountsOn (takes_record takes) holds limit 0) (append : Appends holds limit 0) where
   pub opens_history : (old new : Option (List ℕ)) (before after settled : ℕ) (visitor later : S) (next : ℕ) (spent : Bool)
-      → IsOpened took takes reads limit 0 old new before after settled visitor later next spent → OpensHistory took takes reads limit old new visitor later next
+      → IsOpened took holds reads limit 0 old new before after settled visitor later next spent → OpensHistory took takes reads limit old new visitor later next
   opens_history old new before after settled visitor later next spent o any events framed is e =
       let log = line 0 (history 0 numbered any [] events) in
       let bytes : new ≡ Some (log ++ 0 ∷ []) = grown log new before after (subst (λ x. Wrote x new before after (0 ∷ [])) e o.wrote) o.quiet in
-      let told = told_of new (log ++ 0 ∷ []) (λ x. IsHanded took takes reads limit 0 visitor later next x) bytes o.read in
+      let told = told_of new (log ++ 0 ∷ []) (λ x. IsHanded took holds reads limit 0 visitor later next x) bytes o.read in
       let read = told.read in
       let vs = read.given.verdicts in
-      let whole : Answers (HoldsExactly (takes_record takes)) limit 0 (log ++ 0 ∷ []) vs =
-      subst (λ x. Answers (HoldsExactly (takes_record takes)) limit 0 x vs) (append-nil (log ++ 0 ∷ []))
-      ((append (log ++ 0 ∷ []) [] vs (inr (log, refl))).1 (vs, [], read.given.given, nothing (HoldsExactly (takes_record takes)) limit 0, sym (append-nil vs))) in
+      let whole : Answers holds limit 0 (log ++ 0 ∷ []) vs =
+      subst (λ x. Answers holds limit 0 x vs) (append-nil (log ++ 0 ∷ []))
+      ((append (log ++ 0 ∷ []) [] vs (inr (log, refl))).1 (vs, [], read.given.given, nothing holds limit 0, sym (append-nil vs))) in
       let c = counts numbered any events vs framed is whole in
       record {
         answers = told.answers;

@@ -12,17 +12,17 @@ pub loop-rest-preserved : goal.loop-rest-preserved
 loop-rest-preserved g c first stream answers h =
     let k = c.loop-rest.invariant first stream answers h in
     let rest = c.loop-rest.rest.now in
-    let used = c.push_strict-used.result.used in
+    let used = c.push-used.result.used in
     let step =
-    read_on g.T.Readable.takes g.T.Readable.reads g.row.N first (stream ++ k.0) rest used g.met.V.Visitor.laws answers k.2.more _ _ c.push_strict-used.result.answer _ _ _ k.2.handed k.2.hears.read
-    (c.push_strict-used.ensures.answers g.row.N 0 (stream ++ k.0) k.2.hears.after) c.in_ok-next.ensures.on in (
+    read_on g.J.Judging.holds g.T.Readable.reads g.row.N first (stream ++ k.0) rest used g.met.V.Visitor.laws answers k.2.more _ _ c.push-used.result.answer _ _ _ k.2.handed k.2.hears.read
+    (c.push-used.ensures.answers (stream ++ k.0) k.2.hears.after) c.in_ok-next.ensures.on in (
       k.0 ++ take used rest,
       parts_on c.args.piece.now k.0 rest used k.1 ∙ ap (λ x. (k.0 ++ take used rest) ++ x) (sym c.split_at.ensures.back),
       record {
         more = step.0;
         handed = step.1;
         hears = record {
-          after = subst (λ x. IsBehind in_array g.row.N 0 c.push_strict-used.new.self x) (append_assoc stream k.0 (take used rest)) (c.push_strict-used.ensures.stands g.row.N 0 (stream ++ k.0) k.2.hears.after);
+          after = subst (λ x. IsBehind in_array g.row.N 0 c.push-used.new.receiver x) (append_assoc stream k.0 (take used rest)) (c.push-used.ensures.stands (stream ++ k.0) k.2.hears.after);
           read = rw (sym (append_assoc stream k.0 (take used rest))) step.2;
         };
       },
