@@ -17,6 +17,7 @@
 mod framing;
 mod judging;
 mod log;
+mod numbers;
 mod reading;
 mod visitors;
 
