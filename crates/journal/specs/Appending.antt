@@ -53,9 +53,9 @@ Unless (Err Spent) P = P
 Unless (Err Full) P = P
 
 -- A log was opened: a zero was put behind what the store held; no crash takes any of that; and what is read of it was handed on.
-pub record IsOpened {S V : Type 0} (took : S → List (Answer (ℕ × V)) → S → Type 0) (takes : Tree → Type 0) (reads : Tree → V → Type 0) (limit first : ℕ) (old new : Option (List ℕ)) (before after settled : ℕ) (visitor later : S) (next : ℕ) (spent : Bool) : Type 0 where
+pub record IsOpened {S V : Type 0} (took : S → List (Answer (ℕ × V)) → S → Type 0) (holds : List ℕ → Tree → Type 0) (reads : Tree → V → Type 0) (limit first : ℕ) (old new : Option (List ℕ)) (before after settled : ℕ) (visitor later : S) (next : ℕ) (spent : Bool) : Type 0 where
   pub wrote : Wrote old new before after (0 ∷ [])
   pub quiet : after ≡ before
   pub settles : Settles new settled
-  pub read : IfSome new (λ bytes. IsHanded took takes reads limit first visitor later next bytes)
+  pub read : IfSome new (λ bytes. IsHanded took holds reads limit first visitor later next bytes)
   pub ready : spent ≡ false

@@ -1,7 +1,6 @@
 -- What is read of a log.
-use Rattle.std.specs.Prelude.{◌≡◌, ℕ, List, [], ◌∷◌, ◌++◌, Option, Some, None, Result, Ok, Err}
+use Rattle.std.specs.Prelude.{◌≡◌, ℕ, ◌+◌, ◌≤◌, List, [], ◌∷◌, ◌++◌, length, Option, Some, None, Result, Ok, Err}
 use Rattle.postcard_tree.specs.Tree.{Tree}
-use Rattle.link.specs.Stream.{HoldsExactly}
 use Rattle.link.specs.Listening.{HasGiven}
 use Rattle.cobs.specs.declared.dec.CobsDecoderHeapless.{CobsDecoderHeapless}
 use Rattle.link.specs.Decoding.{in_array}
@@ -9,39 +8,62 @@ use Rattle.link.specs.Receivers.{IsBehind}
 use Rattle.link.specs.declared.receiver.Answer.{Answer}
 use Rattle.link.specs.declared.receiver.NoMemory.{NoMemory}
 use Rattle.link.specs.declared.reception.Reception.{Reception}
+use Rattle.journal.specs.declared.numbers.Count.{Count}
 use Rattle.journal.specs.declared.reading.ReadError.{ReadError}
 use Rattle.journal.specs.declared.reading.ReadError.TheVariants.{Fault, Halted}
 use Rattle.journal.specs.declared.log.OpenError.{OpenError}
 use Rattle.journal.specs.declared.log.OpenError.TheVariants.{Line, Sync, Read}
-use Rattle.journal.specs.Records.{takes_record, reads_record, past, past_all}
+use Rattle.journal.specs.Records.{reads_record, past_all}
+use Rattle.journal.specs.Places.{Located, answers_in, AreLocatedIn, Numbering, numbered_from, believed, numbered_behind, all_believed, numbered_after}
 
--- these are the answers given of a log's bytes, strictly, and the number behind the greatest one, which is at least the first
-pub record IsRead {V : Type 0} (takes : Tree → Type 0) (reads : Tree → V → Type 0) (limit first : ℕ) (answers : List (Answer (ℕ × V))) (next : ℕ) (bytes : List ℕ) : Type 0 where
-  pub given : HasGiven (HoldsExactly (takes_record takes)) (reads_record reads) limit 0 answers bytes
+-- These are the answers to a log's bytes as they are handed on, by which trees a stretch holds: those that are given of the bytes,
+-- but for records whose numbers are further ahead than the bytes before them can account for, which are damaged. The next number is
+-- the one behind the greatest of those that are handed on, and at least the first; and at most as far behind it as there are bytes.
+pub record IsRead {V : Type 0} (holds : List ℕ → Tree → Type 0) (reads : Tree → V → Type 0) (limit first : ℕ) (answers : List (Answer (ℕ × V))) (next : ℕ) (bytes : List ℕ) : Type 0 where
+  pub located : List (Located V)
+  pub given : HasGiven holds (reads_record reads) limit 0 (answers_in located) bytes
+  pub places : AreLocatedIn holds reads limit bytes [] located
+  pub handed_on : answers ≡ all_believed (numbered_from first) located
   pub next_is : next ≡ past_all first answers
+  pub within : next ≤ first + length bytes
 
--- the same, and a receiver stands behind these bytes
-pub record Hears {V : Type 0} {N : ℕ} (takes : Tree → Type 0) (reads : Tree → V → Type 0) (first : ℕ) (receiver : Reception (CobsDecoderHeapless N)) (answers : List (Answer (ℕ × V))) (next : ℕ) (stream : List ℕ) : Type 0 where
+-- the same, with the numbers behind these bytes
+pub record IsReadTo {V : Type 0} (holds : List ℕ → Tree → Type 0) (reads : Tree → V → Type 0) (limit first : ℕ) (answers : List (Answer (ℕ × V))) (c : Numbering) (bytes : List ℕ) : Type 0 where
+  pub located : List (Located V)
+  pub given : HasGiven holds (reads_record reads) limit 0 (answers_in located) bytes
+  pub places : AreLocatedIn holds reads limit bytes [] located
+  pub handed_on : answers ≡ all_believed (numbered_from first) located
+  pub numbers : c ≡ numbered_after (numbered_from first) located
+  pub within : c.next ≤ first + c.through
+  pub so_far : c.through ≤ length bytes
+
+-- what is known of the numbers in a count
+abbrev pub numbering_of : Count → Numbering
+numbering_of count = record { next = count.next; through = count.through }
+
+-- the same, a receiver stands behind these bytes, and so many they are
+pub record Hears {V : Type 0} {N : ℕ} (holds : List ℕ → Tree → Type 0) (reads : Tree → V → Type 0) (first : ℕ) (receiver : Reception (CobsDecoderHeapless N)) (answers : List (Answer (ℕ × V))) (count : Count) (stream : List ℕ) : Type 0 where
   pub after : IsBehind in_array N 0 receiver stream
-  pub read : IsRead takes reads N first answers next stream
+  pub read : IsReadTo holds reads N first answers (numbering_of count) stream
+  pub heard : count.heard ≡ length stream
 
--- the answer of a push, where it has one, was handed on, and the number behind it is told
-abbrev pub HandsOn : {S V : Type 0} → (S → List (Answer (ℕ × V)) → S → Type 0) → Result (Option (Answer (ℕ × V))) NoMemory → S → S → ℕ → ℕ → Type 0
-HandsOn took (Ok None) old new next later = took old [] new × (later ≡ next)
-HandsOn took (Ok (Some a)) old new next later = took old (a ∷ []) new × (later ≡ past next a)
-HandsOn took (Err e) old new next later = ⊥
+-- the answer of a push, where it has one, was handed on as it is believed, and the numbers behind it are told
+abbrev pub HandsOn : {S V : Type 0} → (S → List (Answer (ℕ × V)) → S → Type 0) → Result (Option (Answer (ℕ × V))) NoMemory → ℕ → ℕ → S → S → Numbering → Numbering → Type 0
+HandsOn took (Ok None) before through old new c later = took old [] new × (later ≡ c)
+HandsOn took (Ok (Some a)) before through old new c later = took old (believed c before a ∷ []) new × (later ≡ numbered_behind c through (believed c before a))
+HandsOn took (Err e) before through old new c later = ⊥
 
--- more answers were handed on, and with those before them they are what a receiver that stands behind these bytes has given
-pub record HearsMore {S V : Type 0} {N : ℕ} (took : S → List (Answer (ℕ × V)) → S → Type 0) (takes : Tree → Type 0) (reads : Tree → V → Type 0) (first : ℕ) (old new : S) (receiver : Reception (CobsDecoderHeapless N)) (answers : List (Answer (ℕ × V))) (next : ℕ) (stream : List ℕ) : Type 0 where
+-- more answers were handed on, and with those before them they are what a receiver that stands behind these bytes has brought about
+pub record HearsMore {S V : Type 0} {N : ℕ} (took : S → List (Answer (ℕ × V)) → S → Type 0) (holds : List ℕ → Tree → Type 0) (reads : Tree → V → Type 0) (first : ℕ) (old new : S) (receiver : Reception (CobsDecoderHeapless N)) (answers : List (Answer (ℕ × V))) (count : Count) (stream : List ℕ) : Type 0 where
   pub more : List (Answer (ℕ × V))
   pub handed : took old more new
-  pub hears : Hears takes reads first receiver (answers ++ more) next stream
+  pub hears : Hears holds reads first receiver (answers ++ more) count stream
 
 -- what is read of a log was handed on
-pub record IsHanded {S V : Type 0} (took : S → List (Answer (ℕ × V)) → S → Type 0) (takes : Tree → Type 0) (reads : Tree → V → Type 0) (limit first : ℕ) (old new : S) (next : ℕ) (bytes : List ℕ) : Type 0 where
+pub record IsHanded {S V : Type 0} (took : S → List (Answer (ℕ × V)) → S → Type 0) (holds : List ℕ → Tree → Type 0) (reads : Tree → V → Type 0) (limit first : ℕ) (old new : S) (next : ℕ) (bytes : List ℕ) : Type 0 where
   pub answers : List (Answer (ℕ × V))
   pub handed : took old answers new
-  pub read : IsRead takes reads limit first answers next bytes
+  pub read : IsRead holds reads limit first answers next bytes
 
 -- a fact where a read failed
 abbrev pub OnFault : Result ℕ ReadError → Type 0 → Type 0

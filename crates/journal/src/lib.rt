@@ -15,11 +15,13 @@
 #![tactic(auto)]
 
 mod framing;
+mod judging;
 mod log;
+mod numbers;
 mod reading;
 mod visitors;
 
 pub use framing::frame_record;
 pub use log::{AppendError, Journal, OpenError, Unopened};
-pub use reading::{ReadError, read_all};
+pub use reading::{ReadError, read_all, read_all_ordinary};
 pub use visitors::{Halt, Listed, Unheard, Visitor};

@@ -1,15 +1,20 @@
 //! Appending to a log.
 ghost use Rattle.std.specs.Prelude.{◌≡◌, ℕ, ◌-◌, ◌^◌, ◌<◌, ◌≤◌, [], true, false, IfOk, IfErr, OnOk, OnErr};
 ghost use Rattle.line_io.specs.Transfers.{Failed};
+ghost use Rattle.postcard.specs.Frames.{Holds};
+ghost use Rattle.link.specs.Stream.{HoldsExactly};
 ghost use Rattle.link.specs.Listening.{ReceiverFitsInMemory};
 ghost use Rattle.stores.specs.Store.{Settles};
+ghost use Rattle.journal.specs.Records.{takes_record};
 ghost use Rattle.journal.specs.Reading.{HasCause};
 ghost use Rattle.journal.specs.Appending.{Appended, next_after, spent_after, OnLine, Unless, IsOpened};
 
 use crate::framing::frame_record;
-use crate::reading::{ReadError, read_all};
+use crate::judging::{Judging, Ordinary, Strict};
+use crate::reading::{ReadError, read_by};
 use crate::visitors::Visitor;
 use postcard::{DeserializeOwned, Exact, Serialize};
+use postcard_tree::Readable;
 use std::alloc::Global;
 use stores::{Store, SyncFault, put};
 use thiserror::Error;
@@ -68,11 +73,8 @@ pub struct Journal<S, const N: usize> {
 impl<S: Store, const N: usize> Journal<S, N> {
     ghost use Rattle.journal.specs.Logs.{store_of, next_of, spent_of};
 
-    /// Opens a log: puts a zero behind what is there, syncs, and hands what is read to the visitor. The first record of an empty
-    /// log gets the number `first`, any other one the number behind the greatest that was read, and at least `first`.
-    ///
-    /// At an error the store is handed back; it may have got the zero.
-    pub fn open<T: DeserializeOwned + Exact, V: Visitor<T>>(
+    // Puts a zero behind what is there, syncs, and reads, by a way of judging stretches.
+    fn open_by<T: Readable + Drop, J: Judging<T, N>, V: Visitor<T>>(
         alloc: Global,
         store: S,
         first: u64,
@@ -80,7 +82,7 @@ impl<S: Store, const N: usize> Journal<S, N> {
     ) -> Result<Journal<S, N>, Unopened<S>>
         requires some { 1 < N }
         requires fits { ReceiverFitsInMemory N.row }
-        ensures opened { IfOk result (λ j. IsOpened V.took T.takes T.reads N first (S.held store) (S.held (store_of j))
+        ensures opened { IfOk result (λ j. IsOpened V.took J.holds T.reads N first (S.held store) (S.held (store_of j))
             (S.faults store) (S.faults (store_of j)) (S.settled (store_of j)) visitor.old visitor.new (next_of j) (spent_of j)) }
         ensures cause { IfErr result (λ e. HasCause e.cause (Failed (S.faults store) (S.faults e.store) (S.calls_left e.store))) }
     {
@@ -97,7 +99,7 @@ impl<S: Store, const N: usize> Journal<S, N> {
                 store,
             });
         }
-        match read_all::<T, S, V, N>(alloc, &mut store, first, visitor) {
+        match read_by::<T, J, S, V, N>(alloc, &mut store, first, visitor) {
             Ok(next) => Ok(Journal {
                 store,
                 next,
@@ -109,6 +111,42 @@ impl<S: Store, const N: usize> Journal<S, N> {
                 store,
             }),
         }
+    }
+
+    /// Opens a log: puts a zero behind what is there, syncs, and hands what is read to the visitor. The first record of an empty
+    /// log gets the number `first`, any other one the number behind the greatest that was read, and at least `first`.
+    ///
+    /// At an error the store is handed back; it may have got the zero.
+    pub fn open<T: DeserializeOwned + Exact, V: Visitor<T>>(
+        alloc: Global,
+        store: S,
+        first: u64,
+        visitor: &mut V,
+    ) -> Result<Journal<S, N>, Unopened<S>>
+        requires some { 1 < N }
+        requires fits { ReceiverFitsInMemory N.row }
+        ensures opened { IfOk result (λ j. IsOpened V.took (HoldsExactly (takes_record T.takes)) T.reads N first (S.held store) (S.held (store_of j))
+            (S.faults store) (S.faults (store_of j)) (S.settled (store_of j)) visitor.old visitor.new (next_of j) (spent_of j)) }
+        ensures cause { IfErr result (λ e. HasCause e.cause (Failed (S.faults store) (S.faults e.store) (S.calls_left e.store))) }
+    {
+        Journal::<S, N>::open_by::<T, Strict, V>(alloc, store, first, visitor)
+    }
+
+    /// As `open`, but a stretch is a record where a front of its message is one in any spelling: also where a newer writer put
+    /// fields behind those that are known here. What is appended is spelled as ever.
+    pub fn open_ordinary<T: DeserializeOwned, V: Visitor<T>>(
+        alloc: Global,
+        store: S,
+        first: u64,
+        visitor: &mut V,
+    ) -> Result<Journal<S, N>, Unopened<S>>
+        requires some { 1 < N }
+        requires fits { ReceiverFitsInMemory N.row }
+        ensures opened { IfOk result (λ j. IsOpened V.took (Holds (takes_record T.takes)) T.reads N first (S.held store) (S.held (store_of j))
+            (S.faults store) (S.faults (store_of j)) (S.settled (store_of j)) visitor.old visitor.new (next_of j) (spent_of j)) }
+        ensures cause { IfErr result (λ e. HasCause e.cause (Failed (S.faults store) (S.faults e.store) (S.calls_left e.store))) }
+    {
+        Journal::<S, N>::open_by::<T, Ordinary, V>(alloc, store, first, visitor)
     }
 
     /// The number that the next record gets.

@@ -1,12 +1,12 @@
 -- What opening reads of a history.
-use Rattle.std.proofs.Common.{◌≡◌, ℕ, ◌+◌, ◌-◌, ◌<◌, ◌^◌, min, Bool, List, [], ◌∷◌, ◌++◌, length, Option, Some, None, refl, sym, ap, ◌∙◌, subst, inr, arith}
+use Rattle.std.proofs.Common.{◌≡◌, ℕ, ◌+◌, ◌-◌, ◌<◌, ◌≤◌, ◌^◌, min, Bool, List, [], ◌∷◌, ◌++◌, length, Option, Some, None, refl, sym, ap, ◌∙◌, subst, inr, arith}
 use Rattle.std.specs.Prelude.{IfSome}
 use Rattle.std.specs.List.{AllZip}
 use Rattle.std.proofs.lemmas.Bool.{le-ltb}
 use Rattle.std.proofs.lemmas.List.{append-nil}
 use Rattle.line_io.specs.Device.{Wrote}
 use Rattle.postcard_tree.specs.Tree.{Tree}
-use Rattle.link.specs.Stream.{Verdict, value, damaged, too_long, cut, HoldsExactly, Answers}
+use Rattle.link.specs.Stream.{Verdict, Answers}
 use Rattle.link.specs.Run.{line}
 use Rattle.link.specs.Pushes.{Matches}
 use Rattle.link.specs.Roads.{values_of}
@@ -14,6 +14,7 @@ use Rattle.link.specs.Laws.{Appends}
 use Rattle.link.specs.declared.receiver.Answer.{Answer}
 use Rattle.link.specs.declared.receiver.Answer.TheVariants.{Value, Damaged, TooLong, Cut}
 use Rattle.journal.specs.Records.{numbered, takes_record, reads_record, past, past_all}
+use Rattle.journal.specs.Places.{Located, answers_in, Numbering, numbered_from, furthest, believed, numbered_behind, all_believed}
 use Rattle.journal.specs.Reading.{IsHanded}
 use Rattle.journal.specs.Appending.{IsOpened}
 use Rattle.journal_laws.specs.Numbers.{Counted, history, CountsOn}
@@ -32,34 +33,77 @@ nothing holds limit s = record { done = []; each = tt; whole = rw (le-ltb limit 
 number_is : {V : Type 0} (reads : Tree → V → Type 0) (n : ℕ) (t v : Tree) (r : ℕ × V) → t ≡ numbered n v → reads_record reads t r → (r.0 ≡ n) × (n < 2 ^ 64)
 number_is reads n t v r e h = let k = subst (λ u. reads_record reads u r) e h in (k.0.1, k.0.2)
 
-past_value : {V : Type 0} (n : ℕ) (r : ℕ × V) → r.0 ≡ n → past (min n (2 ^ 64 - 1)) (Value r) ≡ min (n + 1) (2 ^ 64 - 1)
-past_value n r e = rw (le-ltb r.0 (min n (2 ^ 64 - 1)) (omega (arith, e))) (ap (λ m. min (m + 1) (2 ^ 64 - 1)) e)
+-- the most that a next number is
+abbrev most : ℕ
+most = 2 ^ 64 - 1
 
-next_counted : {V : Type 0} (reads : Tree → V → Type 0) (n : ℕ) (answers : List (Answer (ℕ × V))) (verdicts : List Verdict) → AllZip (Matches (reads_record reads)) answers verdicts
-    → Counted numbered n (values_of verdicts) → past_all (min n (2 ^ 64 - 1)) answers ≡ min (n + length (values_of verdicts)) (2 ^ 64 - 1)
-next_counted reads n [] [] z c = ap (λ m. min m (2 ^ 64 - 1)) (let e : n ≡ n + 0 = omega arith in e)
-next_counted reads n [] (v ∷ verdicts) z c = absurd z
-next_counted reads n (a ∷ answers) [] z c = absurd z
-next_counted reads n (Value r ∷ answers) (value t ∷ verdicts) z c =
-    let same : t ≡ z.0.0 = cc in
-    let is = number_is reads n t c.0.0 r c.0.1 (subst (λ u. reads_record reads u r) (sym same) z.0.1) in
-    ap (λ m. past_all m answers) (past_value n r is.0) ∙ next_counted reads (n + 1) answers verdicts z.1 c.1
-    ∙ ap (λ m. min m (2 ^ 64 - 1)) (let e : (n + 1) + length (values_of verdicts) ≡ n + length (values_of (value t ∷ verdicts)) = omega arith in e)
-next_counted reads n (Value r ∷ answers) (damaged ∷ verdicts) z c = absurd (cc)
-next_counted reads n (Value r ∷ answers) (too_long ∷ verdicts) z c = absurd (cc)
-next_counted reads n (Value r ∷ answers) (cut ∷ verdicts) z c = absurd (cc)
-next_counted reads n (Damaged ∷ answers) (value t ∷ verdicts) z c = absurd (cc)
-next_counted reads n (Damaged ∷ answers) (damaged ∷ verdicts) z c = next_counted reads n answers verdicts z.1 c
-next_counted reads n (Damaged ∷ answers) (too_long ∷ verdicts) z c = next_counted reads n answers verdicts z.1 c
-next_counted reads n (Damaged ∷ answers) (cut ∷ verdicts) z c = next_counted reads n answers verdicts z.1 c
-next_counted reads n (TooLong ∷ answers) (value t ∷ verdicts) z c = absurd (cc)
-next_counted reads n (TooLong ∷ answers) (damaged ∷ verdicts) z c = next_counted reads n answers verdicts z.1 c
-next_counted reads n (TooLong ∷ answers) (too_long ∷ verdicts) z c = next_counted reads n answers verdicts z.1 c
-next_counted reads n (TooLong ∷ answers) (cut ∷ verdicts) z c = next_counted reads n answers verdicts z.1 c
-next_counted reads n (Cut ∷ answers) (value t ∷ verdicts) z c = absurd (cc)
-next_counted reads n (Cut ∷ answers) (damaged ∷ verdicts) z c = next_counted reads n answers verdicts z.1 c
-next_counted reads n (Cut ∷ answers) (too_long ∷ verdicts) z c = next_counted reads n answers verdicts z.1 c
-next_counted reads n (Cut ∷ answers) (cut ∷ verdicts) z c = next_counted reads n answers verdicts z.1 c
+-- what one answer of a counted log does: it is handed on as it is, and moves the number by one where it is a record
+record GoesOnBy {V : Type 0} (n : ℕ) (c : Numbering) (before through : ℕ) (a : Answer (ℕ × V)) (v : Verdict) (vs : List Verdict) : Type 0 where
+  m : ℕ
+  same : believed c before a ≡ a
+  past_is : past c.next a ≡ min m most
+  next_is : (numbered_behind c through a).next ≡ min m most
+  counted : Counted numbered m (values_of vs)
+  long : n + length (values_of (v ∷ vs)) ≡ m + length (values_of vs)
+
+one_counted : {V : Type 0} (reads : Tree → V → Type 0) (n : ℕ) (c : Numbering) (before through : ℕ) (a : Answer (ℕ × V)) (v : Verdict) (vs : List Verdict)
+    → Matches (reads_record reads) a v → Counted numbered n (values_of (v ∷ vs)) → c.next ≡ min n most → GoesOnBy n c before through a v vs
+one_counted reads n c before through (Value r) v vs (t, h, e) k at =
+    let all = subst (λ u. Counted numbered n (values_of (u ∷ vs))) e k in
+    let is = number_is reads n t all.0.0 r all.0.1 h in
+    let number : r.0 ≡ n = is.0 in
+    let small : n < 2 ^ 64 = is.1 in
+    let next : c.next ≡ r.0 = omega (arith, at, number, small) in
+    let near : r.0 ≤ furthest c before = omega (arith, next) in
+    let not_less : c.next ≤ r.0 = omega (arith, next) in
+    record {
+      m = n + 1;
+      same = rw (le-ltb (furthest c before) r.0 near) refl;
+      past_is = rw (le-ltb r.0 c.next not_less) (ap (λ m. min (m + 1) most) number);
+      next_is = rw (le-ltb r.0 c.next not_less) (ap (λ m. min (m + 1) most) number);
+      counted = all.1;
+      long = ap (λ u. n + length (values_of (u ∷ vs))) e ∙ (let z : n + length (t ∷ values_of vs) ≡ (n + 1) + length (values_of vs) = omega arith in z);
+    }
+one_counted reads n c before through Damaged v vs e k at = record {
+  m = n;
+  same = refl;
+  past_is = at;
+  next_is = at;
+  counted = subst (λ u. Counted numbered n (values_of (u ∷ vs))) e k;
+  long = ap (λ u. n + length (values_of (u ∷ vs))) e;
+}
+one_counted reads n c before through TooLong v vs e k at = record {
+  m = n;
+  same = refl;
+  past_is = at;
+  next_is = at;
+  counted = subst (λ u. Counted numbered n (values_of (u ∷ vs))) e k;
+  long = ap (λ u. n + length (values_of (u ∷ vs))) e;
+}
+one_counted reads n c before through Cut v vs e k at = record {
+  m = n;
+  same = refl;
+  past_is = at;
+  next_is = at;
+  counted = subst (λ u. Counted numbered n (values_of (u ∷ vs))) e k;
+  long = ap (λ u. n + length (values_of (u ∷ vs))) e;
+}
+
+-- of a counted log all answers are handed on as they are
+all_counted : {V : Type 0} (reads : Tree → V → Type 0) (n : ℕ) (c : Numbering) (located : List (Located V)) (verdicts : List Verdict)
+    → AllZip (Matches (reads_record reads)) (answers_in located) verdicts → Counted numbered n (values_of verdicts) → c.next ≡ min n most
+    → (all_believed c located ≡ answers_in located) × (past_all c.next (all_believed c located) ≡ min (n + length (values_of verdicts)) most)
+all_counted reads n c [] [] z k at = (refl, at ∙ ap (λ m. min m most) (let e : n ≡ n + 0 = omega arith in e))
+all_counted reads n c [] (v ∷ verdicts) z k at = absurd z
+all_counted reads n c (p ∷ located) [] z k at = absurd z
+all_counted reads n c (p ∷ located) (v ∷ verdicts) z k at =
+    let o = one_counted reads n c p.before p.through p.answer v verdicts z.0 k at in
+    let later = numbered_behind c p.through (believed c p.before p.answer) in
+    let later_is : later.next ≡ min o.m most = ap (λ x. (numbered_behind c p.through x).next) o.same ∙ o.next_is in
+    let rest = all_counted reads o.m later located verdicts z.1 o.counted later_is in (
+      ap (λ x. x ∷ all_believed later located) o.same ∙ ap (λ x. p.answer ∷ x) rest.0,
+      ap (λ m. past_all m (all_believed later located)) (ap (past c.next) o.same ∙ o.past_is ∙ sym later_is) ∙ rest.1 ∙ ap (λ m. min m most) (sym o.long),
+    )
 
 -- what is said of the bytes where they are told
 told_of : (held : Option (List ℕ)) (bytes : List ℕ) (P : List ℕ → Type 0) → held ≡ Some bytes → IfSome held P → P bytes
@@ -67,26 +111,29 @@ told_of None bytes P e h = cc
 told_of (Some x) bytes P e h = let same : x ≡ bytes = cc in subst P same h
 
 module _ {S V : Type 0} (took : S → List (Answer (ℕ × V)) → S → Type 0) (takes : Tree → Type 0) (reads : Tree → V → Type 0) (limit : ℕ)
-    (counts : CountsOn (takes_record takes) (HoldsExactly (takes_record takes)) limit 0) (append : Appends (HoldsExactly (takes_record takes)) limit 0) where
+    (holds : List ℕ → Tree → Type 0) (counts : CountsOn (takes_record takes) holds limit 0) (append : Appends holds limit 0) where
   pub opens_history : (old new : Option (List ℕ)) (before after settled : ℕ) (visitor later : S) (next : ℕ) (spent : Bool)
-      → IsOpened took takes reads limit 0 old new before after settled visitor later next spent → OpensHistory took takes reads limit old new visitor later next
+      → IsOpened took holds reads limit 0 old new before after settled visitor later next spent → OpensHistory took takes reads limit old new visitor later next
   opens_history old new before after settled visitor later next spent o any events framed is e =
       let log = line 0 (history 0 numbered any [] events) in
       let bytes : new ≡ Some (log ++ 0 ∷ []) = grown log new before after (subst (λ x. Wrote x new before after (0 ∷ [])) e o.wrote) o.quiet in
-      let told = told_of new (log ++ 0 ∷ []) (λ x. IsHanded took takes reads limit 0 visitor later next x) bytes o.read in
+      let told = told_of new (log ++ 0 ∷ []) (λ x. IsHanded took holds reads limit 0 visitor later next x) bytes o.read in
       let read = told.read in
       let vs = read.given.verdicts in
-      let whole : Answers (HoldsExactly (takes_record takes)) limit 0 (log ++ 0 ∷ []) vs =
-      subst (λ x. Answers (HoldsExactly (takes_record takes)) limit 0 x vs) (append-nil (log ++ 0 ∷ []))
-      ((append (log ++ 0 ∷ []) [] vs (inr (log, refl))).1 (vs, [], read.given.given, nothing (HoldsExactly (takes_record takes)) limit 0, sym (append-nil vs))) in
+      let whole : Answers holds limit 0 (log ++ 0 ∷ []) vs =
+      subst (λ x. Answers holds limit 0 x vs) (append-nil (log ++ 0 ∷ []))
+      ((append (log ++ 0 ∷ []) [] vs (inr (log, refl))).1 (vs, [], read.given.given, nothing holds limit 0, sym (append-nil vs))) in
       let c = counts numbered any events vs framed is whole in
+      let all = all_counted reads 0 (numbered_from 0) read.located vs read.given.matching c.counted refl in
+      let same : told.answers ≡ answers_in read.located = read.handed_on ∙ all.0 in
       record {
         answers = told.answers;
         handed = told.handed;
         bytes = bytes;
         verdicts = vs;
-        matching = read.given.matching;
+        matching = subst (λ x. AllZip (Matches (reads_record reads)) x vs) (sym same) read.given.matching;
         are = c.are;
         counted = c.counted;
-        next_is = read.next_is ∙ next_counted reads 0 told.answers vs read.given.matching c.counted ∙ ap (λ n. min n (2 ^ 64 - 1)) ((let z : 0 + length (values_of vs) ≡ length (values_of vs) = omega arith in z) ∙ ap length c.are);
+        next_is =
+            read.next_is ∙ ap (past_all 0) read.handed_on ∙ all.1 ∙ ap (λ n. min n most) ((let z : 0 + length (values_of vs) ≡ length (values_of vs) = omega arith in z) ∙ ap length c.are);
       }

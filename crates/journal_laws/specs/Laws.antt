@@ -7,6 +7,7 @@ use Rattle.link.specs.Run.{Send, completed, IsRun, line}
 use Rattle.link.specs.Laws.{sentinels}
 use Rattle.link.specs.Roads.{values_of}
 use Rattle.link_laws.specs.Crashes.{tried, Among, LiesBetween, left}
+use Rattle.journal.specs.Places.{least_record}
 
 -- What a crash leaves of a history is the line of what is left of its run; and what is read of that and of whatever sessions come
 -- later: each record that was left whole, in order, and none that wasn't appended.
@@ -57,3 +58,7 @@ pub record LosesBetween (n m : ℕ) (ts : List Tree) (answers : List Verdict) : 
 abbrev pub LosesTouched : (Tree → Type 0) → (List ℕ → Tree → Type 0) → ℕ → ℕ → Type 0
 LosesTouched takes holds limit s = (ts : List Tree) (a x y b : List ℕ) (answers : List Verdict) → IsRun takes limit s (anew ts) → line s (anew ts) ≡ a ++ (x ++ b)
     → Answers holds limit s (a ++ (y ++ b)) answers → LosesBetween (sentinels s x + 1) (sentinels s y + 1) ts answers
+
+-- A stretch that holds a record takes, with its zero, at least the bytes that are counted for a record that may have been lost.
+abbrev pub TakesLeast : (List ℕ → Tree → Type 0) → Type 0
+TakesLeast holds = (stretch : List ℕ) (t : Tree) → holds stretch t → least_record ≤ length stretch + 1

@@ -31,6 +31,24 @@ pub fn open_history<T: DeserializeOwned + Exact, S: Store, V: Visitor<T>, const 
     }
 }
 
+/// As `open_history`, by `open_ordinary`: of the same history the same is read.
+pub fn open_history_ordinary<T: DeserializeOwned, S: Store, V: Visitor<T>, const N: usize>(
+    alloc: Global,
+    store: S,
+    visitor: &mut V,
+) -> Result<Journal<S, N>, Unopened<S>>
+    requires some { 1 < N }
+    requires fits { ReceiverFitsInMemory N.row }
+    ensures { IfOk result (λ j. OpensHistory V.took T.takes T.reads N (S.held store) (S.held (store_of j)) visitor.old visitor.new (next_of j)) }
+{
+    crate::laws::counts_on::<(u64, T)>();
+    link_laws::append::<(u64, T)>();
+    match Journal::<S, N>::open_ordinary::<T, V>(alloc, store, 0, visitor) {
+        Ok(journal) => Ok(journal),
+        Err(e) => Err(e),
+    }
+}
+
 /// Appends values in turn, up to the first that isn't appended.
 pub fn append_each<T: Lawful, S: Store, const N: usize>(
     journal: &mut Journal<S, N>,
@@ -47,6 +65,22 @@ pub fn append_each<T: Lawful, S: Store, const N: usize>(
     Ok(())
 }
 
+// Appends all of the values, or gives the journal up.
+fn append_all<T: Lawful, S: Store + Drop, const N: usize>(
+    journal: Journal<S, N>,
+    values: &[T],
+) -> Option<Journal<S, N>>
+    ensures all { IfSome result (λ j. AppendsAll T.takes T.writes N (next_of journal) (next_of j) (S.held (store_of journal)) (S.held (store_of j))
+        (S.faults (store_of journal)) (S.faults (store_of j)) values.now) }
+    ensures numbers { IfSome result (λ j. 0 < length values.now → next_of journal < 2 ^ 64 - 1) }
+{
+    let mut journal = journal;
+    match append_each(&mut journal, values) {
+        Ok(()) => Some(journal),
+        Err(_) => None,
+    }
+}
+
 /// Opens a log and appends values in turn. Where what the store held is what a history leaves, what it holds then is what that
 /// history leaves with this session behind it.
 pub fn session<
@@ -61,10 +95,25 @@ pub fn session<
 {
     crate::laws::bytes::<(u64, T)>();
     match open_history::<T, S, V, N>(alloc, store, visitor) {
-        Ok(mut journal) => match append_each(&mut journal, values) {
-            Ok(()) => Some(journal),
-            Err(_) => None,
-        },
+        Ok(journal) => append_all(journal, values),
+        Err(_) => None,
+    }
+}
+
+/// As `session`, by `open_ordinary`.
+pub fn session_ordinary<
+    T: DeserializeOwned + Lawful,
+    S: Store + Drop,
+    V: Visitor<T>,
+    const N: usize,
+>(alloc: Global, store: S, visitor: &mut V, values: &[T]) -> Option<Journal<S, N>>
+    requires some { 1 < N }
+    requires fits { ReceiverFitsInMemory N.row }
+    ensures { IfSome result (λ j. GoesOnFrom T.takes T.writes N (S.held store) (S.held (store_of j)) values.now) }
+{
+    crate::laws::bytes::<(u64, T)>();
+    match open_history_ordinary::<T, S, V, N>(alloc, store, visitor) {
+        Ok(journal) => append_all(journal, values),
         Err(_) => None,
     }
 }

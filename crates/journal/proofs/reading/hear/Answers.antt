@@ -1,32 +1,49 @@
-use Rattle.std.proofs.Common.{◌≡◌, ℕ, List, [], ◌∷◌, ◌++◌, length, take, refl, sym, ◌∙◌, ap, subst, append_assoc, arith, rules}
-use Rattle.std.proofs.lemmas.List.{append-nil}
+use Rattle.std.proofs.Common.{◌≡◌, ℕ, ◌+◌, ◌<◌, ◌≤◌, List, [], ◌∷◌, ◌++◌, length, take, refl, sym, ◌∙◌, ap, subst, append_assoc, arith, rules}
+use Rattle.std.proofs.lemmas.List.{append-nil, length-append, length-take, length-drop}
 use Rattle.link.specs.Decoding.{in_array}
 use Rattle.link.specs.Receivers.{IsBehind}
+use Rattle.journal.specs.Reading.{numbering_of, IsReadTo}
 use Rattle.journal.proofs.Hearing.{read_on, parts_on, heard_none}
 use Rattle.journal.proofs.reading.hear.Goals as goal
 
 pub loop-rest-init : goal.loop-rest-init
-loop-rest-init g c first stream answers h = ([], refl, heard_none g.met.V.Visitor.laws first _ _ answers _ stream h)
+loop-rest-init g c = record { heard = λ first stream answers h. ([], refl, heard_none g.met.V.Visitor.laws first _ _ answers _ stream h); on = refl }
 
 pub loop-rest-preserved : goal.loop-rest-preserved
-loop-rest-preserved g c first stream answers h =
-    let k = c.loop-rest.invariant first stream answers h in
+loop-rest-preserved g c =
     let rest = c.loop-rest.rest.now in
-    let used = c.push_strict-used.result.used in
-    let step =
-    read_on g.T.Readable.takes g.T.Readable.reads g.row.N first (stream ++ k.0) rest used g.met.V.Visitor.laws answers k.2.more _ _ c.push_strict-used.result.answer _ _ _ k.2.handed k.2.hears.read
-    (c.push_strict-used.ensures.answers g.row.N 0 (stream ++ k.0) k.2.hears.after) c.in_ok-next.ensures.on in (
-      k.0 ++ take used rest,
-      parts_on c.args.piece.now k.0 rest used k.1 ∙ ap (λ x. (k.0 ++ take used rest) ++ x) (sym c.split_at.ensures.back),
-      record {
-        more = step.0;
-        handed = step.1;
-        hears = record {
-          after = subst (λ x. IsBehind in_array g.row.N 0 c.push_strict-used.new.self x) (append_assoc stream k.0 (take used rest)) (c.push_strict-used.ensures.stands g.row.N 0 (stream ++ k.0) k.2.hears.after);
-          read = rw (sym (append_assoc stream k.0 (take used rest))) step.2;
-        };
-      },
-    )
+    let used = c.push-used.result.used in
+    let fits : used ≤ length rest = c.push-used.ensures.within in
+    let some : 0 < used = c.push-used.ensures.forward (search rules) in
+    let later = c.in_ok-count.count in
+    let left : length c.split_at.result.1.now + used ≡ length rest = omega (arith, fits, ap length c.split_at.ensures.back ∙ length-drop used rest) in
+    let heard_is : later.heard ≡ c.loop-rest.count.heard + used = c.in_ok-count.ensures.heard ∙ c.hear_on.ensures.heard in
+    record {
+      heard = λ first stream answers h. (
+          let k = c.loop-rest.invariant.heard first stream answers h in
+          let step =
+          read_on g.J.Judging.holds g.T.Readable.reads g.row.N first (stream ++ k.0) rest used g.met.V.Visitor.laws answers k.2.more (numbering_of c.hear_on.result) (numbering_of later) c.push-used.result.stretch c.hear_on.result.heard
+          c.push-used.result.answer _ _ _ k.2.handed (subst (λ n. IsReadTo g.J.Judging.holds g.T.Readable.reads g.row.N first (answers ++ k.2.more) n (stream ++ k.0)) (sym c.hear_on.ensures.numbers) k.2.hears.read)
+          (c.push-used.ensures.answers (stream ++ k.0) k.2.hears.after) (c.push-used.ensures.stretch (stream ++ k.0) k.2.hears.after) some fits (c.hear_on.ensures.heard ∙ ap (λ n. n + used) k.2.hears.heard)
+          c.in_ok-count.ensures.on in (
+            k.0 ++ take used rest,
+            parts_on c.args.piece.now k.0 rest used k.1 ∙ ap (λ x. (k.0 ++ take used rest) ++ x) (sym c.split_at.ensures.back),
+            record {
+              more = step.0;
+              handed = step.1;
+              hears = record {
+                after = subst (λ x. IsBehind in_array g.row.N 0 c.push-used.new.receiver x) (append_assoc stream k.0 (take used rest)) (c.push-used.ensures.stands (stream ++ k.0) k.2.hears.after);
+                read = rw (sym (append_assoc stream k.0 (take used rest))) step.2;
+                heard =
+                    let long = length-append (stream ++ k.0) (take used rest) in
+                    let all = ap length (append_assoc stream k.0 (take used rest)) in
+                    let part = length-take used rest in
+                    omega (arith, heard_is, k.2.hears.heard, long, all, part, fits);
+              };
+            },
+          ));
+      on = omega (arith, heard_is, left, c.loop-rest.invariant.on);
+    }
 
 -- nothing is left
 empty : (xs : List ℕ) → length xs ≡ 0 → xs ≡ []
@@ -35,6 +52,6 @@ empty (x ∷ xs) e = absurd (omega arith)
 
 pub returns-clause-heard : goal.returns-clause-heard
 returns-clause-heard g c first stream answers h =
-    let k = c.loop-rest.invariant first stream answers h in
+    let k = c.loop-rest.invariant.heard first stream answers h in
     let none : c.loop-rest.rest.now ≡ [] = empty c.loop-rest.rest.now (search rules) in
     rw (k.1 ∙ ap (λ x. k.0 ++ x) none ∙ append-nil k.0) k.2

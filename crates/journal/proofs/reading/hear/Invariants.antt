@@ -1,12 +1,15 @@
-use Rattle.std.proofs.Common.{◌≡◌, ℕ, List, ◌++◌, length}
+use Rattle.std.proofs.Common.{◌≡◌, ℕ, ◌+◌, List, ◌++◌, length}
 use Rattle.link.specs.declared.receiver.Answer.{Answer}
 use Rattle.journal.specs.Reading.{Hears, HearsMore}
 use Rattle.journal.proofs.reading.hear.Given as goal
 
 -- what is left of the piece, and that what came before it was heard
 abbrev pub invariant-loop-rest : goal.invariant-loop-rest
-invariant-loop-rest g l = (first : ℕ) (stream : List ℕ) (answers : List (Answer (ℕ × g.row.T.Denot))) → Hears g.T.Readable.takes g.T.Readable.reads first l.fn.receiver answers l.fn.next stream
-    → (done : List ℕ) × (l.fn.piece ≡ done ++ l.rest) × HearsMore g.V.Visitor.took g.T.Readable.takes g.T.Readable.reads first l.fn.visitor l.visitor l.receiver answers l.next (stream ++ done)
+invariant-loop-rest g l = record {
+  heard : (first : ℕ) (stream : List ℕ) (answers : List (Answer (ℕ × g.row.T.Denot))) → Hears g.J.Judging.holds g.T.Readable.reads first l.fn.receiver answers l.fn.count stream
+      → (done : List ℕ) × (l.fn.piece ≡ done ++ l.rest) × HearsMore g.V.Visitor.took g.J.Judging.holds g.T.Readable.reads first l.fn.visitor l.visitor l.receiver answers l.count (stream ++ done);
+  on : l.count.heard + length l.rest ≡ l.fn.count.heard + length l.fn.piece;
+}
 
 abbrev pub decreases-loop-rest : goal.decreases-loop-rest
 decreases-loop-rest g l = length l.rest

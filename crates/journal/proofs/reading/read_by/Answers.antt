@@ -1,0 +1,50 @@
+use Rattle.std.proofs.Common.{◌≡◌, ℕ, ◌+◌, ◌<◌, Some, List, [], ◌++◌, length, take, refl, sym, ap, subst, ◌∙◌, arith, rules}
+use Rattle.std.specs.Prelude.{IfSome}
+use Rattle.std.proofs.lemmas.List.{length-take}
+use Rattle.journal.specs.Reading.{HearsMore, IsHanded, numbering_of}
+use Rattle.journal.proofs.Hearing.{read_whole, reads_on, reads_all, reads_none, heard_first, then_more, no_fault, read_failed}
+use Rattle.journal.proofs.reading.read_by.Goals as goal
+
+pub loop-n-init : goal.loop-n-init
+loop-n-init g c = record {
+  held = refl;
+  settled = refl;
+  calls = omega arith;
+  quiet = refl;
+  heard = reads_none (g.S.Store.held c.args.store.now)
+      (λ stream. HearsMore g.V.Visitor.took g.J.Judging.holds g.T.Readable.reads c.args.first c.args.visitor.now c.args.visitor.now c.new-receiver.result [] (record { next = c.args.first; through = 0; heard = 0 }) stream)
+      (heard_first g.J.Judging.holds g.T.Readable.reads g.met.V.Visitor.laws c.args.first c.args.visitor.now c.new-receiver.result c.new-receiver.ensures.after);
+}
+
+pub loop-n-preserved : goal.loop-n-preserved
+loop-n-preserved g c = record {
+  held = c.read_at.ensures.held ∙ c.loop-n.invariant.held;
+  settled = c.read_at.ensures.settled ∙ c.loop-n.invariant.settled;
+  calls = omega (arith, c.read_at.ensures.calls, c.loop-n.invariant.calls);
+  quiet = no_fault _ _ _ _ _ c.in-Some.ensures.faults c.loop-n.invariant.quiet;
+  heard =
+      let took = g.V.Visitor.took in
+      let P : List ℕ → Type 0 = λ stream. HearsMore took g.J.Judging.holds g.T.Readable.reads c.args.first c.args.visitor.now c.loop-n.visitor c.loop-n.receiver [] c.loop-n.count stream in
+      let Q : List ℕ → Type 0 = λ stream. HearsMore took g.J.Judging.holds g.T.Readable.reads c.args.first c.args.visitor.now c.hear.new.visitor c.hear.new.receiver [] c.in_ok-count-in-Some.count stream in
+      let at = c.loop-n.count.heard in
+      let n = c.in-Some.n in
+      let room = c.read_at.new.room in
+      let part : length (take n room) ≡ n = length-take n room ∙ omega (arith, c.in-Some.ensures.bound) in
+      let on : c.in_ok-count-in-Some.count.heard ≡ at + n = c.in_ok-count-in-Some.ensures.on ∙ ap (λ x. at + x) part in
+      subst (λ m. IfSome (g.S.Store.held c.args.store.now) (λ bytes. Q (take m bytes))) (sym on)
+      (reads_on (g.S.Store.held c.args.store.now) c.read_at.new.room c.loop-n.count.heard c.in-Some.n P Q (c.in-Some.ensures.bound) (rw c.loop-n.invariant.held at c.in-Some.ensures.bytes) c.loop-n.invariant.heard
+      (λ stream h. then_more g.met.V.Visitor.laws c.args.first _ _ _ _ [] h.more _ (stream ++ take c.in-Some.n c.read_at.new.room) h.handed (c.in_ok-count-in-Some.ensures.heard c.args.first stream h.more h.hears)));
+}
+
+pub returns-in-None-clause-fault : goal.returns-in-None-clause-fault
+returns-in-None-clause-fault g c = read_failed _ _ _ _ _ c.in-None.ensures.faults c.in-None.ensures.calls c.loop-n.invariant.quiet
+
+pub returns-in-Some-eq0-clause-read : goal.returns-in-Some-eq0-clause-read
+returns-in-Some-eq0-clause-read g c =
+    let took = g.V.Visitor.took in
+    let P : List ℕ → Type 0 = λ stream. HearsMore took g.J.Judging.holds g.T.Readable.reads c.args.first c.args.visitor.now c.loop-n.visitor c.loop-n.receiver [] c.loop-n.count stream in
+    let Q : List ℕ → Type 0 = λ bytes. IsHanded took g.J.Judging.holds g.T.Readable.reads g.row.N c.args.first c.args.visitor.now c.loop-n.visitor c.loop-n.count.next bytes in
+    let room : 0 < length c.read_at.new.room = search rules in
+    let nothing : Some c.in-Some-eq0.field-0 ≡ Some 0 = cc in
+    reads_all (g.S.Store.held c.args.store.now) c.loop-n.count.heard P Q (rw c.loop-n.invariant.held at (c.in-Some-eq0.ensures.end nothing room)) c.loop-n.invariant.heard
+    (λ stream h. record { answers = h.more; handed = h.handed; read = read_whole g.J.Judging.holds g.T.Readable.reads g.row.N c.args.first h.more (numbering_of c.loop-n.count) stream h.hears.read })
