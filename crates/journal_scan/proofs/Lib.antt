@@ -1,2 +1,4 @@
 pub mod Walking
 pub mod Standing
+pub mod Gaps
+pub mod Stretches

@@ -1,9 +1,15 @@
-//! Going over a log stretch by stretch with the places of the stretches, and appending its records anew.
+//! Going over a log stretch by stretch with the places of the stretches, checking it, and appending its records anew.
 #![tactic(auto)]
 
+mod checking;
 pub mod laws;
 mod repairing;
 mod scanning;
+mod tallies;
+mod watching;
 
+pub use checking::{CheckError, Report, check};
 pub use repairing::{RepairError, repair};
 pub use scanning::{Scan, ScanError, Stretch};
+pub use tallies::{Gap, Tally};
+pub use watching::{Judge, Watcher};

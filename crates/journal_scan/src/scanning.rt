@@ -118,6 +118,7 @@ impl Scan {
     fn skip_zeros(&mut self)
         ensures stands { (limit : ℕ) (bytes : List ℕ) → IsScanning limit bytes self.old → IsScanning limit bytes self.new × (ended 0 (take self.new.at bytes) ≡ ended 0 (take self.old.at bytes)) }
         ensures past { self.new.past ≡ self.old.past }
+        ensures back { self.old.at ≤ self.new.at }
         ensures first { self.new.from ≡ self.new.at → (rest : List ℕ) → drop self.new.start (take self.new.end self.new.room.items) ≡ 0 ∷ rest → ⊥ }
     {
         if self.from < self.at {
@@ -139,6 +140,8 @@ impl Scan {
         requires within { self.old.past ≡ false }
         ensures goes { (limit : ℕ) (bytes : List ℕ) → IsScanning limit bytes self.old → Goes T.takes T.reads limit bytes self.old self.new result }
         ensures memory { IfErr result (λ e. e ≡ ScanError.NoMemory) }
+        ensures back { self.old.at ≤ self.new.at }
+        ensures on { IfOk result (λ o. IfSome o (λ _. self.old.at < self.new.at)) }
     {
         if self.start == self.end {
             return Ok(None);
@@ -181,6 +184,8 @@ impl Scan {
     // Passes a stretch that is too long, and answers it where its zero was read.
     fn pass<T: DeserializeOwned>(&mut self) -> Option<Stretch<T>>
         requires past { self.old.past ≡ true }
+        ensures back { self.old.at ≤ self.new.at }
+        ensures on { IfSome result (λ _. self.old.at < self.new.at) }
         ensures stands { (limit : ℕ) (bytes : List ℕ) → IsScanning limit bytes self.old → IsScanning limit bytes self.new × Found T.takes T.reads limit bytes self.old.at self.new.at result }
     {
         while self.start < self.end {
@@ -225,6 +230,8 @@ impl Scan {
     ) -> Result<Option<Stretch<T>>, ScanError>
         ensures goes { (limit : ℕ) (bytes : List ℕ) → IsScanning limit bytes self.old → Goes T.takes T.reads limit bytes self.old self.new result }
         ensures memory { IfErr result (λ e. e ≡ ScanError.NoMemory) }
+        ensures back { self.old.at ≤ self.new.at }
+        ensures on { IfOk result (λ o. IfSome o (λ _. self.old.at < self.new.at)) }
     {
         if self.past {
             return Ok(self.pass::<T>());
@@ -251,6 +258,7 @@ impl Scan {
     ) -> Result<Option<Stretch<T>>, ScanError>
         ensures stands { (limit : ℕ) (bytes : List ℕ) → S.held store.old ≡ Some bytes → IsScanning limit bytes self.old → IsScanning limit bytes self.new }
         ensures found { IfOk result (λ o. (limit : ℕ) (bytes : List ℕ) → S.held store.old ≡ Some bytes → IsScanning limit bytes self.old → FoundAll T.takes T.reads limit bytes (offset_of self.old) (offset_of self.new) o) }
+        ensures on { IfOk result (λ o. IfSome o (λ _. offset_of self.old < offset_of self.new)) }
         ensures held { S.held store.new ≡ S.held store.old }
         ensures settled { S.settled store.new ≡ S.settled store.old }
         ensures quiet { OnOk result (S.faults store.new ≡ S.faults store.old) }

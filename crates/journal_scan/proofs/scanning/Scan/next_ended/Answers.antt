@@ -26,6 +26,7 @@ returns-then-not-branch-clause-found g c limit bytes h s =
 
 pub loop-stretch-preserved : goal.loop-stretch-preserved
 loop-stretch-preserved g c = record {
+  back = omega (arith, c.loop-stretch.invariant.back, c.in_ok-stretch.ensures.back, c.in_ok-fill.ensures.at);
   held = c.in_ok-fill.ensures.held ∙ c.loop-stretch.invariant.held;
   settled = c.in_ok-fill.ensures.settled ∙ c.loop-stretch.invariant.settled;
   quiet = c.in_ok-fill.ensures.quiet ∙ c.loop-stretch.invariant.quiet;

@@ -1,4 +1,4 @@
-use Rattle.std.proofs.Common.{◌≡◌, ℕ, List, Some, take}
+use Rattle.std.proofs.Common.{◌≡◌, ◌≤◌, ℕ, List, Some, take}
 use Rattle.link.specs.Stream.{ended}
 use Rattle.journal_scan.specs.Scanning.{IsScanning, offset_of}
 use Rattle.journal_scan.proofs.scanning.Scan.next_ended.Given as goal
@@ -6,6 +6,7 @@ use Rattle.journal_scan.proofs.scanning.Scan.next_ended.Given as goal
 -- no stretch ended so far
 abbrev pub invariant-loop-stretch : goal.invariant-loop-stretch
 invariant-loop-stretch g l = record {
+  back : offset_of l.fn.self ≤ offset_of l.self;
   held : g.S.Store.held l.store ≡ g.S.Store.held l.fn.store;
   settled : g.S.Store.settled l.store ≡ g.S.Store.settled l.fn.store;
   quiet : g.S.Store.faults l.store ≡ g.S.Store.faults l.fn.store;

@@ -9,6 +9,7 @@ pub loop-self-preserved : goal.loop-self-preserved
 loop-self-preserved g c = record {
   past = c.loop-self.invariant.past;
   from = c.loop-self.invariant.from;
+  back = omega (arith, c.loop-self.invariant.back);
   stands = λ limit bytes s.
       let old = c.loop-self.invariant.stands limit bytes s in
       let me = c.loop-self.self in
@@ -22,6 +23,8 @@ loop-self-preserved g c = record {
 
 pub returns-then-byte-eq0 : goal.returns-then-byte-eq0
 returns-then-byte-eq0 g c = record {
+  back = omega (arith, c.loop-self.invariant.back);
+  on = omega (arith, c.loop-self.invariant.back);
   stands = λ limit bytes s.
       let old = c.loop-self.invariant.stands limit bytes s in
       let me = c.loop-self.self in

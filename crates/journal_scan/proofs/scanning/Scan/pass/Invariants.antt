@@ -1,4 +1,4 @@
-use Rattle.std.proofs.Common.{◌-◌, ◌≡◌, true, ℕ, List, take}
+use Rattle.std.proofs.Common.{◌-◌, ◌≡◌, ◌≤◌, true, ℕ, List, take}
 use Rattle.link.specs.Stream.{ended}
 use Rattle.journal_scan.specs.Scanning.{IsScanning}
 use Rattle.journal_scan.proofs.scanning.Scan.pass.Given as goal
@@ -8,6 +8,7 @@ abbrev pub invariant-loop-self : goal.invariant-loop-self
 invariant-loop-self g l = record {
   past : l.self.past ≡ true;
   from : l.self.from ≡ l.fn.self.from;
+  back : l.fn.self.at ≤ l.self.at;
   stands : (limit : ℕ) (bytes : List ℕ) → IsScanning limit bytes l.fn.self → IsScanning limit bytes l.self × (ended 0 (take l.self.at bytes) ≡ ended 0 (take l.fn.self.at bytes));
 }
 

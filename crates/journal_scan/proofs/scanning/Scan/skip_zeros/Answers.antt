@@ -7,6 +7,7 @@ pub loop-self-preserved : goal.loop-self-preserved
 loop-self-preserved c = record {
   past = c.loop-self.invariant.past;
   begin = omega arith;
+  back = omega (arith, c.loop-self.invariant.back);
   stands = λ limit bytes s.
       let old = c.loop-self.invariant.stands limit bytes s in
       let me = c.loop-self.self in

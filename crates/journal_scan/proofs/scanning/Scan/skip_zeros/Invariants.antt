@@ -8,6 +8,7 @@ abbrev pub invariant-loop-self : goal.invariant-loop-self
 invariant-loop-self l = record {
   past : l.self.past ≡ l.fn.self.past;
   begin : l.self.at ≤ l.self.from;
+  back : l.fn.self.at ≤ l.self.at;
   stands : (limit : ℕ) (bytes : List ℕ) → IsScanning limit bytes l.fn.self → IsScanning limit bytes l.self × (ended 0 (take l.self.at bytes) ≡ ended 0 (take l.fn.self.at bytes));
 }
 

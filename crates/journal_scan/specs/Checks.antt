@@ -1,0 +1,46 @@
+-- What a log's stretches are as a whole, and what checking it finds.
+use Rattle.std.specs.Prelude.{◌≡◌, ℕ, Bool, List, [], ◌∷◌, ◌++◌, length, map, if◌then◌else◌, Option, IfSome}
+use Rattle.std.specs.List.{AllZip}
+use Rattle.postcard_tree.specs.Tree.{Tree}
+use Rattle.link.specs.Stream.{ended, HoldsExactly}
+use Rattle.link.specs.declared.receiver.Answer.{Answer}
+use Rattle.link.specs.declared.receiver.Answer.TheVariants.{Value, Damaged, TooLong, Cut}
+use Rattle.journal.specs.Records.{takes_record, reads_record}
+use Rattle.journal_scan.specs.declared.scanning.Stretch.{Stretch}
+use Rattle.journal_scan.specs.declared.tallies.Tally.{Tally}
+use Rattle.journal_scan.specs.Scanning.{IsStretchAt, IsUnfinished}
+use Rattle.journal_scan.specs.Tallies.{IsTally}
+
+-- these stretches of a log are these bytes, one after another, each with its place and its answer, strictly
+abbrev pub StandAt : {V : Type 0} → (Tree → Type 0) → (Tree → V → Type 0) → ℕ → List ℕ → List (List ℕ) → List (Stretch V) → Type 0
+StandAt takes reads limit bytes ps stretches =
+    AllZip (λ p s. IsStretchAt (HoldsExactly (takes_record takes)) (reads_record reads) limit bytes p s.from s.to s.answer) ps stretches
+
+-- these are all the stretches of a log that zeros end, in order, each with its place and its answer
+abbrev pub AreStretches : {V : Type 0} → (Tree → Type 0) → (Tree → V → Type 0) → ℕ → List ℕ → List (Stretch V) → Type 0
+AreStretches takes reads limit bytes stretches = StandAt takes reads limit bytes (ended 0 bytes) stretches
+
+-- the record that an answer is, where it is one that counts
+abbrev pub record_in : {V : Type 0} → (ℕ → V → Bool) → Answer (ℕ × V) → List (ℕ × V)
+record_in counted (Value r) = if counted r.0 r.1 then r ∷ [] else []
+record_in counted Damaged = []
+record_in counted TooLong = []
+record_in counted Cut = []
+
+-- the records among stretches that count, in order
+abbrev pub records_in : {V : Type 0} → (ℕ → V → Bool) → List (Stretch V) → List (ℕ × V)
+records_in counted [] = []
+records_in counted (s ∷ stretches) = record_in counted s.answer ++ records_in counted stretches
+
+-- the numbers of records
+abbrev pub numbers_of : {V : Type 0} → List (ℕ × V) → List ℕ
+numbers_of records = map (λ r. r.0) records
+
+-- A log was checked: the watcher was told of all its stretches, in order; what is kept is the tally of the records among them that
+-- count; and the stretch that no zero ends is told.
+pub record IsChecked {V W : Type 0} (told : W → List (Stretch V) → W → Type 0) (counted : ℕ → V → Bool) (takes : Tree → Type 0) (reads : Tree → V → Type 0) (limit : ℕ) (held : Option (List ℕ)) (old new : W) (tally : Tally) (unfinished : Option (Stretch V)) : Type 0 where
+  pub stretches : List (Stretch V)
+  pub handed : told old stretches new
+  pub are : IfSome held (λ bytes. AreStretches takes reads limit bytes stretches)
+  pub tallied : IsTally (numbers_of (records_in counted stretches)) tally
+  pub rest : IfSome held (λ bytes. IsUnfinished limit bytes (length bytes) unfinished)

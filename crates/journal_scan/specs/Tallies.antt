@@ -1,0 +1,52 @@
+-- Which numbers were counted, and which are missing below the greatest of them.
+use Rattle.std.specs.Prelude.{◌≡◌, ◌↔◌, ◌⊎◌, ℕ, ◌+◌, ◌-◌, ◌^◌, ◌<◌, ◌≤◌, nat_lt, if◌then◌else◌, max, min, List, [], ◌∷◌, ◌++◌, length}
+use Rattle.std.specs.List.{Contains}
+use Rattle.journal_scan.specs.declared.tallies.Gap.{Gap}
+use Rattle.journal_scan.specs.declared.tallies.Tally.{Tally}
+
+-- the number behind the greatest of these, 2^64 - 1 at most; 0 where there are none
+abbrev pub behind_greatest : List ℕ → ℕ
+behind_greatest [] = 0
+behind_greatest (n ∷ ns) = max (min (n + 1) (2 ^ 64 - 1)) (behind_greatest ns)
+
+-- a number lies in one of these ranges
+abbrev pub LiesIn : List Gap → ℕ → Type 0
+LiesIn [] k = ⊥
+LiesIn (g ∷ gaps) k = ((g.first ≤ k) × (k ≤ g.last)) ⊎ LiesIn gaps k
+
+-- these ranges are in order from n on, none is empty, and a number stands between each and the next
+abbrev pub AreApart : ℕ → List Gap → Type 0
+AreApart n [] = Unit {0}
+AreApart n (g ∷ gaps) = (n ≤ g.first) × (g.first ≤ g.last) × AreApart (g.last + 2) gaps
+
+-- two behind the last number of such ranges, or n where there are none
+abbrev pub behind_ranges : ℕ → List Gap → ℕ
+behind_ranges n [] = n
+behind_ranges n (g ∷ gaps) = behind_ranges (g.last + 2) gaps
+
+-- the ranges are exactly the numbers below the one behind the greatest that aren't among these
+pub record AreMissing (numbers : List ℕ) (gaps : List Gap) : Type 0 where
+  pub missing : (k : ℕ) → LiesIn gaps k ↔ ((k < behind_greatest numbers) × (Contains numbers k → ⊥))
+  pub apart : AreApart 0 gaps
+
+-- What is kept of these numbers: the next one, the ranges that are missing below it, and how many they are. While a number is left,
+-- the ranges end before one that isn't missing.
+pub record Tallies (numbers : List ℕ) (next : ℕ) (gaps : List Gap) (count : ℕ) : Type 0 where
+  pub next_is : next ≡ behind_greatest numbers
+  pub missing : (k : ℕ) → LiesIn gaps k ↔ ((k < next) × (Contains numbers k → ⊥))
+  pub apart : AreApart 0 gaps
+  pub under : next < 2 ^ 64 - 1 → behind_ranges 0 gaps ≤ next
+  pub count_is : count ≡ min (length numbers) (2 ^ 64 - 1)
+
+-- a tally of these numbers
+abbrev pub IsTally : List ℕ → Tally → Type 0
+IsTally numbers tally = Tallies numbers tally.next tally.gaps.items tally.count
+
+-- the ranges that are left of one without a number in it
+abbrev pub gaps_without : Gap → ℕ → List Gap
+gaps_without g n = (if nat_lt g.first n then record { first = g.first; last = n - 1 } ∷ [] else [])
+    ++ (if nat_lt n g.last then record { first = n + 1; last = g.last } ∷ [] else [])
+
+-- the range of the numbers from the next one up to this one, where there are any
+abbrev pub gap_before : ℕ → ℕ → List Gap
+gap_before next n = if nat_lt next n then record { first = next; last = n - 1 } ∷ [] else []
