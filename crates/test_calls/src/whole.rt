@@ -1,6 +1,6 @@
 //! Whole exchanges: a call, a server and the reply, over lines that break off.
 //!
-//! The call 5 of 7 is 00 03 05 07 00 on its line, and so is its reply, since the first sum is 7.
+//! The call 5 of 7 is 00 03 05 07 00 on its line. Its reply, of the first sum, is the same message by another sentinel, as long.
 
 use crate::served::Adder;
 use calls_laws::exchange::{Called, Way, call_once, call_once_strict};
