@@ -324,11 +324,15 @@ fn a_long_vector(rt: HostRuntime) {
 fn counts_alone(rt: HostRuntime) {
     let greatest = [0xFF, 0xFF, 0xFF, 0xFF, 0xFF, 0xFF, 0xFF, 0xFF, 0xFF, 1];
     let too_great = [0xFF, 0xFF, 0xFF, 0xFF, 0xFF, 0xFF, 0xFF, 0xFF, 0xFF, 2];
+    // One element follows, and no allocator has room for as many as the count says: so it isn't asked for them.
+    let one_of_the_greatest = [0xFF, 0xFF, 0xFF, 0xFF, 0xFF, 0xFF, 0xFF, 0xFF, 0xFF, 1, 7];
     let end = Error::DeserializeUnexpectedEnd;
     check_all(
         &rt,
         [
             fails(read::<Vec<u8>>(rt.alloc(), &greatest), end),
+            fails(read::<Vec<u8>>(rt.alloc(), &one_of_the_greatest), end),
+            fails(read::<Vec<u16>>(rt.alloc(), &one_of_the_greatest), end),
             fails(
                 read::<Vec<u32>>(rt.alloc(), &[0xFF, 0x7F, 1, 2, 3, 4, 5, 6]),
                 end,
