@@ -11,9 +11,9 @@ use Rattle.cobs.specs.Pieces.{first_answer}
 use Rattle.cobs.specs.Reports.{report, frame_size}
 use Rattle.cobs.specs.Sentinel.{masked}
 use Rattle.cobs.specs.Whole.{unpadded, frame_in, decoded_from, decoded_into, reported, message_of_frame}
-use Rattle.cobs.specs.declared.dec.DecodeError.{DecodeError}
-use Rattle.cobs.specs.declared.dec.DecodeError.TheVariants.{EmptyFrame, InvalidFrame, TargetBufTooSmall}
-use Rattle.cobs.specs.declared.dec.DecodeReport.{DecodeReport}
+use Rattle.cobs.specs.declared.dec.report.DecodeError.{DecodeError}
+use Rattle.cobs.specs.declared.dec.report.DecodeError.TheVariants.{EmptyFrame, InvalidFrame, TargetBufTooSmall}
+use Rattle.cobs.specs.declared.dec.report.DecodeReport.{DecodeReport}
 use Rattle.cobs.proofs.Decoding.{Stretch, stretch_frame, frame_reads, frame_ends}
 use Rattle.cobs.proofs.Overwriting.{front}
 use Rattle.cobs.proofs.Passing.{refuses}
