@@ -1,9 +1,10 @@
 //! A source that is there as a whole, decoded into a vector of its own.
-ghost use Rattle.std.specs.Prelude.{◌≡◌, IfOk, MatchResult};
+ghost use Rattle.std.specs.Prelude.{◌≡◌, ◌≢◌, ℕ, List, [], IfOk, IfErr, MatchResult, ◌⊎◌};
 ghost use Rattle.cobs.specs.Frames.{Frame};
 ghost use Rattle.cobs.specs.InPlace.{stretch};
 ghost use Rattle.cobs.specs.Sentinel.{masked};
 ghost use Rattle.cobs.specs.Whole.{frame_in, message_of_stretch, message_of_frame, Refuses};
+ghost use Rattle.cobs.specs.declared.dec.report.DecodeVecError.TheVariants.{OutOfMemory};
 
 use super::in_place::decode_in_place_report_with_sentinel;
 use super::report::{DecodeError, DecodeVecError};
@@ -50,8 +51,23 @@ pub fn decode_vec(alloc: Global, source: &[u8]) -> Result<Vec<u8>, DecodeVecErro
     ensures answer { MatchResult result (λ v. message_of_frame (frame_in source.now) ≡ Ok v.items)
         (λ e. Refuses e (message_of_frame (frame_in source.now))) }
     ensures frame { IfOk result (λ v. Frame (frame_in source.now) v.items) }
+    ensures no_frame { IfErr result (λ e. (e ≡ OutOfMemory)
+        ⊎ ((m : List ℕ) → Frame (frame_in source.now) m → ⊥)) }
 {
     decode_first_vec(alloc, source)
+}
+
+// As `decode_vec_with_sentinel`.
+#[inline(always)]
+fn decode_stretch_vec(alloc: Global, source: &[u8], sentinel: u8) -> Result<Vec<u8>, DecodeVecError>
+    ensures { MatchResult result
+        (λ v. message_of_stretch (stretch (masked sentinel source.now)) ≡ Ok v.items)
+        (λ e. Refuses e (message_of_stretch (stretch (masked sentinel source.now)))) }
+{
+    let bytes = before(source, sentinel)
+        .to_vec(alloc)
+        .map_err(|_| DecodeVecError::OutOfMemory)?;
+    decode_vector(bytes, sentinel)
 }
 
 /// As `decode_with_sentinel` with room for every message, into a vector of its own.
@@ -62,12 +78,13 @@ pub fn decode_vec_with_sentinel(
     source: &[u8],
     sentinel: u8,
 ) -> Result<Vec<u8>, DecodeVecError>
-    ensures { MatchResult result
+    ensures answer { MatchResult result
         (λ v. message_of_stretch (stretch (masked sentinel source.now)) ≡ Ok v.items)
         (λ e. Refuses e (message_of_stretch (stretch (masked sentinel source.now)))) }
+    ensures frame { let p = stretch (masked sentinel source.now) in
+        IfOk result (λ v. p ≢ [] → Frame p v.items) }
+    ensures no_frame { IfErr result (λ e. (e ≡ OutOfMemory)
+        ⊎ ((m : List ℕ) → Frame (stretch (masked sentinel source.now)) m → ⊥)) }
 {
-    let bytes = before(source, sentinel)
-        .to_vec(alloc)
-        .map_err(|_| DecodeVecError::OutOfMemory)?;
-    decode_vector(bytes, sentinel)
+    decode_stretch_vec(alloc, source, sentinel)
 }
