@@ -9,6 +9,7 @@ ghost use Rattle.cobs.specs.Whole.{unpadded, frame_in, decoded_from, decoded_int
 use super::frames::{decode_counted, decode_whole};
 use super::progress::Progress;
 use super::report::{DecodeError, DecodeReport};
+use super::window::are_all;
 use crate::finding::before_sentinel;
 
 // The bytes before the first one that is the sentinel.
@@ -73,6 +74,10 @@ fn decode_first(source: &[u8], dest: &mut [u8]) -> Result<DecodeReport, DecodeEr
     let rest = behind_zeros(source);
     if rest.is_empty() {
         return Err(DecodeError::EmptyFrame);
+    }
+    // A row of zeros is filled as it is met: a search for the frame's end would pass over it once more.
+    if 256 <= rest.len() && rest[0] == 1 && are_all(1, &rest[..64]) {
+        return decode_pushed(source, dest);
     }
     let frame = before(rest, 0);
     if has_room(frame, dest.len()) {

@@ -79,7 +79,7 @@ pub(crate) fn copy_run(bytes: &[u8], buffer: &mut [u8], place: usize, sentinel: 
 
 // Whether 64 bytes are this one.
 #[inline(always)]
-fn are_all(byte: u8, bytes: &[u8]) -> bool
+pub(crate) fn are_all(byte: u8, bytes: &[u8]) -> bool
     requires { length bytes.now ≡ 64 }
     ensures { result ≡ true → (k : ℕ) → k < 64 → slice_index bytes.now k ≡ byte }
 {

@@ -1,4 +1,5 @@
 use Rattle.std.proofs.Common.{◌≡◌, ◌≤◌, List, ℕ, length, sym, ◌∙◌, ap, arith, subst}
+use Rattle.std.proofs.lemmas.List.{length-take-le}
 use Rattle.cobs.specs.Feeding.{at_zero}
 use Rattle.cobs.specs.Frames.{NoZero, part}
 use Rattle.cobs.specs.InPlace.{stretch, overwritten}
@@ -11,6 +12,12 @@ use Rattle.cobs.proofs.Short.{as_at_zero, zero_into}
 use Rattle.cobs.proofs.Sources.{stretch_clear}
 use Rattle.cobs.proofs.dec.whole.decode_first.Goals as goal
 use Rattle.cobs.proofs.dec.whole.decode_first.Goals.{After-before-frame, After-decode_whole}
+
+pub slice_bounds-are_all-end : goal.slice_bounds-are_all-end
+slice_bounds-are_all-end c = omega (arith, length-take-le 64 c.behind_zeros-rest.result.now (omega (arith, c.if-rest-ge256.true)))
+
+pub are_all-requires : goal.are_all-requires
+are_all-requires c = length-take-le 64 c.behind_zeros-rest.result.now (omega (arith, c.if-rest-ge256.true))
 
 one : (c : After-before-frame) → masked 0 c.before-frame.result.now ≡ stretch c.behind_zeros-rest.result.now
 one c = c.before-frame.ensures ∙ ap stretch (masked_zero c.behind_zeros-rest.result.now)
