@@ -9,8 +9,8 @@ ghost use Rattle.cobs.specs.Whole.{unpadded, frame_in, decoded_from, decoded_int
 use super::frames::{decode_counted, decode_whole};
 use super::progress::Progress;
 use super::report::{DecodeError, DecodeReport};
-use super::window::are_all;
 use crate::finding::before_sentinel;
+use crate::moves::are_all;
 
 // The bytes before the first one that is the sentinel.
 #[inline(always)]

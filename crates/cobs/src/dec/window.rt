@@ -7,9 +7,8 @@ ghost use Rattle.cobs.specs.Sentinel.{masked};
 
 use super::state::DecoderState;
 use crate::masks::copy_masked;
-use crate::moves::copy_over;
+use crate::moves::{are_all, copy_over};
 use memchr::memchr;
-use std::simd::prelude::*;
 
 // How many bytes are copied at once: what lies behind the code of a full block among them is of that block.
 pub(crate) const WINDOW: usize = 254;
@@ -75,18 +74,6 @@ pub(crate) fn copy_run(bytes: &[u8], buffer: &mut [u8], place: usize, sentinel: 
         buffer[place + i] = sentinel ^ *byte;
     }
     bytes.len()
-}
-
-// Whether 64 bytes are this one.
-#[inline(always)]
-pub(crate) fn are_all(byte: u8, bytes: &[u8]) -> bool
-    requires { length bytes.now ≡ 64 }
-    ensures { result ≡ true → (k : ℕ) → k < 64 → slice_index bytes.now k ≡ byte }
-{
-    u8x64::from_slice(bytes)
-        .simd_eq(u8x64::splat(byte))
-        .to_bitmask()
-        == u64::MAX
 }
 
 // How many bytes in front are this one, in steps of 64.
