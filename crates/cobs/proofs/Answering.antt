@@ -8,9 +8,9 @@ use Rattle.cobs.specs.Feeding.{at_zero, at_byte, frame_after}
 use Rattle.cobs.specs.Pieces.{first_answer, answered}
 use Rattle.cobs.specs.Reports.{report}
 use Rattle.cobs.specs.Whole.{unpadded, frame_in, reported, decoded_from, decoded_into, message_of_stretch}
-use Rattle.cobs.specs.declared.dec.DecodeReport.{DecodeReport}
-use Rattle.cobs.specs.declared.dec.DecodeError.{DecodeError}
-use Rattle.cobs.specs.declared.dec.DecodeError.TheVariants.{InvalidFrame, TargetBufTooSmall}
+use Rattle.cobs.specs.declared.dec.report.DecodeReport.{DecodeReport}
+use Rattle.cobs.specs.declared.dec.report.DecodeError.{DecodeError}
+use Rattle.cobs.specs.declared.dec.report.DecodeError.TheVariants.{InvalidFrame, TargetBufTooSmall}
 use Rattle.cobs.specs.DecodingLaws.{refusal}
 use Rattle.cobs.proofs.Decoding.{Stretch, frame_reads, frame_ends, stretch_frame}
 use Rattle.cobs.proofs.Feeds.{frame_byte, answer_byte}

@@ -3,8 +3,8 @@ use Rattle.std.proofs.Common.{◌≡◌, ℕ, ◌+◌, List, [], ◌∷◌, ◌+
 use Rattle.cobs.specs.Feeding.{answer_of, frame_after, placed}
 use Rattle.cobs.specs.Pieces.{answered, ended, first_answer, frame_left, buffer_left}
 use Rattle.cobs.specs.DecodingLaws.{Outcome, pushed, moved, or_later, pushed_in_turn, joined_up}
-use Rattle.cobs.specs.declared.dec.DecodeReport.{DecodeReport}
-use Rattle.cobs.specs.declared.dec.DecodeError.{DecodeError}
+use Rattle.cobs.specs.declared.dec.report.DecodeReport.{DecodeReport}
+use Rattle.cobs.specs.declared.dec.report.DecodeError.{DecodeError}
 
 -- the answer counts from where the piece begins
 moved_answer : (a : Result (Option ℕ) DecodeError) (earlier used : ℕ) (later later' : Result (Option DecodeReport) DecodeError) → later ≡ moved earlier later' → answered a (earlier + used) later ≡ moved earlier (answered a used later')

@@ -88,10 +88,10 @@ going_on before code_before from bytes dest code zeros n others few set_ below r
     }
 
 -- a mask without a gap
-pub same_of : (byte : ℕ) (bytes : List ℕ) → length bytes ≡ 64 → mask_l (map (λ x. eqb x byte) bytes) ≡ 2 ^ 64 - 1 → (k : ℕ) → k < 64 → get_or bytes k 0 ≡ byte
-same_of byte bytes long full k l =
+pub same_of : (n byte : ℕ) (bytes : List ℕ) → length bytes ≡ n → mask_l (map (λ x. eqb x byte) bytes) ≡ 2 ^ n - 1 → (k : ℕ) → k < n → get_or bytes k 0 ≡ byte
+same_of n byte bytes long full k l =
     let ms : List Bool = map (λ x. eqb x byte) bytes in
-    let bit : bit_at (mask_l ms) k ≡ 1 = ap (λ x. bit_at x k) full ∙ bit_at_ones 64 k l in
+    let bit : bit_at (mask_l ms) k ≡ 1 = ap (λ x. bit_at x k) full ∙ bit_at_ones n k l in
     let set : get_or ms k false ≡ true = is_one _ (sym (bit_mask_l ms k) ∙ bit) in
     eqb-true _ _ (sym (get_or-map (λ x. eqb x byte) bytes k 0 false (omega (arith, l, long))) ∙ set)
 
@@ -183,11 +183,11 @@ lesser_lane a b k e l =
     let both = lesser_one (ltb (get_or a k 0) (get_or b k 0)) (get_or a k 0) (get_or b k 0) refl in
     (omega (arith, lane, both.0), omega (arith, lane, both.1))
 
--- four vectors of which the least lanes aren't zero
-pub all_clear : (bytes least : List ℕ) → length bytes ≡ 64 → length least ≡ 16 → mask_l (map (λ x. eqb x 0) least) ≡ 0
+-- four vectors of which the least lanes are no less than a number
+pub all_above : (n : ℕ) (bytes least : List ℕ) → length bytes ≡ 64 → ((j : ℕ) → j < 16 → n ≤ get_or least j 0)
     → ((j : ℕ) → j < 16 → (get_or least j 0 ≤ get_or (take 16 (drop 0 bytes)) j 0) × (get_or least j 0 ≤ get_or (take 16 (drop 16 bytes)) j 0) × (get_or least j 0 ≤ get_or (take 16 (drop 32 bytes)) j 0) × (get_or least j 0 ≤ get_or (take 16 (drop 48 bytes)) j 0))
-    → (k : ℕ) → k < 64 → 0 < get_or bytes k 0
-all_clear bytes least long few e h k l = elim (cases_lt k 16) [
+    → (k : ℕ) → k < 64 → n ≤ get_or bytes k 0
+all_above n bytes least long some h k l = elim (cases_lt k 16) [
   | inl a ↦ omega (arith, some (k - 0) (omega arith), (h (k - 0) (omega arith)).0, lane 0 (k - 0) (omega arith), same 0 k (omega arith))
   | inr a ↦ elim (cases_lt k 32) [
     | inl b ↦ omega (arith, some (k - 16) (omega arith), (h (k - 16) (omega arith)).1, lane 16 (k - 16) (omega arith), same 16 k a)
@@ -198,11 +198,14 @@ all_clear bytes least long few e h k l = elim (cases_lt k 16) [
   ]
 ]
   where
-    some : (j : ℕ) → j < 16 → 0 < get_or least j 0
-    some j q = none_marked least e j (omega (arith, few, q))
-
     lane : (at j : ℕ) → j < 16 → get_or (take 16 (drop at bytes)) j 0 ≡ get_or bytes (at + j) 0
     lane at j q = get_or-take 16 (drop at bytes) j 0 q ∙ get_or-drop at bytes j 0
 
     same : (at i : ℕ) → at ≤ i → get_or bytes (at + (i - at)) 0 ≡ get_or bytes i 0
     same at i q = ap (λ j. get_or bytes j 0) (omega (arith, q))
+
+-- four vectors of which the least lanes aren't zero
+pub all_clear : (bytes least : List ℕ) → length bytes ≡ 64 → length least ≡ 16 → mask_l (map (λ x. eqb x 0) least) ≡ 0
+    → ((j : ℕ) → j < 16 → (get_or least j 0 ≤ get_or (take 16 (drop 0 bytes)) j 0) × (get_or least j 0 ≤ get_or (take 16 (drop 16 bytes)) j 0) × (get_or least j 0 ≤ get_or (take 16 (drop 32 bytes)) j 0) × (get_or least j 0 ≤ get_or (take 16 (drop 48 bytes)) j 0))
+    → (k : ℕ) → k < 64 → 0 < get_or bytes k 0
+all_clear bytes least long few e h k l = omega (arith, all_above 1 bytes least long (λ j q. omega (arith, none_marked least e j (omega (arith, few, q)))) h k l)

@@ -2,7 +2,7 @@
 use Rattle.std.proofs.Common.{◌≡◌, ◌≢◌, ℕ, zero, suc, replicate, ◌+◌, ◌<◌, List, [], ◌∷◌, ◌++◌, length, take, drop, set, get_or, map, refl, sym, ◌∙◌, ap, arith, append_assoc}
 use Rattle.std.proofs.lemmas.List.{drop_more, set_at, get_or_at, get_or-map, map_more, map-append, map-set, take-map, drop-map, length-map, length-take-le}
 use Rattle.std.specs.Prelude.{bit_xor}
-use Rattle.std.specs.Int.Bits.{xor_assoc, xor_self}
+use Rattle.std.specs.Int.Bits.{xor_assoc, xor_self, xor_zero_r}
 use Rattle.std.specs.List.{AllByRecursion}
 use borrow.Rule.Slice.PartMut.{put_mid}
 use Rattle.cobs.specs.Frames.{NoZero}
@@ -97,6 +97,12 @@ front_masked s bytes code_at len h = sym (ap (masked s) (h.is ∙ masked_take s 
 -- only zero becomes the sentinel
 becomes_sentinel : (sentinel byte : ℕ) → bit_xor sentinel byte ≡ sentinel → byte ≡ 0
 becomes_sentinel s b e = ap (λ z. bit_xor z b) (sym (xor_self s)) ∙ xor_assoc s s b ∙ ap (bit_xor s) e ∙ xor_self s
+
+-- a byte that gives 255 with all bits of another turned is that one
+pub as_turned : (byte x : ℕ) → bit_xor (bit_xor byte 255) x ≡ 255 → x ≡ byte
+as_turned byte x e =
+    sym (xor_twice (bit_xor byte 255) x) ∙ ap (bit_xor (bit_xor byte 255)) e
+    ∙ xor_assoc byte 255 255 ∙ ap (bit_xor byte) (xor_self 255) ∙ xor_zero_r byte
 
 pub none_is_sentinel : (sentinel : ℕ) (bytes : List ℕ) → NoZero bytes → AllByRecursion (λ b. b ≢ sentinel) (masked sentinel bytes)
 none_is_sentinel s [] h = tt

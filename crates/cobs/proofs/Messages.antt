@@ -8,10 +8,10 @@ use Rattle.cobs.specs.Feeding.{told_by, listed, fed, standing, at_zero, answer_o
 use Rattle.cobs.specs.Pieces.{answered, ended, first_answer, frame_left, frame_met, buffer_left}
 use Rattle.cobs.specs.Reports.{report, frame_size}
 use Rattle.cobs.specs.Streaming.{Decoded}
-use Rattle.cobs.specs.declared.dec.DecodeError.{DecodeError}
-use Rattle.cobs.specs.declared.dec.DecodeError.TheVariants.{InvalidFrame, TargetBufTooSmall}
-use Rattle.cobs.specs.declared.dec.DecodeReport.{DecodeReport}
-use Rattle.cobs.specs.declared.dec.DecodeResult.TheVariants.{DataComplete}
+use Rattle.cobs.specs.declared.dec.report.DecodeError.{DecodeError}
+use Rattle.cobs.specs.declared.dec.report.DecodeError.TheVariants.{InvalidFrame, TargetBufTooSmall}
+use Rattle.cobs.specs.declared.dec.report.DecodeReport.{DecodeReport}
+use Rattle.cobs.specs.declared.dec.state.DecodeResult.TheVariants.{DataComplete}
 use Rattle.cobs.proofs.Feeds.{part_told, frame_byte, answer_byte, fed_zero}
 
 length-stored : (told : Option ℕ) (place : ℕ) (buffer : List ℕ) → length (stored told place buffer) ≡ length buffer

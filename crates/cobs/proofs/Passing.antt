@@ -6,7 +6,7 @@ use Rattle.cobs.specs.Frames.{NoZero, part, part_from, after}
 use Rattle.cobs.specs.Feeding.{answer_of, frame_after, placed}
 use Rattle.cobs.specs.Pieces.{answered, ended, first_answer, frame_left, buffer_left}
 use Rattle.cobs.specs.InPlace.{overwritten}
-use Rattle.cobs.specs.declared.dec.DecodeError.TheVariants.{TargetBufTooSmall}
+use Rattle.cobs.specs.declared.dec.report.DecodeError.TheVariants.{TargetBufTooSmall}
 use Rattle.cobs.proofs.Decoding.{part_append}
 use Rattle.cobs.proofs.Feeds.{frame_byte, answer_byte}
 use Rattle.cobs.proofs.Overwriting.{placed_on, overwritten_long}

@@ -10,9 +10,9 @@ use Rattle.cobs.specs.InPlace.{stretch, overwritten}
 use Rattle.cobs.specs.Reports.{report, parsed_size, frame_size}
 use Rattle.cobs.specs.Whole.{unpadded, frame_in, reported, decoded_from}
 use Rattle.cobs.specs.DecodingLaws.{moved}
-use Rattle.cobs.specs.declared.dec.DecodeReport.{DecodeReport}
-use Rattle.cobs.specs.declared.dec.DecodeError.{DecodeError}
-use Rattle.cobs.specs.declared.dec.DecodeError.TheVariants.{EmptyFrame, InvalidFrame, TargetBufTooSmall}
+use Rattle.cobs.specs.declared.dec.report.DecodeReport.{DecodeReport}
+use Rattle.cobs.specs.declared.dec.report.DecodeError.{DecodeError}
+use Rattle.cobs.specs.declared.dec.report.DecodeError.TheVariants.{EmptyFrame, InvalidFrame, TargetBufTooSmall}
 use Rattle.cobs.proofs.Cuts.{first_moved}
 use Rattle.cobs.proofs.Messages.{placed_zero}
 use Rattle.cobs.proofs.Passing.{passes, all_placed, placed_over, refuses}

@@ -11,11 +11,11 @@ use Rattle.cobs.specs.Sentinel.{masked}
 use Rattle.cobs.specs.Streaming.{Stands}
 use Rattle.cobs.specs.Taking.{left_in, TakesFront}
 use Rattle.cobs.specs.Whole.{decoded_into}
-use Rattle.cobs.specs.declared.dec.DecodeError.{DecodeError}
-use Rattle.cobs.specs.declared.dec.DecodeError.TheVariants.{InvalidFrame}
-use Rattle.cobs.specs.declared.dec.DecoderState.{DecoderState}
-use Rattle.cobs.specs.declared.dec.DecoderState.TheVariants.{GrabChain}
-use Rattle.cobs.specs.declared.dec.Progress.{Progress}
+use Rattle.cobs.specs.declared.dec.report.DecodeError.{DecodeError}
+use Rattle.cobs.specs.declared.dec.report.DecodeError.TheVariants.{InvalidFrame}
+use Rattle.cobs.specs.declared.dec.state.DecoderState.{DecoderState}
+use Rattle.cobs.specs.declared.dec.state.DecoderState.TheVariants.{GrabChain}
+use Rattle.cobs.specs.declared.dec.progress.Progress.{Progress}
 use Rattle.cobs.proofs.Decoding.{part_shorter}
 use Rattle.cobs.proofs.Masking.{masked_length, masked_drop}
 use Rattle.cobs.proofs.Overwriting.{overwritten_short, placed_on, length-overwritten}

@@ -8,9 +8,9 @@ use Rattle.cobs.specs.Reports.{parsed_size, frame_size}
 use Rattle.cobs.specs.Sentinel.{masked}
 use Rattle.cobs.specs.Streaming.{Stands}
 use Rattle.cobs.specs.Taking.{TakesByte, TakesPiece}
-use Rattle.cobs.specs.declared.dec.DecodeError.{DecodeError}
-use Rattle.cobs.specs.declared.dec.DecodeReport.{DecodeReport}
-use Rattle.cobs.specs.declared.dec.Progress.{Progress}
+use Rattle.cobs.specs.declared.dec.report.DecodeError.{DecodeError}
+use Rattle.cobs.specs.declared.dec.report.DecodeReport.{DecodeReport}
+use Rattle.cobs.specs.declared.dec.progress.Progress.{Progress}
 use Rattle.cobs.proofs.Feeds.{frame_byte, answer_byte}
 use Rattle.cobs.proofs.Masking.{masked_zero}
 use Rattle.cobs.proofs.Messages.{decoded_next, decoded_left, placed_zero, message_here, message_met}

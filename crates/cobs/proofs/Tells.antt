@@ -5,9 +5,9 @@ use Rattle.std.proofs.lemmas.Bool.{ne_eqb}
 use Rattle.cobs.specs.Frames.{NoZero, block, IsRun, gap, AreRuns, spelled, joined, Frame}
 use Rattle.cobs.specs.Feeding.{fed, stands_by}
 use Rattle.cobs.specs.DecodingLaws.{data_from, state_from}
-use Rattle.cobs.specs.declared.dec.DecoderState.{DecoderState}
-use Rattle.cobs.specs.declared.dec.DecoderState.TheVariants.{Idle}
-use Rattle.cobs.specs.declared.dec.DecodeResult.TheVariants.{DataComplete}
+use Rattle.cobs.specs.declared.dec.state.DecoderState.{DecoderState}
+use Rattle.cobs.specs.declared.dec.state.DecoderState.TheVariants.{Idle}
+use Rattle.cobs.specs.declared.dec.state.DecodeResult.TheVariants.{DataComplete}
 use Rattle.cobs.proofs.Decoding.{owes, zero_owed}
 use Rattle.cobs.proofs.Feeds.{code_stands}
 

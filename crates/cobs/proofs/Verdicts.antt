@@ -3,17 +3,19 @@ use Rattle.std.proofs.Common.{◌≡◌, ◌≢◌, ℕ, zero, suc, ◌+◌, ◌
 use Rattle.std.proofs.lemmas.Bool.{eq-eqb, ne_eqb, le-ltb, lt-ltb, cases_lt}
 use Rattle.std.proofs.lemmas.Bool.Decides.{eqb_tells}
 use Rattle.std.proofs.lemmas.Nat.{xor_of_8}
-use Rattle.std.specs.Prelude.{min, IfOk, OnErr, MatchResult}
+use Rattle.std.specs.Prelude.{min, IfOk, IfErr, OnErr, MatchResult, ◌⊎◌}
 use Rattle.cobs.specs.Frames.{Frame, part, missing, spelled}
 use Rattle.cobs.specs.Feeding.{at_zero}
 use Rattle.cobs.specs.InPlace.{stretch, overwritten}
 use Rattle.cobs.specs.Pieces.{first_answer}
 use Rattle.cobs.specs.Reports.{report, frame_size}
 use Rattle.cobs.specs.Sentinel.{masked}
-use Rattle.cobs.specs.Whole.{unpadded, frame_in, decoded_from, decoded_into, reported, message_of_frame}
-use Rattle.cobs.specs.declared.dec.DecodeError.{DecodeError}
-use Rattle.cobs.specs.declared.dec.DecodeError.TheVariants.{EmptyFrame, InvalidFrame, TargetBufTooSmall}
-use Rattle.cobs.specs.declared.dec.DecodeReport.{DecodeReport}
+use Rattle.cobs.specs.Whole.{unpadded, frame_in, decoded_from, decoded_into, reported, message_of_stretch, message_of_frame, Refuses}
+use Rattle.cobs.specs.declared.dec.report.DecodeError.{DecodeError}
+use Rattle.cobs.specs.declared.dec.report.DecodeError.TheVariants.{EmptyFrame, InvalidFrame, TargetBufTooSmall}
+use Rattle.cobs.specs.declared.dec.report.DecodeReport.{DecodeReport}
+use Rattle.cobs.specs.declared.dec.report.DecodeVecError.{DecodeVecError}
+use Rattle.cobs.specs.declared.dec.report.DecodeVecError.TheVariants.{Decode, OutOfMemory}
 use Rattle.cobs.proofs.Decoding.{Stretch, stretch_frame, frame_reads, frame_ends}
 use Rattle.cobs.proofs.Overwriting.{front}
 use Rattle.cobs.proofs.Passing.{refuses}
@@ -156,6 +158,26 @@ frame_of_message (code ∷ bytes) message s e =
           absurd (cc)
     ]
 
+pub frame_of_stretch : (p message : List ℕ) → Stretch p → message_of_stretch p ≡ Ok message → p ≢ [] → Frame p message
+frame_of_stretch [] message s e some = absurd (some refl)
+frame_of_stretch (code ∷ bytes) message s e some = frame_of_message (code ∷ bytes) message s e
+
+-- where bytes are refused, they are no frame, or there is no memory
+pub stretch_refused : (p : List ℕ) (x : DecodeVecError) → Refuses x (message_of_stretch p) → (x ≡ OutOfMemory) ⊎ ((m : List ℕ) → Frame p m → ⊥)
+stretch_refused p OutOfMemory h = inl refl
+stretch_refused p (Decode e) h = inr (λ m f.
+    let is : ◌≡◌ {A = Result (List ℕ) DecodeError} (Err e) (Ok (part p)) = sym h ∙ rw (eq-eqb (missing p) 0 (frame_ends p m f)) refl in
+    absurd (cc))
+
+pub frame_refused : (p : List ℕ) (x : DecodeVecError) → Refuses x (message_of_frame p) → (x ≡ OutOfMemory) ⊎ ((m : List ℕ) → Frame p m → ⊥)
+frame_refused [] OutOfMemory h = inl refl
+frame_refused [] (Decode e) h = inr (λ m f. absurd (omega (arith, ap length f.spells, spelled_some f.first f.others)))
+frame_refused (code ∷ bytes) x h = stretch_refused (code ∷ bytes) x h
+
 pub if_answered : {A E : Type 0} (r : Result A E) (P Q : A → Type 0) (R : E → Type 0) → MatchResult r P R → ((x : A) → P x → Q x) → IfOk r Q
 if_answered (Ok x) P Q R m f = f x m
 if_answered (Err e) P Q R m f = tt
+
+pub if_refused : {A E : Type 0} (r : Result A E) (P : A → Type 0) (R S : E → Type 0) → MatchResult r P R → ((e : E) → R e → S e) → IfErr r S
+if_refused (Ok x) P R S m f = tt
+if_refused (Err e) P R S m f = f e m

@@ -7,10 +7,10 @@ use Rattle.cobs.specs.Feeding.{told_by, fed, listed, stands_by, standing, placed
 use Rattle.cobs.specs.InPlace.{written_over}
 use Rattle.cobs.specs.Streaming.{Stands}
 use Rattle.cobs.specs.Taking.{TakesFront, left_in, left_behind}
-use Rattle.cobs.specs.declared.dec.Progress.{Progress}
+use Rattle.cobs.specs.declared.dec.progress.Progress.{Progress}
 use borrow.Rule.Slice.PartMut.{put_mid}
-use Rattle.cobs.specs.declared.dec.DecoderState.{DecoderState}
-use Rattle.cobs.specs.declared.dec.DecoderState.TheVariants.{Idle, Grab, GrabChain}
+use Rattle.cobs.specs.declared.dec.state.DecoderState.{DecoderState}
+use Rattle.cobs.specs.declared.dec.state.DecoderState.TheVariants.{Idle, Grab, GrabChain}
 use Rattle.cobs.proofs.Decoding.{part_append, after_append}
 use Rattle.cobs.proofs.Feeds.{told_stands}
 use Rattle.cobs.proofs.Passing.{all_placed}

@@ -8,7 +8,7 @@ use Rattle.cobs.specs.InPlace.{overwritten, written_over}
 use Rattle.cobs.specs.Sentinel.{masked}
 use Rattle.cobs.specs.Streaming.{Stands}
 use Rattle.cobs.specs.Taking.{TakesFront}
-use Rattle.cobs.specs.declared.dec.Progress.{Progress}
+use Rattle.cobs.specs.declared.dec.progress.Progress.{Progress}
 use Rattle.cobs.proofs.Decoding.{Stretch, part_append, part_shorter}
 use Rattle.cobs.proofs.Masking.{masked_length, masked_get, masked_take, masked_drop}
 use Rattle.cobs.proofs.Overwriting.{rest, behind, length-overwritten}

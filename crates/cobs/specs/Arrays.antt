@@ -3,9 +3,9 @@ use Rattle.std.specs.Prelude.{List, ℕ}
 use Rattle.std.specs.Borrow.{Lends, MutBor, Fml, RattleType, u8, Array}
 use Rattle.arrayvec.specs.ArrayVec.{with_items}
 use Rattle.cobs.specs.Streaming.{Stands}
-use Rattle.cobs.specs.declared.dec.Progress.{Progress}
-use Rattle.cobs.specs.declared.dec.CobsDecoderHeapless.{CobsDecoderHeapless}
-use Rattle.cobs.specs.contracts.dec.CobsDecoderHeapless.{the_row}
+use Rattle.cobs.specs.declared.dec.progress.Progress.{Progress}
+use Rattle.cobs.specs.declared.dec.heapless.CobsDecoderHeapless.{CobsDecoderHeapless}
+use Rattle.cobs.specs.contracts.dec.heapless.CobsDecoderHeapless.{the_row}
 
 module _ {N : ℕ} where
   -- the buffer

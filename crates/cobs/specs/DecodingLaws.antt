@@ -6,12 +6,12 @@ use Rattle.cobs.specs.Feeding.{fed, next, told_by, listed, at_zero}
 use Rattle.cobs.specs.Pieces.{first_answer, frame_left, buffer_left}
 use Rattle.cobs.specs.Reports.{report, parsed_size, frame_size}
 use Rattle.cobs.specs.Whole.{unpadded, frame_in, decoded_from, decoded_into, message_of_stretch}
-use Rattle.cobs.specs.declared.dec.DecoderState.{DecoderState}
-use Rattle.cobs.specs.declared.dec.DecoderState.TheVariants.{Idle}
-use Rattle.cobs.specs.declared.dec.DecodeResult.TheVariants.{DataComplete}
-use Rattle.cobs.specs.declared.dec.DecodeReport.{DecodeReport}
-use Rattle.cobs.specs.declared.dec.DecodeError.{DecodeError}
-use Rattle.cobs.specs.declared.dec.DecodeError.TheVariants.{EmptyFrame, InvalidFrame, TargetBufTooSmall}
+use Rattle.cobs.specs.declared.dec.state.DecoderState.{DecoderState}
+use Rattle.cobs.specs.declared.dec.state.DecoderState.TheVariants.{Idle}
+use Rattle.cobs.specs.declared.dec.state.DecodeResult.TheVariants.{DataComplete}
+use Rattle.cobs.specs.declared.dec.report.DecodeReport.{DecodeReport}
+use Rattle.cobs.specs.declared.dec.report.DecodeError.{DecodeError}
+use Rattle.cobs.specs.declared.dec.report.DecodeError.TheVariants.{EmptyFrame, InvalidFrame, TargetBufTooSmall}
 
 -- the bytes of a message that the table tells while it is fed these
 abbrev pub data_from : DecoderState → List ℕ → List ℕ

@@ -1,6 +1,6 @@
 -- What a report says.
 use Rattle.std.specs.Prelude.{ℕ}
-use Rattle.cobs.specs.declared.dec.DecodeReport.{DecodeReport}
+use Rattle.cobs.specs.declared.dec.report.DecodeReport.{DecodeReport}
 
 -- how many bytes of the source were used
 abbrev pub parsed_size : DecodeReport → ℕ

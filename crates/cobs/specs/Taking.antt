@@ -7,11 +7,11 @@ use Rattle.cobs.specs.InPlace.{written_over}
 use Rattle.cobs.specs.Pieces.{first_answer, frame_left, frame_met, buffer_left}
 use Rattle.cobs.specs.Reports.{parsed_size, frame_size}
 use Rattle.cobs.specs.Streaming.{Stands, Decoded}
-use Rattle.cobs.specs.declared.dec.DecodeError.{DecodeError}
-use Rattle.cobs.specs.declared.dec.DecoderState.{DecoderState}
-use Rattle.cobs.specs.declared.dec.DecoderState.TheVariants.{Idle, Grab, GrabChain}
-use Rattle.cobs.specs.declared.dec.DecodeReport.{DecodeReport}
-use Rattle.cobs.specs.declared.dec.Progress.{Progress}
+use Rattle.cobs.specs.declared.dec.report.DecodeError.{DecodeError}
+use Rattle.cobs.specs.declared.dec.state.DecoderState.{DecoderState}
+use Rattle.cobs.specs.declared.dec.state.DecoderState.TheVariants.{Idle, Grab, GrabChain}
+use Rattle.cobs.specs.declared.dec.report.DecodeReport.{DecodeReport}
+use Rattle.cobs.specs.declared.dec.progress.Progress.{Progress}
 
 -- A byte is fed, behind any bytes p of a frame: which bytes those are then, the answer, what stands in the buffer; where
 -- its front had the message so far, that it still has, and that an answer is a whole message.

@@ -4,11 +4,11 @@ use Rattle.cobs.specs.Frames.{part, missing}
 use Rattle.cobs.specs.Reports.{report, parsed_size, frame_size}
 use Rattle.cobs.specs.InPlace.{stretch}
 use Rattle.cobs.specs.Pieces.{first_answer}
-use Rattle.cobs.specs.declared.dec.DecodeReport.{DecodeReport}
-use Rattle.cobs.specs.declared.dec.DecodeError.{DecodeError}
-use Rattle.cobs.specs.declared.dec.DecodeError.TheVariants.{EmptyFrame, InvalidFrame, TargetBufTooSmall}
-use Rattle.cobs.specs.declared.dec.DecodeVecError.{DecodeVecError}
-use Rattle.cobs.specs.declared.dec.DecodeVecError.TheVariants.{Decode, OutOfMemory}
+use Rattle.cobs.specs.declared.dec.report.DecodeReport.{DecodeReport}
+use Rattle.cobs.specs.declared.dec.report.DecodeError.{DecodeError}
+use Rattle.cobs.specs.declared.dec.report.DecodeError.TheVariants.{EmptyFrame, InvalidFrame, TargetBufTooSmall}
+use Rattle.cobs.specs.declared.dec.report.DecodeVecError.{DecodeVecError}
+use Rattle.cobs.specs.declared.dec.report.DecodeVecError.TheVariants.{Decode, OutOfMemory}
 
 -- what is behind leading zeros
 abbrev pub unpadded : List ℕ → List ℕ

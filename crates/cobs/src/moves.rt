@@ -152,6 +152,25 @@ pub(crate) fn is_clear(bytes: &[u8], sentinel: u8) -> bool
     least.simd_eq(u8x16::splat(0)).to_bitmask() == 0
 }
 
+// Whether 64 bytes are this one: with all of its bits turned they then give 255.
+#[inline(always)]
+pub(crate) fn are_all(byte: u8, bytes: &[u8]) -> bool
+    requires { length bytes.now ≡ 64 }
+    ensures { result ≡ true → (k : ℕ) → k < 64 → slice_index bytes.now k ≡ byte }
+{
+    let turned = byte ^ u8::MAX;
+    let first = lesser(
+        load_masked(bytes, 0, turned),
+        load_masked(bytes, 16, turned),
+    );
+    let second = lesser(
+        load_masked(bytes, 32, turned),
+        load_masked(bytes, 48, turned),
+    );
+    let least = lesser(first, second);
+    least.simd_eq(u8x16::splat(u8::MAX)).to_bitmask() == 0xFFFF
+}
+
 // The bits of the bytes from a place on that are the sentinel.
 #[inline(always)]
 fn zeros_at<const W: usize>(bytes: &[u8], at: usize, sentinel: u8) -> u64

@@ -8,7 +8,7 @@ use Rattle.std.specs.List.{AllZip}
 use Rattle.std.proofs.lemmas.List.{append-nil, take-append-drop, take-append-le, take_all, take_more, length-take, length-append}
 use Rattle.std.proofs.Math.Seq.{take-add}
 use Rattle.postcard_tree.specs.Tree.{Tree}
-use Rattle.cobs.specs.declared.dec.CobsDecoderHeapless.{CobsDecoderHeapless}
+use Rattle.cobs.specs.declared.dec.heapless.CobsDecoderHeapless.{CobsDecoderHeapless}
 use Rattle.link.specs.Decoding.{in_array}
 use Rattle.link.specs.Receivers.{IsBehind}
 use Rattle.link.specs.Pushes.{listed, Matches, Answered, IsStretchOf}

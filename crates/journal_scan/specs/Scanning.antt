@@ -1,7 +1,7 @@
 -- Where a scan of a log stands, and what it finds.
 use Rattle.std.specs.Prelude.{◌≡◌, ℕ, ◌+◌, ◌<◌, ◌≤◌, nat_lt, Bool, List, [], ◌∷◌, ◌++◌, length, take, drop, Option, Some, None, Result, Ok, Err}
 use Rattle.cobs.specs.Frames.{NoZero}
-use Rattle.cobs.specs.declared.dec.CobsDecoderOwned.{CobsDecoderOwned}
+use Rattle.cobs.specs.declared.dec.owned.CobsDecoderOwned.{CobsDecoderOwned}
 use Rattle.postcard_tree.specs.Tree.{Tree}
 use Rattle.link.specs.Stream.{Verdict, ended, unfinished, IsAnswer, HoldsExactly}
 use Rattle.link.specs.Laws.{EndsBetween}

@@ -10,9 +10,9 @@ use Rattle.cobs.specs.DecodingLaws.{AnswersFrames}
 use Rattle.cobs.specs.Feeding.{at_zero}
 use Rattle.cobs.specs.Streaming.{Stands as Progressed}
 use Rattle.cobs.specs.Taking.{TakesByte}
-use Rattle.cobs.specs.declared.dec.Progress.{Progress}
-use Rattle.cobs.specs.declared.dec.DecodeError.{DecodeError}
-use Rattle.cobs.specs.declared.dec.DecodeError.TheVariants.{InvalidFrame}
+use Rattle.cobs.specs.declared.dec.progress.Progress.{Progress}
+use Rattle.cobs.specs.declared.dec.report.DecodeError.{DecodeError}
+use Rattle.cobs.specs.declared.dec.report.DecodeError.TheVariants.{InvalidFrame}
 use Rattle.link.specs.Stream.{Begun, kept, over}
 use Rattle.link.specs.Decoding.{Inside}
 use Rattle.link.specs.Receivers.{Has, IsAtBy, IsAtWith}

@@ -15,8 +15,8 @@ use Rattle.cobs.specs.Feeding.{answer_of, frame_after}
 use Rattle.cobs.specs.Streaming.{Stands, Decoded}
 use Rattle.cobs.specs.Sentinel.{masked}
 use Rattle.cobs.specs.Taking.{TakesPiece}
-use Rattle.cobs.specs.declared.dec.DecodeError.{DecodeError}
-use Rattle.cobs.specs.declared.dec.DecodeReport.{DecodeReport}
+use Rattle.cobs.specs.declared.dec.report.DecodeError.{DecodeError}
+use Rattle.cobs.specs.declared.dec.report.DecodeReport.{DecodeReport}
 use Rattle.link.specs.Stream.{Begun, kept, over}
 use Rattle.link.specs.Steps.{Event, quiet, passed, event_at, begun_at, Course, course_on, course_of, ahead, RunsOn, RunsPast}
 use Rattle.link.specs.Decoding.{Inside}

@@ -2,9 +2,9 @@
 use Rattle.std.specs.Prelude.{ℕ, List}
 use Rattle.cobs.specs.Arrays.{array_progress, array_buffer, array_sentinel}
 use Rattle.cobs.specs.Owners.{owned_progress, owned_buffer, owned_sentinel}
-use Rattle.cobs.specs.declared.dec.Progress.{Progress}
-use Rattle.cobs.specs.declared.dec.CobsDecoderHeapless.{CobsDecoderHeapless}
-use Rattle.cobs.specs.declared.dec.CobsDecoderOwned.{CobsDecoderOwned}
+use Rattle.cobs.specs.declared.dec.progress.Progress.{Progress}
+use Rattle.cobs.specs.declared.dec.heapless.CobsDecoderHeapless.{CobsDecoderHeapless}
+use Rattle.cobs.specs.declared.dec.owned.CobsDecoderOwned.{CobsDecoderOwned}
 
 -- how far its frame was taken in, its buffer, and its sentinel
 pub record Inside : Type 0 where

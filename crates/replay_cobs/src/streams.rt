@@ -1,6 +1,6 @@
 //! Frames that come in pieces.
 ghost use Rattle.std.specs.Mem.{FitsInMemory};
-ghost use Rattle.cobs.specs.contracts.dec.CobsDecoderHeapless.{the_row};
+ghost use Rattle.cobs.specs.contracts.dec.heapless.CobsDecoderHeapless.{the_row};
 
 use cobs::{CobsDecoder, CobsDecoderHeapless, CobsDecoderOwned, DecodeError, DecodeReport};
 use replay::{Findings, Trouble, Words, digits_behind, pieces_of};

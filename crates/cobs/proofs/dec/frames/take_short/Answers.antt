@@ -1,0 +1,29 @@
+use Rattle.std.proofs.Common.{◌≡◌, ◌-◌, ◌++◌, ℕ, length, take, drop, get_or, length-drop, refl, sym, ◌∙◌, ap, arith}
+use Rattle.std.proofs.lemmas.List.{take_all}
+use Rattle.std.specs.Prelude.{bit_xor}
+use Rattle.cobs.specs.Sentinel.{masked}
+use Rattle.cobs.specs.declared.dec.state.DecoderState.TheVariants.{GrabChain}
+use Rattle.cobs.proofs.Masking.{masked_length}
+use Rattle.cobs.proofs.Short.{Taken, taken_full, code_first}
+use Rattle.cobs.proofs.dec.frames.take_short.Goals as goal
+use Rattle.cobs.proofs.dec.frames.take_short.Goals.{After-copy_at_once}
+
+-- behind the code of a full block
+full : (c : After-copy_at_once) → (n : ℕ) → n ≡ length (take (length c.args.frame.now - 1) (drop 1 c.args.frame.now))
+    → Taken (masked c.args.sentinel c.args.frame.now) c.args.dest.now (c.copy_at_once.new.out ++ drop n c.args.dest.now) (record { state = GrabChain (254 - n); len = n })
+full c n e =
+    let key = c.args.sentinel in
+    let frame = c.args.frame.now in
+    let rest = drop 1 frame in
+    let all : take (length frame - 1) rest ≡ rest = take_all (length frame - 1) rest (omega (arith, length-drop 1 frame)) in
+    let same : length (masked key rest) ≡ n = masked_length key rest ∙ ap length (sym all) ∙ sym e in
+    let out : c.copy_at_once.new.out ≡ masked key rest = c.copy_at_once.ensures ∙ ap (masked key) all in
+    taken_full (masked key frame) (masked key rest) c.copy_at_once.new.out c.args.dest.now _ (bit_xor key (get_or frame 0 0)) n (GrabChain (254 - n))
+    (code_first key frame c.requires.some) (omega (arith, masked_length key rest, length-drop 1 frame, c.requires.few)) (ap length out ∙ same) same
+    (omega (arith, same, masked_length key rest, length-drop 1 frame, c.requires.room)) refl c.if-code.true out refl
+
+pub returns-then-code-clause-stands : goal.returns-then-code-clause-stands
+returns-then-code-clause-stands c = (full (goal.at.returns-then-code-clause-stands c).After-copy_at_once _ refl).stands
+
+pub returns-then-code-clause-dest : goal.returns-then-code-clause-dest
+returns-then-code-clause-dest c = (full (goal.at.returns-then-code-clause-dest c).After-copy_at_once _ refl).holds

@@ -1,0 +1,10 @@
+use Rattle.std.proofs.Common.{List, ℕ, length, sym, ◌∙◌, ap, subst}
+use Rattle.cobs.specs.Sentinel.{masked}
+use Rattle.cobs.specs.Taking.{TakesPiece}
+use Rattle.cobs.proofs.Wholes.{refilled}
+use Rattle.cobs.proofs.dec.owned.CobsDecoderOwned.push.Goals as goal
+
+pub returns-clause-takes : goal.returns-clause-takes
+returns-clause-takes c =
+    let all = refilled c.args.self.now.buffer.len c.args.self.now.buffer.items c.push.new.buffer c.args.self.now.buffer.ok.0 (c.push.auto.buffer ∙ ap length c.as_mut_slice.ensures.value) in
+    subst (λ (b : List ℕ). TakesPiece c.args.self.now.progress c.args.self.now.buffer.items (masked c.args.self.now.sentinel c.args.data.now) c.push.result c.push.new.self b) (sym all) (rw c.as_mut_slice.ensures.value at c.push.ensures)

@@ -1,0 +1,5 @@
+use Rattle.cobs.proofs.Sources.{stretch_front}
+use Rattle.cobs.proofs.dec.whole.before.Goals as goal
+
+pub returns : goal.returns
+returns c = stretch_front c.args.sentinel c.args.bytes.now c.before_sentinel.result c.before_sentinel.ensures.within c.before_sentinel.ensures.none c.before_sentinel.ensures.end

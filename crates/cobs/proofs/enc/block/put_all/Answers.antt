@@ -1,0 +1,24 @@
+use Rattle.std.proofs.Common.{◌≡◌, ℕ, List, [], ◌∷◌, ◌++◌, length, refl, sym, arith, rules}
+use Rattle.std.proofs.lemmas.List.{append-nil}
+use Rattle.cobs.specs.Held.{pushed}
+use Rattle.cobs.specs.Sentinel.{masked}
+use Rattle.cobs.proofs.enc.block.put_all.Goals as goal
+
+-- an empty piece adds nothing
+adds_nothing : (piece message : List ℕ) → length piece ≡ 0 → message ≡ message ++ piece
+adds_nothing [] message e = sym (append-nil message)
+adds_nothing (x ∷ piece) message e = absurd (omega arith)
+
+pub returns-then-is_empty-clause-holds : goal.returns-then-is_empty-clause-holds
+returns-then-is_empty-clause-holds c = c.requires
+
+pub returns-then-is_empty-clause-nothing : goal.returns-then-is_empty-clause-nothing
+returns-then-is_empty-clause-nothing c = λ _. refl
+
+pub returns-then-is_empty-clause-pushed : goal.returns-then-is_empty-clause-pushed
+returns-then-is_empty-clause-pushed c =
+    let none : length c.args.bytes.now ≡ 0 = search rules in
+    adds_nothing c.args.bytes.now _ none
+
+pub returns-then-end-at-clause-holds : goal.returns-then-end-at-clause-holds
+returns-then-end-at-clause-holds c = (c.put_few.ensures.holds (pushed (masked c.args.sentinel c.args.dest.now) c.args.at.len) c.requires.goes_on).0

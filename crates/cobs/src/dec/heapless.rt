@@ -1,0 +1,148 @@
+//! The streaming decoder over an array of its own.
+ghost use Rattle.std.specs.Prelude.{bit_xor, ◌≡◌, ◌+◌, ◌-◌, ◌≤◌, [], ◌++◌, length, replicate};
+ghost use Rattle.std.specs.Borrow.{sem};
+ghost use Rattle.cobs.specs.InPlace.{written_over};
+ghost use Rattle.cobs.specs.Sentinel.{masked};
+
+use super::progress::Progress;
+use super::report::{DecodeError, DecodeReport};
+use super::window::write_over;
+use arrayvec::ArrayVec;
+
+/// Decodes frames that come byte by byte, into a buffer of N bytes of its own. It keeps the sentinel that ends its frames.
+#[derive(Drop)]
+pub struct CobsDecoderHeapless<const N: usize> {
+    array: ArrayVec<u8, N>,
+    progress: Progress,
+    sentinel: u8,
+}
+
+impl<const N: usize> CobsDecoderHeapless<N> {
+    ghost use Rattle.cobs.specs.Arrays.{ArrayHas, array_progress, array_buffer, array_sentinel, LendsArrayBuffer};
+    ghost use Rattle.cobs.specs.Taking.{TakesByte, TakesPiece};
+
+    /// An idle decoder of frames that end in zeros, over a buffer of zeros.
+    pub fn new() -> CobsDecoderHeapless<N>
+        ensures idle { ArrayHas result [] }
+        ensures buffer { array_buffer result ≡ replicate N 0 }
+        ensures sentinel { array_sentinel result ≡ 0 }
+    {
+        CobsDecoderHeapless::new_with_sentinel(0)
+    }
+
+    /// An idle decoder of frames that end in this byte, and whose bytes are each XORed with it, over a buffer of zeros.
+    pub fn new_with_sentinel(sentinel: u8) -> CobsDecoderHeapless<N>
+        ensures idle { ArrayHas result [] }
+        ensures buffer { array_buffer result ≡ replicate N 0 }
+        ensures sentinel { array_sentinel result ≡ sentinel }
+    {
+        CobsDecoderHeapless::filled(ArrayVec::new(), sentinel)
+    }
+
+    /// An idle decoder of frames that end in zeros, whose buffer has the vector's bytes, and then zeros.
+    pub fn new_with_vec(vec: ArrayVec<u8, N>) -> CobsDecoderHeapless<N>
+        ensures idle { ArrayHas result [] }
+        ensures buffer { array_buffer result
+            ≡ vec.entry.items ++ replicate (N - length vec.entry.items) 0 }
+        ensures sentinel { array_sentinel result ≡ 0 }
+        ensures room { length (array_buffer result) ≡ N }
+    {
+        CobsDecoderHeapless::filled(vec, 0)
+    }
+
+    // The same for any sentinel.
+    fn filled(vec: ArrayVec<u8, N>, sentinel: u8) -> CobsDecoderHeapless<N>
+        ensures idle { ArrayHas result [] }
+        ensures buffer { array_buffer result
+            ≡ vec.entry.items ++ replicate (N - length vec.entry.items) 0 }
+        ensures sentinel { array_sentinel result ≡ sentinel }
+        ensures room { length (array_buffer result) ≡ N }
+    {
+        let mut array = vec;
+        while !array.is_full() {
+            array.push(0);
+        }
+        CobsDecoderHeapless {
+            array,
+            progress: Progress::new(),
+            sentinel,
+        }
+    }
+
+    /// Takes in a byte. At the sentinel behind a whole frame it gives the length n of the message, which is `dest()[..n]`;
+    /// until then, and at a sentinel between frames, nothing.
+    ///
+    /// `TargetBufTooSmall` at each byte whose byte of the message has no room, and again at the sentinel of such a frame.
+    /// `InvalidFrame` at a sentinel inside a block, with how many bytes were decoded and had room. After every sentinel the
+    /// decoder is between frames.
+    pub fn feed(&mut self, data: u8) -> Result<Option<usize>, DecodeError>
+        ensures takes { TakesByte (array_progress self.old) (array_buffer self.old)
+            (bit_xor (array_sentinel self.old) «data») result
+            (array_progress self.new) (array_buffer self.new) }
+        ensures sentinel { array_sentinel self.new ≡ array_sentinel self.old }
+    {
+        self.progress
+            .feed(self.array.as_mut_slice(), self.sentinel ^ data)
+    }
+
+    /// Takes in bytes up to the first answer that `feed` gives. `parsed_size` counts the bytes of this piece, the sentinel
+    /// included. Where a byte is refused, the decoder stands behind it.
+    pub fn push(&mut self, data: &[u8]) -> Result<Option<DecodeReport>, DecodeError>
+        ensures takes { TakesPiece (array_progress self.old) (array_buffer self.old)
+            (masked (array_sentinel self.old) «data».now) result
+            (array_progress self.new) (array_buffer self.new) }
+        ensures sentinel { array_sentinel self.new ≡ array_sentinel self.old }
+    {
+        self.progress
+            .push(self.array.as_mut_slice(), data, self.sentinel)
+    }
+
+    /// Makes the decoder idle. What was taken in of a frame is forgotten; the sentinel stays.
+    pub fn reset(&mut self)
+        ensures idle { ArrayHas self.new [] }
+        ensures buffer { array_buffer self.new ≡ array_buffer self.old }
+        ensures sentinel { array_sentinel self.new ≡ array_sentinel self.old }
+    {
+        self.progress = Progress::new();
+    }
+
+    /// The buffer.
+    pub fn dest(&self) -> &[u8]
+        ensures { result.now ≡ array_buffer self.now }
+    {
+        self.array.as_slice()
+    }
+
+    /// The buffer, to be written. The decoder goes on in its frame: what is written over bytes that were decoded stands in
+    /// their place. What the decoder is afterwards only a proof by hand can use; `overwrite` says it in plain clauses.
+    pub fn dest_mut(&mut self) -> &mut [u8]
+        ensures* lends { sem 𝓛 (LendsArrayBuffer N.row self.entry result) }
+        ensures value { result.now ≡ array_buffer self.old }
+    {
+        self.array.as_mut_slice()
+    }
+
+    /// Writes bytes over those of the buffer, from a place on. The decoder goes on in its frame.
+    ///
+    /// The caller owes the room: `place + bytes.len()` is no more than the buffer's length.
+    pub fn overwrite(&mut self, place: usize, bytes: &[u8])
+        requires { place + length bytes.now ≤ length (array_buffer self.old) }
+        ensures buffer { array_buffer self.new
+            ≡ written_over place bytes.now (array_buffer self.old) }
+        ensures progress { array_progress self.new ≡ array_progress self.old }
+        ensures sentinel { array_sentinel self.new ≡ array_sentinel self.old }
+    {
+        write_over(self.array.as_mut_slice(), place, bytes);
+    }
+}
+
+impl<const N: usize> Default for CobsDecoderHeapless<N> {
+    ghost use Rattle.cobs.specs.Arrays.{ArrayHas, array_buffer, array_sentinel};
+
+    ghost is_default = { λ d.
+        ArrayHas d [] × (array_buffer d ≡ replicate N 0) × (array_sentinel d ≡ 0) };
+
+    fn default() -> CobsDecoderHeapless<N> {
+        CobsDecoderHeapless::new()
+    }
+}

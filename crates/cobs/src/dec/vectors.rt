@@ -1,0 +1,90 @@
+//! A source that is there as a whole, decoded into a vector of its own.
+ghost use Rattle.std.specs.Prelude.{◌≡◌, ◌≢◌, ℕ, List, [], IfOk, IfErr, MatchResult, ◌⊎◌};
+ghost use Rattle.cobs.specs.Frames.{Frame};
+ghost use Rattle.cobs.specs.InPlace.{stretch};
+ghost use Rattle.cobs.specs.Sentinel.{masked};
+ghost use Rattle.cobs.specs.Whole.{frame_in, message_of_stretch, message_of_frame, Refuses};
+ghost use Rattle.cobs.specs.declared.dec.report.DecodeVecError.TheVariants.{OutOfMemory};
+
+use super::in_place::decode_in_place_report_with_sentinel;
+use super::report::{DecodeError, DecodeVecError};
+use super::whole::{before, behind_zeros};
+use std::alloc::Global;
+
+// Decodes the bytes of a vector before its first sentinel, each XORed with it, over themselves.
+#[inline(always)]
+fn decode_vector(bytes: Vec<u8>, sentinel: u8) -> Result<Vec<u8>, DecodeVecError>
+    ensures { MatchResult result
+        (λ v. message_of_stretch (stretch (masked sentinel bytes.items)) ≡ Ok v.items)
+        (λ e. Refuses e (message_of_stretch (stretch (masked sentinel bytes.items)))) }
+{
+    let mut bytes = bytes;
+    match decode_in_place_report_with_sentinel(bytes.as_mut_slice(), sentinel) {
+        Ok(report) => {
+            bytes.truncate(report.frame_size());
+            Ok(bytes)
+        }
+        Err(error) => Err(DecodeVecError::Decode(error)),
+    }
+}
+
+// As `decode_vec`.
+#[inline(always)]
+fn decode_first_vec(alloc: Global, source: &[u8]) -> Result<Vec<u8>, DecodeVecError>
+    ensures { MatchResult result (λ v. message_of_frame (frame_in source.now) ≡ Ok v.items)
+        (λ e. Refuses e (message_of_frame (frame_in source.now))) }
+{
+    let frame = before(behind_zeros(source), 0);
+    if frame.is_empty() {
+        return Err(DecodeVecError::Decode(DecodeError::EmptyFrame));
+    }
+    let bytes = frame
+        .to_vec(alloc)
+        .map_err(|_| DecodeVecError::OutOfMemory)?;
+    decode_vector(bytes, 0)
+}
+
+/// As `decode` with room for every message, into a vector of its own.
+///
+/// Where the source holds no frame and no memory is found, either may be answered.
+pub fn decode_vec(alloc: Global, source: &[u8]) -> Result<Vec<u8>, DecodeVecError>
+    ensures answer { MatchResult result (λ v. message_of_frame (frame_in source.now) ≡ Ok v.items)
+        (λ e. Refuses e (message_of_frame (frame_in source.now))) }
+    ensures frame { IfOk result (λ v. Frame (frame_in source.now) v.items) }
+    ensures no_frame { IfErr result (λ e. (e ≡ OutOfMemory)
+        ⊎ ((m : List ℕ) → Frame (frame_in source.now) m → ⊥)) }
+{
+    decode_first_vec(alloc, source)
+}
+
+// As `decode_vec_with_sentinel`.
+#[inline(always)]
+fn decode_stretch_vec(alloc: Global, source: &[u8], sentinel: u8) -> Result<Vec<u8>, DecodeVecError>
+    ensures { MatchResult result
+        (λ v. message_of_stretch (stretch (masked sentinel source.now)) ≡ Ok v.items)
+        (λ e. Refuses e (message_of_stretch (stretch (masked sentinel source.now)))) }
+{
+    let bytes = before(source, sentinel)
+        .to_vec(alloc)
+        .map_err(|_| DecodeVecError::OutOfMemory)?;
+    decode_vector(bytes, sentinel)
+}
+
+/// As `decode_with_sentinel` with room for every message, into a vector of its own.
+///
+/// Where the source holds no frame and no memory is found, either may be answered.
+pub fn decode_vec_with_sentinel(
+    alloc: Global,
+    source: &[u8],
+    sentinel: u8,
+) -> Result<Vec<u8>, DecodeVecError>
+    ensures answer { MatchResult result
+        (λ v. message_of_stretch (stretch (masked sentinel source.now)) ≡ Ok v.items)
+        (λ e. Refuses e (message_of_stretch (stretch (masked sentinel source.now)))) }
+    ensures frame { let p = stretch (masked sentinel source.now) in
+        IfOk result (λ v. p ≢ [] → Frame p v.items) }
+    ensures no_frame { IfErr result (λ e. (e ≡ OutOfMemory)
+        ⊎ ((m : List ℕ) → Frame (stretch (masked sentinel source.now)) m → ⊥)) }
+{
+    decode_stretch_vec(alloc, source, sentinel)
+}

@@ -1,0 +1,148 @@
+//! The bytes: searched, copied without their sentinel, and zeros put at the codes.
+ghost use Rattle.std.specs.Prelude.{◌≡◌, ◌≢◌, ℕ, ◌+◌, ◌<◌, ◌≤◌, length, take, slice_index, true};
+ghost use Rattle.cobs.specs.Frames.{part_from, after};
+ghost use Rattle.cobs.specs.Feeding.{stands_by};
+ghost use Rattle.cobs.specs.InPlace.{written_over};
+ghost use Rattle.cobs.specs.Sentinel.{masked};
+
+use super::state::DecoderState;
+use crate::masks::copy_masked;
+use crate::moves::{are_all, copy_over};
+use memchr::memchr;
+
+// How many bytes are copied at once: what lies behind the code of a full block among them is of that block.
+pub(crate) const WINDOW: usize = 254;
+
+// How many bytes are searched and copied by a loop, since a call costs more.
+pub(crate) const FEW: usize = 8;
+
+// How many bytes come before the first sentinel, by a call where they aren't few.
+#[inline(always)]
+pub(crate) fn before_by_call(bytes: &[u8], sentinel: u8) -> usize
+    ensures within { result ≤ length bytes.now }
+    ensures none { (k : ℕ) → k < result → slice_index bytes.now k ≢ sentinel }
+    ensures end { result < length bytes.now → slice_index bytes.now result ≡ sentinel }
+{
+    if FEW <= bytes.len() {
+        return memchr(sentinel, bytes).unwrap_or(bytes.len());
+    }
+    for (end, byte) in bytes.iter().enumerate() {
+        if *byte == sentinel {
+            return end;
+        }
+    }
+    bytes.len()
+}
+
+// Copies bytes, each XORed with the sentinel, into a part that is as long.
+#[inline(always)]
+pub(crate) fn copy(bytes: &[u8], out: &mut [u8], sentinel: u8)
+    requires { length bytes.now ≡ length out.old }
+    ensures { out.new ≡ masked sentinel bytes.now }
+{
+    if FEW <= bytes.len() {
+        copy_masked(bytes, out, sentinel);
+        return;
+    }
+    for (place, byte) in bytes.iter().enumerate() {
+        out[place] = sentinel ^ *byte;
+    }
+}
+
+// The same by vectors, without a call.
+#[inline(always)]
+pub(crate) fn copy_at_once(bytes: &[u8], out: &mut [u8], sentinel: u8)
+    requires { length bytes.now ≡ length out.old }
+    ensures { out.new ≡ masked sentinel bytes.now }
+{
+    copy_over(bytes, out, 0, sentinel);
+}
+
+// Copies bytes up to a sentinel, each XORed with it, into a buffer, from a place on. Answers how many.
+#[inline(always)]
+pub(crate) fn copy_run(bytes: &[u8], buffer: &mut [u8], place: usize, sentinel: u8) -> usize
+    requires { place + length bytes.now ≤ length buffer.old }
+    ensures within { result ≤ length bytes.now }
+    ensures none { (k : ℕ) → k < result → slice_index bytes.now k ≢ sentinel }
+    ensures buffer { buffer.new
+        ≡ written_over place (take result (masked sentinel bytes.now)) buffer.old }
+{
+    for (i, byte) in bytes.iter().enumerate() {
+        if *byte == sentinel {
+            return i;
+        }
+        buffer[place + i] = sentinel ^ *byte;
+    }
+    bytes.len()
+}
+
+// How many bytes in front are this one, in steps of 64.
+#[inline(always)]
+pub(crate) fn same_by_64(byte: u8, bytes: &[u8]) -> usize
+    ensures within { result ≤ length bytes.now }
+    ensures same { (k : ℕ) → k < result → slice_index bytes.now k ≡ byte }
+{
+    let mut end = 0;
+    while 64 <= bytes.len() - end && are_all(byte, &bytes[end..end + 64]) {
+        end += 64;
+    }
+    end
+}
+
+// Puts a zero for each code of bytes of a frame, where so many are left of a block. Answers where their last block stands.
+#[inline(always)]
+pub(crate) fn put_zeros(out: &mut [u8], left: u8) -> DecoderState
+    requires short { length out.old ≤ 254 }
+    requires nonzero { (k : ℕ) → k < length out.old → 0 < slice_index out.old k }
+    ensures out { out.new ≡ part_from left true out.old }
+    ensures state { result ≡ stands_by (after left true out.old) }
+{
+    let end = out.len();
+    let mut at = left as usize;
+    while at < end {
+        let code = out[at];
+        out[at] = 0;
+        if code == u8::MAX {
+            return DecoderState::GrabChain((255 + at - end) as u8);
+        }
+        at += code as usize;
+    }
+    DecoderState::Grab((at - end) as u8)
+}
+
+// Copies bytes of a frame, where so many are left of a block, and puts a zero for each code. Answers where their last block
+// stands.
+#[inline(always)]
+pub(crate) fn decode_window(bytes: &[u8], out: &mut [u8], left: u8, sentinel: u8) -> DecoderState
+    requires long { length bytes.now ≡ length out.old }
+    requires short { length bytes.now ≤ 254 }
+    requires nonzero { (k : ℕ) → k < length bytes.now
+        → 0 < slice_index (masked sentinel bytes.now) k }
+    ensures out { out.new ≡ part_from left true (masked sentinel bytes.now) }
+    ensures state { result ≡ stands_by (after left true (masked sentinel bytes.now)) }
+{
+    copy(bytes, out, sentinel);
+    put_zeros(out, left)
+}
+
+// The same by vectors, without a call.
+#[inline(always)]
+pub(crate) fn decode_at_once(bytes: &[u8], out: &mut [u8], left: u8, sentinel: u8) -> DecoderState
+    requires long { length bytes.now ≡ length out.old }
+    requires short { length bytes.now ≤ 254 }
+    requires nonzero { (k : ℕ) → k < length bytes.now
+        → 0 < slice_index (masked sentinel bytes.now) k }
+    ensures out { out.new ≡ part_from left true (masked sentinel bytes.now) }
+    ensures state { result ≡ stands_by (after left true (masked sentinel bytes.now)) }
+{
+    copy_at_once(bytes, out, sentinel);
+    put_zeros(out, left)
+}
+
+// Writes bytes over those of a buffer, from a place on.
+pub(crate) fn write_over(buffer: &mut [u8], place: usize, bytes: &[u8])
+    requires { place + length bytes.now ≤ length buffer.old }
+    ensures { buffer.new ≡ written_over place bytes.now buffer.old }
+{
+    buffer[place..place + bytes.len()].copy_from_slice(bytes);
+}

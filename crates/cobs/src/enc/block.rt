@@ -1,0 +1,140 @@
+//! Blocks: pieces of a message put behind a frame, each zero as a code.
+ghost use Rattle.std.specs.Prelude.{◌≡◌, ◌+◌, ◌<◌, ◌≤◌, [], ◌++◌, length, take, false, IsTrue, IfSome, IfNone};
+ghost use Rattle.cobs.specs.Frames.{shortest_frame};
+ghost use Rattle.cobs.specs.Held.{pushed, Laid, GoesOnBy, Holds};
+ghost use Rattle.cobs.specs.Sentinel.{masked};
+
+use crate::codes::put_block;
+
+// Where the last block's code is, and where the frame ends.
+#[derive(Clone, Copy)]
+pub(crate) struct Place {
+    pub(crate) code_at: usize,
+    pub(crate) len: usize,
+}
+
+// Copies a piece into the open block, which has place for it, and writes a code at each of its zeros. Whatever is written here
+// is XORed with the sentinel, so the contracts speak of the buffer as it is without that: masked once more.
+#[inline(always)]
+fn put_run(dest: &mut [u8], at: Place, piece: &[u8], sentinel: u8) -> Place
+    requires laid { Laid (masked sentinel dest.old) at.code_at at.len }
+    requires room { at.len + length piece.now ≤ length dest.old }
+    requires short { at.len + length piece.now ≤ at.code_at + 255 }
+    requires some { 0 < length piece.now }
+    ensures holds { GoesOnBy (masked sentinel dest.old) at.code_at at.len piece.now
+        (masked sentinel dest.new) result.code_at result.len }
+{
+    let code_at = put_block(dest, at.code_at, at.len, piece, sentinel);
+    let end = at.len + piece.len();
+    dest[code_at] = sentinel ^ (end - code_at) as u8;
+    Place { code_at, len: end }
+}
+
+// The same in one pass: for a few bytes a call that copies a slice takes longer than they do.
+#[inline(always)]
+fn put_few(dest: &mut [u8], at: Place, piece: &[u8], sentinel: u8) -> Place
+    requires laid { Laid (masked sentinel dest.old) at.code_at at.len }
+    requires room { at.len + length piece.now ≤ length dest.old }
+    requires short { at.len + length piece.now ≤ at.code_at + 255 }
+    requires some { 0 < length piece.now }
+    ensures holds { GoesOnBy (masked sentinel dest.old) at.code_at at.len piece.now
+        (masked sentinel dest.new) result.code_at result.len }
+{
+    let mut code_at = at.code_at;
+    for (i, byte) in piece.iter().enumerate() {
+        let here = at.len + i;
+        if *byte == 0 {
+            dest[code_at] = sentinel ^ (here - code_at) as u8;
+            code_at = here;
+        } else {
+            dest[here] = sentinel ^ *byte;
+        }
+    }
+    let end = at.len + piece.len();
+    dest[code_at] = sentinel ^ (end - code_at) as u8;
+    Place { code_at, len: end }
+}
+
+// Puts a front of the bytes behind the frame, as far as the last block goes, and answers how many. A full block is closed only
+// here, by the byte behind it, so that the buffer always begins with the shortest frame.
+fn put_front(dest: &mut [u8], at: Place, bytes: &[u8], sentinel: u8) -> Option<(Place, usize)>
+    requires holds { Holds (masked sentinel dest.old) at.code_at at.len }
+    requires some { 0 < length bytes.now }
+    ensures holds { IfSome result
+        (λ next. Holds (masked sentinel dest.new) next.0.code_at next.0.len) }
+    ensures some { IfSome result (λ next. (0 < next.1) × (next.1 ≤ length bytes.now)) }
+    ensures pushed { IfSome result (λ next. pushed (masked sentinel dest.new) next.0.len
+        ≡ pushed (masked sentinel dest.old) at.len ++ take next.1 bytes.now) }
+    ensures none { IfNone result (length dest.old
+        < length (shortest_frame (pushed (masked sentinel dest.old) at.len ++ bytes.now))) }
+{
+    if at.len == at.code_at + 255 {
+        if dest.len() - at.len <= bytes.len() {
+            return None;
+        }
+        dest[at.len] = sentinel ^ 1;
+        let open = Place {
+            code_at: at.len,
+            len: at.len + 1,
+        };
+        let n = bytes.len().min(254);
+        Some((put_run(dest, open, &bytes[..n], sentinel), n))
+    } else {
+        if dest.len() - at.len < bytes.len() {
+            return None;
+        }
+        let n = bytes.len().min(at.code_at + 255 - at.len);
+        Some((put_run(dest, at, &bytes[..n], sentinel), n))
+    }
+}
+
+// Puts bytes behind the frame, block by block, and moves the place; false where there isn't room for them all.
+#[inline(never)]
+fn put_blocks(dest: &mut [u8], at: &mut Place, bytes: &[u8], sentinel: u8) -> bool
+    requires { Holds (masked sentinel dest.old) at.old.code_at at.old.len }
+    ensures holds { IsTrue result → Holds (masked sentinel dest.new) at.new.code_at at.new.len }
+    ensures pushed { IsTrue result → pushed (masked sentinel dest.new) at.new.len
+        ≡ pushed (masked sentinel dest.old) at.old.len ++ bytes.now }
+    ensures none { result ≡ false → length dest.old
+        < length (shortest_frame (pushed (masked sentinel dest.old) at.old.len ++ bytes.now)) }
+{
+    let mut place = *at;
+    let mut rest = bytes;
+    while !rest.is_empty() {
+        let Some((next, n)) = put_front(dest, place, rest, sentinel) else {
+            return false;
+        };
+        place = next;
+        rest = &rest[n..];
+    }
+    *at = place;
+    true
+}
+
+// Puts bytes behind the frame, if there is room for them all. A few bytes that go into the open block take no call.
+#[inline(always)]
+pub(crate) fn put_all(dest: &mut [u8], at: Place, bytes: &[u8], sentinel: u8) -> Option<Place>
+    requires { Holds (masked sentinel dest.old) at.code_at at.len }
+    ensures holds { IfSome result (λ next. Holds (masked sentinel dest.new) next.code_at next.len) }
+    ensures pushed { IfSome result (λ next. pushed (masked sentinel dest.new) next.len
+        ≡ pushed (masked sentinel dest.old) at.len ++ bytes.now) }
+    ensures none { IfNone result (length dest.old
+        < length (shortest_frame (pushed (masked sentinel dest.old) at.len ++ bytes.now))) }
+    ensures nothing { bytes.now ≡ [] → dest.new ≡ dest.old }
+{
+    if bytes.is_empty() {
+        return Some(at);
+    }
+    if bytes.len() < 8 {
+        let end = at.len + bytes.len();
+        if end <= dest.len() && end <= at.code_at + 255 {
+            return Some(put_few(dest, at, bytes, sentinel));
+        }
+    }
+    let mut place = at;
+    if put_blocks(dest, &mut place, bytes, sentinel) {
+        Some(place)
+    } else {
+        None
+    }
+}

@@ -1,0 +1,103 @@
+//! A message that comes in pieces, into a buffer of its caller.
+ghost use Rattle.std.specs.Prelude.{◌≡◌, ◌<◌, ◌≤◌, [], ◌++◌, length, take, true, false, OnOk, OnErr, ◌⊎◌};
+ghost use Rattle.cobs.specs.Frames.{shortest_frame};
+ghost use Rattle.cobs.specs.Sentinel.{frame_for};
+ghost use Rattle.cobs.specs.Fronts.{StandsIn};
+
+use super::DestBufTooSmallError;
+use super::front::FrameFront;
+
+/// Encodes a message that comes in pieces, into a buffer.
+///
+/// The buffer begins with the shortest frame of what was pushed so far. A push whose bytes don't all fit is refused, and spends
+/// the encoder: it refuses from then on, and its frame has the length 0.
+///
+/// ```
+/// let mut buffer = [0; 5];
+/// let mut encoder = CobsEncoder::new(&mut buffer);
+/// encoder.push(&[10, 11])?;
+/// encoder.push(&[0, 12])?;
+/// assert_eq!(encoder.finalize(), 5); // 3, 10, 11, 2, 12
+/// ```
+#[derive(Drop)]
+pub struct CobsEncoder<'a> {
+    dest: &'a mut [u8],
+    front: FrameFront,
+    ghost stands: { StandsIn dest.now front },
+}
+
+impl<'a> CobsEncoder<'a> {
+    ghost use Rattle.cobs.specs.Encoder.{message_of, room_of, is_spent, buffer_of, lent_name, sentinel_of};
+
+    /// An encoder that was given nothing, over a buffer. The caller owes that it isn't empty.
+    pub fn new(dest: &'a mut [u8]) -> CobsEncoder<'a>
+        requires { 0 < length dest.old }
+        ensures message { message_of result ≡ [] }
+        ensures ready { is_spent result ≡ false }
+        ensures room { room_of result ≡ length dest.old }
+        ensures lent { lent_name result ≡ dest.entry.ghost_name }
+        ensures sentinel { sentinel_of result ≡ 0 }
+    {
+        CobsEncoder::new_with_sentinel(dest, 0)
+    }
+
+    /// The same, of frames whose bytes are XORed with `sentinel`, so that no byte of them is the sentinel.
+    pub fn new_with_sentinel(dest: &'a mut [u8], sentinel: u8) -> CobsEncoder<'a>
+        requires { 0 < length dest.old }
+        ensures message { message_of result ≡ [] }
+        ensures ready { is_spent result ≡ false }
+        ensures room { room_of result ≡ length dest.old }
+        ensures lent { lent_name result ≡ dest.entry.ghost_name }
+        ensures sentinel { sentinel_of result ≡ sentinel }
+    {
+        let front = FrameFront::begin_with_sentinel(dest, sentinel);
+        CobsEncoder { dest, front }
+    }
+
+    /// Puts a piece, which may be empty, behind the message. It is refused exactly where the shortest frame of all the bytes so
+    /// far and these doesn't fit the buffer. The encoder is then spent: it refuses every later push, an empty one too. An empty
+    /// piece leaves the buffer as it is.
+    pub fn push(&mut self, data: &[u8]) -> Result<(), DestBufTooSmallError>
+        ensures ok { OnOk result ((is_spent self.old ≡ false) × (is_spent self.new ≡ false)
+            × (message_of self.new ≡ message_of self.old ++ «data».now)
+            × (length (shortest_frame (message_of self.new)) ≤ room_of self.new)) }
+        ensures err { OnErr result ((is_spent self.new ≡ true)
+            × ((is_spent self.old ≡ true)
+            ⊎ (room_of self.old < length (shortest_frame (message_of self.old ++ «data».now))))) }
+        ensures nothing { «data».now ≡ [] → buffer_of self.new ≡ buffer_of self.old }
+        ensures room { room_of self.new ≡ room_of self.old }
+        ensures lent { lent_name self.new ≡ lent_name self.old }
+        ensures sentinel { sentinel_of self.new ≡ sentinel_of self.old }
+    {
+        let mut front = self.front;
+        let pushed = front.push(self.dest, data);
+        self.front = front;
+        pushed
+    }
+
+    /// The length of the frame of the message so far, without ending it; 0 where a push was refused. The buffer begins with that
+    /// frame.
+    pub fn frame_length(&self) -> usize
+        ensures spent { is_spent self.now ≡ true → result ≡ 0 }
+        ensures length { is_spent self.now ≡ false
+            → (0 < result) × (result ≡ length (shortest_frame (message_of self.now))) }
+        ensures frame { is_spent self.now ≡ false → take result (buffer_of self.now)
+            ≡ frame_for (sentinel_of self.now) (message_of self.now) }
+    {
+        self.front.length()
+    }
+
+    /// Ends the message, and answers the length of its frame; 0 where a push was refused. The buffer begins with that frame. What
+    /// it holds behind the frame, or after a refusal, isn't stated.
+    pub fn finalize(self) -> usize
+        ensures spent { is_spent self.entry ≡ true → result ≡ 0 }
+        ensures length { is_spent self.entry ≡ false
+            → (0 < result) × (result ≡ length (shortest_frame (message_of self.entry))) }
+        // `self.exit.0` is the buffer as the caller finds it again.
+        ensures frame { is_spent self.entry ≡ false → take result self.exit.0.now
+            ≡ frame_for (sentinel_of self.entry) (message_of self.entry) }
+    {
+        let CobsEncoder { dest: _, front } = self;
+        front.length()
+    }
+}
