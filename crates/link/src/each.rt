@@ -14,7 +14,7 @@ use crate::judging::{Ordinary, Strict};
 use crate::listening::End;
 use crate::owned::OwnedReceiver;
 use crate::receiver::{Answer, NoMemory, Receiver};
-use crate::reception::{Reception, Taken};
+use crate::reception::Reception;
 use cobs::{CobsDecoderHeapless, CobsDecoderOwned};
 use line_io::Inlet;
 use postcard::{DeserializeOwned, Exact};
@@ -68,11 +68,11 @@ impl<D: Decoding> Reception<D> {
     {
         let mut rest = piece;
         while !rest.is_empty() {
-            let Taken { used, found } = self.take(rest);
-            if E::hand(alloc, self, found, hearer).is_err() {
+            let taken = self.take(rest);
+            if E::hand(alloc, self.lend(taken), hearer).is_err() {
                 return Err(NoMemory);
             }
-            let (_, after) = rest.split_at(used);
+            let (_, after) = rest.split_at(taken.used);
             rest = after;
         }
         Ok(())
