@@ -141,6 +141,9 @@ impl<D: Decoding> Reception<D> {
         ensures memory { HadMemory result }
         ensures calls { R.calls_left reader.new ≡ R.calls_left reader.old - 1 }
         ensures spent { R.calls_left reader.old ≡ 0 → result ≡ Some ReadFault }
+        ensures few { UsesFew (R.to_come reader.old) (R.to_come reader.new)
+            (R.faults reader.old) (R.faults reader.new)
+            (R.calls_left reader.old) (R.calls_left reader.new) (last_call result) }
         ensures same { SameTerms D.inside self.old self.new }
     {
         self.listen_by::<&'static str, ByText<Ordinary>, R, H>(alloc, reader, hearer)
@@ -164,6 +167,9 @@ impl<D: Decoding> Reception<D> {
         ensures memory { HadMemory result }
         ensures calls { R.calls_left reader.new ≡ R.calls_left reader.old - 1 }
         ensures spent { R.calls_left reader.old ≡ 0 → result ≡ Some ReadFault }
+        ensures few { UsesFew (R.to_come reader.old) (R.to_come reader.new)
+            (R.faults reader.old) (R.faults reader.new)
+            (R.calls_left reader.old) (R.calls_left reader.new) (last_call result) }
         ensures same { SameTerms D.inside self.old self.new }
     {
         self.listen_by::<&'static str, ByText<Strict>, R, H>(alloc, reader, hearer)
