@@ -23,11 +23,6 @@ module _ {H V : Type 0} (hears : H → List (Answer V) → H → Type 0) (laws :
   pub handed_one : (h k : H) (a : Answer V) (P : List (Answer V) → Type 0) → hears h (a ∷ []) k → P (a ∷ []) → Handed hears h k P
   handed_one h k a P e p = record { answers = a ∷ []; heard = e; so = p }
 
-  -- some answers, and then others
-  pub handed_then : (h m k : H) (P Q R : List (Answer V) → Type 0) → Handed hears h m P → Handed hears m k Q → ((xs ys : List (Answer V)) → P xs → Q ys → R (xs ++ ys)) → Handed hears h k R
-  handed_then h m k P Q R p q f =
-      record { answers = p.answers ++ q.answers; heard = laws.more h m k p.answers q.answers p.heard q.heard; so = f p.answers q.answers p.so q.so }
-
   -- the same where the others are known to be behind these
   pub handed_next : (h m k : H) (P Q R : List (Answer V) → Type 0) (p : Handed hears h m P) → Handed hears m k Q → ((ys : List (Answer V)) → Q ys → R (p.answers ++ ys)) → Handed hears h k R
   handed_next h m k P Q R p q f =
@@ -91,11 +86,6 @@ uses_last u w f h c e bytes g z = record { bytes = bytes; gave = g; few = omega 
 pub uses_ended : (u w : Option (List ℕ)) (f h c e : ℕ) (end : Option End) → UsesFew u w f h c e (last_call end) → UsesFew u w f h c e 1
 uses_ended u w f h c e None p = record { bytes = p.bytes; gave = p.gave; few = omega (arith, p.few) }
 uses_ended u w f h c e (Some end) p = p
-
--- what isn't refused is no refusal
-pub not_refused : {A E : Type 0} (r : Result A E) → IsOk r → IsErr r → ⊥
-not_refused (Ok x) o i = cc
-not_refused (Err x) o i = cc
 
 -- of values that ask for no memory none is wanting
 pub had_memory : (end : Option End) → MayLackMemory false end → HadMemory end

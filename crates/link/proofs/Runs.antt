@@ -5,8 +5,6 @@ use Rattle.std.specs.List.{AllByRecursion}
 use Rattle.std.proofs.lemmas.Nat.{xor_lt}
 use Rattle.std.proofs.lemmas.Bool.{cases_eq, cases_lt, ne_eqb, eq-eqb, eqb-true, lt-ltb, le-ltb}
 use Rattle.std.proofs.lemmas.List.{append-nil, length-append, length-drop}
-use Rattle.memchr.specs.Find.{IsFirstByte, is_byte}
-use Rattle.std.specs.Option.{unwrap_or}
 use Rattle.cobs.specs.Frames.{NoZero, part}
 use Rattle.cobs.specs.FrameLaws.{DecidesLess}
 use Rattle.cobs.specs.InPlace.{stretch}
@@ -38,20 +36,6 @@ stretch_none s b x e = rw (eq-eqb (bit_xor s b) 0 (sentinel_is_zero s b e)) refl
 
 stretch_byte : (s b : ℕ) (x : List ℕ) → (b ≡ s → ⊥) → stretch (masked s (b ∷ x)) ≡ bit_xor s b ∷ stretch (masked s x)
 stretch_byte s b x n = rw (ne_eqb (bit_xor s b) 0 (above (bit_xor s b) (unlike s b n))) refl
-
-pub stretch_of_none : (s : ℕ) (x : List ℕ) → ((k : ℕ) → k < length x → get_or x k 0 ≡ s → ⊥) → length x ≡ length (stretch (masked s x))
-stretch_of_none s [] h = refl
-stretch_of_none s (b ∷ x) h = ap suc (stretch_of_none s x (λ k l e. h (suc k) (omega (arith, l)) e)) ∙ sym (ap length (stretch_byte s b x (h 0 (omega arith))))
-
-pub stretch_of_first : (s : ℕ) (x : List ℕ) (k : ℕ) → k < length x → get_or x k 0 ≡ s → ((j : ℕ) → j < k → get_or x j 0 ≡ s → ⊥) → k ≡ length (stretch (masked s x))
-stretch_of_first s [] k l e h = absurd (omega (arith, l))
-stretch_of_first s (b ∷ x) zero l e h = sym (ap length (stretch_none s b x e))
-stretch_of_first s (b ∷ x) (suc k) l e h =
-    ap suc (stretch_of_first s x k (omega (arith, l)) e (λ j m f. h (suc j) (omega (arith, m)) f)) ∙ sym (ap length (stretch_byte s b x (h 0 (omega arith))))
-
-pub found_sentinel : (s : ℕ) (x : List ℕ) (r : Option ℕ) → IsFirstByte (is_byte s) x r → unwrap_or r (length x) ≡ length (stretch (masked s x))
-found_sentinel s x None h = stretch_of_none s x (λ k l e. h k (omega arith) l (eq-eqb (get_or x k 0) s e))
-found_sentinel s x (Some k) h = stretch_of_first s x k h.0.high (eqb-true (get_or x k 0) s h.1) (λ j l e. h.0.before j (omega arith) l (eq-eqb (get_or x j 0) s e))
 
 -- courses over runs
 course_as : (used later : ℕ) (e : Event) (c : Begun) → used ≡ later → (let k : Course = record { used = used; event = e; begun = c } in k) ≡ record { used = later; event = e; begun = c }

@@ -9,11 +9,11 @@ ghost use Rattle.link.specs.Steps.{Course};
 ghost use Rattle.link.specs.Finds.{IsTaken, Replies, AnswersStretch, lent_message};
 
 use crate::decoding::Decoding;
-use crate::judging::{is_sent, judged};
+use crate::judging::{had_memory, is_sent, judged};
 use crate::laws;
 use crate::receiver::{Answer, NoMemory, Pushed};
 use crate::reception::{Found, Reception, Taken};
-use postcard::{Deserialize, Error, Exact, from_bytes};
+use postcard::{Deserialize, Exact, from_bytes};
 use std::alloc::Global;
 
 impl<D: Decoding> Reception<D> {
@@ -61,10 +61,10 @@ pub(crate) fn read_message<'de, T: Deserialize<&'de [u8]>>(
     cobs::laws::message_of_a_frame();
     match from_bytes(alloc, message) {
         Ok(value) => Ok(Some(Answer::Value(value))),
-        Err(error) => match error {
-            Error::OutOfMemory => Err(NoMemory),
-            _ => Ok(Some(Answer::Damaged)),
-        },
+        Err(error) => {
+            had_memory(error)?;
+            Ok(Some(Answer::Damaged))
+        }
     }
 }
 
@@ -89,10 +89,10 @@ pub(crate) fn read_exact_message<'de, T: Deserialize<&'de [u8]> + Exact>(
             }
             Ok(Some(Answer::Damaged))
         }
-        Err(error) => match error {
-            Error::OutOfMemory => Err(NoMemory),
-            _ => Ok(Some(Answer::Damaged)),
-        },
+        Err(error) => {
+            had_memory(error)?;
+            Ok(Some(Answer::Damaged))
+        }
     }
 }
 

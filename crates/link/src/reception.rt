@@ -11,7 +11,7 @@ ghost use Rattle.link.specs.Finds.{Finds, IsWithin, IsTaken, Brings, Replies, fr
 use crate::decoding::Decoding;
 use crate::judging::{Judging, Ordinary, Strict};
 use crate::receiver::{Answer, NoMemory, Pushed};
-use crate::zeros::before_sentinel;
+use cobs::before_sentinel;
 use postcard::{DeserializeOwned, Exact};
 use postcard_tree::Readable;
 use std::alloc::Global;
