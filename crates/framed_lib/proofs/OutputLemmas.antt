@@ -50,10 +50,6 @@ pub on_err : {T E P : Type 0} (r : Result T E) → P → OnErr r P
 on_err (Ok x) p = tt
 on_err (Err e) p = p
 
-pub if_ok_and : {T E : Type 0} {P R : T → Type 0} {Q : Type 0} (r : Result T E) → ((x : T) → P x → Q → R x) → IfOk r P → OnOk r Q → IfOk r R
-if_ok_and (Ok x) f p q = f x p q
-if_ok_and (Err e) f p q = tt
-
 -- the first bytes went out, and then others
 pub went-done : {u v w : Option (List ℕ)} {f g h : ℕ} {a b : List ℕ} (all : List ℕ) → all ≡ a ++ b → WentOut u v f g a → WentOut v w g h b → WentOut u w f h all
 went-done {u = u} {w = w} {f = f} {h = h} all e p q = let P : List ℕ → Type 0 = λ t. WentOut u w f h t in subst P (sym e) (WentOut-then p q)

@@ -118,9 +118,6 @@ pub record Turned (s d : List ℕ) (at : ℕ) : Type 0 where
   pub bytes : decode_pairs 0 s ≡ prepend (take at d) (decode_pairs (2 * at) (drop (2 * at) s))
   pub within : 2 * at ≤ length s
 
-pub turned-none : (s : List ℕ) → Turned s s 0
-turned-none s = record { same = refl; rest = refl; bytes = prepend-none (decode_pairs 0 s); within = omega arith }
-
 -- the digits that are next
 pub next-digits : (s d : List ℕ) (at n : ℕ) → Turned s d at → take (2 * n) (drop (2 * at) d) ≡ take (2 * n) (drop (2 * at) s)
 next-digits s d at n p = ap (λ x. take (2 * n) x) p.rest
@@ -182,18 +179,8 @@ turned-all s d at p l =
 
 -- The text whose digits they are
 
--- an odd number of digits
-odd-is-err : (d : List ℕ) → length d % 2 ≡ 1 → IsErr (decode_of d)
-odd-is-err d h = rw h refl
-
 even-is : (d : List ℕ) → length d % 2 ≡ 0 → decode_of d ≡ decode_pairs 0 d
 even-is d h = rw h refl
-
-pub odd-not-hex : (text digits : List ℕ) → DropsLineFeed text digits → length digits % 2 ≡ 1 → IsNotHex true text
-odd-not-hex text digits h o = (digits, h, odd-is-err digits o)
-
-pub even-not-hex : (text digits : List ℕ) → DropsLineFeed text digits → length digits % 2 ≡ 0 → IsErr (decode_pairs 0 digits) → IsNotHex true text
-even-not-hex text digits h e b = let P : Result (List ℕ) FromHexError → Type 0 = λ r. IsErr r in (digits, h, subst P (sym (even-is digits e)) b)
 
 pub even-hex : (text digits stream : List ℕ) → DropsLineFeed text digits → length digits % 2 ≡ 0 → decode_pairs 0 digits ≡ Ok stream → StandsFor true text stream
 even-hex text digits stream h e b = (digits, h, even-is digits e ∙ b)

@@ -10,7 +10,7 @@ use Rattle.link.specs.Each.{HasReadNow, IsReceivedNow}
 use Rattle.link.specs.declared.receiver.Answer.{Answer}
 use Rattle.link.specs.declared.listening.End.{End}
 use Rattle.link.specs.declared.listening.End.TheVariants.{Ended, ReadFault, NoMemory}
-use Rattle.framed_lib.specs.declared.devices.WriteFault.{WriteFault}
+use Rattle.line_io.specs.declared.transfers.WriteFault.{WriteFault}
 use Rattle.framed_lib.proofs.LinesLemmas.{reach_of, received, lines-same, values-same}
 use Rattle.framed_lib.specs.declared.arguments.Mode.{Mode}
 use Rattle.framed_lib.specs.declared.arguments.Mode.TheVariants.{Pack}
@@ -107,10 +107,6 @@ program-refuses true sentinel text h = inr (record { not_hex = h; out_is = refl;
 gives : (strict : Bool) (sentinel : ℕ) (text out : List ℕ) → GivesLines strict sentinel text out → WritesGiven (unpacking strict) false sentinel text out
 gives false sentinel text out h = h
 gives true sentinel text out h = h
-
-pub gives-nothing : (strict : Bool) (sentinel : ℕ) (text : List ℕ) → WritesGiven (unpacking strict) true sentinel text []
-gives-nothing false sentinel text = refl
-gives-nothing true sentinel text = refl
 
 pub lacks : (strict hex : Bool) (sentinel : ℕ) (reach : Reach) (text out said : List ℕ) → LacksLines strict hex sentinel reach text out said → Lacks (unpacking strict) hex sentinel reach text out said
 lacks false hex sentinel reach text out said h = h
@@ -298,12 +294,6 @@ digits-worked strict sentinel text stream w t (Err stop.NoMemory) h q a = record
   told = ([], refl, q);
 }
 
--- no memory was found for the bytes of digits
-pub digits-lack : (strict : Bool) (sentinel : ℕ) (text : List ℕ) (w t : Fate → List ℕ → Type 0) → w whole [] → t whole []
-    → LacksMemory (unpacking strict) true sentinel (IsWhole text) w (Before no_memory (t whole))
-digits-lack strict sentinel text w t o q =
-    record { reach = ended; text = text; out = []; said = []; is = lacks strict true sentinel ended text _ _ (refl, inl refl); read = refl; wrote = o; told = ([], refl, q) }
-
 -- a text that isn't hexadecimal
 pub bad-said : (strict : Bool) (sentinel : ℕ) (text : List ℕ) (w t : Fate → List ℕ → Type 0) → IsNotHex true text → w whole [] → t whole bad_hex → Finishes (unpacking strict) true sentinel 2 (IsWhole text) w t
 bad-said strict sentinel text w t h o s =
@@ -332,11 +322,6 @@ module _ (hex : Bool) (sentinel : ℕ) (text : List ℕ) (sends : List Send) (h 
   packs : Packs hex sentinel text (framed_text hex (session_line sentinel false sends)) (refusals 1 sends) (if all_sent sends then 0 else 1)
   packs = record { sends = sends; are = h; out_is = refl; said_is = refl; status_is = refl }
 
-  -- all went out
-  pub packed : (status : ℕ) → status ≡ (if all_sent sends then 0 else 1) → w whole (framed_text hex (session_line sentinel false sends)) → Finishes Pack hex sentinel status (IsWhole text) w t
-  packed status e o =
-      record { text = text; out = framed_text hex (session_line sentinel false sends); said = refusals 1 sends; is = rw e packs; read = refl; wrote = o; told = s }
-
   -- the writer failed
   pub unwritten : w broken (framed_text hex (session_line sentinel false sends)) → WriteFails Pack hex sentinel (IsWhole text) w (Before write_failed (t whole))
   unwritten o = record {
@@ -349,3 +334,10 @@ module _ (hex : Bool) (sentinel : ℕ) (text : List ℕ) (sends : List Send) (h 
     wrote = o;
     told = (refusals 1 sends, refl, s);
   }
+
+-- what was read into an empty vector
+pub read-whole : {old new : List ℕ} {P : List ℕ → Type 0} → old ≡ [] → ((text : List ℕ) × (new ≡ old ++ text) × P text) → P new
+read-whole {P = P} e (text, is, p) = subst P (sym (is ∙ ap (λ x. x ++ text) e)) p
+
+pub read-front : (P : List ℕ → Type 0) {old new : List ℕ} → old ≡ [] → ((text : List ℕ) × (lost : List ℕ) × (new ≡ old ++ text) × P (text ++ lost)) → (lost : List ℕ) × P (new ++ lost)
+read-front P e (text, lost, is, p) = (lost, subst (λ x. P (x ++ lost)) (sym (is ∙ ap (λ x. x ++ text) e)) p)

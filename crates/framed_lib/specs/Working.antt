@@ -9,7 +9,7 @@ use Rattle.line_io.specs.Transfers.{Fate, whole, broken, Reach, ended, stopped, 
 use Rattle.link.specs.Stream.{Verdict}
 use Rattle.link.specs.declared.listening.End.{End}
 use Rattle.link.specs.declared.listening.End.TheVariants.{Ended, ReadFault, NoMemory}
-use Rattle.framed_lib.specs.declared.devices.WriteFault.{WriteFault}
+use Rattle.line_io.specs.declared.transfers.WriteFault.{WriteFault}
 use Rattle.framed_lib.specs.Lines.{AreAnswers, lines_of, is_value}
 use Rattle.framed_lib.specs.Program.{Finishes, ReadFails, WriteFails, LacksMemory, SayingFails, WritesFirst, read_failed, write_failed, no_memory}
 

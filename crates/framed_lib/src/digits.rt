@@ -3,8 +3,7 @@ ghost use Rattle.hex.specs.Hex.{encode_lower};
 ghost use Rattle.line_io.specs.Transfers.{Writing, whole, broken};
 ghost use Rattle.framed_lib.specs.Program.{shown, shown_end};
 
-use crate::devices::{WriteFault, write_whole};
-use line_io::Outlet;
+use line_io::{Outlet, WriteFault, write_all};
 
 /// How many bytes are turned into digits at once.
 const AT_ONCE: usize = 16384;
@@ -19,7 +18,7 @@ fn write_few<W: Outlet>(writer: &mut W, bytes: &[u8], room: &mut [u8]) -> Result
 {
     let digits = &mut room[..2 * bytes.len()];
     match hex::encode_to_slice(bytes, digits) {
-        Ok(()) => write_whole(writer, digits),
+        Ok(()) => write_all(writer, digits),
         Err(_) => Ok(()),
     }
 }
@@ -49,7 +48,7 @@ pub fn write_part<W: Outlet>(writer: &mut W, hex: bool, bytes: &[u8]) -> Result<
         (shown hex bytes.now)) }
 {
     if !hex {
-        return write_whole(writer, bytes);
+        return write_all(writer, bytes);
     }
     write_digits(writer, bytes)
 }
@@ -62,5 +61,5 @@ pub fn write_end<W: Outlet>(writer: &mut W, hex: bool) -> Result<(), WriteFault>
         (Writing W.written W.faults W.calls_left writer.old writer.new broken (shown_end hex)) }
 {
     let end: &[u8] = if hex { b"\n" } else { b"" };
-    write_whole(writer, end)
+    write_all(writer, end)
 }

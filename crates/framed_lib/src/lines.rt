@@ -4,10 +4,9 @@ ghost use Rattle.line_io.specs.Transfers.{Writing, whole, broken};
 ghost use Rattle.framed_lib.specs.Output.{Puts};
 ghost use Rattle.framed_lib.specs.Lines.{escape, value_line, answer_line, answer_lines, has_value};
 
-use crate::devices::{WriteFault, write_whole};
 use crate::output::{Held, put};
 use arrayvec::ArrayVec;
-use line_io::Outlet;
+use line_io::{Outlet, WriteFault, write_all};
 use link::Answer;
 use memchr::memchr2;
 
@@ -104,7 +103,7 @@ pub fn write_answers<W: Outlet>(
 {
     let mut held: Held = ArrayVec::new();
     put_answers(writer, &mut held, answers)?;
-    write_whole(writer, held.as_slice())
+    write_all(writer, held.as_slice())
 }
 
 /// Whether the answer is a value.

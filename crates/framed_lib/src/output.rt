@@ -2,9 +2,8 @@ ghost use Rattle.std.specs.Prelude.{◌≡◌, ◌++◌, OnOk, OnErr};
 ghost use Rattle.line_io.specs.Transfers.{Writing, whole, broken};
 ghost use Rattle.framed_lib.specs.Output.{Puts};
 
-use crate::devices::{WriteFault, write_whole};
 use arrayvec::ArrayVec;
-use line_io::Outlet;
+use line_io::{Outlet, WriteFault, write_all};
 
 /// How many bytes are held back, to be written at once.
 pub const ROOM: usize = 65536;
@@ -22,10 +21,10 @@ pub fn put<W: Outlet>(outlet: &mut W, held: &mut Held, bytes: &[u8]) -> Result<(
     if held.try_extend_from_slice(bytes).is_ok() {
         return Ok(());
     }
-    write_whole(outlet, held.as_slice())?;
+    write_all(outlet, held.as_slice())?;
     held.clear();
     if held.try_extend_from_slice(bytes).is_ok() {
         return Ok(());
     }
-    write_whole(outlet, bytes)
+    write_all(outlet, bytes)
 }

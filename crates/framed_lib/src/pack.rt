@@ -9,13 +9,13 @@ ghost use Rattle.framed_lib.specs.Working.{Worked, IsWhole};
 ghost use Rattle.framed_lib.specs.declared.arguments.Mode.TheVariants.{Pack};
 
 use crate::collected::Collected;
-use crate::devices::{End, WriteFault, read_whole, use_up};
+use crate::devices::use_up;
 use crate::digits::{write_end, write_part};
 use crate::pieces::next_line;
 use crate::refusals::say_refusals;
 use crate::sending::send;
 use crate::stop::{Stop, status_of};
-use line_io::{Inlet, Outlet};
+use line_io::{End, Inlet, Outlet, WriteFault, read_to_end};
 use link::Sender;
 use std::alloc::Global;
 
@@ -136,7 +136,7 @@ pub fn pack<R: Inlet, W: Outlet, E: Outlet>(
         return Err(Stop::NoMemory);
     };
     let mut text = Vec::new(alloc);
-    match read_whole(reader, &mut text) {
+    match read_to_end(reader, &mut text) {
         End::Ended => pack_text(room, spare, hex, sentinel, &text, writer, faults),
         End::ReadFault => Err(Stop::ReadFault),
         End::NoMemory => Err(Stop::NoMemory),

@@ -5,13 +5,12 @@ ghost use Rattle.link.specs.Run.{Send};
 ghost use Rattle.framed_lib.specs.Program.{SaysFirst};
 ghost use Rattle.framed_lib.specs.Sending.{lines_in, IsSendOf, AreSendsOf, is_whole, all_sent, refusal, refusals, said_of};
 
-use crate::devices::{WriteFault, write_whole};
 use crate::output::{Held, put};
 use crate::pieces::next_line;
 use crate::trial::is_sendable;
 use arrayvec::ArrayVec;
 use itoa::Buffer;
-use line_io::Outlet;
+use line_io::{Outlet, WriteFault, write_all};
 
 /// Says that the line with this number is refused.
 fn refuse<E: Outlet>(faults: &mut E, held: &mut Held, number: usize) -> Result<(), WriteFault>
@@ -77,6 +76,6 @@ pub fn say_refusals<E: Outlet>(text: &[u8], faults: &mut E) -> Result<bool, Writ
 {
     let mut held: Held = ArrayVec::new();
     let good = judge_lines(text, faults, &mut held)?;
-    write_whole(faults, held.as_slice())?;
+    write_all(faults, held.as_slice())?;
     Ok(good)
 }

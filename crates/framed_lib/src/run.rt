@@ -4,11 +4,10 @@ ghost use Rattle.framed_lib.specs.Program.{Finishes, Fails, LacksMemory};
 ghost use Rattle.framed_lib.specs.Working.{Worked, SaysLast, Reports};
 
 use crate::arguments::Mode;
-use crate::devices::write_whole;
 use crate::pack::pack;
 use crate::stop::Stop;
 use crate::unpack::unpack;
-use line_io::{Inlet, Outlet};
+use line_io::{Inlet, Outlet, write_all};
 use std::alloc::Global;
 
 /// What a run leaves.
@@ -120,7 +119,7 @@ fn say_last<E: Outlet>(faults: &mut E, line: &[u8], status: u8) -> u8
     ensures { SaysLast
         (Writing E.written E.faults E.calls_left faults.old faults.new) line.now status result }
 {
-    match write_whole(faults, line) {
+    match write_all(faults, line) {
         Ok(()) => status,
         Err(_) => 3,
     }

@@ -5,10 +5,9 @@ ghost use Rattle.framed_lib.specs.Output.{Puts};
 ghost use Rattle.framed_lib.specs.Lines.{answer_line, has_value};
 ghost use Rattle.framed_lib.specs.Telling.{PutsLines, Tells, tells_laws};
 
-use crate::devices::{WriteFault, write_whole};
 use crate::lines::{is_value, put_answer};
 use crate::output::Held;
-use line_io::Outlet;
+use line_io::{Outlet, WriteFault, write_all};
 use link::{Answer, Hearer};
 
 /// What answers are told to: a line each, written at the end of each read. Behind a write that failed nothing is written.
@@ -30,7 +29,7 @@ fn flush<W: Outlet>(writer: &mut W, held: &mut Held) -> Result<(), WriteFault>
     ensures err { OnErr result (Writing W.written W.faults W.calls_left writer.old writer.new broken
         (held.old.items ++ [])) }
 {
-    write_whole(writer, held.as_slice())?;
+    write_all(writer, held.as_slice())?;
     held.clear();
     Ok(())
 }
@@ -46,7 +45,7 @@ pub fn write_rest<W: Outlet>(writer: &mut W, failed: bool, held: &Held) -> Resul
     if failed {
         return Err(WriteFault);
     }
-    write_whole(writer, held.as_slice())
+    write_all(writer, held.as_slice())
 }
 
 impl<W: Outlet> Telling<W> {

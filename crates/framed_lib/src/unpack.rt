@@ -4,13 +4,12 @@ ghost use Rattle.framed_lib.specs.Working.{Worked, IsWhole, AnswersStream, outco
 
 use crate::answers::{hand_texts, receive_texts};
 use crate::decoding::decode_hex;
-use crate::devices::{End, WriteFault, read_whole, write_whole};
 use crate::lines::{are_values, write_answers};
 use crate::stop::{Stop, status_of};
 use crate::telling::{Telling, write_rest};
 use arrayvec::ArrayVec;
 use line_io::memory::In;
-use line_io::{Inlet, Outlet};
+use line_io::{End, Inlet, Outlet, WriteFault, read_to_end, write_all};
 use link::{Answer, Received};
 use std::alloc::Global;
 
@@ -122,7 +121,7 @@ fn unpack_digits<W: Outlet, E: Outlet>(
         (Writing E.written E.faults E.calls_left faults.old faults.new) result }
 {
     if !decode_hex(&mut text) {
-        let Ok(()) = write_whole(faults, b"bad hex\n") else {
+        let Ok(()) = write_all(faults, b"bad hex\n") else {
             return Err(Stop::SayingFault);
         };
         return Ok(2);
@@ -145,7 +144,7 @@ fn unpack_hex<R: Inlet, W: Outlet, E: Outlet>(
         (Writing E.written E.faults E.calls_left faults.old faults.new) result }
 {
     let mut text = Vec::new(alloc);
-    match read_whole(reader, &mut text) {
+    match read_to_end(reader, &mut text) {
         End::Ended => unpack_digits(alloc, strict, sentinel, text, writer, faults),
         End::ReadFault => Err(Stop::ReadFault),
         End::NoMemory => Err(Stop::NoMemory),

@@ -112,9 +112,6 @@ module _ (room s : ℕ) (held rest kept left : List ℕ) where
   answered_shorter some l P g = shorter (answered_less room some held (masked s rest) kept (some_masked l) (masked s left) P (fed_answer s refl P g))
 
 module _ {V : Type 0} (takes : Tree → Type 0) (reads : Tree → V → Type 0) (growing : Bool) (room : ℕ) (first piece : List ℕ) (old : List V) where
-  pub gathers_none : GathersFront takes reads growing room first piece first piece old old
-  gathers_none = record { got = []; values = sym (append-nil old); goes_on = λ may_stop later vs h. h }
-
   module _ (held rest now : List ℕ) (new : List V) where
     pub gathers_over : (left : List ℕ) → GathersFront takes reads growing room first piece held rest old new → Feeds room held rest ⊥ (λ r. left ≡ r) (λ f r. ⊥) now → GathersFront takes reads growing room first piece now left old new
     gathers_over left p g = record { got = p.got; values = p.values; goes_on = λ may_stop later vs h. p.goes_on may_stop later vs (overfull left g h) }

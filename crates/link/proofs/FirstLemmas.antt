@@ -17,17 +17,6 @@ use Rattle.link.specs.HeardLaws.{zip_parts, heard_once}
 use Rattle.link.specs.OneAnswers.{one_answer}
 use Rattle.link.proofs.Prefixes.{given_front}
 
--- one answer
-module _ {V : Type 0} (xs : List V) (a : V) where
-  pub keeps_one : KeepsFirst xs (xs ++ a ∷ []) false false (a ∷ [])
-  keeps_one = record { kept = a ∷ []; lost = []; parts = sym (append-nil (a ∷ [])); items = refl; whole = λ e. (refl, refl); later = λ e. cc; missed = λ e f. cc }
-
-  pub keeps_missed : KeepsFirst xs xs false true (a ∷ [])
-  keeps_missed = record { kept = []; lost = a ∷ []; parts = refl; items = sym (append-nil xs); whole = λ e. cc; later = λ e. refl; missed = λ e f z. cc }
-
-  pub keeps_later : KeepsFirst xs xs true true (a ∷ [])
-  keeps_later = record { kept = []; lost = a ∷ []; parts = refl; items = sym (append-nil xs); whole = λ e. cc; later = λ e. refl; missed = λ e f. cc }
-
 some_zip : {A B : Type 0} (R : A → B → Type 0) (xs : List A) (ys : List B) → xs ≢ [] → AllZip R xs ys → (y : B) × (more : List B) × (ys ≡ y ∷ more)
 some_zip R [] ys n h = absurd (n refl)
 some_zip R (x ∷ xs) [] n h = absurd h

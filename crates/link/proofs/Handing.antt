@@ -10,12 +10,7 @@ use Rattle.link.specs.Senders.{Failed}
 use Rattle.link.specs.declared.listening.End.{End}
 use Rattle.link.specs.declared.listening.End.TheVariants.{Ended, ReadFault, NoMemory as NoneLeft}
 use Rattle.link.specs.declared.reception.Reception.{Reception}
-use Rattle.cobs.specs.Frames.{Frame}
 use Rattle.std.specs.Prelude.{IsOk, IsErr}
-use Rattle.link.specs.Steps.{Event, quiet, ended, passed}
-use Rattle.link.specs.Finds.{Finds, AnswersStretch, Replies}
-use Rattle.link.specs.declared.reception.Found.{Found}
-use Rattle.link.specs.declared.reception.Found.TheVariants.{Nothing, TooMuch, Broken, Whole}
 use Rattle.link.specs.Each.{Handed, HearerLaws, UsesFew, MayLackMemory, HadMemory, last_call}
 use Rattle.link.specs.declared.receiver.Answer.{Answer}
 use Rattle.link.specs.declared.receiver.NoMemory.{NoMemory}
@@ -27,11 +22,6 @@ module _ {H V : Type 0} (hears : H → List (Answer V) → H → Type 0) (laws :
 
   pub handed_one : (h k : H) (a : Answer V) (P : List (Answer V) → Type 0) → hears h (a ∷ []) k → P (a ∷ []) → Handed hears h k P
   handed_one h k a P e p = record { answers = a ∷ []; heard = e; so = p }
-
-  -- some answers, and then others
-  pub handed_then : (h m k : H) (P Q R : List (Answer V) → Type 0) → Handed hears h m P → Handed hears m k Q → ((xs ys : List (Answer V)) → P xs → Q ys → R (xs ++ ys)) → Handed hears h k R
-  handed_then h m k P Q R p q f =
-      record { answers = p.answers ++ q.answers; heard = laws.more h m k p.answers q.answers p.heard q.heard; so = f p.answers q.answers p.so q.so }
 
   -- the same where the others are known to be behind these
   pub handed_next : (h m k : H) (P Q R : List (Answer V) → Type 0) (p : Handed hears h m P) → Handed hears m k Q → ((ys : List (Answer V)) → Q ys → R (p.answers ++ ys)) → Handed hears h k R
@@ -96,28 +86,6 @@ uses_last u w f h c e bytes g z = record { bytes = bytes; gave = g; few = omega 
 pub uses_ended : (u w : Option (List ℕ)) (f h c e : ℕ) (end : Option End) → UsesFew u w f h c e (last_call end) → UsesFew u w f h c e 1
 uses_ended u w f h c e None p = record { bytes = p.bytes; gave = p.gave; few = omega (arith, p.few) }
 uses_ended u w f h c e (Some end) p = p
-
--- the answer to a frame is that to the end of its stretch
-pub whole_replies : {V : Type 0} (holds : List ℕ → Tree → Type 0) (reads : Tree → V → Type 0) (e : Event) (buffer : List ℕ) (found : Found) (size stretch : ℕ) (result : Result (Option (Answer V)) NoMemory) → Finds e buffer found → found ≡ Whole size stretch
-    → ((p : List ℕ) → Frame p (take size buffer) → stretch ≡ length p → AnswersStretch holds reads p result) → Replies holds reads e result
-whole_replies holds reads quiet buffer found size stretch result f q k = cc
-whole_replies holds reads passed buffer found size stretch result f q k = cc
-whole_replies holds reads (ended p) buffer Nothing size stretch result f q k = absurd f
-whole_replies holds reads (ended p) buffer TooMuch size stretch result f q k = absurd f
-whole_replies holds reads (ended p) buffer (Broken n) size stretch result f q k = cc
-whole_replies holds reads (ended p) buffer (Whole n m) size stretch result f q k =
-    k p (subst (λ x. Frame p (take x buffer)) (same_size n m size stretch q) f.0) (sym (same_stretch n m size stretch q) ∙ f.1)
-  where
-    same_size : (n m size stretch : ℕ) → Whole n m ≡ Whole size stretch → n ≡ size
-    same_size n m size stretch q = cc
-
-    same_stretch : (n m size stretch : ℕ) → Whole n m ≡ Whole size stretch → m ≡ stretch
-    same_stretch n m size stretch q = cc
-
--- what isn't refused is no refusal
-pub not_refused : {A E : Type 0} (r : Result A E) → IsOk r → IsErr r → ⊥
-not_refused (Ok x) o i = cc
-not_refused (Err x) o i = cc
 
 -- of values that ask for no memory none is wanting
 pub had_memory : (end : Option End) → MayLackMemory false end → HadMemory end

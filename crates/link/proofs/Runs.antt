@@ -5,8 +5,6 @@ use Rattle.std.specs.List.{AllByRecursion}
 use Rattle.std.proofs.lemmas.Nat.{xor_lt}
 use Rattle.std.proofs.lemmas.Bool.{cases_eq, cases_lt, ne_eqb, eq-eqb, eqb-true, lt-ltb, le-ltb}
 use Rattle.std.proofs.lemmas.List.{append-nil, length-append, length-drop}
-use Rattle.memchr.specs.Find.{IsFirstByte, is_byte}
-use Rattle.std.specs.Option.{unwrap_or}
 use Rattle.cobs.specs.Frames.{NoZero, part}
 use Rattle.cobs.specs.FrameLaws.{DecidesLess}
 use Rattle.cobs.specs.InPlace.{stretch}
@@ -21,9 +19,10 @@ use Rattle.link.specs.Stream.{Begun, kept, over}
 use Rattle.link.specs.Steps.{Event, quiet, passed, event_at, begun_at, Course, course_on, course_of, ahead, RunsOn, RunsPast}
 use Rattle.link.specs.Decoding.{Inside}
 use Rattle.link.specs.Receivers.{Has, IsAtBy}
-use Rattle.link.specs.Finds.{Finds, BringsNothing, BringsAbout, Brings}
+use Rattle.link.specs.Finds.{Finds, IsSpan, BringsNothing, BringsAbout, Brings}
 use Rattle.link.specs.declared.reception.Found.{Found}
-use Rattle.link.specs.declared.reception.Found.TheVariants.{Nothing, TooMuch, Broken, Whole}
+use Rattle.link.specs.declared.reception.Found.TheVariants.{Nothing, Damaged, TooLong, Whole}
+use Rattle.link.specs.declared.reception.Taken.{Taken}
 use Rattle.link.proofs.Masks.{sentinel_is_zero, no_sentinel, masked_length}
 use Rattle.link.proofs.Streams.{nonzero as unlike}
 use Rattle.link.proofs.Turning.{nothing_found, some_found}
@@ -37,20 +36,6 @@ stretch_none s b x e = rw (eq-eqb (bit_xor s b) 0 (sentinel_is_zero s b e)) refl
 
 stretch_byte : (s b : ℕ) (x : List ℕ) → (b ≡ s → ⊥) → stretch (masked s (b ∷ x)) ≡ bit_xor s b ∷ stretch (masked s x)
 stretch_byte s b x n = rw (ne_eqb (bit_xor s b) 0 (above (bit_xor s b) (unlike s b n))) refl
-
-pub stretch_of_none : (s : ℕ) (x : List ℕ) → ((k : ℕ) → k < length x → get_or x k 0 ≡ s → ⊥) → length x ≡ length (stretch (masked s x))
-stretch_of_none s [] h = refl
-stretch_of_none s (b ∷ x) h = ap suc (stretch_of_none s x (λ k l e. h (suc k) (omega (arith, l)) e)) ∙ sym (ap length (stretch_byte s b x (h 0 (omega arith))))
-
-pub stretch_of_first : (s : ℕ) (x : List ℕ) (k : ℕ) → k < length x → get_or x k 0 ≡ s → ((j : ℕ) → j < k → get_or x j 0 ≡ s → ⊥) → k ≡ length (stretch (masked s x))
-stretch_of_first s [] k l e h = absurd (omega (arith, l))
-stretch_of_first s (b ∷ x) zero l e h = sym (ap length (stretch_none s b x e))
-stretch_of_first s (b ∷ x) (suc k) l e h =
-    ap suc (stretch_of_first s x k (omega (arith, l)) e (λ j m f. h (suc j) (omega (arith, m)) f)) ∙ sym (ap length (stretch_byte s b x (h 0 (omega arith))))
-
-pub found_sentinel : (s : ℕ) (x : List ℕ) (r : Option ℕ) → IsFirstByte (is_byte s) x r → unwrap_or r (length x) ≡ length (stretch (masked s x))
-found_sentinel s x None h = stretch_of_none s x (λ k l e. h k (omega arith) l (eq-eqb (get_or x k 0) s e))
-found_sentinel s x (Some k) h = stretch_of_first s x k h.0.high (eqb-true (get_or x k 0) s h.1) (λ j l e. h.0.before j (omega arith) l (eq-eqb (get_or x j 0) s e))
 
 -- courses over runs
 course_as : (used later : ℕ) (e : Event) (c : Begun) → used ≡ later → (let k : Course = record { used = used; event = e; begun = c } in k) ≡ record { used = later; event = e; begun = c }
@@ -171,20 +156,29 @@ sentinel_behind s x behind size e f l =
     g ∙ sentinel_follows s x short ∙ ap (λ n. s ∷ drop n x) n
 
 -- what a course brings
-about : (limit s : ℕ) (b : Begun) (bytes : List ℕ) (used : ℕ) (buffer : List ℕ) (found : Found) (At : Begun → Type 0) (e : Event) (c : Begun)
-    → course_of limit s b bytes ≡ record { used = used; event = e; begun = c } → Finds e buffer found → At c → BringsAbout limit s b bytes used buffer found At
-about limit s b bytes used buffer found At e c q f h = record {
-  used_is = sym (ap (λ (k : Course). k.used) q);
-  finds = subst (λ (x : Event). Finds x buffer found) (sym (ap (λ (k : Course). k.event) q)) f;
+about : {M : Type 0} (limit s : ℕ) (b : Begun) (bytes : List ℕ) (message : M → List ℕ) (taken : Taken M) (At : Begun → Type 0) (e : Event) (c : Begun)
+    → course_of limit s b bytes ≡ record { used = taken.used; event = e; begun = c } → Finds message e taken.found → IsSpan limit e taken.stretch → At c → BringsAbout limit s b bytes message taken At
+about limit s b bytes message taken At e c q f n h = record {
+  about = record {
+    used = sym (ap (λ (k : Course). k.used) q);
+    finds = subst (λ (x : Event). Finds message x taken.found) (sym (ap (λ (k : Course). k.event) q)) f;
+    span = subst (λ (x : Event). IsSpan limit x taken.stretch) (sym (ap (λ (k : Course). k.event) q)) n;
+  };
   at = subst At (sym (ap (λ (k : Course). k.begun) q)) h;
 }
 
 ahead_on : (n : ℕ) (c : Begun) (k : Course) → ahead n (course_on quiet c k) ≡ ahead (n + 1) k
 ahead_on n c k = course_as (n + (k.used + 1)) ((n + 1) + k.used) k.event k.begun (omega arith)
 
-module _ (limit s : ℕ) (b : Begun) (bytes run behind : List ℕ) (size : ℕ) (parts : bytes ≡ run ++ behind) where
-  pub past_brings : (used : ℕ) (buffer : List ℕ) (At : Begun → Type 0) → RunsPast limit s b run used At → BringsAbout limit s b bytes used buffer TooMuch At
-  past_brings used buffer At r = about limit s b bytes used buffer TooMuch At passed over (ap (course_of limit s b) parts ∙ r.rest behind) refl r.at
+-- how many bytes of a stretch stand before its sentinel
+pub span_at : (limit s : ℕ) (inside : Inside) (count : ℕ) (past : Bool) (b : Begun) → IsAtBy limit s inside count past b → IsSpan limit (event_at limit s b s) count
+span_at limit s inside count past (kept []) h = rw (eq-eqb s s refl) h.1.counted
+span_at limit s inside count past (kept (x ∷ p)) h = rw (eq-eqb s s refl) h.1.counted
+span_at limit s inside count past over h = h.1.counted
+
+module _ {M : Type 0} (limit s : ℕ) (b : Begun) (bytes run behind : List ℕ) (message : M → List ℕ) (size : ℕ) (parts : bytes ≡ run ++ behind) where
+  pub past_brings : (used : ℕ) (At : Begun → Type 0) (stretch : ℕ) → stretch ≡ limit → RunsPast limit s b run used At → BringsAbout limit s b bytes message (record { used = used; stretch = stretch; found = TooLong }) At
+  past_brings used At stretch e r = about limit s b bytes message (record { used = used; stretch = stretch; found = TooLong }) At passed over (ap (course_of limit s b) parts ∙ r.rest behind) refl e r.at
 
   module _ (sized : length run ≡ size) (Before : Begun → Type 0) (r : RunsOn limit s b run Before) where
     to_here : course_of limit s b bytes ≡ ahead size (course_of limit s r.now behind)
@@ -193,24 +187,24 @@ module _ (limit s : ℕ) (b : Begun) (bytes run behind : List ℕ) (size : ℕ) 
     pub run_brings : behind ≡ drop size bytes → BringsNothing limit s b bytes size Before
     run_brings e = record { now = r.now; at = r.at; rest = to_here ∙ ap (λ x. ahead size (course_of limit s r.now x)) e }
 
-    module _ (At : Begun → Type 0) (buffer : List ℕ) (marked : behind ≡ s ∷ drop (size + 1) bytes) (h : At (begun_at limit s r.now s)) where
+    module _ (At : Begun → Type 0) (marked : behind ≡ s ∷ drop (size + 1) bytes) (h : At (begun_at limit s r.now s)) (stretch : ℕ) (n : IsSpan limit (event_at limit s r.now s) stretch) where
       to_sentinel : course_of limit s b bytes ≡ ahead size (course_on (event_at limit s r.now s) (begun_at limit s r.now s) (course_of limit s (begun_at limit s r.now s) (drop (size + 1) bytes)))
       to_sentinel = to_here ∙ ap (λ x. ahead size (course_of limit s r.now x)) marked
 
-      ends_nothing : Finds (event_at limit s r.now s) buffer Nothing → BringsNothing limit s b bytes (size + 1) At
+      ends_nothing : Finds message (event_at limit s r.now s) Nothing → BringsNothing limit s b bytes (size + 1) At
       ends_nothing f =
           let k = course_of limit s (begun_at limit s r.now s) (drop (size + 1) bytes) in
-          let q = nothing_found (event_at limit s r.now s) buffer Nothing f refl in
+          let q = nothing_found message (event_at limit s r.now s) Nothing f refl in
           record { now = begun_at limit s r.now s; at = h; rest = to_sentinel ∙ ap (λ e. ahead size (course_on e (begun_at limit s r.now s) k)) q ∙ ahead_on size (begun_at limit s r.now s) k }
 
-      ends_about : (found : Found) → Finds (event_at limit s r.now s) buffer found → (found ≡ Nothing → ⊥) → BringsAbout limit s b bytes (size + 1) buffer found At
-      ends_about found f n =
+      ends_about : (found : Found M) → Finds message (event_at limit s r.now s) found → (found ≡ Nothing → ⊥) → BringsAbout limit s b bytes message (record { used = size + 1; stretch = stretch; found = found }) At
+      ends_about found f m =
           let k = course_of limit s (begun_at limit s r.now s) (drop (size + 1) bytes) in
-          about limit s b bytes (size + 1) buffer found At (event_at limit s r.now s) (begun_at limit s r.now s)
-          (to_sentinel ∙ ap (ahead size) (some_found (event_at limit s r.now s) buffer found (begun_at limit s r.now s) k f n)) f h
+          about limit s b bytes message (record { used = size + 1; stretch = stretch; found = found }) At (event_at limit s r.now s) (begun_at limit s r.now s)
+          (to_sentinel ∙ ap (ahead size) (some_found message (event_at limit s r.now s) found (begun_at limit s r.now s) k f m)) f n h
 
-      pub sentinel_brings : (found : Found) → Finds (event_at limit s r.now s) buffer found → Brings limit s b bytes (size + 1) buffer found At
+      pub sentinel_brings : (found : Found M) → Finds message (event_at limit s r.now s) found → Brings limit s b bytes message (record { used = size + 1; stretch = stretch; found = found }) At
       sentinel_brings Nothing f = ends_nothing f
-      sentinel_brings TooMuch f = ends_about TooMuch f (λ e. cc)
-      sentinel_brings (Broken stretch) f = ends_about (Broken stretch) f (λ e. cc)
-      sentinel_brings (Whole n stretch) f = ends_about (Whole n stretch) f (λ e. cc)
+      sentinel_brings Damaged f = ends_about Damaged f (λ e. cc)
+      sentinel_brings TooLong f = ends_about TooLong f (λ e. cc)
+      sentinel_brings (Whole m) f = ends_about (Whole m) f (λ e. cc)

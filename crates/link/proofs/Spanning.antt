@@ -111,8 +111,6 @@ module _ {V : Type 0} (holds : List ℕ → Tree → Type 0) (reads : Tree → V
       of_answer (course_of limit s b piece).used n r (λ e. cc) (same ∙ z.0)
 
   -- how long the stretch was, by what is behind what was found
-  pub stretch_of : (used n own : ℕ) (r : Result (Option (Answer V)) NoMemory) → used ≡ (course_of limit s (begun limit s stream) piece).used → Replies holds reads (course_of limit s (begun limit s stream) piece).event r
-      → own ≡ limit → IsSpan own (course_of limit s (begun limit s stream) piece).event n → IsStretchOf s stream piece used r n
-  stretch_of used n own r e h o k =
-      subst (λ u. IsStretchOf s stream piece u r n) (sym e)
-      (by_event n r (course_of limit s (begun limit s stream) piece).event refl h (subst (λ x. IsSpan x (course_of limit s (begun limit s stream) piece).event n) o k))
+  pub stretch_of : (used n : ℕ) (r : Result (Option (Answer V)) NoMemory) → used ≡ (course_of limit s (begun limit s stream) piece).used → Replies holds reads (course_of limit s (begun limit s stream) piece).event r
+      → IsSpan limit (course_of limit s (begun limit s stream) piece).event n → IsStretchOf s stream piece used r n
+  stretch_of used n r e h k = subst (λ u. IsStretchOf s stream piece u r n) (sym e) (by_event n r (course_of limit s (begun limit s stream) piece).event refl h k)

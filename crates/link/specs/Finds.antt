@@ -1,26 +1,36 @@
 -- What a receiver finds in a piece, and what it answers to that.
 use Rattle.std.specs.Prelude.{◌≡◌, ℕ, ◌≤◌, List, length, take, drop, Option, Some, None, Result, Ok, Err}
+use Rattle.std.specs.Borrow.{Bor}
 use Rattle.cobs.specs.Frames.{Frame}
 use Rattle.postcard_tree.specs.Tree.{Tree}
 use Rattle.link.specs.Stream.{Begun}
-use Rattle.link.specs.Steps.{Event, quiet, ended, passed, ahead, course_of}
+use Rattle.link.specs.Steps.{Event, quiet, ended, passed, Course, ahead, course_of}
 use Rattle.link.specs.declared.receiver.Answer.{Answer}
-use Rattle.link.specs.declared.receiver.Answer.TheVariants.{Value, Damaged, TooLong}
+use Rattle.link.specs.declared.receiver.Answer.TheVariants as answer
 use Rattle.link.specs.declared.receiver.NoMemory.{NoMemory}
 use Rattle.link.specs.declared.reception.Found.{Found}
-use Rattle.link.specs.declared.reception.Found.TheVariants.{Nothing, TooMuch, Broken, Whole}
+use Rattle.link.specs.declared.reception.Found.TheVariants.{Nothing, Damaged, TooLong, Whole}
+use Rattle.link.specs.declared.reception.Taken.{Taken}
 
--- What is found is this event; the message of a frame stands in front of the buffer, and how long an ended stretch was is told.
-abbrev pub Finds : Event → List ℕ → Found → Type 0
-Finds quiet buffer found = found ≡ Nothing
-Finds passed buffer found = found ≡ TooMuch
-Finds (ended p) buffer (Whole size stretch) = Frame p (take size buffer) × (stretch ≡ length p)
-Finds (ended p) buffer (Broken stretch) = ((m : List ℕ) → Frame p m → ⊥) × (stretch ≡ length p)
-Finds (ended p) buffer _ = ⊥
+-- What is found is this event, and a frame carries its message.
+abbrev pub Finds : {M : Type 0} → (M → List ℕ) → Event → Found M → Type 0
+Finds message quiet found = found ≡ Nothing
+Finds message passed found = found ≡ TooLong
+Finds message (ended p) (Whole m) = Frame p (message m)
+Finds message (ended p) Damaged = (m : List ℕ) → Frame p m → ⊥
+Finds message (ended p) _ = ⊥
+
+-- a message that stands in front of a buffer, by its length
+abbrev pub front_of : List ℕ → ℕ → List ℕ
+front_of buffer size = take size buffer
+
+-- a message that is lent
+abbrev pub lent_message : Bor (List ℕ) → List ℕ
+lent_message message = message.now
 
 -- the message is within the buffer
-abbrev pub IsWithin : ℕ → Found → Type 0
-IsWithin room (Whole size stretch) = size ≤ room
+abbrev pub IsWithin : ℕ → Found ℕ → Type 0
+IsWithin room (Whole size) = size ≤ room
 IsWithin room _ = Unit {0}
 
 -- how many bytes of its stretch stand before the last byte of an event
@@ -28,6 +38,13 @@ abbrev pub IsSpan : ℕ → Event → ℕ → Type 0
 IsSpan limit quiet n = n ≡ 0
 IsSpan limit (ended p) n = n ≡ length p
 IsSpan limit passed n = n ≡ limit
+
+-- this was taken: the bytes that a course uses, with its event
+pub record IsTaken {M : Type 0} (limit : ℕ) (k : Course) (message : M → List ℕ)
+    (taken : Taken M) : Type 0 where
+  pub used : taken.used ≡ k.used
+  pub finds : Finds message k.event taken.found
+  pub span : IsSpan limit k.event taken.stretch
 
 -- the first bytes brought nothing about, and this is begun now
 pub record BringsNothing (limit s : ℕ) (b : Begun) (bytes : List ℕ)
@@ -37,27 +54,31 @@ pub record BringsNothing (limit s : ℕ) (b : Begun) (bytes : List ℕ)
   pub rest : course_of limit s b bytes ≡ ahead used (course_of limit s now (drop used bytes))
 
 -- the course ends at the last of the first bytes, with what is found
-pub record BringsAbout (limit s : ℕ) (b : Begun) (bytes : List ℕ) (used : ℕ) (buffer : List ℕ)
-    (found : Found) (At : Begun → Type 0) : Type 0 where
-  pub used_is : used ≡ (course_of limit s b bytes).used
-  pub finds : Finds (course_of limit s b bytes).event buffer found
+pub record BringsAbout {M : Type 0} (limit s : ℕ) (b : Begun) (bytes : List ℕ)
+    (message : M → List ℕ) (taken : Taken M) (At : Begun → Type 0) : Type 0 where
+  pub about : IsTaken limit (course_of limit s b bytes) message taken
   pub at : At (course_of limit s b bytes).begun
 
+-- the one where nothing is found, else the other
+abbrev pub WhereNothing : {M : Type 0} → Found M → Type 0 → Type 0 → Type 0
+WhereNothing Nothing P Q = P
+WhereNothing Damaged P Q = Q
+WhereNothing TooLong P Q = Q
+WhereNothing (Whole m) P Q = Q
+
 -- what the first bytes bring about
-abbrev pub Brings : ℕ → ℕ → Begun → List ℕ → ℕ → List ℕ → Found → (Begun → Type 0) → Type 0
-Brings limit s b bytes used buffer Nothing At = BringsNothing limit s b bytes used At
-Brings limit s b bytes used buffer TooMuch At = BringsAbout limit s b bytes used buffer TooMuch At
-Brings limit s b bytes used buffer (Broken stretch) At =
-    BringsAbout limit s b bytes used buffer (Broken stretch) At
-Brings limit s b bytes used buffer (Whole size stretch) At =
-    BringsAbout limit s b bytes used buffer (Whole size stretch) At
+abbrev pub Brings : {M : Type 0} → ℕ → ℕ → Begun → List ℕ → (M → List ℕ) → Taken M
+    → (Begun → Type 0) → Type 0
+Brings limit s b bytes message taken At =
+    WhereNothing taken.found (BringsNothing limit s b bytes taken.used At)
+    (BringsAbout limit s b bytes message taken At)
 
 -- the answer to a stretch that a sentinel ended, within the limit, by which trees a stretch holds
 abbrev pub AnswersStretch : {V : Type 0} → (List ℕ → Tree → Type 0) → (Tree → V → Type 0) → List ℕ
     → Result (Option (Answer V)) NoMemory → Type 0
 AnswersStretch holds reads p (Ok None) = ⊥
-AnswersStretch holds reads p (Ok (Some (Value v))) = (t : Tree) × holds p t × reads t v
-AnswersStretch holds reads p (Ok (Some Damaged)) = (t : Tree) → holds p t → ⊥
+AnswersStretch holds reads p (Ok (Some (answer.Value v))) = (t : Tree) × holds p t × reads t v
+AnswersStretch holds reads p (Ok (Some answer.Damaged)) = (t : Tree) → holds p t → ⊥
 AnswersStretch holds reads p (Ok (Some _)) = ⊥
 AnswersStretch holds reads p (Err e) = (m : List ℕ) × Frame p m
 
@@ -65,5 +86,5 @@ AnswersStretch holds reads p (Err e) = (m : List ℕ) × Frame p m
 abbrev pub Replies : {V : Type 0} → (List ℕ → Tree → Type 0) → (Tree → V → Type 0) → Event
     → Result (Option (Answer V)) NoMemory → Type 0
 Replies holds reads quiet r = r ≡ Ok None
-Replies holds reads passed r = r ≡ Ok (Some TooLong)
+Replies holds reads passed r = r ≡ Ok (Some answer.TooLong)
 Replies holds reads (ended p) r = AnswersStretch holds reads p r

@@ -14,7 +14,7 @@ use crate::judging::{Ordinary, Strict};
 use crate::listening::End;
 use crate::owned::OwnedReceiver;
 use crate::receiver::{Answer, NoMemory, Receiver};
-use crate::reception::{Reception, Taken};
+use crate::reception::Reception;
 use cobs::{CobsDecoderHeapless, CobsDecoderOwned};
 use line_io::Inlet;
 use postcard::{DeserializeOwned, Exact};
@@ -68,11 +68,11 @@ impl<D: Decoding> Reception<D> {
     {
         let mut rest = piece;
         while !rest.is_empty() {
-            let Taken { used, found } = self.take(rest);
-            if E::hand(alloc, self, found, hearer).is_err() {
+            let taken = self.take(rest);
+            if E::hand(alloc, self.lend(taken), hearer).is_err() {
                 return Err(NoMemory);
             }
-            let (_, after) = rest.split_at(used);
+            let (_, after) = rest.split_at(taken.used);
             rest = after;
         }
         Ok(())
@@ -118,7 +118,8 @@ impl<D: Decoding> Reception<D> {
     }
 
     /// Reads once, up to 1024 bytes, and hands on the answers that these bring about: what was handed on is then what all bytes so
-    /// far give. None where there may be more; else how the reading ended.
+    /// far give. None where at least one byte was read and there may be more; else how the reading ended. So in a loop no more calls
+    /// of the reader are used than bytes were read, and one that ends the reading.
     ///
     /// At `ReadFault` the receiver stands where it stood, so a reader that had nothing yet, or was interrupted, may be listened to
     /// again; at `Ended`, `restart` or `finish` says what the end adds. At `NoMemory` at least one answer is missing.
@@ -136,6 +137,9 @@ impl<D: Decoding> Reception<D> {
             (Holds T.takes) T.reads limit s result self.new (given ++ more) (stream ++ bytes)) }
         ensures calls { R.calls_left reader.new ≡ R.calls_left reader.old - 1 }
         ensures spent { R.calls_left reader.old ≡ 0 → result ≡ Some ReadFault }
+        ensures few { UsesFew (R.to_come reader.old) (R.to_come reader.new)
+            (R.faults reader.old) (R.faults reader.new)
+            (R.calls_left reader.old) (R.calls_left reader.new) (last_call result) }
         ensures same { SameTerms D.inside self.old self.new }
     {
         self.listen_by::<T, ByValue<Ordinary>, R, H>(alloc, reader, hearer)
@@ -158,6 +162,9 @@ impl<D: Decoding> Reception<D> {
             (given ++ more) (stream ++ bytes)) }
         ensures calls { R.calls_left reader.new ≡ R.calls_left reader.old - 1 }
         ensures spent { R.calls_left reader.old ≡ 0 → result ≡ Some ReadFault }
+        ensures few { UsesFew (R.to_come reader.old) (R.to_come reader.new)
+            (R.faults reader.old) (R.faults reader.new)
+            (R.calls_left reader.old) (R.calls_left reader.new) (last_call result) }
         ensures same { SameTerms D.inside self.old self.new }
     {
         self.listen_by::<T, ByValue<Strict>, R, H>(alloc, reader, hearer)

@@ -1,20 +1,18 @@
 //! What an event makes of a hearer: by values of its own, or by texts that lie in the receiver. So reading is written once.
 ghost use Rattle.std.specs.Prelude.{◌≡◌, ℕ, Bool, true, false, List, [], ◌∷◌, length, Ok, None, OnOk, OnErr, IsErr};
 ghost use Rattle.postcard_tree.specs.Tree.{Tree};
-ghost use Rattle.link.specs.Steps.{Event};
-ghost use Rattle.link.specs.Finds.{Finds, IsWithin};
+ghost use Rattle.link.specs.Steps.{Course};
+ghost use Rattle.link.specs.Finds.{IsTaken, lent_message};
 ghost use Rattle.link.specs.Judged.{IsJudged};
-ghost use Rattle.link.specs.Receivers.{buffer_in};
 ghost use Rattle.link.specs.Listening.{Keeps};
 ghost use Rattle.link.specs.Each.{Handed, HandsOn, Withholds, HearerLaws, reads_lent};
 ghost use Rattle.link.specs.declared.receiver.Answer.{Answer};
 
-use crate::decoding::Decoding;
 use crate::each::Hearer;
 use crate::judging::Judging;
 use crate::receiver::{Answer, NoMemory};
-use crate::reception::{Found, Reception};
-use crate::texts::{JudgingText, TextHearer};
+use crate::reception::{Taken, read};
+use crate::texts::{JudgingText, TextHearer, read_text};
 use postcard_tree::Readable;
 use std::alloc::Global;
 
@@ -41,18 +39,13 @@ pub(crate) trait Effect<V, H> {
         ensures { IsJudged holds };
 
     // Hands on the answer to what a receiver has found, where there is one.
-    fn hand<D: Decoding>(
-        alloc: Global,
-        receiver: &Reception<D>,
-        found: Found,
-        hearer: &mut H,
-    ) -> Result<(), NoMemory>
-        requires { IsWithin (length (buffer_in D.inside receiver.now)) found }
-        ensures ok { OnOk result ((e : Event) → Finds e (buffer_in D.inside receiver.now) found
-            → Handed hears hearer.old hearer.new (HandsOn holds reads e)) }
+    fn hand(alloc: Global, taken: Taken<&[u8]>, hearer: &mut H) -> Result<(), NoMemory>
+        ensures ok { OnOk result
+            ((limit : ℕ) (k : Course) → IsTaken limit k lent_message taken.entry
+            → Handed hears hearer.old hearer.new (HandsOn holds reads k.event)) }
         ensures err { OnErr result ((hearer.new ≡ hearer.old)
-            × ((e : Event) → Finds e (buffer_in D.inside receiver.now) found
-            → Withholds holds reads e)) }
+            × ((limit : ℕ) (k : Course) → IsTaken limit k lent_message taken.entry
+            → Withholds holds reads k.event)) }
         ensures memory { OnErr result (growing ≡ true) };
 
     // Hands on what the end of the stream adds.
@@ -107,13 +100,8 @@ impl<T: Readable + Drop, J: Judging<T>, H: Hearer<T>> Effect<T, H> for ByValue<J
         J::show();
     }
 
-    fn hand<D: Decoding>(
-        alloc: Global,
-        receiver: &Reception<D>,
-        found: Found,
-        hearer: &mut H,
-    ) -> Result<(), NoMemory> {
-        hand_value(hearer, receiver.read::<T, J>(alloc, found))
+    fn hand(alloc: Global, taken: Taken<&[u8]>, hearer: &mut H) -> Result<(), NoMemory> {
+        hand_value(hearer, read::<T, J>(alloc, taken))
     }
 
     fn end(hearer: &mut H, answer: Answer<T>)
@@ -175,13 +163,8 @@ impl<J: JudgingText, H: TextHearer> Effect<&'static str, H> for ByText<J> {
         J::show_text();
     }
 
-    fn hand<D: Decoding>(
-        alloc: Global,
-        receiver: &Reception<D>,
-        found: Found,
-        hearer: &mut H,
-    ) -> Result<(), NoMemory> {
-        hand_text(hearer, receiver.read_text::<J>(alloc, found))
+    fn hand(alloc: Global, taken: Taken<&[u8]>, hearer: &mut H) -> Result<(), NoMemory> {
+        hand_text(hearer, read_text::<J>(alloc, taken))
     }
 
     fn end(hearer: &mut H, answer: Answer<&'static str>)

@@ -6,9 +6,10 @@ ghost use Rattle.cobs.specs.Sentinel.{masked};
 ghost use Rattle.cobs.specs.Whole.{unpadded};
 ghost use Rattle.link.specs.InPlace.{AnswersEnded, ReadsNext, IsEnd, IsNext, AnswersNext, KeptUnlessEnded};
 
+use crate::judging::had_memory;
 use crate::receiver::{Answer, NoMemory};
-use crate::zeros::before_sentinel;
-use postcard::{Deserialize, Error, from_bytes};
+use cobs::before_sentinel;
+use postcard::{Deserialize, from_bytes};
 use std::alloc::Global;
 
 // How many sentinels stand in front.
@@ -39,10 +40,10 @@ fn read_stretch<'a, T: Deserialize<&'a [u8]>>(
     match cobs::decode_in_place_report_with_sentinel(bytes, sentinel) {
         Ok(report) => match from_bytes(alloc, &bytes[..report.frame_size()]) {
             Ok(value) => Ok(Answer::Value(value)),
-            Err(error) => match error {
-                Error::OutOfMemory => Err(NoMemory),
-                _ => Ok(Answer::Damaged),
-            },
+            Err(error) => {
+                had_memory(error)?;
+                Ok(Answer::Damaged)
+            }
         },
         Err(_) => Ok(Answer::Damaged),
     }

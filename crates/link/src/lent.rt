@@ -5,33 +5,16 @@ ghost use Rattle.cobs.specs.Frames.{Frame};
 ghost use Rattle.postcard.specs.Frames.{Holds};
 ghost use Rattle.link.specs.Stream.{HoldsExactly};
 ghost use Rattle.link.specs.Lending.{Reads};
-ghost use Rattle.link.specs.Finds.{AnswersStretch};
+ghost use Rattle.link.specs.Steps.{Course};
+ghost use Rattle.link.specs.Finds.{IsTaken, Replies, AnswersStretch, lent_message};
 
 use crate::decoding::Decoding;
-use crate::judging::is_sent;
+use crate::judging::{had_memory, is_sent, judged};
 use crate::laws;
 use crate::receiver::{Answer, NoMemory, Pushed};
 use crate::reception::{Found, Reception, Taken};
-use postcard::{Deserialize, Error, Exact, from_bytes};
+use postcard::{Deserialize, Exact, from_bytes};
 use std::alloc::Global;
-
-// What is found in a piece, with the message of a frame.
-#[derive(Drop)]
-pub(crate) enum Lent<'de> {
-    Quiet,
-    TooMuch,
-    Broken,
-    Message(&'de [u8]),
-}
-
-// How many bytes of a piece were used, and what was found in them.
-#[derive(Drop)]
-pub(crate) struct Advanced<'de> {
-    pub used: usize,
-    // how many bytes of its stretch stand before the last byte of what was found
-    pub stretch: usize,
-    pub found: Lent<'de>,
-}
 
 impl<D: Decoding> Reception<D> {
     ghost use Rattle.link.specs.contracts.reception.Reception.{the_row};
@@ -40,35 +23,13 @@ impl<D: Decoding> Reception<D> {
     ghost use Rattle.link.specs.Lending.{Advances, Leads, AnswersBy, StandsBy};
 
     // Takes bytes of a piece, up to the first that brings something about, and lends the message of a frame.
-    pub(crate) fn advance<'de>(&'de mut self, piece: &[u8]) -> Advanced<'de>
+    pub(crate) fn advance<'de>(&'de mut self, piece: &[u8]) -> Taken<&'de [u8]>
         ensures answer { Advances D.inside self.entry.now piece.now result }
         ensures* after { sem 𝓛 (follows_so (the_row D.row) (the_row D.row) self.entry.ghost_name
             none (λ _ _. ⊤) (λ n. Leads D.inside self.entry.now piece.now n)) }
     {
-        let Taken { used, found } = self.take(piece);
-        let stretch = self.span(found);
-        match found {
-            Found::Nothing => Advanced {
-                used,
-                stretch,
-                found: Lent::Quiet,
-            },
-            Found::TooMuch => Advanced {
-                used,
-                stretch,
-                found: Lent::TooMuch,
-            },
-            Found::Broken { stretch: _ } => Advanced {
-                used,
-                stretch,
-                found: Lent::Broken,
-            },
-            Found::Whole { size, stretch: _ } => Advanced {
-                used,
-                stretch,
-                found: Lent::Message(&self.buffer()[..size]),
-            },
-        }
+        let taken = self.take(piece);
+        self.lend(taken)
     }
 
     /// As `push`, of a value that may borrow from the receiver: its bytes lie there. The receiver is free again once the value is
@@ -83,8 +44,8 @@ impl<D: Decoding> Reception<D> {
         ensures* after { sem 𝓛 (follows_so (the_row D.row) (the_row D.row) self.entry.ghost_name
             none (λ _ _. ⊤) (λ n. StandsBy D.inside self.entry.now piece.now result n)) }
     {
-        let advanced = self.advance(piece);
-        read_lent(alloc, advanced)
+        let taken = self.advance(piece);
+        pushed(alloc, taken)
     }
 }
 
@@ -100,10 +61,10 @@ pub(crate) fn read_message<'de, T: Deserialize<&'de [u8]>>(
     cobs::laws::message_of_a_frame();
     match from_bytes(alloc, message) {
         Ok(value) => Ok(Some(Answer::Value(value))),
-        Err(error) => match error {
-            Error::OutOfMemory => Err(NoMemory),
-            _ => Ok(Some(Answer::Damaged)),
-        },
+        Err(error) => {
+            had_memory(error)?;
+            Ok(Some(Answer::Damaged))
+        }
     }
 }
 
@@ -128,42 +89,38 @@ pub(crate) fn read_exact_message<'de, T: Deserialize<&'de [u8]> + Exact>(
             }
             Ok(Some(Answer::Damaged))
         }
-        Err(error) => match error {
-            Error::OutOfMemory => Err(NoMemory),
-            _ => Ok(Some(Answer::Damaged)),
-        },
+        Err(error) => {
+            had_memory(error)?;
+            Ok(Some(Answer::Damaged))
+        }
     }
 }
 
-// The answer to what was found.
-fn read_lent<'de, T: Deserialize<&'de [u8]>>(alloc: Global, advanced: Advanced<'de>) -> Pushed<T>
-    ensures { Reads T.takes T.reads T.growing advanced.entry result }
+// The answer to what was found, by a value that may borrow from it.
+fn read_lent<'de, T: Deserialize<&'de [u8]>>(
+    alloc: Global,
+    taken: Taken<&'de [u8]>,
+) -> Result<Option<Answer<T>>, NoMemory>
+    ensures replies { (limit : ℕ) (k : Course) → IsTaken limit k lent_message taken.entry
+        → Replies (Holds T.takes) T.reads k.event result }
+    ensures memory { OnErr result (T.growing ≡ true) }
 {
-    let Advanced {
-        used,
-        stretch,
-        found,
-    } = advanced;
-    match found {
-        Lent::Quiet => Pushed {
-            used,
-            stretch,
-            answer: Ok(None),
-        },
-        Lent::TooMuch => Pushed {
-            used,
-            stretch,
-            answer: Ok(Some(Answer::TooLong)),
-        },
-        Lent::Broken => Pushed {
-            used,
-            stretch,
-            answer: Ok(Some(Answer::Damaged)),
-        },
-        Lent::Message(message) => Pushed {
-            used,
-            stretch,
-            answer: read_message(alloc, message),
-        },
+    judged::<T>();
+    match taken.found {
+        Found::Nothing => Ok(None),
+        Found::Damaged => Ok(Some(Answer::Damaged)),
+        Found::TooLong => Ok(Some(Answer::TooLong)),
+        Found::Whole(message) => read_message(alloc, message),
+    }
+}
+
+// What a push gives that took this.
+fn pushed<'de, T: Deserialize<&'de [u8]>>(alloc: Global, taken: Taken<&'de [u8]>) -> Pushed<T>
+    ensures { Reads T.takes T.reads T.growing taken.entry result }
+{
+    Pushed {
+        used: taken.used,
+        stretch: taken.stretch,
+        answer: read_lent(alloc, taken),
     }
 }

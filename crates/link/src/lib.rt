@@ -76,7 +76,6 @@ mod sender;
 mod session;
 mod texts;
 mod writing;
-mod zeros;
 
 pub use decoding::Decoding;
 pub use each::{

@@ -4,34 +4,34 @@ ghost use Rattle.postcard.specs.Frames.{Holds};
 ghost use Rattle.cobs.specs.Frames.{NoZero};
 ghost use Rattle.cobs.specs.Sentinel.{masked};
 ghost use Rattle.link.specs.Stream.{Begun, kept, begun, HoldsExactly};
-ghost use Rattle.link.specs.Steps.{Event, event_at, begun_at, course_of, RunsOn, RunsPast};
+ghost use Rattle.link.specs.Steps.{Event, event_at, begun_at, Course, course_of, RunsOn, RunsPast};
 ghost use Rattle.link.specs.Pushes.{Answered, IsStretchOf, finished};
-ghost use Rattle.link.specs.Finds.{Finds, IsSpan, IsWithin, Brings, Replies};
+ghost use Rattle.link.specs.Finds.{Finds, IsWithin, IsTaken, Brings, Replies, front_of, lent_message};
 
 use crate::decoding::Decoding;
 use crate::judging::{Judging, Ordinary, Strict};
 use crate::receiver::{Answer, NoMemory, Pushed};
-use crate::zeros::before_sentinel;
+use cobs::before_sentinel;
 use postcard::{DeserializeOwned, Exact};
 use postcard_tree::Readable;
 use std::alloc::Global;
 
-// What is found in a piece.
+// What is found in a piece, by what a frame carries: how long its message is, which stands in front of the buffer, or the message.
 #[derive(Clone, Copy)]
-pub(crate) enum Found {
+pub(crate) enum Found<M> {
     Nothing,
-    TooMuch,
-    // no frame: how long the stretch was
-    Broken { stretch: usize },
-    // a frame: how long its message is, which stands in front of the buffer, and how long the stretch was
-    Whole { size: usize, stretch: usize },
+    Damaged,
+    TooLong,
+    Whole(M),
 }
 
 // How many bytes of a piece were used, and what was found in them.
 #[derive(Clone, Copy)]
-pub(crate) struct Taken {
+pub(crate) struct Taken<M> {
     pub used: usize,
-    pub found: Found,
+    // how many bytes of its stretch stand before the last byte of what was found
+    pub stretch: usize,
+    pub found: Found<M>,
 }
 
 /// Receives values from a stream that comes in pieces, with stretches of at most so many bytes as its limit says. A stretch ends at
@@ -45,6 +45,24 @@ pub struct Reception<D> {
     pub(crate) count: usize,
     pub(crate) past: bool,
     pub(crate) sentinel: u8,
+}
+
+// The answer to what was found.
+pub(crate) fn read<T: Readable + Drop, J: Judging<T>>(
+    alloc: Global,
+    taken: Taken<&[u8]>,
+) -> Result<Option<Answer<T>>, NoMemory>
+    ensures replies { (limit : ℕ) (k : Course) → IsTaken limit k lent_message taken.entry
+        → Replies J.holds T.reads k.event result }
+    ensures memory { OnErr result (T.growing ≡ true) }
+{
+    J::show();
+    match taken.found {
+        Found::Nothing => Ok(None),
+        Found::Damaged => Ok(Some(Answer::Damaged)),
+        Found::TooLong => Ok(Some(Answer::TooLong)),
+        Found::Whole(message) => J::judge(alloc, message, taken.stretch),
+    }
 }
 
 impl<D: Decoding> Reception<D> {
@@ -65,32 +83,31 @@ impl<D: Decoding> Reception<D> {
     }
 
     // Ends a stretch.
-    fn close(&mut self) -> Found
+    fn close(&mut self) -> Found<usize>
         ensures found { (limit s : ℕ) (p : List ℕ) → IsAt D.inside limit s self.old (kept p)
             → 0 < length p
             → IsAt D.inside limit s self.new (kept [])
-            × Finds (Event.ended p) (buffer_in D.inside self.new) result }
+            × Finds (front_of (buffer_in D.inside self.new)) (Event.ended p) result }
         ensures within { IsWithin (length (buffer_in D.inside self.new)) result }
         ensures same { SameTerms D.inside self.old self.new }
     {
         cobs::laws::message_of_a_frame();
         cobs::laws::shorter();
         cobs::laws::answers();
-        let stretch = self.count;
         self.count = 0;
         match self.decoder.feed(self.sentinel) {
-            Ok(Some(size)) => Found::Whole { size, stretch },
+            Ok(Some(size)) => Found::Whole(size),
             Ok(None) => Found::Nothing,
-            Err(_) => Found::Broken { stretch },
+            Err(_) => Found::Damaged,
         }
     }
 
     // Takes a sentinel.
-    fn take_sentinel(&mut self) -> Found
+    fn take_sentinel(&mut self) -> Found<usize>
         ensures at { (limit s : ℕ) (b : Begun) → IsAt D.inside limit s self.old b
             → IsAt D.inside limit s self.new (begun_at limit s b s) }
         ensures finds { (limit s : ℕ) (b : Begun) → IsAt D.inside limit s self.old b
-            → Finds (event_at limit s b s) (buffer_in D.inside self.new) result }
+            → Finds (front_of (buffer_in D.inside self.new)) (event_at limit s b s) result }
         ensures within { IsWithin (length (buffer_in D.inside self.new)) result }
         ensures same { SameTerms D.inside self.old self.new }
     {
@@ -130,9 +147,9 @@ impl<D: Decoding> Reception<D> {
     }
 
     // Takes bytes through the first sentinel, or up to the byte past the limit.
-    fn take_next(&mut self, bytes: &[u8]) -> Taken
+    fn take_next(&mut self, bytes: &[u8]) -> Taken<usize>
         ensures brings { (limit s : ℕ) (b : Begun) → IsAt D.inside limit s self.old b
-            → Brings limit s b bytes.now result.used (buffer_in D.inside self.new) result.found
+            → Brings limit s b bytes.now (front_of (buffer_in D.inside self.new)) result
             (IsAt D.inside limit s self.new) }
         ensures within { IsWithin (length (buffer_in D.inside self.new)) result.found }
         ensures bound { result.used ≤ length bytes.now }
@@ -145,7 +162,8 @@ impl<D: Decoding> Reception<D> {
             Some(used) => {
                 return Taken {
                     used,
-                    found: Found::TooMuch,
+                    stretch: self.limit(),
+                    found: Found::TooLong,
                 };
             }
             None => {}
@@ -153,24 +171,25 @@ impl<D: Decoding> Reception<D> {
         if behind.is_empty() {
             return Taken {
                 used: size,
+                stretch: 0,
                 found: Found::Nothing,
             };
         }
+        let stretch = self.count;
         Taken {
             used: size + 1,
+            stretch,
             found: self.take_sentinel(),
         }
     }
 
     // Takes bytes of a piece, up to the first that brings something about.
-    pub(crate) fn take(&mut self, piece: &[u8]) -> Taken
-        ensures used { (limit s : ℕ) (b : Begun) → IsAt D.inside limit s self.old b
-            → result.used ≡ (course_of limit s b piece.now).used }
+    pub(crate) fn take(&mut self, piece: &[u8]) -> Taken<usize>
         ensures at { (limit s : ℕ) (b : Begun) → IsAt D.inside limit s self.old b
             → IsAt D.inside limit s self.new (course_of limit s b piece.now).begun }
-        ensures finds { (limit s : ℕ) (b : Begun) → IsAt D.inside limit s self.old b
-            → Finds (course_of limit s b piece.now).event
-            (buffer_in D.inside self.new) result.found }
+        ensures taken { (limit s : ℕ) (b : Begun) → IsAt D.inside limit s self.old b
+            → IsTaken limit (course_of limit s b piece.now)
+            (front_of (buffer_in D.inside self.new)) result }
         ensures within { IsWithin (length (buffer_in D.inside self.new)) result.found }
         ensures bound { result.used ≤ length piece.now }
         ensures forward { 0 < length piece.now → 0 < result.used }
@@ -179,56 +198,53 @@ impl<D: Decoding> Reception<D> {
         let mut at = 0;
         while at < piece.len() {
             let (_, rest) = piece.split_at(at);
-            let Taken { used, found } = self.take_next(rest);
+            let Taken {
+                used,
+                stretch,
+                found,
+            } = self.take_next(rest);
             at += used;
             match found {
                 Found::Nothing => {}
-                found => return Taken { used: at, found },
+                found => {
+                    return Taken {
+                        used: at,
+                        stretch,
+                        found,
+                    };
+                }
             }
         }
         Taken {
             used: piece.len(),
+            stretch: 0,
             found: Found::Nothing,
         }
     }
 
-    // Where the message of a frame stands.
-    pub(crate) fn buffer(&self) -> &[u8]
-        ensures { result.now ≡ buffer_in D.inside self.now }
+    // The same with the message of a frame, which stands in front of the buffer.
+    pub(crate) fn lend(&self, taken: Taken<usize>) -> Taken<&[u8]>
+        requires { IsWithin (length (buffer_in D.inside self.now)) taken.found }
+        ensures same { (limit : ℕ) (k : Course)
+            → IsTaken limit k (front_of (buffer_in D.inside self.now)) taken
+            → IsTaken limit k lent_message result }
+        ensures used { result.used ≡ taken.used }
     {
-        self.decoder.dest()
-    }
-
-    // How many bytes of its stretch stand before the last byte of what was found.
-    pub(crate) fn span(&self, found: Found) -> usize
-        ensures { (e : Event) → Finds e (buffer_in D.inside self.now) found
-            → IsSpan (limit_of D.inside self.now) e result }
-    {
-        match found {
-            Found::Nothing => 0,
-            Found::TooMuch => self.limit(),
-            Found::Broken { stretch } => stretch,
-            Found::Whole { size: _, stretch } => stretch,
-        }
-    }
-
-    // The answer to what was found.
-    pub(crate) fn read<T: Readable + Drop, J: Judging<T>>(
-        &self,
-        alloc: Global,
-        found: Found,
-    ) -> Result<Option<Answer<T>>, NoMemory>
-        requires { IsWithin (length (buffer_in D.inside self.now)) found }
-        ensures replies { (e : Event) → Finds e (buffer_in D.inside self.now) found
-            → Replies J.holds T.reads e result }
-        ensures memory { OnErr result (T.growing ≡ true) }
-    {
-        J::show();
-        match found {
-            Found::Nothing => Ok(None),
-            Found::TooMuch => Ok(Some(Answer::TooLong)),
-            Found::Broken { stretch: _ } => Ok(Some(Answer::Damaged)),
-            Found::Whole { size, stretch } => J::judge(alloc, &self.buffer()[..size], stretch),
+        let Taken {
+            used,
+            stretch,
+            found,
+        } = taken;
+        let found = match found {
+            Found::Nothing => Found::Nothing,
+            Found::Damaged => Found::Damaged,
+            Found::TooLong => Found::TooLong,
+            Found::Whole(size) => Found::Whole(&self.decoder.dest()[..size]),
+        };
+        Taken {
+            used,
+            stretch,
+            found,
         }
     }
 
@@ -251,13 +267,11 @@ impl<D: Decoding> Reception<D> {
         ensures memory { OnErr result.answer (T.growing ≡ true) }
         ensures same { SameTerms D.inside self.old self.new }
     {
-        let Taken { used, found } = self.take(piece);
-        let stretch = self.span(found);
-        let answer = self.read::<T, J>(alloc, found);
+        let taken = self.take(piece);
         Pushed {
-            used,
-            stretch,
-            answer,
+            used: taken.used,
+            stretch: taken.stretch,
+            answer: read::<T, J>(alloc, self.lend(taken)),
         }
     }
 

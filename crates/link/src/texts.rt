@@ -5,11 +5,11 @@ ghost use Rattle.cobs.specs.Frames.{Frame};
 ghost use Rattle.postcard_tree.specs.Tree.{Tree};
 ghost use Rattle.postcard_tree.specs.Reading.{TakesText};
 ghost use Rattle.postcard.specs.Frames.{Holds};
-ghost use Rattle.link.specs.Steps.{Event};
+ghost use Rattle.link.specs.Steps.{Course};
 ghost use Rattle.link.specs.Stream.{HoldsExactly};
-ghost use Rattle.link.specs.Finds.{Finds, IsWithin, Replies, AnswersStretch};
+ghost use Rattle.link.specs.Finds.{IsTaken, lent_message, Replies, AnswersStretch};
 ghost use Rattle.link.specs.Judged.{IsJudged};
-ghost use Rattle.link.specs.Receivers.{SameTerms, buffer_in};
+ghost use Rattle.link.specs.Receivers.{SameTerms};
 ghost use Rattle.link.specs.Listening.{Hears, ReceiverFitsInMemory};
 ghost use Rattle.link.specs.Each.{Handed, HearerLaws, IsHeardNow, IsReceivedNow, HasReadNow, HadMemory, UsesFew, last_call, reads_lent};
 ghost use Rattle.link.specs.declared.receiver.Answer.{Answer};
@@ -23,7 +23,7 @@ use crate::lent::{read_exact_message, read_message};
 use crate::listening::End;
 use crate::owned::OwnedReceiver;
 use crate::receiver::{Answer, NoMemory, Receiver};
-use crate::reception::{Found, Reception};
+use crate::reception::{Found, Reception, Taken};
 use cobs::{CobsDecoderHeapless, CobsDecoderOwned};
 use line_io::Inlet;
 use std::alloc::Global;
@@ -105,27 +105,25 @@ impl JudgingText for Strict {
     }
 }
 
-impl<D: Decoding> Reception<D> {
-    // The answer to what was found, by a text that lies in the receiver.
-    pub(crate) fn read_text<'de, J: JudgingText>(
-        &'de self,
-        alloc: Global,
-        found: Found,
-    ) -> Result<Option<Answer<&'de str>>, NoMemory>
-        requires { IsWithin (length (buffer_in D.inside self.now)) found }
-        ensures replies { (e : Event) → Finds e (buffer_in D.inside self.now) found
-            → Replies J.holds reads_lent e result }
-        ensures memory { IsOk result }
-    {
-        J::show_text();
-        match found {
-            Found::Nothing => Ok(None),
-            Found::TooMuch => Ok(Some(Answer::TooLong)),
-            Found::Broken { stretch: _ } => Ok(Some(Answer::Damaged)),
-            Found::Whole { size, stretch } => J::judge_text(alloc, &self.buffer()[..size], stretch),
-        }
+// The answer to what was found, by a text that lies in it.
+pub(crate) fn read_text<'de, J: JudgingText>(
+    alloc: Global,
+    taken: Taken<&'de [u8]>,
+) -> Result<Option<Answer<&'de str>>, NoMemory>
+    ensures replies { (limit : ℕ) (k : Course) → IsTaken limit k lent_message taken.entry
+        → Replies J.holds reads_lent k.event result }
+    ensures memory { IsOk result }
+{
+    J::show_text();
+    match taken.found {
+        Found::Nothing => Ok(None),
+        Found::Damaged => Ok(Some(Answer::Damaged)),
+        Found::TooLong => Ok(Some(Answer::TooLong)),
+        Found::Whole(message) => J::judge_text(alloc, message, taken.stretch),
     }
+}
 
+impl<D: Decoding> Reception<D> {
     /// As `listen` of texts, which lie in the receiver while they are handed on: no memory is asked for, and the end is never
     /// `NoMemory`.
     pub fn listen_texts<R: Inlet, H: TextHearer>(
@@ -143,6 +141,9 @@ impl<D: Decoding> Reception<D> {
         ensures memory { HadMemory result }
         ensures calls { R.calls_left reader.new ≡ R.calls_left reader.old - 1 }
         ensures spent { R.calls_left reader.old ≡ 0 → result ≡ Some ReadFault }
+        ensures few { UsesFew (R.to_come reader.old) (R.to_come reader.new)
+            (R.faults reader.old) (R.faults reader.new)
+            (R.calls_left reader.old) (R.calls_left reader.new) (last_call result) }
         ensures same { SameTerms D.inside self.old self.new }
     {
         self.listen_by::<&'static str, ByText<Ordinary>, R, H>(alloc, reader, hearer)
@@ -166,6 +167,9 @@ impl<D: Decoding> Reception<D> {
         ensures memory { HadMemory result }
         ensures calls { R.calls_left reader.new ≡ R.calls_left reader.old - 1 }
         ensures spent { R.calls_left reader.old ≡ 0 → result ≡ Some ReadFault }
+        ensures few { UsesFew (R.to_come reader.old) (R.to_come reader.new)
+            (R.faults reader.old) (R.faults reader.new)
+            (R.calls_left reader.old) (R.calls_left reader.new) (last_call result) }
         ensures same { SameTerms D.inside self.old self.new }
     {
         self.listen_by::<&'static str, ByText<Strict>, R, H>(alloc, reader, hearer)

@@ -5,4 +5,4 @@ use Rattle.framed_lib.proofs.lines.write_answers.Goals as goal
 pub returns-clause-err : goal.returns-clause-err
 returns-clause-err g c =
     let put = rw c.new-held.ensures at c.in_ok-put_answers.ensures.ok in
-    on_err_weaker c.write_whole.result (λ p. put-flush put (rw c.as_slice.ensures.value at p)) c.write_whole.ensures.err
+    on_err_weaker c.write_all.result (λ p. put-flush put (rw c.as_slice.ensures.value at p)) c.write_all.ensures.err

@@ -8,9 +8,9 @@ pub returns-clause-ok : goal.returns-clause-ok
 returns-clause-ok g c =
     let held : c.as_slice.result.now ≡ c.args.held.now.items = grind (arith, common_steps) in
     let kept : c.try_extend_from_slice-2.new.self.items ≡ [] = grind (arith, common_steps) in
-    on_ok_weaker c.write_whole-2.result (λ w. put-through held kept c.in_ok-write_whole.ensures.ok w) c.write_whole-2.ensures.ok
+    on_ok_weaker c.write_all-2.result (λ w. put-through held kept c.in_ok-write_all.ensures.ok w) c.write_all-2.ensures.ok
 
 pub returns-clause-err : goal.returns-clause-err
 returns-clause-err g c =
     let held : c.as_slice.result.now ≡ c.args.held.now.items = grind (arith, common_steps) in
-    on_err_weaker c.write_whole-2.result (λ w. broke-through held c.in_ok-write_whole.ensures.ok w) c.write_whole-2.ensures.err
+    on_err_weaker c.write_all-2.result (λ w. broke-through held c.in_ok-write_all.ensures.ok w) c.write_all-2.ensures.err

@@ -9,12 +9,12 @@ use Rattle.framed_lib.proofs.refusals.say_refusals.Goals as goal
 pub returns-clause-ok : goal.returns-clause-ok
 returns-clause-ok g c =
     let sent = c.in_ok-good.ensures.ok in
-    (sent.0, sent.1, sent.2, put-went {a = refusals 1 sent.0} sent.3 (rw c.as_slice.ensures.value at c.in_ok-write_whole.ensures.ok))
+    (sent.0, sent.1, sent.2, put-went {a = refusals 1 sent.0} sent.3 (rw c.as_slice.ensures.value at c.in_ok-write_all.ensures.ok))
 
-pub returns-in_err-write_whole-clause-err : goal.returns-in_err-write_whole-clause-err
-returns-in_err-write_whole-clause-err g c =
+pub returns-in_err-write_all-clause-err : goal.returns-in_err-write_all-clause-err
+returns-in_err-write_all-clause-err g c =
     let sent = c.in_ok-good.ensures.ok in
     let h : (said : List ℕ) × SaysFirst c.args.text.now said
-    × Writing g.E.Outlet.written g.E.Outlet.faults g.E.Outlet.calls_left c.args.faults.now c.write_whole.new.outlet broken said =
-    (refusals 1 sent.0, all-first c.args.text.now sent.0 sent.1, put-flush {a = refusals 1 sent.0} sent.3 (rw c.as_slice.ensures.value at c.in_err-write_whole.ensures.err)) in
+    × Writing g.E.Outlet.written g.E.Outlet.faults g.E.Outlet.calls_left c.args.faults.now c.write_all.new.outlet broken said =
+    (refusals 1 sent.0, all-first c.args.text.now sent.0 sent.1, put-flush {a = refusals 1 sent.0} sent.3 (rw c.as_slice.ensures.value at c.in_err-write_all.ensures.err)) in
     on_err _ h

@@ -8,14 +8,14 @@ pub returns-in_default : goal.returns-in_default
 returns-in_default g c =
     bad-unsaid c.args.strict c.args.sentinel c.args.text.items
     (Writing g.W.Outlet.written g.W.Outlet.faults g.W.Outlet.calls_left c.args.writer.now c.args.writer.now)
-    (Writing g.E.Outlet.written g.E.Outlet.faults g.E.Outlet.calls_left c.args.faults.now c.write_whole.new.outlet)
+    (Writing g.E.Outlet.written g.E.Outlet.faults g.E.Outlet.calls_left c.args.faults.now c.write_all.new.outlet)
     (c.if-not-decode_hex.ensures.bad refl) (WentOut-none _ _) c.in_default.ensures.err
 
 pub returns-then-not-decode_hex : goal.returns-then-not-decode_hex
 returns-then-not-decode_hex g c =
     bad-said c.args.strict c.args.sentinel c.args.text.items
     (Writing g.W.Outlet.written g.W.Outlet.faults g.W.Outlet.calls_left c.args.writer.now c.args.writer.now)
-    (Writing g.E.Outlet.written g.E.Outlet.faults g.E.Outlet.calls_left c.args.faults.now c.write_whole.new.outlet)
+    (Writing g.E.Outlet.written g.E.Outlet.faults g.E.Outlet.calls_left c.args.faults.now c.write_all.new.outlet)
     (c.if-not-decode_hex.ensures.bad refl) (WentOut-none _ _) c.in-Ok.ensures.ok
 
 pub returns : goal.returns

@@ -27,16 +27,13 @@ returns-else-is_sent-clause-stretch g c =
       spells = c.short_is_a_spelling.ensures;
     } c.by_lengths.ensures g.met.T.Readable.laws.taken g.met.T.Exact.writes_back c.args.message.now _ c.in-Ok.value c.args.stretch c.in-Ok.ensures.value.1 _ c.is_sent.ensures (λ x. not_both c.is_sent.result c.if-is_sent.false x)
 
-pub returns-in_default : goal.returns-in_default
-returns-in_default g c = record {
-  stretch = λ p f e t h.
-      holds_none g.T.Readable.takes g.T.Readable.reads g.T.Readable.growing p _ c.in-Err.error c.message_of_a_frame.ensures.one f c.in-Err.ensures.only c.in_default.not-OutOfMemory t
-      (exactly_holds g.T.Readable.takes record {
-        one_message = c.message_of_a_frame.ensures.one;
-        one_shortest = c.frames_of_a_message.ensures.shortest;
-        apart = g.met.T.Readable.laws.once;
-        trees = g.met.T.Readable.laws.trees;
-        spells = c.short_is_a_spelling.ensures;
-      } p t h);
-  memory = tt;
-}
+pub returns-in_ok-had_memory-in-Err-clause-stretch : goal.returns-in_ok-had_memory-in-Err-clause-stretch
+returns-in_ok-had_memory-in-Err-clause-stretch g c p f e t h =
+    holds_none g.T.Readable.takes g.T.Readable.reads g.T.Readable.growing p _ c.in-Err.error c.message_of_a_frame.ensures.one f c.in-Err.ensures.only c.in_ok-had_memory-in-Err.ensures.ok t
+    (exactly_holds g.T.Readable.takes record {
+      one_message = c.message_of_a_frame.ensures.one;
+      one_shortest = c.frames_of_a_message.ensures.shortest;
+      apart = g.met.T.Readable.laws.once;
+      trees = g.met.T.Readable.laws.trees;
+      spells = c.short_is_a_spelling.ensures;
+    } p t h)

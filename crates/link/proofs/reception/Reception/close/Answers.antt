@@ -22,10 +22,7 @@ returns-in-Ok-Some-clause-found g c limit s p h l =
           },
         );
       },
-      (
-        whole_frame _ p l k.bytes c.message_of_a_frame.ensures.is c.in-Ok-Some.field-0 c.in-Ok-Some.size _ c.in-Ok-Some.field-0-is (sym c.in-Ok-Some.is ∙ t.answer p k.taken) (rw c.in-Ok-Some.is at (t.message p k.taken k.decoded)),
-        k.counted,
-      ),
+      whole_frame _ p l k.bytes c.message_of_a_frame.ensures.is c.in-Ok-Some.field-0 c.in-Ok-Some.size _ c.in-Ok-Some.field-0-is (sym c.in-Ok-Some.is ∙ t.answer p k.taken) (rw c.in-Ok-Some.is at (t.message p k.taken k.decoded)),
     )
 
 pub returns-in-Err-clause-found : goal.returns-in-Err-clause-found
@@ -48,10 +45,7 @@ returns-in-Err-clause-found g c limit s p h l =
           },
         );
       },
-      (
-        no_frame _ p l k.bytes c.message_of_a_frame.ensures.one c.shorter.ensures c.answers.ensures.frames c.in-Err.field-0 (sym c.in-Err.is ∙ t.answer p k.taken) (omega (arith, k.room, k.within)),
-        k.counted,
-      ),
+      no_frame _ p l k.bytes c.message_of_a_frame.ensures.one c.shorter.ensures c.answers.ensures.frames c.in-Err.field-0 (sym c.in-Err.is ∙ t.answer p k.taken) (omega (arith, k.room, k.within)),
     )
 
 pub returns-in-Ok-None-clause-found : goal.returns-in-Ok-None-clause-found

@@ -21,10 +21,11 @@ returns-then-is_err-clause-err g c limit s stream given h =
     let e = on_err c.hand.result _ (sym c.is_err.ensures.value ∙ c.if-is_err.true) c.hand.ensures.err in
     rw e.0 (handed_as g.E.Effect.hears g.E.Effect.laws _ _ _ _ k.2 (λ more heard.
     let b = begun limit s (stream ++ k.0) in
-    let held = e.1 _ (c.take-used.ensures.finds limit s b heard.after) in
-    stopped_by g.E.Effect.holds g.E.Effect.reads limit s (stream ++ k.0) rest (given ++ more) (given ++ more) c.take-used.result.used held.reply _
+    let taken = c.take-taken.ensures.taken limit s b heard.after in
+    let held = e.1 limit _ (c.lend.ensures.same limit _ taken) in
+    stopped_by g.E.Effect.holds g.E.Effect.reads limit s (stream ++ k.0) rest (given ++ more) (given ++ more) c.take-taken.result.used held.reply _
     (ap (λ x. stream ++ x) k.1 ∙ sym (append_assoc stream k.0 rest)) heard.given
-    (answered g.E.Effect.holds limit s b rest (stream ++ k.0) refl g.E.Effect.reads _ held.reply (c.take-used.ensures.used limit s b heard.after) held.replies) refl held.some))
+    (answered g.E.Effect.holds limit s b rest (stream ++ k.0) refl g.E.Effect.reads _ held.reply taken.used held.replies) refl held.some))
 
 pub returns-then-is_err-clause-memory : goal.returns-then-is_err-clause-memory
 returns-then-is_err-clause-memory g c = on_err c.hand.result _ (sym c.is_err.ensures.value ∙ c.if-is_err.true) c.hand.ensures.memory
@@ -32,20 +33,20 @@ returns-then-is_err-clause-memory g c = on_err c.hand.result _ (sym c.is_err.ens
 pub loop-rest-preserved : goal.loop-rest-preserved
 loop-rest-preserved g c =
     let rest = c.loop-rest.rest.now in
-    let used = c.take-used.result.used in
+    let used = c.take-taken.result.used in
     let kept = on_ok c.hand.result _ (sym c.is_err.ensures.value ∙ c.if-is_err.false) c.hand.ensures.ok in (
-      (c.take-used.ensures.same.0 ∙ c.loop-rest.invariant.0.0, c.take-used.ensures.same.1 ∙ c.loop-rest.invariant.0.1),
+      (c.take-taken.ensures.same.0 ∙ c.loop-rest.invariant.0.0, c.take-taken.ensures.same.1 ∙ c.loop-rest.invariant.0.1),
       λ limit s stream given h.
           let k = c.loop-rest.invariant.1 limit s stream given h in
           let b = begun limit s (stream ++ k.0) in (
             k.0 ++ take used rest,
             parts_on c.args.piece.now k.0 rest used k.1 ∙ ap (λ x. (k.0 ++ take used rest) ++ x) (sym c.split_at.ensures.back),
-            handed_next g.E.Effect.hears g.E.Effect.laws _ _ _ _ _ _ k.2 (kept _ (c.take-used.ensures.finds limit s b k.2.so.after)) (λ ys hands.
+            handed_next g.E.Effect.hears g.E.Effect.laws _ _ _ _ _ _ k.2 (kept limit _ (c.lend.ensures.same limit _ (c.take-taken.ensures.taken limit s b k.2.so.after))) (λ ys hands.
                 let heard = k.2.so in
                 let xs = k.2.answers in
-                let at = c.take-used.ensures.used limit s b heard.after in record {
-                  after = subst (λ x. IsBehind g.D.Decoding.inside limit s c.take-used.new.self x) (append_assoc stream k.0 (take used rest))
-                      (behind_after limit s (IsAt g.D.Decoding.inside limit s c.take-used.new.self) (stream ++ k.0) rest _ at (c.take-used.ensures.at limit s b heard.after));
+                let at = (c.take-taken.ensures.taken limit s b heard.after).used in record {
+                  after = subst (λ x. IsBehind g.D.Decoding.inside limit s c.take-taken.new.self x) (append_assoc stream k.0 (take used rest))
+                      (behind_after limit s (IsAt g.D.Decoding.inside limit s c.take-taken.new.self) (stream ++ k.0) rest _ at (c.take-taken.ensures.at limit s b heard.after));
                   given = rw (sym (append_assoc stream k.0 (take used rest))) (subst (λ zs. HasGiven g.E.Effect.holds g.E.Effect.reads limit s zs ((stream ++ k.0) ++ take used rest)) (append_assoc given xs ys)
                       (kept_given g.E.Effect.holds g.E.Effect.reads limit s (stream ++ k.0) rest (given ++ xs) ((given ++ xs) ++ ys) used hands.reply heard.given
                       (answered g.E.Effect.holds limit s b rest (stream ++ k.0) refl g.E.Effect.reads _ hands.reply at hands.replies)

@@ -4,7 +4,7 @@ use Rattle.std.proofs.Common.{◌≡◌, [], ◌∷◌, refl, sym, subst}
 use Rattle.std.specs.Prelude.{⊤}
 use mathlib.Core.Option.{none}
 use seplogic.Ra.Ura.{Ura}
-use mir.Syntax.{Fn, Args as TypeArgs, a_type, dcons, dnil, named, erased}
+use mir.Syntax.{w8, Fn, Args as TypeArgs, a_type, dcons, dnil, named, erased}
 use mir.MapTy.{inst_fn}
 use base.Fml.{Fml, Lft, GName, ftrue, flft}
 use base.Logic.{ent, id⊢, emp, ex_e, ex_i}
@@ -28,8 +28,10 @@ use denote.Struct.Field.{shr_slice_field}
 use denote.Struct.Laws as struct_law
 use denote.Struct.Loose as struct_loose
 use denote.Steps.{nothing, heard, peeks}
+use denote.Plain.{uint_row_laws}
 use denote.Param.{param, bounded}
-use denote.Param.Laws.{Laws, param_laws}
+use denote.Param.Laws.{Laws, param_laws, of_field}
+use denote.Param.Shared.{copy_shared}
 use denote.Triple.Clauses.{Lasts, lasts}
 use denote.Triple.Spec.{triple_of}
 use denote.Triple.Call.{calls_at}
@@ -42,15 +44,15 @@ use Rattle.postcard_de.specs.contracts.deserialize.Deserialize.TheBound as bound
 use Rattle.postcard_de.specs.contracts.de_flavors.RefSliceU8Bytes.TheImpl as bytes
 use Rattle.link.specs.Lending.{Reads, Advances, Leads, AnswersBy, StandsBy}
 use Rattle.link.proofs.LentBy.{lent_answers, lent_stands}
-use Rattle.link.specs.contracts.lent.Advanced.{the_row as Advanced, the_type as advanced_type}
-use Rattle.link.proofs.lent.Advanced.TheLaws as advanced
+use Rattle.link.specs.contracts.reception.Taken.{the_row as Taken, the_type as taken_type}
+use Rattle.link.proofs.reception.Taken.TheLaws as taken
 use Rattle.link.specs.contracts.receiver.Pushed.{the_row as Pushed, the_type as pushed_type}
 use Rattle.link.proofs.receiver.Pushed.TheLaws as pushed
 use Rattle.link.specs.contracts.reception.Reception.{the_row as Reception}
 use Rattle.link.specs.contracts.reception.Reception.advance as advances
 use Rattle.link.proofs.reception.Reception.advance.Met as advanced_met
-use Rattle.link.specs.contracts.lent.read_lent as reads
-use Rattle.link.proofs.lent.read_lent.Met as read_met
+use Rattle.link.specs.contracts.lent.pushed as reads
+use Rattle.link.proofs.lent.pushed.Met as read_met
 use Rattle.link.specs.contracts.reception.Reception.push_ref as self
 use Rattle.link.specs.contracts.reception.Reception.push_ref.Key.{name as #self}
 use Rattle.link.proofs.reception.Reception.push_ref.Statement.{statement}
@@ -65,9 +67,16 @@ unfolding such_by
 ends_as {𝓤 = 𝓤} 𝓛 R γ P Q f = ex_e 𝓤 _ (λ s.
     ex_i 𝓤 (λ (t : (p : (R.Denot → R.Denot) × R.Denot) × ((w : R.Denot) → ⊤) × Q p.1). sem 𝓛 (follows_by R.Denot R.Denot R.coded.code R.coded.code γ none t.0.0 t.0.1)) (s.0, s.1, f s.0.1 s.2))
 
+-- a message that is lent so long
+abbrev Lent : NamedLft → RattleType
+Lent α = (shr_slice_field α u8 tt).row
+
+lent_laws : (α : NamedLft) → Laws (Lent α)
+lent_laws α = of_field (shr_slice_field α u8 tt) (struct_law.shr_slice_laws α u8 tt) refl (copy_shared (shr_slice_field α u8 tt) (struct_law.shr_slice_copy α u8 tt (uint_row_laws w8)))
+
 -- a value of either type has that type in memory
-lawful_advanced : {M : Type 1} {𝓤 : Ura M} (𝓛 : Logic 𝓤) (α : NamedLft) → Lawful 𝓛 (Advanced α)
-lawful_advanced 𝓛 α = struct_loose.loose_lawful (advanced_type α) (advanced.the_loose α) 𝓛
+lawful_taken : {M : Type 1} {𝓤 : Ura M} (𝓛 : Logic 𝓤) (α : NamedLft) → Lawful 𝓛 (Taken (Lent α))
+lawful_taken 𝓛 α = struct_loose.loose_lawful (taken_type (Lent α)) (taken.the_loose (Lent α) (lent_laws α)) 𝓛
 
 lawful_pushed : {M : Type 1} {𝓤 : Ura M} (𝓛 : Logic 𝓤) (T : RattleType) → Laws T → Lawful 𝓛 (Pushed (param 1 T))
 lawful_pushed 𝓛 T L = struct_loose.loose_lawful (pushed_type (param 1 T)) (pushed.the_loose (param 1 T) (param_laws 1 T L)) 𝓛
@@ -93,13 +102,13 @@ push_ref_spec 𝓤 𝓛 𝓜 𝓡 wired D T LD L gc dc gd dd gr dr dx P met_c me
     let y : W.Ghost = ((κs, qs, bounds, a, (us, (gs, (is, tt)))), tt) in
     let t₀ = ‵ (flft κs.0 qs.0) in let t₁ = ‵ (flft κs.1.0 qs.1.0) in let t₂ = ‵ (flft κs.1.1.0 qs.1.1.0) in let t₃ = ‵ (flft κs.1.1.1.0 qs.1.1.1.0) in
     let α : NamedLft = record { mir = named 0; lft = κs.0 } in let β : NamedLft = record { mir = named 1; lft = κs.1.0 } in
-    let Adv : RattleType = Advanced α in let Res : RattleType = Pushed (param 1 T) in
+    let Adv : RattleType = Taken (Lent α) in let Res : RattleType = Pushed (param 1 T) in
     -- the call of `advance`
     let E₁ = advances.ended D gc dc in
     let G₁ = triple_of 𝓛 (advances.signature D) (advances.spec D gc dc 𝓛 𝓜.mem 𝓡.returns) in
     let z₁ : G₁.Ghost = (((κs.0, (κs.1.0, (κs.1.1.0, tt))), (qs.0, (qs.1.0, (qs.1.1.0, tt))), bounds, (me, (input, tt)), (us, (is, tt))), tt) in
     let Step : Adv.Denot → Type 0 = λ x. Advances gc.inside me.now input.now x in
-    -- the call of `read_lent`
+    -- the call of `pushed`
     let P₂ : Lfts 2 → Type 0 = λ κs'. κs'.0 ≡ κs.0 in
     let Bound : Lft → Type 2 = λ κ. bound.Met 𝓛 𝓜 𝓡 𝓡.env T (shr_slice_field (record { mir = erased; lft = κ }) u8 tt).row gd dd gr dr bytes.ghosts bytes.dict in
     let E₂ = reads.ended T gd dd gr dr dx P₂ in
@@ -125,14 +134,14 @@ push_ref_spec 𝓤 𝓛 𝓜 𝓡 wired D T LD L gc dc gd dd gr dr dx P met_c me
     -- [the answer; a token; nothing; two tokens; what it ends as; the fourth token; the allocator]
     peeks ! Adv _ (shows 𝓛 Adv) x (v ∷ []) (λ has.
     let z₂ : G₂.Ghost = (((κs.0, (κs.1.1.1.0, tt)), (qs.0, (qs.1.1.1.0, tt)), tt, (alloc, (x, tt)), (gs, (v ∷ [], tt))), tt) in
-    let typed = ((lawful_advanced 𝓛 α).typed x (v ∷ []) has).0 in
+    let typed = ((lawful_taken 𝓛 α).typed x (v ∷ []) has).0 in
     lands_as ! refl refl typed $ sets ! (of_opd ! (get ! refl)) refl typed $
-    -- what `read_lent` asks, likewise
+    -- what `pushed` asks, likewise
     nothing ! $ move ! (7 ∷ 0 ∷ []) $ join ! $ move ! (5 ∷ 0 ∷ []) $ join ! $
     nothing ! $ move ! (2 ∷ 0 ∷ []) $ join ! $ move ! (6 ∷ 0 ∷ []) $ join ! $ move ! (1 ∷ 0 ∷ []) $ join ! $
     nothing ! $ use0 𝓛 (raw (fact 𝓤 (κs.0 ≡ κs.0))) (fact_i 𝓤 _ (emp 𝓤) refl) $ join ! $ use0 𝓛 (raw (fact 𝓤 (κs.1.1.1.0 ⊑ T.lives))) (fact_i 𝓤 _ (emp 𝓤) t_lives) $ join ! $
     move ! (1 ∷ 0 ∷ []) $ join ! $ use1 𝓛 (raw (G₂.pre z₂)) (id⊢ 𝓤 _) $
-    calls_at ! (framed 𝓤 H 𝓜 𝓣) G₂ (read_met.met 𝓤 𝓛 𝓜 𝓡 (code.calls-link::lent::read_lent 𝓡.env wired) T L gd dd gr dr dx P₂ (λ κs' e. subst Bound (sym e) (met_d κs p)) met_r met_x) z₂ (and_then ! (get ! refl) (and_then ! (get ! refl) (no_more !))) (λ u.
+    calls_at ! (framed 𝓤 H 𝓜 𝓣) G₂ (read_met.met 𝓤 𝓛 𝓜 𝓡 (code.calls-link::lent::pushed 𝓡.env wired) T L gd dd gr dr dx P₂ (λ κs' e. subst Bound (sym e) (met_d κs p)) met_r met_x) z₂ (and_then ! (get ! refl) (and_then ! (get ! refl) (no_more !))) (λ u.
     use1 𝓛 (later (some (λ (r : Res.Denot). ((t₀ ⊛ t₃ ⊛ ‵ ftrue) ⊛ ‵ (Res.own_val r (u ∷ []))) ⊛
     some (λ (ls : Lasts E₂ z₂.0.0 z₂.0.3). ‵ (lasts E₂ z₂.0.0 z₂.0.3 ls) ⊛ raw (fact 𝓤 (Reads gr.takes gr.reads gr.growing x r)))))) (id⊢ 𝓤 _) $
     await ! tt $ pick ! (λ r. split ! $ move ! (1 ∷ []) $ pick ! (λ ls'. split ! $ drop ! $ heard ! _ (λ answers. split ! $ move ! (1 ∷ []) $

@@ -2,9 +2,12 @@ use Rattle.std.proofs.Common.{◌≡◌, length, ◌++◌, drop, sym, ap, ◌∙
 use Rattle.std.proofs.lemmas.List.{take-append-drop}
 use Rattle.cobs.specs.InPlace.{stretch}
 use Rattle.cobs.specs.Sentinel.{masked}
+use Rattle.link.specs.Stream.{over}
 use Rattle.link.specs.Receivers.{IsAt, buffer_in}
 use Rattle.link.proofs.Fetching.{has_bytes}
-use Rattle.link.proofs.Runs.{run_of, past_brings, run_brings, sentinel_brings, sentinel_behind}
+use Rattle.link.specs.Finds.{front_of}
+use Rattle.link.proofs.Spanning.{limit_at}
+use Rattle.link.proofs.Runs.{run_of, span_at, past_brings, run_brings, sentinel_brings, sentinel_behind}
 use Rattle.link.proofs.reception.Reception.take_next.Goals as goal
 
 pub returns-in-Some-clause-brings : goal.returns-in-Some-clause-brings
@@ -16,7 +19,8 @@ returns-in-Some-clause-brings g c limit s b i =
     let parts : bytes ≡ run ++ behind = sym (take-append-drop size bytes) ∙ ap (λ x. x ++ drop size bytes) (sym c.split_at.ensures.front) ∙ ap (λ x. run ++ x) (sym c.split_at.ensures.back) in
     let before : size ≡ length (stretch (masked s bytes)) = c.before_sentinel-size.ensures.before ∙ ap (λ n. length (stretch (masked n bytes))) i.sentinel_is in
     let z = run_of s bytes run size before c.split_at.ensures.front in
-    past_brings limit s b bytes run behind size parts c.in-Some.used _ _ (c.in-Some.ensures.runs limit s b z i)
+    let r = c.in-Some.ensures.runs limit s b z i in
+    past_brings limit s b bytes run behind (front_of (buffer_in g.D.Decoding.inside c.take_run.new.self)) size parts c.in-Some.used _ c.limit.result (c.limit.ensures ∙ limit_at limit s (g.D.Decoding.inside c.take_run.new.self.decoder) c.take_run.new.self.count c.take_run.new.self.past over r.at.state) r
 
 pub returns-then-is_empty-clause-brings : goal.returns-then-is_empty-clause-brings
 returns-then-is_empty-clause-brings g c limit s b i =
@@ -27,7 +31,7 @@ returns-then-is_empty-clause-brings g c limit s b i =
     let parts : bytes ≡ run ++ behind = sym (take-append-drop size bytes) ∙ ap (λ x. x ++ drop size bytes) (sym c.split_at.ensures.front) ∙ ap (λ x. run ++ x) (sym c.split_at.ensures.back) in
     let before : size ≡ length (stretch (masked s bytes)) = c.before_sentinel-size.ensures.before ∙ ap (λ n. length (stretch (masked n bytes))) i.sentinel_is in
     let z = run_of s bytes run size before c.split_at.ensures.front in
-    run_brings limit s b bytes run behind size parts c.split_at.ensures.front_len _ (c.in-None.ensures.runs limit s b z i) c.split_at.ensures.back
+    run_brings limit s b bytes run behind (front_of (buffer_in g.D.Decoding.inside c.take_run.new.self)) size parts c.split_at.ensures.front_len _ (c.in-None.ensures.runs limit s b z i) c.split_at.ensures.back
 
 pub returns-clause-brings : goal.returns-clause-brings
 returns-clause-brings g c limit s b i =
@@ -40,5 +44,5 @@ returns-clause-brings g c limit s b i =
     let z = run_of s bytes run size before c.split_at.ensures.front in
     let some = has_bytes behind c.is_empty.result c.is_empty.ensures c.if-is_empty.false in
     let r = c.in-None.ensures.runs limit s b z i in
-    sentinel_brings limit s b bytes run behind size parts c.split_at.ensures.front_len _ r (IsAt g.D.Decoding.inside limit s c.take_sentinel.new.self) (buffer_in g.D.Decoding.inside c.take_sentinel.new.self)
-    (sentinel_behind s bytes behind size before c.split_at.ensures.back some) (c.take_sentinel.ensures.at limit s r.now r.at) c.take_sentinel.result (c.take_sentinel.ensures.finds limit s r.now r.at)
+    sentinel_brings limit s b bytes run behind (front_of (buffer_in g.D.Decoding.inside c.take_sentinel.new.self)) size parts c.split_at.ensures.front_len _ r (IsAt g.D.Decoding.inside limit s c.take_sentinel.new.self)
+    (sentinel_behind s bytes behind size before c.split_at.ensures.back some) (c.take_sentinel.ensures.at limit s r.now r.at) _ (span_at limit s _ _ _ r.now r.at.state) c.take_sentinel.result (c.take_sentinel.ensures.finds limit s r.now r.at)

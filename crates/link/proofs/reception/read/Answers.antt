@@ -1,0 +1,6 @@
+use Rattle.link.specs.Finds.{lent_message}
+use Rattle.link.proofs.Reading.{damaged_replies}
+use Rattle.link.proofs.reception.read.Goals as goal
+
+pub returns-in-Damaged-clause-replies : goal.returns-in-Damaged-clause-replies
+returns-in-Damaged-clause-replies g c limit k t = damaged_replies g.J.Judging.holds c.show.ensures g.T.Readable.reads lent_message k.event _ t.finds c.in-Damaged.is
