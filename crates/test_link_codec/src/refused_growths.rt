@@ -37,10 +37,16 @@ fn pieces(most: u8) -> Pieces {
 fn said_by_readers(rt: HostRuntime) {
     for most in [1, 4, 11] {
         let line = Line::new(&LINE, pieces(most));
-        check(&rt, is_one(&hear(&rt, line, LinkDecoder::<String, 4>::new())));
+        check(
+            &rt,
+            is_one(&hear(&rt, line, LinkDecoder::<String, 4>::new())),
+        );
     }
     if let Ok(decoder) = StrictOwnedLinkDecoder::new(rt.alloc(), 4, 0) {
-        check(&rt, is_one(&hear(&rt, Line::new(&LINE, pieces(4)), decoder)));
+        check(
+            &rt,
+            is_one(&hear(&rt, Line::new(&LINE, pieces(4)), decoder)),
+        );
     }
 }
 

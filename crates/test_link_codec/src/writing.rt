@@ -110,10 +110,7 @@ fn leaves_nothing(encoder: &mut Letters, line: &mut BytesMut, wanted: &[u8]) -> 
 #[test]
 fn a_refused_text_leaves_nothing(rt: HostRuntime) {
     let mut line = BytesMut::new(rt.alloc());
-    check(
-        &rt,
-        leaves_nothing(&mut Letters::new(), &mut line, &LINE),
-    );
+    check(&rt, leaves_nothing(&mut Letters::new(), &mut line, &LINE));
     line.clear();
     let mut marking = Letters::new_with_sentinel(0x0A);
     check(&rt, leaves_nothing(&mut marking, &mut line, &MARKED));
