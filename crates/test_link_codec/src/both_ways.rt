@@ -1,22 +1,28 @@
 //! Both ways over one connection, through a pipe in memory that has room for three bytes.
 use crate::checks::{Heard, check, letter, next};
+use crate::writing::Letters;
 use futures::Sink;
 use futures::task::Poll;
 use futures::test::MockTask;
-use link_codec::{LinkCodec, LinkDecoder, LinkEncoder};
+use link_codec::{LinkCodec, StrictLinkDecoder};
 use std::alloc::Global;
-use std::io;
 use tokio::io::{DuplexStream, duplex};
 use tokio_util::codec::Framed;
 
-type End = Framed<DuplexStream, LinkCodec<LinkDecoder<String, 4>, 4>>;
+type End = Framed<DuplexStream, LinkCodec<StrictLinkDecoder<String, 4>, 3>>;
 
-fn end(alloc: Global, stream: DuplexStream) -> io::Result<End> {
+fn end(alloc: Global, stream: DuplexStream) -> Option<End> {
     let codec = LinkCodec {
-        decoder: LinkDecoder::new(),
-        encoder: LinkEncoder::new(),
+        decoder: StrictLinkDecoder::new(),
+        encoder: Letters::new(),
     };
-    Ok(Framed::new(alloc, stream, codec)?)
+    Framed::new(alloc, stream, codec).ok()
+}
+
+// Two ends of a pipe.
+fn ends(alloc: Global) -> Option<(End, End)> {
+    let (near, far) = duplex(alloc, 3).ok()?;
+    Some((end(alloc, near)?, end(alloc, far)?))
 }
 
 // Whether all that one end was given to send has gone out.
@@ -51,25 +57,19 @@ fn talk(task: &MockTask, near: &mut End, far: &mut End) -> bool {
         && sends(near, "d")
         && carry(task, far, near, &mut heard, 3)
         && carry(task, near, far, &mut heard, 4);
-    is_carried && heard.is("abcd") && closes(task, near, far)
+    is_carried && heard.is(b"abcd") && closes(task, near, far)
 }
 
 // Whether one end closes, and the other is told.
 fn closes(task: &MockTask, from: &mut End, to: &mut End) -> bool {
     let closed = task.enter(|cx| Sink::<&str>::poll_close(from, cx));
-    matches!(closed, Poll::Ready(Ok(()))) && letter(next(task, to)) == '.'
-}
-
-// Two ends of a pipe.
-fn ends(alloc: Global) -> io::Result<(End, End)> {
-    let (near, far) = duplex(alloc, 3)?;
-    Ok((end(alloc, near)?, end(alloc, far)?))
+    matches!(closed, Poll::Ready(Ok(()))) && letter(next(task, to)) == b'.'
 }
 
 #[test]
 fn in_turn(rt: HostRuntime) {
     match (MockTask::new(&rt), ends(rt.alloc())) {
-        (Ok(task), Ok((mut near, mut far))) => check(&rt, talk(&task, &mut near, &mut far)),
+        (Ok(task), Some((mut near, mut far))) => check(&rt, talk(&task, &mut near, &mut far)),
         _ => check(&rt, false),
     }
 }

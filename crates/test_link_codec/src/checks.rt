@@ -1,4 +1,4 @@
-//! What the tests share: a check, and answers as letters.
+//! What the tests share: a check, a poll, and answers as letters.
 use futures::Stream;
 use futures::task::Poll;
 use futures::test::MockTask;
@@ -22,50 +22,69 @@ pub fn next<S: Stream>(task: &MockTask, items: &mut S) -> Poll<Option<S::Item>>
 }
 
 /// A value is its first letter, `Damaged` ?, `TooLong` >, `Cut` -; out of memory !, a fault of the reader #; the end . and waiting _.
-pub fn letter(polled: Polled) -> char {
+pub fn letter(polled: Polled) -> u8 {
     match polled {
         Poll::Ready(Some(Ok(answer))) => of_answer(answer),
-        Poll::Ready(Some(Err(DecodeError::NoMemory))) => '!',
-        Poll::Ready(Some(Err(DecodeError::Io(_)))) => '#',
-        Poll::Ready(None) => '.',
-        Poll::Pending => '_',
+        Poll::Ready(Some(Err(DecodeError::NoMemory))) => b'!',
+        Poll::Ready(Some(Err(DecodeError::Io(_)))) => b'#',
+        Poll::Ready(None) => b'.',
+        Poll::Pending => b'_',
     }
 }
 
-fn of_answer(answer: Answer<String>) -> char {
+fn of_answer(answer: Answer<String>) -> u8 {
     match answer {
-        Answer::Value(text) => text.chars().next().unwrap_or(' '),
-        Answer::Damaged => '?',
-        Answer::TooLong => '>',
-        Answer::Cut => '-',
+        Answer::Value(text) => first(text.as_bytes()),
+        Answer::Damaged => b'?',
+        Answer::TooLong => b'>',
+        Answer::Cut => b'-',
     }
 }
 
-/// The letters of some polls, but for those that waited, of which there were so many.
-#[derive(Drop)]
+fn first(letters: &[u8]) -> u8 {
+    match letters {
+        [letter, ..] => *letter,
+        [] => b' ',
+    }
+}
+
+/// The letters of some polls, but for those that waited.
+#[derive(Clone, Copy)]
 pub struct Heard {
-    letters: [char; 16],
+    letters: [u8; 16],
     count: usize,
     /// How many polls waited.
     pub waits: usize,
+    /// How many ends were heard.
+    pub ends: usize,
 }
 
 impl Heard {
     /// None yet.
     pub fn new() -> Heard {
         Heard {
-            letters: [' '; 16],
+            letters: [b' '; 16],
             count: 0,
             waits: 0,
+            ends: 0,
         }
     }
 
     /// One more; past sixteen they are dropped.
-    pub fn push(&mut self, letter: char) {
+    pub fn push(&mut self, letter: u8) {
+        match letter {
+            b'_' => self.waits = self.waits.saturating_add(1),
+            b'.' => self.ends = self.ends.saturating_add(1),
+            _ => {}
+        }
+        if letter != b'_' {
+            self.put(letter);
+        }
+    }
+
+    fn put(&mut self, letter: u8) {
         let at = self.count;
-        if letter == '_' {
-            self.waits = self.waits.saturating_add(1);
-        } else if let Some(place) = self.letters.get_mut(at) {
+        if let Some(place) = self.letters.get_mut(at) {
             *place = letter;
             self.count = at.saturating_add(1);
         }
@@ -76,20 +95,8 @@ impl Heard {
         self.count
     }
 
-    /// How many ends were heard.
-    pub fn ends(&self) -> usize {
-        self.letters.iter().filter(|letter| **letter == '.').count()
-    }
-
     /// Whether these are the letters.
-    pub fn is(&self, wanted: &str) -> bool {
-        let mut at = 0usize;
-        for letter in wanted.chars() {
-            if self.letters.get(at) != Some(&letter) {
-                return false;
-            }
-            at = at.saturating_add(1);
-        }
-        at == self.count
+    pub fn is(&self, wanted: &[u8]) -> bool {
+        self.letters.get(..self.count) == Some(wanted)
     }
 }

@@ -5,12 +5,9 @@ use bytes::BytesMut;
 use futures::task::Poll;
 use futures::test::MockTask;
 use link::Answer;
-use link_codec::{
-    DecodeError, LinkDecoder, OwnedLinkDecoder, StrictLinkDecoder, StrictOwnedLinkDecoder,
-};
+use link_codec::{DecodeError, LinkDecoder, StrictOwnedLinkDecoder};
 use link_codec_laws::answers_at_once;
 use std::alloc::AllocGlobal;
-use std::io;
 use std::random::RandomSource;
 use tokio_util::codec::{Decoder, FramedRead};
 
@@ -27,176 +24,149 @@ const MARKED: [u8; 25] = [
 
 type Short = LinkDecoder<String, 4>;
 
-// The letters up to the second end; + where a poll that waits leaves bytes in the buffer.
-fn hear<R, D>(rt: &R, line: Line, decoder: D) -> io::Result<Heard>
+/// What is heard up to the second end, with a + where a poll that waits leaves bytes in the buffer; nothing where no memory was found
+/// for the reader.
+pub fn hear<R, D>(rt: &R, line: Line, decoder: D) -> Heard
 where
     R: RandomSource + AllocGlobal,
     D: Decoder<Item = Answer<String>, Error = DecodeError> + Drop,
 {
-    let task = MockTask::new(rt)?;
-    let mut answers = FramedRead::new(rt.alloc(), line, decoder)?;
     let mut heard = Heard::new();
+    let Ok(task) = MockTask::new(rt) else {
+        return heard;
+    };
+    let Ok(mut answers) = FramedRead::new(rt.alloc(), line, decoder) else {
+        return heard;
+    };
     for _ in 0..64 {
         let letter = letter(next(&task, &mut answers));
         heard.push(letter);
-        if letter == '_' && !answers.read_buffer().is_empty() {
-            heard.push('+');
+        if letter == b'_' && !answers.read_buffer().is_empty() {
+            heard.push(b'+');
         }
-        if heard.ends() == 2 {
+        if heard.ends == 2 {
             break;
         }
     }
-    Ok(heard)
-}
-
-// Whether a line is answered so, with so many polls that wait.
-fn answers<R, D>(rt: &R, line: Line, decoder: D, wanted: &str, waits: usize) -> bool
-where
-    R: RandomSource + AllocGlobal,
-    D: Decoder<Item = Answer<String>, Error = DecodeError> + Drop,
-{
-    match hear(rt, line, decoder) {
-        Ok(heard) => heard.is(wanted) && heard.waits == waits,
-        Err(_) => false,
-    }
-}
-
-#[test]
-fn byte_by_byte(rt: HostRuntime) {
-    let line = Line::new(&LINE, Pieces::of_one().waiting());
-    // one before each byte, one before the end, and one more behind it
-    check(&rt, answers(&rt, line, Short::new(), "ac?>b-..", 27));
+    heard
 }
 
 #[test]
 fn in_pieces(rt: HostRuntime) {
     for seed in 0..24u8 {
-        let line = Line::new(&LINE, Pieces::up_to(seed, seed));
-        check(&rt, answers(&rt, line, Short::new(), "ac?>b-..", 0));
+        let heard = hear(
+            &rt,
+            Line::new(&LINE, Pieces::up_to(seed, seed)),
+            Short::new(),
+        );
+        check(&rt, heard.is(b"ac?>b-..") && heard.waits == 0);
+    }
+}
+
+// What is heard where so many reads of one byte go well before one fails: the answers so far, the fault, an end, and the rest. Behind
+// the last byte the next read ends the line, and the one after it ends it again.
+fn behind(calls: usize) -> &'static [u8] {
+    match calls {
+        0..=4 => b"#.ac?>b-.",
+        5..=9 => b"a#.c?>b-.",
+        10..=12 => b"ac#.?>b-.",
+        13..=17 => b"ac?#.>b-.",
+        18..=22 => b"ac?>#.b-.",
+        23..=25 => b"ac?>b#.-.",
+        26 => b"ac?>b-.#.",
+        _ => b"ac?>b-..",
+    }
+}
+
+#[test]
+fn byte_by_byte_and_on_behind_a_fault(rt: HostRuntime) {
+    for calls in 0..28 {
+        let pieces = Pieces::of_one().waiting().failing_behind(calls);
+        let heard = hear(&rt, Line::new(&LINE, pieces), Short::new());
+        // one before each byte, one before the end, and one before the fault or the second end
+        check(&rt, heard.is(behind(calls)) && heard.waits == 27);
+    }
+}
+
+// Whether the marked line is answered so, strictly, under a limit that is a value.
+fn is_strictly<R: RandomSource + AllocGlobal>(
+    rt: &R,
+    limit: usize,
+    seed: u8,
+    wanted: &[u8],
+) -> bool {
+    match StrictOwnedLinkDecoder::new(rt.alloc(), limit, 0x0A) {
+        Ok(decoder) => hear(rt, Line::new(&MARKED, Pieces::up_to(seed, seed)), decoder).is(wanted),
+        Err(_) => false,
     }
 }
 
 #[test]
 fn strictly_by_another_sentinel(rt: HostRuntime) {
     for seed in 0..24u8 {
-        let line = Line::new(&MARKED, Pieces::up_to(seed, seed));
-        let decoder = StrictLinkDecoder::<String, 4>::new_with_sentinel(0x0A);
-        check(&rt, answers(&rt, line, decoder, "a??>b-..", 0));
+        check(&rt, is_strictly(&rt, 4, seed, b"a??>b-.."));
     }
+    check(&rt, is_strictly(&rt, 5, 9, b"a???b-.."));
 }
 
-// Whether the line is answered so under a limit.
-fn answers_by<R: RandomSource + AllocGlobal>(rt: &R, limit: usize, wanted: &str) -> bool {
-    let line = Line::new(&LINE, Pieces::up_to(9, 3));
-    match OwnedLinkDecoder::new(rt.alloc(), limit, 0) {
-        Ok(decoder) => answers(rt, line, decoder, wanted, 0),
-        Err(_) => false,
+// What is heard of the line by one poll, under a limit that is a value.
+fn collect<R: RandomSource + AllocGlobal>(rt: &R, limit: usize) -> Heard {
+    let mut heard = Heard::new();
+    if let Ok(Some(items)) = answers_at_once::<String, _>(rt, &LINE, limit, 0) {
+        for item in items {
+            heard.push(letter(Poll::Ready(Some(item))));
+        }
     }
+    heard
 }
+
+// By the limit.
+const COLLECTED: [&[u8]; 6] = [
+    b">>>>>>", b">>>>>>", b">>?>>-", b"a>?>b-", b"ac?>b-", b"ac??b-",
+];
 
 #[test]
 fn by_a_limit_that_is_a_value(rt: HostRuntime) {
-    for (limit, wanted) in [
-        (0, ">>>>>>.."),
-        (1, ">>>>>>.."),
-        (2, ">>?>>-.."),
-        (3, "a>?>b-.."),
-        (4, "ac?>b-.."),
-        (5, "ac??b-.."),
-    ] {
-        check(&rt, answers_by(&rt, limit, wanted));
+    for limit in 0..6usize {
+        check(&rt, collect(&rt, limit).is(COLLECTED[limit]));
     }
-}
-
-#[test]
-fn strictly_by_a_limit_that_is_a_value(rt: HostRuntime) {
-    let line = Line::new(&MARKED, Pieces::up_to(9, 4));
-    match StrictOwnedLinkDecoder::new(rt.alloc(), 5, 0x0A) {
-        Ok(decoder) => check(&rt, answers(&rt, line, decoder, "a???b-..", 0)),
-        Err(_) => check(&rt, false),
-    }
-}
-
-// What is heard where so many reads of one byte go well before one fails: the answers so far, the fault, an end, and the rest.
-fn behind(calls: usize) -> &'static str {
-    match calls {
-        0..=4 => "#.ac?>b-.",
-        5..=9 => "a#.c?>b-.",
-        10..=12 => "ac#.?>b-.",
-        13..=17 => "ac?#.>b-.",
-        18..=22 => "ac?>#.b-.",
-        _ => "ac?>b#.-.",
-    }
-}
-
-#[test]
-fn reads_on_behind_a_fault(rt: HostRuntime) {
-    for calls in 0..26 {
-        let line = Line::new(&LINE, Pieces::of_one().failing_behind(calls));
-        check(&rt, answers(&rt, line, Short::new(), behind(calls), 0));
-    }
-}
-
-// Whether a line that is there whole is answered so by one poll.
-fn collects<R: RandomSource + AllocGlobal>(rt: &R, wanted: &str) -> bool {
-    let mut heard = Heard::new();
-    match answers_at_once::<String, _>(rt, &LINE, 4, 0) {
-        Ok(Some(items)) => {
-            for item in items {
-                heard.push(letter(Poll::Ready(Some(item))));
-            }
-            heard.is(wanted)
-        }
-        _ => false,
-    }
-}
-
-#[test]
-fn collects_at_once(rt: HostRuntime) {
-    check(&rt, collects(&rt, "ac?>b-"));
 }
 
 // Whether a decoder answers so, with so many bytes left in the buffer.
-fn decodes(decoder: &mut Short, line: &mut BytesMut, wanted: char, left: usize) -> bool {
+fn decodes(decoder: &mut Short, line: &mut BytesMut, wanted: u8, left: usize) -> bool {
     letter(Poll::Ready(decoder.decode(line).transpose())) == wanted && line.len() == left
 }
 
 // The same at the end, where none is left.
-fn ends(decoder: &mut Short, line: &mut BytesMut, wanted: char) -> bool {
+fn ends(decoder: &mut Short, line: &mut BytesMut, wanted: u8) -> bool {
     letter(Poll::Ready(decoder.decode_eof(line).transpose())) == wanted && line.is_empty()
 }
 
 // Whether bytes of a stretch that has too many are taken and not kept, four times; and nothing is cut off by the end.
 fn skips(decoder: &mut Short, line: &mut BytesMut) -> bool {
     for _ in 0..4 {
-        if !decodes(decoder, line, '.', 0) || line.extend_from_slice(&[7u8; 4096]).is_err() {
+        if !decodes(decoder, line, b'.', 0) || line.extend_from_slice(&[7u8; 4096]).is_err() {
             return false;
         }
     }
-    ends(decoder, line, '.')
-}
-
-#[test]
-fn skips_a_stretch_that_is_too_long(rt: HostRuntime) {
-    let mut decoder = Short::new();
-    if let Ok(mut line) = BytesMut::copy_from_slice(rt.alloc(), &[7u8; 4096]) {
-        check(&rt, decodes(&mut decoder, &mut line, '>', 4091));
-        check(&rt, skips(&mut decoder, &mut line));
-    }
+    ends(decoder, line, b'.')
 }
 
 // Whether what comes behind an end is answered as by a decoder that was given nothing.
 fn begins_anew(decoder: &mut Short, line: &mut BytesMut) -> bool {
-    ends(decoder, line, '-')
-        && ends(decoder, line, '.')
+    line.extend_from_slice(&[9, 1]).is_ok()
+        && ends(decoder, line, b'-')
+        && ends(decoder, line, b'.')
         && line.extend_from_slice(&[3, 1, 0x61, 0]).is_ok()
-        && ends(decoder, line, 'a')
+        && ends(decoder, line, b'a')
 }
 
 #[test]
-fn begins_anew_behind_the_end(rt: HostRuntime) {
+fn skips_what_is_too_long_and_begins_anew_behind_the_end(rt: HostRuntime) {
     let mut decoder = Short::new();
-    if let Ok(mut line) = BytesMut::copy_from_slice(rt.alloc(), &[9, 1]) {
-        check(&rt, begins_anew(&mut decoder, &mut line));
-    }
+    let mut line = BytesMut::new(rt.alloc());
+    check(&rt, line.extend_from_slice(&[7u8; 4096]).is_ok());
+    check(&rt, decodes(&mut decoder, &mut line, b'>', 4091));
+    check(&rt, skips(&mut decoder, &mut line));
+    check(&rt, begins_anew(&mut decoder, &mut line));
 }

@@ -2,74 +2,56 @@
 //! stands.
 //!
 //! Each of these tests also passes where the first growth is refused, or the second, and so on. In the gate none is refused.
-use crate::checks::{Heard, check, letter, next};
+use crate::checks::{Heard, check};
 use crate::lines::{Line, Pieces};
+use crate::reading::hear;
+use crate::writing::Letters;
 use bytes::BytesMut;
-use futures::test::MockTask;
-use link::Answer;
-use link_codec::{DecodeError, EncodeError, LinkDecoder, LinkEncoder, OwnedLinkDecoder};
+use link_codec::{EncodeError, LinkDecoder, StrictOwnedLinkDecoder};
 use std::alloc::Global;
-use tokio_util::codec::{Decoder, Encoder, FramedRead};
+use tokio_util::codec::Encoder;
 
 // a, b, and a front of c.
 const LINE: [u8; 11] = [0, 3, 1, 0x61, 0, 3, 1, 0x62, 0, 3, 1];
 
-// All; or one value gone, or a buffer that didn't grow, an end, and the rest.
-const WHOLE: [&str; 7] = [
-    "ab-..", "!.b-.", "a!.-.", "#.ab-.", "a#.b-.", "ab#.-.", "ab-#..",
+// All; or one value gone, or a buffer that didn't grow, an end, and the rest; or no reader.
+const WHOLE: [&[u8]; 8] = [
+    b"ab-..", b"!.b-.", b"a!.-.", b"#.ab-.", b"a#.b-.", b"ab#.-.", b"ab-#..", b"",
 ];
 
 // Whether the line is answered so.
-fn is_heard(heard: &Heard) -> bool {
-    WHOLE.iter().any(|wanted| heard.is(wanted))
-}
-
-// Whether a reader that has all is heard so, in pieces of at most so many bytes.
-fn hears<D: Decoder<Item = Answer<String>, Error = DecodeError> + Drop>(
-    alloc: Global,
-    task: &MockTask,
-    most: u8,
-    decoder: D,
-) -> bool {
-    let line = Line::new(&LINE, Pieces::up_to(most, 5).waiting());
-    let Ok(mut answers) = FramedRead::new(alloc, line, decoder) else {
-        return true;
-    };
-    let mut heard = Heard::new();
-    for _ in 0..40 {
-        heard.push(letter(next(task, &mut answers)));
-        if heard.ends() == 2 {
-            break;
+fn is_one(heard: &Heard) -> bool {
+    for wanted in WHOLE {
+        if heard.is(wanted) {
+            return true;
         }
     }
-    is_heard(&heard)
+    false
+}
+
+fn pieces(most: u8) -> Pieces {
+    Pieces::up_to(most, 5).waiting()
 }
 
 #[test]
 fn said_by_readers(rt: HostRuntime) {
-    let Ok(task) = MockTask::new(&rt) else {
-        return;
-    };
     for most in [1, 4, 11] {
+        let line = Line::new(&LINE, pieces(most));
         check(
             &rt,
-            hears(rt.alloc(), &task, most, LinkDecoder::<String, 4>::new()),
+            is_one(&hear(&rt, line, LinkDecoder::<String, 4>::new())),
+        );
+    }
+    if let Ok(decoder) = StrictOwnedLinkDecoder::new(rt.alloc(), 4, 0) {
+        check(
+            &rt,
+            is_one(&hear(&rt, Line::new(&LINE, pieces(4)), decoder)),
         );
     }
 }
 
-#[test]
-fn said_by_owning_readers(rt: HostRuntime) {
-    let Ok(task) = MockTask::new(&rt) else {
-        return;
-    };
-    if let Ok(decoder) = OwnedLinkDecoder::<String>::new(rt.alloc(), 4, 0) {
-        check(&rt, hears(rt.alloc(), &task, 4, decoder));
-    }
-}
-
 // Whether a text is written; or its buffer didn't grow, and it is written when it is sent again.
-fn writes(alloc: Global, encoder: &mut LinkEncoder<4>) -> bool {
+fn writes(alloc: Global, encoder: &mut Letters) -> bool {
     let mut line = BytesMut::new(alloc);
     let was_clean = encoder.is_clean();
     match encoder.encode("a", &mut line) {
@@ -85,7 +67,7 @@ fn writes(alloc: Global, encoder: &mut LinkEncoder<4>) -> bool {
 
 #[test]
 fn said_by_encoders(rt: HostRuntime) {
-    let mut encoder = LinkEncoder::<4>::new();
+    let mut encoder = Letters::new();
     check(&rt, writes(rt.alloc(), &mut encoder) && encoder.is_clean());
     check(&rt, writes(rt.alloc(), &mut encoder) && encoder.is_clean());
 }

@@ -8,7 +8,6 @@ use futures::test::MockTask;
 use link_codec::{EncodeError, LinkEncoder};
 use postcard::Error;
 use std::alloc::AllocGlobal;
-use std::io;
 use std::random::RandomSource;
 use tokio_util::codec::{Encoder, FramedWrite};
 
@@ -18,6 +17,11 @@ const LINE: [u8; 9] = [0, 3, 1, 0x61, 0, 3, 1, 0x62, 0];
 // The same where the sentinel is 0A.
 const MARKED: [u8; 9] = [0x0A, 0x09, 0x0B, 0x6B, 0x0A, 0x09, 0x0B, 0x68, 0x0A];
 
+/// The frame of a letter is as long as it may be.
+pub type Letters = LinkEncoder<3>;
+
+type Writer = FramedWrite<Paper, Letters>;
+
 // How two texts went out: how many polls waited, how many found a fault, and whether the line is there then.
 #[derive(Clone, Copy)]
 struct Sent {
@@ -26,7 +30,12 @@ struct Sent {
     is_whole: bool,
 }
 
-type Writer = FramedWrite<Paper, LinkEncoder<4>>;
+impl Sent {
+    // Whether all went out, where so many polls wait and so many fail.
+    fn is(&self, waits: usize, faults: usize) -> bool {
+        self.is_whole && self.waits == waits && self.faults == faults
+    }
+}
 
 // One poll of a flush; whether all was written.
 fn flush(task: &MockTask, writer: &mut Writer, sent: &mut Sent) -> bool {
@@ -39,16 +48,20 @@ fn flush(task: &MockTask, writer: &mut Writer, sent: &mut Sent) -> bool {
 }
 
 // Sends both, and flushes until no poll waits or fails.
-fn send<R: RandomSource + AllocGlobal>(rt: &R, pieces: Pieces) -> io::Result<Sent> {
-    let task = MockTask::new(rt)?;
-    let mut writer = FramedWrite::new(rt.alloc(), Paper::new(pieces), LinkEncoder::new())?;
+fn send<R: RandomSource + AllocGlobal>(rt: &R, pieces: Pieces) -> Sent {
     let mut sent = Sent {
         waits: 0,
         faults: 0,
         is_whole: false,
     };
+    let Ok(task) = MockTask::new(rt) else {
+        return sent;
+    };
+    let Ok(mut writer) = FramedWrite::new(rt.alloc(), Paper::new(pieces), Letters::new()) else {
+        return sent;
+    };
     if writer.start_send("a").is_err() || writer.start_send("b").is_err() {
-        return Ok(sent);
+        return sent;
     }
     for _ in 0..32 {
         if flush(&task, &mut writer, &mut sent) {
@@ -56,80 +69,49 @@ fn send<R: RandomSource + AllocGlobal>(rt: &R, pieces: Pieces) -> io::Result<Sen
         }
     }
     sent.is_whole = writer.get_ref().shows(&LINE);
-    Ok(sent)
-}
-
-// Whether both go out whole, where so many polls wait and so many fail.
-fn sends<R: RandomSource + AllocGlobal>(
-    rt: &R,
-    pieces: Pieces,
-    waits: usize,
-    faults: usize,
-) -> bool {
-    match send(rt, pieces) {
-        Ok(sent) => sent.is_whole && sent.waits == waits && sent.faults == faults,
-        Err(_) => false,
-    }
+    sent
 }
 
 #[test]
 fn in_pieces(rt: HostRuntime) {
     for seed in 0..9u8 {
-        check(&rt, sends(&rt, Pieces::up_to(seed, seed), 0, 0));
+        check(&rt, send(&rt, Pieces::up_to(seed, seed)).is(0, 0));
     }
 }
 
 #[test]
-fn byte_by_byte(rt: HostRuntime) {
-    check(&rt, sends(&rt, Pieces::of_one().waiting(), 9, 0));
-}
-
-#[test]
-fn goes_on_behind_a_fault(rt: HostRuntime) {
+fn byte_by_byte_and_on_behind_a_fault(rt: HostRuntime) {
     for calls in 0..9usize {
-        check(
-            &rt,
-            sends(&rt, Pieces::of_one().failing_behind(calls), 0, 1),
-        );
+        let pieces = Pieces::of_one().waiting().failing_behind(calls);
+        // one before each byte, and one before the fault
+        check(&rt, send(&rt, pieces).is(10, 1));
     }
+    check(&rt, send(&rt, Pieces::of_one().waiting()).is(9, 0));
 }
 
 // Whether a text is refused because its frame is too long, by an encoder that is clean or not, and stays so.
-fn refuses(encoder: &mut LinkEncoder<3>, line: &mut BytesMut, is_clean: bool) -> bool {
-    let refused = encoder.encode("aa", line);
-    matches!(
-        refused,
-        Err(EncodeError::Refused(Error::SerializeBufferFull))
-    ) && encoder.is_clean() == is_clean
+fn refuses(encoder: &mut Letters, line: &mut BytesMut, is_clean: bool) -> bool {
+    match encoder.encode("aa", line) {
+        Err(EncodeError::Refused(Error::SerializeBufferFull)) => encoder.is_clean() == is_clean,
+        _ => false,
+    }
 }
 
 // Whether texts that are refused leave nothing between those that aren't.
-fn leaves_nothing(encoder: &mut LinkEncoder<3>, line: &mut BytesMut) -> bool {
+fn leaves_nothing(encoder: &mut Letters, line: &mut BytesMut, wanted: &[u8]) -> bool {
     refuses(encoder, line, false)
         && line.is_empty()
         && encoder.encode("a", line).is_ok()
         && refuses(encoder, line, true)
         && encoder.encode(&"b", line).is_ok()
-        && line.as_slice() == LINE.as_slice()
+        && line.as_slice() == wanted
 }
 
 #[test]
 fn a_refused_text_leaves_nothing(rt: HostRuntime) {
-    let mut encoder = LinkEncoder::new();
     let mut line = BytesMut::new(rt.alloc());
-    check(&rt, leaves_nothing(&mut encoder, &mut line));
-}
-
-// Whether both are written as they are where the sentinel is 0A.
-fn marks(encoder: &mut LinkEncoder<4>, line: &mut BytesMut) -> bool {
-    encoder.encode("a", line).is_ok()
-        && encoder.encode("b", line).is_ok()
-        && line.as_slice() == MARKED.as_slice()
-}
-
-#[test]
-fn by_another_sentinel(rt: HostRuntime) {
-    let mut encoder = LinkEncoder::new_with_sentinel(0x0A);
-    let mut line = BytesMut::new(rt.alloc());
-    check(&rt, marks(&mut encoder, &mut line));
+    check(&rt, leaves_nothing(&mut Letters::new(), &mut line, &LINE));
+    line.clear();
+    let mut marking = Letters::new_with_sentinel(0x0A);
+    check(&rt, leaves_nothing(&mut marking, &mut line, &MARKED));
 }
