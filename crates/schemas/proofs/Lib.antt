@@ -2,3 +2,5 @@ mod Tops
 mod Taking
 mod Fronts
 mod Pushed
+mod Maps
+mod Tables
