@@ -4,3 +4,4 @@ mod Fronts
 mod Pushed
 mod Maps
 mod Tables
+mod Agreeing

@@ -58,6 +58,7 @@ pub node_schema : {P : Tree → Type 0} {F : List ℕ → Error → Type 0} (n :
 node_schema {P} {F} n {old} {new} {place} h f = record { same = λ depth table l w. below depth table l w } where
   deep : length new ≡ length old + 1
   deep = ap length h.behind ∙ length-append old (n ∷ [])
+
   below : (depth : ℕ) (table : List Node) → length new ≤ depth → BeginsWith new table → TakeTheSame (SchemaTakes depth table place) P (SchemaRefuses depth table place) F
   below zero table l w = absurd (omega (arith, deep, l))
   below (suc depth) table l w = at_node depth table place (here h w) (f depth table (omega (arith, deep, l)) (begins_more (record { more = n ∷ []; whole = h.behind }) w))

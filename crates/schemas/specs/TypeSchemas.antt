@@ -2,9 +2,12 @@
 use Rattle.std.specs.Prelude.{◌≡◌, ℕ, ◌≤◌, List, [], ◌∷◌, ◌++◌, length}
 use Rattle.postcard_tree.specs.declared.error.Error.{Error}
 use Rattle.postcard_tree.specs.Tree.{Tree, Trees}
+use Rattle.postcard.specs.Answer.{ReadsFront}
 use Rattle.schemas.specs.declared.node.Node.{Node}
 use Rattle.schemas.specs.declared.node.Node.TheVariants as node
-use Rattle.schemas.specs.Schemas.{TakesFields, TakesPayload, TakesNode, RefusesFields, RefusesPayload, RefusesNode, SchemaTakes, SchemaRefuses}
+use Rattle.schemas.specs.declared.value.Value.{Value}
+use Rattle.schemas.specs.Values.{tree_of}
+use Rattle.schemas.specs.Schemas.{TakesFields, TakesPayload, TakesNode, RefusesFields, RefusesPayload, RefusesNode, SchemaTakes, SchemaReads, SchemaRefuses}
 
 -- a table that begins with these nodes
 pub record BeginsWith (nodes table : List Node) : Type 0 where
@@ -26,19 +29,27 @@ pub record IsSchemaOf (takes : Tree → Type 0) (refuses : List ℕ → Error �
   pub same : (depth : ℕ) (table : List Node) → length nodes ≤ depth → BeginsWith nodes table
       → TakeTheSame (SchemaTakes depth table place) takes (SchemaRefuses depth table place) refuses
 
+-- What a schema of a type reads from bytes and what the type reads from them are one tree, with one rest behind it.
+abbrev pub AgreesWithItsSchemas : {A : Type 0} → (Tree → Type 0) → (Tree → A → Type 0)
+    → (List ℕ → Error → Type 0) → Type 0
+AgreesWithItsSchemas {A} takes reads refuses =
+    (nodes : List Node) (place depth : ℕ) → IsSchemaOf takes refuses nodes place → length nodes ≤ depth
+    → (s rest rest' : List ℕ) (v : Value) (w : A) → ReadsFront (SchemaReads depth nodes place) s rest v
+    → ReadsFront reads s rest' w → (rest ≡ rest') × reads (tree_of v) w
+
 -- the same of fields, one after another
 pub record AreSchemasOf (takes : Trees → Type 0) (refuses : List ℕ → Error → Type 0)
     (nodes : List Node) (places : List ℕ) : Type 0 where
   pub same : (depth : ℕ) (table : List Node) → length nodes ≤ depth → BeginsWith nodes table
       → TakeTheSame (TakesFields (SchemaTakes depth table) places) takes
-        (RefusesFields (SchemaTakes depth table) (SchemaRefuses depth table) places) refuses
+      (RefusesFields (SchemaTakes depth table) (SchemaRefuses depth table) places) refuses
 
 -- the same of what variants hold, by their indexes
 pub record ArePayloadsOf (takes : ℕ → Tree → Type 0) (refuses : ℕ → List ℕ → Error → Type 0)
     (nodes : List Node) (places : List ℕ) : Type 0 where
   pub same : (depth : ℕ) (table : List Node) → length nodes ≤ depth → BeginsWith nodes table → (n : ℕ)
       → TakeTheSame (TakesPayload (SchemaTakes depth table) places n) (takes n)
-        (RefusesPayload (SchemaRefuses depth table) places n) (refuses n)
+      (RefusesPayload (SchemaRefuses depth table) places n) (refuses n)
 
 -- the places of these payloads were put behind others
 pub record PayloadsAdded (takes : ℕ → Tree → Type 0) (refuses : ℕ → List ℕ → Error → Type 0)

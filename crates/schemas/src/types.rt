@@ -48,7 +48,7 @@ pub trait HasPayloadSchemas: ReadableVariants {
         ensures kept { BeginsWith nodes.old.items nodes.new.items }
         ensures are_schemas { IfOk result (λ _.
             PayloadsAdded Self.takes_at Self.refuses_at nodes.new.items
-                payloads.old.items payloads.new.items) };
+            payloads.old.items payloads.new.items) };
 }
 
 /// A table of the type alone, and the type's place in it.

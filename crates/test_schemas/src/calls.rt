@@ -49,7 +49,10 @@ fn from_a_reader(rt: HostRuntime) {
     let bytes = [3, 0x48, 0x69, 0x21, 5];
     let mut buffer = [0u8; 3];
     let mut d = Deserializer::from_flavor(alloc, IOReader::new(&bytes[..], &mut buffer));
-    check(&rt, is_answer(alloc, read_value(&mut d, &nodes, TEXT, 1), "s(486921) +0"));
+    check(
+        &rt,
+        is_answer(alloc, read_value(&mut d, &nodes, TEXT, 1), "s(486921) +0"),
+    );
 }
 
 // A type, how deep, the bytes, and what is answered.

@@ -11,7 +11,6 @@ const BYTES: [u8; 12] = [
     0x01, 0x02, 0x01, 0x88, 0x55, 0x79, 0x00, 0x03, 0x03, 0x29, 0x2B, 0x70,
 ];
 
-
 // Written into room that is there, so that no growth is asked for.
 fn is_spelled(value: &Value, bytes: &[u8]) -> bool {
     let mut room = [0u8; 16];
@@ -44,6 +43,9 @@ fn said_by_reading(rt: HostRuntime) {
     let alloc = rt.alloc();
     if let Ok(nodes) = table(alloc) {
         check(&rt, is_whole_or_wants(alloc, &nodes, NESTED, &BYTES));
-        check(&rt, is_whole_or_wants(alloc, &nodes, TEXT, &[3, 0x48, 0x69, 0x21]));
+        check(
+            &rt,
+            is_whole_or_wants(alloc, &nodes, TEXT, &[3, 0x48, 0x69, 0x21]),
+        );
     }
 }

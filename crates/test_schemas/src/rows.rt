@@ -10,12 +10,7 @@ use schemas::{Node, Value, take_from_bytes};
 use std::alloc::{AllocError, Global};
 
 // What a row's bytes are read as, or why they are refused, in the words of the vectors.
-fn answer(
-    alloc: Global,
-    nodes: &[Node],
-    place: usize,
-    digits: &str,
-) -> Result<String, AllocError> {
+fn answer(alloc: Global, nodes: &[Node], place: usize, digits: &str) -> Result<String, AllocError> {
     let Ok(bytes) = hex::decode(alloc, digits) else {
         return Err(AllocError);
     };
@@ -44,9 +39,11 @@ fn is_written_as(alloc: Global, value: &Value, wanted: &[u8]) -> bool {
 
 // Whether what these bytes are read as is written as those.
 fn is_written_again(alloc: Global, place: usize, digits: &str, wanted: &str) -> bool {
-    let (Ok(nodes), Ok(bytes), Ok(wanted)) =
-        (table(alloc), hex::decode(alloc, digits), hex::decode(alloc, wanted))
-    else {
+    let (Ok(nodes), Ok(bytes), Ok(wanted)) = (
+        table(alloc),
+        hex::decode(alloc, digits),
+        hex::decode(alloc, wanted),
+    ) else {
         return false;
     };
     match take_from_bytes(alloc, &nodes, place, DEPTH, &bytes) {
@@ -72,7 +69,11 @@ fn numbers(rt: HostRuntime) {
         (U32, "80808001", "2097152 +0"),
         (U64, "feffffffffffffffff01", "18446744073709551614 +0"),
         (U64, "00", "0 +0"),
-        (U128, "ffffffffffffffffffffffffffffffffffff03", "340282366920938463463374607431768211455 +0"),
+        (
+            U128,
+            "ffffffffffffffffffffffffffffffffffff03",
+            "340282366920938463463374607431768211455 +0",
+        ),
         (U128, "0280", "2 +1"),
         (I16, "ffff03", "-32768 +0"),
         (I16, "828002", "16385 +0"),
@@ -80,7 +81,11 @@ fn numbers(rt: HostRuntime) {
         (I32, "8102", "-129 +0"),
         (I64, "fdffffffffffffff7f", "-4611686018427387903 +0"),
         (I64, "54", "42 +0"),
-        (I128, "ffffffffffffffffffffffffffffffffffff03", "-170141183460469231731687303715884105728 +0"),
+        (
+            I128,
+            "ffffffffffffffffffffffffffffffffffff03",
+            "-170141183460469231731687303715884105728 +0",
+        ),
         (I128, "fe7f", "8191 +0"),
         (CHAR, "03e0a080", "U+0800 +0"),
         (CHAR, "0161ff", "U+0061 +1"),
@@ -103,17 +108,37 @@ fn texts_and_what_holds_others(rt: HostRuntime) {
         (OPTION_TWICE, "0100", "some(none) +0"),
         (LIST, "0400000001b5a9785f81", "[false,false,false,true] +5"),
         (ARRAY, "0100013af5", "(some(0),some(58)) +1"),
-        (PAIRS, "049b331be6a2010544ac9606", "[(155,51),(27,20838),(5,68),(172,790)] +0"),
-        (TUPLE, "00020116dde389d00b", "(false,1,U+0016,3120722397) +0"),
-        (TUPLE, "01a2e90203e8adb08fe7a088b7ad15", "(true,23121,U+8B70,93919946224527) +0"),
+        (
+            PAIRS,
+            "049b331be6a2010544ac9606",
+            "[(155,51),(27,20838),(5,68),(172,790)] +0",
+        ),
+        (
+            TUPLE,
+            "00020116dde389d00b",
+            "(false,1,U+0016,3120722397) +0",
+        ),
+        (
+            TUPLE,
+            "01a2e90203e8adb08fe7a088b7ad15",
+            "(true,23121,U+8B70,93919946224527) +0",
+        ),
         (RESULT, "00ff", "0:() +1"),
         (RESULT, "0103486921d394b0", "1:s(486921) +3"),
         (ENUM, "00ff03", "0:511 +0"),
         (ENUM, "030f29", "3:(15,41) +0"),
         (ENUM, "05b30a1591", "5:(1331,21) +1"),
-        (NESTED, "010201885579000303292b70", "some([1:(10888,121),0:(3,s(292b70))]) +0"),
+        (
+            NESTED,
+            "010201885579000303292b70",
+            "some([1:(10888,121),0:(3,s(292b70))]) +0",
+        ),
         (NESTED, "0003", "none +1"),
-        (MAP, "020004737a6f481c014f", "[(0,s(737a6f48)),(28,s(4f))] +0"),
+        (
+            MAP,
+            "020004737a6f481c014f",
+            "[(0,s(737a6f48)),(28,s(4f))] +0",
+        ),
     ];
     for (place, digits, wanted) in rows {
         check_row(&rt, digits, is_answered(rt.alloc(), place, digits, wanted));
@@ -131,11 +156,19 @@ fn refusals(rt: HostRuntime) {
         (U16, "8081", "!DeserializeUnexpectedEnd"),
         (U32, "bfd9cea68e", "!DeserializeBadVarint"),
         (U64, "ffffffffffffffffff21", "!DeserializeBadVarint"),
-        (U128, "ffffffffffffffffffffffffffffffffffffff07", "!DeserializeBadVarint"),
+        (
+            U128,
+            "ffffffffffffffffffffffffffffffffffffff07",
+            "!DeserializeBadVarint",
+        ),
         (I16, "8181ff", "!DeserializeBadVarint"),
         (I32, "80808080807f", "!DeserializeBadVarint"),
         (I64, "81818181818181818107", "!DeserializeBadVarint"),
-        (I128, "8080808080808080808080808080808080808002", "!DeserializeBadVarint"),
+        (
+            I128,
+            "8080808080808080808080808080808080808002",
+            "!DeserializeBadVarint",
+        ),
         (CHAR, "07", "!DeserializeBadChar"),
         (TEXT, "0356a03a", "!DeserializeBadUtf8"),
         (BYTES, "0d", "!DeserializeUnexpectedEnd"),
@@ -174,10 +207,18 @@ fn what_is_written_is_the_shortest(rt: HostRuntime) {
         (ARRAY, "013a011f", "013a011f"),
         (PAIRS, "8200198703008300", "021987030003"),
         (RESULT, "8100013105", "010131"),
-        (NESTED, "010201885579000303292b70", "010201885579000303292b70"),
+        (
+            NESTED,
+            "010201885579000303292b70",
+            "010201885579000303292b70",
+        ),
         (MAP, "020004737a6f481c014f", "020004737a6f481c014f"),
     ];
     for (place, digits, wanted) in rows {
-        check_row(&rt, digits, is_written_again(rt.alloc(), place, digits, wanted));
+        check_row(
+            &rt,
+            digits,
+            is_written_again(rt.alloc(), place, digits, wanted),
+        );
     }
 }

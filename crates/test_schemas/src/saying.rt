@@ -36,7 +36,12 @@ fn say_all(items: &[Value], line: &mut String) -> Result<(), AllocError> {
 }
 
 #[cycle(say)]
-fn say_inside(start: &str, items: &[Value], end: char, line: &mut String) -> Result<(), AllocError> {
+fn say_inside(
+    start: &str,
+    items: &[Value],
+    end: char,
+    line: &mut String,
+) -> Result<(), AllocError> {
     line.push_str(start)?;
     say_all(items, line)?;
     line.push(end)
@@ -87,11 +92,7 @@ pub(crate) fn say(value: &Value, line: &mut String) -> Result<(), AllocError> {
 }
 
 /// A value with how many bytes are left behind it.
-pub(crate) fn say_read(
-    alloc: Global,
-    value: &Value,
-    left: usize,
-) -> Result<String, AllocError> {
+pub(crate) fn say_read(alloc: Global, value: &Value, left: usize) -> Result<String, AllocError> {
     let mut line = String::new(alloc);
     say(value, &mut line)?;
     write!(line, " +{left}")?;

@@ -7,18 +7,31 @@ pub(crate) const DEPTH: u32 = 6;
 
 // The places of the types.
 pub(crate) const BOOL: usize = 0;
+
 pub(crate) const U8: usize = 1;
+
 pub(crate) const I8: usize = 2;
+
 pub(crate) const U16: usize = 3;
+
 pub(crate) const U32: usize = 4;
+
 pub(crate) const U64: usize = 5;
+
 pub(crate) const U128: usize = 6;
+
 pub(crate) const I16: usize = 7;
+
 pub(crate) const I32: usize = 8;
+
 pub(crate) const I64: usize = 9;
+
 pub(crate) const I128: usize = 10;
+
 pub(crate) const CHAR: usize = 11;
+
 pub(crate) const TEXT: usize = 12;
+
 pub(crate) const BYTES: usize = 13;
 /// `Option<u8>`
 pub(crate) const OPTION: usize = 14;

@@ -41,7 +41,8 @@ impl<A: HasSchema, B: HasSchema, C: HasSchema, D: HasSchema> HasSchema for (A, B
     }
 }
 
-impl<A: HasSchema, B: HasSchema, C: HasSchema, D: HasSchema, E: HasSchema> HasSchema for (A, B, C, D, E) {
+impl<A: HasSchema, B: HasSchema, C: HasSchema, D: HasSchema, E: HasSchema> HasSchema
+    for (A, B, C, D, E) {
     fn add_schema(alloc: Global, nodes: &mut Vec<Node>) -> Result<usize, AllocError> {
         let first = A::add_schema(alloc, nodes)?;
         let second = B::add_schema(alloc, nodes)?;
@@ -53,7 +54,8 @@ impl<A: HasSchema, B: HasSchema, C: HasSchema, D: HasSchema, E: HasSchema> HasSc
     }
 }
 
-impl<A: HasSchema, B: HasSchema, C: HasSchema, D: HasSchema, E: HasSchema, F: HasSchema> HasSchema for (A, B, C, D, E, F) {
+impl<A: HasSchema, B: HasSchema, C: HasSchema, D: HasSchema, E: HasSchema, F: HasSchema> HasSchema
+    for (A, B, C, D, E, F) {
     fn add_schema(alloc: Global, nodes: &mut Vec<Node>) -> Result<usize, AllocError> {
         let first = A::add_schema(alloc, nodes)?;
         let second = B::add_schema(alloc, nodes)?;

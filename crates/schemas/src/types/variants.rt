@@ -44,8 +44,8 @@ impl<A: HasSchema, R: HasPayloadSchemas> HasSchema for Variant<A, R> {
     }
 }
 
-impl<A: HasSchema, B: HasSchema, C: HasSchema, D: HasSchema, R: HasPayloadSchemas>
-    HasPayloadSchemas for Variants4<A, B, C, D, R> {
+impl<A: HasSchema, B: HasSchema, C: HasSchema, D: HasSchema, R: HasPayloadSchemas> HasPayloadSchemas
+    for Variants4<A, B, C, D, R> {
     fn add_payloads(
         alloc: Global,
         nodes: &mut Vec<Node>,
