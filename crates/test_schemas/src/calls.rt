@@ -7,6 +7,7 @@ use postcard_de::de_flavors::io::IOReader;
 use postcard_tree::{Error, Result};
 use schemas::{Node, Value, from_bytes, read_value, take_from_bytes};
 use std::alloc::{AllocError, Global};
+use std::process::Abort;
 
 fn is_said(line: std::result::Result<String, AllocError>, wanted: &str) -> bool {
     match line {
@@ -56,59 +57,55 @@ fn from_a_reader(rt: HostRuntime) {
 }
 
 // A type, how deep, the bytes, and what is answered.
-type Row<'a> = (usize, u32, &'a [u8], &'a str);
+type Row = (usize, u32, &'static [u8], &'static str);
+
+fn check_rows(rt: &impl Abort, alloc: Global, rows: &[Row]) {
+    let nodes = table(alloc).expect(rt, "a table");
+    for (place, depth, bytes, wanted) in rows {
+        let read = from_bytes(alloc, &nodes, *place, *depth, bytes);
+        check_row(rt, wanted, is_answer(alloc, read, wanted));
+    }
+}
+
+const DEPTHS: [Row; 8] = [
+    (U64, 0, &[7], "!SerdeDeCustom"),
+    (U64, 1, &[7], "7 +0"),
+    (OPTION, 1, &[1, 7], "!SerdeDeCustom"),
+    (OPTION, 1, &[0], "none +0"),
+    (OPTION, 2, &[1, 7], "some(7) +0"),
+    (NESTED, 4, &[1, 1, 0, 3, 0], "!SerdeDeCustom"),
+    (NESTED, 5, &[1, 1, 0, 3, 0], "some([0:(3,s())]) +0"),
+    (NESTED, 2, &[1, 0], "some([]) +0"),
+];
 
 #[test]
 fn as_deep_as_may_be(rt: HostRuntime) {
-    let alloc = rt.alloc();
-    let nodes = table(alloc).expect(&rt, "a table");
-    let rows: [Row<'_>; 8] = [
-        (U64, 0, &[7], "!SerdeDeCustom"),
-        (U64, 1, &[7], "7 +0"),
-        (OPTION, 1, &[1, 7], "!SerdeDeCustom"),
-        (OPTION, 1, &[0], "none +0"),
-        (OPTION, 2, &[1, 7], "some(7) +0"),
-        (NESTED, 4, &[1, 1, 0, 3, 0], "!SerdeDeCustom"),
-        (NESTED, 5, &[1, 1, 0, 3, 0], "some([0:(3,s())]) +0"),
-        (NESTED, 2, &[1, 0], "some([]) +0"),
-    ];
-    for (place, depth, bytes, wanted) in rows {
-        let read = from_bytes(alloc, &nodes, place, depth, bytes);
-        check_row(&rt, wanted, is_answer(alloc, read, wanted));
-    }
+    check_rows(&rt, rt.alloc(), &DEPTHS);
 }
+
+const OF_THEMSELVES: [Row; 4] = [
+    (CHAIN, 2, &[0], "0:() +0"),
+    (CHAIN, 6, &[1, 5, 1, 6, 0], "1:(5,1:(6,0:())) +0"),
+    (CHAIN, 5, &[1, 5, 1, 6, 0], "!SerdeDeCustom"),
+    (ITSELF, 1000, &[0], "!SerdeDeCustom"),
+];
 
 #[test]
 fn types_that_hold_themselves(rt: HostRuntime) {
-    let alloc = rt.alloc();
-    let nodes = table(alloc).expect(&rt, "a table");
-    let rows: [Row<'_>; 4] = [
-        (CHAIN, 2, &[0], "0:() +0"),
-        (CHAIN, 6, &[1, 5, 1, 6, 0], "1:(5,1:(6,0:())) +0"),
-        (CHAIN, 5, &[1, 5, 1, 6, 0], "!SerdeDeCustom"),
-        (ITSELF, 1000, &[0], "!SerdeDeCustom"),
-    ];
-    for (place, depth, bytes, wanted) in rows {
-        let read = from_bytes(alloc, &nodes, place, depth, bytes);
-        check_row(&rt, wanted, is_answer(alloc, read, wanted));
-    }
+    check_rows(&rt, rt.alloc(), &OF_THEMSELVES);
 }
+
+const PLACES: [Row; 5] = [
+    (39, 9, &[0], "!SerdeDeCustom"),
+    (usize::MAX, 9, &[], "!SerdeDeCustom"),
+    (NOWHERE, 9, &[0], "none +0"),
+    (NOWHERE, 9, &[1, 0], "!SerdeDeCustom"),
+    (NEVER, 9, &[0], "!SerdeDeCustom"),
+];
 
 #[test]
 fn places_without_a_node(rt: HostRuntime) {
-    let alloc = rt.alloc();
-    let nodes = table(alloc).expect(&rt, "a table");
-    let rows: [Row<'_>; 5] = [
-        (nodes.len(), 9, &[0], "!SerdeDeCustom"),
-        (usize::MAX, 9, &[], "!SerdeDeCustom"),
-        (NOWHERE, 9, &[0], "none +0"),
-        (NOWHERE, 9, &[1, 0], "!SerdeDeCustom"),
-        (NEVER, 9, &[0], "!SerdeDeCustom"),
-    ];
-    for (place, depth, bytes, wanted) in rows {
-        let read = from_bytes(alloc, &nodes, place, depth, bytes);
-        check_row(&rt, wanted, is_answer(alloc, read, wanted));
-    }
+    check_rows(&rt, rt.alloc(), &PLACES);
 }
 
 // As many as can be counted, and none of them.
@@ -139,6 +136,13 @@ fn a_count_alone_asks_for_nothing(rt: HostRuntime) {
     check(&rt, is_end(from_bytes(alloc, &nodes, 4, 1, &MOST)));
 }
 
+fn is_list_of(value: &Value, count: usize) -> bool {
+    match value {
+        Value::List(items) => items.len() == count,
+        _ => false,
+    }
+}
+
 #[test]
 fn a_list_of_many(rt: HostRuntime) {
     let alloc = rt.alloc();
@@ -146,8 +150,8 @@ fn a_list_of_many(rt: HostRuntime) {
     let mut bytes = Vec::from_array(alloc, [0xA0u8, 0x8D, 0x06]).expect(&rt, "a count");
     bytes.resize(100_003, 1).expect(&rt, "the elements");
     let is_right = match take_from_bytes(alloc, &nodes, LIST, 2, &bytes) {
-        Ok((Value::List(items), rest)) => items.len() == 100_000 && rest.is_empty(),
-        _ => false,
+        Ok((value, rest)) => is_list_of(&value, 100_000) && rest.is_empty(),
+        Err(_) => false,
     };
     check(&rt, is_right);
 }

@@ -24,6 +24,18 @@ fn say_bytes(bytes: &[u8], line: &mut String) -> Result<(), AllocError> {
     line.push(']')
 }
 
+fn say_bool(holds: bool, line: &mut String) -> Result<(), AllocError> {
+    write!(line, "{holds}")
+}
+
+fn say_unsigned(n: u128, line: &mut String) -> Result<(), AllocError> {
+    write!(line, "{n}")
+}
+
+fn say_signed(n: i128, line: &mut String) -> Result<(), AllocError> {
+    write!(line, "{n}")
+}
+
 #[cycle(say)]
 fn say_all(items: &[Value], line: &mut String) -> Result<(), AllocError> {
     for i in 0..items.len() {
@@ -49,7 +61,8 @@ fn say_inside(
 
 #[cycle(say)]
 fn say_variant(index: u32, inner: &Value, line: &mut String) -> Result<(), AllocError> {
-    write!(line, "{index}:")?;
+    say_unsigned(index as u128, line)?;
+    line.push(':')?;
     say(inner, line)
 }
 
@@ -69,17 +82,17 @@ fn say_char(letter: char, line: &mut String) -> Result<(), AllocError> {
 #[cycle(say)]
 pub(crate) fn say(value: &Value, line: &mut String) -> Result<(), AllocError> {
     match value {
-        Value::Bool(b) => write!(line, "{b}"),
-        Value::U8(n) => write!(line, "{n}"),
-        Value::I8(n) => write!(line, "{n}"),
-        Value::U16(n) => write!(line, "{n}"),
-        Value::U32(n) => write!(line, "{n}"),
-        Value::U64(n) => write!(line, "{n}"),
-        Value::U128(n) => write!(line, "{n}"),
-        Value::I16(n) => write!(line, "{n}"),
-        Value::I32(n) => write!(line, "{n}"),
-        Value::I64(n) => write!(line, "{n}"),
-        Value::I128(n) => write!(line, "{n}"),
+        Value::Bool(b) => say_bool(*b, line),
+        Value::U8(n) => say_unsigned(*n as u128, line),
+        Value::I8(n) => say_signed(*n as i128, line),
+        Value::U16(n) => say_unsigned(*n as u128, line),
+        Value::U32(n) => say_unsigned(*n as u128, line),
+        Value::U64(n) => say_unsigned(*n as u128, line),
+        Value::U128(n) => say_unsigned(*n, line),
+        Value::I16(n) => say_signed(*n as i128, line),
+        Value::I32(n) => say_signed(*n as i128, line),
+        Value::I64(n) => say_signed(*n as i128, line),
+        Value::I128(n) => say_signed(*n, line),
         Value::Char(c) => say_char(*c, line),
         Value::Text(text) => say_text(text.as_str(), line),
         Value::Bytes(bytes) => say_bytes(bytes, line),

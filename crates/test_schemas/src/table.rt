@@ -64,9 +64,29 @@ pub(crate) const NOWHERE: usize = 37;
 /// An enum without variants.
 pub(crate) const NEVER: usize = 38;
 
-/// The table.
-pub(crate) fn table(alloc: Global) -> Result<Vec<Node>, AllocError> {
-    let mut nodes = Vec::from_array(
+fn add_struct<const N: usize>(
+    alloc: Global,
+    nodes: &mut Vec<Node>,
+    fields: [usize; N],
+) -> Result<(), AllocError> {
+    let fields = Vec::from_array(alloc, fields)?;
+    nodes.push(Node::Struct(fields))?;
+    Ok(())
+}
+
+fn add_enum<const N: usize>(
+    alloc: Global,
+    nodes: &mut Vec<Node>,
+    payloads: [usize; N],
+) -> Result<(), AllocError> {
+    let payloads = Vec::from_array(alloc, payloads)?;
+    nodes.push(Node::Enum(payloads))?;
+    Ok(())
+}
+
+// The types of no parts.
+fn leaves(alloc: Global) -> Result<Vec<Node>, AllocError> {
+    let nodes = Vec::from_array(
         alloc,
         [
             Node::Bool,
@@ -83,38 +103,58 @@ pub(crate) fn table(alloc: Global) -> Result<Vec<Node>, AllocError> {
             Node::Char,
             Node::Text,
             Node::Bytes,
-            Node::Option(U8),
-            Node::Option(16),
-            Node::Option(BOOL),
-            Node::List(BOOL),
-            Node::Array(2, OPTION),
-            Node::Struct(Vec::new(alloc)),
         ],
     )?;
-    nodes.push(Node::Struct(Vec::from_array(alloc, [U8, U16])?))?;
+    Ok(nodes)
+}
+
+// The types at 14 to 19.
+fn add_simple(alloc: Global, nodes: &mut Vec<Node>) -> Result<(), AllocError> {
+    nodes.push(Node::Option(U8))?;
+    nodes.push(Node::Option(16))?;
+    nodes.push(Node::Option(BOOL))?;
+    nodes.push(Node::List(BOOL))?;
+    nodes.push(Node::Array(2, OPTION))?;
+    add_struct(alloc, nodes, [])
+}
+
+// The types at 20 to 26.
+fn add_messages(alloc: Global, nodes: &mut Vec<Node>) -> Result<(), AllocError> {
+    add_struct(alloc, nodes, [U8, U16])?;
     nodes.push(Node::List(20))?;
-    nodes.push(Node::Struct(Vec::from_array(alloc, [BOOL, I16, CHAR, U64])?))?;
-    nodes.push(Node::Enum(Vec::from_array(alloc, [NOTHING, TEXT])?))?;
-    nodes.push(Node::Enum(Vec::from_array(alloc, [U16, U64, U8, 20, 25, 26])?))?;
-    nodes.push(Node::Struct(Vec::from_array(alloc, [U8, U32])?))?;
-    nodes.push(Node::Struct(Vec::from_array(alloc, [U16, U8])?))?;
-    nodes.push(Node::Struct(Vec::from_array(alloc, [U8, TEXT])?))?;
+    add_struct(alloc, nodes, [BOOL, I16, CHAR, U64])?;
+    add_enum(alloc, nodes, [NOTHING, TEXT])?;
+    add_enum(alloc, nodes, [U16, U64, U8, 20, 25, 26])?;
+    add_struct(alloc, nodes, [U8, U32])?;
+    add_struct(alloc, nodes, [U16, U8])
+}
+
+// The types at 27 to 33.
+fn add_nested(alloc: Global, nodes: &mut Vec<Node>) -> Result<(), AllocError> {
+    add_struct(alloc, nodes, [U8, TEXT])?;
     nodes.push(Node::Array(2, U16))?;
-    nodes.push(Node::Enum(Vec::from_array(alloc, [27, 28])?))?;
+    add_enum(alloc, nodes, [27, 28])?;
     nodes.push(Node::List(29))?;
     nodes.push(Node::Option(30))?;
     nodes.push(Node::List(33))?;
-    nodes.push(Node::Struct(Vec::from_array(alloc, [U16, TEXT])?))?;
-    add_bad_types(alloc, &mut nodes)?;
-    Ok(nodes)
+    add_struct(alloc, nodes, [U16, TEXT])
 }
 
 // The types that hold themselves or what isn't there.
 fn add_bad_types(alloc: Global, nodes: &mut Vec<Node>) -> Result<(), AllocError> {
-    nodes.push(Node::Enum(Vec::from_array(alloc, [NOTHING, 35])?))?;
-    nodes.push(Node::Struct(Vec::from_array(alloc, [U8, CHAIN])?))?;
-    nodes.push(Node::Struct(Vec::from_array(alloc, [ITSELF])?))?;
+    add_enum(alloc, nodes, [NOTHING, 35])?;
+    add_struct(alloc, nodes, [U8, CHAIN])?;
+    add_struct(alloc, nodes, [ITSELF])?;
     nodes.push(Node::Option(usize::MAX))?;
-    nodes.push(Node::Enum(Vec::new(alloc)))?;
-    Ok(())
+    add_enum(alloc, nodes, [])
+}
+
+/// The table.
+pub(crate) fn table(alloc: Global) -> Result<Vec<Node>, AllocError> {
+    let mut nodes = leaves(alloc)?;
+    add_simple(alloc, &mut nodes)?;
+    add_messages(alloc, &mut nodes)?;
+    add_nested(alloc, &mut nodes)?;
+    add_bad_types(alloc, &mut nodes)?;
+    Ok(nodes)
 }
