@@ -2,3 +2,6 @@ mod Tops
 mod Taking
 mod Fronts
 mod Pushed
+mod Maps
+mod Tables
+mod Agreeing

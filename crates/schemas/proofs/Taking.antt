@@ -202,12 +202,14 @@ variant_of_payload takes has is index v (group (part (number w i) (part t end)))
     ((h.0, h.1, h.2.1), tree-Variant index v ∙ f, top-Variant (PayloadHas has is) index v h.2.3)
 variant_of_payload takes has is index v _ h = absurd h
 
-pub variant_by : (takes : ℕ → Tree → Type 0) (has : ℕ → Value → Type 0) {a b c : SourceState} {x : Value} (is : List ℕ) (index : ℕ) (v : Box Value Global) → v.value ≡ x → index < length is
+-- m is the index that was read
+pub variant_by : (takes : ℕ → Tree → Type 0) (has : ℕ → Value → Type 0) {a b c : SourceState} {x : Value} (is : List ℕ) (index m : ℕ) (v : Box Value Global) → m ≡ index → v.value ≡ x → index < length is
     → Reads a b (Spelled (ReadsNumber 32)) index → Reads b c (Spelled (ReadsBy (takes (get_or is index 0)) (has (get_or is index 0)))) x
-    → Reads a c (Spelled (ReadsBy (TakesVariant (TakesPayload takes is)) (AtTop (OfVariant (PayloadHas has is))))) (Variant index v)
-variant_by takes has {a} {b} {c} {x} is index v e l p q =
-    read_as (Variant index v) (λ t k. variant_of_payload takes has is index v t k)
-    (variant_read {Q = HoldsPayload takes has is index} index v.value (λ t k. (refl, payload_takes takes is index t l k.0, ap tree_of e ∙ k.1, payload_has has is index v.value l (subst (has (get_or is index 0)) (sym e) k.2))) p q)
+    → Reads a c (Spelled (ReadsBy (TakesVariant (TakesPayload takes is)) (AtTop (OfVariant (PayloadHas has is))))) (Variant m v)
+variant_by takes has {a} {b} {c} {x} is index m v i e l p q =
+    subst (λ z. Reads a c (Spelled (ReadsBy (TakesVariant (TakesPayload takes is)) (AtTop (OfVariant (PayloadHas has is))))) (Variant z v)) (sym i)
+    (read_as (Variant index v) (λ t k. variant_of_payload takes has is index v t k)
+    (variant_read {Q = HoldsPayload takes has is index} index v.value (λ t k. (refl, payload_takes takes is index t l k.0, ap tree_of e ∙ k.1, payload_has has is index v.value l (subst (has (get_or is index 0)) (sym e) k.2))) p q))
 
 pub payload_fails : (refuses : ℕ → List ℕ → Error → Type 0) {a b c : SourceState} {e : Error} (is : List ℕ) (index : ℕ) → index < length is
     → Reads a b (Spelled (ReadsNumber 32)) index → Fails b c (refuses (get_or is index 0)) true e → Fails a c (RefusesVariant (RefusesPayload refuses is)) true e

@@ -3,7 +3,10 @@ ghost use Rattle.std.specs.Prelude.{ℕ, List};
 ghost use Rattle.postcard_tree.specs.ReadingLaws.{ReadingLaws};
 ghost use Rattle.schemas.specs.Values.{AreOneTree};
 ghost use Rattle.schemas.specs.Schemas.{SchemaTakes, SchemaReads, SchemaRefuses};
+ghost use Rattle.schemas.specs.TypeSchemas.{AgreesWithItsSchemas};
 ghost use Rattle.schemas.specs.declared.node.Node.{Node as Nodes};
+
+use crate::HasSchema;
 
 /// Of every type of every table, at every depth, what `postcard_tree::laws::reading` says of a type: only what is taken is
 /// read, what is taken is a tree, none of its spellings begins that of another, what is refused has no front that is taken,
@@ -11,4 +14,10 @@ ghost use Rattle.schemas.specs.declared.node.Node.{Node as Nodes};
 pub fn reading_by_schemas()
     ensures { (depth : ℕ) (nodes : List Nodes) (place : ℕ) → ReadingLaws (SchemaTakes depth nodes place)
         (SchemaReads depth nodes place) (SchemaRefuses depth nodes place) AreOneTree }
+{}
+
+/// Of every type that has a schema: what is read by the schema and what is read by the type are of one tree, and leave the
+/// same rest. Which bytes are refused, and how, is the same by `HasSchema`.
+pub fn reading_by_schemas_agrees<T: HasSchema>()
+    ensures { AgreesWithItsSchemas T.takes T.reads T.refuses }
 {}

@@ -104,7 +104,7 @@ read_variant-returns-in_err-value g t c =
 
 pub read_variant-returns-in-Ok : goal.read_variant-returns-in-Ok
 read_variant-returns-in-Ok g t c =
-    variant_by (SchemaTakes c.args.depth c.args.nodes.now) (SchemaHas c.args.depth c.args.nodes.now) c.args.payloads.now c.in_ok-index.index c.in-Ok.v c.in-Ok.ensures.ok (omega arith) c.in_ok-index.ensures c.in_ok-value.ensures
+    variant_by (SchemaTakes c.args.depth c.args.nodes.now) (SchemaHas c.args.depth c.args.nodes.now) c.args.payloads.now c.in_ok-index.index _ c.in-Ok.v (grind arith) c.in-Ok.ensures.ok (omega arith) c.in_ok-index.ensures c.in_ok-value.ensures
 
 pub read_variant-returns : goal.read_variant-returns
 read_variant-returns g t c = no_memory_behind _ c.in_ok-index.ensures c.in_ok-value.ensures

@@ -1,0 +1,5 @@
+use Rattle.schemas.proofs.Agreeing.{schemas_agree}
+use Rattle.schemas.proofs.laws.reading_by_schemas_agrees.Goals as goal
+
+pub returns : goal.returns
+returns g c = schemas_agree g.met.T.Readable.laws

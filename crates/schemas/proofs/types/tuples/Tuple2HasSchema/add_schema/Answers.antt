@@ -1,0 +1,9 @@
+use Rattle.schemas.specs.declared.node.Node.TheVariants.{Struct}
+use Rattle.schemas.proofs.Tables.{added_as, later, field_then, no_fields, struct_schema}
+use Rattle.schemas.proofs.types.tuples.Tuple2HasSchema.add_schema.Goals as goal
+
+pub returns-clause-is_schema : goal.returns-clause-is_schema
+returns-clause-is_schema g c =
+    let kept-first = c.in_ok-second.ensures.kept in
+    let all = field_then (later kept-first c.in_ok-first.ensures.is_schema) (field_then c.in_ok-second.ensures.is_schema no_fields) in
+    added_as c.add_node.result (Struct c.in_ok-fields.fields) c.add_schema-2.new.nodes.items c.add_node.new.nodes.items (λ place h. struct_schema c.in_ok-fields.fields c.in_ok-fields.ensures.items all h) c.add_node.ensures.added

@@ -1,0 +1,160 @@
+//! One table of the types that the rows are of.
+use schemas::Node;
+use std::alloc::{AllocError, Global};
+
+/// How deep the values of the rows may nest.
+pub(crate) const DEPTH: u32 = 6;
+
+// The places of the types.
+pub(crate) const BOOL: usize = 0;
+
+pub(crate) const U8: usize = 1;
+
+pub(crate) const I8: usize = 2;
+
+pub(crate) const U16: usize = 3;
+
+pub(crate) const U32: usize = 4;
+
+pub(crate) const U64: usize = 5;
+
+pub(crate) const U128: usize = 6;
+
+pub(crate) const I16: usize = 7;
+
+pub(crate) const I32: usize = 8;
+
+pub(crate) const I64: usize = 9;
+
+pub(crate) const I128: usize = 10;
+
+pub(crate) const CHAR: usize = 11;
+
+pub(crate) const TEXT: usize = 12;
+
+pub(crate) const BYTES: usize = 13;
+/// `Option<u8>`
+pub(crate) const OPTION: usize = 14;
+/// `Option<Option<bool>>`
+pub(crate) const OPTION_TWICE: usize = 15;
+/// `Vec<bool>`
+pub(crate) const LIST: usize = 17;
+/// `[Option<u8>; 2]`
+pub(crate) const ARRAY: usize = 18;
+/// `()`
+pub(crate) const NOTHING: usize = 19;
+/// `Vec<(u8, u16)>`
+pub(crate) const PAIRS: usize = 21;
+/// `(bool, i16, char, u64)`
+pub(crate) const TUPLE: usize = 22;
+/// `Result<(), String>`
+pub(crate) const RESULT: usize = 23;
+/// `DataEnum` of `samples`
+pub(crate) const ENUM: usize = 24;
+/// `Option<Vec<Result<(u8, String), [u16; 2]>>>`
+pub(crate) const NESTED: usize = 31;
+/// `BTreeMap<u16, String>`
+pub(crate) const MAP: usize = 32;
+/// `Chain` of `samples`, which holds itself
+pub(crate) const CHAIN: usize = 34;
+/// A type of itself alone.
+pub(crate) const ITSELF: usize = 36;
+/// A type whose place has no node.
+pub(crate) const NOWHERE: usize = 37;
+/// An enum without variants.
+pub(crate) const NEVER: usize = 38;
+
+fn add_struct<const N: usize>(
+    alloc: Global,
+    nodes: &mut Vec<Node>,
+    fields: [usize; N],
+) -> Result<(), AllocError> {
+    let fields = Vec::from_array(alloc, fields)?;
+    nodes.push(Node::Struct(fields))?;
+    Ok(())
+}
+
+fn add_enum<const N: usize>(
+    alloc: Global,
+    nodes: &mut Vec<Node>,
+    payloads: [usize; N],
+) -> Result<(), AllocError> {
+    let payloads = Vec::from_array(alloc, payloads)?;
+    nodes.push(Node::Enum(payloads))?;
+    Ok(())
+}
+
+// The types of no parts.
+fn leaves(alloc: Global) -> Result<Vec<Node>, AllocError> {
+    let nodes = Vec::from_array(
+        alloc,
+        [
+            Node::Bool,
+            Node::U8,
+            Node::I8,
+            Node::U16,
+            Node::U32,
+            Node::U64,
+            Node::U128,
+            Node::I16,
+            Node::I32,
+            Node::I64,
+            Node::I128,
+            Node::Char,
+            Node::Text,
+            Node::Bytes,
+        ],
+    )?;
+    Ok(nodes)
+}
+
+// The types at 14 to 19.
+fn add_simple(alloc: Global, nodes: &mut Vec<Node>) -> Result<(), AllocError> {
+    nodes.push(Node::Option(U8))?;
+    nodes.push(Node::Option(16))?;
+    nodes.push(Node::Option(BOOL))?;
+    nodes.push(Node::List(BOOL))?;
+    nodes.push(Node::Array(2, OPTION))?;
+    add_struct(alloc, nodes, [])
+}
+
+// The types at 20 to 26.
+fn add_messages(alloc: Global, nodes: &mut Vec<Node>) -> Result<(), AllocError> {
+    add_struct(alloc, nodes, [U8, U16])?;
+    nodes.push(Node::List(20))?;
+    add_struct(alloc, nodes, [BOOL, I16, CHAR, U64])?;
+    add_enum(alloc, nodes, [NOTHING, TEXT])?;
+    add_enum(alloc, nodes, [U16, U64, U8, 20, 25, 26])?;
+    add_struct(alloc, nodes, [U8, U32])?;
+    add_struct(alloc, nodes, [U16, U8])
+}
+
+// The types at 27 to 33.
+fn add_nested(alloc: Global, nodes: &mut Vec<Node>) -> Result<(), AllocError> {
+    add_struct(alloc, nodes, [U8, TEXT])?;
+    nodes.push(Node::Array(2, U16))?;
+    add_enum(alloc, nodes, [27, 28])?;
+    nodes.push(Node::List(29))?;
+    nodes.push(Node::Option(30))?;
+    nodes.push(Node::List(33))?;
+    add_struct(alloc, nodes, [U16, TEXT])
+}
+
+// The types that hold themselves or what isn't there.
+fn add_bad_types(alloc: Global, nodes: &mut Vec<Node>) -> Result<(), AllocError> {
+    add_enum(alloc, nodes, [NOTHING, 35])?;
+    add_struct(alloc, nodes, [U8, CHAIN])?;
+    add_struct(alloc, nodes, [ITSELF])?;
+    nodes.push(Node::Option(usize::MAX))?;
+    add_enum(alloc, nodes, [])
+}
+
+/// The table.
+pub(crate) fn table(alloc: Global) -> Result<Vec<Node>, AllocError> {
+    let mut nodes = leaves(alloc)?;
+    add_simple(alloc, &mut nodes)?;
+    add_messages(alloc, &mut nodes)?;
+    add_nested(alloc, &mut nodes)?;
+    add_bad_types(alloc, &mut nodes)?;
+    Ok(nodes)
+}
