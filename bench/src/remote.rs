@@ -51,6 +51,11 @@ const FIRST: u64 = 1000;
 /// What both sides take at most, in a call.
 const MOST: usize = 34;
 
+/// Room for all that one side writes.
+fn room() -> Vec<u8> {
+    vec![0; MOST * usize::from(CALLS)]
+}
+
 /// The two lines of the calls: what the client writes, and what the server does.
 struct Lines {
     requests: Vec<u8>,
@@ -61,36 +66,37 @@ impl Lines {
     /// The lines, which are seen to be the same by both ways.
     fn new() -> Lines {
         let [requests, ours] = [CLIENTS[1].1, CLIENTS[0].1].map(|call| {
-            let (mut room, mut counted) = (vec![0; MOST * usize::from(CALLS)], Counted::default());
+            let (mut room, mut counted) = (room(), Counted::default());
             call(&[], 1, FIRST, CALLS, &mut room, &mut counted);
             room[..counted.written].to_vec()
         });
         assert_eq!(requests, ours);
         let [(replies, by_hand), (our_replies, ours)] = [SERVERS[1].1, SERVERS[0].1].map(|serve| {
-            let (mut room, mut counted) = (vec![0; MOST * usize::from(CALLS)], Counted::default());
+            let (mut room, mut counted) = (room(), Counted::default());
             serve(&requests, &mut room, &mut counted);
             (room[..counted.written].to_vec(), counted)
         });
         assert_eq!(by_hand.calls, CALLS.into());
         assert_eq!((&replies, by_hand), (&our_replies, ours));
         let lines = Lines { requests, replies };
-        let [by_hand, ours] = [CLIENTS[1].1, CLIENTS[0].1].map(|call| lines.call(call));
+        let mut room = room();
+        let [by_hand, ours] = [CLIENTS[1].1, CLIENTS[0].1].map(|call| lines.call(call, &mut room));
         assert_eq!((by_hand.calls, by_hand), (CALLS.into(), ours));
         lines
     }
 
-    fn serve(&self, serve: Serve) -> Counted {
-        let (mut room, mut counted) = ([0; MOST * CALLS as usize], Counted::default());
-        black_box(serve)(black_box(&self.requests), &mut room, &mut counted);
+    fn serve(&self, serve: Serve, room: &mut [u8]) -> Counted {
+        let mut counted = Counted::default();
+        black_box(serve)(black_box(&self.requests), room, &mut counted);
         black_box(counted)
     }
 
     /// Each read gives one reply: the zero before the first one is no part of any.
-    fn call(&self, call: Call) -> Counted {
-        let (mut room, mut counted) = ([0; MOST * CALLS as usize], Counted::default());
+    fn call(&self, call: Call, room: &mut [u8]) -> Counted {
+        let mut counted = Counted::default();
         let replies = &self.replies[1..];
         let each = replies.len() / usize::from(CALLS);
-        black_box(call)(black_box(replies), each, FIRST, CALLS, &mut room, &mut counted);
+        black_box(call)(black_box(replies), each, FIRST, CALLS, room, &mut counted);
         black_box(counted)
     }
 }
@@ -99,13 +105,19 @@ impl Lines {
 pub fn calls(samples: usize, report: &mut Report) {
     let lines = Lines::new();
     head("A remote call over memory", &["Side", "Ours", "By hand", "Time / time by hand (goal)"]);
-    let way = |name: &'static str, work: Box<dyn Fn()>| {
+    let way = |name: &'static str, mut work: Box<dyn FnMut()>| {
         let side = if name == "ours" { Side::Ours } else { Side::Peer };
         Way { side, name, work: Box::new(move |times| (0..times).for_each(|_| work())) }
     };
     let lines: &'static Lines = Box::leak(Box::new(lines));
-    let served = SERVERS.map(|(name, serve)| way(name, Box::new(move || { lines.serve(serve); })));
-    let called = CLIENTS.map(|(name, call)| way(name, Box::new(move || { lines.call(call); })));
+    let served = SERVERS.map(|(name, serve)| way(name, {
+        let mut room = room();
+        Box::new(move || { lines.serve(serve, &mut room); })
+    }));
+    let called = CLIENTS.map(|(name, call)| way(name, {
+        let mut room = room();
+        Box::new(move || { lines.call(call, &mut room); })
+    }));
     for (side, ways) in [("the server", served), ("the client", called)] {
         let timed = run(samples, ways.into());
         let each = |i: usize| timed[i].median / f64::from(CALLS);
@@ -118,14 +130,15 @@ pub fn calls(samples: usize, report: &mut Report) {
 /// Counts both sides, where valgrind looks on.
 pub fn count_calls() {
     let lines = Lines::new();
+    let mut room = room();
     for (whose, serve) in SERVERS {
         count(&format!("serve/{whose}/0/"), || {
-            lines.serve(serve);
+            lines.serve(serve, &mut room);
         });
     }
     for (whose, call) in CLIENTS {
         count(&format!("call/{whose}/0/"), || {
-            lines.call(call);
+            lines.call(call, &mut room);
         });
     }
 }
