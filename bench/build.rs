@@ -12,7 +12,7 @@ fn main() {
         println!("cargo:rerun-if-env-changed={name}");
     }
     let libs = env::var("BENCH_LIBS").expect("run this by `bench/run`");
-    link(&libs, &["bench_cobs", "bench_postcard"]);
+    link(&libs, &["bench_cobs", "bench_postcard", "bench_calls"]);
     if let Ok(before) = env::var("BENCH_BEFORE") {
         println!("cargo:rustc-cfg=before");
         link(&before, &["before_bench_cobs", "before_bench_postcard"]);

@@ -5,6 +5,7 @@ use crate::cases::{room, LENGTHS};
 use crate::data::{self, message, record, Record, KINDS};
 use crate::frames::{bytes, runs, wide, windows};
 use crate::peers::{records as by_hand, streams as pieces};
+use crate::remote;
 use crate::table::{head, row, size};
 use std::collections::BTreeMap;
 use std::hint::black_box;
@@ -56,7 +57,7 @@ mod callgrind {
 }
 
 /// Counts some work, and gives it a name.
-fn count(name: &str, mut work: impl FnMut()) {
+pub fn count(name: &str, mut work: impl FnMut()) {
     let name = std::ffi::CString::new(name).expect("a name without zeros");
     work();
     callgrind::zero();
@@ -222,6 +223,7 @@ pub fn count_all() {
         }
     }
     count_record();
+    remote::count_calls();
 }
 
 /// Runs this program under valgrind, which writes a file for each count, and reads what each says for one call.
@@ -247,10 +249,10 @@ fn counted(folder: &Path) -> BTreeMap<String, f64> {
 }
 
 /// The counts, each without what is around a call.
-struct Counts(BTreeMap<String, f64>);
+pub struct Counts(BTreeMap<String, f64>);
 
 impl Counts {
-    fn of(&self, call: &str, whose: &str, len: usize, kind: &str) -> f64 {
+    pub fn of(&self, call: &str, whose: &str, len: usize, kind: &str) -> f64 {
         self.0[&named(call, whose, len, kind)]
     }
 
@@ -331,4 +333,5 @@ pub fn print(folder: &Path) {
     print_sentinels(&counts);
     print_streams(&counts, data::stream(STREAM).len());
     print_record(&counts);
+    remote::print_calls(&counts);
 }

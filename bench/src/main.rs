@@ -8,6 +8,7 @@ mod counts;
 mod data;
 mod frames;
 mod peers;
+mod remote;
 mod table;
 mod timing;
 
@@ -21,6 +22,7 @@ fn measure(samples: usize) {
     sentinels(samples, &mut report);
     streams(samples.min(11), &mut report);
     records(2 * samples, &mut report);
+    remote::calls(samples, &mut report);
     growth(samples.min(11), &mut report);
     report.print_goals();
     report.print_before();

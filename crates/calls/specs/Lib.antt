@@ -4,3 +4,4 @@ pub mod Serving
 pub mod ServedLaws
 pub mod Asking
 pub mod Waits
+pub mod Sealing

@@ -1,5 +1,5 @@
 //! Calling, and calling again.
-ghost use Rattle.std.specs.Prelude.{◌≡◌, ℕ, ◌<◌, Some, None, false, MatchOption};
+ghost use Rattle.std.specs.Prelude.{◌≡◌, ◌↔◌, IsTrue, ℕ, ◌<◌, Some, None, false, MatchOption};
 ghost use Rattle.link.specs.declared.receiver.Answer.TheVariants.{Value};
 ghost use Rattle.link.specs.Senders.{writer_of, clean_of, sentinel_of};
 ghost use Rattle.calls.specs.Places.{place_of, HasSaid};
@@ -93,6 +93,16 @@ impl<W: Outlet, Q: Serialize + Drop, const N: usize> Client<W, Q, N> {
         }
     }
 
+    // Whether the pending call has this number.
+    fn is_pending(&self, number: u64) -> bool
+        ensures { IsTrue result ↔ (number_of (asker_of self.now).pending ≡ Some number) }
+    {
+        match &self.pending {
+            Some(pending) => pending.0 == number,
+            None => false,
+        }
+    }
+
     /// Takes an answer of the line: what is said to the pending call, which is then over. Anything else changes nothing.
     pub fn hear<R: Drop>(&mut self, answer: Answer<(u64, R)>) -> Option<R>
         ensures accepts { MatchOption result (asker_of self.new ≡ asker_of self.old)
@@ -100,13 +110,10 @@ impl<W: Outlet, Q: Serialize + Drop, const N: usize> Client<W, Q, N> {
         ensures taken { (n : ℕ) (q : Q) (said : R) → (asker_of self.old).pending ≡ Some (n, q) → answer ≡ Value (n, said) → result ≡ Some said }
         ensures sender { sender_of self.new ≡ sender_of self.old }
     {
-        let Some(pending) = &self.pending else {
-            return None;
-        };
         let Answer::Value((number, said)) = answer else {
             return None;
         };
-        if number != pending.0 {
+        if !self.is_pending(number) {
             return None;
         }
         self.pending = None;

@@ -12,12 +12,15 @@ mod client;
 pub mod laws;
 mod listening;
 mod saying;
+mod sealing;
 mod server;
 mod service;
 mod serving;
 mod waiting;
 
 pub use client::{CallError, Client};
+pub use listening::{listen_until, listen_until_strict};
+pub use sealing::{Checked, Numbered, Numbering};
 pub use server::{Application, Served, Server};
 pub use service::Service;
 pub use serving::{

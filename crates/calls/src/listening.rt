@@ -12,8 +12,11 @@ use link::{Answer, Decoding, End, Hearer, Reception};
 use postcard::{DeserializeOwned, Exact};
 use std::alloc::Global;
 
-// Listens until the hearer has had enough, or the reading ended.
-pub(crate) fn listen_until<T: DeserializeOwned, R: Inlet, D: Decoding, H: Hearer<T>>(
+/// Listens until the hearer has had enough, and answers None; else how the reading ended.
+///
+/// At `ReadFault` the receiver stands where it stood, so a reader that had nothing yet, as one with a time limit, may be listened to
+/// again. What one read brings is handed on all the same, up to 1024 bytes. At `NoMemory` at least one answer is missing.
+pub fn listen_until<T: DeserializeOwned, R: Inlet, D: Decoding, H: Hearer<T>>(
     alloc: Global,
     receiver: &mut Reception<D>,
     reader: &mut R,
@@ -35,8 +38,8 @@ pub(crate) fn listen_until<T: DeserializeOwned, R: Inlet, D: Decoding, H: Hearer
     }
 }
 
-// The same by what sending makes alone.
-pub(crate) fn listen_until_strict<T: DeserializeOwned + Exact, R: Inlet, D: Decoding, H: Hearer<T>>(
+/// As `listen_until`, but a stretch within the limit is a `Value` only where it is the very frame that sending that value makes.
+pub fn listen_until_strict<T: DeserializeOwned + Exact, R: Inlet, D: Decoding, H: Hearer<T>>(
     alloc: Global,
     receiver: &mut Reception<D>,
     reader: &mut R,

@@ -1,7 +1,8 @@
 //! A call and its reply.
-use calls::{CallError, Client, Waiting, wait};
+use calls::{CallError, Checked, Client, Numbered, Waiting, listen_until};
 use line_io::{Reads, Writes};
 use link::Receiver;
+use sealed::Sealed;
 use shell::{Command, FRAME, Report};
 
 /// Calls over standard output, and waits on standard input for the reply. Where a reading ends without it, the call is sent again, so
@@ -16,22 +17,29 @@ pub fn ask(
 ) -> Result<Option<Report>, CallError> {
     let mut reader = Reads::new(rt.stdin());
     let mut receiver = Receiver::<FRAME>::new();
-    let mut waiting = Waiting {
-        client: Client::<_, Command, FRAME>::new(Writes::new(rt.stdout()), number),
-        said: None,
+    let mut waiting = Checked {
+        hearer: Waiting {
+            client: Client::<_, Numbered<Command>, FRAME>::new(Writes::new(rt.stdout()), number),
+            said: None,
+        },
     };
     // what wasn't sent whole may have been heard all the same, so its reply is waited for too
-    if let Err(CallError::Full) = waiting.client.call(command) {
+    if let Err(CallError::Full) = waiting.hearer.client.call(Sealed((number, command))) {
         return Err(CallError::Full);
     }
-    for _ in 0..again {
-        if wait(rt.alloc(), &mut receiver, &mut reader, &mut waiting).is_none() {
-            break;
+    for sent in 0..=again {
+        if sent > 0 {
+            let _sent = waiting.hearer.client.again();
         }
-        let _sent = waiting.client.again();
+        let _ended = listen_until::<(u64, Numbered<Report>), _, _, _>(
+            rt.alloc(),
+            &mut receiver,
+            &mut reader,
+            &mut waiting,
+        );
+        if let Some(Sealed((_, report))) = waiting.hearer.said {
+            return Ok(Some(report));
+        }
     }
-    if waiting.said.is_none() {
-        let _ended = wait(rt.alloc(), &mut receiver, &mut reader, &mut waiting);
-    }
-    Ok(waiting.said)
+    Ok(None)
 }

@@ -9,5 +9,6 @@ pub use device::Device;
 pub use messages::{Command, Refusal, Report};
 pub use words::command_of;
 
-/// The bytes of a frame at most, on both lines. The longest message is a number and a state of 22 bytes, whose frame has 23.
-pub const FRAME: usize = 32;
+/// The bytes of a frame at most, on both lines. The longest message is a number, and that number and a state with their sum: 36
+/// bytes, whose frame has 37.
+pub const FRAME: usize = 40;

@@ -6,6 +6,8 @@ mod exchanges;
 #[cfg(test)]
 mod noise;
 #[cfg(test)]
+mod seals;
+#[cfg(test)]
 mod served;
 #[cfg(test)]
 mod whole;

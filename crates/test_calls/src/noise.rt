@@ -1,128 +1,41 @@
-//! 10,000 calls over lines that lose, change and double bytes at random. Each message carries its number and a sum of it, so that
-//! a changed frame that still reads as a message isn't taken for one that was sent.
-ghost use Rattle.std.specs.Prelude.{◌≡◌, ⊤, false};
-ghost use Rattle.link.specs.Each.{HeardAnyhow, heard_anyhow};
+//! 10,000 calls over lines that lose, change and double bytes at random. Messages are sealed with their numbers, so that a changed
+//! frame that still reads as a message isn't taken for one that was sent.
+ghost use Rattle.std.specs.Prelude.{⊤};
 
 use crate::served::{Line, line};
-use calls::{Application, Client, Server, Service};
+use calls::{Application, Checked, Client, Numbered, Server, Service, Waiting};
 use line_io::memory::In;
-use link::{Answer, Hearer, Receiver};
+use link::Receiver;
+use sealed::Sealed;
 use std::alloc::Global;
 
 const CALLS: u32 = 10_000;
 
-// A number, a value, and their sum.
-type Message = (u64, u32, u64);
-
-// The sum of a number and a value.
-fn sum_of(number: u64, value: u32) -> u64 {
-    let one = number.wrapping_add(1).wrapping_mul(0x9E37_79B9_7F4A_7C15);
-    let other = u64::from(value)
-        .wrapping_add(7)
-        .wrapping_mul(0xD6E8_FEB8_6659_FD93);
-    (one ^ (other >> 29)).wrapping_mul(0xBF58_476D_1CE4_E5B9) ^ other
-}
-
-fn message(number: u64, value: u32) -> Message {
-    (number, value, sum_of(number, value))
-}
-
-// Whether a message is one that was sent by this number.
-fn is_whole(number: u64, message: &Message) -> bool {
-    message.0 == number && message.2 == sum_of(number, message.1)
-}
-
-// How often each value was executed.
+// How often each value was executed, and how often one that wasn't called by its number. A value is called by the number above it.
 #[derive(Drop)]
 struct Counter {
     counts: Vec<u8>,
+    strangers: u32,
 }
 
-impl Application<Message, Message> for Counter {
+impl Application<Numbered<u32>, Numbered<u32>> for Counter {
     ghost executes = { λ old asks says new. ⊤ };
 
-    fn execute(&mut self, request: Message) -> Message
+    fn execute(&mut self, request: Numbered<u32>) -> Numbered<u32>
         ensures { ⊤ }
     {
-        if let Some(count) = self.counts.get_mut(request.1 as usize) {
-            *count = count.saturating_add(1);
+        let Sealed((number, value)) = request;
+        match self.counts.get_mut(value as usize) {
+            Some(count) if number == u64::from(value) + 1 => *count = count.saturating_add(1),
+            _ => self.strangers = self.strangers.saturating_add(1),
         }
-        message(request.0, request.1.wrapping_mul(3))
+        Sealed((number, value.wrapping_mul(3)))
     }
 }
 
-#[derive(Drop)]
-struct Device {
-    service: Service<Counter, Line, Message, 48>,
-}
+type Device = Checked<Service<Counter, Line, Numbered<u32>, 48>>;
 
-impl Hearer<(u64, Message)> for Device {
-    ghost hears = { HeardAnyhow };
-
-    ghost laws = { heard_anyhow };
-
-    ghost enough = { λ d. false };
-
-    fn hear(&mut self, answer: Answer<(u64, Message)>)
-        ensures { ⊤ }
-    {
-        if let Answer::Value((number, request)) = answer {
-            if is_whole(number, &request) {
-                let service = &mut self.service;
-                let _ = service
-                    .server
-                    .answer(&mut service.application, number, request);
-            }
-        }
-    }
-
-    fn pause(&mut self)
-        ensures { ⊤ }
-    {}
-
-    fn has_enough(&self) -> bool
-        ensures { result ≡ false }
-    {
-        false
-    }
-}
-
-#[derive(Drop)]
-struct Console {
-    client: Client<Line, Message, 48>,
-    said: Option<u32>,
-}
-
-impl Hearer<(u64, Message)> for Console {
-    ghost hears = { HeardAnyhow };
-
-    ghost laws = { heard_anyhow };
-
-    ghost enough = { λ c. false };
-
-    fn hear(&mut self, answer: Answer<(u64, Message)>)
-        ensures { ⊤ }
-    {
-        if let Answer::Value((number, reply)) = &answer {
-            if !is_whole(*number, reply) {
-                return;
-            }
-        }
-        if let Some(reply) = self.client.hear(answer) {
-            self.said = Some(reply.1);
-        }
-    }
-
-    fn pause(&mut self)
-        ensures { ⊤ }
-    {}
-
-    fn has_enough(&self) -> bool
-        ensures { result ≡ false }
-    {
-        false
-    }
-}
+type Console = Checked<Waiting<Line, Numbered<u32>, Numbered<u32>, 48>>;
 
 // Numbers from a seed, by xorshift.
 #[derive(Drop)]
@@ -173,38 +86,32 @@ struct Sides {
 impl Sides {
     // Brings what the client wrote to the server, and what that wrote to the client.
     fn exchange(&mut self, alloc: Global) {
-        let asked = self.console.client.replace_inner(line(alloc)).into_inner();
-        let came = self.noise.spoil(alloc, asked.as_slice());
+        let asked = self.console.hearer.client.replace_inner(line(alloc));
+        let came = self.noise.spoil(alloc, asked.into_inner().as_slice());
         let mut reader = In::new(came.as_slice(), 1024, None);
         let _ = self
             .to_device
-            .listen::<(u64, Message), In<'_>, Device>(alloc, &mut reader, &mut self.device);
-        let told = self
-            .device
-            .service
-            .server
-            .replace_inner(line(alloc))
-            .into_inner();
-        let came = self.noise.spoil(alloc, told.as_slice());
+            .listen::<(u64, Numbered<u32>), In<'_>, Device>(alloc, &mut reader, &mut self.device);
+        let told = self.device.hearer.server.replace_inner(line(alloc));
+        let came = self.noise.spoil(alloc, told.into_inner().as_slice());
         let mut reader = In::new(came.as_slice(), 1024, None);
         let _ = self
             .to_console
-            .listen::<(u64, Message), In<'_>, Console>(alloc, &mut reader, &mut self.console);
+            .listen::<(u64, Numbered<u32>), In<'_>, Console>(alloc, &mut reader, &mut self.console);
     }
 
-    // Calls by this value, up to eight times: what was said, if anything was heard.
-    fn call(&mut self, alloc: Global, value: u32) -> Option<u32> {
-        let number = self.console.client.next();
-        self.console.said = None;
-        let _ = self.console.client.call(message(number, value));
+    // Calls by this value, up to eight times: the number and the value of the reply, if one was heard.
+    fn call(&mut self, alloc: Global, value: u32) -> Option<(u64, u32)> {
+        let number = self.console.hearer.client.next();
+        let _ = self.console.hearer.client.call(Sealed((number, value)));
         for _ in 0..8 {
             self.exchange(alloc);
-            if self.console.said.is_some() {
-                return self.console.said;
+            if let Some(Sealed(said)) = self.console.hearer.said.take() {
+                return Some(said);
             }
-            let _ = self.console.client.again();
+            let _ = self.console.hearer.client.again();
         }
-        self.console.client.give_up();
+        self.console.hearer.client.give_up();
         None
     }
 }
@@ -216,13 +123,18 @@ fn start(alloc: Global, seed: u64) -> Sides {
         let _ = counts.push(0u8);
     }
     Sides {
-        console: Console {
-            client: Client::new(line(alloc), 1),
-            said: None,
+        console: Checked {
+            hearer: Waiting {
+                client: Client::new(line(alloc), 1),
+                said: None,
+            },
         },
-        device: Device {
-            service: Service {
-                application: Counter { counts },
+        device: Checked {
+            hearer: Service {
+                application: Counter {
+                    counts,
+                    strangers: 0,
+                },
                 server: Server::new(line(alloc)),
             },
         },
@@ -234,7 +146,7 @@ fn start(alloc: Global, seed: u64) -> Sides {
 
 // How often a value was executed.
 fn count_of(both: &Sides, value: u32) -> u8 {
-    match both.device.service.application.counts.get(value as usize) {
+    match both.device.hearer.application.counts.get(value as usize) {
         Some(count) => *count,
         None => 2,
     }
@@ -245,13 +157,12 @@ fn calls_over_noisy_lines(rt: HostRuntime) {
     let mut both = start(rt.alloc(), 0x1234_5678_9ABC_DEF1);
     let mut taken = 0u32;
     for value in 0..CALLS {
-        if let Some(said) = both.call(rt.alloc(), value) {
+        if let Some((number, said)) = both.call(rt.alloc(), value) {
             // the right reply, and it was executed
-            assert!(rt; said == value.wrapping_mul(3));
+            assert!(rt; number == u64::from(value) + 1 && said == value.wrapping_mul(3));
             assert!(rt; count_of(&both, value) == 1);
             taken = taken.saturating_add(1);
         }
-        assert!(rt; count_of(&both, value) <= 1);
     }
     // most are heard in eight tries, and not all
     assert!(rt; taken > 9_000 && taken < CALLS);
@@ -260,4 +171,6 @@ fn calls_over_noisy_lines(rt: HostRuntime) {
         most = most.max(count_of(&both, value));
     }
     assert!(rt; most == 1);
+    // nothing was executed that wasn't called
+    assert!(rt; both.device.hearer.application.strangers == 0);
 }

@@ -1,0 +1,233 @@
+//! Both sides of remote calls over memory, by hand: as `bench_calls` has them.
+use crate::frames::{first_zero, runs};
+use crate::remote::Counted;
+
+/// The bytes of a frame at most, and of a read.
+const FRAME: usize = 32;
+const EACH: usize = 1024;
+
+/// A line in memory that is written to.
+struct Line<'a> {
+    room: &'a mut [u8],
+    written: usize,
+    /// Whether the last send ended in a zero.
+    clean: bool,
+}
+
+impl<'a> Line<'a> {
+    fn new(room: &'a mut [u8]) -> Line<'a> {
+        let (written, clean) = (0, false);
+        Line { room, written, clean }
+    }
+
+    /// Sends a message as a frame with a zero behind it, and before the first one.
+    #[inline]
+    fn send(&mut self, message: &[u8]) {
+        let mut frame = [0; FRAME + 2];
+        let start = usize::from(!self.clean);
+        let end = start + runs::encode(message, &mut frame[start..]) + 1;
+        frame[end - 1] = 0;
+        self.room[self.written..self.written + end].copy_from_slice(&frame[..end]);
+        self.written += end;
+        self.clean = true;
+    }
+}
+
+/// A message that is spelled.
+struct Spelling {
+    bytes: [u8; FRAME],
+    len: usize,
+}
+
+impl Spelling {
+    fn new() -> Spelling {
+        let (bytes, len) = ([0; FRAME], 0);
+        Spelling { bytes, len }
+    }
+
+    #[inline]
+    fn number(&mut self, mut number: u64) {
+        while number >= 128 {
+            self.bytes[self.len] = number as u8 | 128;
+            self.len += 1;
+            number >>= 7;
+        }
+        self.bytes[self.len] = number as u8;
+        self.len += 1;
+    }
+}
+
+/// A number of so many bits at the front of the rest.
+#[inline]
+fn number(rest: &mut &[u8], bits: u32) -> Option<u64> {
+    let mut number = 0;
+    let mut shift = 0;
+    loop {
+        let (&byte, behind) = rest.split_first()?;
+        *rest = behind;
+        let group = u64::from(byte & 127);
+        if bits - shift < 7 && group >> (bits - shift) != 0 {
+            return None;
+        }
+        number |= group << shift;
+        if byte < 128 {
+            return Some(number);
+        }
+        shift += 7;
+        if shift >= bits {
+            return None;
+        }
+    }
+}
+
+/// What was received of a frame that isn't ended; `len` past the room says that it is too long.
+struct Receiver {
+    held: [u8; FRAME],
+    len: usize,
+}
+
+impl Receiver {
+    fn new() -> Receiver {
+        let (held, len) = ([0; FRAME], 0);
+        Receiver { held, len }
+    }
+
+    /// Keeps what is behind the last zero of a piece.
+    fn keep(&mut self, bytes: &[u8]) {
+        if let Some(room) = self.held.get_mut(self.len..self.len + bytes.len()) {
+            room.copy_from_slice(bytes);
+        }
+        self.len = (self.len + bytes.len()).min(FRAME + 1);
+    }
+
+    /// Hands on the message of each frame that ends in a piece.
+    #[inline]
+    fn take(&mut self, piece: &[u8], mut hear: impl FnMut(&[u8])) {
+        let mut rest = piece;
+        let mut message = [0; FRAME];
+        while let Some(zero) = first_zero(rest) {
+            let mut stretch = &rest[..zero];
+            rest = &rest[zero + 1..];
+            if self.len > 0 {
+                self.keep(stretch);
+                stretch = self.held.get(..self.len).unwrap_or(&[]);
+                self.len = 0;
+            }
+            if stretch.is_empty() || stretch.len() > FRAME {
+                continue;
+            }
+            if let Some(len) = runs::decode_frame(stretch, &mut message) {
+                hear(&message[..len]);
+            }
+        }
+        self.keep(rest);
+    }
+}
+
+/// Reads up to so many bytes into a room, as a reader does.
+#[inline]
+fn read<'a>(bytes: &mut &[u8], each: usize, room: &'a mut [u8; EACH]) -> &'a [u8] {
+    let count = bytes.len().min(each).min(EACH);
+    let (front, behind) = bytes.split_at(count);
+    *bytes = behind;
+    room[..count].copy_from_slice(front);
+    &room[..count]
+}
+
+#[inline]
+fn request(message: &[u8]) -> Option<(u64, u16, u32)> {
+    let mut rest = message;
+    let called = number(&mut rest, 64)?;
+    let which = number(&mut rest, 16)?;
+    let amount = number(&mut rest, 32)?;
+    Some((called, which as u16, amount as u32))
+}
+
+#[inline]
+fn reply(message: &[u8]) -> Option<(u64, bool, u64)> {
+    let mut rest = message;
+    let called = number(&mut rest, 64)?;
+    let (&even, behind) = rest.split_first()?;
+    if even > 1 {
+        return None;
+    }
+    rest = behind;
+    Some((called, even == 1, number(&mut rest, 64)?))
+}
+
+#[inline]
+fn send_reply(line: &mut Line<'_>, (called, even, said): (u64, bool, u64)) {
+    let mut spelling = Spelling::new();
+    spelling.number(called);
+    spelling.number(even.into());
+    spelling.number(said);
+    line.send(&spelling.bytes[..spelling.len]);
+}
+
+pub fn serve(requests: &[u8], room: &mut [u8], counted: &mut Counted) {
+    let mut rest = requests;
+    let mut line = Line::new(room);
+    let mut piece = [0; EACH];
+    let mut receiver = Receiver::new();
+    let mut last: Option<(u64, bool, u64)> = None;
+    let (mut calls, mut sum) = (0u64, 0u64);
+    while !rest.is_empty() {
+        let piece = read(&mut rest, EACH, &mut piece);
+        receiver.take(piece, |message| {
+            let Some((called, which, amount)) = request(message) else {
+                return;
+            };
+            match last {
+                Some(kept) if called < kept.0 => {}
+                Some(kept) if called == kept.0 => send_reply(&mut line, kept),
+                _ => {
+                    let said = u64::from(amount) << 20;
+                    calls += 1;
+                    sum = sum.wrapping_add(said);
+                    let kept = (called, which % 2 == 0, said);
+                    last = Some(kept);
+                    send_reply(&mut line, kept);
+                }
+            }
+        });
+    }
+    let written = line.written;
+    *counted = Counted { calls, sum, written };
+}
+
+pub fn call(
+    replies: &[u8],
+    each: usize,
+    first: u64,
+    count: u16,
+    room: &mut [u8],
+    counted: &mut Counted,
+) {
+    let mut rest = replies;
+    let mut line = Line::new(room);
+    let mut piece = [0; EACH];
+    let mut receiver = Receiver::new();
+    let (mut calls, mut sum) = (0u64, 0u64);
+    for which in 0..count {
+        let called = first + u64::from(which);
+        let mut spelling = Spelling::new();
+        spelling.number(called);
+        spelling.number(which.into());
+        spelling.number(65_536 + u64::from(which));
+        line.send(&spelling.bytes[..spelling.len]);
+        let mut said = None;
+        while said.is_none() && !rest.is_empty() {
+            let piece = read(&mut rest, each, &mut piece);
+            receiver.take(piece, |message| match reply(message) {
+                Some((number, _, value)) if number == called && said.is_none() => said = Some(value),
+                _ => {}
+            });
+        }
+        if let Some(said) = said {
+            calls += 1;
+            sum = sum.wrapping_add(said);
+        }
+    }
+    let written = line.written;
+    *counted = Counted { calls, sum, written };
+}

@@ -1,0 +1,117 @@
+//! Both sides of remote calls over memory as C functions, for the benchmark in `bench/`.
+//!
+//! A request is a `u16` and a `u32`, a reply a `bool` and a `u64`.
+#![tactic(auto)]
+
+ghost use Rattle.std.specs.Prelude.{⊤};
+
+use calls::{Application, Client, Server, Service, Waiting, serve, wait};
+use line_io::memory::{In, Out};
+use link::Receiver;
+use std::alloc::Global;
+
+type Request = (u16, u32);
+
+type Reply = (bool, u64);
+
+/// The bytes of a frame at most. The longest message has 21.
+const FRAME: usize = 32;
+
+/// How many bytes one write or read moves at most.
+const EACH: usize = 1024;
+
+/// What came of calls: how many were executed or replied to, a sum over what was said, and how many bytes were written.
+#[repr(C)]
+#[derive(Clone, Copy)]
+pub struct Counted {
+    pub calls: u64,
+    pub sum: u64,
+    pub written: usize,
+}
+
+/// What is called: it says whether the first is even, and 2^20 times the second.
+#[derive(Drop)]
+struct Scale {
+    executed: u64,
+    sum: u64,
+}
+
+impl Application<Request, Reply> for Scale {
+    ghost executes = { λ old asks says new. ⊤ };
+
+    fn execute(&mut self, request: Request) -> Reply
+        ensures { ⊤ }
+    {
+        let (which, amount) = request;
+        let said = u64::from(amount) * 1_048_576;
+        self.executed = self.executed.wrapping_add(1);
+        self.sum = self.sum.wrapping_add(said);
+        (which % 2 == 0, said)
+    }
+}
+
+/// Serves the requests of a line, and writes the replies to the front of the room.
+#[unsafe(no_mangle)]
+pub extern "C" fn calls_c_serve(
+    alloc: Global,
+    requests: &[u8],
+    room: &mut [u8],
+    counted: &mut Counted,
+) {
+    let mut reader = In::new(requests, EACH, None);
+    let mut service = Service {
+        application: Scale {
+            executed: 0,
+            sum: 0,
+        },
+        server: Server::<Out<'_>, Reply, FRAME>::new(Out::new(room, EACH, None)),
+    };
+    let _end = serve::<Request, Reply, Scale, In<'_>, Out<'_>, FRAME, FRAME>(
+        alloc,
+        &mut reader,
+        &mut service,
+    );
+    *counted = Counted {
+        calls: service.application.executed,
+        sum: service.application.sum,
+        written: service.server.into_inner().moved(),
+    };
+}
+
+/// Makes so many calls, of numbers from `first` on, writes the requests to the front of the room, and waits for each reply, of which
+/// each read gives `each` bytes. Nothing is done where `each` is 0.
+#[unsafe(no_mangle)]
+pub extern "C" fn calls_c_call(
+    alloc: Global,
+    replies: &[u8],
+    each: usize,
+    first: u64,
+    count: u16,
+    room: &mut [u8],
+    counted: &mut Counted,
+) {
+    if each == 0 {
+        return;
+    }
+    let mut reader = In::new(replies, each, None);
+    let mut receiver = Receiver::<FRAME>::new();
+    let mut waiting: Waiting<Out<'_>, Request, Reply, FRAME> = Waiting {
+        client: Client::new(Out::new(room, EACH, None), first),
+        said: None,
+    };
+    let mut calls = 0u64;
+    let mut sum = 0u64;
+    for which in 0..count {
+        let _sent = waiting.client.call((which, 65_536 + u32::from(which)));
+        let _end = wait(alloc, &mut receiver, &mut reader, &mut waiting);
+        if let Some((_, said)) = waiting.said.take() {
+            calls = calls.wrapping_add(1);
+            sum = sum.wrapping_add(said);
+        }
+    }
+    *counted = Counted {
+        calls,
+        sum,
+        written: waiting.client.into_inner().moved(),
+    };
+}
