@@ -2,3 +2,4 @@ pub mod Walking
 pub mod Standing
 pub mod Gaps
 pub mod Stretches
+pub mod Anew
