@@ -25,7 +25,7 @@ mod words;
 use crate::appending::append;
 use crate::checking::{check, mend};
 use crate::showing::{follow, show};
-use crate::words::wanted;
+use crate::words::wanted_by;
 use std::process::ExitCode;
 use std::{env, io};
 
@@ -39,7 +39,7 @@ fn usage(rt: &HostRuntime) -> io::Result<u8> {
 
 // Shows or follows a log by the words behind `show` or `follow`.
 fn show_by(rt: &HostRuntime, words: &[&str], following: bool) -> io::Result<u8> {
-    let Some(wanted) = wanted(words) else {
+    let Some(wanted) = wanted_by(words) else {
         return usage(rt);
     };
     if !following {

@@ -59,7 +59,7 @@ fn with_word<'a>(wanted: Wanted<'a>, word: &'a str) -> Option<Wanted<'a>> {
 }
 
 /// What these words want, in any order: a file at most, `from=N`, `last=K` and `json`. Nothing where they are wrong.
-pub fn wanted<'a>(words: &[&'a str]) -> Option<Wanted<'a>> {
+pub fn wanted_by<'a>(words: &[&'a str]) -> Option<Wanted<'a>> {
     let mut wanted = Wanted {
         path: None,
         first: 0,
