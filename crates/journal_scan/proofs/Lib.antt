@@ -2,4 +2,3 @@ pub mod Walking
 pub mod Standing
 pub mod Gaps
 pub mod Stretches
-pub mod Anew

@@ -1,4 +1,3 @@
 pub mod Scanning
 pub mod Tallies
 pub mod Checks
-pub mod Repairs
