@@ -9,7 +9,7 @@ mod tallies;
 mod watching;
 
 pub use checking::{CheckError, Report, check};
-pub use repairing::{RepairError, repair};
+pub use repairing::{RepairError, Repaired, repair};
 pub use scanning::{Scan, ScanError, Stretch};
 pub use tallies::{Gap, Tally};
 pub use watching::{Judge, Watcher};

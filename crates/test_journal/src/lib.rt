@@ -2,10 +2,14 @@
 #![tactic(auto)]
 
 #[cfg(test)]
+mod checks;
+#[cfg(test)]
 mod damage;
 #[cfg(test)]
 mod logs;
 #[cfg(test)]
 mod offsets;
+#[cfg(test)]
+mod repairs;
 #[cfg(test)]
 mod seals;
