@@ -1,9 +1,9 @@
 //! The implementations of an enum.
-use crate::declarations::{Declaration, Fields, Form, VariantOf};
-use crate::parts::{Parts, Spelling};
+use crate::parts::{Parts, Spelling, spelled};
 use crate::printer::{FROM_SHAPE, WIDTH};
 use crate::text::Text;
-use crate::tokens::is_among;
+use declaration_parser::declaration::{Declaration, Fields, Form, VariantOf};
+use declaration_parser::tokens::is_among;
 
 /// Where the shape of a variant stands: behind so many fours, and behind so many single ones.
 #[derive(Clone, Copy, Drop)]
@@ -101,7 +101,7 @@ impl Text {
                     self.put_all(&[owner(kind), "<"]);
                 }
             }
-            self.put_tuple(variant.fields.spelled(Spelling::Type));
+            self.put_tuple(spelled(&variant.fields, Spelling::Type));
         }
         self.put_times(opened, ">");
     }
@@ -146,7 +146,7 @@ impl Text {
         if variant.fields.items.is_empty() {
             return self.put("tt");
         }
-        self.put_tuple(variant.fields.spelled(Spelling::Ghost));
+        self.put_tuple(spelled(&variant.fields, Spelling::Ghost));
     }
 
     /// Appends the shape's value at a place, of what a variant holds.
@@ -162,7 +162,7 @@ impl Text {
     fn put_shape_pattern(&mut self, place: Place, variant: &VariantOf) {
         self.put_times(place.ones, "Variant::Other(");
         self.put_all(&[owner(place.kind), "::", constructor(place.kind), "("]);
-        self.put_tuple(variant.fields.spelled(Spelling::Bound));
+        self.put_tuple(spelled(&variant.fields, Spelling::Bound));
         self.put_times(place.ones.saturating_add(1), ")");
     }
 
@@ -170,7 +170,7 @@ impl Text {
     fn opened(&mut self, indent: usize, held: &[VariantOf]) {
         for variant in held {
             self.begin(indent, "");
-            self.put_tuple(variant.fields.spelled(Spelling::Type));
+            self.put_tuple(spelled(&variant.fields, Spelling::Type));
             self.put(",\n");
         }
     }
@@ -280,7 +280,7 @@ impl Text {
     /// As [`arm_written`](Text::arm_written), behind the pattern of a variant with fields.
     fn payload_written(&mut self, index: usize, variant: &VariantOf) {
         self.put(" => serializer.serialize_newtype_variant(");
-        let held = variant.fields.spelled(Spelling::Bound);
+        let held = spelled(&variant.fields, Spelling::Bound);
         let lent = if held.fields.len() == 1 { "" } else { "&" };
         let mut text = Text::new(self.alloc);
         text.put_number(index);

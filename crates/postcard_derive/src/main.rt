@@ -8,21 +8,17 @@
 //! the ghost line says.
 #![tactic(auto)]
 
-mod declarations;
 mod enums;
-mod marks;
 mod names;
-mod parser;
 mod parts;
 mod printer;
 mod structs;
 mod text;
-mod tokens;
 
-use crate::parser::declarations;
 use crate::printer::write_all;
 use crate::text::Text;
-use crate::tokens::{Read, Tokens};
+use declaration_parser::parser::{Purpose, declarations};
+use declaration_parser::tokens::{Read, Tokens};
 use std::process::ExitCode;
 use std::{env, io};
 
@@ -54,7 +50,7 @@ fn read_tokens(rt: &HostRuntime) -> io::Result<Read> {
 /// Writes the implementations, or what is wrong to standard error; and says whether nothing is.
 fn run(rt: &HostRuntime, path: &str) -> io::Result<bool> {
     let read = read_tokens(rt)?;
-    let (all, faults) = declarations(rt.alloc(), &read)?;
+    let (all, faults) = declarations(rt.alloc(), Purpose::Implementations, &read)?;
     if !faults.is_empty() {
         eprint!(rt; "{faults}")?;
         return Ok(false);

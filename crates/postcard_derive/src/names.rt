@@ -1,6 +1,6 @@
 //! The names that the implementations bring in.
-use crate::declarations::{Body, Declaration, Fields, Marks};
-use crate::tokens::{Token, first_letter, is_among};
+use declaration_parser::declaration::{Body, Declaration, Fields, Marks};
+use declaration_parser::tokens::{Token, first_letter, is_among};
 use std::alloc::{AllocError, Global};
 
 /// A module of which names are used.

@@ -1,7 +1,7 @@
 //! Fields in a list, each spelled for where it stands.
-use crate::declarations::{Field, Fields, Form};
 use crate::text::Text;
-use crate::tokens::{Token, is_among, is_lifetime};
+use declaration_parser::declaration::{Field, Fields, Form};
+use declaration_parser::tokens::{Token, is_among, is_lifetime};
 
 /// How many parts a tuple has at most; more stand in rows.
 pub const ROW: usize = 6;
@@ -150,7 +150,7 @@ impl Text {
 
     /// Appends the fields that are behind the name of a struct or a variant, by the names to which they are bound.
     pub fn put_fields(&mut self, fields: &Fields) {
-        let parts = fields.spelled(Spelling::Bound);
+        let parts = spelled(fields, Spelling::Bound);
         let (open, close) = match fields.form {
             Form::Unit => return,
             Form::Tuple => ("(", ")"),
@@ -163,12 +163,10 @@ impl Text {
     }
 }
 
-impl Fields<'_> {
-    /// The fields, spelled in this way.
-    pub fn spelled<'a>(&'a self, spelling: Spelling<'a>) -> Parts<'a> {
-        Parts {
-            fields: &self.items,
-            spelling,
-        }
+/// The fields, spelled in this way.
+pub fn spelled<'a>(fields: &'a Fields<'_>, spelling: Spelling<'a>) -> Parts<'a> {
+    Parts {
+        fields: &fields.items,
+        spelling,
     }
 }

@@ -1,9 +1,9 @@
 //! From declarations to implementations, laid out as `rt fmt` leaves them.
-use crate::declarations::{Body, Declaration, Fields, Form};
 use crate::names::{Module, names_used};
-use crate::parts::{Parts, ROW, Spelling};
+use crate::parts::{Parts, ROW, Spelling, spelled};
 use crate::text::Text;
-use crate::tokens::is_lifetime;
+use declaration_parser::declaration::{Body, Declaration, Fields, Form};
+use declaration_parser::tokens::is_lifetime;
 use std::alloc::{AllocError, Global};
 
 /// How long a line may be.
@@ -248,7 +248,7 @@ impl Text {
             _ => (" {\n", "}"),
         };
         self.put(open);
-        self.lines(indent.saturating_add(4), fields.spelled(Spelling::Bound));
+        self.lines(indent.saturating_add(4), spelled(fields, Spelling::Bound));
         self.begin(indent, close);
         self.end(after);
     }

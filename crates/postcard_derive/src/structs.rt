@@ -1,8 +1,8 @@
 //! The implementations of a struct.
-use crate::declarations::{Declaration, Field, Fields};
-use crate::parts::{Parts, ROW, Spelling};
+use crate::parts::{Parts, ROW, Spelling, spelled};
 use crate::printer::FROM_SHAPE;
 use crate::text::Text;
+use declaration_parser::declaration::{Declaration, Field, Fields};
 
 impl Text {
     /// Appends how the shape is written of a struct with an alias for it, or of one without.
@@ -10,7 +10,7 @@ impl Text {
         if fields.items.len() > 1 {
             return self.put_whole_name(it, "Shape");
         }
-        self.put_tuple(fields.spelled(Spelling::Type));
+        self.put_tuple(spelled(fields, Spelling::Type));
     }
 
     /// Appends the value of a struct as its shape, as ghost text.
@@ -18,14 +18,14 @@ impl Text {
         if fields.items.is_empty() {
             return self.put("tt");
         }
-        self.put_tuple(fields.spelled(Spelling::Member("v.")));
+        self.put_tuple(spelled(fields, Spelling::Member("v.")));
     }
 
     /// Appends what stands between the parentheses of the function that reads a shape.
     fn put_argument(&mut self, it: &Declaration, fields: &Fields) {
         match fields.items.len() {
             0 => self.put("()"),
-            1 => self.put_tuple(fields.spelled(Spelling::Bound)),
+            1 => self.put_tuple(spelled(fields, Spelling::Bound)),
             _ => self.put("it"),
         }
         self.put(": ");
@@ -38,7 +38,7 @@ impl Text {
             return;
         }
         self.fill(it, "\ntype %NameShape% = ");
-        self.tuple(0, fields.spelled(Spelling::Type), ";");
+        self.tuple(0, spelled(fields, Spelling::Type), ";");
     }
 
     /// Writes what the shape is.
@@ -58,13 +58,13 @@ impl Text {
         let one = fields.items.len() == 1;
         let before = if one { "self." } else { "&self." };
         self.begin(8, "");
-        let members = fields.spelled(Spelling::Member(before));
+        let members = spelled(fields, Spelling::Member(before));
         self.tuple(8, members, ".serialize(serializer)");
     }
 
     /// Takes a shape of several fields apart.
     fn taken_apart(&mut self, fields: &Fields) {
-        let all = fields.spelled(Spelling::Bound);
+        let all = spelled(fields, Spelling::Bound);
         self.begin(8, "let ");
         if fields.items.len() <= ROW {
             return self.tuple(8, all, " = it;");

@@ -47,13 +47,6 @@ impl Text {
         self.note(failed);
     }
 
-    /// Appends how what is said of a line begins.
-    pub fn put_line_number(&mut self, line: usize) {
-        self.put("line ");
-        self.put_number(line);
-        self.put(": ");
-    }
-
     /// Appends a text that was made apart.
     pub fn put_text(&mut self, other: &Text) {
         self.put(other.as_str());

@@ -55,6 +55,8 @@ pub struct Marks {
 #[derive(Drop)]
 pub struct Declaration<'a> {
     pub name: &'a str,
+    /// The line of its name.
+    pub line: usize,
     /// Its lifetimes and type parameters.
     pub parameters: Vec<&'a str>,
     pub body: Body<'a>,

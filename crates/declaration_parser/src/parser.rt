@@ -1,6 +1,6 @@
 //! From tokens to declarations.
-use crate::declarations::{Body, Declaration, Field, Fields, Form, Marks, VariantOf};
-use crate::text::Text;
+use crate::declaration::{Body, Declaration, Field, Fields, Form, Marks, VariantOf};
+use crate::faults::Faults;
 use crate::tokens::{Read, Token, first_letter, is_among, is_lifetime};
 use std::alloc::{AllocError, Global};
 
@@ -80,11 +80,21 @@ const BOTH: Marks = Marks {
     read: true,
 };
 
+/// What declarations are read for.
+#[derive(Clone, Copy, Debug, PartialEq, Eq, Drop)]
+pub enum Purpose {
+    /// To write implementations: what these can't do is refused, and names that they use.
+    Implementations,
+    /// To make schemas: a type may hold itself, have any names and any number of fields.
+    Schemas,
+}
+
 /// Reads declarations from the front of tokens. What is wrong is noted and hides the tokens behind it, so that the calls that
 /// follow take nothing and note nothing: so those who read need not ask after each step.
 #[derive(Drop)]
 struct Parser<'a> {
     alloc: Global,
+    purpose: Purpose,
     rest: &'a [Token],
     /// The line of the last token that was read.
     line: usize,
@@ -95,7 +105,7 @@ struct Parser<'a> {
     variant: &'a str,
     field: Option<(usize, &'a str)>,
     /// What is wrong, a line each.
-    faults: Text,
+    faults: Faults,
     /// Whether something is wrong in the declaration that is read, and the tokens that it hides.
     is_wrong: bool,
     hidden: &'a [Token],
@@ -135,16 +145,17 @@ fn depth_behind(word: &str, depth: usize) -> Option<usize> {
 
 impl<'a> Parser<'a> {
     /// At the first of these tokens.
-    fn new(alloc: Global, tokens: &'a [Token]) -> Parser<'a> {
+    fn new(alloc: Global, purpose: Purpose, tokens: &'a [Token]) -> Parser<'a> {
         Parser {
             alloc,
+            purpose,
             rest: tokens,
             line: 0,
             name: "",
             marks: UNMARKED,
             variant: "",
             field: None,
-            faults: Text::new(alloc),
+            faults: Faults::new(alloc),
             is_wrong: false,
             hidden: &[],
         }
@@ -213,6 +224,11 @@ impl<'a> Parser<'a> {
             self.faults.put_number(place);
         }
         self.faults.put("`: ");
+    }
+
+    /// Whether implementations are to be written.
+    fn implements(&self) -> bool {
+        self.purpose == Purpose::Implementations
     }
 
     /// Notes why a word is wrong: what is said behind it.
@@ -320,7 +336,7 @@ impl<'a> Parser<'a> {
             "f64" => return Some("` is no message: take `LE<u64>` of its bits"),
             _ => {}
         }
-        if word == self.name {
+        if word == self.name && self.implements() {
             return Some("` holds itself: write it by hand");
         }
         if is_small(word) || is_among(word, NO_MESSAGES) || in_path {
@@ -373,7 +389,7 @@ impl<'a> Parser<'a> {
             return "";
         }
         let name = self.word();
-        if name == "serializer" {
+        if name == "serializer" && self.implements() {
             self.refuse(
                 name,
                 "` is also a name of the calls that write: call it otherwise",
@@ -385,7 +401,7 @@ impl<'a> Parser<'a> {
 
     /// Takes a field.
     fn item(&mut self, place: usize, named: bool) -> Field<'a> {
-        if place == MOST_FIELDS {
+        if place == MOST_FIELDS && self.implements() {
             self.wrong(&[TOO_MANY]);
         }
         self.attributes();
@@ -506,7 +522,7 @@ impl<'a> Parser<'a> {
 
     /// Refuses a second lifetime, and a name that the implementations use.
     fn check_parameter(&mut self, name: &str, before: &[&str]) {
-        if is_among(name, OF_IMPLEMENTATIONS) {
+        if is_among(name, OF_IMPLEMENTATIONS) && self.implements() {
             self.refuse(
                 name,
                 "` is a parameter's name of postcard's: call it otherwise",
@@ -551,7 +567,7 @@ impl<'a> Parser<'a> {
     /// Takes the name of a type.
     fn type_name(&mut self) -> &'a str {
         let name = self.word();
-        if is_among(name, OF_POSTCARD) {
+        if is_among(name, OF_POSTCARD) && self.implements() {
             self.refuse(name, "` is also a name of postcard's: call it otherwise");
         }
         self.name = name;
@@ -577,10 +593,12 @@ impl<'a> Parser<'a> {
         self.visibility();
         let is_enum = self.is_enum();
         let name = self.type_name();
+        let line = self.line;
         let parameters = self.parameters();
         let body = self.body(is_enum);
         Declaration {
             name,
+            line,
             parameters,
             body,
             marks: self.marks,
@@ -641,11 +659,12 @@ impl<'a> Parser<'a> {
 /// The marked declarations, and what is wrong, a line each: in others, and that there are none.
 pub fn declarations(
     alloc: Global,
+    purpose: Purpose,
     read: &Read,
 ) -> Result<(Vec<Declaration<'_>>, String), AllocError> {
-    let mut parser = Parser::new(alloc, &read.tokens);
+    let mut parser = Parser::new(alloc, purpose, &read.tokens);
     let mut found = Vec::new(alloc);
-    parser.faults.put_text(&read.faults);
+    parser.faults.put_faults(&read.faults);
     for _ in 0..read.tokens.len() {
         if !parser.finds_mark() {
             break;

@@ -1,6 +1,6 @@
 //! The words and marks of a file.
+use crate::faults::Faults;
 use crate::marks::{is_almost_mark, is_mark};
-use crate::text::Text;
 use std::alloc::{AllocError, Global};
 use std::mem;
 
@@ -22,7 +22,7 @@ pub struct Token {
 #[derive(Drop)]
 pub struct Read {
     pub tokens: Vec<Token>,
-    pub faults: Text,
+    pub faults: Faults,
 }
 
 /// The tokens of lines that are read one behind another. Where memory runs out, [`finished`](Tokens::finished) says so at
@@ -31,7 +31,7 @@ pub struct Read {
 pub struct Tokens {
     alloc: Global,
     found: Vec<Token>,
-    faults: Text,
+    faults: Faults,
     /// The line that is read, counted from 1, and its word that isn't ended yet.
     line: usize,
     word: String,
@@ -78,7 +78,7 @@ impl Tokens {
         Tokens {
             alloc,
             found: Vec::new(alloc),
-            faults: Text::new(alloc),
+            faults: Faults::new(alloc),
             line: 0,
             word: String::new(alloc),
             failed: false,

@@ -1,0 +1,12 @@
+//! Declarations of message types, read from Rust: those structs and enums that are marked, by a comment `// message` in a
+//! line before one, or by the names `Serialize` and `Deserialize` among its derives.
+//!
+//! [`Tokens`](tokens::Tokens) reads lines, [`declarations`](parser::declarations) what is declared; what can't be taken is
+//! said by its line.
+#![tactic(auto)]
+
+pub mod declaration;
+pub mod faults;
+mod marks;
+pub mod parser;
+pub mod tokens;

@@ -1,0 +1,10 @@
+//! Schemas from declarations of Rust: [`read_schema`] makes of the structs and enums of a text one table of
+//! [`schemas::Node`]s, with the names of types, fields and variants beside it.
+#![tactic(auto)]
+
+mod builder;
+mod read;
+mod schema;
+
+pub use read::{Error, read_schema};
+pub use schema::{Named, Names, Schema};

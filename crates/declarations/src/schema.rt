@@ -1,0 +1,59 @@
+//! Tables of types, with names.
+ghost use Rattle.std.specs.Prelude.{◌<◌, length, IfSome};
+
+use schemas::Node;
+
+/// What a node's values are called by, and so how they look as text.
+#[derive(Debug, Drop)]
+pub enum Names {
+    /// No names: numbers, texts, options, lists, arrays.
+    Nothing,
+    /// What a variant without fields holds.
+    Empty,
+    /// `()`, or a struct without fields.
+    Unit,
+    /// A struct of one field without a name, which looks as what it holds.
+    Newtype,
+    /// A tuple, or a struct whose fields have no names.
+    Tuple,
+    /// A struct, by the names of its fields.
+    Fields(Vec<String>),
+    /// An enum, by the names of its variants.
+    Variants(Vec<String>),
+    /// A map, which is a list of pairs on the wire.
+    Map,
+}
+
+/// A declared type.
+#[derive(Debug, Drop)]
+pub struct Named {
+    /// Its name.
+    pub name: String,
+    /// The line of its declaration, counted from 1.
+    pub line: usize,
+}
+
+/// The types of some declarations as one table.
+#[derive(Drop)]
+pub struct Schema {
+    /// The declared types, in the order of the text: the first has place 0 in the table, the second place 1 and so on.
+    pub types: Vec<Named>,
+    /// The table: behind the declared types stand those that have no name.
+    pub nodes: Vec<Node>,
+    /// What each node's values are called by, at its place.
+    pub names: Vec<Names>,
+}
+
+impl Schema {
+    /// The place of the declared type of this name, if there is one.
+    pub fn place_of(&self, name: &str) -> Option<usize>
+        ensures { IfSome result (λ place. place < length self.now.types.items) }
+    {
+        for place in 0..self.types.len() {
+            if self.types[place].name.as_str() == name {
+                return Some(place);
+            }
+        }
+        None
+    }
+}

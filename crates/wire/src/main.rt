@@ -1,0 +1,292 @@
+//! Messages of any device as lines of JSON, by the declarations of their types in Rust: `wire read FILE TYPE` makes a line of each
+//! frame that it reads, `wire write FILE TYPE` a frame of each line, and `wire check FILE` lists the types.
+//!
+//! The work is that of `wire_lib`.
+#![tactic(auto)]
+
+use declarations::{Error, Schema, read_schema};
+use std::alloc::AllocError;
+use std::io::{BufRead, BufReader, Read, Write};
+use std::process::ExitCode;
+use std::{env, fs};
+use wire_lib::parse::ParseError;
+use wire_lib::receive::{Reading, Receiver};
+use wire_lib::send::frame_of;
+use wire_lib::sizes::greatest_sizes;
+use wire_lib::words::{Options, options_of};
+
+const USAGE: &str =
+    "usage: wire read FILE TYPE [hex] [strict] [sentinel=HH] [from=OFFSET] [bytes=hex]
+       wire write FILE TYPE [hex] [sentinel=HH]
+       wire check FILE
+";
+
+/// How many bytes are asked for in one read.
+const ROOM: usize = 65536;
+
+/// Why a run ends before its work is done.
+#[derive(Debug, Drop)]
+enum Stop {
+    /// The words are wrong, or what they name; lines that say why.
+    Wrong(String),
+    /// A read failed.
+    ReadFault,
+    /// A write failed.
+    WriteFault,
+    /// Out of memory.
+    NoMemory,
+}
+
+impl From<AllocError> for Stop {
+    fn from(_: AllocError) -> Stop {
+        Stop::NoMemory
+    }
+}
+
+type Ran = Result<bool, Stop>;
+
+/// A text as what is wrong.
+fn wrong(rt: &HostRuntime, pieces: &[&str]) -> Stop {
+    let mut text = String::new(rt.alloc());
+    for piece in pieces {
+        if text.push_str(piece).is_err() {
+            return Stop::NoMemory;
+        }
+    }
+    Stop::Wrong(text)
+}
+
+/// Writes bytes to standard output, all of them before it returns.
+fn say(rt: &HostRuntime, bytes: &[u8]) -> Result<(), Stop> {
+    let mut stdout = rt.stdout();
+    if stdout.write_all(bytes).is_err() || stdout.flush().is_err() {
+        return Err(Stop::WriteFault);
+    }
+    Ok(())
+}
+
+/// The schema of the declarations in a file.
+fn schema_of(rt: &HostRuntime, file: &str) -> Result<Schema, Stop> {
+    let Ok(text) = fs::read_to_string(rt, file) else {
+        return Err(Stop::ReadFault);
+    };
+    match read_schema(rt.alloc(), text.as_str()) {
+        Ok(schema) => Ok(schema),
+        Err(Error::Wrong(lines)) => Err(Stop::Wrong(lines)),
+        Err(Error::OutOfMemory) => Err(Stop::NoMemory),
+    }
+}
+
+/// The bytes of standard input.
+fn read_some(rt: &HostRuntime, room: &mut [u8]) -> Result<usize, Stop> {
+    match rt.stdin().read(room) {
+        Ok(count) => Ok(count),
+        Err(_) => Err(Stop::ReadFault),
+    }
+}
+
+/// The bytes of standard input to its end.
+fn read_whole(rt: &HostRuntime) -> Result<Vec<u8>, Stop> {
+    let mut whole = Vec::new(rt.alloc());
+    let mut room = [0u8; ROOM];
+    for _ in 0..u64::MAX {
+        let count = read_some(rt, &mut room)?;
+        if count == 0 {
+            break;
+        }
+        whole.extend_from_slice(room.get(..count).unwrap_or(&[]))?;
+    }
+    Ok(whole)
+}
+
+/// Hands the bytes of hexadecimal text on; a line feed at its end is dropped.
+fn receive_digits(
+    rt: &HostRuntime,
+    receiver: &mut Receiver<'_>,
+    lines: &mut Vec<u8>,
+) -> Result<(), Stop> {
+    let text = read_whole(rt)?;
+    let digits = match text.as_slice() {
+        [digits @ .., b'\n'] => digits,
+        digits => digits,
+    };
+    let mut bytes = Vec::from_elem(rt.alloc(), 0u8, digits.len() / 2)?;
+    if hex::decode_to_slice(digits, &mut bytes).is_err() {
+        return Err(wrong(rt, &["bad hex\n"]));
+    }
+    Ok(receiver.push(&bytes, lines)?)
+}
+
+/// Hands bytes on as they come, and writes the lines of each read at its end.
+fn receive_bytes(
+    rt: &HostRuntime,
+    receiver: &mut Receiver<'_>,
+    lines: &mut Vec<u8>,
+) -> Result<(), Stop> {
+    let mut room = [0u8; ROOM];
+    for _ in 0..u64::MAX {
+        let count = read_some(rt, &mut room)?;
+        if count == 0 {
+            break;
+        }
+        receiver.push(room.get(..count).unwrap_or(&[]), lines)?;
+        say(rt, lines)?;
+        lines.clear();
+    }
+    Ok(())
+}
+
+/// Makes a line of each frame, and says whether all were values.
+fn read(rt: &HostRuntime, schema: &Schema, place: usize, options: Options) -> Ran {
+    let reading = Reading {
+        alloc: rt.alloc(),
+        schema,
+        place,
+        hex: options.digits,
+        strict: options.strict,
+        sentinel: options.sentinel,
+    };
+    let mut receiver = Receiver::new(reading, options.from);
+    let mut lines = Vec::new(rt.alloc());
+    if options.hex {
+        receive_digits(rt, &mut receiver, &mut lines)?;
+    } else {
+        receive_bytes(rt, &mut receiver, &mut lines)?;
+    }
+    let is_good = receiver.finish(&mut lines)?;
+    say(rt, &lines)?;
+    Ok(is_good)
+}
+
+/// Writes bytes of frames, as they are or as hexadecimal text.
+fn send(rt: &HostRuntime, hex: bool, bytes: &[u8]) -> Result<(), Stop> {
+    if !hex {
+        return say(rt, bytes);
+    }
+    let digits = hex::encode(rt.alloc(), bytes)?;
+    say(rt, digits.as_bytes())
+}
+
+/// Sends the value of a line, or says why it is none; and whether it was one.
+fn write_line(
+    rt: &HostRuntime,
+    schema: &Schema,
+    place: usize,
+    options: Options,
+    number: u64,
+    line: &str,
+) -> Ran {
+    match frame_of(rt.alloc(), schema, place, options.sentinel, line.as_bytes()) {
+        Ok(frame) => {
+            send(rt, options.hex, &frame)?;
+            Ok(true)
+        }
+        Err(ParseError::Wrong(why)) => match eprintln!(rt; "line {number}: {why}") {
+            Ok(()) => Ok(false),
+            Err(_) => Err(Stop::WriteFault),
+        },
+        Err(ParseError::OutOfMemory) => Err(Stop::NoMemory),
+    }
+}
+
+/// Makes a frame of each line, and says whether all were values. The first has a sentinel before it.
+fn write(rt: &HostRuntime, schema: &Schema, place: usize, options: Options) -> Ran {
+    send(rt, options.hex, &[options.sentinel])?;
+    let Ok(reader) = BufReader::new(rt.alloc(), rt.reader()) else {
+        return Err(Stop::NoMemory);
+    };
+    let mut is_good = true;
+    let mut number: u64 = 0;
+    for line in reader.lines(rt.alloc()) {
+        let Ok(line) = line else {
+            return Err(Stop::ReadFault);
+        };
+        number = number.saturating_add(1);
+        is_good = write_line(rt, schema, place, options, number, line.as_str())? && is_good;
+    }
+    if options.hex {
+        say(rt, b"\n")?;
+    }
+    Ok(is_good)
+}
+
+/// Lists the types with their greatest sizes.
+fn check(rt: &HostRuntime, schema: &Schema) -> Ran {
+    let sizes = greatest_sizes(rt.alloc(), &schema.nodes)?;
+    for (it, size) in schema.types.iter().zip(&sizes) {
+        let name = it.name.as_str();
+        let said = match size {
+            Some(size) => println!(rt; "{name}: {size} bytes at most"),
+            None => println!(rt; "{name}: no greatest size"),
+        };
+        if said.is_err() {
+            return Err(Stop::WriteFault);
+        }
+    }
+    Ok(true)
+}
+
+/// Reads or writes messages of a type.
+fn work(rt: &HostRuntime, mode: &str, file: &str, name: &str, words: &[String]) -> Ran {
+    let Some(options) = options_of(words) else {
+        return Err(wrong(rt, &[USAGE]));
+    };
+    let is_read = mode == "read";
+    if !is_read && (mode != "write" || options.strict || options.digits || options.from != 0) {
+        return Err(wrong(rt, &[USAGE]));
+    }
+    let schema = schema_of(rt, file)?;
+    let Some(place) = schema.place_of(name) else {
+        return Err(wrong(
+            rt,
+            &["`", name, "` isn't declared and marked in ", file, "\n"],
+        ));
+    };
+    if is_read {
+        return read(rt, &schema, place, options);
+    }
+    write(rt, &schema, place, options)
+}
+
+/// Does what the words behind the program's name say.
+fn run(rt: &HostRuntime, words: &[String]) -> Ran {
+    match words {
+        [mode, file] if mode.as_str() == "check" => {
+            let schema = schema_of(rt, file.as_str())?;
+            check(rt, &schema)
+        }
+        [mode, file, name, options @ ..] => {
+            work(rt, mode.as_str(), file.as_str(), name.as_str(), options)
+        }
+        _ => Err(wrong(rt, &[USAGE])),
+    }
+}
+
+/// The words behind the program's name.
+fn words_of(rt: &HostRuntime) -> Option<Vec<String>> {
+    let mut words: Vec<String> = Vec::new(rt.alloc());
+    for word in env::args(rt).ok()?.skip(1) {
+        words.push(word).ok()?;
+    }
+    Some(words)
+}
+
+/// Says why a run ended, and gives its status.
+fn report(rt: &HostRuntime, ran: Ran) -> u8 {
+    let (said, status) = match ran {
+        Ok(is_good) => return if is_good { 0 } else { 1 },
+        Err(Stop::Wrong(lines)) => (eprint!(rt; "{lines}"), 2),
+        Err(Stop::ReadFault) => (eprintln!(rt; "read failed"), 3),
+        Err(Stop::WriteFault) => (eprintln!(rt; "write failed"), 3),
+        Err(Stop::NoMemory) => (eprintln!(rt; "no memory"), 4),
+    };
+    if said.is_ok() { status } else { 3 }
+}
+
+fn main(rt: HostRuntime) -> ExitCode {
+    let ran = match words_of(&rt) {
+        Some(words) => run(&rt, &words),
+        None => Err(Stop::NoMemory),
+    };
+    ExitCode::from(report(&rt, ran))
+}

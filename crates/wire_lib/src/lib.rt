@@ -1,0 +1,14 @@
+//! Messages of any device as lines of JSON: a value by its schema as JSON and back, frames as lines and lines as frames, and the
+//! words of the program `wire`.
+#![tactic(auto)]
+
+mod looks;
+pub mod parse;
+pub mod print;
+pub mod receive;
+pub mod send;
+pub mod sizes;
+pub mod words;
+
+/// How many nodes a value may nest in.
+pub const DEPTH: u32 = 60;

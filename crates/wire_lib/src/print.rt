@@ -1,0 +1,311 @@
+//! Values as JSON.
+use crate::DEPTH;
+use crate::looks::{PRESENT, has_text_keys, is_empty, may_be_null};
+use declarations::{Names, Schema};
+use json::{Writer, is_number};
+use schemas::{Node, Value};
+use std::alloc::{AllocError, Global};
+
+/// Why a value isn't printed.
+#[derive(Clone, Copy, Debug, PartialEq, Eq, Drop)]
+pub enum PrintError {
+    /// It isn't of the type at that place, or nests in more than [`DEPTH`] nodes.
+    NotOfType,
+    /// Out of memory.
+    OutOfMemory,
+}
+
+impl From<AllocError> for PrintError {
+    fn from(_: AllocError) -> PrintError {
+        PrintError::OutOfMemory
+    }
+}
+
+type Printed = Result<(), PrintError>;
+
+/// A schema, whether bytes look as hexadecimal text, and how many nodes a value may still nest in.
+#[derive(Clone, Copy, Drop)]
+struct Style<'a> {
+    alloc: Global,
+    schema: &'a Schema,
+    hex: bool,
+    depth: u32,
+}
+
+/// Appends a number by its digits. That the digits of every number are one for the writer is tested here, since no clause
+/// says it past 64 bits.
+fn put_digits(out: &mut Writer, digits: &str) -> Printed {
+    if !is_number(digits) {
+        return Err(PrintError::NotOfType);
+    }
+    Ok(out.number(digits)?)
+}
+
+/// Appends a number.
+fn put_u128(out: &mut Writer, n: u128) -> Printed {
+    let mut buffer = itoa::Buffer::new();
+    put_digits(out, buffer.format(n))
+}
+
+/// Appends a number that may be negative.
+fn put_i128(out: &mut Writer, n: i128) -> Printed {
+    let mut buffer = itoa::Buffer::new();
+    put_digits(out, buffer.format(n))
+}
+
+/// Appends a character as a text.
+fn put_char(out: &mut Writer, alloc: Global, c: char) -> Printed {
+    let mut text = String::new(alloc);
+    text.push(c)?;
+    Ok(out.string(text.as_str())?)
+}
+
+/// Appends bytes as an array of numbers.
+fn put_numbers(out: &mut Writer, bytes: &[u8]) -> Printed {
+    out.begin_array()?;
+    for byte in bytes {
+        out.u64(u64::from(*byte))?;
+    }
+    Ok(out.end_array()?)
+}
+
+/// Appends bytes.
+fn put_bytes(out: &mut Writer, style: Style<'_>, bytes: &[u8]) -> Printed {
+    if !style.hex {
+        return put_numbers(out, bytes);
+    }
+    let digits = hex::encode(style.alloc, bytes)?;
+    Ok(out.string(digits.as_str())?)
+}
+
+/// Appends what looks the same whatever holds it.
+fn put_plain(out: &mut Writer, style: Style<'_>, value: &Value) -> Printed {
+    match value {
+        Value::Bool(b) => Ok(out.boolean(*b)?),
+        Value::U8(n) => Ok(out.u64(u64::from(*n))?),
+        Value::U16(n) => Ok(out.u64(u64::from(*n))?),
+        Value::U32(n) => Ok(out.u64(u64::from(*n))?),
+        Value::U64(n) => Ok(out.u64(*n)?),
+        Value::U128(n) => put_u128(out, *n),
+        Value::I8(n) => Ok(out.i64(i64::from(*n))?),
+        Value::I16(n) => Ok(out.i64(i64::from(*n))?),
+        Value::I32(n) => Ok(out.i64(i64::from(*n))?),
+        Value::I64(n) => Ok(out.i64(*n)?),
+        Value::I128(n) => put_i128(out, *n),
+        Value::Char(c) => put_char(out, style.alloc, *c),
+        Value::Text(text) => Ok(out.string(text.as_str())?),
+        Value::Bytes(bytes) => put_bytes(out, style, bytes),
+        _ => Err(PrintError::NotOfType),
+    }
+}
+
+/// Appends a value of the type at that place.
+#[cycle(print)]
+fn put(out: &mut Writer, style: Style<'_>, place: usize, value: &Value) -> Printed {
+    if style.depth == 0 {
+        return Err(PrintError::NotOfType);
+    }
+    let depth = style.depth - 1;
+    let style = Style { depth, ..style };
+    let Some(node) = style.schema.nodes.get(place) else {
+        return Err(PrintError::NotOfType);
+    };
+    match (node, value) {
+        (Node::Option(_), Value::Absent) => Ok(out.null()?),
+        (Node::Option(inner), Value::Present(held)) => put_present(out, style, *inner, held),
+        (Node::List(inner), Value::List(items)) => put_list(out, style, place, *inner, items),
+        (Node::Array(_, inner), Value::Group(items)) => put_items(out, style, *inner, items),
+        (Node::Struct(fields), Value::Group(items)) => {
+            put_struct(out, style, place, fields, items)
+        }
+        (Node::Enum(payloads), Value::Variant(index, held)) => {
+            put_variant(out, style, place, payloads, *index, held)
+        }
+        _ => put_plain(out, style, value),
+    }
+}
+
+/// Appends a value that may be absent and isn't.
+#[cycle(print)]
+fn put_present(out: &mut Writer, style: Style<'_>, inner: usize, held: &Value) -> Printed {
+    if !may_be_null(style.schema, inner) {
+        return put(out, style, inner, held);
+    }
+    out.begin_object()?;
+    out.key(PRESENT)?;
+    put(out, style, inner, held)?;
+    Ok(out.end_object()?)
+}
+
+/// Appends a list: a map with texts as keys as an object.
+#[cycle(print)]
+fn put_list(
+    out: &mut Writer,
+    style: Style<'_>,
+    place: usize,
+    inner: usize,
+    items: &[Value],
+) -> Printed {
+    let is_map = matches!(style.schema.names.get(place), Some(Names::Map));
+    if is_map && has_text_keys(style.schema, inner) {
+        return put_pairs(out, style, inner, items);
+    }
+    put_items(out, style, inner, items)
+}
+
+/// Appends values of one type as an array.
+#[cycle(print)]
+fn put_items(out: &mut Writer, style: Style<'_>, inner: usize, items: &[Value]) -> Printed {
+    out.begin_array()?;
+    for item in items {
+        put(out, style, inner, item)?;
+    }
+    Ok(out.end_array()?)
+}
+
+/// Appends pairs as an object.
+#[cycle(print)]
+fn put_pairs(out: &mut Writer, style: Style<'_>, pair: usize, items: &[Value]) -> Printed {
+    out.begin_object()?;
+    for item in items {
+        put_pair(out, style, pair, item)?;
+    }
+    Ok(out.end_object()?)
+}
+
+/// Appends a pair as a member.
+#[cycle(print)]
+fn put_pair(out: &mut Writer, style: Style<'_>, pair: usize, item: &Value) -> Printed {
+    let Some(Node::Struct(fields)) = style.schema.nodes.get(pair) else {
+        return Err(PrintError::NotOfType);
+    };
+    match (fields.as_slice(), item) {
+        ([_, inner], Value::Group(parts)) => match parts.as_slice() {
+            [Value::Text(key), held] => {
+                out.key(key.as_str())?;
+                put(out, style, *inner, held)
+            }
+            _ => Err(PrintError::NotOfType),
+        },
+        _ => Err(PrintError::NotOfType),
+    }
+}
+
+/// Appends a struct or a tuple.
+#[cycle(print)]
+fn put_struct(
+    out: &mut Writer,
+    style: Style<'_>,
+    place: usize,
+    fields: &[usize],
+    items: &[Value],
+) -> Printed {
+    if fields.len() != items.len() {
+        return Err(PrintError::NotOfType);
+    }
+    match style.schema.names.get(place) {
+        Some(Names::Unit | Names::Empty) => Ok(out.null()?),
+        Some(Names::Newtype) => put_fields(out, style, fields, items),
+        Some(Names::Tuple) => {
+            out.begin_array()?;
+            put_fields(out, style, fields, items)?;
+            Ok(out.end_array()?)
+        }
+        Some(Names::Fields(names)) => put_members(out, style, names, fields, items),
+        _ => Err(PrintError::NotOfType),
+    }
+}
+
+/// Appends values of these types.
+#[cycle(print)]
+fn put_fields(out: &mut Writer, style: Style<'_>, fields: &[usize], items: &[Value]) -> Printed {
+    for (field, item) in fields.iter().zip(items) {
+        put(out, style, *field, item)?;
+    }
+    Ok(())
+}
+
+/// Appends values of these types as an object, by their names.
+#[cycle(print)]
+fn put_members(
+    out: &mut Writer,
+    style: Style<'_>,
+    names: &[String],
+    fields: &[usize],
+    items: &[Value],
+) -> Printed {
+    out.begin_object()?;
+    for i in 0..items.len() {
+        let (Some(name), Some(field)) = (names.get(i), fields.get(i)) else {
+            return Err(PrintError::NotOfType);
+        };
+        out.key(name.as_str())?;
+        put(out, style, *field, &items[i])?;
+    }
+    Ok(out.end_object()?)
+}
+
+/// Appends a variant: its name, or an object of its name and what it holds.
+#[cycle(print)]
+fn put_variant(
+    out: &mut Writer,
+    style: Style<'_>,
+    place: usize,
+    payloads: &[usize],
+    index: u32,
+    held: &Value,
+) -> Printed {
+    let Some(Names::Variants(names)) = style.schema.names.get(place) else {
+        return Err(PrintError::NotOfType);
+    };
+    let (Some(name), Some(payload)) = (names.get(index as usize), payloads.get(index as usize))
+    else {
+        return Err(PrintError::NotOfType);
+    };
+    if is_empty(style.schema, *payload) {
+        return Ok(out.string(name.as_str())?);
+    }
+    out.begin_object()?;
+    out.key(name.as_str())?;
+    put(out, style, *payload, held)?;
+    Ok(out.end_object()?)
+}
+
+/// Appends a value of the type at that place of the schema. With `hex` bytes are hexadecimal texts in lower case, else arrays
+/// of numbers.
+pub fn print_into(
+    out: &mut Writer,
+    alloc: Global,
+    schema: &Schema,
+    place: usize,
+    hex: bool,
+    value: &Value,
+) -> Result<(), PrintError> {
+    let depth = DEPTH;
+    let style = Style {
+        alloc,
+        schema,
+        hex,
+        depth,
+    };
+    put(out, style, place, value)
+}
+
+/// The JSON of a value of the type at that place of the schema, in one line without a line feed.
+///
+/// Enums and structs look as `serde_json` writes them: a variant without fields as its name, another as an object of its name
+/// and what it holds; a struct as an object in the order of its fields, a newtype as what it holds, a tuple as an array, and
+/// what has no fields as `null`. Every number is exact. Bytes are an array of numbers, or with `hex` a text; a map whose keys
+/// are texts is an object, another one an array of pairs. An absent value is `null`; one that is there and might look as
+/// `null` itself is `{"Some": ..}`.
+pub fn print(
+    alloc: Global,
+    schema: &Schema,
+    place: usize,
+    hex: bool,
+    value: &Value,
+) -> Result<Vec<u8>, PrintError> {
+    let mut out = Writer::new(Vec::new(alloc));
+    print_into(&mut out, alloc, schema, place, hex, value)?;
+    Ok(out.into_inner())
+}

@@ -1,0 +1,88 @@
+//! Greatest sizes.
+use schemas::Node;
+use std::alloc::{AllocError, Global};
+
+/// How many bytes a number takes as a varint.
+fn varint_size(number: u64) -> u64 {
+    let mut rest = number >> 7;
+    let mut size: u64 = 1;
+    for _ in 0..9 {
+        if rest == 0 {
+            break;
+        }
+        rest >>= 7;
+        size = size.saturating_add(1);
+    }
+    size
+}
+
+/// The size at that place, where it is known.
+fn size_at(sizes: &[Option<u64>], place: usize) -> Option<u64> {
+    match sizes.get(place) {
+        Some(size) => *size,
+        None => None,
+    }
+}
+
+/// The sum of the greatest sizes of fields.
+fn sum(sizes: &[Option<u64>], fields: &[usize]) -> Option<u64> {
+    let mut total: u64 = 0;
+    for field in fields {
+        total = total.checked_add(size_at(sizes, *field)?)?;
+    }
+    Some(total)
+}
+
+/// The greatest size of a variant.
+fn greatest(sizes: &[Option<u64>], payloads: &[usize]) -> Option<u64> {
+    let mut most: u64 = 0;
+    for (index, payload) in payloads.iter().enumerate() {
+        let size = varint_size(index as u64).checked_add(size_at(sizes, *payload)?)?;
+        most = most.max(size);
+    }
+    Some(most)
+}
+
+/// The greatest size of a node's values, by those of the types inside.
+fn size_of_node(sizes: &[Option<u64>], node: &Node) -> Option<u64> {
+    match node {
+        Node::Bool | Node::U8 | Node::I8 => Some(1),
+        Node::U16 | Node::I16 => Some(3),
+        Node::U32 | Node::I32 | Node::Char => Some(5),
+        Node::U64 | Node::I64 => Some(10),
+        Node::U128 | Node::I128 => Some(19),
+        Node::Text | Node::Bytes | Node::List(_) => None,
+        Node::Option(inner) => size_at(sizes, *inner)?.checked_add(1),
+        Node::Array(0, _) => Some(0),
+        Node::Array(count, inner) => size_at(sizes, *inner)?.checked_mul(*count),
+        Node::Struct(fields) => sum(sizes, fields),
+        Node::Enum(payloads) => greatest(sizes, payloads),
+    }
+}
+
+/// The greatest sizes of nodes, where those of the types inside are among these.
+fn next_sizes(
+    alloc: Global,
+    nodes: &[Node],
+    sizes: &[Option<u64>],
+) -> Result<Vec<Option<u64>>, AllocError> {
+    let mut next = Vec::new(alloc);
+    for node in nodes {
+        next.push(size_of_node(sizes, node))?;
+    }
+    Ok(next)
+}
+
+/// How many bytes a value of each type of a table takes at most, unframed; nothing where there is no such number: for texts, bytes
+/// and lists, for a type that holds itself, and past 2^64.
+pub fn greatest_sizes(alloc: Global, nodes: &[Node]) -> Result<Vec<Option<u64>>, AllocError> {
+    let mut sizes = Vec::new(alloc);
+    for _ in 0..nodes.len() {
+        let next = next_sizes(alloc, nodes, &sizes)?;
+        if next.as_slice() == sizes.as_slice() {
+            break;
+        }
+        sizes = next;
+    }
+    Ok(sizes)
+}
