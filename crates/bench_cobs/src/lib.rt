@@ -59,7 +59,8 @@ pub extern "C" fn cobs_c_push(source: &[u8], dest: &mut [u8]) -> Answer
 /// As `cobs::decode`, with the length of the message alone.
 #[unsafe(no_mangle)]
 pub extern "C" fn cobs_c_decode(source: &[u8], dest: &mut [u8]) -> Answer
-    ensures answer { MatchResult (decoded_from (length dest.old) source.now) (λ r. (result.done ≡ true) × (result.count ≡ frame_size r))
+    ensures answer { MatchResult (decoded_from (length dest.old) source.now)
+        (λ r. (result.done ≡ true) × (result.count ≡ frame_size r))
         (λ _. result.done ≡ false) }
     ensures dest { dest.new ≡ overwritten (part (frame_in source.now)) dest.old }
 {
@@ -78,7 +79,8 @@ pub extern "C" fn cobs_c_decode(source: &[u8], dest: &mut [u8]) -> Answer
 /// As `cobs::decode_in_place`.
 #[unsafe(no_mangle)]
 pub extern "C" fn cobs_c_decode_in_place(buf: &mut [u8]) -> Answer
-    ensures answer { MatchResult (in_place_length (stretch buf.old)) (λ n. (result.done ≡ true) × (result.count ≡ n))
+    ensures answer { MatchResult (in_place_length (stretch buf.old)) (λ n. (result.done ≡ true)
+        × (result.count ≡ n))
         (λ _. result.done ≡ false) }
     ensures buffer { buf.new ≡ overwritten (part (stretch buf.old)) buf.old }
 {
@@ -96,7 +98,8 @@ pub extern "C" fn cobs_c_decode_in_place(buf: &mut [u8]) -> Answer
 pub extern "C" fn cobs_c_push_with_sentinel(source: &[u8], dest: &mut [u8], sentinel: u8) -> Answer
     requires { 0 < length dest.old }
     ensures count { result.done ≡ true → result.count ≡ length (shortest_frame source.now) }
-    ensures frame { result.done ≡ true → take result.count dest.new ≡ frame_for sentinel source.now }
+    ensures frame { result.done ≡ true
+        → take result.count dest.new ≡ frame_for sentinel source.now }
     ensures too_small { result.done ≡ false → length dest.old < length (shortest_frame source.now) }
 {
     let mut encoder = CobsEncoder::new_with_sentinel(dest, sentinel);
@@ -119,7 +122,8 @@ pub extern "C" fn cobs_c_decode_with_sentinel(
     dest: &mut [u8],
     sentinel: u8,
 ) -> Answer
-    ensures answer { MatchResult (decoded_into (length dest.old) (stretch (masked sentinel source.now)))
+    ensures answer { MatchResult
+        (decoded_into (length dest.old) (stretch (masked sentinel source.now)))
         (λ n. (result.done ≡ true) × (result.count ≡ n)) (λ _. result.done ≡ false) }
     ensures dest { dest.new ≡ overwritten (part (stretch (masked sentinel source.now))) dest.old }
 {

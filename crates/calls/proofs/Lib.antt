@@ -1,6 +1,6 @@
-pub mod Replies
-pub mod Asking
-pub mod Refusing
-pub mod Pending
-pub mod Unheard
-pub mod Rounds
+pub mod RepliesLemmas
+pub mod AskingLemmas
+pub mod RefusingLemmas
+pub mod PendingLemmas
+pub mod UnheardLemmas
+pub mod RoundsLemmas

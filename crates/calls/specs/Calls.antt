@@ -63,12 +63,12 @@ RepliesWereSaid Q R = (heard : List (ℕ × Q)) (log : List (Execution Q R)) (ou
 
 -- Some of what was sent is heard by a new server, and some of its replies come back: a reply to a call's number is what the
 -- server said when it executed that call.
-abbrev pub Matches : (Q R : Type 0) → Type 0
-Matches Q R = (sent heard : List (ℕ × Q)) (log : List (Execution Q R)) (out answered : List (ℕ × R)) (later : Option (ℕ × R)) (n : ℕ) (q : Q) (r : R)
+abbrev pub MatchesCalls : (Q R : Type 0) → Type 0
+MatchesCalls Q R = (sent heard : List (ℕ × Q)) (log : List (Execution Q R)) (out answered : List (ℕ × R)) (later : Option (ℕ × R)) (n : ℕ) (q : Q) (r : R)
     → OnePerNumber sent → Among heard sent → ServesAll None heard log out later → Among answered out → In (n, q) sent → In (n, r) answered
     → In (let e : Execution Q R = record { number = n; asks = q; says = r } in e) log
 
 -- Where a number was replied to, no lower one, nor it, is executed later.
-abbrev pub Settles : (Q R : Type 0) → Type 0
-Settles Q R = (mid later : Option (ℕ × R)) (qs qs' : List (ℕ × Q)) (log log' : List (Execution Q R)) (out out' : List (ℕ × R)) (n : ℕ) (r : R)
+abbrev pub SettlesCalls : (Q R : Type 0) → Type 0
+SettlesCalls Q R = (mid later : Option (ℕ × R)) (qs qs' : List (ℕ × Q)) (log log' : List (Execution Q R)) (out out' : List (ℕ × R)) (n : ℕ) (r : R)
     → ServesAll None qs log out mid → ServesAll mid qs' log' out' later → In (n, r) out → (e : Execution Q R) → In e log' → n < e.number

@@ -6,7 +6,8 @@ use Rattle.std.proofs.lemmas.List.{append-nil}
 use Rattle.line_io.specs.Calls.{Wrote-none, Wrote-then}
 use Rattle.postcard_tree.specs.Tree.{Tree, IsTree}
 use Rattle.link.specs.Run.{Send, completed, refused, broken, written, clean_after, session_line, IsSession}
-use Rattle.link.specs.Senders.{IsSent, IsRefusal, Failed}
+use Rattle.line_io.specs.Transfers.{Failed}
+use Rattle.link.specs.Senders.{IsSent, IsRefusal}
 use Rattle.cobs.specs.Frames.{shortest_frame}
 use Rattle.postcard.specs.Written.{UnlessRefused}
 use Rattle.postcard_tree.specs.declared.error.Error.{Error}
@@ -18,8 +19,8 @@ use Rattle.link.specs.declared.receiver.Answer.{Answer}
 use Rattle.link.specs.declared.receiver.Answer.TheVariants.{Value, Damaged, TooLong, Cut}
 use Rattle.link.specs.Each.{HearerLaws}
 use Rattle.calls.specs.Calls.{Execution, next_of, again, ServesAll, Rises}
-use Rattle.calls.specs.Places.{Place, place_of, HasSaid, SaysAll}
-use Rattle.calls.specs.Serving.{kept_of, sender_of, Runs, IsServed, IsReplied, Executes, Takes, ServiceHears, requests_of}
+use Rattle.calls.specs.Places.{SenderPlace, sender_place, HasSaid, SaysAll}
+use Rattle.calls.specs.Serving.{kept_of, sender_of, Runs, IsServed, IsReplied, Executes, TakesAnswer, ServiceHears, requests_of}
 use Rattle.calls.specs.declared.service.Service.{Service}
 use Rattle.calls.specs.declared.server.Served.{Served}
 use Rattle.calls.specs.declared.server.Served.TheVariants.{Executed, Again, Passed}
@@ -77,11 +78,11 @@ one_failed before after calls_left (inr z) = inr z
 
 module _ {V : Type 0} (limit : ℕ) (writes : V → Option Tree) (valid : V → Type 0) where
   -- no message
-  pub says_none : (old : Place) → SaysAll limit writes valid old old [] []
+  pub says_none : (old : SenderPlace) → SaysAll limit writes valid old old [] []
   says_none old = record { sends = []; are = tt; of = tt; fated = refl; did = record { wrote = Wrote-none old.told old.faults; few = inl (omega arith); once = omega arith; calls = omega arith }; then = refl }
 
   -- messages, and then messages
-  pub says_then : (old mid new : Place) (vs ws : List V) (fs gs : List Fate) → mid.sentinel ≡ old.sentinel → SaysAll limit writes valid old mid vs fs → SaysAll limit writes valid mid new ws gs → SaysAll limit writes valid old new (vs ++ ws) (fs ++ gs)
+  pub says_then : (old mid new : SenderPlace) (vs ws : List V) (fs gs : List Fate) → mid.sentinel ≡ old.sentinel → SaysAll limit writes valid old mid vs fs → SaysAll limit writes valid mid new ws gs → SaysAll limit writes valid old new (vs ++ ws) (fs ++ gs)
   says_then old mid new vs ws fs gs same p k =
       let s = old.sentinel in
       let q = subst (λ z. SendsAll limit z writes valid mid.clean new.clean mid.told new.told mid.faults new.faults mid.calls_left new.calls_left ws gs) same k in
@@ -100,7 +101,7 @@ module _ {V : Type 0} (limit : ℕ) (writes : V → Option Tree) (valid : V → 
       }
 
   -- which send of a message it was
-  said_of : (v : V) (old new : Place) (r : Result (Unit {0}) SendError) (x : Send) → IsSent limit (writes v) r x → HasSaid limit (writes v) (valid v) old new r → old.faults ≤ new.faults
+  said_of : (v : V) (old new : SenderPlace) (r : Result (Unit {0}) SendError) (x : Send) → IsSent limit (writes v) r x → HasSaid limit (writes v) (valid v) old new r → old.faults ≤ new.faults
       → IsSendOf limit (writes v) (valid v) x × FewBroke old.faults new.faults new.calls_left (broke x) × (new.faults ≤ old.faults + broke x)
   said_of v old new (Ok u) (completed t) i h l = ((i.1, h.valid_is), inl (omega (arith, l)), omega (arith, h.done))
   said_of v old new (Err e) (completed t) i h l = absurd (let no : ◌≡◌ {A = Result (Unit {0}) SendError} (Err e) (Ok tt) = i.0 in cc)
@@ -112,7 +113,7 @@ module _ {V : Type 0} (limit : ℕ) (writes : V → Option Tree) (valid : V → 
   said_of v old new (Err (Refused e)) (broken t k) i h l = absurd (let no : ◌≡◌ {A = Result (Unit {0}) SendError} (Err (Refused e)) (Err Line) = i.0 in cc)
 
   -- one message
-  pub says_one : (v : V) (old new : Place) (r : Result (Unit {0}) SendError) → HasSaid limit (writes v) (valid v) old new r → (f : Fate) × SaysAll limit writes valid old new (v ∷ []) (f ∷ [])
+  pub says_one : (v : V) (old new : SenderPlace) (r : Result (Unit {0}) SendError) → HasSaid limit (writes v) (valid v) old new r → (f : Fate) × SaysAll limit writes valid old new (v ∷ []) (f ∷ [])
   says_one v old new r h =
       let x = h.sent.send in
       let o = said_of v old new r x h.sent.answered h h.sent.wrote.more in
@@ -203,11 +204,11 @@ module _ {Q R : Type 0} where
 
 module _ {A Q R : Type 0} (executes : A → Q → R → A → Type 0) (limit : ℕ) (writes : ℕ × R → Option Tree) (valid : ℕ × R → Type 0) where
   -- no request
-  pub executes_none : (a : A) (kept : Option (ℕ × R)) (place : Place) → Executes executes limit writes valid a a kept kept place place []
+  pub executes_none : (a : A) (kept : Option (ℕ × R)) (place : SenderPlace) → Executes executes limit writes valid a a kept kept place place []
   executes_none a kept place = record { log = []; out = []; fates = []; served = (refl, refl, refl); rises = tt; ran = refl; replied = says_none limit writes valid place; sentinel = refl }
 
   -- requests, and then requests
-  pub executes_then : (a b c : A) (kept mid later : Option (ℕ × R)) (here there end : Place) (qs ps : List (ℕ × Q))
+  pub executes_then : (a b c : A) (kept mid later : Option (ℕ × R)) (here there end : SenderPlace) (qs ps : List (ℕ × Q))
       → Executes executes limit writes valid a b kept mid here there qs → Executes executes limit writes valid b c mid later there end ps
       → Executes executes limit writes valid a c kept later here end (qs ++ ps)
   executes_then a b c kept mid later here there end qs ps p q =
@@ -223,7 +224,7 @@ module _ {A Q R : Type 0} (executes : A → Q → R → A → Type 0) (limit : �
       }
 
   -- what one request did
-  one_served : (old new : A) (kept later : Option (ℕ × R)) (here there : Place) (n : ℕ) (q : Q) (same : Type 0) (r : Served) → (same → there ≡ here)
+  one_served : (old new : A) (kept later : Option (ℕ × R)) (here there : SenderPlace) (n : ℕ) (q : Q) (same : Type 0) (r : Served) → (same → there ≡ here)
       → IsServed executes old new kept later n q r → IsReplied same (λ p x. HasSaid limit (writes p) (valid p) here there x) later r
       → Executes executes limit writes valid old new kept later here there ((n, q) ∷ [])
   one_served old new kept later here there n q same (Executed x) unsaid (l, says, ran, e) (p, f, said) =
@@ -267,15 +268,15 @@ module _ {A Q R : Type 0} (executes : A → Q → R → A → Type 0) (limit : �
       }
 
   -- nothing was served
-  stays_as : (old new : A) (kept later : Option (ℕ × R)) (here there : Place) → new ≡ old → later ≡ kept → there ≡ here → Executes executes limit writes valid old new kept later here there []
+  stays_as : (old new : A) (kept later : Option (ℕ × R)) (here there : SenderPlace) → new ≡ old → later ≡ kept → there ≡ here → Executes executes limit writes valid old new kept later here there []
   stays_as old new kept later here there e f g =
       subst (λ a. Executes executes limit writes valid old a kept later here there []) (sym e)
       (subst (λ k. Executes executes limit writes valid old old kept k here there []) (sym f)
       (subst (λ z. Executes executes limit writes valid old old kept kept here z []) (sym g) (executes_none old kept here)))
 
   -- one answer of a line
-  pub executes_one : (old new : A) (kept later : Option (ℕ × R)) (here there : Place) (same : Type 0) (answer : Answer (ℕ × Q)) → (same → there ≡ here)
-      → Takes executes old new kept later same (λ p x. HasSaid limit (writes p) (valid p) here there x) answer
+  pub executes_one : (old new : A) (kept later : Option (ℕ × R)) (here there : SenderPlace) (same : Type 0) (answer : Answer (ℕ × Q)) → (same → there ≡ here)
+      → TakesAnswer executes old new kept later same (λ p x. HasSaid limit (writes p) (valid p) here there x) answer
       → Executes executes limit writes valid old new kept later here there (requests_of (answer ∷ []))
   executes_one old new kept later here there same (Value p) unsaid (r, served, replied) = one_served old new kept later here there p.0 p.1 same r unsaid served replied
   executes_one old new kept later here there same Damaged unsaid (e, f, g) = stays_as old new kept later here there e f (unsaid g)
@@ -286,8 +287,8 @@ module _ {A Q R : Type 0} (executes : A → Q → R → A → Type 0) (limit : �
 pub service_laws : {A W Q R : Type 0} {N : ℕ} (executes : A → Q → R → A → Type 0) (told : W → Option (List ℕ)) (faults calls_left : W → ℕ) (writes : ℕ × R → Option Tree) (valid : ℕ × R → Type 0)
     → HearerLaws {H = Service A W R N} (ServiceHears executes told faults calls_left writes valid)
 service_laws {A} {W} {Q} {R} {N} executes told faults calls_left writes valid = record {
-  none = λ h. executes_none executes N writes valid h.application (kept_of h.server) (place_of told faults calls_left (sender_of h.server));
+  none = λ h. executes_none executes N writes valid h.application (kept_of h.server) (sender_place told faults calls_left (sender_of h.server));
   more = λ h k m a b p q.
-      subst (λ l. Executes executes N writes valid h.application m.application (kept_of h.server) (kept_of m.server) (place_of told faults calls_left (sender_of h.server)) (place_of told faults calls_left (sender_of m.server)) l)
+      subst (λ l. Executes executes N writes valid h.application m.application (kept_of h.server) (kept_of m.server) (sender_place told faults calls_left (sender_of h.server)) (sender_place told faults calls_left (sender_of m.server)) l)
       (sym (requests_then a b)) (executes_then executes N writes valid _ _ _ _ _ _ _ _ _ (requests_of a) (requests_of b) p q);
 }

@@ -8,7 +8,7 @@ use Rattle.link.specs.declared.session.Fate.{Fate}
 use Rattle.link.specs.declared.receiver.Answer.{Answer}
 use Rattle.link.specs.declared.receiver.Answer.TheVariants.{Value, Damaged, TooLong, Cut}
 use Rattle.calls.specs.Calls.{Execution, next_of, again, ServesAll, Rises}
-use Rattle.calls.specs.Places.{Place, place_of, SaysAll}
+use Rattle.calls.specs.Places.{SenderPlace, sender_place, SaysAll}
 use Rattle.calls.specs.declared.server.Server.{Server}
 use Rattle.calls.specs.declared.service.Service.{Service}
 use Rattle.calls.specs.declared.server.Served.{Served}
@@ -56,7 +56,7 @@ requests_of (Cut ∷ more) = requests_of more
 
 -- What was executed of requests, and replied: some of them, in their order, each number once at most and above those before; the
 -- replies are one session.
-pub record Executes {A Q R : Type 0} (executes : A → Q → R → A → Type 0) (limit : ℕ) (writes : ℕ × R → Option Tree) (valid : ℕ × R → Type 0) (old new : A) (kept later : Option (ℕ × R)) (before after : Place) (requests : List (ℕ × Q)) : Type 0 where
+pub record Executes {A Q R : Type 0} (executes : A → Q → R → A → Type 0) (limit : ℕ) (writes : ℕ × R → Option Tree) (valid : ℕ × R → Type 0) (old new : A) (kept later : Option (ℕ × R)) (before after : SenderPlace) (requests : List (ℕ × Q)) : Type 0 where
   pub log : List (Execution Q R)
   pub out : List (ℕ × R)
   pub fates : List Fate
@@ -67,14 +67,14 @@ pub record Executes {A Q R : Type 0} (executes : A → Q → R → A → Type 0)
   pub sentinel : after.sentinel ≡ before.sentinel
 
 -- One answer of the line: a request is served, and anything else changes nothing.
-abbrev pub Takes : {A Q R : Type 0} → (A → Q → R → A → Type 0) → A → A → Option (ℕ × R) → Option (ℕ × R) → (same : Type 0) → (ℕ × R → Result (Unit {0}) SendError → Type 0) → Answer (ℕ × Q) → Type 0
-Takes executes old new kept later same sends (Value p) = (r : Served) × IsServed executes old new kept later p.0 p.1 r × IsReplied same sends later r
-Takes executes old new kept later same sends Damaged = (new ≡ old) × (later ≡ kept) × same
-Takes executes old new kept later same sends TooLong = (new ≡ old) × (later ≡ kept) × same
-Takes executes old new kept later same sends Cut = (new ≡ old) × (later ≡ kept) × same
+abbrev pub TakesAnswer : {A Q R : Type 0} → (A → Q → R → A → Type 0) → A → A → Option (ℕ × R) → Option (ℕ × R) → (same : Type 0) → (ℕ × R → Result (Unit {0}) SendError → Type 0) → Answer (ℕ × Q) → Type 0
+TakesAnswer executes old new kept later same sends (Value p) = (r : Served) × IsServed executes old new kept later p.0 p.1 r × IsReplied same sends later r
+TakesAnswer executes old new kept later same sends Damaged = (new ≡ old) × (later ≡ kept) × same
+TakesAnswer executes old new kept later same sends TooLong = (new ≡ old) × (later ≡ kept) × same
+TakesAnswer executes old new kept later same sends Cut = (new ≡ old) × (later ≡ kept) × same
 
 -- what a service makes of the answers of a line
 abbrev pub ServiceHears : {A W Q R : Type 0} {N : ℕ} → (A → Q → R → A → Type 0) → (W → Option (List ℕ)) → (W → ℕ) → (W → ℕ) → (ℕ × R → Option Tree) → (ℕ × R → Type 0) → Service A W R N → List (Answer (ℕ × Q)) → Service A W R N → Type 0
 ServiceHears {N = N} executes told faults calls_left writes valid old answers new =
     Executes executes N writes valid old.application new.application (kept_of old.server) (kept_of new.server)
-    (place_of told faults calls_left (sender_of old.server)) (place_of told faults calls_left (sender_of new.server)) (requests_of answers)
+    (sender_place told faults calls_left (sender_of old.server)) (sender_place told faults calls_left (sender_of new.server)) (requests_of answers)

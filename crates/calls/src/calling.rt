@@ -2,7 +2,7 @@
 ghost use Rattle.std.specs.Prelude.{◌≡◌, ◌↔◌, IsTrue, ℕ, ◌<◌, Some, None, false, MatchOption};
 ghost use Rattle.link.specs.declared.receiver.Answer.TheVariants.{Value};
 ghost use Rattle.link.specs.Senders.{writer_of, clean_of, sentinel_of};
-ghost use Rattle.calls.specs.Places.{place_of, HasSaid};
+ghost use Rattle.calls.specs.Places.{sender_place, HasSaid};
 ghost use Rattle.calls.specs.Asking.{asker_of, sender_of, number_of, stepped, ends, IsCalled, IsRepeated};
 
 use crate::client::{CallError, Client};
@@ -61,9 +61,12 @@ impl<W: Outlet, Q: Serialize + Drop, const N: usize> Client<W, Q, N> {
     /// At `Unsent` the call is pending all the same: the server may have heard it, and `again` sends it again. At `Full` nothing
     /// was sent and nothing has changed: the greatest u64 is no call's number.
     pub fn call(&mut self, request: Q) -> Result<(), CallError>
-        ensures called { IsCalled (asker_of self.old) (asker_of self.new) request result (sender_of self.new ≡ sender_of self.old)
-            (λ p r. HasSaid N (⟦<(u64, Q) as Serialize>⟧.writes p) (⟦<(u64, Q) as Serialize>⟧.valid p)
-            (place_of W.written W.faults W.calls_left (sender_of self.old)) (place_of W.written W.faults W.calls_left (sender_of self.new)) r) }
+        ensures called { IsCalled (asker_of self.old) (asker_of self.new) request result
+            (sender_of self.new ≡ sender_of self.old)
+            (λ p r. HasSaid N (⟦<(u64, Q) as Serialize>⟧.writes p)
+            (⟦<(u64, Q) as Serialize>⟧.valid p)
+            (sender_place W.written W.faults W.calls_left (sender_of self.old))
+            (sender_place W.written W.faults W.calls_left (sender_of self.new)) r) }
     {
         if self.next == u64::MAX {
             return Err(CallError::Full);
@@ -80,9 +83,12 @@ impl<W: Outlet, Q: Serialize + Drop, const N: usize> Client<W, Q, N> {
 
     /// Sends the pending call again, with its number.
     pub fn again(&mut self) -> Result<(), CallError>
-        ensures repeated { IsRepeated (asker_of self.old) (asker_of self.new) result (sender_of self.new ≡ sender_of self.old)
-            (λ p r. HasSaid N (⟦<(u64, Q) as Serialize>⟧.writes p) (⟦<(u64, Q) as Serialize>⟧.valid p)
-            (place_of W.written W.faults W.calls_left (sender_of self.old)) (place_of W.written W.faults W.calls_left (sender_of self.new)) r) }
+        ensures repeated { IsRepeated (asker_of self.old) (asker_of self.new) result
+            (sender_of self.new ≡ sender_of self.old)
+            (λ p r. HasSaid N (⟦<(u64, Q) as Serialize>⟧.writes p)
+            (⟦<(u64, Q) as Serialize>⟧.valid p)
+            (sender_place W.written W.faults W.calls_left (sender_of self.old))
+            (sender_place W.written W.faults W.calls_left (sender_of self.new)) r) }
     {
         match &self.pending {
             None => Err(CallError::Idle),
@@ -106,8 +112,10 @@ impl<W: Outlet, Q: Serialize + Drop, const N: usize> Client<W, Q, N> {
     /// Takes an answer of the line: what is said to the pending call, which is then over. Anything else changes nothing.
     pub fn hear<R: Drop>(&mut self, answer: Answer<(u64, R)>) -> Option<R>
         ensures accepts { MatchOption result (asker_of self.new ≡ asker_of self.old)
-            (λ said. (n : ℕ) × (q : Q) × ((asker_of self.old).pending ≡ Some (n, q)) × (answer ≡ Value (n, said)) × (asker_of self.new ≡ stepped (asker_of self.old) ends)) }
-        ensures taken { (n : ℕ) (q : Q) (said : R) → (asker_of self.old).pending ≡ Some (n, q) → answer ≡ Value (n, said) → result ≡ Some said }
+            (λ said. (n : ℕ) × (q : Q) × ((asker_of self.old).pending ≡ Some (n, q))
+            × (answer ≡ Value (n, said)) × (asker_of self.new ≡ stepped (asker_of self.old) ends)) }
+        ensures taken { (n : ℕ) (q : Q) (said : R) → (asker_of self.old).pending ≡ Some (n, q)
+            → answer ≡ Value (n, said) → result ≡ Some said }
         ensures sender { sender_of self.new ≡ sender_of self.old }
     {
         let Answer::Value((number, said)) = answer else {

@@ -1,5 +1,5 @@
 //! Each function does nothing; its contract is what it is for.
-ghost use Rattle.calls.specs.Calls.{ExecutesOnce, Matches, RepliesWereSaid, Settles};
+ghost use Rattle.calls.specs.Calls.{ExecutesOnce, MatchesCalls, RepliesWereSaid, SettlesCalls};
 ghost use Rattle.calls.specs.Asking.{AsksOnePerNumber};
 
 /// Whatever requests a server hears, in any order and as often as they come: it executes no number twice.
@@ -15,12 +15,12 @@ pub fn replied<Q, R>()
 /// Whatever is lost of the requests on their way and of the replies on theirs, and however often a request is sent again:
 /// a reply with a call's number is what was said to that call, and it was executed.
 pub fn matches<Q, R>()
-    ensures { Matches Q R }
+    ensures { MatchesCalls Q R }
 {}
 
 /// Behind a reply neither its number nor a lower one is executed.
 pub fn settles<Q, R>()
-    ensures { Settles Q R }
+    ensures { SettlesCalls Q R }
 {}
 
 /// A client sends one request by a number, however often it sends it again.

@@ -22,9 +22,14 @@ pub fn listen_until<T: DeserializeOwned, R: Inlet, D: Decoding, H: Hearer<T>>(
     reader: &mut R,
     hearer: &mut H,
 ) -> Option<End>
-    ensures heard { (limit s : ℕ) (stream : List ℕ) (given : List (Answer T)) → Hears D.inside (Holds T.takes) T.reads limit s receiver.old given stream
-        → (bytes : List ℕ) × HasReadNow (R.to_come reader.old) (R.to_come reader.new) (R.faults reader.old) (R.faults reader.new) (R.calls_left reader.new) result bytes
-        × Handed H.hears hearer.old hearer.new (λ more. IsHeardNow D.inside (Holds T.takes) T.reads limit s result receiver.new (given ++ more) (stream ++ bytes)) }
+    ensures heard { (limit s : ℕ) (stream : List ℕ) (given : List (Answer T))
+        → Hears D.inside (Holds T.takes) T.reads limit s receiver.old given stream
+        → (bytes : List ℕ)
+        × HasReadNow (R.to_come reader.old) (R.to_come reader.new) (R.faults reader.old)
+        (R.faults reader.new) (R.calls_left reader.new) result bytes
+        × Handed H.hears hearer.old hearer.new
+        (λ more. IsHeardNow D.inside (Holds T.takes) T.reads limit s result receiver.new
+        (given ++ more) (stream ++ bytes)) }
     ensures enough { result ≡ None → H.enough hearer.new ≡ true }
     ensures same { SameTerms D.inside receiver.old receiver.new }
 {
@@ -45,9 +50,14 @@ pub fn listen_until_strict<T: DeserializeOwned + Exact, R: Inlet, D: Decoding, H
     reader: &mut R,
     hearer: &mut H,
 ) -> Option<End>
-    ensures heard { (limit s : ℕ) (stream : List ℕ) (given : List (Answer T)) → Hears D.inside (HoldsExactly T.takes) T.reads limit s receiver.old given stream
-        → (bytes : List ℕ) × HasReadNow (R.to_come reader.old) (R.to_come reader.new) (R.faults reader.old) (R.faults reader.new) (R.calls_left reader.new) result bytes
-        × Handed H.hears hearer.old hearer.new (λ more. IsHeardNow D.inside (HoldsExactly T.takes) T.reads limit s result receiver.new (given ++ more) (stream ++ bytes)) }
+    ensures heard { (limit s : ℕ) (stream : List ℕ) (given : List (Answer T))
+        → Hears D.inside (HoldsExactly T.takes) T.reads limit s receiver.old given stream
+        → (bytes : List ℕ)
+        × HasReadNow (R.to_come reader.old) (R.to_come reader.new) (R.faults reader.old)
+        (R.faults reader.new) (R.calls_left reader.new) result bytes
+        × Handed H.hears hearer.old hearer.new
+        (λ more. IsHeardNow D.inside (HoldsExactly T.takes) T.reads limit s result receiver.new
+        (given ++ more) (stream ++ bytes)) }
     ensures enough { result ≡ None → H.enough hearer.new ≡ true }
     ensures same { SameTerms D.inside receiver.old receiver.new }
 {

@@ -1,5 +1,5 @@
 //! Sending one message.
-ghost use Rattle.calls.specs.Places.{place_of, HasSaid};
+ghost use Rattle.calls.specs.Places.{sender_place, HasSaid};
 
 use line_io::Outlet;
 use link::{SendError, Sender};
@@ -11,7 +11,8 @@ pub(crate) fn say<T: Serialize, W: Outlet, const N: usize>(
     message: &T,
 ) -> Result<(), SendError>
     ensures { HasSaid N (T.writes message.now) (T.valid message.now)
-        (place_of W.written W.faults W.calls_left sender.old) (place_of W.written W.faults W.calls_left sender.new) result }
+        (sender_place W.written W.faults W.calls_left sender.old)
+        (sender_place W.written W.faults W.calls_left sender.new) result }
 {
     sender.send(message)
 }

@@ -1,7 +1,7 @@
 //! Executing requests, each number once at most.
 ghost use Rattle.std.specs.Prelude.{◌≡◌, ◌<◌, None, IfSome, false};
 ghost use Rattle.link.specs.Senders.{writer_of, clean_of, sentinel_of};
-ghost use Rattle.calls.specs.Places.{place_of, HasSaid};
+ghost use Rattle.calls.specs.Places.{sender_place, HasSaid};
 ghost use Rattle.calls.specs.Serving.{kept_of, sender_of, IsStanding, IsServed, IsReplied};
 
 use crate::saying::say;
@@ -82,10 +82,13 @@ impl<W: Outlet, R: Serialize + Drop, const N: usize> Server<W, R, N> {
         number: u64,
         request: Q,
     ) -> Served
-        ensures served { IsServed A.executes application.old application.new (kept_of self.old) (kept_of self.new) number request result }
+        ensures served { IsServed A.executes application.old application.new (kept_of self.old)
+            (kept_of self.new) number request result }
         ensures replied { IsReplied (sender_of self.new ≡ sender_of self.old)
-            (λ p r. HasSaid N (⟦<(u64, R) as Serialize>⟧.writes p) (⟦<(u64, R) as Serialize>⟧.valid p)
-            (place_of W.written W.faults W.calls_left (sender_of self.old)) (place_of W.written W.faults W.calls_left (sender_of self.new)) r)
+            (λ p r. HasSaid N (⟦<(u64, R) as Serialize>⟧.writes p)
+            (⟦<(u64, R) as Serialize>⟧.valid p)
+            (sender_place W.written W.faults W.calls_left (sender_of self.old))
+            (sender_place W.written W.faults W.calls_left (sender_of self.new)) r)
             (kept_of self.new) result }
     {
         match self.standing(number) {
@@ -120,8 +123,10 @@ impl<W: Outlet, R: Serialize + Drop, const N: usize> Server<W, R, N> {
 
     // Sends the reply that is kept, where there is one.
     fn send_last(&mut self) -> Result<(), SendError>
-        ensures sent { IfSome (kept_of self.old) (λ p. HasSaid N (⟦<(u64, R) as Serialize>⟧.writes p) (⟦<(u64, R) as Serialize>⟧.valid p)
-            (place_of W.written W.faults W.calls_left (sender_of self.old)) (place_of W.written W.faults W.calls_left (sender_of self.new)) result) }
+        ensures sent { IfSome (kept_of self.old)
+            (λ p. HasSaid N (⟦<(u64, R) as Serialize>⟧.writes p) (⟦<(u64, R) as Serialize>⟧.valid p)
+            (sender_place W.written W.faults W.calls_left (sender_of self.old))
+            (sender_place W.written W.faults W.calls_left (sender_of self.new)) result) }
         ensures kept { kept_of self.new ≡ kept_of self.old }
     {
         match &self.last {

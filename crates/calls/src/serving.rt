@@ -32,9 +32,15 @@ pub fn serve<
     const M: usize,
 >(alloc: Global, reader: &mut I, service: &mut Service<A, W, R, N>) -> End
     requires { ReceiverFitsInMemory M.row }
-    ensures served { (bytes : List ℕ) × HasRead (I.to_come reader.old) (I.to_come reader.new) (I.faults reader.old) (I.faults reader.new) (I.calls_left reader.new) result bytes
-        × Handed (ServiceHears A.executes W.written W.faults W.calls_left ⟦<(u64, R) as Serialize>⟧.writes ⟦<(u64, R) as Serialize>⟧.valid) service.old service.new (λ answers. IsReceived (Holds ⟦<(u64, Q) as Readable>⟧.takes) ⟦<(u64, Q) as Readable>⟧.reads M 0 result answers bytes) }
-    ensures calls { UsesFew (I.to_come reader.old) (I.to_come reader.new) (I.faults reader.old) (I.faults reader.new) (I.calls_left reader.old) (I.calls_left reader.new) 1 }
+    ensures served { (bytes : List ℕ)
+        × HasRead (I.to_come reader.old) (I.to_come reader.new) (I.faults reader.old)
+        (I.faults reader.new) (I.calls_left reader.new) result bytes
+        × Handed (ServiceHears A.executes W.written W.faults W.calls_left
+        ⟦<(u64, R) as Serialize>⟧.writes ⟦<(u64, R) as Serialize>⟧.valid) service.old service.new
+        (λ answers. IsReceived (Holds ⟦<(u64, Q) as Readable>⟧.takes) ⟦<(u64, Q) as Readable>⟧.reads
+        M 0 result answers bytes) }
+    ensures calls { UsesFew (I.to_come reader.old) (I.to_come reader.new) (I.faults reader.old)
+        (I.faults reader.new) (I.calls_left reader.old) (I.calls_left reader.new) 1 }
 {
     serve_with_sentinel::<Q, R, A, I, W, N, M>(alloc, reader, service, 0)
 }
@@ -50,9 +56,15 @@ pub fn serve_with_sentinel<
     const M: usize,
 >(alloc: Global, reader: &mut I, service: &mut Service<A, W, R, N>, sentinel: u8) -> End
     requires { ReceiverFitsInMemory M.row }
-    ensures served { (bytes : List ℕ) × HasRead (I.to_come reader.old) (I.to_come reader.new) (I.faults reader.old) (I.faults reader.new) (I.calls_left reader.new) result bytes
-        × Handed (ServiceHears A.executes W.written W.faults W.calls_left ⟦<(u64, R) as Serialize>⟧.writes ⟦<(u64, R) as Serialize>⟧.valid) service.old service.new (λ answers. IsReceived (Holds ⟦<(u64, Q) as Readable>⟧.takes) ⟦<(u64, Q) as Readable>⟧.reads M sentinel result answers bytes) }
-    ensures calls { UsesFew (I.to_come reader.old) (I.to_come reader.new) (I.faults reader.old) (I.faults reader.new) (I.calls_left reader.old) (I.calls_left reader.new) 1 }
+    ensures served { (bytes : List ℕ)
+        × HasRead (I.to_come reader.old) (I.to_come reader.new) (I.faults reader.old)
+        (I.faults reader.new) (I.calls_left reader.new) result bytes
+        × Handed (ServiceHears A.executes W.written W.faults W.calls_left
+        ⟦<(u64, R) as Serialize>⟧.writes ⟦<(u64, R) as Serialize>⟧.valid) service.old service.new
+        (λ answers. IsReceived (Holds ⟦<(u64, Q) as Readable>⟧.takes) ⟦<(u64, Q) as Readable>⟧.reads
+        M sentinel result answers bytes) }
+    ensures calls { UsesFew (I.to_come reader.old) (I.to_come reader.new) (I.faults reader.old)
+        (I.faults reader.new) (I.calls_left reader.old) (I.calls_left reader.new) 1 }
 {
     match receive_each_with_sentinel::<(u64, Q), I, Service<A, W, R, N>, M>(
         alloc, reader, service, sentinel,
@@ -73,9 +85,15 @@ pub fn serve_strict<
     const M: usize,
 >(alloc: Global, reader: &mut I, service: &mut Service<A, W, R, N>) -> End
     requires { ReceiverFitsInMemory M.row }
-    ensures served { (bytes : List ℕ) × HasRead (I.to_come reader.old) (I.to_come reader.new) (I.faults reader.old) (I.faults reader.new) (I.calls_left reader.new) result bytes
-        × Handed (ServiceHears A.executes W.written W.faults W.calls_left ⟦<(u64, R) as Serialize>⟧.writes ⟦<(u64, R) as Serialize>⟧.valid) service.old service.new (λ answers. IsReceived (HoldsExactly ⟦<(u64, Q) as Readable>⟧.takes) ⟦<(u64, Q) as Readable>⟧.reads M 0 result answers bytes) }
-    ensures calls { UsesFew (I.to_come reader.old) (I.to_come reader.new) (I.faults reader.old) (I.faults reader.new) (I.calls_left reader.old) (I.calls_left reader.new) 1 }
+    ensures served { (bytes : List ℕ)
+        × HasRead (I.to_come reader.old) (I.to_come reader.new) (I.faults reader.old)
+        (I.faults reader.new) (I.calls_left reader.new) result bytes
+        × Handed (ServiceHears A.executes W.written W.faults W.calls_left
+        ⟦<(u64, R) as Serialize>⟧.writes ⟦<(u64, R) as Serialize>⟧.valid) service.old service.new
+        (λ answers. IsReceived (HoldsExactly ⟦<(u64, Q) as Readable>⟧.takes)
+        ⟦<(u64, Q) as Readable>⟧.reads M 0 result answers bytes) }
+    ensures calls { UsesFew (I.to_come reader.old) (I.to_come reader.new) (I.faults reader.old)
+        (I.faults reader.new) (I.calls_left reader.old) (I.calls_left reader.new) 1 }
 {
     serve_strict_with_sentinel::<Q, R, A, I, W, N, M>(alloc, reader, service, 0)
 }
@@ -91,9 +109,15 @@ pub fn serve_strict_with_sentinel<
     const M: usize,
 >(alloc: Global, reader: &mut I, service: &mut Service<A, W, R, N>, sentinel: u8) -> End
     requires { ReceiverFitsInMemory M.row }
-    ensures served { (bytes : List ℕ) × HasRead (I.to_come reader.old) (I.to_come reader.new) (I.faults reader.old) (I.faults reader.new) (I.calls_left reader.new) result bytes
-        × Handed (ServiceHears A.executes W.written W.faults W.calls_left ⟦<(u64, R) as Serialize>⟧.writes ⟦<(u64, R) as Serialize>⟧.valid) service.old service.new (λ answers. IsReceived (HoldsExactly ⟦<(u64, Q) as Readable>⟧.takes) ⟦<(u64, Q) as Readable>⟧.reads M sentinel result answers bytes) }
-    ensures calls { UsesFew (I.to_come reader.old) (I.to_come reader.new) (I.faults reader.old) (I.faults reader.new) (I.calls_left reader.old) (I.calls_left reader.new) 1 }
+    ensures served { (bytes : List ℕ)
+        × HasRead (I.to_come reader.old) (I.to_come reader.new) (I.faults reader.old)
+        (I.faults reader.new) (I.calls_left reader.new) result bytes
+        × Handed (ServiceHears A.executes W.written W.faults W.calls_left
+        ⟦<(u64, R) as Serialize>⟧.writes ⟦<(u64, R) as Serialize>⟧.valid) service.old service.new
+        (λ answers. IsReceived (HoldsExactly ⟦<(u64, Q) as Readable>⟧.takes)
+        ⟦<(u64, Q) as Readable>⟧.reads M sentinel result answers bytes) }
+    ensures calls { UsesFew (I.to_come reader.old) (I.to_come reader.new) (I.faults reader.old)
+        (I.faults reader.new) (I.calls_left reader.old) (I.calls_left reader.new) 1 }
 {
     match receive_each_strict_with_sentinel::<(u64, Q), I, Service<A, W, R, N>, M>(
         alloc, reader, service, sentinel,
@@ -119,9 +143,15 @@ pub fn serve_owned<
     limit: usize,
     sentinel: u8,
 ) -> Result<End, NoMemory>
-    ensures served { IfOk result (λ end. (bytes : List ℕ) × HasRead (I.to_come reader.old) (I.to_come reader.new) (I.faults reader.old) (I.faults reader.new) (I.calls_left reader.new) end bytes
-        × Handed (ServiceHears A.executes W.written W.faults W.calls_left ⟦<(u64, R) as Serialize>⟧.writes ⟦<(u64, R) as Serialize>⟧.valid) service.old service.new (λ answers. IsReceived (Holds ⟦<(u64, Q) as Readable>⟧.takes) ⟦<(u64, Q) as Readable>⟧.reads limit sentinel end answers bytes)) }
-    ensures calls { UsesFew (I.to_come reader.old) (I.to_come reader.new) (I.faults reader.old) (I.faults reader.new) (I.calls_left reader.old) (I.calls_left reader.new) 1 }
+    ensures served { IfOk result (λ end. (bytes : List ℕ)
+        × HasRead (I.to_come reader.old) (I.to_come reader.new) (I.faults reader.old)
+        (I.faults reader.new) (I.calls_left reader.new) end bytes
+        × Handed (ServiceHears A.executes W.written W.faults W.calls_left
+        ⟦<(u64, R) as Serialize>⟧.writes ⟦<(u64, R) as Serialize>⟧.valid) service.old service.new
+        (λ answers. IsReceived (Holds ⟦<(u64, Q) as Readable>⟧.takes) ⟦<(u64, Q) as Readable>⟧.reads
+        limit sentinel end answers bytes)) }
+    ensures calls { UsesFew (I.to_come reader.old) (I.to_come reader.new) (I.faults reader.old)
+        (I.faults reader.new) (I.calls_left reader.old) (I.calls_left reader.new) 1 }
     ensures unmade { OnErr result ((reader.new ≡ reader.old) × (service.new ≡ service.old)) }
 {
     match receive_each_owned::<(u64, Q), I, Service<A, W, R, N>>(
@@ -148,9 +178,15 @@ pub fn serve_owned_strict<
     limit: usize,
     sentinel: u8,
 ) -> Result<End, NoMemory>
-    ensures served { IfOk result (λ end. (bytes : List ℕ) × HasRead (I.to_come reader.old) (I.to_come reader.new) (I.faults reader.old) (I.faults reader.new) (I.calls_left reader.new) end bytes
-        × Handed (ServiceHears A.executes W.written W.faults W.calls_left ⟦<(u64, R) as Serialize>⟧.writes ⟦<(u64, R) as Serialize>⟧.valid) service.old service.new (λ answers. IsReceived (HoldsExactly ⟦<(u64, Q) as Readable>⟧.takes) ⟦<(u64, Q) as Readable>⟧.reads limit sentinel end answers bytes)) }
-    ensures calls { UsesFew (I.to_come reader.old) (I.to_come reader.new) (I.faults reader.old) (I.faults reader.new) (I.calls_left reader.old) (I.calls_left reader.new) 1 }
+    ensures served { IfOk result (λ end. (bytes : List ℕ)
+        × HasRead (I.to_come reader.old) (I.to_come reader.new) (I.faults reader.old)
+        (I.faults reader.new) (I.calls_left reader.new) end bytes
+        × Handed (ServiceHears A.executes W.written W.faults W.calls_left
+        ⟦<(u64, R) as Serialize>⟧.writes ⟦<(u64, R) as Serialize>⟧.valid) service.old service.new
+        (λ answers. IsReceived (HoldsExactly ⟦<(u64, Q) as Readable>⟧.takes)
+        ⟦<(u64, Q) as Readable>⟧.reads limit sentinel end answers bytes)) }
+    ensures calls { UsesFew (I.to_come reader.old) (I.to_come reader.new) (I.faults reader.old)
+        (I.faults reader.new) (I.calls_left reader.old) (I.calls_left reader.new) 1 }
     ensures unmade { OnErr result ((reader.new ≡ reader.old) × (service.new ≡ service.old)) }
 {
     match receive_each_owned_strict::<(u64, Q), I, Service<A, W, R, N>>(

@@ -70,9 +70,16 @@ pub fn wait<
     reader: &mut I,
     waiting: &mut Waiting<W, Q, R, N>,
 ) -> Option<End>
-    ensures heard { (limit s : ℕ) (stream : List ℕ) (given : List (Answer (ℕ × R))) → Hears D.inside (Holds ⟦<(u64, R) as Readable>⟧.takes) ⟦<(u64, R) as Readable>⟧.reads limit s receiver.old given stream
-        → (bytes : List ℕ) × HasReadNow (I.to_come reader.old) (I.to_come reader.new) (I.faults reader.old) (I.faults reader.new) (I.calls_left reader.new) result bytes
-        × Handed WaitingHears waiting.old waiting.new (λ more. IsHeardNow D.inside (Holds ⟦<(u64, R) as Readable>⟧.takes) ⟦<(u64, R) as Readable>⟧.reads limit s result receiver.new (given ++ more) (stream ++ bytes)) }
+    ensures heard { (limit s : ℕ) (stream : List ℕ) (given : List (Answer (ℕ × R)))
+        → Hears D.inside (Holds ⟦<(u64, R) as Readable>⟧.takes) ⟦<(u64, R) as Readable>⟧.reads limit
+        s receiver.old given stream
+        → (bytes : List ℕ)
+        × HasReadNow (I.to_come reader.old) (I.to_come reader.new) (I.faults reader.old)
+        (I.faults reader.new) (I.calls_left reader.new) result bytes
+        × Handed WaitingHears waiting.old waiting.new
+        (λ more. IsHeardNow D.inside (Holds ⟦<(u64, R) as Readable>⟧.takes)
+        ⟦<(u64, R) as Readable>⟧.reads limit s result receiver.new (given ++ more)
+        (stream ++ bytes)) }
     ensures over { result ≡ None → is_over (asker_of waiting.new.client) ≡ true }
     ensures same { SameTerms D.inside receiver.old receiver.new }
 {
@@ -93,9 +100,16 @@ pub fn wait_strict<
     reader: &mut I,
     waiting: &mut Waiting<W, Q, R, N>,
 ) -> Option<End>
-    ensures heard { (limit s : ℕ) (stream : List ℕ) (given : List (Answer (ℕ × R))) → Hears D.inside (HoldsExactly ⟦<(u64, R) as Readable>⟧.takes) ⟦<(u64, R) as Readable>⟧.reads limit s receiver.old given stream
-        → (bytes : List ℕ) × HasReadNow (I.to_come reader.old) (I.to_come reader.new) (I.faults reader.old) (I.faults reader.new) (I.calls_left reader.new) result bytes
-        × Handed WaitingHears waiting.old waiting.new (λ more. IsHeardNow D.inside (HoldsExactly ⟦<(u64, R) as Readable>⟧.takes) ⟦<(u64, R) as Readable>⟧.reads limit s result receiver.new (given ++ more) (stream ++ bytes)) }
+    ensures heard { (limit s : ℕ) (stream : List ℕ) (given : List (Answer (ℕ × R)))
+        → Hears D.inside (HoldsExactly ⟦<(u64, R) as Readable>⟧.takes)
+        ⟦<(u64, R) as Readable>⟧.reads limit s receiver.old given stream
+        → (bytes : List ℕ)
+        × HasReadNow (I.to_come reader.old) (I.to_come reader.new) (I.faults reader.old)
+        (I.faults reader.new) (I.calls_left reader.new) result bytes
+        × Handed WaitingHears waiting.old waiting.new
+        (λ more. IsHeardNow D.inside (HoldsExactly ⟦<(u64, R) as Readable>⟧.takes)
+        ⟦<(u64, R) as Readable>⟧.reads limit s result receiver.new (given ++ more)
+        (stream ++ bytes)) }
     ensures over { result ≡ None → is_over (asker_of waiting.new.client) ≡ true }
     ensures same { SameTerms D.inside receiver.old receiver.new }
 {

@@ -1,4 +1,4 @@
-pub mod Fronts
-pub mod Outcomes
-pub mod Right
-pub mod Steps
+pub mod FrontsLemmas
+pub mod OutcomesLemmas
+pub mod RightLemmas
+pub mod StepsLemmas

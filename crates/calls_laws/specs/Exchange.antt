@@ -6,7 +6,7 @@ use Rattle.std.specs.Mem.{FitsInMemory}
 use Rattle.postcard_tree.specs.Tree.{Tree}
 use Rattle.link.specs.Listening.{IsReceived, ReceiverFitsInMemory}
 use Rattle.calls.specs.Calls.{Execution, ServesAll, In}
-use Rattle.calls.specs.Places.{Place, SaysAll}
+use Rattle.calls.specs.Places.{SenderPlace, SaysAll}
 use Rattle.calls.specs.Serving.{Runs, requests_of}
 use Rattle.link.specs.declared.session.Fate.{Fate}
 use Rattle.link.specs.declared.receiver.Answer.{Answer}
@@ -31,8 +31,8 @@ ExecutedAtMostOnce {R = R} executes alike_asked old new asked = (new ≡ old) �
 -- Messages were sent over an empty line by a new sender, one behind another, each perhaps broken off at any byte: these bytes are
 -- there.
 pub record LeftBy {V : Type 0} (limit s : ℕ) (writes : V → Option Tree) (valid : V → Type 0) (messages : List V) (bytes : List ℕ) : Type 0 where
-  pub start : Place
-  pub stop : Place
+  pub start : SenderPlace
+  pub stop : SenderPlace
   pub fates : List Fate
   pub said : SaysAll limit writes valid start stop messages fates
   pub empty : start.told ≡ Some []
@@ -49,7 +49,7 @@ pub record HeardFront {V : Type 0} (holds : List ℕ → Tree → Type 0) (reads
   pub received : IsReceived holds reads limit s end answers front
 
 -- What a client sends that calls and sends the call again: this message alone; and its call is pending, where one is.
-pub record Repeats {Q : Type 0} (limit : ℕ) (writes : ℕ × Q → Option Tree) (valid : ℕ × Q → Type 0) (asked : ℕ × Q) (pending : Option (ℕ × Q)) (start stop : Place) : Type 0 where
+pub record Repeats {Q : Type 0} (limit : ℕ) (writes : ℕ × Q → Option Tree) (valid : ℕ × Q → Type 0) (asked : ℕ × Q) (pending : Option (ℕ × Q)) (start stop : SenderPlace) : Type 0 where
   pub messages : List (ℕ × Q)
   pub fates : List Fate
   pub said : SaysAll limit writes valid start stop messages fates

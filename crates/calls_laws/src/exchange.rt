@@ -91,7 +91,8 @@ pub fn call_once<
     ensures replied { IfSome result.said (λ taken.
         ExecutedOnce A.executes Q.alike application result.application request
         (λ says. R.alike says taken)) }
-    ensures at_most_once { ExecutedAtMostOnce A.executes Q.alike application result.application request }
+    ensures at_most_once { ExecutedAtMostOnce A.executes Q.alike application
+        result.application request }
 {
     link_laws::carries::<(u64, Q)>();
     link_laws::carries::<(u64, R)>();
@@ -154,7 +155,8 @@ pub fn call_once_strict<
     ensures replied { IfSome result.said (λ taken.
         ExecutedOnce A.executes Q.alike application result.application request
         (λ says. R.alike says taken)) }
-    ensures at_most_once { ExecutedAtMostOnce A.executes Q.alike application result.application request }
+    ensures at_most_once { ExecutedAtMostOnce A.executes Q.alike application
+        result.application request }
 {
     link_laws::carries::<(u64, Q)>();
     link_laws::carries::<(u64, R)>();

@@ -13,11 +13,19 @@ use postcard::{Lawful, Readable, Serialize};
 /// serves what the first line gives, and frames within the receivers' limits. Either reading may have ended anyhow.
 pub fn calls<Q: Lawful, R: Lawful>()
     ensures ordinary { RepliesAreRight Q.alike R.alike
-        (WentOver ⟦<(u64, Q) as Readable>⟧.takes (Holds ⟦<(u64, Q) as Readable>⟧.takes) ⟦<(u64, Q) as Readable>⟧.reads ⟦<(u64, Q) as Serialize>⟧.writes ⟦<(u64, Q) as Serialize>⟧.valid)
-        (WentOver ⟦<(u64, R) as Readable>⟧.takes (Holds ⟦<(u64, R) as Readable>⟧.takes) ⟦<(u64, R) as Readable>⟧.reads ⟦<(u64, R) as Serialize>⟧.writes ⟦<(u64, R) as Serialize>⟧.valid) }
+        (WentOver ⟦<(u64, Q) as Readable>⟧.takes (Holds ⟦<(u64, Q) as Readable>⟧.takes)
+        ⟦<(u64, Q) as Readable>⟧.reads ⟦<(u64, Q) as Serialize>⟧.writes
+        ⟦<(u64, Q) as Serialize>⟧.valid)
+        (WentOver ⟦<(u64, R) as Readable>⟧.takes (Holds ⟦<(u64, R) as Readable>⟧.takes)
+        ⟦<(u64, R) as Readable>⟧.reads ⟦<(u64, R) as Serialize>⟧.writes
+        ⟦<(u64, R) as Serialize>⟧.valid) }
     ensures strict { RepliesAreRight Q.alike R.alike
-        (WentOver ⟦<(u64, Q) as Readable>⟧.takes (HoldsExactly ⟦<(u64, Q) as Readable>⟧.takes) ⟦<(u64, Q) as Readable>⟧.reads ⟦<(u64, Q) as Serialize>⟧.writes ⟦<(u64, Q) as Serialize>⟧.valid)
-        (WentOver ⟦<(u64, R) as Readable>⟧.takes (HoldsExactly ⟦<(u64, R) as Readable>⟧.takes) ⟦<(u64, R) as Readable>⟧.reads ⟦<(u64, R) as Serialize>⟧.writes ⟦<(u64, R) as Serialize>⟧.valid) }
+        (WentOver ⟦<(u64, Q) as Readable>⟧.takes (HoldsExactly ⟦<(u64, Q) as Readable>⟧.takes)
+        ⟦<(u64, Q) as Readable>⟧.reads ⟦<(u64, Q) as Serialize>⟧.writes
+        ⟦<(u64, Q) as Serialize>⟧.valid)
+        (WentOver ⟦<(u64, R) as Readable>⟧.takes (HoldsExactly ⟦<(u64, R) as Readable>⟧.takes)
+        ⟦<(u64, R) as Readable>⟧.reads ⟦<(u64, R) as Serialize>⟧.writes
+        ⟦<(u64, R) as Serialize>⟧.valid) }
 {
     heard_was_sent::<(u64, Q)>();
     heard_was_sent::<(u64, R)>();

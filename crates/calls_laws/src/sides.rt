@@ -4,7 +4,7 @@ ghost use Rattle.postcard.specs.Frames.{Holds};
 ghost use Rattle.link.specs.Stream.{HoldsExactly};
 ghost use Rattle.link.specs.Listening.{ReceiverFitsInMemory};
 ghost use Rattle.calls.specs.Asking.{asker_of, sender_of};
-ghost use Rattle.calls.specs.Places.{place_of};
+ghost use Rattle.calls.specs.Places.{sender_place};
 ghost use Rattle.calls_laws.specs.Exchange.{AsksOnly, ServesLine, TakesReply, Repeats, ClientFitsInMemory, ServerFitsInMemory, ServiceFitsInMemory, WaitingFitsInMemory};
 
 use crate::exchange::Kept;
@@ -28,8 +28,8 @@ fn repeat<Q: Serialize + Drop, W: Outlet, const N: usize>(
     ensures { Repeats N ⟦<(u64, Q) as Serialize>⟧.writes
         ⟦<(u64, Q) as Serialize>⟧.valid
         ((asker_of client.old).next, request) (asker_of client.new).pending
-        (place_of W.written W.faults W.calls_left (sender_of client.old))
-        (place_of W.written W.faults W.calls_left (sender_of client.new)) }
+        (sender_place W.written W.faults W.calls_left (sender_of client.old))
+        (sender_place W.written W.faults W.calls_left (sender_of client.new)) }
 {
     let _called = client.call(request);
     for _ in 0..again {

@@ -2,7 +2,7 @@
 use Rattle.std.specs.Prelude.{List, ℕ}
 use Rattle.std.specs.Borrow.{Lends, MutBor, Fml, RattleType, u8, Array}
 use Rattle.arrayvec.specs.ArrayVec.{with_items}
-use Rattle.cobs.specs.Streaming.{Stands}
+use Rattle.cobs.specs.Streaming.{HasStreamed}
 use Rattle.cobs.specs.declared.dec.progress.Progress.{Progress}
 use Rattle.cobs.specs.declared.dec.heapless.CobsDecoderHeapless.{CobsDecoderHeapless}
 use Rattle.cobs.specs.contracts.dec.heapless.CobsDecoderHeapless.{the_row}
@@ -22,7 +22,7 @@ module _ {N : ℕ} where
 
   -- The bytes of this frame so far, as they are for the sentinel zero, were taken in.
   abbrev pub ArrayHas : CobsDecoderHeapless N → List ℕ → Type 0
-  ArrayHas d bytes = Stands (array_progress d) bytes
+  ArrayHas d bytes = HasStreamed (array_progress d) bytes
 
   -- the same decoder with this in its buffer
   abbrev pub with_array_buffer : CobsDecoderHeapless N → List ℕ → CobsDecoderHeapless N

@@ -82,13 +82,13 @@ RefusesStretches = (room : ℕ) (bytes : List ℕ) → AllByRecursion (λ b. (0 
     × (message_of_stretch bytes ≡ Err (InvalidFrame (length (part bytes))))
 
 -- what pushing comes to: the answer, the bytes of the frame so far, and the buffer
-pub record Outcome : Type 0 where
+pub record DecodingOutcome : Type 0 where
   pub answer : Result (Option DecodeReport) DecodeError
   pub frame : List ℕ
   pub buffer : List ℕ
 
 -- what pushing a piece comes to, of a decoder with so much room that stands behind these bytes of a frame
-abbrev pub pushed : ℕ → List ℕ → List ℕ → List ℕ → Outcome
+abbrev pub pushed : ℕ → List ℕ → List ℕ → List ℕ → DecodingOutcome
 pushed room frame buffer piece = record { answer = first_answer room frame piece 0; frame = frame_left room frame piece; buffer = buffer_left room frame piece buffer }
 
 -- the same answer, counted from so many bytes earlier
@@ -99,14 +99,14 @@ moved earlier (Ok (Some r)) = Ok (Some (report (earlier + parsed_size r) (frame_
 moved earlier (Err e) = Err e
 
 -- the first outcome that has an answer
-abbrev pub or_later : Result (Option DecodeReport) DecodeError → Outcome → ℕ → Outcome → Outcome
+abbrev pub or_later : Result (Option DecodeReport) DecodeError → DecodingOutcome → ℕ → DecodingOutcome → DecodingOutcome
 or_later (Ok None) now used later =
     record { answer = moved used later.answer; frame = later.frame; buffer = later.buffer }
 or_later (Ok (Some r)) now used later = now
 or_later (Err e) now used later = now
 
 -- what pushing pieces in turn comes to, up to the first answer
-abbrev pub pushed_in_turn : ℕ → List ℕ → List ℕ → List (List ℕ) → Outcome
+abbrev pub pushed_in_turn : ℕ → List ℕ → List ℕ → List (List ℕ) → DecodingOutcome
 pushed_in_turn room frame buffer [] = record { answer = Ok None; frame = frame; buffer = buffer }
 pushed_in_turn room frame buffer (piece ∷ pieces) =
     or_later (first_answer room frame piece 0) (pushed room frame buffer piece) (length piece)

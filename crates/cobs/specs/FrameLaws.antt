@@ -2,9 +2,9 @@
 use Rattle.std.specs.Prelude.{◌≡◌, ◌≢◌, ◌↔◌, ◌⊎◌, ℕ, ◌+◌, ◌-◌, ◌<◌, ◌≤◌, List, [], ◌∷◌, ◌++◌, length, bit_xor}
 use Rattle.std.specs.List.{AllByRecursion}
 use Rattle.cobs.specs.Frames.{NoZero, Frame, Shortest, Longest, part, missing, shortest_frame, longest_frame, most_length}
-use Rattle.cobs.specs.Cases.{OneBlock, MoreBlocks, trailing, IsFull}
+use Rattle.cobs.specs.Cases.{OneBlock, MoreBlocks, trailing, FillsBlocks}
 use Rattle.cobs.specs.Sentinel.{masked}
-use Rattle.cobs.specs.Thinner.{Within}
+use Rattle.cobs.specs.Thinner.{IsThinner}
 
 -- A frame is one block, or a block and then a frame.
 abbrev pub GoesByBlocks : Type 0
@@ -24,13 +24,13 @@ HasOneLongest = (message : List ℕ) → Longest (longest_frame message) message
 -- A message has a frame beside its shortest one exactly where it ends in a full run: the same and then a block 01.
 abbrev pub HasOneOther : Type 0
 HasOneOther = (frame message : List ℕ) → (Frame frame message × (frame ≢ shortest_frame message))
-    ↔ (IsFull (trailing message) × (frame ≡ shortest_frame message ++ 1 ∷ []))
+    ↔ (FillsBlocks (trailing message) × (frame ≡ shortest_frame message ++ 1 ∷ []))
 
 -- The longest frame is that other one, or else the shortest one.
 abbrev pub LongestIsOther : Type 0
 LongestIsOther = (message : List ℕ)
-    → (IsFull (trailing message) × (longest_frame message ≡ shortest_frame message ++ 1 ∷ []))
-    ⊎ ((¬ IsFull (trailing message)) × (longest_frame message ≡ shortest_frame message))
+    → (FillsBlocks (trailing message) × (longest_frame message ≡ shortest_frame message ++ 1 ∷ []))
+    ⊎ ((¬ FillsBlocks (trailing message)) × (longest_frame message ≡ shortest_frame message))
 
 -- A frame has one message, which its bytes decide.
 abbrev pub HasOneMessage : Type 0
@@ -92,12 +92,12 @@ IsFrameAtEachBlockEnd =
     → ((begun : List ℕ) × Frame front begun) ↔ (missing front ≡ 0)
 
 -- Where a proper front of a shortest frame is itself a frame, its message is a proper beginning of the message.
-abbrev pub BeginsProperly : Type 0
-BeginsProperly = (frame message front rest begun : List ℕ) → Shortest frame message
+abbrev pub FrontsBeginProperly : Type 0
+FrontsBeginProperly = (frame message front rest begun : List ℕ) → Shortest frame message
     → frame ≡ front ++ rest → rest ≢ [] → Frame front begun
     → (later : List ℕ) × (message ≡ begun ++ later) × (later ≢ [])
 
 -- Where a message's zeros and other bytes are, in order, among those of another, its shortest frame isn't longer.
 abbrev pub GrowsWithItsBytes : Type 0
 GrowsWithItsBytes =
-    (a b : List ℕ) → Within a b → length (shortest_frame a) ≤ length (shortest_frame b)
+    (a b : List ℕ) → IsThinner a b → length (shortest_frame a) ≤ length (shortest_frame b)

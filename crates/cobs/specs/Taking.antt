@@ -6,7 +6,7 @@ use Rattle.cobs.specs.Feeding.{answer_of, frame_after, placed}
 use Rattle.cobs.specs.InPlace.{written_over}
 use Rattle.cobs.specs.Pieces.{first_answer, frame_left, frame_met, buffer_left}
 use Rattle.cobs.specs.Reports.{parsed_size, frame_size}
-use Rattle.cobs.specs.Streaming.{Stands, Decoded}
+use Rattle.cobs.specs.Streaming.{HasStreamed, Decoded}
 use Rattle.cobs.specs.declared.dec.report.DecodeError.{DecodeError}
 use Rattle.cobs.specs.declared.dec.state.DecoderState.{DecoderState}
 use Rattle.cobs.specs.declared.dec.state.DecoderState.TheVariants.{Idle, Grab, GrabChain}
@@ -15,13 +15,13 @@ use Rattle.cobs.specs.declared.dec.progress.Progress.{Progress}
 
 -- A byte is fed, behind any bytes p of a frame: which bytes those are then, the answer, what stands in the buffer; where
 -- its front had the message so far, that it still has, and that an answer is a whole message.
-pub record TakesByte (before : Progress) (old : List ℕ) (byte : ℕ)
+pub record FeedsByte (before : Progress) (old : List ℕ) (byte : ℕ)
     (result : Result (Option ℕ) DecodeError) (behind : Progress) (new : List ℕ) : Type 0 where
-  pub has : (p : List ℕ) → Stands before p → Stands behind (frame_after p byte)
-  pub answer : (p : List ℕ) → Stands before p → result ≡ answer_of (length old) p byte
-  pub buffer : (p : List ℕ) → Stands before p → new ≡ placed p byte old
-  pub decoded : (p : List ℕ) → Stands before p → Decoded old p → Decoded new (frame_after p byte)
-  pub message : (p : List ℕ) → Stands before p → Decoded old p
+  pub has : (p : List ℕ) → HasStreamed before p → HasStreamed behind (frame_after p byte)
+  pub answer : (p : List ℕ) → HasStreamed before p → result ≡ answer_of (length old) p byte
+  pub buffer : (p : List ℕ) → HasStreamed before p → new ≡ placed p byte old
+  pub decoded : (p : List ℕ) → HasStreamed before p → Decoded old p → Decoded new (frame_after p byte)
+  pub message : (p : List ℕ) → HasStreamed before p → Decoded old p
       → IfOk result (λ o. IfSome o (λ n. take n new ≡ part p))
   pub within : IfOk result (λ o. IfSome o (λ n. n ≤ length new))
   pub room : length new ≡ length old
@@ -30,12 +30,12 @@ pub record TakesByte (before : Progress) (old : List ℕ) (byte : ℕ)
 pub record TakesPiece (before : Progress) (old piece : List ℕ)
     (result : Result (Option DecodeReport) DecodeError)
     (behind : Progress) (new : List ℕ) : Type 0 where
-  pub has : (p : List ℕ) → Stands before p → Stands behind (frame_left (length old) p piece)
-  pub answer : (p : List ℕ) → Stands before p → result ≡ first_answer (length old) p piece 0
-  pub buffer : (p : List ℕ) → Stands before p → new ≡ buffer_left (length old) p piece old
-  pub decoded : (p : List ℕ) → Stands before p → Decoded old p
+  pub has : (p : List ℕ) → HasStreamed before p → HasStreamed behind (frame_left (length old) p piece)
+  pub answer : (p : List ℕ) → HasStreamed before p → result ≡ first_answer (length old) p piece 0
+  pub buffer : (p : List ℕ) → HasStreamed before p → new ≡ buffer_left (length old) p piece old
+  pub decoded : (p : List ℕ) → HasStreamed before p → Decoded old p
       → Decoded new (frame_left (length old) p piece)
-  pub message : (p : List ℕ) → Stands before p → Decoded old p → IfOk result
+  pub message : (p : List ℕ) → HasStreamed before p → Decoded old p → IfOk result
       (λ o. IfSome o (λ r. take (frame_size r) new ≡ part (frame_met (length old) p piece)))
   pub within : IfOk result
       (λ o. IfSome o (λ r. (parsed_size r ≤ length piece) × (frame_size r ≤ length new)))
@@ -48,7 +48,7 @@ pub record TakesFront (p piece old : List ℕ) (n : ℕ)
   pub within : n ≤ length piece
   pub clear : NoZero (take n piece)
   pub fits : 0 < n → length (part (p ++ take n piece)) ≤ length old
-  pub has : Stands behind (p ++ take n piece)
+  pub has : HasStreamed behind (p ++ take n piece)
   pub buffer : 0 < n → new ≡ written_over (length (part p))
       (part_from (after 0 false p).0 (after 0 false p).1 (take n piece)) old
   pub same : n ≡ 0 → new ≡ old

@@ -48,6 +48,6 @@ message_of_frame [] = Err EmptyFrame
 message_of_frame (code ∷ bytes) = message_of_stretch (code ∷ bytes)
 
 -- the error is that of the decoding, or out of memory
-abbrev pub Refuses : DecodeVecError → Result (List ℕ) DecodeError → Type 0
-Refuses (Decode e) message = message ≡ Err e
-Refuses OutOfMemory message = Unit {0}
+abbrev pub RefusesWhole : DecodeVecError → Result (List ℕ) DecodeError → Type 0
+RefusesWhole (Decode e) message = message ≡ Err e
+RefusesWhole OutOfMemory message = Unit {0}

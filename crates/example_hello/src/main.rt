@@ -54,7 +54,8 @@ impl Readable for Reading {
 
     ghost refuses = { ⟦<ShapeOf<Self> as Readable>⟧.refuses };
 
-    ghost alike = { λ v w. ⟦<ShapeOf<Self> as Readable>⟧.alike (⟦<Self as Shaped>⟧.shape v) (⟦<Self as Shaped>⟧.shape w) };
+    ghost alike = { λ v w. ⟦<ShapeOf<Self> as Readable>⟧.alike (⟦<Self as Shaped>⟧.shape v)
+        (⟦<Self as Shaped>⟧.shape w) };
 
     ghost growing = { ⟦<ShapeOf<Self> as Readable>⟧.growing };
 

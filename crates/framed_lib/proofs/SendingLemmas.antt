@@ -6,9 +6,9 @@ use Rattle.std.proofs.lemmas.List.Splits.{slice_split_at, slice_split_none, leng
 use Rattle.postcard_tree.specs.Tree.{Tree}
 use Rattle.link.specs.Run.{Send, completed, refused, broken, sent, written, clean_after, session_line}
 use Rattle.link.specs.Fates.{clean_after_all}
-use Rattle.framed_lib.specs.Pieces.{Lacks, pieces}
+use Rattle.framed_lib.specs.Pieces.{LacksMark, pieces}
 use Rattle.framed_lib.specs.Program.{SaysFirst}
-use Rattle.framed_lib.specs.Sending.{filled, lines_in, IsSendable, IsSendOf, AreSendsOf, is_whole, all_sent, said_of, refusals, Sent}
+use Rattle.framed_lib.specs.Sending.{filled, lines_in, IsSendable, IsSendOfLine, AreSendsOf, is_whole, all_sent, said_of, refusals, Sent}
 
 pieces-some : (bytes : List ℕ) → 0 < length (pieces 10 bytes)
 pieces-some bytes = omega (arith, length-slice_split (λ b. b == 10) bytes)
@@ -18,21 +18,21 @@ filled-more line [] some = absurd (omega arith)
 filled-more [] (p ∷ ps) some = refl
 filled-more (b ∷ bytes) (p ∷ ps) some = refl
 
-lines-more : (line tail : List ℕ) → Lacks 10 line → lines_in (line ++ 10 ∷ tail) ≡ line ∷ lines_in tail
+lines-more : (line tail : List ℕ) → LacksMark 10 line → lines_in (line ++ 10 ∷ tail) ≡ line ∷ lines_in tail
 lines-more line tail h = ap filled (slice_split_at (λ b. b == 10) line 10 tail h refl) ∙ filled-more line (pieces 10 tail) (pieces-some tail)
 
 filled-last : (rest : List ℕ) → 0 < length rest → filled (rest ∷ []) ≡ rest ∷ []
 filled-last [] some = absurd (omega arith)
 filled-last (b ∷ rest) some = refl
 
-lines-last : (rest : List ℕ) → Lacks 10 rest → 0 < length rest → lines_in rest ≡ rest ∷ []
+lines-last : (rest : List ℕ) → LacksMark 10 rest → 0 < length rest → lines_in rest ≡ rest ∷ []
 lines-last rest h some = ap filled (slice_split_none (λ b. b == 10) rest h) ∙ filled-last rest some
 
 lines-none : (rest : List ℕ) → length rest ≡ 0 → lines_in rest ≡ []
 lines-none [] h = refl
 lines-none (b ∷ rest) h = absurd (omega arith)
 
-sends-more : (lines : List (List ℕ)) (done : List Send) (line : List ℕ) (x : Send) → AreSendsOf lines done → IsSendOf line x → AreSendsOf (lines ++ line ∷ []) (done ++ x ∷ [])
+sends-more : (lines : List (List ℕ)) (done : List Send) (line : List ℕ) (x : Send) → AreSendsOf lines done → IsSendOfLine line x → AreSendsOf (lines ++ line ∷ []) (done ++ x ∷ [])
 sends-more [] [] line x e o = (o, tt)
 sends-more [] (d ∷ done) line x e o = absurd e
 sends-more (l ∷ lines) [] line x e o = absurd e
@@ -42,14 +42,14 @@ pub Sent-none : (text : List ℕ) → Sent text text []
 Sent-none text = record { seen = []; lines_are = refl; are = tt }
 
 -- the next line of the rest, and those behind it
-pub next-line : (rest line tail : List ℕ) → rest ≡ line ++ 10 ∷ tail → Lacks 10 line → lines_in rest ≡ line ∷ lines_in tail
+pub next-line : (rest line tail : List ℕ) → rest ≡ line ++ 10 ∷ tail → LacksMark 10 line → lines_in rest ≡ line ∷ lines_in tail
 next-line rest line tail e h = ap lines_in e ∙ lines-more line tail h
 
-pub last-line : (rest : List ℕ) → Lacks 10 rest → 0 < length rest → lines_in rest ≡ rest ∷ []
+pub last-line : (rest : List ℕ) → LacksMark 10 rest → 0 < length rest → lines_in rest ≡ rest ∷ []
 last-line rest h some = lines-last rest h some
 
 pub Sent-more : (text rest line tail : List ℕ) (done : List Send) (x : Send) → Sent text rest done
-    → lines_in rest ≡ line ∷ lines_in tail → IsSendOf line x → Sent text tail (done ++ x ∷ [])
+    → lines_in rest ≡ line ∷ lines_in tail → IsSendOfLine line x → Sent text tail (done ++ x ∷ [])
 Sent-more text rest line tail done x p e o = record {
   seen = p.seen ++ line ∷ [];
   lines_are = p.lines_are ∙ (ap (λ l. p.seen ++ l) e ∙ sym (append_assoc p.seen (line ∷ []) (lines_in tail)));
@@ -61,7 +61,7 @@ Sent-all text rest done p h = rw (p.lines_are, lines-none rest h, append-nil p.s
 
 -- standard error failed at the refusal of a line
 pub Sent-first : (text rest line : List ℕ) (later : List (List ℕ)) (done : List Send) (x : Send) → Sent text rest done → lines_in rest ≡ line ∷ later
-    → IsSendOf line x → SaysFirst text (refusals 1 (done ++ x ∷ []))
+    → IsSendOfLine line x → SaysFirst text (refusals 1 (done ++ x ∷ []))
 Sent-first text rest line later done x p e o = record {
   seen = p.seen ++ line ∷ [];
   later = later;
@@ -129,7 +129,7 @@ module _ (text rest line : List ℕ) (later : List (List ℕ)) (number : ℕ) (d
     (n : number ≡ length done + 1) (breaks untold : List ℕ → Type 0)
     (fail : (x : Send) → breaks (said_of number x) → untold (refusals 1 done ++ said_of number x)) where
   -- a line that ends the work on all lines
-  pub stops : (x : Send) × IsSendOf line x × breaks (said_of number x) → (said : List ℕ) × SaysFirst text said × untold said
+  pub stops : (x : Send) × IsSendOfLine line x × breaks (said_of number x) → (said : List ℕ) × SaysFirst text said × untold said
   stops h = (
     refusals 1 (done ++ h.0 ∷ []),
     Sent-first text rest line later done h.0 p next h.1,
@@ -138,7 +138,7 @@ module _ (text rest line : List ℕ) (later : List (List ℕ)) (number : ℕ) (d
 
 -- What comes of a line is one thing
 
-one-send : (line : List ℕ) (x y : Send) → IsSendOf line x → IsSendOf line y → x ≡ y
+one-send : (line : List ℕ) (x y : Send) → IsSendOfLine line x → IsSendOfLine line y → x ≡ y
 one-send line (completed t) (completed u) p q = ap completed (p.0 ∙ sym q.0)
 one-send line (completed t) refused p (inl f) = absurd (f p.1.0)
 one-send line (completed t) refused p (inr f) = absurd (f p.1.1)

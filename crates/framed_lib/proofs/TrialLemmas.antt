@@ -11,9 +11,9 @@ use Rattle.postcard.specs.Greatest.{SizeWithin, text_within}
 use Rattle.cobs.specs.Sentinel.{frame_for}
 use Rattle.postcard_tree.specs.declared.error.Error.{Error}
 use Rattle.postcard_tree.specs.declared.error.Error.TheVariants.{SerializeBufferFull}
-use Rattle.postcard.specs.Written.{WrittenAs, UnlessRefused}
+use Rattle.postcard.specs.Written.{WrittenWhole, UnlessRefused}
 use Rattle.link.specs.Run.{Send, completed, refused, IsFramed}
-use Rattle.framed_lib.specs.Sending.{IsSendOf, is_whole}
+use Rattle.framed_lib.specs.Sending.{IsSendOfLine, is_whole}
 
 short_within : (bytes : List ℕ) → length bytes ≤ 1017 → SizeWithin (Some (text_of bytes)) (Some 1019)
 unfolding varint
@@ -31,9 +31,9 @@ long-unframed within bytes h f =
 
 -- what comes of a line that is framed for it
 pub tried : (r : Result ℕ Error) (size : ℕ) (new text line : List ℕ) → (text ≡ line) × IsUtf8 line
-    → IfOk r (λ n. WrittenAs (Some (text_of text)) (λ bytes. (n ≡ length (shortest_frame bytes)) × (take n new ≡ frame_for 0 bytes)))
+    → IfOk r (λ n. WrittenWhole (Some (text_of text)) (λ bytes. (n ≡ length (shortest_frame bytes)) × (take n new ≡ frame_for 0 bytes)))
     → IfErr r (λ e. UnlessRefused (Some (text_of text)) (λ bytes. (e ≡ SerializeBufferFull) × (size < length (shortest_frame bytes))))
-    → size ≡ 1024 → length new ≡ size → (x : Send) × IsSendOf line x × (is_ok r ≡ is_whole x)
+    → size ≡ 1024 → length new ≡ size → (x : Send) × IsSendOfLine line x × (is_ok r ≡ is_whole x)
 tried (Ok n) size new text line u p q a b =
     let few : length (shortest_frame (short (text_of text))) ≤ 1024 =
     omega (arith, length-map (shortest_frame (short (text_of text))) (bit_xor 0), ap length p.1.1, length-take n new) in

@@ -21,12 +21,12 @@ use Rattle.link.specs.Run.{Send, session_line}
 use Rattle.link.specs.Stream.{Verdict}
 use Rattle.framed_lib.specs.Lines.{AreAnswers, holds_text, reads_text, lines_of, is_value, answer_lines, has_value}
 use Rattle.framed_lib.specs.Sending.{lines_in, AreSendsOf, refusals, all_sent}
-use Rattle.framed_lib.specs.Program.{Packs, Unpacks, Program, GivesLines, WritesGiven, LacksLines, Lacks, IsToWrite, Says, StandsFor, IsNotHex, WritesFirst, framed_text, bad_hex, Finishes, ReadFails, WriteFails, LacksMemory, SaysInVain, SayingFails, read_failed, write_failed, no_memory}
+use Rattle.framed_lib.specs.Program.{Packs, Unpacks, Program, GivesLines, WritesGiven, LacksLines, RunsOutOfMemory, IsToWrite, SaysBeforehand, StandsFor, IsNotHex, WritesFirst, framed_text, bad_hex, RunsToItsEnd, ReadFails, WriteFails, LacksMemory, SaysInVain, SayingFails, read_failed, write_failed, no_memory}
 use Rattle.framed_lib.specs.Working.{IsWhole, unpacking, says_nothing, Before, Worked, AnswersStream, outcome_of, outcome_now, without_fault_of, unless_fault}
 
 pub Finishes-map : {mode : Mode} {hex : Bool} {sentinel : ℕ} {status : ℕ} {r s : Reach → List ℕ → Type 0} {w v t : Fate → List ℕ → Type 0}
     → ((reach : Reach) (text : List ℕ) → r reach text → s reach text) → ((bytes : List ℕ) → v whole bytes → t whole bytes)
-    → Finishes mode hex sentinel status r w v → Finishes mode hex sentinel status s w t
+    → RunsToItsEnd mode hex sentinel status r w v → RunsToItsEnd mode hex sentinel status s w t
 Finishes-map f k h = record { text = h.text; out = h.out; said = h.said; is = h.is; read = f ended _ h.read; wrote = h.wrote; told = k _ h.told }
 
 pub ReadFails-map : {mode : Mode} {hex : Bool} {sentinel : ℕ} {r s : Reach → List ℕ → Type 0} {w : Fate → List ℕ → Type 0} {v t : List ℕ → Type 0}
@@ -108,11 +108,11 @@ gives : (strict : Bool) (sentinel : ℕ) (text out : List ℕ) → GivesLines st
 gives false sentinel text out h = h
 gives true sentinel text out h = h
 
-pub lacks : (strict hex : Bool) (sentinel : ℕ) (reach : Reach) (text out said : List ℕ) → LacksLines strict hex sentinel reach text out said → Lacks (unpacking strict) hex sentinel reach text out said
+pub lacks : (strict hex : Bool) (sentinel : ℕ) (reach : Reach) (text out said : List ℕ) → LacksLines strict hex sentinel reach text out said → RunsOutOfMemory (unpacking strict) hex sentinel reach text out said
 lacks false hex sentinel reach text out said h = h
 lacks true hex sentinel reach text out said h = h
 
-says-bad : (strict : Bool) (text : List ℕ) → IsNotHex true text → Says (unpacking strict) true text bad_hex
+says-bad : (strict : Bool) (text : List ℕ) → IsNotHex true text → SaysBeforehand (unpacking strict) true text bad_hex
 says-bad false text h = (h, refl)
 says-bad true text h = (h, refl)
 
@@ -124,7 +124,7 @@ module _ (strict : Bool) (sentinel : ℕ) (verdicts : List Verdict) (text : List
 
   -- the lines of all answers went out
   pub bytes-done : (status : ℕ) → AreAnswers strict sentinel ended text verdicts → r ended text → w whole (lines_of verdicts) → status ≡ (if list_all is_value verdicts then 0 else 1)
-      → Finishes (unpacking strict) false sentinel status r w says_nothing
+      → RunsToItsEnd (unpacking strict) false sentinel status r w says_nothing
   bytes-done status a h o s =
       record { text = text; out = lines_of verdicts; said = []; is = rw s (unpacked false text refl a); read = h; wrote = o; told = refl }
 
@@ -295,7 +295,7 @@ digits-worked strict sentinel text stream w t (Err stop.NoMemory) h q a = record
 }
 
 -- a text that isn't hexadecimal
-pub bad-said : (strict : Bool) (sentinel : ℕ) (text : List ℕ) (w t : Fate → List ℕ → Type 0) → IsNotHex true text → w whole [] → t whole bad_hex → Finishes (unpacking strict) true sentinel 2 (IsWhole text) w t
+pub bad-said : (strict : Bool) (sentinel : ℕ) (text : List ℕ) (w t : Fate → List ℕ → Type 0) → IsNotHex true text → w whole [] → t whole bad_hex → RunsToItsEnd (unpacking strict) true sentinel 2 (IsWhole text) w t
 bad-said strict sentinel text w t h o s =
     record { text = text; out = []; said = bad_hex; is = program-refuses strict sentinel text h; read = refl; wrote = o; told = s }
 
@@ -311,7 +311,7 @@ pub unread : (mode : Mode) (hex : Bool) (sentinel : ℕ) (text : List ℕ) (r : 
 unread mode hex sentinel text r w t g h o q = record { text = text; out = []; is = g; read = h; wrote = o; told = ([], refl, q) }
 
 -- no memory was found for more
-pub unheld : (mode : Mode) (hex : Bool) (sentinel : ℕ) (text : List ℕ) (r : Reach → List ℕ → Type 0) (w t : Fate → List ℕ → Type 0) → Lacks mode hex sentinel stopped text [] [] → r stopped text
+pub unheld : (mode : Mode) (hex : Bool) (sentinel : ℕ) (text : List ℕ) (r : Reach → List ℕ → Type 0) (w t : Fate → List ℕ → Type 0) → RunsOutOfMemory mode hex sentinel stopped text [] [] → r stopped text
     → w whole [] → t whole [] → LacksMemory mode hex sentinel r w (Before no_memory (t whole))
 unheld mode hex sentinel text r w t l h o q =
     record { reach = stopped; text = text; out = []; said = []; is = l; read = h; wrote = o; told = ([], refl, q) }

@@ -5,7 +5,7 @@ use Rattle.postcard_tree.specs.Tree.{Tree, byte, sequence, Trees, end, part}
 use Rattle.postcard_tree.specs.Reading.{TakesText, ReadsText}
 use Rattle.postcard.specs.Frames.{Holds}
 use Rattle.link.specs.Stream.{Verdict, value, damaged, too_long, cut, HoldsExactly, Given, Answers}
-use Rattle.link.specs.Listening.{BeginsProperly}
+use Rattle.link.specs.Listening.{AnswersBeginProperly}
 use Rattle.link.specs.declared.receiver.Answer.{Answer}
 use Rattle.link.specs.declared.receiver.Answer.TheVariants.{Value, Damaged, TooLong, Cut}
 use Rattle.line_io.specs.Transfers.{Reach, ended, stopped, failed}
@@ -27,7 +27,7 @@ AreAnswers strict sentinel ended stream verdicts =
 AreAnswers strict sentinel failed stream verdicts =
     Given (holds_text strict) 1024 sentinel stream verdicts
 AreAnswers strict sentinel stopped stream verdicts =
-    BeginsProperly (holds_text strict) 1024 sentinel stream verdicts
+    AnswersBeginProperly (holds_text strict) 1024 sentinel stream verdicts
 
 -- the bytes of these parts, each of which is one
 abbrev pub bytes_in : Trees → List ℕ

@@ -78,7 +78,7 @@ pub record Unpacks (strict hex : Bool) (sentinel : ℕ)
   pub status_is : status ≡ (if list_all is_value verdicts then 0 else 1)
 
 -- Text that isn't hexadecimal is said to be so, and nothing is written.
-pub record Refuses (hex : Bool) (text out said : List ℕ) (status : ℕ) : Type 0 where
+pub record RefusesHex (hex : Bool) (text out said : List ℕ) (status : ℕ) : Type 0 where
   pub not_hex : IsNotHex hex text
   pub out_is : out ≡ []
   pub said_is : said ≡ bad_hex
@@ -88,9 +88,9 @@ pub record Refuses (hex : Bool) (text out said : List ℕ) (status : ℕ) : Type
 abbrev pub Program : Mode → Bool → ℕ → List ℕ → List ℕ → List ℕ → ℕ → Type 0
 Program Pack hex sentinel text out said status = Packs hex sentinel text out said status
 Program Unpack hex sentinel text out said status =
-    Unpacks false hex sentinel text out said status ⊎ Refuses hex text out said status
+    Unpacks false hex sentinel text out said status ⊎ RefusesHex hex text out said status
 Program Strict hex sentinel text out said status =
-    Unpacks true hex sentinel text out said status ⊎ Refuses hex text out said status
+    Unpacks true hex sentinel text out said status ⊎ RefusesHex hex text out said status
 
 -- what is written for the text that was read before a read or a write failed: the lines of what it gives
 abbrev pub GivesLines : Bool → ℕ → List ℕ → List ℕ → Type 0
@@ -139,15 +139,15 @@ LacksLines strict true sentinel ended text out said =
 LacksLines strict hex sentinel failed text out said = ⊥
 
 -- The same by the mode: `pack` writes and says nothing before all its text is there.
-abbrev pub Lacks : Mode → Bool → ℕ → Reach → List ℕ → List ℕ → List ℕ → Type 0
-Lacks Pack hex sentinel ended text out said = ⊥
-Lacks Pack hex sentinel stopped text out said = (out ≡ []) × (said ≡ [])
-Lacks Pack hex sentinel failed text out said = ⊥
-Lacks Unpack hex sentinel reach text out said = LacksLines false hex sentinel reach text out said
-Lacks Strict hex sentinel reach text out said = LacksLines true hex sentinel reach text out said
+abbrev pub RunsOutOfMemory : Mode → Bool → ℕ → Reach → List ℕ → List ℕ → List ℕ → Type 0
+RunsOutOfMemory Pack hex sentinel ended text out said = ⊥
+RunsOutOfMemory Pack hex sentinel stopped text out said = (out ≡ []) × (said ≡ [])
+RunsOutOfMemory Pack hex sentinel failed text out said = ⊥
+RunsOutOfMemory Unpack hex sentinel reach text out said = LacksLines false hex sentinel reach text out said
+RunsOutOfMemory Strict hex sentinel reach text out said = LacksLines true hex sentinel reach text out said
 
 -- Status 0, 1 and 2: the text was read to its end, and the program's text went out. No device failed.
-pub record Finishes (mode : Mode) (hex : Bool) (sentinel : ℕ) (status : ℕ)
+pub record RunsToItsEnd (mode : Mode) (hex : Bool) (sentinel : ℕ) (status : ℕ)
     (reading : Reach → List ℕ → Type 0) (writing saying : Fate → List ℕ → Type 0) : Type 0 where
   pub text : List ℕ
   pub out : List ℕ
@@ -172,8 +172,8 @@ pub record ReadFails (mode : Mode) (hex : Bool) (sentinel : ℕ) (reading : Reac
 abbrev pub IsToWrite : Mode → Bool → ℕ → Reach → List ℕ → List ℕ → List ℕ → Type 0
 IsToWrite mode hex sentinel ended text out said =
     ((status : ℕ) × Program mode hex sentinel text out said status)
-    ⊎ Lacks mode hex sentinel ended text out said
-IsToWrite mode hex sentinel stopped text out said = Lacks mode hex sentinel stopped text out said
+    ⊎ RunsOutOfMemory mode hex sentinel ended text out said
+IsToWrite mode hex sentinel stopped text out said = RunsOutOfMemory mode hex sentinel stopped text out said
     ⊎ (WritesGiven mode hex sentinel text out × (said ≡ []))
 IsToWrite mode hex sentinel failed text out said =
     WritesGiven mode hex sentinel text out × (said ≡ [])
@@ -197,23 +197,23 @@ pub record LacksMemory (mode : Mode) (hex : Bool) (sentinel : ℕ) (reading : Re
   pub text : List ℕ
   pub out : List ℕ
   pub said : List ℕ
-  pub is : Lacks mode hex sentinel reach text out said
+  pub is : RunsOutOfMemory mode hex sentinel reach text out said
   pub read : reading reach text
   pub wrote : writing whole out
   pub told : says (said ++ no_memory)
 
 -- what is said of a text before anything is written
-abbrev pub Says : Mode → Bool → List ℕ → List ℕ → Type 0
-Says Pack hex text said = SaysFirst text said
-Says Unpack hex text said = IsNotHex hex text × (said ≡ bad_hex)
-Says Strict hex text said = IsNotHex hex text × (said ≡ bad_hex)
+abbrev pub SaysBeforehand : Mode → Bool → List ℕ → List ℕ → Type 0
+SaysBeforehand Pack hex text said = SaysFirst text said
+SaysBeforehand Unpack hex text said = IsNotHex hex text × (said ≡ bad_hex)
+SaysBeforehand Strict hex text said = IsNotHex hex text × (said ≡ bad_hex)
 
 -- Standard error failed while the refusals or 'bad hex' were said: nothing was written.
 pub record SaysInVain (mode : Mode) (hex : Bool) (reading : Reach → List ℕ → Type 0)
     (writing : Fate → List ℕ → Type 0) (says : List ℕ → Type 0) : Type 0 where
   pub text : List ℕ
   pub said : List ℕ
-  pub is : Says mode hex text said
+  pub is : SaysBeforehand mode hex text said
   pub read : reading ended text
   pub wrote : writing whole []
   pub told : says said
@@ -228,9 +228,9 @@ SayingFails mode hex sentinel reading writing says =
     ⊎ LacksMemory mode hex sentinel reading writing says))
 
 -- Status 3: the reader, the writer or standard error failed.
-abbrev pub Fails : Mode → Bool → ℕ → (Reach → List ℕ → Type 0)
+abbrev pub FailsByDevice : Mode → Bool → ℕ → (Reach → List ℕ → Type 0)
     → (writing saying : Fate → List ℕ → Type 0) → Type 0
-Fails mode hex sentinel reading writing saying =
+FailsByDevice mode hex sentinel reading writing saying =
     ReadFails mode hex sentinel reading writing (saying whole)
     ⊎ (WriteFails mode hex sentinel reading writing (saying whole)
     ⊎ SayingFails mode hex sentinel reading writing (saying broken))

@@ -24,14 +24,14 @@ abbrev pub IsSendable : List ℕ → Type 0
 IsSendable line = IsUtf8 line × IsFramed IsTree 1024 (text_of line)
 
 -- What comes of a line: it is sent as a text; or it is refused, where it isn't text or its frame is longer than 1024 bytes.
-abbrev pub IsSendOf : List ℕ → Send → Type 0
-IsSendOf line (completed t) = (t ≡ text_of line) × IsSendable line
-IsSendOf line refused = (IsUtf8 line → ⊥) ⊎ (IsFramed IsTree 1024 (text_of line) → ⊥)
-IsSendOf line (broken t k) = ⊥
+abbrev pub IsSendOfLine : List ℕ → Send → Type 0
+IsSendOfLine line (completed t) = (t ≡ text_of line) × IsSendable line
+IsSendOfLine line refused = (IsUtf8 line → ⊥) ⊎ (IsFramed IsTree 1024 (text_of line) → ⊥)
+IsSendOfLine line (broken t k) = ⊥
 
 -- what comes of each of these lines
 abbrev pub AreSendsOf : List (List ℕ) → List Send → Type 0
-AreSendsOf = AllZip IsSendOf
+AreSendsOf = AllZip IsSendOfLine
 
 -- whether a send went out whole
 abbrev pub is_whole : Send → Bool
@@ -65,9 +65,9 @@ pub record Sent (text rest : List ℕ) (done : List Send) : Type 0 where
   pub are : AreSendsOf seen done
 
 -- one more send by a sender
-abbrev pub Adds : {W : Type 0} → (W → Option (List ℕ)) → (W → ℕ)
+abbrev pub AddsSend : {W : Type 0} → (W → Option (List ℕ)) → (W → ℕ)
     → Sender W 1024 → Sender W 1024 → Send → Type 0
-Adds told faults old new x =
+AddsSend told faults old new x =
     Wrote (told (writer_of old)) (told (writer_of new))
     (faults (writer_of old)) (faults (writer_of new)) (written (sentinel_of old) (clean_of old) x)
     × (clean_of new ≡ clean_after (clean_of old) x) × (sentinel_of new ≡ sentinel_of old)

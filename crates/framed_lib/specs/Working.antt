@@ -11,7 +11,7 @@ use Rattle.link.specs.declared.listening.End.{End}
 use Rattle.link.specs.declared.listening.End.TheVariants.{Ended, ReadFault, NoMemory}
 use Rattle.line_io.specs.declared.transfers.WriteFault.{WriteFault}
 use Rattle.framed_lib.specs.Lines.{AreAnswers, lines_of, is_value}
-use Rattle.framed_lib.specs.Program.{Finishes, ReadFails, WriteFails, LacksMemory, SayingFails, WritesFirst, read_failed, write_failed, no_memory}
+use Rattle.framed_lib.specs.Program.{RunsToItsEnd, ReadFails, WriteFails, LacksMemory, SayingFails, WritesFirst, read_failed, write_failed, no_memory}
 
 -- the text was read to its end
 abbrev pub IsWhole : List ℕ → Reach → List ℕ → Type 0
@@ -37,7 +37,7 @@ Before line says bytes = (said : List ℕ) × (bytes ≡ said ++ line) × says s
 abbrev pub Worked : Mode → Bool → ℕ → (Reach → List ℕ → Type 0)
     → (writing saying : Fate → List ℕ → Type 0) → Result ℕ Stop → Type 0
 Worked mode hex sentinel reading writing saying (Ok status) =
-    Finishes mode hex sentinel status reading writing saying
+    RunsToItsEnd mode hex sentinel status reading writing saying
 Worked mode hex sentinel reading writing saying (Err stop.ReadFault) =
     ReadFails mode hex sentinel reading writing (Before read_failed (saying whole))
 Worked mode hex sentinel reading writing saying (Err stop.WriteFault) =

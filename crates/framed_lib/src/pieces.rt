@@ -1,13 +1,13 @@
 ghost use Rattle.std.specs.Prelude.{◌≡◌, ◌<◌, [], length, ◌++◌, ◌∷◌, MatchOption};
-ghost use Rattle.framed_lib.specs.Pieces.{Lacks};
+ghost use Rattle.framed_lib.specs.Pieces.{LacksMark};
 ghost use Rattle.framed_lib.specs.Sending.{lines_in};
 
 use memchr::memchr;
 
 /// The bytes before the first one that is `mark`, and those after it.
 pub fn split_at_mark(bytes: &[u8], mark: u8) -> Option<(&[u8], &[u8])>
-    ensures { MatchOption result (Lacks mark bytes.now)
-        (λ p. (bytes.now ≡ p.0.now ++ (mark ∷ p.1.now)) × Lacks mark p.0.now) }
+    ensures { MatchOption result (LacksMark mark bytes.now)
+        (λ p. (bytes.now ≡ p.0.now ++ (mark ∷ p.1.now)) × LacksMark mark p.0.now) }
 {
     match memchr(mark, bytes) {
         Some(at) => Some((&bytes[..at], &bytes[at + 1..])),

@@ -3,7 +3,7 @@ ghost use Rattle.line_io.specs.Transfers.{Writing, whole, broken};
 ghost use Rattle.framed_lib.specs.Output.{Puts};
 ghost use Rattle.link.specs.Run.{Send};
 ghost use Rattle.framed_lib.specs.Program.{SaysFirst};
-ghost use Rattle.framed_lib.specs.Sending.{lines_in, IsSendOf, AreSendsOf, is_whole, all_sent, refusal, refusals, said_of};
+ghost use Rattle.framed_lib.specs.Sending.{lines_in, IsSendOfLine, AreSendsOf, is_whole, all_sent, refusal, refusals, said_of};
 
 use crate::output::{Held, put};
 use crate::pieces::next_line;
@@ -31,10 +31,11 @@ fn judge_line<E: Outlet>(
     faults: &mut E,
     held: &mut Held,
 ) -> Result<bool, WriteFault>
-    ensures ok { IfOk result (λ sendable. (x : Send) × IsSendOf line.now x × (sendable ≡ is_whole x)
+    ensures ok { IfOk result (λ sendable. (x : Send) × IsSendOfLine line.now x
+        × (sendable ≡ is_whole x)
         × Puts E.written E.faults faults.old faults.new held.old.items held.new.items
         (said_of number x)) }
-    ensures err { OnErr result ((x : Send) × IsSendOf line.now x
+    ensures err { OnErr result ((x : Send) × IsSendOfLine line.now x
         × Writing E.written E.faults E.calls_left faults.old faults.new broken
         (held.old.items ++ said_of number x)) }
 {

@@ -1,6 +1,6 @@
 ghost use Rattle.std.specs.Prelude.{◌≡◌, ◌<◌, ◌≤◌};
 ghost use Rattle.line_io.specs.Transfers.{Writing, Reading, whole};
-ghost use Rattle.framed_lib.specs.Program.{Finishes, Fails, LacksMemory};
+ghost use Rattle.framed_lib.specs.Program.{RunsToItsEnd, FailsByDevice, LacksMemory};
 ghost use Rattle.framed_lib.specs.Working.{Worked, SaysLast, Reports};
 
 use crate::arguments::Mode;
@@ -45,13 +45,13 @@ pub fn run<R: Inlet, W: Outlet, E: Outlet>(
     mut faults: E,
 ) -> Ran<R, W, E>
     // The text was read to its end, and all that the program writes and says for it went out.
-    ensures finished { result.status < 3 → Finishes mode hex sentinel result.status
+    ensures finished { result.status < 3 → RunsToItsEnd mode hex sentinel result.status
         (Reading R.to_come R.faults R.calls_left reader result.reader)
         (Writing W.written W.faults W.calls_left writer result.writer)
         (Writing E.written E.faults E.calls_left faults result.faults) }
 
     // A device failed.
-    ensures failed { result.status ≡ 3 → Fails mode hex sentinel
+    ensures failed { result.status ≡ 3 → FailsByDevice mode hex sentinel
         (Reading R.to_come R.faults R.calls_left reader result.reader)
         (Writing W.written W.faults W.calls_left writer result.writer)
         (Writing E.written E.faults E.calls_left faults result.faults) }

@@ -1,6 +1,6 @@
 ghost use Rattle.std.specs.Prelude.{◌≡◌};
 ghost use Rattle.link.specs.Run.{Send};
-ghost use Rattle.framed_lib.specs.Sending.{IsSendOf, is_whole};
+ghost use Rattle.framed_lib.specs.Sending.{IsSendOfLine, is_whole};
 
 use link::frame_into;
 
@@ -12,7 +12,7 @@ const SHORT: usize = 1017;
 
 /// Whether the line can be sent, or else is refused. Only a line of the few lengths between these two is framed for it.
 pub fn is_sendable(line: &[u8]) -> bool
-    ensures { (x : Send) × IsSendOf line.now x × (result ≡ is_whole x) }
+    ensures { (x : Send) × IsSendOfLine line.now x × (result ≡ is_whole x) }
 {
     cobs::laws::lengths();
     if line.len() >= LIMIT {

@@ -40,9 +40,9 @@ pub record Appended (limit : ℕ) (spent : Bool) (n : ℕ) (writes : Option Tree
   pub wrote : Wrote old new before after (written 0 true send)
 
 -- a fact where the store failed to take bytes
-abbrev pub OnLine : Result ℕ AppendError → Type 0 → Type 0
-OnLine (Err Line) P = P
-OnLine _ P = Unit {0}
+abbrev pub OnStore : Result ℕ AppendError → Type 0 → Type 0
+OnStore (Err Line) P = P
+OnStore _ P = Unit {0}
 
 -- a fact where nothing was tried
 abbrev pub Unless : Result ℕ AppendError → Type 0 → Type 0

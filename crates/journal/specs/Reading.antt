@@ -42,22 +42,22 @@ abbrev pub numbering_of : Count → Numbering
 numbering_of count = record { next = count.next; through = count.through }
 
 -- the same, a receiver stands behind these bytes, and so many they are
-pub record Hears {V : Type 0} {N : ℕ} (holds : List ℕ → Tree → Type 0) (reads : Tree → V → Type 0) (first : ℕ) (receiver : Reception (CobsDecoderHeapless N)) (answers : List (Answer (ℕ × V))) (count : Count) (stream : List ℕ) : Type 0 where
+pub record HearsLog {V : Type 0} {N : ℕ} (holds : List ℕ → Tree → Type 0) (reads : Tree → V → Type 0) (first : ℕ) (receiver : Reception (CobsDecoderHeapless N)) (answers : List (Answer (ℕ × V))) (count : Count) (stream : List ℕ) : Type 0 where
   pub after : IsBehind in_array N 0 receiver stream
   pub read : IsReadTo holds reads N first answers (numbering_of count) stream
   pub heard : count.heard ≡ length stream
 
 -- the answer of a push, where it has one, was handed on as it is believed, and the numbers behind it are told
-abbrev pub HandsOn : {S V : Type 0} → (S → List (Answer (ℕ × V)) → S → Type 0) → Result (Option (Answer (ℕ × V))) NoMemory → ℕ → ℕ → S → S → Numbering → Numbering → Type 0
-HandsOn took (Ok None) before through old new c later = took old [] new × (later ≡ c)
-HandsOn took (Ok (Some a)) before through old new c later = took old (believed c before a ∷ []) new × (later ≡ numbered_behind c through (believed c before a))
-HandsOn took (Err e) before through old new c later = ⊥
+abbrev pub HandsOnBelieved : {S V : Type 0} → (S → List (Answer (ℕ × V)) → S → Type 0) → Result (Option (Answer (ℕ × V))) NoMemory → ℕ → ℕ → S → S → Numbering → Numbering → Type 0
+HandsOnBelieved took (Ok None) before through old new c later = took old [] new × (later ≡ c)
+HandsOnBelieved took (Ok (Some a)) before through old new c later = took old (believed c before a ∷ []) new × (later ≡ numbered_behind c through (believed c before a))
+HandsOnBelieved took (Err e) before through old new c later = ⊥
 
 -- more answers were handed on, and with those before them they are what a receiver that stands behind these bytes has brought about
 pub record HearsMore {S V : Type 0} {N : ℕ} (took : S → List (Answer (ℕ × V)) → S → Type 0) (holds : List ℕ → Tree → Type 0) (reads : Tree → V → Type 0) (first : ℕ) (old new : S) (receiver : Reception (CobsDecoderHeapless N)) (answers : List (Answer (ℕ × V))) (count : Count) (stream : List ℕ) : Type 0 where
   pub more : List (Answer (ℕ × V))
   pub handed : took old more new
-  pub hears : Hears holds reads first receiver (answers ++ more) count stream
+  pub hears : HearsLog holds reads first receiver (answers ++ more) count stream
 
 -- what is read of a log was handed on
 pub record IsHanded {S V : Type 0} (took : S → List (Answer (ℕ × V)) → S → Type 0) (holds : List ℕ → Tree → Type 0) (reads : Tree → V → Type 0) (limit first : ℕ) (old new : S) (next : ℕ) (bytes : List ℕ) : Type 0 where

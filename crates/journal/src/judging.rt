@@ -22,7 +22,8 @@ pub(crate) trait Judging<T: Readable, const N: usize> {
     fn push(alloc: Global, receiver: &mut Receiver<N>, piece: &[u8]) -> Pushed<(u64, T)>
         ensures within { result.used ≤ length piece.now }
         ensures forward { 0 < length piece.now → 0 < result.used }
-        ensures stands { (stream : List ℕ) → IsBehind in_array N 0 receiver.old stream → IsBehind in_array N 0 receiver.new (stream ++ take result.used piece.now) }
+        ensures stands { (stream : List ℕ) → IsBehind in_array N 0 receiver.old stream
+            → IsBehind in_array N 0 receiver.new (stream ++ take result.used piece.now) }
         ensures answers { (stream : List ℕ) → IsBehind in_array N 0 receiver.old stream
             → Answered holds (reads_record T.reads) N 0 stream piece.now result.used result.answer }
         ensures stretch { (stream : List ℕ) → IsBehind in_array N 0 receiver.old stream

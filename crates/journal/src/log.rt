@@ -7,7 +7,7 @@ ghost use Rattle.link.specs.Listening.{ReceiverFitsInMemory};
 ghost use Rattle.stores.specs.Store.{Settles};
 ghost use Rattle.journal.specs.Records.{takes_record};
 ghost use Rattle.journal.specs.Reading.{HasCause};
-ghost use Rattle.journal.specs.Appending.{Appended, next_after, spent_after, OnLine, Unless, IsOpened};
+ghost use Rattle.journal.specs.Appending.{Appended, next_after, spent_after, OnStore, Unless, IsOpened};
 
 use crate::framing::frame_record;
 use crate::judging::{Judging, Ordinary, Strict};
@@ -82,9 +82,13 @@ impl<S: Store, const N: usize> Journal<S, N> {
     ) -> Result<Journal<S, N>, Unopened<S>>
         requires some { 1 < N }
         requires fits { ReceiverFitsInMemory N.row }
-        ensures opened { IfOk result (λ j. IsOpened V.took J.holds T.reads N first (S.held store) (S.held (store_of j))
-            (S.faults store) (S.faults (store_of j)) (S.settled (store_of j)) visitor.old visitor.new (next_of j) (spent_of j)) }
-        ensures cause { IfErr result (λ e. HasCause e.cause (Failed (S.faults store) (S.faults e.store) (S.calls_left e.store))) }
+        ensures opened { IfOk result
+            (λ j. IsOpened V.took J.holds T.reads N first (S.held store) (S.held (store_of j))
+            (S.faults store) (S.faults (store_of j)) (S.settled (store_of j)) visitor.old
+            visitor.new (next_of j) (spent_of j)) }
+        ensures cause { IfErr result
+            (λ e. HasCause e.cause
+            (Failed (S.faults store) (S.faults e.store) (S.calls_left e.store))) }
     {
         let mut store = store;
         if put(&mut store, &[0]) == 0 {
@@ -125,9 +129,14 @@ impl<S: Store, const N: usize> Journal<S, N> {
     ) -> Result<Journal<S, N>, Unopened<S>>
         requires some { 1 < N }
         requires fits { ReceiverFitsInMemory N.row }
-        ensures opened { IfOk result (λ j. IsOpened V.took (HoldsExactly (takes_record T.takes)) T.reads N first (S.held store) (S.held (store_of j))
-            (S.faults store) (S.faults (store_of j)) (S.settled (store_of j)) visitor.old visitor.new (next_of j) (spent_of j)) }
-        ensures cause { IfErr result (λ e. HasCause e.cause (Failed (S.faults store) (S.faults e.store) (S.calls_left e.store))) }
+        ensures opened { IfOk result
+            (λ j. IsOpened V.took (HoldsExactly (takes_record T.takes)) T.reads N first
+            (S.held store) (S.held (store_of j))
+            (S.faults store) (S.faults (store_of j)) (S.settled (store_of j)) visitor.old
+            visitor.new (next_of j) (spent_of j)) }
+        ensures cause { IfErr result
+            (λ e. HasCause e.cause
+            (Failed (S.faults store) (S.faults e.store) (S.calls_left e.store))) }
     {
         Journal::<S, N>::open_by::<T, Strict, V>(alloc, store, first, visitor)
     }
@@ -142,9 +151,14 @@ impl<S: Store, const N: usize> Journal<S, N> {
     ) -> Result<Journal<S, N>, Unopened<S>>
         requires some { 1 < N }
         requires fits { ReceiverFitsInMemory N.row }
-        ensures opened { IfOk result (λ j. IsOpened V.took (Holds (takes_record T.takes)) T.reads N first (S.held store) (S.held (store_of j))
-            (S.faults store) (S.faults (store_of j)) (S.settled (store_of j)) visitor.old visitor.new (next_of j) (spent_of j)) }
-        ensures cause { IfErr result (λ e. HasCause e.cause (Failed (S.faults store) (S.faults e.store) (S.calls_left e.store))) }
+        ensures opened { IfOk result
+            (λ j. IsOpened V.took (Holds (takes_record T.takes)) T.reads N first (S.held store)
+            (S.held (store_of j))
+            (S.faults store) (S.faults (store_of j)) (S.settled (store_of j)) visitor.old
+            visitor.new (next_of j) (spent_of j)) }
+        ensures cause { IfErr result
+            (λ e. HasCause e.cause
+            (Failed (S.faults store) (S.faults e.store) (S.calls_left e.store))) }
     {
         Journal::<S, N>::open_by::<T, Ordinary, V>(alloc, store, first, visitor)
     }
@@ -179,8 +193,10 @@ impl<S: Store, const N: usize> Journal<S, N> {
     /// Appends a value, and answers its number. The record is whole in the journal's own buffer before its first byte goes out, and
     /// goes out in one call where the store takes it so. No crash takes it from the next `sync` on that is Ok.
     pub fn append<T: Serialize>(&mut self, value: &T) -> Result<u64, AppendError>
-        ensures appended { Appended (N - 1) (spent_of self.old) (next_of self.old) (T.writes value.now) result
-            (S.held (store_of self.old)) (S.held (store_of self.new)) (S.faults (store_of self.old)) (S.faults (store_of self.new)) }
+        ensures appended { Appended (N - 1) (spent_of self.old) (next_of self.old)
+            (T.writes value.now) result
+            (S.held (store_of self.old)) (S.held (store_of self.new)) (S.faults (store_of self.old))
+            (S.faults (store_of self.new)) }
         ensures next { next_of self.new ≡ next_after (next_of self.old) result }
         ensures spent { spent_of self.new ≡ spent_after (spent_of self.old) result }
         ensures number { OnOk result (next_of self.old < 2 ^ 64 - 1) }
@@ -188,7 +204,9 @@ impl<S: Store, const N: usize> Journal<S, N> {
         ensures untouched { Unless result (store_of self.new ≡ store_of self.old) }
         ensures settled { S.settled (store_of self.new) ≡ S.settled (store_of self.old) }
         ensures quiet { OnOk result (S.faults (store_of self.new) ≡ S.faults (store_of self.old)) }
-        ensures cause { OnLine result (Failed (S.faults (store_of self.old)) (S.faults (store_of self.new)) (S.calls_left (store_of self.new))) }
+        ensures cause { OnStore result
+            (Failed (S.faults (store_of self.old)) (S.faults (store_of self.new))
+            (S.calls_left (store_of self.new))) }
     {
         if self.spent {
             return Err(AppendError::Spent);
@@ -212,7 +230,8 @@ impl<S: Store, const N: usize> Journal<S, N> {
     /// Makes all records so far safe from crashes. At an error the journal is spent: a later sync that is Ok would say nothing of
     /// what this one lost.
     pub fn sync(&mut self) -> Result<(), SyncFault>
-        ensures settled { OnOk result (Settles (S.held (store_of self.new)) (S.settled (store_of self.new))) }
+        ensures settled { OnOk result
+            (Settles (S.held (store_of self.new)) (S.settled (store_of self.new))) }
         ensures no_less { S.settled (store_of self.old) ≤ S.settled (store_of self.new) }
         ensures held { S.held (store_of self.new) ≡ S.held (store_of self.old) }
         ensures next { next_of self.new ≡ next_of self.old }

@@ -46,7 +46,8 @@ pub(crate) fn believe<T: Drop>(
 
 // The numbers behind an answer that is handed on at the bytes that were heard.
 pub(crate) fn count_on<T>(count: Count, answer: &Answer<(u64, T)>) -> Count
-    ensures numbers { numbering_of result ≡ numbered_behind (numbering_of count) count.heard answer.now }
+    ensures numbers { numbering_of result ≡ numbered_behind (numbering_of count) count.heard
+        answer.now }
     ensures heard { result.heard ≡ count.heard }
 {
     match answer {

@@ -6,7 +6,7 @@ ghost use Rattle.link.specs.declared.receiver.Answer.{Answer};
 ghost use Rattle.postcard.specs.Frames.{Holds};
 ghost use Rattle.link.specs.Stream.{HoldsExactly};
 ghost use Rattle.journal.specs.Records.{takes_record};
-ghost use Rattle.journal.specs.Reading.{HandsOn, Hears, HearsMore, IsHanded, OnFault, numbering_of};
+ghost use Rattle.journal.specs.Reading.{HandsOnBelieved, HearsLog, HearsMore, IsHanded, OnFault, numbering_of};
 
 use crate::judging::{Judging, Ordinary, Strict};
 use crate::numbers::{Count, believe, count_on};
@@ -39,7 +39,9 @@ fn hand_on<T: Drop, V: Visitor<T>>(
     stretch: usize,
     answer: Result<Option<Answer<(u64, T)>>, NoMemory>,
 ) -> Result<Count, ReadError>
-    ensures on { IfOk result (λ later. HandsOn V.took answer ((count.heard - 1) - stretch) count.heard visitor.old visitor.new (numbering_of count) (numbering_of later)) }
+    ensures on { IfOk result
+        (λ later. HandsOnBelieved V.took answer ((count.heard - 1) - stretch) count.heard
+        visitor.old visitor.new (numbering_of count) (numbering_of later)) }
     ensures heard { IfOk result (λ later. later.heard ≡ count.heard) }
     ensures halted { IfErr result (λ e. e ≡ ReadError.Halted) }
 {
@@ -71,7 +73,7 @@ fn hear_on(count: Count, used: usize) -> Count
     }
 }
 
-// Hears a piece, and hands on the answers.
+// HearsLog a piece, and hands on the answers.
 fn hear<T: Readable + Drop, J: Judging<T, N>, V: Visitor<T>, const N: usize>(
     alloc: Global,
     receiver: &mut Receiver<N>,
@@ -80,9 +82,11 @@ fn hear<T: Readable + Drop, J: Judging<T, N>, V: Visitor<T>, const N: usize>(
     piece: &[u8],
 ) -> Result<Count, ReadError>
     requires { count.heard + length piece.now < 2 ^ 64 }
-    ensures heard { IfOk result (λ later. (first : ℕ) (stream : List ℕ) (answers : List (Answer (ℕ × T)))
-        → Hears J.holds T.reads first receiver.old answers count stream
-        → HearsMore V.took J.holds T.reads first visitor.old visitor.new receiver.new answers later (stream ++ piece.now)) }
+    ensures heard { IfOk result
+        (λ later. (first : ℕ) (stream : List ℕ) (answers : List (Answer (ℕ × T)))
+        → HearsLog J.holds T.reads first receiver.old answers count stream
+        → HearsMore V.took J.holds T.reads first visitor.old visitor.new receiver.new answers later
+        (stream ++ piece.now)) }
     ensures on { IfOk result (λ later. later.heard ≡ count.heard + length piece.now) }
     ensures halted { IfErr result (λ e. e ≡ ReadError.Halted) }
 {
@@ -115,7 +119,8 @@ pub(crate) fn read_by<
     ensures held { S.held store.new ≡ S.held store.old }
     ensures settled { S.settled store.new ≡ S.settled store.old }
     ensures quiet { OnOk result (S.faults store.new ≡ S.faults store.old) }
-    ensures fault { OnFault result (Failed (S.faults store.old) (S.faults store.new) (S.calls_left store.new)) }
+    ensures fault { OnFault result
+        (Failed (S.faults store.old) (S.faults store.new) (S.calls_left store.new)) }
     ensures more { S.faults store.old ≤ S.faults store.new }
     ensures calls { S.calls_left store.new ≤ S.calls_left store.old }
 {
@@ -149,11 +154,13 @@ pub fn read_all<T: DeserializeOwned + Exact, S: Store, V: Visitor<T>, const N: u
 ) -> Result<u64, ReadError>
     requires { ReceiverFitsInMemory N.row }
     ensures read { IfOk result (λ next. IfSome (S.held store.old) (λ bytes.
-        IsHanded V.took (HoldsExactly (takes_record T.takes)) T.reads N first visitor.old visitor.new next bytes)) }
+        IsHanded V.took (HoldsExactly (takes_record T.takes)) T.reads N first visitor.old
+        visitor.new next bytes)) }
     ensures held { S.held store.new ≡ S.held store.old }
     ensures settled { S.settled store.new ≡ S.settled store.old }
     ensures quiet { OnOk result (S.faults store.new ≡ S.faults store.old) }
-    ensures fault { OnFault result (Failed (S.faults store.old) (S.faults store.new) (S.calls_left store.new)) }
+    ensures fault { OnFault result
+        (Failed (S.faults store.old) (S.faults store.new) (S.calls_left store.new)) }
     ensures more { S.faults store.old ≤ S.faults store.new }
     ensures calls { S.calls_left store.new ≤ S.calls_left store.old }
 {
@@ -170,11 +177,13 @@ pub fn read_all_ordinary<T: DeserializeOwned, S: Store, V: Visitor<T>, const N: 
 ) -> Result<u64, ReadError>
     requires { ReceiverFitsInMemory N.row }
     ensures read { IfOk result (λ next. IfSome (S.held store.old) (λ bytes.
-        IsHanded V.took (Holds (takes_record T.takes)) T.reads N first visitor.old visitor.new next bytes)) }
+        IsHanded V.took (Holds (takes_record T.takes)) T.reads N first visitor.old visitor.new
+        next bytes)) }
     ensures held { S.held store.new ≡ S.held store.old }
     ensures settled { S.settled store.new ≡ S.settled store.old }
     ensures quiet { OnOk result (S.faults store.new ≡ S.faults store.old) }
-    ensures fault { OnFault result (Failed (S.faults store.old) (S.faults store.new) (S.calls_left store.new)) }
+    ensures fault { OnFault result
+        (Failed (S.faults store.old) (S.faults store.new) (S.calls_left store.new)) }
     ensures more { S.faults store.old ≤ S.faults store.new }
     ensures calls { S.calls_left store.new ≤ S.calls_left store.old }
 {

@@ -24,8 +24,8 @@ Survives takes holds limit s = (run later : List (List Send)) (k : ℕ) (answers
 
 -- What was given of bytes with a sentinel behind them is the beginning of what is answered to them and anything later: other
 -- records, or whatever bytes a crash left there.
-abbrev pub Settles : (List ℕ → Tree → Type 0) → ℕ → ℕ → Type 0
-Settles holds limit s = (a b : List ℕ) (answers : List Verdict)
+abbrev pub SettlesLog : (List ℕ → Tree → Type 0) → ℕ → ℕ → Type 0
+SettlesLog holds limit s = (a b : List ℕ) (answers : List Verdict)
     → Answers holds limit s ((a ++ (s ∷ [])) ++ b) answers
     ↔ ((us vs : List Verdict) × Given holds limit s (a ++ (s ∷ [])) us × Answers holds limit s b vs × (answers ≡ us ++ vs))
 

@@ -33,10 +33,10 @@ Counted numbered n (r ∷ rs) = ((v : Tree) × (r ≡ numbered n v)) × Counted 
 -- What happens to a log: it is opened and values are appended; the same, and then an append is broken off when so many of its
 -- bytes had gone out; a crash leaves so many bytes, and so many sentinels behind them (at zero, what a file system shows of bytes
 -- that were never written).
-pub data Event : Type 0 where
-  appended : List Tree → Event
-  broke : List Tree → Tree → ℕ → Event
-  crashed : ℕ → ℕ → Event
+pub data LogEvent : Type 0 where
+  appended : List Tree → LogEvent
+  broke : List Tree → Tree → ℕ → LogEvent
+  crashed : ℕ → ℕ → LogEvent
 
 -- appends of these values, with the numbers from n on
 abbrev pub appends : (ℕ → Tree → Tree) → ℕ → List Tree → List Send
@@ -68,39 +68,39 @@ abbrev pub sends_broken : (ℕ → Tree → Tree) → ℕ → List Tree → Tree
 sends_broken numbered n vs v k = appends numbered n vs ++ (broken (numbered (n + length vs) v) k ∷ [])
 
 -- the run behind one more event
-abbrev pub after : ℕ → (ℕ → Tree → Tree) → Tree → List (List Send) → Event → List (List Send)
+abbrev pub after : ℕ → (ℕ → Tree → Tree) → Tree → List (List Send) → LogEvent → List (List Send)
 after s numbered any run (appended vs) = run ++ (opened any (sends_of numbered (length (read_of run)) vs) ∷ [])
 after s numbered any run (broke vs v k) = run ++ (opened any (sends_broken numbered (length (read_of run)) vs v k) ∷ [])
 after s numbered any run (crashed k n) = left s k run ++ openings any n
 
 -- the bytes of a log behind an event, by those before it
-abbrev pub bytes_after : ℕ → (ℕ → Tree → Tree) → List (List Send) → Event → List ℕ
+abbrev pub bytes_after : ℕ → (ℕ → Tree → Tree) → List (List Send) → LogEvent → List ℕ
 bytes_after s numbered run (appended vs) = line s run ++ (s ∷ session_line s true (sends_of numbered (length (read_of run)) vs))
 bytes_after s numbered run (broke vs v k) = line s run ++ (s ∷ session_line s true (sends_broken numbered (length (read_of run)) vs v k))
 bytes_after s numbered run (crashed k n) = take k (line s run) ++ replicate n s
 
 -- That is what the log's bytes are.
 abbrev pub HasBytes : (Tree → Type 0) → ℕ → ℕ → Type 0
-HasBytes takes limit s = (numbered : ℕ → Tree → Tree) (any : Tree) (run : List (List Send)) (e : Event) → IsRun takes limit s run
+HasBytes takes limit s = (numbered : ℕ → Tree → Tree) (any : Tree) (run : List (List Send)) (e : LogEvent) → IsRun takes limit s run
     → line s (after s numbered any run e) ≡ bytes_after s numbered run e
 
 -- the run behind these events, one after another
-abbrev pub history : ℕ → (ℕ → Tree → Tree) → Tree → List (List Send) → List Event → List (List Send)
+abbrev pub history : ℕ → (ℕ → Tree → Tree) → Tree → List (List Send) → List LogEvent → List (List Send)
 history s numbered any run [] = run
 history s numbered any run (e ∷ events) = history s numbered any (after s numbered any run e) events
 
 -- what is appended has a frame within the limit, and what is broken off leaves fewer bytes than the whole
-abbrev pub IsHistory : (Tree → Type 0) → ℕ → ℕ → (ℕ → Tree → Tree) → Tree → List (List Send) → List Event → Type 0
+abbrev pub IsHistory : (Tree → Type 0) → ℕ → ℕ → (ℕ → Tree → Tree) → Tree → List (List Send) → List LogEvent → Type 0
 IsHistory takes limit s numbered any run [] = IsRun takes limit s run
 IsHistory takes limit s numbered any run (e ∷ events) = IsHistory takes limit s numbered any (after s numbered any run e) events
 
 -- Whatever crashes a log went through: what an opening reads carries the numbers from 0 on, none missing and none twice.
-pub record IsCountedAt (s : ℕ) (numbered : ℕ → Tree → Tree) (any : Tree) (events : List Event) (answers : List Verdict) : Type 0 where
+pub record IsCountedAt (s : ℕ) (numbered : ℕ → Tree → Tree) (any : Tree) (events : List LogEvent) (answers : List Verdict) : Type 0 where
   pub counted : Counted numbered 0 (values_of answers)
   pub are : values_of answers ≡ read_of (history s numbered any [] events)
 
 -- So it is for every history, read behind one more sentinel.
 abbrev pub CountsOn : (Tree → Type 0) → (List ℕ → Tree → Type 0) → ℕ → ℕ → Type 0
-CountsOn takes holds limit s = (numbered : ℕ → Tree → Tree) (any : Tree) (events : List Event) (answers : List Verdict) → IsFramed takes limit any
+CountsOn takes holds limit s = (numbered : ℕ → Tree → Tree) (any : Tree) (events : List LogEvent) (answers : List Verdict) → IsFramed takes limit any
     → IsHistory takes limit s numbered any [] events → Answers holds limit s (line s (history s numbered any [] events) ++ (s ∷ [])) answers
     → IsCountedAt s numbered any events answers

@@ -5,7 +5,7 @@ use Rattle.line_io.specs.Device.{Wrote}
 use Rattle.postcard_tree.specs.Tree.{Tree}
 use Rattle.link.specs.Run.{IsFramed, IsSession, session_line, line}
 use Rattle.journal.specs.Records.{numbered, takes_record}
-use Rattle.journal_laws.specs.Numbers.{Event, appended, appends, history, IsHistory}
+use Rattle.journal_laws.specs.Numbers.{LogEvent, appended, appends, history, IsHistory}
 
 -- these values were appended, with the numbers from n on
 pub record AppendsAll {V : Type 0} (takes : Tree → Type 0) (writes : V → Option Tree) (limit n next : ℕ) (old new : Option (List ℕ)) (before after : ℕ) (values : List V) : Type 0 where
@@ -17,7 +17,7 @@ pub record AppendsAll {V : Type 0} (takes : Tree → Type 0) (writes : V → Opt
   pub next_is : next ≡ n + length trees
 
 -- The history went on by an opening and appends of these values: it is one again, and its line is what is held.
-pub record GoesOn {V : Type 0} (takes : Tree → Type 0) (writes : V → Option Tree) (limit : ℕ) (any : Tree) (events : List Event) (held : Option (List ℕ)) (values : List V) : Type 0 where
+pub record HistoryGoesOn {V : Type 0} (takes : Tree → Type 0) (writes : V → Option Tree) (limit : ℕ) (any : Tree) (events : List LogEvent) (held : Option (List ℕ)) (values : List V) : Type 0 where
   pub trees : List Tree
   pub of : AllZip (λ v t. writes v ≡ Some t) values trees
   pub is_history : IsHistory (takes_record takes) limit 0 numbered any [] (events ++ appended trees ∷ [])
@@ -25,5 +25,5 @@ pub record GoesOn {V : Type 0} (takes : Tree → Type 0) (writes : V → Option 
 
 -- So it is behind any history that the store held the line of.
 abbrev pub GoesOnFrom : {V : Type 0} → (Tree → Type 0) → (V → Option Tree) → ℕ → Option (List ℕ) → Option (List ℕ) → List V → Type 0
-GoesOnFrom takes writes limit old new values = (any : Tree) (events : List Event) → IsFramed (takes_record takes) limit any
-    → IsHistory (takes_record takes) limit 0 numbered any [] events → old ≡ Some (line 0 (history 0 numbered any [] events)) → GoesOn takes writes limit any events new values
+GoesOnFrom takes writes limit old new values = (any : Tree) (events : List LogEvent) → IsFramed (takes_record takes) limit any
+    → IsHistory (takes_record takes) limit 0 numbered any [] events → old ≡ Some (line 0 (history 0 numbered any [] events)) → HistoryGoesOn takes writes limit any events new values

@@ -8,10 +8,10 @@ use Rattle.link.specs.Pushes.{Matches}
 use Rattle.link.specs.Roads.{values_of}
 use Rattle.link.specs.declared.receiver.Answer.{Answer}
 use Rattle.journal.specs.Records.{numbered, takes_record, reads_record}
-use Rattle.journal_laws.specs.Numbers.{Event, Counted, read_of, history, IsHistory}
+use Rattle.journal_laws.specs.Numbers.{LogEvent, Counted, read_of, history, IsHistory}
 
 -- what was read of a history and handed to a visitor, and where the journal stands
-pub record ReadsHistory {S V : Type 0} (took : S → List (Answer (ℕ × V)) → S → Type 0) (reads : Tree → V → Type 0) (any : Tree) (events : List Event) (held : Option (List ℕ)) (old new : S) (next : ℕ) : Type 0 where
+pub record ReadsHistory {S V : Type 0} (took : S → List (Answer (ℕ × V)) → S → Type 0) (reads : Tree → V → Type 0) (any : Tree) (events : List LogEvent) (held : Option (List ℕ)) (old new : S) (next : ℕ) : Type 0 where
   pub answers : List (Answer (ℕ × V))
   pub handed : took old answers new
   pub bytes : held ≡ Some (line 0 (history 0 numbered any [] events) ++ 0 ∷ [])
@@ -23,5 +23,5 @@ pub record ReadsHistory {S V : Type 0} (took : S → List (Answer (ℕ × V)) �
 
 -- what opening does to a store that holds the line of a history
 abbrev pub OpensHistory : {S V : Type 0} → (S → List (Answer (ℕ × V)) → S → Type 0) → (Tree → Type 0) → (Tree → V → Type 0) → ℕ → Option (List ℕ) → Option (List ℕ) → S → S → ℕ → Type 0
-OpensHistory took takes reads limit old new visitor later next = (any : Tree) (events : List Event) → IsFramed (takes_record takes) limit any
+OpensHistory took takes reads limit old new visitor later next = (any : Tree) (events : List LogEvent) → IsFramed (takes_record takes) limit any
     → IsHistory (takes_record takes) limit 0 numbered any [] events → old ≡ Some (line 0 (history 0 numbered any [] events)) → ReadsHistory took reads any events new visitor later next

@@ -21,7 +21,9 @@ pub fn open_history<T: DeserializeOwned + Exact, S: Store, V: Visitor<T>, const 
 ) -> Result<Journal<S, N>, Unopened<S>>
     requires some { 1 < N }
     requires fits { ReceiverFitsInMemory N.row }
-    ensures { IfOk result (λ j. OpensHistory V.took T.takes T.reads N (S.held store) (S.held (store_of j)) visitor.old visitor.new (next_of j)) }
+    ensures { IfOk result
+        (λ j. OpensHistory V.took T.takes T.reads N (S.held store) (S.held (store_of j)) visitor.old
+        visitor.new (next_of j)) }
 {
     crate::laws::counts_on::<(u64, T)>();
     link_laws::append::<(u64, T)>();
@@ -39,7 +41,9 @@ pub fn open_history_ordinary<T: DeserializeOwned, S: Store, V: Visitor<T>, const
 ) -> Result<Journal<S, N>, Unopened<S>>
     requires some { 1 < N }
     requires fits { ReceiverFitsInMemory N.row }
-    ensures { IfOk result (λ j. OpensHistory V.took T.takes T.reads N (S.held store) (S.held (store_of j)) visitor.old visitor.new (next_of j)) }
+    ensures { IfOk result
+        (λ j. OpensHistory V.took T.takes T.reads N (S.held store) (S.held (store_of j)) visitor.old
+        visitor.new (next_of j)) }
 {
     crate::laws::counts_on::<(u64, T)>();
     link_laws::append::<(u64, T)>();
@@ -54,7 +58,9 @@ pub fn append_each<T: Lawful, S: Store, const N: usize>(
     journal: &mut Journal<S, N>,
     values: &[T],
 ) -> Result<(), AppendError>
-    ensures all { OnOk result (AppendsAll T.takes T.writes N (next_of journal.old) (next_of journal.new) (S.held (store_of journal.old)) (S.held (store_of journal.new))
+    ensures all { OnOk result
+        (AppendsAll T.takes T.writes N (next_of journal.old) (next_of journal.new)
+        (S.held (store_of journal.old)) (S.held (store_of journal.new))
         (S.faults (store_of journal.old)) (S.faults (store_of journal.new)) values.now) }
     ensures numbers { OnOk result (0 < length values.now → next_of journal.old < 2 ^ 64 - 1) }
 {
@@ -70,7 +76,9 @@ fn append_all<T: Lawful, S: Store + Drop, const N: usize>(
     journal: Journal<S, N>,
     values: &[T],
 ) -> Option<Journal<S, N>>
-    ensures all { IfSome result (λ j. AppendsAll T.takes T.writes N (next_of journal) (next_of j) (S.held (store_of journal)) (S.held (store_of j))
+    ensures all { IfSome result
+        (λ j. AppendsAll T.takes T.writes N (next_of journal) (next_of j)
+        (S.held (store_of journal)) (S.held (store_of j))
         (S.faults (store_of journal)) (S.faults (store_of j)) values.now) }
     ensures numbers { IfSome result (λ j. 0 < length values.now → next_of journal < 2 ^ 64 - 1) }
 {
@@ -91,7 +99,8 @@ pub fn session<
 >(alloc: Global, store: S, visitor: &mut V, values: &[T]) -> Option<Journal<S, N>>
     requires some { 1 < N }
     requires fits { ReceiverFitsInMemory N.row }
-    ensures { IfSome result (λ j. GoesOnFrom T.takes T.writes N (S.held store) (S.held (store_of j)) values.now) }
+    ensures { IfSome result
+        (λ j. GoesOnFrom T.takes T.writes N (S.held store) (S.held (store_of j)) values.now) }
 {
     crate::laws::bytes::<(u64, T)>();
     match open_history::<T, S, V, N>(alloc, store, visitor) {
@@ -109,7 +118,8 @@ pub fn session_ordinary<
 >(alloc: Global, store: S, visitor: &mut V, values: &[T]) -> Option<Journal<S, N>>
     requires some { 1 < N }
     requires fits { ReceiverFitsInMemory N.row }
-    ensures { IfSome result (λ j. GoesOnFrom T.takes T.writes N (S.held store) (S.held (store_of j)) values.now) }
+    ensures { IfSome result
+        (λ j. GoesOnFrom T.takes T.writes N (S.held store) (S.held (store_of j)) values.now) }
 {
     crate::laws::bytes::<(u64, T)>();
     match open_history_ordinary::<T, S, V, N>(alloc, store, visitor) {

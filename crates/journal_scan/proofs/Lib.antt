@@ -1,4 +1,4 @@
-pub mod Walking
-pub mod Standing
-pub mod Gaps
-pub mod Stretches
+pub mod WalkingLemmas
+pub mod StandingLemmas
+pub mod GapsLemmas
+pub mod StretchesLemmas

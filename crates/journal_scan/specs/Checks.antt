@@ -8,7 +8,7 @@ use Rattle.link.specs.declared.receiver.Answer.TheVariants.{Value, Damaged, TooL
 use Rattle.journal.specs.Records.{takes_record, reads_record}
 use Rattle.journal_scan.specs.declared.scanning.Stretch.{Stretch}
 use Rattle.journal_scan.specs.declared.tallies.Tally.{Tally}
-use Rattle.journal_scan.specs.Scanning.{IsStretchAt, IsUnfinished}
+use Rattle.journal_scan.specs.Scanning.{IsStretchAt, IsUnfinishedStretch}
 use Rattle.journal_scan.specs.Tallies.{IsTally}
 
 -- these stretches of a log are these bytes, one after another, each with its place and its answer, strictly
@@ -43,4 +43,4 @@ pub record IsChecked {V W : Type 0} (told : W → List (Stretch V) → W → Typ
   pub handed : told old stretches new
   pub are : IfSome held (λ bytes. AreStretches takes reads limit bytes stretches)
   pub tallied : IsTally (numbers_of (records_in counted stretches)) tally
-  pub rest : IfSome held (λ bytes. IsUnfinished limit bytes (length bytes) unfinished)
+  pub rest : IfSome held (λ bytes. IsUnfinishedStretch limit bytes (length bytes) unfinished)

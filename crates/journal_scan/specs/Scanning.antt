@@ -32,7 +32,7 @@ pub record IsStretchAt {V : Type 0} (holds : List ℕ → Tree → Type 0) (read
   pub is : IsAnswer holds limit stretch verdict
 
 -- Between an offset and a later one the stretches that end are this one alone.
-pub record IsNext {V : Type 0} (holds : List ℕ → Tree → Type 0) (reads : Tree → V → Type 0) (limit : ℕ) (bytes : List ℕ) (old new from to : ℕ) (answer : Answer V) : Type 0 where
+pub record IsNextStretch {V : Type 0} (holds : List ℕ → Tree → Type 0) (reads : Tree → V → Type 0) (limit : ℕ) (bytes : List ℕ) (old new from to : ℕ) (answer : Answer V) : Type 0 where
   pub stretch : List ℕ
   pub is : IsStretchAt holds reads limit bytes stretch from to answer
   pub behind : new ≡ to + 1
@@ -40,7 +40,7 @@ pub record IsNext {V : Type 0} (holds : List ℕ → Tree → Type 0) (reads : T
 
 -- Where a scan stands in a log's bytes: what it read last is what stands at its offset; its receiver stands behind the bytes before;
 -- and the unfinished stretch of these begins at `from`.
-pub record Stands (limit : ℕ) (receiver : Reception CobsDecoderOwned) (at from : ℕ) (past : Bool) (unread bytes : List ℕ) : Type 0 where
+pub record ScanStands (limit : ℕ) (receiver : Reception CobsDecoderOwned) (at from : ℕ) (past : Bool) (unread bytes : List ℕ) : Type 0 where
   pub within : at ≤ length bytes
   pub rest : List ℕ
   pub unread_is : drop at bytes ≡ unread ++ rest
@@ -50,7 +50,7 @@ pub record Stands (limit : ℕ) (receiver : Reception CobsDecoderOwned) (at from
 
 -- a scan of these bytes, with stretches of at most so many
 abbrev pub IsScanning : ℕ → List ℕ → Scan → Type 0
-IsScanning limit bytes scan = Stands limit scan.receiver scan.at scan.from scan.past (drop scan.start (take scan.end scan.room.items)) bytes
+IsScanning limit bytes scan = ScanStands limit scan.receiver scan.at scan.from scan.past (drop scan.start (take scan.end scan.room.items)) bytes
 
 -- the offset of a scan's next byte
 abbrev pub offset_of : Scan → ℕ
@@ -59,7 +59,7 @@ offset_of scan = scan.at
 -- what a scan found between two offsets, strictly: no stretch ends there, or this one does
 abbrev pub Found : {V : Type 0} → (Tree → Type 0) → (Tree → V → Type 0) → ℕ → List ℕ → ℕ → ℕ → Option (Stretch V) → Type 0
 Found takes reads limit bytes old new None = ended 0 (take new bytes) ≡ ended 0 (take old bytes)
-Found takes reads limit bytes old new (Some s) = IsNext (HoldsExactly (takes_record takes)) (reads_record reads) limit bytes old new s.from s.to s.answer
+Found takes reads limit bytes old new (Some s) = IsNextStretch (HoldsExactly (takes_record takes)) (reads_record reads) limit bytes old new s.from s.to s.answer
 
 -- what a scan found of these bytes; at an error it found nothing
 abbrev pub Goes : {V : Type 0} → (Tree → Type 0) → (Tree → V → Type 0) → ℕ → List ℕ → Scan → Scan → Result (Option (Stretch V)) ScanError → Type 0
@@ -78,12 +78,12 @@ IsOver limit n Cut = n ≤ limit
 IsOver limit n a = ⊥
 
 -- the stretch that no zero ends: its place, and whether it is too long
-abbrev pub IsUnfinished : {V : Type 0} → ℕ → List ℕ → ℕ → Option (Stretch V) → Type 0
-IsUnfinished limit bytes at None = unfinished 0 (take at bytes) ≡ []
-IsUnfinished limit bytes at (Some s) =
+abbrev pub IsUnfinishedStretch : {V : Type 0} → ℕ → List ℕ → ℕ → Option (Stretch V) → Type 0
+IsUnfinishedStretch limit bytes at None = unfinished 0 (take at bytes) ≡ []
+IsUnfinishedStretch limit bytes at (Some s) =
     (0 < length (unfinished 0 (take at bytes))) × (s.to ≡ at) × (s.from + length (unfinished 0 (take at bytes)) ≡ at)
     × IsOver limit (length (unfinished 0 (take at bytes))) s.answer
 
 -- A scan of a log is one of each longer log that begins with it.
-abbrev pub GoesOn : Type 0
-GoesOn = (limit : ℕ) (bytes more : List ℕ) (scan : Scan) → IsScanning limit bytes scan → IsScanning limit (bytes ++ more) scan
+abbrev pub ScanGoesOn : Type 0
+ScanGoesOn = (limit : ℕ) (bytes more : List ℕ) (scan : Scan) → IsScanning limit bytes scan → IsScanning limit (bytes ++ more) scan

@@ -65,7 +65,8 @@ pub fn check<T: DeserializeOwned + Exact, S: Store, W: Watcher<T>>(
     store: &mut S,
     watcher: &mut W,
 ) -> Result<Report<T>, CheckError>
-    ensures checked { IfOk result (λ r. IsChecked W.told W.counted T.takes T.reads limit (S.held store.old)
+    ensures checked { IfOk result
+        (λ r. IsChecked W.told W.counted T.takes T.reads limit (S.held store.old)
         watcher.old watcher.new r.tally r.unfinished) }
     ensures held { S.held store.new ≡ S.held store.old }
     ensures settled { S.settled store.new ≡ S.settled store.old }

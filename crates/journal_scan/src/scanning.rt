@@ -56,12 +56,13 @@ pub struct Scan {
 }
 
 impl Scan {
-    ghost use Rattle.journal_scan.specs.Scanning.{IsScanning, offset_of, Goes, Found, FoundAll, IsUnfinished};
+    ghost use Rattle.journal_scan.specs.Scanning.{IsScanning, offset_of, Goes, Found, FoundAll, IsUnfinishedStretch};
 
     /// From an offset on, which is 0 or stands behind a zero, with stretches of at most `limit` bytes. Takes memory for one
     /// stretch's and one read's bytes.
     pub fn new(alloc: Global, limit: usize, at: u64) -> Result<Scan, ScanError>
-        ensures stands { IfOk result (λ scan. (bytes : List ℕ) → at ≤ length bytes → EndsBetween 0 (take at bytes) → IsScanning limit bytes scan) }
+        ensures stands { IfOk result (λ scan. (bytes : List ℕ) → at ≤ length bytes
+            → EndsBetween 0 (take at bytes) → IsScanning limit bytes scan) }
         ensures at { IfOk result (λ scan. offset_of scan ≡ at) }
     {
         let Ok(receiver) = OwnedReceiver::new(alloc, limit, 0) else {
@@ -91,13 +92,16 @@ impl Scan {
 
     // Reads what stands at the offset; false is the end.
     fn fill<S: Store>(&mut self, store: &mut S) -> Result<bool, ScanError>
-        ensures stands { (limit : ℕ) (bytes : List ℕ) → S.held store.old ≡ Some bytes → IsScanning limit bytes self.old → IsScanning limit bytes self.new }
+        ensures stands { (limit : ℕ) (bytes : List ℕ) → S.held store.old ≡ Some bytes
+            → IsScanning limit bytes self.old → IsScanning limit bytes self.new }
         ensures at { self.new.at ≡ self.old.at }
-        ensures end { IfOk result (λ more. more ≡ false → EndsBefore (S.held store.old) self.old.at) }
+        ensures end { IfOk result (λ more. more ≡ false
+            → EndsBefore (S.held store.old) self.old.at) }
         ensures held { S.held store.new ≡ S.held store.old }
         ensures settled { S.settled store.new ≡ S.settled store.old }
         ensures quiet { OnOk result (S.faults store.new ≡ S.faults store.old) }
-        ensures fault { IfErr result (λ e. Failed (S.faults store.old) (S.faults store.new) (S.calls_left store.new)) }
+        ensures fault { IfErr result
+            (λ e. Failed (S.faults store.old) (S.faults store.new) (S.calls_left store.new)) }
         ensures calls { OnOk result (S.calls_left store.new < S.calls_left store.old) }
     {
         match store.read_at(self.at, &mut self.room) {
@@ -116,10 +120,13 @@ impl Scan {
 
     // Passes the zeros in front, where no stretch is begun.
     fn skip_zeros(&mut self)
-        ensures stands { (limit : ℕ) (bytes : List ℕ) → IsScanning limit bytes self.old → IsScanning limit bytes self.new × (ended 0 (take self.new.at bytes) ≡ ended 0 (take self.old.at bytes)) }
+        ensures stands { (limit : ℕ) (bytes : List ℕ) → IsScanning limit bytes self.old
+            → IsScanning limit bytes self.new
+            × (ended 0 (take self.new.at bytes) ≡ ended 0 (take self.old.at bytes)) }
         ensures past { self.new.past ≡ self.old.past }
         ensures back { self.old.at ≤ self.new.at }
-        ensures first { self.new.from ≡ self.new.at → (rest : List ℕ) → drop self.new.start (take self.new.end self.new.room.items) ≡ 0 ∷ rest → ⊥ }
+        ensures first { self.new.from ≡ self.new.at → (rest : List ℕ)
+            → drop self.new.start (take self.new.end self.new.room.items) ≡ 0 ∷ rest → ⊥ }
     {
         if self.from < self.at {
             return;
@@ -136,9 +143,11 @@ impl Scan {
         &mut self,
         alloc: Global,
     ) -> Result<Option<Stretch<T>>, ScanError>
-        requires first { self.old.from ≡ self.old.at → (rest : List ℕ) → drop self.old.start (take self.old.end self.old.room.items) ≡ 0 ∷ rest → ⊥ }
+        requires first { self.old.from ≡ self.old.at → (rest : List ℕ)
+            → drop self.old.start (take self.old.end self.old.room.items) ≡ 0 ∷ rest → ⊥ }
         requires within { self.old.past ≡ false }
-        ensures goes { (limit : ℕ) (bytes : List ℕ) → IsScanning limit bytes self.old → Goes T.takes T.reads limit bytes self.old self.new result }
+        ensures goes { (limit : ℕ) (bytes : List ℕ) → IsScanning limit bytes self.old
+            → Goes T.takes T.reads limit bytes self.old self.new result }
         ensures memory { IfErr result (λ e. e ≡ ScanError.NoMemory) }
         ensures back { self.old.at ≤ self.new.at }
         ensures on { IfOk result (λ o. IfSome o (λ _. self.old.at < self.new.at)) }
@@ -186,7 +195,9 @@ impl Scan {
         requires past { self.old.past ≡ true }
         ensures back { self.old.at ≤ self.new.at }
         ensures on { IfSome result (λ _. self.old.at < self.new.at) }
-        ensures stands { (limit : ℕ) (bytes : List ℕ) → IsScanning limit bytes self.old → IsScanning limit bytes self.new × Found T.takes T.reads limit bytes self.old.at self.new.at result }
+        ensures stands { (limit : ℕ) (bytes : List ℕ) → IsScanning limit bytes self.old
+            → IsScanning limit bytes self.new
+            × Found T.takes T.reads limit bytes self.old.at self.new.at result }
     {
         while self.start < self.end {
             let byte = self.room[self.start];
@@ -209,7 +220,8 @@ impl Scan {
 
     /// The stretch that no zero ends yet, where one is begun: `Cut`, or `TooLong`.
     pub fn unfinished<T>(&self) -> Option<Stretch<T>>
-        ensures { (limit : ℕ) (bytes : List ℕ) → IsScanning limit bytes self.now → IsUnfinished limit bytes (offset_of self.now) result }
+        ensures { (limit : ℕ) (bytes : List ℕ) → IsScanning limit bytes self.now
+            → IsUnfinishedStretch limit bytes (offset_of self.now) result }
     {
         let (from, to) = (self.from, self.at);
         if from == to {
@@ -228,7 +240,8 @@ impl Scan {
         &mut self,
         alloc: Global,
     ) -> Result<Option<Stretch<T>>, ScanError>
-        ensures goes { (limit : ℕ) (bytes : List ℕ) → IsScanning limit bytes self.old → Goes T.takes T.reads limit bytes self.old self.new result }
+        ensures goes { (limit : ℕ) (bytes : List ℕ) → IsScanning limit bytes self.old
+            → Goes T.takes T.reads limit bytes self.old self.new result }
         ensures memory { IfErr result (λ e. e ≡ ScanError.NoMemory) }
         ensures back { self.old.at ≤ self.new.at }
         ensures on { IfOk result (λ o. IfSome o (λ _. self.old.at < self.new.at)) }
@@ -256,13 +269,17 @@ impl Scan {
         alloc: Global,
         store: &mut S,
     ) -> Result<Option<Stretch<T>>, ScanError>
-        ensures stands { (limit : ℕ) (bytes : List ℕ) → S.held store.old ≡ Some bytes → IsScanning limit bytes self.old → IsScanning limit bytes self.new }
-        ensures found { IfOk result (λ o. (limit : ℕ) (bytes : List ℕ) → S.held store.old ≡ Some bytes → IsScanning limit bytes self.old → FoundAll T.takes T.reads limit bytes (offset_of self.old) (offset_of self.new) o) }
+        ensures stands { (limit : ℕ) (bytes : List ℕ) → S.held store.old ≡ Some bytes
+            → IsScanning limit bytes self.old → IsScanning limit bytes self.new }
+        ensures found { IfOk result (λ o. (limit : ℕ) (bytes : List ℕ)
+            → S.held store.old ≡ Some bytes → IsScanning limit bytes self.old
+            → FoundAll T.takes T.reads limit bytes (offset_of self.old) (offset_of self.new) o) }
         ensures on { IfOk result (λ o. IfSome o (λ _. offset_of self.old < offset_of self.new)) }
         ensures held { S.held store.new ≡ S.held store.old }
         ensures settled { S.settled store.new ≡ S.settled store.old }
         ensures quiet { OnOk result (S.faults store.new ≡ S.faults store.old) }
-        ensures fault { result ≡ Err ScanError.Fault → Failed (S.faults store.old) (S.faults store.new) (S.calls_left store.new) }
+        ensures fault { result ≡ Err ScanError.Fault
+            → Failed (S.faults store.old) (S.faults store.new) (S.calls_left store.new) }
     {
         loop {
             match self.next_read::<T>(alloc)? {

@@ -38,7 +38,8 @@ impl Tally {
 
     // Which of the ranges a number lies in.
     fn place(&self, number: u64) -> Option<usize>
-        ensures { MatchOption result (LiesIn self.now.gaps.items number → ⊥) (λ i. (i < length self.now.gaps.items)
+        ensures { MatchOption result (LiesIn self.now.gaps.items number
+            → ⊥) (λ i. (i < length self.now.gaps.items)
             × ((g : Gap) → (slice_index_or self.now.gaps.items i g).first ≤ number)
             × ((g : Gap) → number ≤ (slice_index_or self.now.gaps.items i g).last)) }
     {
@@ -56,7 +57,8 @@ impl Tally {
         requires first { (g : Gap) → (slice_index_or self.old.gaps.items i g).first ≤ number }
         requires last { (g : Gap) → number ≤ (slice_index_or self.old.gaps.items i g).last }
         ensures cut { OnOk result ((g : Gap) → self.new.gaps.items ≡ take i self.old.gaps.items
-            ++ (gaps_without (slice_index_or self.old.gaps.items i g) number ++ drop (i + 1) self.old.gaps.items)) }
+            ++ (gaps_without (slice_index_or self.old.gaps.items i g) number ++ drop (i + 1)
+            self.old.gaps.items)) }
         ensures next { self.new.next ≡ self.old.next }
         ensures count { self.new.count ≡ self.old.count }
         ensures kept { OnErr result (self.new.gaps.items ≡ self.old.gaps.items) }
@@ -96,7 +98,8 @@ impl Tally {
 
     // Makes a range of the numbers from the next one up to this one.
     fn pass_to(&mut self, number: u64) -> Result<(), NoMemory>
-        ensures ahead { OnOk result (self.new.gaps.items ≡ self.old.gaps.items ++ gap_before self.old.next number) }
+        ensures ahead { OnOk result
+            (self.new.gaps.items ≡ self.old.gaps.items ++ gap_before self.old.next number) }
         ensures next { self.new.next ≡ self.old.next }
         ensures count { self.new.count ≡ self.old.count }
         ensures kept { OnErr result (self.new.gaps.items ≡ self.old.gaps.items) }
@@ -116,10 +119,14 @@ impl Tally {
 
     // Puts a number where it belongs, and says whether it was there.
     fn put(&mut self, number: u64) -> Result<bool, NoMemory>
-        ensures put { OnOk result ((numbers : List ℕ) → IsTally numbers self.old → Tallies (numbers ++ number ∷ []) self.new.next self.new.gaps.items (min (self.old.count + 1) (2 ^ 64 - 1))) }
-        ensures again { IfOk result (λ again. (numbers : List ℕ) → IsTally numbers self.old → number < 2 ^ 64 - 1 → IsTrue again ↔ Contains numbers number) }
+        ensures put { OnOk result ((numbers : List ℕ) → IsTally numbers self.old
+            → Tallies (numbers ++ number ∷ []) self.new.next self.new.gaps.items
+            (min (self.old.count + 1) (2 ^ 64 - 1))) }
+        ensures again { IfOk result (λ again. (numbers : List ℕ) → IsTally numbers self.old
+            → number < 2 ^ 64 - 1 → IsTrue again ↔ Contains numbers number) }
         ensures count { self.new.count ≡ self.old.count }
-        ensures kept { OnErr result ((numbers : List ℕ) → IsTally numbers self.old → IsTally numbers self.new) }
+        ensures kept { OnErr result ((numbers : List ℕ) → IsTally numbers self.old
+            → IsTally numbers self.new) }
     {
         if number < self.next {
             return match self.place(number) {
@@ -138,9 +145,12 @@ impl Tally {
     /// Counts a number, and says whether it was counted before (of the greatest number of all that isn't kept). At an error it isn't
     /// counted.
     pub fn count(&mut self, number: u64) -> Result<bool, NoMemory>
-        ensures counted { OnOk result ((numbers : List ℕ) → IsTally numbers self.old → IsTally (numbers ++ number ∷ []) self.new) }
-        ensures again { IfOk result (λ again. (numbers : List ℕ) → IsTally numbers self.old → number < 2 ^ 64 - 1 → IsTrue again ↔ Contains numbers number) }
-        ensures kept { OnErr result ((numbers : List ℕ) → IsTally numbers self.old → IsTally numbers self.new) }
+        ensures counted { OnOk result ((numbers : List ℕ) → IsTally numbers self.old
+            → IsTally (numbers ++ number ∷ []) self.new) }
+        ensures again { IfOk result (λ again. (numbers : List ℕ) → IsTally numbers self.old
+            → number < 2 ^ 64 - 1 → IsTrue again ↔ Contains numbers number) }
+        ensures kept { OnErr result ((numbers : List ℕ) → IsTally numbers self.old
+            → IsTally numbers self.new) }
     {
         let again = self.put(number)?;
         self.count = self.count.saturating_add(1);
@@ -149,7 +159,8 @@ impl Tally {
 
     /// How many numbers were counted, one that was counted twice twice; 2^64 - 1 at most.
     pub fn counted(&self) -> u64
-        ensures { (numbers : List ℕ) → IsTally numbers self.now → result ≡ min (length numbers) (2 ^ 64 - 1) }
+        ensures { (numbers : List ℕ) → IsTally numbers self.now
+            → result ≡ min (length numbers) (2 ^ 64 - 1) }
     {
         self.count
     }

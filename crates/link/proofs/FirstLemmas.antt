@@ -15,7 +15,7 @@ use Rattle.link.specs.declared.listening.End.{End}
 use Rattle.link.specs.declared.listening.End.TheVariants.{Ended, ReadFault, NoMemory}
 use Rattle.link.specs.HeardLaws.{zip_parts, heard_once}
 use Rattle.link.specs.OneAnswers.{one_answer}
-use Rattle.link.proofs.Prefixes.{given_front}
+use Rattle.link.proofs.PrefixesLemmas.{given_front}
 
 some_zip : {A B : Type 0} (R : A → B → Type 0) (xs : List A) (ys : List B) → xs ≢ [] → AllZip R xs ys → (y : B) × (more : List B) × (ys ≡ y ∷ more)
 some_zip R [] ys n h = absurd (n refl)

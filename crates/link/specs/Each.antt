@@ -7,7 +7,7 @@ use Rattle.std.specs.Borrow.{Bor}
 use Rattle.link.specs.Decoding.{Inside}
 use Rattle.link.specs.Steps.{Event}
 use Rattle.link.specs.Finds.{Replies}
-use Rattle.link.specs.Listening.{Keeps, HasRead, HasGiven, IsReceived, IsKept, Hears, IsHeard}
+use Rattle.link.specs.Listening.{KeepsAnswer, HasRead, HasGiven, IsReceived, IsKeptDue, Hears, IsHeard}
 use Rattle.link.specs.declared.reception.Reception.{Reception}
 use Rattle.link.specs.declared.receiver.Answer.{Answer}
 use Rattle.link.specs.declared.receiver.NoMemory.{NoMemory as NoAnswer}
@@ -38,7 +38,7 @@ pub record HandsOn {V : Type 0} (holds : List ℕ → Tree → Type 0) (reads : 
     (e : Event) (answers : List (Answer V)) : Type 0 where
   pub reply : Result (Option (Answer V)) NoAnswer
   pub replies : Replies holds reads e reply
-  pub keeps : Keeps reply [] answers
+  pub keeps : KeepsAnswer reply [] answers
 
 -- An event has an answer that wasn't handed on.
 pub record Withholds {V : Type 0} (holds : List ℕ → Tree → Type 0)
@@ -87,7 +87,7 @@ abbrev pub IsKeptNow : {V : Type 0} → (List ℕ → Tree → Type 0) → (Tree
     → Option End → List (Answer V) → List ℕ → Type 0
 IsKeptNow holds reads limit s None answers stream = HasGiven holds reads limit s answers stream
 IsKeptNow holds reads limit s (Some end) answers stream =
-    IsKept holds reads limit s end answers stream
+    IsKeptDue holds reads limit s end answers stream
 
 -- what a text that lies elsewhere is read from
 abbrev pub reads_lent : Tree → Bor (List ℕ) → Type 0

@@ -2,7 +2,7 @@
 use Rattle.std.proofs.Common.{◌≡◌, ◌≢◌, ℕ, ◌<◌, List, [], ◌∷◌, ◌++◌, length, sym, ap, subst, arith}
 use Rattle.std.proofs.lemmas.List.{append-nil}
 use Rattle.cobs.specs.Frames.{NoZero, spelled, Frame, shortest_frame}
-use Rattle.cobs.specs.FrameLaws.{HasOneMessage, HasOneShortest, HoldsNoZero, BeginsProperly}
+use Rattle.cobs.specs.FrameLaws.{HasOneMessage, HasOneShortest, HoldsNoZero, FrontsBeginProperly}
 use Rattle.postcard_tree.specs.Tree.{Tree, IsTree}
 use Rattle.postcard_tree.specs.Spelling.{Spells, short}
 use Rattle.postcard_tree.specs.Reading.{EndsByItself}
@@ -21,7 +21,7 @@ pub record Facts (takes : Tree → Type 0) : Type 0 where
 -- no beginning of a frame or of a spelling is taken for another
 pub record Breaking (takes : Tree → Type 0) : Type 0 where
   pub nonzero : HoldsNoZero
-  pub begins : BeginsProperly
+  pub begins : FrontsBeginProperly
   pub no_beginning : HasNoBeginning takes
 
 some_spelled : (run : List ℕ) (runs : List (List ℕ)) → 0 < length (spelled run runs)

@@ -68,14 +68,14 @@ pub record GathersPieces {V : Type 0} (takes : Tree → Type 0) (reads : Tree �
       → Loops takes reads growing may_stop room held (pieces ++ later) (got ++ vs)
 
 -- pieces of these bytes on the line
-pub record Gathers {V : Type 0} (takes : Tree → Type 0) (reads : Tree → V → Type 0) (growing : Bool)
+pub record GathersOnLine {V : Type 0} (takes : Tree → Type 0) (reads : Tree → V → Type 0) (growing : Bool)
     (room s : ℕ) (held bytes kept : List ℕ) (old new : List V) : Type 0 where
   pub pieces : List (List ℕ)
   pub are : joined pieces ≡ bytes
   pub gathers : GathersPieces takes reads growing room held (map (masked s) pieces) kept old new
 
 -- pieces of these bytes on the line; then a further value had no place in the list
-pub record Lacks {V : Type 0} (takes : Tree → Type 0) (reads : Tree → V → Type 0) (growing : Bool)
+pub record LacksListRoom {V : Type 0} (takes : Tree → Type 0) (reads : Tree → V → Type 0) (growing : Bool)
     (room s : ℕ) (held bytes : List ℕ) (old new : List V) : Type 0 where
   pub pieces : List (List ℕ)
   pub are : joined pieces ≡ bytes
@@ -85,14 +85,14 @@ pub record Lacks {V : Type 0} (takes : Tree → Type 0) (reads : Tree → V → 
   pub loops : Loops takes reads growing true room held (map (masked s) pieces) (got ++ lost ∷ [])
 
 -- what was gathered, by how the reading ended
-abbrev pub IsGathered : {V : Type 0} → (Tree → Type 0) → (Tree → V → Type 0) → Bool → ℕ → ℕ → List ℕ
+abbrev pub HasGathered : {V : Type 0} → (Tree → Type 0) → (Tree → V → Type 0) → Bool → ℕ → ℕ → List ℕ
     → List ℕ → List ℕ → List V → List V → End → Type 0
-IsGathered takes reads growing room s held bytes kept old new Ended =
-    Gathers takes reads growing room s held bytes kept old new
-IsGathered takes reads growing room s held bytes kept old new ReadFault =
-    Gathers takes reads growing room s held bytes kept old new
-IsGathered takes reads growing room s held bytes kept old new NoMemory =
-    Lacks takes reads growing room s held bytes old new
+HasGathered takes reads growing room s held bytes kept old new Ended =
+    GathersOnLine takes reads growing room s held bytes kept old new
+HasGathered takes reads growing room s held bytes kept old new ReadFault =
+    GathersOnLine takes reads growing room s held bytes kept old new
+HasGathered takes reads growing room s held bytes kept old new NoMemory =
+    LacksListRoom takes reads growing room s held bytes old new
 
 -- Where the stretches of the bytes fit, the values are those of the answers.
 abbrev pub AreThose : {V : Type 0} → (Tree → Type 0) → (Tree → V → Type 0)

@@ -2,7 +2,7 @@
 -- `HoldsExactly` says.
 use Rattle.std.specs.Prelude.{◌≡◌, ◌≢◌, ◌↔◌, ◌⊎◌, List, [], ◌∷◌, ◌++◌, ℕ, ◌+◌, ◌-◌, ◌≤◌, ◌==◌, length, map, take, count_by, Option, Some, Ok}
 use Rattle.std.specs.List.{after_first}
-use Rattle.cobs.specs.Cases.{IsFull, trailing}
+use Rattle.cobs.specs.Cases.{FillsBlocks, trailing}
 use Rattle.cobs.specs.Frames.{shortest_frame, longest_frame, most_length}
 use Rattle.cobs.specs.Sentinel.{masked}
 use Rattle.cobs.specs.Whole.{unpadded}
@@ -115,8 +115,8 @@ IsToldByLengths takes =
 -- spelling ends in a run of nonzero bytes whose length is a positive multiple of 254.
 abbrev pub DiffersByBlock : Option Tree → Type 0
 DiffersByBlock writes = (t : Tree) → writes ≡ Some t
-    → (IsFull (trailing (short t)) × (longest_frame (short t) ≡ shortest_frame (short t) ++ 1 ∷ []))
-    ⊎ ((¬ IsFull (trailing (short t))) × (longest_frame (short t) ≡ shortest_frame (short t)))
+    → (FillsBlocks (trailing (short t)) × (longest_frame (short t) ≡ shortest_frame (short t) ++ 1 ∷ []))
+    ⊎ ((¬ FillsBlocks (trailing (short t))) × (longest_frame (short t) ≡ shortest_frame (short t)))
 
 -- Reading in place again and again gives the answers of reading in place: none where only sentinels are left, and else the answer
 -- to the next stretch before the answers to what is left.

@@ -4,7 +4,7 @@ use Rattle.std.proofs.lemmas.List.{append-nil}
 use Rattle.std.proofs.lemmas.Bool.{cases_eq}
 use Rattle.cobs.specs.Frames.{Frame, shortest_frame, most_length}
 use Rattle.cobs.specs.FrameLaws.{HasOneOther, GrowsWithItsBytes, IsWithinLengths}
-use Rattle.cobs.specs.Thinner.{Within}
+use Rattle.cobs.specs.Thinner.{IsThinner}
 use Rattle.postcard_tree.specs.Tree.{Tree, IsTree}
 use Rattle.postcard_tree.specs.Spelling.{Spells, short}
 use Rattle.postcard.specs.Greatest.{SizeWithin}
@@ -37,7 +37,7 @@ none_left : (x : List ℕ) → length x ≡ 0 → x ≡ []
 none_left [] e = refl
 none_left (b ∷ x) e = absurd (omega arith)
 
-within_front : (b a c : List ℕ) → Within a b → Within a (b ++ c)
+within_front : (b a c : List ℕ) → IsThinner a b → IsThinner a (b ++ c)
 within_front b [] c w = tt
 within_front [] (x ∷ a) c w = absurd w
 within_front (y ∷ b) (x ∷ a) c (inl (inl w)) = inl (inl (w.0, w.1, within_front b a c w.2))
@@ -48,7 +48,7 @@ module _ (takes : Tree → Type 0) (facts : Facts takes) (other : HasOneOther) w
   -- what the contract of `link_laws::least` says, by laws of frames and spellings
   pub is_least : KeepsItsPattern → GrowsWithItsBytes → (limit : ℕ) → IsLeast takes limit
   is_least keeps grows limit stretch t (l, h) =
-      let w : Within (short t) h.message = subst (Within (short t)) (sym h.begins) (within_front h.front (short t) h.rest (keeps t h.front (facts.trees t h.taken) h.spelled)) in
+      let w : IsThinner (short t) h.message = subst (IsThinner (short t)) (sym h.begins) (within_front h.front (short t) h.rest (keeps t h.front (facts.trees t h.taken) h.spelled)) in
       let g = grows (short t) h.message w in
       elim (shortest_or_longer other stretch h.message h.frame) [
         | inl e ↦ omega (arith, g, ap length e)

@@ -1,8 +1,8 @@
 //! What a receiver asks of its decoder, so that receiving is written once.
 ghost use Rattle.std.specs.Prelude.{◌≡◌, [], length, bit_xor};
 ghost use Rattle.cobs.specs.Sentinel.{masked};
-ghost use Rattle.cobs.specs.Streaming.{Stands};
-ghost use Rattle.cobs.specs.Taking.{TakesByte, TakesPiece};
+ghost use Rattle.cobs.specs.Streaming.{HasStreamed};
+ghost use Rattle.cobs.specs.Taking.{FeedsByte, TakesPiece};
 ghost use Rattle.link.specs.Decoding.{Inside};
 
 use cobs::{CobsDecoderHeapless, CobsDecoderOwned, DecodeError, DecodeReport};
@@ -14,7 +14,7 @@ pub trait Decoding {
 
     /// Takes a byte of a frame.
     fn feed(&mut self, byte: u8) -> Result<Option<usize>, DecodeError>
-        ensures takes { TakesByte (inside self.old).progress (inside self.old).buffer
+        ensures takes { FeedsByte (inside self.old).progress (inside self.old).buffer
             (bit_xor (inside self.old).sentinel byte) result
             (inside self.new).progress (inside self.new).buffer }
         ensures sentinel { (inside self.new).sentinel ≡ (inside self.old).sentinel };
@@ -28,7 +28,7 @@ pub trait Decoding {
 
     /// Forgets what was taken of a frame.
     fn reset(&mut self)
-        ensures idle { Stands (inside self.new).progress [] }
+        ensures idle { HasStreamed (inside self.new).progress [] }
         ensures buffer { (inside self.new).buffer ≡ (inside self.old).buffer }
         ensures sentinel { (inside self.new).sentinel ≡ (inside self.old).sentinel };
 

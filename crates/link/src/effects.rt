@@ -4,7 +4,7 @@ ghost use Rattle.postcard_tree.specs.Tree.{Tree};
 ghost use Rattle.link.specs.Steps.{Course};
 ghost use Rattle.link.specs.Finds.{IsTaken, lent_message};
 ghost use Rattle.link.specs.Judged.{IsJudged};
-ghost use Rattle.link.specs.Listening.{Keeps};
+ghost use Rattle.link.specs.Listening.{KeepsAnswer};
 ghost use Rattle.link.specs.Each.{Handed, HandsOn, Withholds, HearerLaws, reads_lent};
 ghost use Rattle.link.specs.declared.receiver.Answer.{Answer};
 
@@ -70,7 +70,7 @@ fn hand_value<T: Readable + Drop, H: Hearer<T>>(
     answer: Result<Option<Answer<T>>, NoMemory>,
 ) -> Result<(), NoMemory>
     ensures ok { OnOk result
-        (Handed H.hears hearer.old hearer.new (λ answers. Keeps answer [] answers)) }
+        (Handed H.hears hearer.old hearer.new (λ answers. KeepsAnswer answer [] answers)) }
     ensures err { OnErr result ((hearer.new ≡ hearer.old) × (answer ≡ Ok None → ⊥) × IsErr answer) }
 {
     match answer {
@@ -130,7 +130,7 @@ fn hand_text<H: TextHearer>(
     answer: Result<Option<Answer<&str>>, NoMemory>,
 ) -> Result<(), NoMemory>
     ensures ok { OnOk result
-        (Handed H.hears hearer.old hearer.new (λ answers. Keeps answer.entry [] answers)) }
+        (Handed H.hears hearer.old hearer.new (λ answers. KeepsAnswer answer.entry [] answers)) }
     ensures err { OnErr result
         ((hearer.new ≡ hearer.old) × (answer.entry ≡ Ok None → ⊥) × IsErr answer.entry) }
 {

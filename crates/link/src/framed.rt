@@ -1,11 +1,11 @@
 //! Frames of values.
 ghost use Rattle.std.specs.Prelude.{◌≡◌, ℕ, ◌<◌, ◌≤◌, [], true, false, Ok, Err, IfOk, IfErr, OnOk, length, take};
-ghost use Rattle.postcard.specs.Written.{WrittenAs, UnlessRefused};
+ghost use Rattle.postcard.specs.Written.{WrittenWhole, UnlessRefused};
 ghost use Rattle.postcard_tree.specs.declared.error.Error.TheVariants.{SerializeBufferFull};
 ghost use Rattle.cobs.specs.Frames.{shortest_frame};
 ghost use Rattle.cobs.specs.Sentinel.{frame_for};
 ghost use Rattle.cobs.specs.Fronts.{StandsIn};
-ghost use Rattle.link.specs.Framing.{Framing, told_of, Took, Refuses, HasRoom, Finishes};
+ghost use Rattle.link.specs.Framing.{Framing, told_of, TookBytes, Refuses, HasRoom, Finishes};
 
 use cobs::FrameFront;
 use postcard::ser_flavors::Flavor;
@@ -57,7 +57,7 @@ impl<'a> Flavor for Framed<'a> {
 
     ghost told = { λ s. told_of (framing_of s) };
 
-    ghost took = { λ s a t. Took (framing_of s) a (framing_of t) };
+    ghost took = { λ s a t. TookBytes (framing_of s) a (framing_of t) };
 
     ghost refused = { λ s a e t. Refuses (framing_of s) a e (framing_of t) };
 
@@ -104,7 +104,7 @@ impl<'a> Flavor for Framed<'a> {
 /// Where both hold, either cause may be named.
 pub fn frame_into<T: Serialize>(value: &T, buffer: &mut [u8]) -> Result<usize>
     requires { 0 < length buffer.old }
-    ensures ok { IfOk result (λ n. WrittenAs (T.writes value.now)
+    ensures ok { IfOk result (λ n. WrittenWhole (T.writes value.now)
         (λ bytes. (n ≡ length (shortest_frame bytes)) × (take n buffer.new ≡ frame_for 0 bytes))) }
     ensures err { IfErr result (λ e. UnlessRefused (T.writes value.now) (λ bytes.
         (e ≡ SerializeBufferFull) × (length buffer.old < length (shortest_frame bytes)))) }
@@ -120,7 +120,7 @@ pub fn frame_into_with_sentinel<T: Serialize>(
     sentinel: u8,
 ) -> Result<usize>
     requires { 0 < length buffer.old }
-    ensures ok { IfOk result (λ n. WrittenAs (T.writes value.now) (λ bytes.
+    ensures ok { IfOk result (λ n. WrittenWhole (T.writes value.now) (λ bytes.
         (n ≡ length (shortest_frame bytes)) × (take n buffer.new ≡ frame_for sentinel bytes))) }
     ensures err { IfErr result (λ e. UnlessRefused (T.writes value.now) (λ bytes.
         (e ≡ SerializeBufferFull) × (length buffer.old < length (shortest_frame bytes)))) }

@@ -4,7 +4,7 @@ ghost use Rattle.cobs.specs.Sentinel.{masked};
 ghost use Rattle.postcard.specs.Gathers.{held_of, sentinel_of};
 ghost use Rattle.link.specs.Listening.{HasRead};
 ghost use Rattle.link.specs.Each.{UsesFew};
-ghost use Rattle.link.specs.Gathering.{GathersPiece, LacksPlace, AreSameByAccumulator, IsGathered, AreThoseBy, AreThoseFor, AreLooped, AccumulatorFitsInMemory};
+ghost use Rattle.link.specs.Gathering.{GathersPiece, LacksPlace, AreSameByAccumulator, HasGathered, AreThoseBy, AreThoseFor, AreLooped, AccumulatorFitsInMemory};
 
 use crate::listening::End;
 use crate::receiver::NoMemory;
@@ -70,7 +70,7 @@ fn collect<T: DeserializeOwned, R: Inlet, const N: usize>(
     requires { 0 < N }
     ensures gathered { (bytes : List ℕ) × HasRead (R.to_come reader.old) (R.to_come reader.new)
         (R.faults reader.old) (R.faults reader.new) (R.calls_left reader.new) result bytes
-        × IsGathered T.takes T.reads T.growing N
+        × HasGathered T.takes T.reads T.growing N
         (sentinel_of accumulator.old) (held_of accumulator.old) bytes
         (held_of accumulator.new) values.old.items values.new.items result }
     ensures calls { UsesFew (R.to_come reader.old) (R.to_come reader.new)

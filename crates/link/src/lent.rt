@@ -4,7 +4,7 @@ ghost use Rattle.std.specs.Borrow.{sem};
 ghost use Rattle.cobs.specs.Frames.{Frame};
 ghost use Rattle.postcard.specs.Frames.{Holds};
 ghost use Rattle.link.specs.Stream.{HoldsExactly};
-ghost use Rattle.link.specs.Lending.{Reads};
+ghost use Rattle.link.specs.Lending.{ReadsLent};
 ghost use Rattle.link.specs.Steps.{Course};
 ghost use Rattle.link.specs.Finds.{IsTaken, Replies, AnswersStretch, lent_message};
 
@@ -20,11 +20,11 @@ impl<D: Decoding> Reception<D> {
     ghost use Rattle.link.specs.contracts.reception.Reception.{the_row};
     ghost use mathlib.Core.Option.{none};
     ghost use denote.Follow.{follows_so};
-    ghost use Rattle.link.specs.Lending.{Advances, Leads, AnswersBy, StandsBy};
+    ghost use Rattle.link.specs.Lending.{AdvancesToEvent, Leads, AnswersBy, StandsBy};
 
     // Takes bytes of a piece, up to the first that brings something about, and lends the message of a frame.
     pub(crate) fn advance<'de>(&'de mut self, piece: &[u8]) -> Taken<&'de [u8]>
-        ensures answer { Advances D.inside self.entry.now piece.now result }
+        ensures answer { AdvancesToEvent D.inside self.entry.now piece.now result }
         ensures* after { sem 𝓛 (follows_so (the_row D.row) (the_row D.row) self.entry.ghost_name
             none (λ _ _. ⊤) (λ n. Leads D.inside self.entry.now piece.now n)) }
     {
@@ -116,7 +116,7 @@ fn read_lent<'de, T: Deserialize<&'de [u8]>>(
 
 // What a push gives that took this.
 fn pushed<'de, T: Deserialize<&'de [u8]>>(alloc: Global, taken: Taken<&'de [u8]>) -> Pushed<T>
-    ensures { Reads T.takes T.reads T.growing taken.entry result }
+    ensures { ReadsLent T.takes T.reads T.growing taken.entry result }
 {
     Pushed {
         used: taken.used,

@@ -36,7 +36,8 @@ pub struct Sender<W, const N: usize> {
 }
 
 impl<W: Outlet, const N: usize> Sender<W, N> {
-    ghost use Rattle.link.specs.Senders.{writer_of, clean_of, sentinel_of, HasSent, UnlessRefusal, OnRefusal, OnLine, Failed};
+    ghost use Rattle.line_io.specs.Transfers.{Failed};
+    ghost use Rattle.link.specs.Senders.{writer_of, clean_of, sentinel_of, HasSent, UnlessRefusal, OnRefusal, OnLine};
 
     /// A sender that hasn't written anything, and isn't clean. The caller owes that N is at least 1.
     pub fn new(writer: W) -> Sender<W, N>

@@ -1,4 +1,4 @@
-pub mod Decoding
-pub mod Kept
-pub mod Whole
-pub mod First
+pub mod DecodingLemmas
+pub mod KeptLemmas
+pub mod WholeLemmas
+pub mod FirstLemmas

@@ -29,7 +29,7 @@ module _ {N : ℕ} where
     pub sentinel : encoder_sentinel t ≡ encoder_sentinel s
 
   -- the value is refused as a sender refuses it, or its bytes had no room
-  abbrev pub Refuses : LinkEncoder N → Option Tree → ℕ → EncodeError → Type 0
-  Refuses s writes spare (Refused e) = IsRefusal N writes e
-  Refuses s writes spare (Io e) = (tree : Tree) × (writes ≡ Some tree)
+  abbrev pub RefusesValue : LinkEncoder N → Option Tree → ℕ → EncodeError → Type 0
+  RefusesValue s writes spare (Refused e) = IsRefusal N writes e
+  RefusesValue s writes spare (Io e) = (tree : Tree) × (writes ≡ Some tree)
       × LacksRoom (length (sent (encoder_sentinel s) (encoder_clean s) tree)) spare e

@@ -43,7 +43,7 @@ impl<C: Decoder, const N: usize> Decoder for LinkCodec<C, N> {
 }
 
 impl<T: Serialize + Drop, C, const N: usize> Encoder<T> for LinkCodec<C, N> {
-    ghost use Rattle.link_codec.specs.Encoding.{Encodes, Refuses};
+    ghost use Rattle.link_codec.specs.Encoding.{Encodes, RefusesValue};
 
     type Error = EncodeError;
 
@@ -51,7 +51,7 @@ impl<T: Serialize + Drop, C, const N: usize> Encoder<T> for LinkCodec<C, N> {
         Encodes s.encoder (T.writes item) (T.valid item) frame t.encoder
         × (t.decoder ≡ s.decoder) };
 
-    ghost refuses = { λ s item spare e. Refuses s.encoder (T.writes item) spare e };
+    ghost refuses = { λ s item spare e. RefusesValue s.encoder (T.writes item) spare e };
 
     fn encode(&mut self, item: T, dst: &mut BytesMut) -> Result<(), EncodeError> {
         self.encoder.encode(item, dst)

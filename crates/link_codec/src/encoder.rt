@@ -72,13 +72,13 @@ fn append(dst: &mut BytesMut, clean: bool, frame: &[u8], sentinel: u8) -> Result
 }
 
 impl<T: Serialize + Drop, const N: usize> Encoder<T> for LinkEncoder<N> {
-    ghost use Rattle.link_codec.specs.Encoding.{Encodes, Refuses};
+    ghost use Rattle.link_codec.specs.Encoding.{Encodes, RefusesValue};
 
     type Error = EncodeError;
 
     ghost encodes = { λ s item frame t. Encodes s (T.writes item) (T.valid item) frame t };
 
-    ghost refuses = { λ s item spare e. Refuses s (T.writes item) spare e };
+    ghost refuses = { λ s item spare e. RefusesValue s (T.writes item) spare e };
 
     fn encode(&mut self, item: T, dst: &mut BytesMut) -> Result<(), EncodeError> {
         let mut buffer = [0u8; N];

@@ -20,8 +20,8 @@ use Rattle.tokio_util.specs.Codec.Framed.{Reads, PollsFrame}
 use Rattle.tokio_util.specs.Codec.Whole.{EndIsFinal, EncodesAll}
 
 -- all that the reader gives up to its end are these bytes
-abbrev pub Brings : {R : Type 0} → Passes R → (R → Type 0) → R → List ℕ → Type 0
-Brings {R} gave is_at_end reader stream =
+abbrev pub GivesToItsEnd : {R : Type 0} → Passes R → (R → Type 0) → R → List ℕ → Type 0
+GivesToItsEnd {R} gave is_at_end reader stream =
     (bytes : List ℕ) (last : R) → gave reader bytes last → is_at_end last → bytes ≡ stream
 
 -- a completed send of each value
@@ -30,16 +30,16 @@ SendsEach writes valid =
     AllZip (λ v x. (t : Tree) × (writes v ≡ Some t) × valid v × (x ≡ completed t))
 
 -- the encoder wrote these bytes for these values, one after another
-abbrev pub Wrote : {V : Type 0} {N : ℕ} → LinkEncoder N → (V → Option Tree) → (V → Type 0)
+abbrev pub WroteValues : {V : Type 0} {N : ℕ} → LinkEncoder N → (V → Option Tree) → (V → Type 0)
     → List V → List ℕ → LinkEncoder N → Type 0
-Wrote e writes valid values bytes later =
+WroteValues e writes valid values bytes later =
     EncodesAll (λ s v frame t. Encodes s (writes v) (valid v) frame t) e values bytes later
 
 -- the bytes are those of a session of these values from where the encoder stands
 abbrev pub IsSessionOf : {V : Type 0} {N : ℕ} → LinkEncoder N
     → (V → Option Tree) → (V → Type 0) → List V → Type 0
 IsSessionOf {V} {N} e writes valid values =
-    (bytes : List ℕ) (later : LinkEncoder N) → Wrote e writes valid values bytes later
+    (bytes : List ℕ) (later : LinkEncoder N) → WroteValues e writes valid values bytes later
     → (sends : List Send) × SendsEach writes valid values sends
     × IsSession IsTree N (encoder_sentinel e) (encoder_clean e) sends
     × (bytes ≡ session_line (encoder_sentinel e) (encoder_clean e) sends)
@@ -53,7 +53,7 @@ module _ {R C V : Type 0} (gave : Passes R) (is_at_end : R → Type 0) (fails : 
     pub begins : Begins (λ d. d) IsGiven limit s f
     pub oks : All IsOk items
     pub yields : Yields (PollsFrame gave is_at_end fails gives IsOfReader) f items None
-    pub brings : Brings gave is_at_end f.io stream
+    pub brings : GivesToItsEnd gave is_at_end f.io stream
 
   -- From a reader that brings the line of a run, the items up to the end, where none is an error, are what is to be told of the run.
   abbrev pub IsToldWhole : (Tree → Type 0) → (Tree → V → Type 0) → Reads R C → Type 0
@@ -67,6 +67,6 @@ module _ {R C V : Type 0} (gave : Passes R) (is_at_end : R → Type 0) (fails : 
       → (V → V → Type 0) → LinkEncoder N → List V → ℕ → Reads R C → Type 0
   IsCarriedWhole {N} writes valid alike e values limit f =
       (bytes : List ℕ) (later : LinkEncoder N) (items : List (Result (Answer V) DecodeError))
-      → encoder_clean e ≡ false → Wrote e writes valid values bytes later
+      → encoder_clean e ≡ false → WroteValues e writes valid values bytes later
       → YieldsOf limit (encoder_sentinel e) f bytes items
       → AllZip (AlikeAnswers alike) (map Value values) (answers_of items)

@@ -1,8 +1,8 @@
-pub mod Proved
-pub mod Strict
-pub mod Valued
-pub mod Pushing
-pub mod Renewing
-pub mod RunHeard
-pub mod Crashes
-pub mod Telling
+pub mod ProvedLemmas
+pub mod StrictLemmas
+pub mod ValuedLemmas
+pub mod PushingLemmas
+pub mod RenewingLemmas
+pub mod RunHeardLemmas
+pub mod CrashesLemmas
+pub mod TellingLemmas

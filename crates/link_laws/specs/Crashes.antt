@@ -77,12 +77,12 @@ IsLeft takes limit s =
     (run : List (List Send)) (k : ℕ) → IsRun takes limit s run → IsLine takes limit s k run
 
 -- one run and then another one
-pub record AreRuns (takes : Tree → Type 0) (limit s : ℕ)
+pub record AreTwoRuns (takes : Tree → Type 0) (limit s : ℕ)
     (run later : List (List Send)) : Type 0 where
   pub is_run : IsRun takes limit s (run ++ later)
   pub bytes : line s (run ++ later) ≡ line s run ++ line s later
 
 -- Runs one after another are a run, and their lines its line.
-abbrev pub GoesOn : (Tree → Type 0) → ℕ → ℕ → Type 0
-GoesOn takes limit s = (run later : List (List Send)) → IsRun takes limit s run
-    → IsRun takes limit s later → AreRuns takes limit s run later
+abbrev pub RunsGoOn : (Tree → Type 0) → ℕ → ℕ → Type 0
+RunsGoOn takes limit s = (run later : List (List Send)) → IsRun takes limit s run
+    → IsRun takes limit s later → AreTwoRuns takes limit s run later

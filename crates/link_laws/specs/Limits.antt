@@ -3,7 +3,7 @@ use Rattle.std.specs.Prelude.{◌≡◌, ◌↔◌, ℕ, List, [], ◌++◌}
 use Rattle.postcard_tree.specs.Tree.{Tree}
 use Rattle.link.specs.Stream.{Verdict, unfinished, cut_answers, Given, Answers}
 use Rattle.link.specs.Laws.{EndsBetween}
-use Rattle.link_laws.specs.Pieced.{Pushes}
+use Rattle.link_laws.specs.Pieced.{PushesPieces}
 use Rattle.link.specs.Roads.{joined}
 
 -- The limit is set anew behind bytes that are empty or end in a sentinel: the answers are those given of these bytes under the
@@ -17,12 +17,12 @@ pub record HeardAnew (holds : List ℕ → Tree → Type 0) (limit next s : ℕ)
   pub answered : Answers holds next s rest back
   pub whole : answers ≡ front ++ back
 
--- Pushes of any pieces before the limit is set and behind it, with what is said of an unfinished stretch at the end, answer that.
+-- PushesPieces of any pieces before the limit is set and behind it, with what is said of an unfinished stretch at the end, answer that.
 -- And where the limits are the same, these are the answers to the whole stream.
 pub record IsSetAnew (holds : List ℕ → Tree → Type 0) (s : ℕ) : Type 0 where
   pub pushed : (limit next : ℕ) (before behind : List (List ℕ)) (us vs : List Verdict)
       → EndsBetween s (joined before)
-      → Pushes holds limit s [] before us → Pushes holds next s [] behind vs
+      → PushesPieces holds limit s [] before us → PushesPieces holds next s [] behind vs
       → HeardAnew holds limit next s (joined before) (joined behind)
       (us ++ (vs ++ cut_answers next (unfinished s (joined behind))))
   pub same : (limit : ℕ) (first rest : List ℕ) (answers : List Verdict) → EndsBetween s first

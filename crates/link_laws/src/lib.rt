@@ -21,7 +21,7 @@ ghost use Rattle.link_laws.specs.Sessions.{CarriesValues};
 ghost use Rattle.link_laws.specs.Pieced.{AreOfTheWhole};
 ghost use Rattle.link_laws.specs.Limits.{IsSetAnew};
 ghost use Rattle.link.specs.Fates.{IsCarried};
-ghost use Rattle.link_laws.specs.Crashes.{IsHeardBetween, IsLeft, GoesOn};
+ghost use Rattle.link_laws.specs.Crashes.{IsHeardBetween, IsLeft, RunsGoOn};
 ghost use Rattle.link.specs.Laws.{IsRunWithin, IsTold, HasOneAnswer, Appends, IsLocal, StartsAnywhere, IsDamagedInFronts, IsInjective, IsLeast, DiffersByBlock};
 
 pub mod headline;
@@ -100,7 +100,7 @@ pub fn between<T: Readable>()
 /// all there, and one broken off. And runs one after another are a run.
 pub fn left<T: Readable>()
     ensures front { (limit s : ℕ) → IsLeft T.takes limit s }
-    ensures goes_on { (limit s : ℕ) → GoesOn T.takes limit s }
+    ensures goes_on { (limit s : ℕ) → RunsGoOn T.takes limit s }
 {}
 
 /// Whatever was sent with frames within a limit was sent with frames within a greater one.

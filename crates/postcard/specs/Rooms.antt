@@ -5,11 +5,11 @@ use Rattle.postcard_tree.specs.declared.error.Error.{Error}
 use Rattle.postcard_tree.specs.declared.error.Error.TheVariants.{SerializeBufferFull}
 use Rattle.postcard_tree.specs.Tree.{Tree}
 use Rattle.postcard.specs.Greatest.{SizeWithin}
-use Rattle.postcard.specs.Written.{WrittenAs, UnlessRefused}
+use Rattle.postcard.specs.Written.{WrittenWhole, UnlessRefused}
 
 -- the size that `serialized_size` answers is at most the greatest
 pub at_most_size : (o : Option Tree) (g : Option ℕ) (m : ℕ) (r : Result ℕ Error) → SizeWithin o g
-    → g ≡ Some m → IfOk r (λ n. WrittenAs o (λ bytes. n ≡ length bytes)) → IfOk r (λ n. n ≤ m)
+    → g ≡ Some m → IfOk r (λ n. WrittenWhole o (λ bytes. n ≡ length bytes)) → IfOk r (λ n. n ≤ m)
 at_most_size None g m (Ok n) w e h = absurd h
 at_most_size (Some t) g m (Ok n) w e h = let a = w.at_most t m refl e in omega (arith, a, h.1)
 at_most_size o g m (Err x) w e h = tt

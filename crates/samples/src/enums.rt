@@ -104,7 +104,14 @@ impl Shaped for DataEnum {
 
     type Shape = DataEnumShape;
 
-    ghost shape = { λ v. elim v [ Bib n ↦ V0 n | Bim n ↦ V1 n | Bap n ↦ V2 n | Kim s ↦ V3 s | Chi a b ↦ More (This (a, b)) | Sho a b ↦ More (Other (Last (a, b))) ] };
+    ghost shape = { λ v. elim v [
+      | Bib n ↦ V0 n
+      | Bim n ↦ V1 n
+      | Bap n ↦ V2 n
+      | Kim s ↦ V3 s
+      | Chi a b ↦ More (This (a, b))
+      | Sho a b ↦ More (Other (Last (a, b)))
+    ] };
 
     fn from_shape(it: DataEnumShape) -> DataEnum {
         match it {

@@ -1,7 +1,7 @@
-mod Tops
-mod Taking
-mod Fronts
-mod Pushed
-mod Maps
-mod Tables
-mod Agreeing
+mod TopsLemmas
+mod TakingLemmas
+mod FrontsLemmas
+mod PushedLemmas
+mod MapsLemmas
+mod TablesLemmas
+mod AgreeingLemmas

@@ -21,9 +21,12 @@ pub fn from_bytes(
     depth: u32,
     s: &[u8],
 ) -> Result<Value>
-    ensures value { IfOk result (λ v. (rest : List ℕ) × ReadsFront (SchemaReads depth nodes.now place) s.now rest v) }
-    ensures only { AnswersFronts (SchemaTakes depth nodes.now place) (SchemaReads depth nodes.now place) true s.now result }
-    ensures first { IfErr result (λ e. (e ≡ OutOfMemory) ⊎ SchemaRefuses depth nodes.now place s.now e) }
+    ensures value { IfOk result (λ v. (rest : List ℕ)
+        × ReadsFront (SchemaReads depth nodes.now place) s.now rest v) }
+    ensures only { AnswersFronts (SchemaTakes depth nodes.now place)
+        (SchemaReads depth nodes.now place) true s.now result }
+    ensures first { IfErr result (λ e. (e ≡ OutOfMemory)
+        ⊎ SchemaRefuses depth nodes.now place s.now e) }
 {
     let mut d = Deserializer::from_bytes(alloc, s);
     read_value(&mut d, nodes, place, depth)
@@ -37,9 +40,12 @@ pub fn take_from_bytes<'a>(
     depth: u32,
     s: &'a [u8],
 ) -> Result<(Value, &'a [u8])>
-    ensures value { IfOk result (λ p. ReadsFront (SchemaReads depth nodes.now place) s.now p.1.now p.0) }
-    ensures only { AnswersFronts (SchemaTakes depth nodes.now place) (SchemaReads depth nodes.now place) true s.now (first_of result) }
-    ensures first { IfErr result (λ e. (e ≡ OutOfMemory) ⊎ SchemaRefuses depth nodes.now place s.now e) }
+    ensures value { IfOk result
+        (λ p. ReadsFront (SchemaReads depth nodes.now place) s.now p.1.now p.0) }
+    ensures only { AnswersFronts (SchemaTakes depth nodes.now place)
+        (SchemaReads depth nodes.now place) true s.now (first_of result) }
+    ensures first { IfErr result (λ e. (e ≡ OutOfMemory)
+        ⊎ SchemaRefuses depth nodes.now place s.now e) }
 {
     let mut d = Deserializer::from_bytes(alloc, s);
     let value = read_value(&mut d, nodes, place, depth)?;

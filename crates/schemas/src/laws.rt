@@ -12,7 +12,8 @@ use crate::HasSchema;
 /// read, what is taken is a tree, none of its spellings begins that of another, what is refused has no front that is taken,
 /// and two values that a tree is read as stand for one tree.
 pub fn reading_by_schemas()
-    ensures { (depth : ℕ) (nodes : List Nodes) (place : ℕ) → ReadingLaws (SchemaTakes depth nodes place)
+    ensures { (depth : ℕ) (nodes : List Nodes) (place : ℕ)
+        → ReadingLaws (SchemaTakes depth nodes place)
         (SchemaReads depth nodes place) (SchemaRefuses depth nodes place) AreOneTree }
 {}
 

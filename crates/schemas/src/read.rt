@@ -10,98 +10,112 @@ use postcard_de::de_flavors::Flavor;
 use postcard_tree::{Error, Result};
 
 fn read_bool<F: Flavor>(d: &mut Deserializer<F>) -> Result<Value>
-    ensures { OutcomeOf F.source d.old d.new result (Spelled (ReadsBy TakesBool (AtTop OfBool))) RefusesBool true }
+    ensures { OutcomeOf F.source d.old d.new result (Spelled (ReadsBy TakesBool (AtTop OfBool)))
+        RefusesBool true }
 {
     let v = d.deserialize_bool()?;
     Ok(Value::Bool(v))
 }
 
 fn read_u8<F: Flavor>(d: &mut Deserializer<F>) -> Result<Value>
-    ensures { OutcomeOf F.source d.old d.new result (Spelled (ReadsBy TakesByte (AtTop OfU8))) RefusesByte true }
+    ensures { OutcomeOf F.source d.old d.new result (Spelled (ReadsBy TakesByte (AtTop OfU8)))
+        RefusesByte true }
 {
     let v = d.deserialize_u8()?;
     Ok(Value::U8(v))
 }
 
 fn read_i8<F: Flavor>(d: &mut Deserializer<F>) -> Result<Value>
-    ensures { OutcomeOf F.source d.old d.new result (Spelled (ReadsBy TakesOctet (AtTop OfI8))) RefusesByte true }
+    ensures { OutcomeOf F.source d.old d.new result (Spelled (ReadsBy TakesOctet (AtTop OfI8)))
+        RefusesByte true }
 {
     let v = d.deserialize_i8()?;
     Ok(Value::I8(v))
 }
 
 fn read_u16<F: Flavor>(d: &mut Deserializer<F>) -> Result<Value>
-    ensures { OutcomeOf F.source d.old d.new result (Spelled (ReadsBy (TakesNumber 16) (AtTop OfU16))) (RefusesGroups 3 3) true }
+    ensures { OutcomeOf F.source d.old d.new result
+        (Spelled (ReadsBy (TakesNumber 16) (AtTop OfU16))) (RefusesGroups 3 3) true }
 {
     let v = d.deserialize_u16()?;
     Ok(Value::U16(v))
 }
 
 fn read_u32<F: Flavor>(d: &mut Deserializer<F>) -> Result<Value>
-    ensures { OutcomeOf F.source d.old d.new result (Spelled (ReadsBy (TakesNumber 32) (AtTop OfU32))) (RefusesGroups 5 15) true }
+    ensures { OutcomeOf F.source d.old d.new result
+        (Spelled (ReadsBy (TakesNumber 32) (AtTop OfU32))) (RefusesGroups 5 15) true }
 {
     let v = d.deserialize_u32()?;
     Ok(Value::U32(v))
 }
 
 fn read_u64<F: Flavor>(d: &mut Deserializer<F>) -> Result<Value>
-    ensures { OutcomeOf F.source d.old d.new result (Spelled (ReadsBy (TakesNumber 64) (AtTop OfU64))) (RefusesGroups 10 1) true }
+    ensures { OutcomeOf F.source d.old d.new result
+        (Spelled (ReadsBy (TakesNumber 64) (AtTop OfU64))) (RefusesGroups 10 1) true }
 {
     let v = d.deserialize_u64()?;
     Ok(Value::U64(v))
 }
 
 fn read_u128<F: Flavor>(d: &mut Deserializer<F>) -> Result<Value>
-    ensures { OutcomeOf F.source d.old d.new result (Spelled (ReadsBy (TakesNumber 128) (AtTop OfU128))) (RefusesGroups 19 3) true }
+    ensures { OutcomeOf F.source d.old d.new result
+        (Spelled (ReadsBy (TakesNumber 128) (AtTop OfU128))) (RefusesGroups 19 3) true }
 {
     let v = d.deserialize_u128()?;
     Ok(Value::U128(v))
 }
 
 fn read_i16<F: Flavor>(d: &mut Deserializer<F>) -> Result<Value>
-    ensures { OutcomeOf F.source d.old d.new result (Spelled (ReadsBy (TakesNumber 16) (AtTop OfI16))) (RefusesGroups 3 3) true }
+    ensures { OutcomeOf F.source d.old d.new result
+        (Spelled (ReadsBy (TakesNumber 16) (AtTop OfI16))) (RefusesGroups 3 3) true }
 {
     let v = d.deserialize_i16()?;
     Ok(Value::I16(v))
 }
 
 fn read_i32<F: Flavor>(d: &mut Deserializer<F>) -> Result<Value>
-    ensures { OutcomeOf F.source d.old d.new result (Spelled (ReadsBy (TakesNumber 32) (AtTop OfI32))) (RefusesGroups 5 15) true }
+    ensures { OutcomeOf F.source d.old d.new result
+        (Spelled (ReadsBy (TakesNumber 32) (AtTop OfI32))) (RefusesGroups 5 15) true }
 {
     let v = d.deserialize_i32()?;
     Ok(Value::I32(v))
 }
 
 fn read_i64<F: Flavor>(d: &mut Deserializer<F>) -> Result<Value>
-    ensures { OutcomeOf F.source d.old d.new result (Spelled (ReadsBy (TakesNumber 64) (AtTop OfI64))) (RefusesGroups 10 1) true }
+    ensures { OutcomeOf F.source d.old d.new result
+        (Spelled (ReadsBy (TakesNumber 64) (AtTop OfI64))) (RefusesGroups 10 1) true }
 {
     let v = d.deserialize_i64()?;
     Ok(Value::I64(v))
 }
 
 fn read_i128<F: Flavor>(d: &mut Deserializer<F>) -> Result<Value>
-    ensures { OutcomeOf F.source d.old d.new result (Spelled (ReadsBy (TakesNumber 128) (AtTop OfI128))) (RefusesGroups 19 3) true }
+    ensures { OutcomeOf F.source d.old d.new result
+        (Spelled (ReadsBy (TakesNumber 128) (AtTop OfI128))) (RefusesGroups 19 3) true }
 {
     let v = d.deserialize_i128()?;
     Ok(Value::I128(v))
 }
 
 fn read_char<F: Flavor>(d: &mut Deserializer<F>) -> Result<Value>
-    ensures { OutcomeOf F.source d.old d.new result (Spelled (ReadsBy TakesCharacter (AtTop OfChar))) RefusesCharacter true }
+    ensures { OutcomeOf F.source d.old d.new result
+        (Spelled (ReadsBy TakesCharacter (AtTop OfChar))) RefusesCharacter true }
 {
     let v = d.deserialize_char()?;
     Ok(Value::Char(v))
 }
 
 fn read_text<F: Flavor>(d: &mut Deserializer<F>) -> Result<Value>
-    ensures { OutcomeOf F.source d.old d.new result (Spelled (ReadsBy TakesText (AtTop OfText))) RefusesText true }
+    ensures { OutcomeOf F.source d.old d.new result (Spelled (ReadsBy TakesText (AtTop OfText)))
+        RefusesText true }
 {
     let v = d.deserialize_string()?;
     Ok(Value::Text(v))
 }
 
 fn read_bytes<F: Flavor>(d: &mut Deserializer<F>) -> Result<Value>
-    ensures { OutcomeOf F.source d.old d.new result (Spelled (ReadsBy (TakesSequence TakesByte) (AtTop OfBytes))) RefusesBytes true }
+    ensures { OutcomeOf F.source d.old d.new result
+        (Spelled (ReadsBy (TakesSequence TakesByte) (AtTop OfBytes))) RefusesBytes true }
 {
     let v = d.deserialize_byte_buf()?;
     Ok(Value::Bytes(v))
@@ -115,7 +129,8 @@ fn read_option<F: Flavor>(
     depth: u32,
 ) -> Result<Value>
     ensures { OutcomeOf F.source d.old d.new result
-        (Spelled (ReadsBy (TakesOption (SchemaTakes depth nodes.now place)) (AtTop (OfOption (SchemaHas depth nodes.now place)))))
+        (Spelled (ReadsBy (TakesOption (SchemaTakes depth nodes.now place))
+        (AtTop (OfOption (SchemaHas depth nodes.now place)))))
         (RefusesOption (SchemaRefuses depth nodes.now place)) true }
 {
     if !d.deserialize_option()? {
@@ -137,8 +152,10 @@ fn read_list<F: Flavor>(
     depth: u32,
 ) -> Result<Value>
     ensures { OutcomeOf F.source d.old d.new result
-        (Spelled (ReadsBy (TakesSequence (SchemaTakes depth nodes.now place)) (AtTop (OfList (EachHas (SchemaHas depth nodes.now place))))))
-        (RefusesSequence (SchemaTakes depth nodes.now place) (SchemaRefuses depth nodes.now place)) true }
+        (Spelled (ReadsBy (TakesSequence (SchemaTakes depth nodes.now place))
+        (AtTop (OfList (EachHas (SchemaHas depth nodes.now place))))))
+        (RefusesSequence (SchemaTakes depth nodes.now place)
+        (SchemaRefuses depth nodes.now place)) true }
 {
     let count = d.deserialize_u64()?;
     let mut items = Vec::new(d.allocator());
@@ -160,8 +177,10 @@ fn read_array<F: Flavor>(
     depth: u32,
 ) -> Result<Value>
     ensures { OutcomeOf F.source d.old d.new result
-        (Spelled (ReadsBy (TakesArray count (SchemaTakes depth nodes.now place)) (AtTop (OfGroup (EachHas (SchemaHas depth nodes.now place))))))
-        (RefusesEach (SchemaTakes depth nodes.now place) (SchemaRefuses depth nodes.now place) count) true }
+        (Spelled (ReadsBy (TakesArray count (SchemaTakes depth nodes.now place))
+        (AtTop (OfGroup (EachHas (SchemaHas depth nodes.now place))))))
+        (RefusesEach (SchemaTakes depth nodes.now place) (SchemaRefuses depth nodes.now place)
+        count) true }
 {
     let mut items = Vec::new(d.allocator());
     for _ in 0..count {
@@ -181,8 +200,10 @@ fn read_fields<F: Flavor>(
     depth: u32,
 ) -> Result<Value>
     ensures { OutcomeOf F.source d.old d.new result
-        (Spelled (ReadsBy (GroupOf (TakesFields (SchemaTakes depth nodes.now) fields.now)) (AtTop (OfGroup (FieldsHave (SchemaHas depth nodes.now) fields.now)))))
-        (RefusesFields (SchemaTakes depth nodes.now) (SchemaRefuses depth nodes.now) fields.now) true }
+        (Spelled (ReadsBy (GroupOf (TakesFields (SchemaTakes depth nodes.now) fields.now))
+        (AtTop (OfGroup (FieldsHave (SchemaHas depth nodes.now) fields.now)))))
+        (RefusesFields (SchemaTakes depth nodes.now) (SchemaRefuses depth nodes.now)
+        fields.now) true }
 {
     let mut items = Vec::new(d.allocator());
     for i in 0..fields.len() {
@@ -202,7 +223,8 @@ fn read_variant<F: Flavor>(
     depth: u32,
 ) -> Result<Value>
     ensures { OutcomeOf F.source d.old d.new result
-        (Spelled (ReadsBy (TakesVariant (TakesPayload (SchemaTakes depth nodes.now) payloads.now)) (AtTop (OfVariant (PayloadHas (SchemaHas depth nodes.now) payloads.now)))))
+        (Spelled (ReadsBy (TakesVariant (TakesPayload (SchemaTakes depth nodes.now) payloads.now))
+        (AtTop (OfVariant (PayloadHas (SchemaHas depth nodes.now) payloads.now)))))
         (RefusesVariant (RefusesPayload (SchemaRefuses depth nodes.now) payloads.now)) true }
 {
     let index = d.deserialize_enum()?;
@@ -224,7 +246,8 @@ fn read_node<F: Flavor>(
     depth: u32,
 ) -> Result<Value>
     ensures { OutcomeOf F.source d.old d.new result
-        (Spelled (ReadsBy (TakesNode (SchemaTakes depth nodes.now) node.now) (AtTop (NodeHas (SchemaHas depth nodes.now) node.now))))
+        (Spelled (ReadsBy (TakesNode (SchemaTakes depth nodes.now) node.now)
+        (AtTop (NodeHas (SchemaHas depth nodes.now) node.now))))
         (RefusesNode (SchemaTakes depth nodes.now) (SchemaRefuses depth nodes.now) node.now) true }
 {
     match node {

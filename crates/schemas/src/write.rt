@@ -22,7 +22,8 @@ impl Serialize for Value {
 
 #[cycle(write)]
 fn write_value<F: Flavor>(v: &Value, serializer: &mut Serializer<F>) -> Result<()>
-    ensures writes { Writes F.took F.refused serializer.old.output (Some (tree_of v.now)) result serializer.new.output }
+    ensures writes { Writes F.took F.refused serializer.old.output (Some (tree_of v.now)) result
+        serializer.new.output }
     ensures same { F.same serializer.old.output serializer.new.output }
 {
     match v {
@@ -61,7 +62,8 @@ fn write_present<F: Flavor>(inner: &Value, serializer: &mut Serializer<F>) -> Re
 #[cycle(write)]
 fn write_variant<F: Flavor>(index: u32, inner: &Value, serializer: &mut Serializer<F>) -> Result<()>
     ensures writes { Writes F.took F.refused serializer.old.output
-        (Some (group (part (number 32 index) (part (tree_of inner.now) end)))) result serializer.new.output }
+        (Some (group (part (number 32 index) (part (tree_of inner.now) end)))) result
+        serializer.new.output }
     ensures same { F.same serializer.old.output serializer.new.output }
 {
     serializer.serialize_u32(index)?;
@@ -89,7 +91,8 @@ fn write_group<F: Flavor>(items: &[Value], serializer: &mut Serializer<F>) -> Re
 
 #[cycle(write)]
 fn write_values<F: Flavor>(items: &[Value], serializer: &mut Serializer<F>) -> Result<()>
-    ensures writes { WritesAll F.took F.refused serializer.old.output (Some (trees_in items.now)) result serializer.new.output }
+    ensures writes { WritesAll F.took F.refused serializer.old.output (Some (trees_in items.now))
+        result serializer.new.output }
     ensures same { F.same serializer.old.output serializer.new.output }
 {
     for item in items {

@@ -1,3 +1,3 @@
-pub mod Summed
-pub mod Writing
-pub mod Found
+pub mod SummedLemmas
+pub mod WritingLemmas
+pub mod FoundLemmas

@@ -30,7 +30,8 @@ fn sum_of<T: Serialize>(value: &T) -> Result<u32>
 
 // A value with a number behind it, where that is the sum of what the value writes.
 fn sealed_with<T: Serialize + Drop>(value: T, sum: u32) -> Result<Sealed<T>>
-    ensures ok { IfOk result (λ v. (v.0 ≡ value) × IfSome (T.writes value) (λ t. sum ≡ sum_of_bytes (short t))) }
+    ensures ok { IfOk result (λ v. (v.0 ≡ value)
+        × IfSome (T.writes value) (λ t. sum ≡ sum_of_bytes (short t))) }
     ensures err { IfErr result (λ e. (e ≡ DeserializeBadCrc) × IfSome (T.writes value) (λ t.
         (sum_of_bytes (short t) < 2 ^ 32) × (sum ≡ sum_of_bytes (short t) → ⊥))) }
 {

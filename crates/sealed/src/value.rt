@@ -43,8 +43,10 @@ fn write_summed<'b, T: Serialize, F: Flavor>(
     value: &T,
     output: &'b mut F,
 ) -> (Result<u32>, &'b mut F)
-    ensures writes { Writes F.took F.refused output.entry.now (T.writes value.now) result.0 result.1.now }
-    ensures sum { IfOk result.0 (λ n. IfSome (T.writes value.now) (λ t. n ≡ sum_of_bytes (short t))) }
+    ensures writes { Writes F.took F.refused output.entry.now (T.writes value.now) result.0
+        result.1.now }
+    ensures sum { IfOk result.0
+        (λ n. IfSome (T.writes value.now) (λ t. n ≡ sum_of_bytes (short t))) }
     ensures same { F.same output.entry.now result.1.now }
     ensures valid { OnOk result.0 (T.valid value.now) }
     ensures same_reference { result.1.ghost_name ≡ output.entry.ghost_name }

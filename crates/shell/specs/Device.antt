@@ -9,20 +9,20 @@ use Rattle.shell.specs.declared.messages.Refusal.TheVariants.{IsOff, OverLimit}
 use Rattle.shell.specs.declared.device.Device.{Device}
 
 -- whether it is on, its limit, and what it has dosed since it last counted from nothing
-abbrev pub Stands : Device → Bool → ℕ → ℕ → Type 0
-Stands device is_on limit used = (device.is_on ≡ is_on) × (device.limit ≡ limit) × (device.used ≡ used)
+abbrev pub DeviceStands : Device → Bool → ℕ → ℕ → Type 0
+DeviceStands device is_on limit used = (device.is_on ≡ is_on) × (device.limit ≡ limit) × (device.used ≡ used)
 
 -- A dose: refused by a device that is off, and by one whose limit it would pass; nothing is changed then.
 pub record Doses (old : Device) (amount : ℕ) (report : Report) (new : Device) : Type 0 where
   pub off : old.is_on ≡ false → (report ≡ Refused IsOff) × (new ≡ old)
   pub over : old.is_on ≡ true → old.limit < old.used + amount → (report ≡ Refused OverLimit) × (new ≡ old)
-  pub dosed : old.is_on ≡ true → old.used + amount ≤ old.limit → (report ≡ Done) × Stands new true old.limit (old.used + amount)
+  pub dosed : old.is_on ≡ true → old.used + amount ≤ old.limit → (report ≡ Done) × DeviceStands new true old.limit (old.used + amount)
 
 -- what a command makes of the device, and what is said to it
 abbrev pub Does : Device → Command → Report → Device → Type 0
 Does old Show report new = (report ≡ State old.is_on old.limit old.used) × (new ≡ old)
-Does old On report new = (report ≡ Done) × Stands new true old.limit old.used
-Does old Off report new = (report ≡ Done) × Stands new false old.limit old.used
-Does old (Limit limit) report new = (report ≡ Done) × Stands new old.is_on limit old.used
+Does old On report new = (report ≡ Done) × DeviceStands new true old.limit old.used
+Does old Off report new = (report ≡ Done) × DeviceStands new false old.limit old.used
+Does old (Limit limit) report new = (report ≡ Done) × DeviceStands new old.is_on limit old.used
 Does old (Dose amount) report new = Doses old amount report new
-Does old Reset report new = (report ≡ Done) × Stands new old.is_on old.limit 0
+Does old Reset report new = (report ≡ Done) × DeviceStands new old.is_on old.limit 0

@@ -1,6 +1,6 @@
 //! What the device does.
 ghost use Rattle.std.specs.Prelude.{◌≡◌, ◌+◌, ◌<◌, ◌≤◌, false, IfSome, IfNone};
-ghost use Rattle.shell.specs.Device.{Stands, Does, Doses};
+ghost use Rattle.shell.specs.Device.{DeviceStands, Does, Doses};
 
 use crate::messages::{Command, Refusal, Report};
 use calls::Application;
@@ -19,7 +19,7 @@ pub struct Device {
 impl Device {
     /// A device that is off, with a limit of nothing, that has dosed nothing.
     pub fn new() -> Device
-        ensures { Stands result false 0 0 }
+        ensures { DeviceStands result false 0 0 }
     {
         Device {
             is_on: false,

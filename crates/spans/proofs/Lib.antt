@@ -1,3 +1,3 @@
-pub mod MemoryValues
-pub mod MemorySharing
+pub mod MemoryValuesLemmas
+pub mod MemorySharingLemmas
 pub mod SpanLemmas

@@ -1,2 +1,2 @@
-pub mod Ending
-pub mod Moving
+pub mod EndingLemmas
+pub mod MovingLemmas

@@ -58,7 +58,8 @@ impl Memory {
     /// The store after a crash: so many of the bytes that aren't settled are left, and so many zeros stand behind them, as a file
     /// system shows bytes that were never written. All of that is settled. `None` when out of memory.
     pub fn crash(self, left: usize, zeros: usize) -> Option<Memory>
-        ensures bytes { IfSome result (λ m. bytes_in m ≡ take (settled_in self + left) (bytes_in self) ++ replicate zeros 0) }
+        ensures bytes { IfSome result
+            (λ m. bytes_in m ≡ take (settled_in self + left) (bytes_in self) ++ replicate zeros 0) }
         ensures settled { IfSome result (λ m. settled_in m ≡ length (bytes_in m)) }
     {
         let Memory {

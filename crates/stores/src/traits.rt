@@ -32,9 +32,11 @@ pub trait Store {
     /// Puts a front of the piece behind what it holds, and says how many bytes that is.
     fn append(&mut self, piece: &[u8]) -> Option<usize>
         ensures bound { IfSome result (λ n. n ≤ length piece.now) }
-        ensures bytes { Wrote (held self.old) (held self.new) (faults self.old) (faults self.new) (moved_front result piece.now) }
+        ensures bytes { Wrote (held self.old) (held self.new) (faults self.old) (faults self.new)
+            (moved_front result piece.now) }
         ensures settled { settled self.new ≡ settled self.old }
-        ensures faults { faults self.new ≡ faults self.old + write_faults (calls_left self.old) result piece.now }
+        ensures faults { faults self.new ≡ faults self.old + write_faults (calls_left self.old)
+            result piece.now }
         ensures calls { calls_left self.new ≡ calls_left self.old - 1 }
         ensures spent { calls_left self.old ≡ 0 → result ≡ None };
 
@@ -47,7 +49,8 @@ pub trait Store {
         ensures end { result ≡ Some 0 → 0 < length room.new → EndsBefore (held self.old) at }
         ensures held { held self.new ≡ held self.old }
         ensures settled { settled self.new ≡ settled self.old }
-        ensures faults { faults self.new ≡ faults self.old + read_faults (calls_left self.old) result }
+        ensures faults { faults self.new ≡ faults self.old + read_faults
+            (calls_left self.old) result }
         ensures calls { calls_left self.new ≡ calls_left self.old - 1 }
         ensures spent { calls_left self.old ≡ 0 → result ≡ None }
         ensures past { drop (unwrap_or result 0) room.new ≡ drop (unwrap_or result 0) room.old };
@@ -58,7 +61,8 @@ pub trait Store {
         ensures no_less { settled self.old ≤ settled self.new }
         ensures held { held self.new ≡ held self.old }
         ensures quiet { OnOk result (faults self.new ≡ faults self.old) }
-        ensures fault { OnErr result (Failed (faults self.old) (faults self.new) (calls_left self.new)) }
+        ensures fault { OnErr result
+            (Failed (faults self.old) (faults self.new) (calls_left self.new)) }
         ensures more { faults self.old ≤ faults self.new }
         ensures calls { calls_left self.new ≤ calls_left self.old };
 }

@@ -23,12 +23,12 @@ pub struct CobsDecoder<'a> {
 }
 
 impl<'a> CobsDecoder<'a> {
-    ghost use Rattle.cobs.specs.Decoder.{Has, progress_of, buffer_of, sentinel_of, lent_name, LendsBuffer};
-    ghost use Rattle.cobs.specs.Taking.{TakesByte, TakesPiece};
+    ghost use Rattle.cobs.specs.Decoder.{HasTaken, progress_of, buffer_of, sentinel_of, lent_name, LendsBuffer};
+    ghost use Rattle.cobs.specs.Taking.{FeedsByte, TakesPiece};
 
     /// A decoder between frames that end in zeros.
     pub fn new(dest: &'a mut [u8]) -> CobsDecoder<'a>
-        ensures idle { Has result [] }
+        ensures idle { HasTaken result [] }
         ensures buffer { buffer_of result ≡ dest.old }
         ensures sentinel { sentinel_of result ≡ 0 }
         ensures lent { lent_name result ≡ dest.entry.ghost_name }
@@ -38,7 +38,7 @@ impl<'a> CobsDecoder<'a> {
 
     /// A decoder between frames that end in this byte, and whose bytes are each XORed with it.
     pub fn new_with_sentinel(dest: &'a mut [u8], sentinel: u8) -> CobsDecoder<'a>
-        ensures idle { Has result [] }
+        ensures idle { HasTaken result [] }
         ensures buffer { buffer_of result ≡ dest.old }
         ensures sentinel { sentinel_of result ≡ sentinel }
         ensures lent { lent_name result ≡ dest.entry.ghost_name }
@@ -57,7 +57,7 @@ impl<'a> CobsDecoder<'a> {
     /// `InvalidFrame` at a sentinel inside a block, with how many bytes were decoded and had room. After every sentinel the
     /// decoder is between frames.
     pub fn feed(&mut self, data: u8) -> Result<Option<usize>, DecodeError>
-        ensures takes { TakesByte (progress_of self.old) (buffer_of self.old)
+        ensures takes { FeedsByte (progress_of self.old) (buffer_of self.old)
             (bit_xor (sentinel_of self.old) «data») result
             (progress_of self.new) (buffer_of self.new) }
         ensures sentinel { sentinel_of self.new ≡ sentinel_of self.old }

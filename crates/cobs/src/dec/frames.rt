@@ -3,7 +3,7 @@ ghost use Rattle.std.specs.Prelude.{◌≡◌, ◌+◌, ◌<◌, ◌≤◌, leng
 ghost use Rattle.cobs.specs.Frames.{NoZero, part};
 ghost use Rattle.cobs.specs.InPlace.{overwritten};
 ghost use Rattle.cobs.specs.Sentinel.{masked};
-ghost use Rattle.cobs.specs.Streaming.{Stands};
+ghost use Rattle.cobs.specs.Streaming.{HasStreamed};
 ghost use Rattle.cobs.specs.Whole.{decoded_into};
 
 use super::progress::Progress;
@@ -17,7 +17,7 @@ const SHORT: usize = 255;
 // How far the bytes of a frame, each XORed with the sentinel, are taken in where none has room.
 fn count_frame(frame: &[u8], sentinel: u8) -> Progress
     requires { NoZero (masked sentinel frame.now) }
-    ensures { Stands result (masked sentinel frame.now) }
+    ensures { HasStreamed result (masked sentinel frame.now) }
 {
     let mut progress = Progress::new();
     for byte in frame {
@@ -42,7 +42,7 @@ fn take_short(frame: &[u8], dest: &mut [u8], sentinel: u8) -> Progress
     requires few { length frame.now ≤ 255 }
     requires room { length frame.now ≤ length dest.old + 1 }
     requires clear { NoZero (masked sentinel frame.now) }
-    ensures stands { Stands result (masked sentinel frame.now) }
+    ensures stands { HasStreamed result (masked sentinel frame.now) }
     ensures dest { dest.new ≡ overwritten (part (masked sentinel frame.now)) dest.old }
 {
     let code = sentinel ^ frame[0];
@@ -65,7 +65,7 @@ fn take_long(frame: &[u8], dest: &mut [u8], sentinel: u8) -> Progress
     requires some { 0 < length frame.now }
     requires room { length frame.now ≤ length dest.old + 1 }
     requires clear { NoZero (masked sentinel frame.now) }
-    ensures stands { Stands result (masked sentinel frame.now) }
+    ensures stands { HasStreamed result (masked sentinel frame.now) }
     ensures dest { dest.new ≡ overwritten (part (masked sentinel frame.now)) dest.old }
 {
     let mut progress = Progress::new();
@@ -89,7 +89,7 @@ fn take_whole(frame: &[u8], dest: &mut [u8], sentinel: u8) -> Progress
     requires some { 0 < length frame.now }
     requires room { length frame.now ≤ length dest.old + 1 }
     requires clear { NoZero (masked sentinel frame.now) }
-    ensures stands { Stands result (masked sentinel frame.now) }
+    ensures stands { HasStreamed result (masked sentinel frame.now) }
     ensures dest { dest.new ≡ overwritten (part (masked sentinel frame.now)) dest.old }
 {
     if is_short(frame, sentinel) {
@@ -123,7 +123,7 @@ pub(crate) fn decode_whole(
 // Takes in the bytes of a frame, each XORed with the sentinel, and also counts those that have no room.
 fn take_frame(frame: &[u8], dest: &mut [u8], sentinel: u8) -> Progress
     requires { NoZero (masked sentinel frame.now) }
-    ensures stands { Stands result (masked sentinel frame.now) }
+    ensures stands { HasStreamed result (masked sentinel frame.now) }
     ensures dest { dest.new ≡ overwritten (part (masked sentinel frame.now)) dest.old }
 {
     let mut progress = Progress::new();

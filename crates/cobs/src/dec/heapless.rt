@@ -19,7 +19,7 @@ pub struct CobsDecoderHeapless<const N: usize> {
 
 impl<const N: usize> CobsDecoderHeapless<N> {
     ghost use Rattle.cobs.specs.Arrays.{ArrayHas, array_progress, array_buffer, array_sentinel, LendsArrayBuffer};
-    ghost use Rattle.cobs.specs.Taking.{TakesByte, TakesPiece};
+    ghost use Rattle.cobs.specs.Taking.{FeedsByte, TakesPiece};
 
     /// An idle decoder of frames that end in zeros, over a buffer of zeros.
     pub fn new() -> CobsDecoderHeapless<N>
@@ -76,7 +76,7 @@ impl<const N: usize> CobsDecoderHeapless<N> {
     /// `InvalidFrame` at a sentinel inside a block, with how many bytes were decoded and had room. After every sentinel the
     /// decoder is between frames.
     pub fn feed(&mut self, data: u8) -> Result<Option<usize>, DecodeError>
-        ensures takes { TakesByte (array_progress self.old) (array_buffer self.old)
+        ensures takes { FeedsByte (array_progress self.old) (array_buffer self.old)
             (bit_xor (array_sentinel self.old) «data») result
             (array_progress self.new) (array_buffer self.new) }
         ensures sentinel { array_sentinel self.new ≡ array_sentinel self.old }

@@ -19,7 +19,7 @@ pub struct CobsDecoderOwned {
 
 impl CobsDecoderOwned {
     ghost use Rattle.cobs.specs.Owners.{OwnedHas, owned_progress, owned_buffer, owned_sentinel, LendsOwnedBuffer};
-    ghost use Rattle.cobs.specs.Taking.{TakesByte, TakesPiece};
+    ghost use Rattle.cobs.specs.Taking.{FeedsByte, TakesPiece};
 
     /// An idle decoder of frames that end in zeros, over a buffer of `size` zeros.
     pub fn new(alloc: Global, size: usize) -> Result<CobsDecoderOwned, AllocError>
@@ -55,7 +55,7 @@ impl CobsDecoderOwned {
     /// `InvalidFrame` at a sentinel inside a block, with how many bytes were decoded and had room. After every sentinel the
     /// decoder is between frames.
     pub fn feed(&mut self, data: u8) -> Result<Option<usize>, DecodeError>
-        ensures takes { TakesByte (owned_progress self.old) (owned_buffer self.old)
+        ensures takes { FeedsByte (owned_progress self.old) (owned_buffer self.old)
             (bit_xor (owned_sentinel self.old) «data») result
             (owned_progress self.new) (owned_buffer self.new) }
         ensures sentinel { owned_sentinel self.new ≡ owned_sentinel self.old }

@@ -2,7 +2,7 @@
 ghost use Rattle.std.specs.Prelude.{◌≡◌, ◌≢◌, ◌^◌, ℕ, ◌+◌, ◌-◌, ◌<◌, ◌≤◌, List, [], ◌∷◌, ◌++◌, length, take, drop, slice_index, ◌↔◌, IsTrue, IfOk, IfSome, IsNone};
 ghost use Rattle.cobs.specs.Feeding.{placed};
 ghost use Rattle.cobs.specs.Sentinel.{masked};
-ghost use Rattle.cobs.specs.Streaming.{Stands};
+ghost use Rattle.cobs.specs.Streaming.{HasStreamed};
 
 use super::report::{DecodeError, DecodeReport};
 use super::state::{DecoderState, told_by};
@@ -21,10 +21,10 @@ pub(crate) struct Progress {
 
 impl Progress {
     ghost use Rattle.cobs.specs.Feeding.{at_zero, at_byte};
-    ghost use Rattle.cobs.specs.Taking.{TakesByte, TakesPiece, TakesFront};
+    ghost use Rattle.cobs.specs.Taking.{FeedsByte, TakesPiece, TakesFront};
 
     pub(crate) fn new() -> Progress
-        ensures { Stands result [] }
+        ensures { HasStreamed result [] }
     {
         Progress {
             state: DecoderState::Idle,
@@ -33,14 +33,14 @@ impl Progress {
     }
 
     pub(crate) fn reset(&mut self)
-        ensures { Stands self.new [] }
+        ensures { HasStreamed self.new [] }
     {
         *self = Progress::new();
     }
 
     pub(crate) fn is_new(&self) -> bool
-        ensures idle { IsTrue result ↔ Stands self.now [] }
-        ensures begun { (p : List ℕ) → Stands self.now p → (IsTrue result ↔ p ≡ []) }
+        ensures idle { IsTrue result ↔ HasStreamed self.now [] }
+        ensures begun { (p : List ℕ) → HasStreamed self.now p → (IsTrue result ↔ p ≡ []) }
     {
         match self.state {
             DecoderState::Idle => self.len == 0,
@@ -57,10 +57,12 @@ impl Progress {
         byte: u8,
     ) -> Result<Option<usize>, DecodeError>
         requires { 0 < byte }
-        ensures stands { (p : List ℕ) → Stands self.old p → Stands self.new (p ++ byte ∷ []) }
-        ensures answer { (p : List ℕ) → Stands self.old p
+        ensures stands { (p : List ℕ) → HasStreamed self.old p
+            → HasStreamed self.new (p ++ byte ∷ []) }
+        ensures answer { (p : List ℕ) → HasStreamed self.old p
             → result ≡ at_byte (length buffer.old) p byte }
-        ensures buffer { (p : List ℕ) → Stands self.old p → buffer.new ≡ placed p byte buffer.old }
+        ensures buffer { (p : List ℕ) → HasStreamed self.old p
+            → buffer.new ≡ placed p byte buffer.old }
         ensures none { IfOk result IsNone }
     {
         let Some(told) = told_by(self.state.feed(byte)) else {
@@ -82,7 +84,7 @@ impl Progress {
     #[inline(always)]
     fn take_window(&mut self, buffer: &mut [u8], piece: &[u8], sentinel: u8) -> usize
         ensures within { result ≤ length piece.now }
-        ensures front { (p : List ℕ) → Stands self.old p
+        ensures front { (p : List ℕ) → HasStreamed self.old p
             → TakesFront p (masked sentinel piece.now) buffer.old result self.new buffer.new }
     {
         let len = self.len;
@@ -125,7 +127,7 @@ impl Progress {
         requires room { self.old.len + length bytes.now ≤ length buffer.old }
         requires clear { (k : ℕ) → k < length bytes.now → slice_index bytes.now k ≢ sentinel }
         ensures within { result ≤ length bytes.now }
-        ensures front { (p : List ℕ) → Stands self.old p
+        ensures front { (p : List ℕ) → HasStreamed self.old p
             → TakesFront p (masked sentinel bytes.now) buffer.old result self.new buffer.new }
     {
         let len = self.len;
@@ -170,7 +172,7 @@ impl Progress {
         requires behind { self.old.len ≤ read }
         requires clear { (k : ℕ) → read ≤ k → k < end → slice_index buffer.old k ≢ sentinel }
         ensures within { result ≤ end - read }
-        ensures front { (p : List ℕ) → Stands self.old p
+        ensures front { (p : List ℕ) → HasStreamed self.old p
             → TakesFront p (masked sentinel (take (end - read) (drop read buffer.old)))
             buffer.old result self.new buffer.new }
     {
@@ -206,7 +208,7 @@ impl Progress {
     #[inline(always)]
     fn take_run(&mut self, buffer: &mut [u8], piece: &[u8], sentinel: u8) -> usize
         ensures within { result ≤ length piece.now }
-        ensures front { (p : List ℕ) → Stands self.old p
+        ensures front { (p : List ℕ) → HasStreamed self.old p
             → TakesFront p (masked sentinel piece.now) buffer.old result self.new buffer.new }
     {
         let Progress { state, len } = *self;
@@ -225,7 +227,7 @@ impl Progress {
     #[inline(always)]
     fn take_front(&mut self, buffer: &mut [u8], piece: &[u8], sentinel: u8, few: bool) -> usize
         ensures within { result ≤ length piece.now }
-        ensures front { (p : List ℕ) → Stands self.old p
+        ensures front { (p : List ℕ) → HasStreamed self.old p
             → TakesFront p (masked sentinel piece.now) buffer.old result self.new buffer.new }
     {
         if few {
@@ -239,8 +241,8 @@ impl Progress {
     #[inline(always)]
     pub(crate) fn end(&mut self, room: usize) -> Result<Option<usize>, DecodeError>
         requires { room < 2 ^ 63 }
-        ensures stands { Stands self.new [] }
-        ensures answer { (p : List ℕ) → Stands self.old p → result ≡ at_zero room p }
+        ensures stands { HasStreamed self.new [] }
+        ensures answer { (p : List ℕ) → HasStreamed self.old p → result ≡ at_zero room p }
         ensures within { IfOk result (λ o. IfSome o (λ n. n ≤ room)) }
     {
         let Progress { mut state, len } = *self;
@@ -260,7 +262,7 @@ impl Progress {
     // Takes in a byte of a frame, or the zero behind one.
     #[inline(always)]
     pub(crate) fn feed(&mut self, buffer: &mut [u8], byte: u8) -> Result<Option<usize>, DecodeError>
-        ensures { TakesByte self.old buffer.old byte result self.new buffer.new }
+        ensures { FeedsByte self.old buffer.old byte result self.new buffer.new }
     {
         if byte == 0 {
             self.end(buffer.len())

@@ -3,7 +3,7 @@ ghost use Rattle.std.specs.Prelude.{◌≡◌, ◌≢◌, ℕ, List, [], IfOk, I
 ghost use Rattle.cobs.specs.Frames.{Frame};
 ghost use Rattle.cobs.specs.InPlace.{stretch};
 ghost use Rattle.cobs.specs.Sentinel.{masked};
-ghost use Rattle.cobs.specs.Whole.{frame_in, message_of_stretch, message_of_frame, Refuses};
+ghost use Rattle.cobs.specs.Whole.{frame_in, message_of_stretch, message_of_frame, RefusesWhole};
 ghost use Rattle.cobs.specs.declared.dec.report.DecodeVecError.TheVariants.{OutOfMemory};
 
 use super::in_place::decode_in_place_report_with_sentinel;
@@ -16,7 +16,7 @@ use std::alloc::Global;
 fn decode_vector(bytes: Vec<u8>, sentinel: u8) -> Result<Vec<u8>, DecodeVecError>
     ensures { MatchResult result
         (λ v. message_of_stretch (stretch (masked sentinel bytes.items)) ≡ Ok v.items)
-        (λ e. Refuses e (message_of_stretch (stretch (masked sentinel bytes.items)))) }
+        (λ e. RefusesWhole e (message_of_stretch (stretch (masked sentinel bytes.items)))) }
 {
     let mut bytes = bytes;
     match decode_in_place_report_with_sentinel(bytes.as_mut_slice(), sentinel) {
@@ -32,7 +32,7 @@ fn decode_vector(bytes: Vec<u8>, sentinel: u8) -> Result<Vec<u8>, DecodeVecError
 #[inline(always)]
 fn decode_first_vec(alloc: Global, source: &[u8]) -> Result<Vec<u8>, DecodeVecError>
     ensures { MatchResult result (λ v. message_of_frame (frame_in source.now) ≡ Ok v.items)
-        (λ e. Refuses e (message_of_frame (frame_in source.now))) }
+        (λ e. RefusesWhole e (message_of_frame (frame_in source.now))) }
 {
     let frame = before(behind_zeros(source), 0);
     if frame.is_empty() {
@@ -49,7 +49,7 @@ fn decode_first_vec(alloc: Global, source: &[u8]) -> Result<Vec<u8>, DecodeVecEr
 /// Where the source holds no frame and no memory is found, either may be answered.
 pub fn decode_vec(alloc: Global, source: &[u8]) -> Result<Vec<u8>, DecodeVecError>
     ensures answer { MatchResult result (λ v. message_of_frame (frame_in source.now) ≡ Ok v.items)
-        (λ e. Refuses e (message_of_frame (frame_in source.now))) }
+        (λ e. RefusesWhole e (message_of_frame (frame_in source.now))) }
     ensures frame { IfOk result (λ v. Frame (frame_in source.now) v.items) }
     ensures no_frame { IfErr result (λ e. (e ≡ OutOfMemory)
         ⊎ ((m : List ℕ) → Frame (frame_in source.now) m → ⊥)) }
@@ -62,7 +62,7 @@ pub fn decode_vec(alloc: Global, source: &[u8]) -> Result<Vec<u8>, DecodeVecErro
 fn decode_stretch_vec(alloc: Global, source: &[u8], sentinel: u8) -> Result<Vec<u8>, DecodeVecError>
     ensures { MatchResult result
         (λ v. message_of_stretch (stretch (masked sentinel source.now)) ≡ Ok v.items)
-        (λ e. Refuses e (message_of_stretch (stretch (masked sentinel source.now)))) }
+        (λ e. RefusesWhole e (message_of_stretch (stretch (masked sentinel source.now)))) }
 {
     let bytes = before(source, sentinel)
         .to_vec(alloc)
@@ -80,7 +80,7 @@ pub fn decode_vec_with_sentinel(
 ) -> Result<Vec<u8>, DecodeVecError>
     ensures answer { MatchResult result
         (λ v. message_of_stretch (stretch (masked sentinel source.now)) ≡ Ok v.items)
-        (λ e. Refuses e (message_of_stretch (stretch (masked sentinel source.now)))) }
+        (λ e. RefusesWhole e (message_of_stretch (stretch (masked sentinel source.now)))) }
     ensures frame { let p = stretch (masked sentinel source.now) in
         IfOk result (λ v. p ≢ [] → Frame p v.items) }
     ensures no_frame { IfErr result (λ e. (e ≡ OutOfMemory)

@@ -1,7 +1,7 @@
 //! Blocks: pieces of a message put behind a frame, each zero as a code.
 ghost use Rattle.std.specs.Prelude.{◌≡◌, ◌+◌, ◌<◌, ◌≤◌, [], ◌++◌, length, take, false, IsTrue, IfSome, IfNone};
 ghost use Rattle.cobs.specs.Frames.{shortest_frame};
-ghost use Rattle.cobs.specs.Held.{pushed, Laid, GoesOnBy, Holds};
+ghost use Rattle.cobs.specs.Held.{pushed, Laid, GoesOnBy, HoldsFrame};
 ghost use Rattle.cobs.specs.Sentinel.{masked};
 
 use crate::codes::put_block;
@@ -58,10 +58,10 @@ fn put_few(dest: &mut [u8], at: Place, piece: &[u8], sentinel: u8) -> Place
 // Puts a front of the bytes behind the frame, as far as the last block goes, and answers how many. A full block is closed only
 // here, by the byte behind it, so that the buffer always begins with the shortest frame.
 fn put_front(dest: &mut [u8], at: Place, bytes: &[u8], sentinel: u8) -> Option<(Place, usize)>
-    requires holds { Holds (masked sentinel dest.old) at.code_at at.len }
+    requires holds { HoldsFrame (masked sentinel dest.old) at.code_at at.len }
     requires some { 0 < length bytes.now }
     ensures holds { IfSome result
-        (λ next. Holds (masked sentinel dest.new) next.0.code_at next.0.len) }
+        (λ next. HoldsFrame (masked sentinel dest.new) next.0.code_at next.0.len) }
     ensures some { IfSome result (λ next. (0 < next.1) × (next.1 ≤ length bytes.now)) }
     ensures pushed { IfSome result (λ next. pushed (masked sentinel dest.new) next.0.len
         ≡ pushed (masked sentinel dest.old) at.len ++ take next.1 bytes.now) }
@@ -91,8 +91,9 @@ fn put_front(dest: &mut [u8], at: Place, bytes: &[u8], sentinel: u8) -> Option<(
 // Puts bytes behind the frame, block by block, and moves the place; false where there isn't room for them all.
 #[inline(never)]
 fn put_blocks(dest: &mut [u8], at: &mut Place, bytes: &[u8], sentinel: u8) -> bool
-    requires { Holds (masked sentinel dest.old) at.old.code_at at.old.len }
-    ensures holds { IsTrue result → Holds (masked sentinel dest.new) at.new.code_at at.new.len }
+    requires { HoldsFrame (masked sentinel dest.old) at.old.code_at at.old.len }
+    ensures holds { IsTrue result
+        → HoldsFrame (masked sentinel dest.new) at.new.code_at at.new.len }
     ensures pushed { IsTrue result → pushed (masked sentinel dest.new) at.new.len
         ≡ pushed (masked sentinel dest.old) at.old.len ++ bytes.now }
     ensures none { result ≡ false → length dest.old
@@ -114,8 +115,9 @@ fn put_blocks(dest: &mut [u8], at: &mut Place, bytes: &[u8], sentinel: u8) -> bo
 // Puts bytes behind the frame, if there is room for them all. A few bytes that go into the open block take no call.
 #[inline(always)]
 pub(crate) fn put_all(dest: &mut [u8], at: Place, bytes: &[u8], sentinel: u8) -> Option<Place>
-    requires { Holds (masked sentinel dest.old) at.code_at at.len }
-    ensures holds { IfSome result (λ next. Holds (masked sentinel dest.new) next.code_at next.len) }
+    requires { HoldsFrame (masked sentinel dest.old) at.code_at at.len }
+    ensures holds { IfSome result
+        (λ next. HoldsFrame (masked sentinel dest.new) next.code_at next.len) }
     ensures pushed { IfSome result (λ next. pushed (masked sentinel dest.new) next.len
         ≡ pushed (masked sentinel dest.old) at.len ++ bytes.now) }
     ensures none { IfNone result (length dest.old

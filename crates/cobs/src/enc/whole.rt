@@ -49,7 +49,7 @@ pub fn encode_including_sentinels(source: &[u8], dest: &mut [u8]) -> usize
 /// let mut dest = [0; 5];
 /// assert_eq!(encode_with_sentinel(&[10, 11, 0, 12], &mut dest, 10), 5); // 9, 0, 1, 8, 6
 /// ```
-#[tactic(auto, using(crate::proofs::Lengths::frame_at_least))]
+#[tactic(auto, using(crate::proofs::LengthsLemmas::frame_at_least))]
 pub fn encode_with_sentinel(source: &[u8], dest: &mut [u8], sentinel: u8) -> usize
     requires { length (shortest_frame source.now) ≤ length dest.old }
     ensures length { result ≡ length (shortest_frame source.now) }
@@ -67,7 +67,7 @@ pub fn encode_with_sentinel(source: &[u8], dest: &mut [u8], sentinel: u8) -> usi
 /// ```
 /// assert_eq!(encoded_length(&[10, 11, 0, 12]), 5);
 /// ```
-#[tactic(auto, using(crate::proofs::Lengths::frame_at_least, crate::proofs::Lengths::frame_at_most))]
+#[tactic(auto, using(crate::proofs::LengthsLemmas::frame_at_least, crate::proofs::LengthsLemmas::frame_at_most))]
 pub fn encoded_length(source: &[u8]) -> usize
     ensures frame { result ≡ length (shortest_frame source.now) }
     ensures at_least { length source.now + 1 ≤ result }
@@ -91,7 +91,7 @@ pub fn encoded_length(source: &[u8]) -> usize
 }
 
 // Whether the frame of `source` has room in so many bytes. It is counted only where the bounds of its length leave that open.
-#[tactic(auto, using(crate::proofs::Lengths::frame_at_least, crate::proofs::Lengths::frame_at_most))]
+#[tactic(auto, using(crate::proofs::LengthsLemmas::frame_at_least, crate::proofs::LengthsLemmas::frame_at_most))]
 fn fits(source: &[u8], room: usize) -> bool
     ensures { IsTrue result ↔ (length (shortest_frame source.now) ≤ room) }
 {

@@ -38,7 +38,8 @@ impl Readable for Text {
 
     ghost refuses = { ⟦<ShapeOf<Self> as Readable>⟧.refuses };
 
-    ghost alike = { λ v w. ⟦<ShapeOf<Self> as Readable>⟧.alike (⟦<Self as Shaped>⟧.shape v) (⟦<Self as Shaped>⟧.shape w) };
+    ghost alike = { λ v w. ⟦<ShapeOf<Self> as Readable>⟧.alike (⟦<Self as Shaped>⟧.shape v)
+        (⟦<Self as Shaped>⟧.shape w) };
 
     ghost growing = { ⟦<ShapeOf<Self> as Readable>⟧.growing };
 
@@ -91,7 +92,8 @@ impl Readable for Letter {
 
     ghost refuses = { ⟦<ShapeOf<Self> as Readable>⟧.refuses };
 
-    ghost alike = { λ v w. ⟦<ShapeOf<Self> as Readable>⟧.alike (⟦<Self as Shaped>⟧.shape v) (⟦<Self as Shaped>⟧.shape w) };
+    ghost alike = { λ v w. ⟦<ShapeOf<Self> as Readable>⟧.alike (⟦<Self as Shaped>⟧.shape v)
+        (⟦<Self as Shaped>⟧.shape w) };
 
     ghost growing = { ⟦<ShapeOf<Self> as Readable>⟧.growing };
 
@@ -144,7 +146,8 @@ impl Readable for Mail {
 
     ghost refuses = { ⟦<ShapeOf<Self> as Readable>⟧.refuses };
 
-    ghost alike = { λ v w. ⟦<ShapeOf<Self> as Readable>⟧.alike (⟦<Self as Shaped>⟧.shape v) (⟦<Self as Shaped>⟧.shape w) };
+    ghost alike = { λ v w. ⟦<ShapeOf<Self> as Readable>⟧.alike (⟦<Self as Shaped>⟧.shape v)
+        (⟦<Self as Shaped>⟧.shape w) };
 
     ghost growing = { ⟦<ShapeOf<Self> as Readable>⟧.growing };
 
@@ -197,7 +200,8 @@ impl Readable for Point {
 
     ghost refuses = { ⟦<ShapeOf<Self> as Readable>⟧.refuses };
 
-    ghost alike = { λ v w. ⟦<ShapeOf<Self> as Readable>⟧.alike (⟦<Self as Shaped>⟧.shape v) (⟦<Self as Shaped>⟧.shape w) };
+    ghost alike = { λ v w. ⟦<ShapeOf<Self> as Readable>⟧.alike (⟦<Self as Shaped>⟧.shape v)
+        (⟦<Self as Shaped>⟧.shape w) };
 
     ghost growing = { ⟦<ShapeOf<Self> as Readable>⟧.growing };
 
@@ -255,7 +259,8 @@ impl Readable for Widths {
 
     ghost refuses = { ⟦<ShapeOf<Self> as Readable>⟧.refuses };
 
-    ghost alike = { λ v w. ⟦<ShapeOf<Self> as Readable>⟧.alike (⟦<Self as Shaped>⟧.shape v) (⟦<Self as Shaped>⟧.shape w) };
+    ghost alike = { λ v w. ⟦<ShapeOf<Self> as Readable>⟧.alike (⟦<Self as Shaped>⟧.shape v)
+        (⟦<Self as Shaped>⟧.shape w) };
 
     ghost growing = { ⟦<ShapeOf<Self> as Readable>⟧.growing };
 
@@ -312,7 +317,8 @@ impl Readable for Drawing {
 
     ghost refuses = { ⟦<ShapeOf<Self> as Readable>⟧.refuses };
 
-    ghost alike = { λ v w. ⟦<ShapeOf<Self> as Readable>⟧.alike (⟦<Self as Shaped>⟧.shape v) (⟦<Self as Shaped>⟧.shape w) };
+    ghost alike = { λ v w. ⟦<ShapeOf<Self> as Readable>⟧.alike (⟦<Self as Shaped>⟧.shape v)
+        (⟦<Self as Shaped>⟧.shape w) };
 
     ghost growing = { ⟦<ShapeOf<Self> as Readable>⟧.growing };
 
@@ -377,7 +383,8 @@ impl Readable for Holders {
 
     ghost refuses = { ⟦<ShapeOf<Self> as Readable>⟧.refuses };
 
-    ghost alike = { λ v w. ⟦<ShapeOf<Self> as Readable>⟧.alike (⟦<Self as Shaped>⟧.shape v) (⟦<Self as Shaped>⟧.shape w) };
+    ghost alike = { λ v w. ⟦<ShapeOf<Self> as Readable>⟧.alike (⟦<Self as Shaped>⟧.shape v)
+        (⟦<Self as Shaped>⟧.shape w) };
 
     ghost growing = { ⟦<ShapeOf<Self> as Readable>⟧.growing };
 
@@ -437,7 +444,8 @@ impl<T: Readable> Readable for Pair<T> {
 
     ghost refuses = { ⟦<ShapeOf<Self> as Readable>⟧.refuses };
 
-    ghost alike = { λ v w. ⟦<ShapeOf<Self> as Readable>⟧.alike (⟦<Self as Shaped>⟧.shape v) (⟦<Self as Shaped>⟧.shape w) };
+    ghost alike = { λ v w. ⟦<ShapeOf<Self> as Readable>⟧.alike (⟦<Self as Shaped>⟧.shape v)
+        (⟦<Self as Shaped>⟧.shape w) };
 
     ghost growing = { ⟦<ShapeOf<Self> as Readable>⟧.growing };
 
@@ -492,7 +500,8 @@ impl<'a> Readable for Lent<'a> {
 
     ghost refuses = { ⟦<ShapeOf<Self> as Readable>⟧.refuses };
 
-    ghost alike = { λ v w. ⟦<ShapeOf<Self> as Readable>⟧.alike (⟦<Self as Shaped>⟧.shape v) (⟦<Self as Shaped>⟧.shape w) };
+    ghost alike = { λ v w. ⟦<ShapeOf<Self> as Readable>⟧.alike (⟦<Self as Shaped>⟧.shape v)
+        (⟦<Self as Shaped>⟧.shape w) };
 
     ghost growing = { ⟦<ShapeOf<Self> as Readable>⟧.growing };
 
@@ -547,7 +556,8 @@ impl<'a> Readable for Borrower<'a> {
 
     ghost refuses = { ⟦<ShapeOf<Self> as Readable>⟧.refuses };
 
-    ghost alike = { λ v w. ⟦<ShapeOf<Self> as Readable>⟧.alike (⟦<Self as Shaped>⟧.shape v) (⟦<Self as Shaped>⟧.shape w) };
+    ghost alike = { λ v w. ⟦<ShapeOf<Self> as Readable>⟧.alike (⟦<Self as Shaped>⟧.shape v)
+        (⟦<Self as Shaped>⟧.shape w) };
 
     ghost growing = { ⟦<ShapeOf<Self> as Readable>⟧.growing };
 
@@ -599,7 +609,8 @@ impl Readable for Deep {
 
     ghost refuses = { ⟦<ShapeOf<Self> as Readable>⟧.refuses };
 
-    ghost alike = { λ v w. ⟦<ShapeOf<Self> as Readable>⟧.alike (⟦<Self as Shaped>⟧.shape v) (⟦<Self as Shaped>⟧.shape w) };
+    ghost alike = { λ v w. ⟦<ShapeOf<Self> as Readable>⟧.alike (⟦<Self as Shaped>⟧.shape v)
+        (⟦<Self as Shaped>⟧.shape w) };
 
     ghost growing = { ⟦<ShapeOf<Self> as Readable>⟧.growing };
 
@@ -686,7 +697,8 @@ impl Readable for Message {
 
     ghost refuses = { ⟦<ShapeOf<Self> as Readable>⟧.refuses };
 
-    ghost alike = { λ v w. ⟦<ShapeOf<Self> as Readable>⟧.alike (⟦<Self as Shaped>⟧.shape v) (⟦<Self as Shaped>⟧.shape w) };
+    ghost alike = { λ v w. ⟦<ShapeOf<Self> as Readable>⟧.alike (⟦<Self as Shaped>⟧.shape v)
+        (⟦<Self as Shaped>⟧.shape w) };
 
     ghost growing = { ⟦<ShapeOf<Self> as Readable>⟧.growing };
 

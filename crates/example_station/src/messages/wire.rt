@@ -43,7 +43,8 @@ impl Readable for SensorReading {
 
     ghost refuses = { ⟦<ShapeOf<Self> as Readable>⟧.refuses };
 
-    ghost alike = { λ v w. ⟦<ShapeOf<Self> as Readable>⟧.alike (⟦<Self as Shaped>⟧.shape v) (⟦<Self as Shaped>⟧.shape w) };
+    ghost alike = { λ v w. ⟦<ShapeOf<Self> as Readable>⟧.alike (⟦<Self as Shaped>⟧.shape v)
+        (⟦<Self as Shaped>⟧.shape w) };
 
     ghost growing = { ⟦<ShapeOf<Self> as Readable>⟧.growing };
 
@@ -107,7 +108,8 @@ impl Readable for Level {
 
     ghost refuses = { ⟦<ShapeOf<Self> as Readable>⟧.refuses };
 
-    ghost alike = { λ v w. ⟦<ShapeOf<Self> as Readable>⟧.alike (⟦<Self as Shaped>⟧.shape v) (⟦<Self as Shaped>⟧.shape w) };
+    ghost alike = { λ v w. ⟦<ShapeOf<Self> as Readable>⟧.alike (⟦<Self as Shaped>⟧.shape v)
+        (⟦<Self as Shaped>⟧.shape w) };
 
     ghost growing = { ⟦<ShapeOf<Self> as Readable>⟧.growing };
 
@@ -169,7 +171,8 @@ impl Readable for LogRecord {
 
     ghost refuses = { ⟦<ShapeOf<Self> as Readable>⟧.refuses };
 
-    ghost alike = { λ v w. ⟦<ShapeOf<Self> as Readable>⟧.alike (⟦<Self as Shaped>⟧.shape v) (⟦<Self as Shaped>⟧.shape w) };
+    ghost alike = { λ v w. ⟦<ShapeOf<Self> as Readable>⟧.alike (⟦<Self as Shaped>⟧.shape v)
+        (⟦<Self as Shaped>⟧.shape w) };
 
     ghost growing = { ⟦<ShapeOf<Self> as Readable>⟧.growing };
 
@@ -219,7 +222,8 @@ impl Readable for Address {
 
     ghost refuses = { ⟦<ShapeOf<Self> as Readable>⟧.refuses };
 
-    ghost alike = { λ v w. ⟦<ShapeOf<Self> as Readable>⟧.alike (⟦<Self as Shaped>⟧.shape v) (⟦<Self as Shaped>⟧.shape w) };
+    ghost alike = { λ v w. ⟦<ShapeOf<Self> as Readable>⟧.alike (⟦<Self as Shaped>⟧.shape v)
+        (⟦<Self as Shaped>⟧.shape w) };
 
     ghost growing = { ⟦<ShapeOf<Self> as Readable>⟧.growing };
 
@@ -269,7 +273,8 @@ impl Readable for Ping {
 
     ghost refuses = { ⟦<ShapeOf<Self> as Readable>⟧.refuses };
 
-    ghost alike = { λ v w. ⟦<ShapeOf<Self> as Readable>⟧.alike (⟦<Self as Shaped>⟧.shape v) (⟦<Self as Shaped>⟧.shape w) };
+    ghost alike = { λ v w. ⟦<ShapeOf<Self> as Readable>⟧.alike (⟦<Self as Shaped>⟧.shape v)
+        (⟦<Self as Shaped>⟧.shape w) };
 
     ghost growing = { ⟦<ShapeOf<Self> as Readable>⟧.growing };
 
@@ -348,7 +353,8 @@ impl Readable for Command {
 
     ghost refuses = { ⟦<ShapeOf<Self> as Readable>⟧.refuses };
 
-    ghost alike = { λ v w. ⟦<ShapeOf<Self> as Readable>⟧.alike (⟦<Self as Shaped>⟧.shape v) (⟦<Self as Shaped>⟧.shape w) };
+    ghost alike = { λ v w. ⟦<ShapeOf<Self> as Readable>⟧.alike (⟦<Self as Shaped>⟧.shape v)
+        (⟦<Self as Shaped>⟧.shape w) };
 
     ghost growing = { ⟦<ShapeOf<Self> as Readable>⟧.growing };
 
@@ -420,7 +426,8 @@ impl Readable for Config {
 
     ghost refuses = { ⟦<ShapeOf<Self> as Readable>⟧.refuses };
 
-    ghost alike = { λ v w. ⟦<ShapeOf<Self> as Readable>⟧.alike (⟦<Self as Shaped>⟧.shape v) (⟦<Self as Shaped>⟧.shape w) };
+    ghost alike = { λ v w. ⟦<ShapeOf<Self> as Readable>⟧.alike (⟦<Self as Shaped>⟧.shape v)
+        (⟦<Self as Shaped>⟧.shape w) };
 
     ghost growing = { ⟦<ShapeOf<Self> as Readable>⟧.growing };
 
@@ -480,7 +487,8 @@ impl<'a> Readable for Packet<'a> {
 
     ghost refuses = { ⟦<ShapeOf<Self> as Readable>⟧.refuses };
 
-    ghost alike = { λ v w. ⟦<ShapeOf<Self> as Readable>⟧.alike (⟦<Self as Shaped>⟧.shape v) (⟦<Self as Shaped>⟧.shape w) };
+    ghost alike = { λ v w. ⟦<ShapeOf<Self> as Readable>⟧.alike (⟦<Self as Shaped>⟧.shape v)
+        (⟦<Self as Shaped>⟧.shape w) };
 
     ghost growing = { ⟦<ShapeOf<Self> as Readable>⟧.growing };
 
@@ -553,7 +561,8 @@ impl Readable for Report {
 
     ghost refuses = { ⟦<ShapeOf<Self> as Readable>⟧.refuses };
 
-    ghost alike = { λ v w. ⟦<ShapeOf<Self> as Readable>⟧.alike (⟦<Self as Shaped>⟧.shape v) (⟦<Self as Shaped>⟧.shape w) };
+    ghost alike = { λ v w. ⟦<ShapeOf<Self> as Readable>⟧.alike (⟦<Self as Shaped>⟧.shape v)
+        (⟦<Self as Shaped>⟧.shape w) };
 
     ghost growing = { ⟦<ShapeOf<Self> as Readable>⟧.growing };
 
@@ -658,7 +667,8 @@ impl Readable for Event {
 
     ghost refuses = { ⟦<ShapeOf<Self> as Readable>⟧.refuses };
 
-    ghost alike = { λ v w. ⟦<ShapeOf<Self> as Readable>⟧.alike (⟦<Self as Shaped>⟧.shape v) (⟦<Self as Shaped>⟧.shape w) };
+    ghost alike = { λ v w. ⟦<ShapeOf<Self> as Readable>⟧.alike (⟦<Self as Shaped>⟧.shape v)
+        (⟦<Self as Shaped>⟧.shape w) };
 
     ghost growing = { ⟦<ShapeOf<Self> as Readable>⟧.growing };
 

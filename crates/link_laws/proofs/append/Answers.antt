@@ -1,6 +1,6 @@
 use Rattle.postcard.specs.Frames.{Holds}
 use Rattle.link.specs.Stream.{HoldsExactly}
-use Rattle.link_laws.proofs.Proved.{appends}
+use Rattle.link_laws.proofs.ProvedLemmas.{appends}
 use Rattle.link_laws.proofs.append.Goals as goal
 
 pub returns : goal.returns

@@ -1,7 +1,7 @@
 use Rattle.std.proofs.Common.{sym, subst}
 use Rattle.link_laws.specs.Crashes.{LiesBetween}
 use Rattle.link.specs.Roads.{values_of}
-use Rattle.link_laws.proofs.Crashes.{lies_between}
+use Rattle.link_laws.proofs.CrashesLemmas.{lies_between}
 use Rattle.link_laws.proofs.between.Goals as goal
 
 pub returns-clause-ordinary : goal.returns-clause-ordinary

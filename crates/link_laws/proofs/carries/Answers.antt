@@ -7,7 +7,7 @@ use Rattle.link.specs.Laws.{IsTold}
 use Rattle.link.specs.Pushes.{Matches}
 use Rattle.link_laws.specs.Values.{runs_of}
 use Rattle.link_laws.specs.Sessions.{HearsRuns}
-use Rattle.link_laws.proofs.Valued.{told_alike}
+use Rattle.link_laws.proofs.ValuedLemmas.{told_alike}
 use Rattle.link_laws.proofs.carries.Goals as goal
 
 -- what is told of the run of a type's values is told of it by values

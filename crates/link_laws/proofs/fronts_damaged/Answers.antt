@@ -1,4 +1,4 @@
-use Rattle.link_laws.proofs.Proved.{fronts_damaged}
+use Rattle.link_laws.proofs.ProvedLemmas.{fronts_damaged}
 use Rattle.link_laws.proofs.fronts_damaged.Goals as goal
 
 pub returns : goal.returns

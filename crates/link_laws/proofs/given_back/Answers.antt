@@ -1,7 +1,7 @@
 use Rattle.std.proofs.Common.{subst}
 use Rattle.std.specs.List.{AllZip}
 use Rattle.link_laws.specs.Values.{AlikeAnswers}
-use Rattle.link_laws.proofs.Valued.{completed_run}
+use Rattle.link_laws.proofs.ValuedLemmas.{completed_run}
 use Rattle.link_laws.proofs.given_back.Goals as goal
 
 pub returns-clause-ordinary : goal.returns-clause-ordinary

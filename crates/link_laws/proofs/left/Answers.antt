@@ -1,4 +1,4 @@
-use Rattle.link_laws.proofs.Crashes.{line_of_left, run_left, tried_left, runs_joined, lines_joined}
+use Rattle.link_laws.proofs.CrashesLemmas.{line_of_left, run_left, tried_left, runs_joined, lines_joined}
 use Rattle.link_laws.proofs.left.Goals as goal
 
 pub returns-clause-front : goal.returns-clause-front

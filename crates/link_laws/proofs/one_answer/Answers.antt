@@ -1,7 +1,7 @@
 use Rattle.postcard.specs.Frames.{Holds}
 use Rattle.link.specs.Stream.{HoldsExactly}
 use Rattle.link.specs.OneAnswers.{one_tree, one_tree_exactly}
-use Rattle.link_laws.proofs.Proved.{once}
+use Rattle.link_laws.proofs.ProvedLemmas.{once}
 use Rattle.link_laws.proofs.one_answer.Goals as goal
 
 pub returns-clause-ordinary : goal.returns-clause-ordinary

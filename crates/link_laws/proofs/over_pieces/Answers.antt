@@ -1,6 +1,6 @@
 use Rattle.postcard.specs.Frames.{Holds}
 use Rattle.link.specs.Stream.{HoldsExactly}
-use Rattle.link_laws.proofs.Pushing.{of_the_whole}
+use Rattle.link_laws.proofs.PushingLemmas.{of_the_whole}
 use Rattle.link_laws.proofs.over_pieces.Goals as goal
 
 pub returns : goal.returns

@@ -1,6 +1,6 @@
 use Rattle.postcard.specs.Frames.{Holds}
 use Rattle.link.specs.Stream.{HoldsExactly}
-use Rattle.link_laws.proofs.Proved.{starts_anywhere}
+use Rattle.link_laws.proofs.ProvedLemmas.{starts_anywhere}
 use Rattle.link_laws.proofs.start_anywhere.Goals as goal
 
 pub returns : goal.returns

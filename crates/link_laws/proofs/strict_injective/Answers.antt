@@ -1,4 +1,4 @@
-use Rattle.link_laws.proofs.Strict.{is_injective}
+use Rattle.link_laws.proofs.StrictLemmas.{is_injective}
 use Rattle.link_laws.proofs.strict_injective.Goals as goal
 
 pub returns : goal.returns

@@ -1,4 +1,4 @@
-use Rattle.link_laws.proofs.Proved.{is_told, is_told_exactly}
+use Rattle.link_laws.proofs.ProvedLemmas.{is_told, is_told_exactly}
 use Rattle.link_laws.proofs.told.Goals as goal
 
 pub returns-clause-ordinary : goal.returns-clause-ordinary

@@ -1,5 +1,5 @@
 use Rattle.link_laws.specs.Values.{runs_of}
-use Rattle.link_laws.proofs.Valued.{told_alike}
+use Rattle.link_laws.proofs.ValuedLemmas.{told_alike}
 use Rattle.link_laws.proofs.told_by_values.Goals as goal
 
 pub returns-clause-ordinary : goal.returns-clause-ordinary

@@ -38,7 +38,8 @@ impl Readable for Text {
 
     ghost refuses = { ⟦<ShapeOf<Self> as Readable>⟧.refuses };
 
-    ghost alike = { λ v w. ⟦<ShapeOf<Self> as Readable>⟧.alike (⟦<Self as Shaped>⟧.shape v) (⟦<Self as Shaped>⟧.shape w) };
+    ghost alike = { λ v w. ⟦<ShapeOf<Self> as Readable>⟧.alike (⟦<Self as Shaped>⟧.shape v)
+        (⟦<Self as Shaped>⟧.shape w) };
 
     ghost growing = { ⟦<ShapeOf<Self> as Readable>⟧.growing };
 
@@ -91,7 +92,8 @@ impl Readable for Outer {
 
     ghost refuses = { ⟦<ShapeOf<Self> as Readable>⟧.refuses };
 
-    ghost alike = { λ v w. ⟦<ShapeOf<Self> as Readable>⟧.alike (⟦<Self as Shaped>⟧.shape v) (⟦<Self as Shaped>⟧.shape w) };
+    ghost alike = { λ v w. ⟦<ShapeOf<Self> as Readable>⟧.alike (⟦<Self as Shaped>⟧.shape v)
+        (⟦<Self as Shaped>⟧.shape w) };
 
     ghost growing = { ⟦<ShapeOf<Self> as Readable>⟧.growing };
 
@@ -144,7 +146,8 @@ impl Readable for Third {
 
     ghost refuses = { ⟦<ShapeOf<Self> as Readable>⟧.refuses };
 
-    ghost alike = { λ v w. ⟦<ShapeOf<Self> as Readable>⟧.alike (⟦<Self as Shaped>⟧.shape v) (⟦<Self as Shaped>⟧.shape w) };
+    ghost alike = { λ v w. ⟦<ShapeOf<Self> as Readable>⟧.alike (⟦<Self as Shaped>⟧.shape v)
+        (⟦<Self as Shaped>⟧.shape w) };
 
     ghost growing = { ⟦<ShapeOf<Self> as Readable>⟧.growing };
 
@@ -202,7 +205,8 @@ impl Readable for Lists {
 
     ghost refuses = { ⟦<ShapeOf<Self> as Readable>⟧.refuses };
 
-    ghost alike = { λ v w. ⟦<ShapeOf<Self> as Readable>⟧.alike (⟦<Self as Shaped>⟧.shape v) (⟦<Self as Shaped>⟧.shape w) };
+    ghost alike = { λ v w. ⟦<ShapeOf<Self> as Readable>⟧.alike (⟦<Self as Shaped>⟧.shape v)
+        (⟦<Self as Shaped>⟧.shape w) };
 
     ghost growing = { ⟦<ShapeOf<Self> as Readable>⟧.growing };
 
@@ -255,7 +259,8 @@ impl Readable for Point {
 
     ghost refuses = { ⟦<ShapeOf<Self> as Readable>⟧.refuses };
 
-    ghost alike = { λ v w. ⟦<ShapeOf<Self> as Readable>⟧.alike (⟦<Self as Shaped>⟧.shape v) (⟦<Self as Shaped>⟧.shape w) };
+    ghost alike = { λ v w. ⟦<ShapeOf<Self> as Readable>⟧.alike (⟦<Self as Shaped>⟧.shape v)
+        (⟦<Self as Shaped>⟧.shape w) };
 
     ghost growing = { ⟦<ShapeOf<Self> as Readable>⟧.growing };
 
@@ -305,7 +310,8 @@ impl Readable for Triangle {
 
     ghost refuses = { ⟦<ShapeOf<Self> as Readable>⟧.refuses };
 
-    ghost alike = { λ v w. ⟦<ShapeOf<Self> as Readable>⟧.alike (⟦<Self as Shaped>⟧.shape v) (⟦<Self as Shaped>⟧.shape w) };
+    ghost alike = { λ v w. ⟦<ShapeOf<Self> as Readable>⟧.alike (⟦<Self as Shaped>⟧.shape v)
+        (⟦<Self as Shaped>⟧.shape w) };
 
     ghost growing = { ⟦<ShapeOf<Self> as Readable>⟧.growing };
 
@@ -363,7 +369,8 @@ impl Readable for Widths {
 
     ghost refuses = { ⟦<ShapeOf<Self> as Readable>⟧.refuses };
 
-    ghost alike = { λ v w. ⟦<ShapeOf<Self> as Readable>⟧.alike (⟦<Self as Shaped>⟧.shape v) (⟦<Self as Shaped>⟧.shape w) };
+    ghost alike = { λ v w. ⟦<ShapeOf<Self> as Readable>⟧.alike (⟦<Self as Shaped>⟧.shape v)
+        (⟦<Self as Shaped>⟧.shape w) };
 
     ghost growing = { ⟦<ShapeOf<Self> as Readable>⟧.growing };
 
@@ -416,7 +423,8 @@ impl<T: Readable> Readable for Pair<T> {
 
     ghost refuses = { ⟦<ShapeOf<Self> as Readable>⟧.refuses };
 
-    ghost alike = { λ v w. ⟦<ShapeOf<Self> as Readable>⟧.alike (⟦<Self as Shaped>⟧.shape v) (⟦<Self as Shaped>⟧.shape w) };
+    ghost alike = { λ v w. ⟦<ShapeOf<Self> as Readable>⟧.alike (⟦<Self as Shaped>⟧.shape v)
+        (⟦<Self as Shaped>⟧.shape w) };
 
     ghost growing = { ⟦<ShapeOf<Self> as Readable>⟧.growing };
 
@@ -471,7 +479,8 @@ impl Readable for Pairs {
 
     ghost refuses = { ⟦<ShapeOf<Self> as Readable>⟧.refuses };
 
-    ghost alike = { λ v w. ⟦<ShapeOf<Self> as Readable>⟧.alike (⟦<Self as Shaped>⟧.shape v) (⟦<Self as Shaped>⟧.shape w) };
+    ghost alike = { λ v w. ⟦<ShapeOf<Self> as Readable>⟧.alike (⟦<Self as Shaped>⟧.shape v)
+        (⟦<Self as Shaped>⟧.shape w) };
 
     ghost growing = { ⟦<ShapeOf<Self> as Readable>⟧.growing };
 
@@ -524,7 +533,8 @@ impl<'a> Readable for Lent<'a> {
 
     ghost refuses = { ⟦<ShapeOf<Self> as Readable>⟧.refuses };
 
-    ghost alike = { λ v w. ⟦<ShapeOf<Self> as Readable>⟧.alike (⟦<Self as Shaped>⟧.shape v) (⟦<Self as Shaped>⟧.shape w) };
+    ghost alike = { λ v w. ⟦<ShapeOf<Self> as Readable>⟧.alike (⟦<Self as Shaped>⟧.shape v)
+        (⟦<Self as Shaped>⟧.shape w) };
 
     ghost growing = { ⟦<ShapeOf<Self> as Readable>⟧.growing };
 
@@ -579,7 +589,8 @@ impl<'a> Readable for Borrower<'a> {
 
     ghost refuses = { ⟦<ShapeOf<Self> as Readable>⟧.refuses };
 
-    ghost alike = { λ v w. ⟦<ShapeOf<Self> as Readable>⟧.alike (⟦<Self as Shaped>⟧.shape v) (⟦<Self as Shaped>⟧.shape w) };
+    ghost alike = { λ v w. ⟦<ShapeOf<Self> as Readable>⟧.alike (⟦<Self as Shaped>⟧.shape v)
+        (⟦<Self as Shaped>⟧.shape w) };
 
     ghost growing = { ⟦<ShapeOf<Self> as Readable>⟧.growing };
 
@@ -631,7 +642,8 @@ impl Readable for Deep {
 
     ghost refuses = { ⟦<ShapeOf<Self> as Readable>⟧.refuses };
 
-    ghost alike = { λ v w. ⟦<ShapeOf<Self> as Readable>⟧.alike (⟦<Self as Shaped>⟧.shape v) (⟦<Self as Shaped>⟧.shape w) };
+    ghost alike = { λ v w. ⟦<ShapeOf<Self> as Readable>⟧.alike (⟦<Self as Shaped>⟧.shape v)
+        (⟦<Self as Shaped>⟧.shape w) };
 
     ghost growing = { ⟦<ShapeOf<Self> as Readable>⟧.growing };
 
@@ -718,7 +730,8 @@ impl Readable for Message {
 
     ghost refuses = { ⟦<ShapeOf<Self> as Readable>⟧.refuses };
 
-    ghost alike = { λ v w. ⟦<ShapeOf<Self> as Readable>⟧.alike (⟦<Self as Shaped>⟧.shape v) (⟦<Self as Shaped>⟧.shape w) };
+    ghost alike = { λ v w. ⟦<ShapeOf<Self> as Readable>⟧.alike (⟦<Self as Shaped>⟧.shape v)
+        (⟦<Self as Shaped>⟧.shape w) };
 
     ghost growing = { ⟦<ShapeOf<Self> as Readable>⟧.growing };
 

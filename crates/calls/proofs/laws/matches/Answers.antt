@@ -1,6 +1,6 @@
 use Rattle.std.proofs.Common.{refl, ap, subst, inl, inr, None}
 use Rattle.calls.specs.Calls.{In}
-use Rattle.calls.proofs.Replies.{call, in_some, found}
+use Rattle.calls.proofs.RepliesLemmas.{call, in_some, found}
 use Rattle.calls.proofs.laws.matches.Goals as goal
 
 pub returns : goal.returns

@@ -1,5 +1,5 @@
 use Rattle.std.proofs.Common.{None, inl, inr}
-use Rattle.calls.proofs.Replies.{found}
+use Rattle.calls.proofs.RepliesLemmas.{found}
 use Rattle.calls.proofs.laws.replied.Goals as goal
 
 pub returns : goal.returns

@@ -1,7 +1,7 @@
 use Rattle.std.proofs.Common.{◌≤◌, ◌<◌, arith, None}
 use Rattle.calls.specs.Calls.{next_of}
 use Rattle.calls.specs.ServedLaws.{rises}
-use Rattle.calls.proofs.Replies.{below, above}
+use Rattle.calls.proofs.RepliesLemmas.{below, above}
 use Rattle.calls.proofs.laws.settles.Goals as goal
 
 pub returns : goal.returns

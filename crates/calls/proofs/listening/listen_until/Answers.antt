@@ -1,6 +1,6 @@
 use Rattle.std.proofs.Common.{◌∙◌}
 use Rattle.postcard.specs.Frames.{Holds}
-use Rattle.calls.proofs.Rounds.{so_far_none, so_far_then, so_far_end}
+use Rattle.calls.proofs.RoundsLemmas.{so_far_none, so_far_then, so_far_end}
 use Rattle.calls.proofs.listening.listen_until.Goals as goal
 
 pub loop-alloc-init : goal.loop-alloc-init

@@ -1,5 +1,5 @@
 use Rattle.link.specs.Stream.{HoldsExactly}
-use Rattle.calls.proofs.Rounds.{SoFar}
+use Rattle.calls.proofs.RoundsLemmas.{SoFar}
 use Rattle.calls.proofs.listening.listen_until_strict.Given as goal
 
 -- the answers to what the reader gave so far were handed on

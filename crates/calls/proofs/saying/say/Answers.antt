@@ -1,5 +1,5 @@
 use Rattle.std.proofs.Common.{ap}
-use Rattle.calls.proofs.Refusing.{where_refused}
+use Rattle.calls.proofs.RefusingLemmas.{where_refused}
 use Rattle.calls.proofs.saying.say.Goals as goal
 
 pub returns : goal.returns

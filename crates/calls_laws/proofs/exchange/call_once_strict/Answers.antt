@@ -1,4 +1,4 @@
-use Rattle.calls_laws.proofs.Outcomes.{outcome}
+use Rattle.calls_laws.proofs.OutcomesLemmas.{outcome}
 use Rattle.calls_laws.proofs.exchange.call_once_strict.Goals as goal
 
 pub returns : goal.returns

@@ -2,7 +2,7 @@ use Rattle.std.proofs.Common.{subst}
 use Rattle.calls.specs.Calls.{In}
 use Rattle.calls.specs.Serving.{requests_of}
 use Rattle.link_laws.specs.Values.{values_sent}
-use Rattle.calls_laws.proofs.Right.{right}
+use Rattle.calls_laws.proofs.RightLemmas.{right}
 use Rattle.calls_laws.proofs.headline.calls.Goals as goal
 
 pub returns-clause-ordinary : goal.returns-clause-ordinary

@@ -1,6 +1,6 @@
 use Rattle.postcard.specs.Frames.{Holds}
 use Rattle.link.specs.Stream.{HoldsExactly}
-use Rattle.calls_laws.proofs.Fronts.{heard_tried, run_writes}
+use Rattle.calls_laws.proofs.FrontsLemmas.{heard_tried, run_writes}
 use Rattle.calls_laws.proofs.heard.heard_was_sent.Goals as goal
 
 pub returns-clause-ordinary : goal.returns-clause-ordinary

@@ -1,6 +1,6 @@
 use Rattle.std.proofs.Common.{sym, ap, ◌∙◌}
 use Rattle.calls.specs.Asking.{Asker}
-use Rattle.calls_laws.proofs.Steps.{asks_only}
+use Rattle.calls_laws.proofs.StepsLemmas.{asks_only}
 use Rattle.calls_laws.proofs.sides.ask_all.Goals as goal
 
 pub returns : goal.returns

@@ -1,7 +1,7 @@
 use Rattle.std.proofs.Common.{sym, ap, ◌∙◌}
 use Rattle.link.specs.Stream.{HoldsExactly}
 use Rattle.line_io.specs.Memory.{in_bytes}
-use Rattle.calls_laws.proofs.Steps.{serves_line, front_read, inside}
+use Rattle.calls_laws.proofs.StepsLemmas.{serves_line, front_read, inside}
 use Rattle.calls_laws.proofs.sides.serve_all_strict.Goals as goal
 
 pub new_with_sentinel-requires : goal.new_with_sentinel-requires

@@ -1,7 +1,7 @@
 use Rattle.std.proofs.Common.{refl, []}
 use Rattle.postcard.specs.Frames.{Holds}
 use Rattle.link.specs.Decoding.{in_array}
-use Rattle.calls_laws.proofs.Steps.{heard_of, nothing_given, takes_reply, inside}
+use Rattle.calls_laws.proofs.StepsLemmas.{heard_of, nothing_given, takes_reply, inside}
 use Rattle.calls_laws.proofs.sides.take_reply.Goals as goal
 
 pub wait-ended-requires : goal.wait-ended-requires

@@ -1,7 +1,7 @@
 use Rattle.std.proofs.Common.{refl, []}
 use Rattle.link.specs.Stream.{HoldsExactly}
 use Rattle.link.specs.Decoding.{in_array}
-use Rattle.calls_laws.proofs.Steps.{heard_of, nothing_given, takes_reply, inside}
+use Rattle.calls_laws.proofs.StepsLemmas.{heard_of, nothing_given, takes_reply, inside}
 use Rattle.calls_laws.proofs.sides.take_reply_strict.Goals as goal
 
 pub wait_strict-ended-requires : goal.wait_strict-ended-requires

@@ -1,6 +1,6 @@
 use Rattle.std.proofs.Common.{arith}
-use Rattle.cobs.proofs.Masking.{masked_zero}
-use Rattle.cobs.proofs.Stepping.{stepped, stepped_clear}
+use Rattle.cobs.proofs.MaskingLemmas.{masked_zero}
+use Rattle.cobs.proofs.SteppingLemmas.{stepped, stepped_clear}
 use Rattle.cobs.proofs.codes.put_64.Goals as goal
 
 pub returns-then-is_clear : goal.returns-then-is_clear

@@ -1,4 +1,4 @@
-use Rattle.cobs.proofs.Stepping.{stepped_clear}
+use Rattle.cobs.proofs.SteppingLemmas.{stepped_clear}
 use Rattle.cobs.proofs.codes.put_block.Goals as goal
 
 pub returns-then-is_full_block : goal.returns-then-is_full_block

@@ -2,7 +2,7 @@ use Rattle.std.proofs.Common.{◌≡◌, ◌+◌, ◌++◌, [], length, ap, sym,
 use Rattle.std.proofs.lemmas.List.{append-nil}
 use Rattle.cobs.specs.Codes.{Open}
 use Rattle.cobs.specs.Sentinel.{masked}
-use Rattle.cobs.proofs.Stepping.{open_coded}
+use Rattle.cobs.proofs.SteppingLemmas.{open_coded}
 use Rattle.cobs.proofs.codes.put_bytes.Goals as goal
 
 pub loop-rest-init : goal.loop-rest-init

@@ -1,6 +1,6 @@
 use Rattle.std.proofs.Common.{arith}
-use Rattle.cobs.proofs.Lanes.{going_on, going_end}
-use Rattle.cobs.proofs.Masking.{masked_put}
+use Rattle.cobs.proofs.LanesLemmas.{going_on, going_end}
+use Rattle.cobs.proofs.MaskingLemmas.{masked_put}
 use Rattle.cobs.proofs.codes.put_codes_marked.Goals as goal
 
 pub loop-zeros-preserved : goal.loop-zeros-preserved

@@ -1,5 +1,5 @@
 use Rattle.cobs.specs.Sentinel.{masked}
-use Rattle.cobs.proofs.Lanes.{Going}
+use Rattle.cobs.proofs.LanesLemmas.{Going}
 use Rattle.cobs.proofs.codes.put_codes_marked.Given as goal
 
 abbrev pub invariant-loop-zeros : goal.invariant-loop-zeros

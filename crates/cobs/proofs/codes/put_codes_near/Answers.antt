@@ -1,7 +1,7 @@
 use Rattle.std.proofs.Common.{◌≡◌, ◌+◌, ◌++◌, length, drop, ap, arith}
 use Rattle.std.proofs.lemmas.List.{drop_all}
-use Rattle.cobs.proofs.Coding.{zero_at, byte_at}
-use Rattle.cobs.proofs.Masking.{masked_put}
+use Rattle.cobs.proofs.CodingLemmas.{zero_at, byte_at}
+use Rattle.cobs.proofs.MaskingLemmas.{masked_put}
 use Rattle.cobs.proofs.codes.put_codes_near.Goals as goal
 use Rattle.cobs.proofs.codes.put_codes_near.Goals.{then-byte-eq0, else-byte-eq0}
 

@@ -2,8 +2,8 @@ use Rattle.std.specs.Prelude.{bit_xor}
 use Rattle.cobs.specs.Sentinel.{masked}
 use Rattle.std.proofs.Common.{◌≡◌, ◌+◌, ◌-◌, length, take, drop, set, replicate, ap, ◌∙◌, arith, length-take, length-drop}
 use Rattle.std.proofs.lemmas.List.{length-set}
-use Rattle.cobs.proofs.Coding.{zeros_at}
-use Rattle.cobs.proofs.Masking.{masked_put, masked_mid, masked_row}
+use Rattle.cobs.proofs.CodingLemmas.{zeros_at}
+use Rattle.cobs.proofs.MaskingLemmas.{masked_put, masked_mid, masked_row}
 use Rattle.cobs.proofs.codes.put_codes_of_zeros.Goals as goal
 
 pub returns : goal.returns

@@ -1,5 +1,5 @@
-use Rattle.cobs.proofs.Masking.{masked_zero}
-use Rattle.cobs.proofs.Stepping.{stepped}
+use Rattle.cobs.proofs.MaskingLemmas.{masked_zero}
+use Rattle.cobs.proofs.SteppingLemmas.{stepped}
 use Rattle.cobs.proofs.codes.put_short.Goals as goal
 
 pub put_codes_of_marks-requires-clause-marks : goal.put_codes_of_marks-requires-clause-marks

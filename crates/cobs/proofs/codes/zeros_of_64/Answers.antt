@@ -3,7 +3,7 @@ use Rattle.std.proofs.lemmas.List.{take_all}
 use Rattle.std.proofs.lemmas.Simd.{bitmask_splat}
 use Rattle.std.specs.Simd.Lanes.{mask_l}
 use Rattle.cobs.specs.Codes.{Marks}
-use Rattle.cobs.proofs.Lanes.{marks_of}
+use Rattle.cobs.proofs.LanesLemmas.{marks_of}
 use Rattle.cobs.proofs.codes.zeros_of_64.Goals as goal
 
 pub returns : goal.returns

@@ -1,5 +1,5 @@
 use Rattle.std.proofs.Common.{arith}
-use Rattle.cobs.proofs.Sources.{clear_byte}
+use Rattle.cobs.proofs.SourcesLemmas.{clear_byte}
 use Rattle.cobs.proofs.finding.before_in_64.Goals as goal
 
 pub returns-then-is_clear-clause-none : goal.returns-then-is_clear-clause-none

@@ -1,7 +1,7 @@
 use Rattle.std.proofs.Common.{◌∙◌, ap, arith}
 use Rattle.std.specs.Int.{bit_at}
 use Rattle.std.proofs.lemmas.Nat.Bits.{bit_at-zero}
-use Rattle.cobs.proofs.Sources.{marked_byte, unmarked_byte}
+use Rattle.cobs.proofs.SourcesLemmas.{marked_byte, unmarked_byte}
 use Rattle.cobs.proofs.finding.before_of_64.Goals as goal
 
 pub returns-then-marks-eq0-clause-none : goal.returns-then-marks-eq0-clause-none

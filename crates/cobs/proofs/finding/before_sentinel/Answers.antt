@@ -2,8 +2,8 @@ use Rattle.std.proofs.Common.{◌≡◌, ◌≢◌, ◌<◌, ◌≤◌, ℕ, Lis
 use Rattle.std.proofs.lemmas.List.{length-take-le}
 use Rattle.cobs.specs.InPlace.{stretch}
 use Rattle.cobs.specs.Sentinel.{masked}
-use Rattle.cobs.proofs.Masking.{masked_length}
-use Rattle.cobs.proofs.Sources.{stretch_front}
+use Rattle.cobs.proofs.MaskingLemmas.{masked_length}
+use Rattle.cobs.proofs.SourcesLemmas.{stretch_front}
 use Rattle.cobs.proofs.finding.before_sentinel.Goals as goal
 
 counted : (sentinel : ℕ) (bytes : List ℕ) (n : ℕ) → n ≤ length bytes → ((k : ℕ) → k < n → get_or bytes k 0 ≢ sentinel) → (n < length bytes → get_or bytes n 0 ≡ sentinel) → n ≡ length (stretch (masked sentinel bytes))

@@ -1,4 +1,4 @@
-use Rattle.cobs.proofs.Zeros.{zero_answers, zero_refuses, zero_gives}
+use Rattle.cobs.proofs.ZerosLemmas.{zero_answers, zero_refuses, zero_gives}
 use Rattle.cobs.proofs.laws.answers.Goals as goal
 
 pub returns : goal.returns

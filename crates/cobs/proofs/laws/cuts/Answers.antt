@@ -1,4 +1,4 @@
-use Rattle.cobs.proofs.Cuts.{any_pieces}
+use Rattle.cobs.proofs.CutsLemmas.{any_pieces}
 use Rattle.cobs.proofs.laws.cuts.Goals as goal
 
 pub returns : goal.returns

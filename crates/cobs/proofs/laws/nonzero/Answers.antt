@@ -1,5 +1,5 @@
-use Rattle.cobs.proofs.Decoding.{frame_nonzero}
-use Rattle.cobs.proofs.Masking.{none_is_sentinel}
+use Rattle.cobs.proofs.DecodingLemmas.{frame_nonzero}
+use Rattle.cobs.proofs.MaskingLemmas.{none_is_sentinel}
 use Rattle.cobs.proofs.laws.nonzero.Goals as goal
 
 pub returns : goal.returns

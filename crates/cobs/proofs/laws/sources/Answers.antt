@@ -1,4 +1,4 @@
-use Rattle.cobs.proofs.Answering.{decodes_frames, refuses_sources}
+use Rattle.cobs.proofs.AnsweringLemmas.{decodes_frames, refuses_sources}
 use Rattle.cobs.proofs.laws.sources.Goals as goal
 
 pub returns : goal.returns

@@ -1,4 +1,4 @@
-use Rattle.cobs.proofs.Answering.{decodes_stretches, refuses_stretches}
+use Rattle.cobs.proofs.AnsweringLemmas.{decodes_stretches, refuses_stretches}
 use Rattle.cobs.proofs.laws.stretches.Goals as goal
 
 pub returns : goal.returns

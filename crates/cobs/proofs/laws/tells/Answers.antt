@@ -1,4 +1,4 @@
-use Rattle.cobs.proofs.Tells.{tells_message}
+use Rattle.cobs.proofs.TellsLemmas.{tells_message}
 use Rattle.cobs.proofs.laws.tells.Goals as goal
 
 pub returns : goal.returns

@@ -1,5 +1,5 @@
 use Rattle.std.proofs.Common.{refl}
-use Rattle.cobs.proofs.Masking.{masked_zero, masked_twice}
+use Rattle.cobs.proofs.MaskingLemmas.{masked_zero, masked_twice}
 use Rattle.cobs.proofs.laws.unmasked.Goals as goal
 
 pub returns : goal.returns

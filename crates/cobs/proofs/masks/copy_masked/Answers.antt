@@ -1,5 +1,5 @@
 use Rattle.std.specs.Prelude.{bit_xor}
-use Rattle.cobs.proofs.Masking.{map_over}
+use Rattle.cobs.proofs.MaskingLemmas.{map_over}
 use Rattle.cobs.proofs.masks.copy_masked.Goals as goal
 
 pub loop-i-preserved : goal.loop-i-preserved

@@ -1,5 +1,5 @@
 use Rattle.std.specs.Prelude.{bit_xor}
-use Rattle.cobs.proofs.Masking.{map_on}
+use Rattle.cobs.proofs.MaskingLemmas.{map_on}
 use Rattle.cobs.proofs.masks.mask.Goals as goal
 
 pub loop-byte-preserved : goal.loop-byte-preserved

@@ -5,8 +5,8 @@ use Rattle.std.proofs.lemmas.Nat.{xor_of_8}
 use Rattle.std.proofs.lemmas.Simd.{bitmask_splat}
 use Rattle.std.specs.Prelude.{bit_xor}
 use Rattle.cobs.specs.Sentinel.{masked}
-use Rattle.cobs.proofs.Lanes.{all_above, same_of}
-use Rattle.cobs.proofs.Masking.{as_turned, masked_get, masked_length, masked_take, masked_drop}
+use Rattle.cobs.proofs.LanesLemmas.{all_above, same_of}
+use Rattle.cobs.proofs.MaskingLemmas.{as_turned, masked_get, masked_length, masked_take, masked_drop}
 use Rattle.cobs.proofs.moves.are_all.Goals as goal
 
 pub returns : goal.returns

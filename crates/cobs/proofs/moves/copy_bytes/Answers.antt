@@ -3,8 +3,8 @@ use Rattle.std.proofs.lemmas.List.{take_more, length-take-le}
 use Rattle.std.specs.Prelude.{bit_xor}
 use Rattle.cobs.specs.InPlace.{written_over}
 use Rattle.cobs.specs.Sentinel.{masked}
-use Rattle.cobs.proofs.Masking.{masked_length, masked_append}
-use Rattle.cobs.proofs.Windows.{written_next}
+use Rattle.cobs.proofs.MaskingLemmas.{masked_length, masked_append}
+use Rattle.cobs.proofs.WindowsLemmas.{written_next}
 use Rattle.cobs.proofs.moves.copy_bytes.Goals as goal
 
 pub loop-i-preserved : goal.loop-i-preserved

@@ -2,7 +2,7 @@ use Rattle.std.proofs.Common.{◌≡◌, ◌∙◌, ◌+◌, ◌-◌, ap, length
 use Rattle.std.proofs.lemmas.List.{take_all}
 use Rattle.cobs.specs.InPlace.{written_over}
 use Rattle.cobs.specs.Sentinel.{masked}
-use Rattle.cobs.proofs.Written.{written_ends}
+use Rattle.cobs.proofs.WrittenLemmas.{written_ends}
 use Rattle.cobs.proofs.moves.copy_ends.Goals as goal
 
 pub returns : goal.returns

@@ -2,8 +2,8 @@ use Rattle.std.proofs.Common.{◌≡◌, ◌+◌, ◌≤◌, ℕ, List, [], ◌+
 use Rattle.std.proofs.lemmas.List.{take-append-drop, append-nil}
 use Rattle.cobs.specs.InPlace.{written_over}
 use Rattle.cobs.specs.Sentinel.{masked}
-use Rattle.cobs.proofs.Masking.{masked_length, masked_append}
-use Rattle.cobs.proofs.Written.{written_then}
+use Rattle.cobs.proofs.MaskingLemmas.{masked_length, masked_append}
+use Rattle.cobs.proofs.WrittenLemmas.{written_then}
 use Rattle.cobs.proofs.moves.copy_over.Goals as goal
 
 -- a further part

@@ -3,8 +3,8 @@ use Rattle.std.proofs.lemmas.List.{length-take-le}
 use Rattle.std.proofs.lemmas.Bool.{eqb-true}
 use Rattle.std.proofs.lemmas.Simd.{bitmask_splat}
 use Rattle.cobs.specs.Sentinel.{masked}
-use Rattle.cobs.proofs.Lanes.{all_clear}
-use Rattle.cobs.proofs.Masking.{masked_length, masked_take, masked_drop}
+use Rattle.cobs.proofs.LanesLemmas.{all_clear}
+use Rattle.cobs.proofs.MaskingLemmas.{masked_length, masked_take, masked_drop}
 use Rattle.cobs.proofs.moves.is_clear.Goals as goal
 
 pub returns : goal.returns

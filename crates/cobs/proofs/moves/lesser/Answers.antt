@@ -1,4 +1,4 @@
-use Rattle.cobs.proofs.Lanes.{lesser_length, lesser_lane}
+use Rattle.cobs.proofs.LanesLemmas.{lesser_length, lesser_lane}
 use Rattle.cobs.proofs.moves.lesser.Goals as goal
 
 pub returns-clause-long : goal.returns-clause-long

@@ -1,5 +1,5 @@
 use Rattle.std.proofs.Common.{◌+◌, arith}
-use Rattle.cobs.proofs.Written.{moved_byte}
+use Rattle.cobs.proofs.WrittenLemmas.{moved_byte}
 use Rattle.cobs.proofs.moves.move_bytes.Goals as goal
 
 pub loop-i-preserved : goal.loop-i-preserved

@@ -1,7 +1,7 @@
 use Rattle.std.proofs.Common.{◌∙◌, ◌+◌, ◌-◌, ap, drop, take, arith}
 use Rattle.cobs.specs.InPlace.{written_over}
 use Rattle.cobs.specs.Sentinel.{masked}
-use Rattle.cobs.proofs.Written.{moved_on}
+use Rattle.cobs.proofs.WrittenLemmas.{moved_on}
 use Rattle.cobs.proofs.moves.move_down.Goals as goal
 
 pub loop-moved-preserved : goal.loop-moved-preserved

@@ -4,7 +4,7 @@ use Rattle.std.proofs.lemmas.Simd.{put_chunk_is, zip2_splat_left}
 use Rattle.std.specs.Prelude.{bit_xor}
 use Rattle.std.specs.Simd.Lanes.{put_chunk}
 use Rattle.cobs.specs.Sentinel.{masked}
-use Rattle.cobs.proofs.Masking.{masked_length}
+use Rattle.cobs.proofs.MaskingLemmas.{masked_length}
 use Rattle.cobs.proofs.moves.store.Goals as goal
 
 pub returns : goal.returns

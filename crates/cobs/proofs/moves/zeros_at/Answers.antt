@@ -3,8 +3,8 @@ use Rattle.std.proofs.lemmas.List.{length-take-le}
 use Rattle.std.proofs.lemmas.Simd.{bitmask_splat, zip2_splat_left}
 use Rattle.std.specs.Prelude.{bit_xor}
 use Rattle.cobs.specs.Sentinel.{masked}
-use Rattle.cobs.proofs.Lanes.{marked_lanes}
-use Rattle.cobs.proofs.Masking.{masked_length}
+use Rattle.cobs.proofs.LanesLemmas.{marked_lanes}
+use Rattle.cobs.proofs.MaskingLemmas.{masked_length}
 use Rattle.cobs.proofs.moves.zeros_at.Goals as goal
 
 pub returns-clause-marks : goal.returns-clause-marks

@@ -2,8 +2,8 @@ use Rattle.std.proofs.Common.{◌≡◌, ◌-◌, ◌∙◌, length, take, drop,
 use Rattle.std.proofs.lemmas.List.{take_all}
 use Rattle.cobs.specs.Codes.{Marks}
 use Rattle.cobs.specs.Sentinel.{masked}
-use Rattle.cobs.proofs.Lanes.{ends_marked, shifted}
-use Rattle.cobs.proofs.Masking.{masked_length, masked_take, masked_drop}
+use Rattle.cobs.proofs.LanesLemmas.{ends_marked, shifted}
+use Rattle.cobs.proofs.MaskingLemmas.{masked_length, masked_take, masked_drop}
 use Rattle.cobs.proofs.moves.zeros_of_ends.Goals as goal
 
 pub returns : goal.returns

@@ -3,7 +3,7 @@ use Rattle.std.proofs.lemmas.List.{append-nil, length-append, length-take, lengt
 use Rattle.link.specs.Decoding.{in_array}
 use Rattle.link.specs.Receivers.{IsBehind}
 use Rattle.journal.specs.Reading.{numbering_of, IsReadTo}
-use Rattle.journal.proofs.Hearing.{read_on, parts_on, heard_none}
+use Rattle.journal.proofs.HearingLemmas.{read_on, parts_on, heard_none}
 use Rattle.journal.proofs.reading.hear.Goals as goal
 
 pub loop-rest-init : goal.loop-rest-init

@@ -1,12 +1,12 @@
 use Rattle.std.proofs.Common.{◌≡◌, ℕ, ◌+◌, List, ◌++◌, length}
 use Rattle.link.specs.declared.receiver.Answer.{Answer}
-use Rattle.journal.specs.Reading.{Hears, HearsMore}
+use Rattle.journal.specs.Reading.{HearsLog, HearsMore}
 use Rattle.journal.proofs.reading.hear.Given as goal
 
 -- what is left of the piece, and that what came before it was heard
 abbrev pub invariant-loop-rest : goal.invariant-loop-rest
 invariant-loop-rest g l = record {
-  heard : (first : ℕ) (stream : List ℕ) (answers : List (Answer (ℕ × g.row.T.Denot))) → Hears g.J.Judging.holds g.T.Readable.reads first l.fn.receiver answers l.fn.count stream
+  heard : (first : ℕ) (stream : List ℕ) (answers : List (Answer (ℕ × g.row.T.Denot))) → HearsLog g.J.Judging.holds g.T.Readable.reads first l.fn.receiver answers l.fn.count stream
       → (done : List ℕ) × (l.fn.piece ≡ done ++ l.rest) × HearsMore g.V.Visitor.took g.J.Judging.holds g.T.Readable.reads first l.fn.visitor l.visitor l.receiver answers l.count (stream ++ done);
   on : l.count.heard + length l.rest ≡ l.fn.count.heard + length l.fn.piece;
 }

@@ -2,7 +2,7 @@ use Rattle.std.proofs.Common.{◌≡◌, ℕ, ◌+◌, ◌<◌, Some, List, [], 
 use Rattle.std.specs.Prelude.{IfSome}
 use Rattle.std.proofs.lemmas.List.{length-take}
 use Rattle.journal.specs.Reading.{HearsMore, IsHanded, numbering_of}
-use Rattle.journal.proofs.Hearing.{read_whole, reads_on, reads_all, reads_none, heard_first, then_more, no_fault, read_failed}
+use Rattle.journal.proofs.HearingLemmas.{read_whole, reads_on, reads_all, reads_none, heard_first, then_more, no_fault, read_failed}
 use Rattle.journal.proofs.reading.read_by.Goals as goal
 
 pub loop-n-init : goal.loop-n-init

@@ -1,6 +1,6 @@
 use Rattle.postcard.specs.Frames.{Holds}
 use Rattle.journal.specs.Records.{takes_record}
-use Rattle.journal_laws.proofs.Opened.{opens_history}
+use Rattle.journal_laws.proofs.OpenedLemmas.{opens_history}
 use Rattle.journal_laws.proofs.headline.open_history_ordinary.Goals as goal
 
 pub returns-in-Ok : goal.returns-in-Ok

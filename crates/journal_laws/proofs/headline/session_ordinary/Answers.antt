@@ -1,4 +1,4 @@
-use Rattle.journal_laws.proofs.Going.{both_some, goes_on}
+use Rattle.journal_laws.proofs.GoingLemmas.{both_some, goes_on}
 use Rattle.journal_laws.proofs.headline.session_ordinary.Goals as goal
 
 pub returns-in-Ok : goal.returns-in-Ok

@@ -1,4 +1,4 @@
-use Rattle.journal_laws.proofs.Sizes.{ordinary_least, strict_least}
+use Rattle.journal_laws.proofs.SizesLemmas.{ordinary_least, strict_least}
 use Rattle.journal_laws.proofs.laws.takes_least.Goals as goal
 
 pub returns-clause-ordinary : goal.returns-clause-ordinary

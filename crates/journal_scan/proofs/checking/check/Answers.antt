@@ -1,10 +1,10 @@
 use Rattle.std.proofs.Common.{◌≡◌, ◌≤◌, ◌∷◌, ◌++◌, [], List, Some, None, length, take, refl, sym, ap, ◌∙◌, subst, inl, arith, rules}
 use Rattle.link.specs.Stream.{ended}
 use Rattle.journal_scan.specs.declared.scanning.Stretch.{Stretch}
-use Rattle.journal_scan.specs.Scanning.{FoundAll, IsUnfinished, offset_of}
+use Rattle.journal_scan.specs.Scanning.{FoundAll, IsUnfinishedStretch, offset_of}
 use Rattle.journal_scan.specs.Tallies.{IsTally}
 use Rattle.journal_scan.specs.Checks.{AreStretches, records_in, record_in, numbers_of}
-use Rattle.journal_scan.proofs.Stretches.{StandsBehind, none_behind, one_behind, all_behind, numbers_more, if_told}
+use Rattle.journal_scan.proofs.StretchesLemmas.{StandsBehind, none_behind, one_behind, all_behind, numbers_more, if_told}
 use Rattle.journal_scan.proofs.checking.check.Goals as goal
 
 pub loop-stretch-init : goal.loop-stretch-init
@@ -48,7 +48,7 @@ returns-in-Ok-None-clause-checked g c =
       are = if_told (g.S.Store.held c.args.store.now) (λ bytes. AreStretches g.T.Readable.takes g.T.Readable.reads c.args.limit bytes before.stretches)
           (λ bytes h. all_behind g.T.Readable.takes g.T.Readable.reads c.args.limit bytes c.loop-stretch.scan scan before.stretches (before.behind bytes h) (found bytes h));
       tallied = before.tallied;
-      rest = if_told (g.S.Store.held c.args.store.now) (λ bytes. IsUnfinished c.args.limit bytes (length bytes) c.unfinished-unfinished.result)
-          (λ bytes h. subst (λ n. IsUnfinished c.args.limit bytes n c.unfinished-unfinished.result) (found bytes h).0
+      rest = if_told (g.S.Store.held c.args.store.now) (λ bytes. IsUnfinishedStretch c.args.limit bytes (length bytes) c.unfinished-unfinished.result)
+          (λ bytes h. subst (λ n. IsUnfinishedStretch c.args.limit bytes n c.unfinished-unfinished.result) (found bytes h).0
           (c.unfinished-unfinished.ensures c.args.limit bytes (c.in-Ok-None.ensures.stands c.args.limit bytes (before.held ∙ h) (before.behind bytes h).scanning)));
     }

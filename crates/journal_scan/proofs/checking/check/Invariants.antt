@@ -3,7 +3,7 @@ use Rattle.journal_scan.specs.declared.scanning.Stretch.{Stretch}
 use Rattle.journal_scan.specs.Scanning.{offset_of}
 use Rattle.journal_scan.specs.Tallies.{IsTally}
 use Rattle.journal_scan.specs.Checks.{records_in, numbers_of}
-use Rattle.journal_scan.proofs.Stretches.{StandsBehind}
+use Rattle.journal_scan.proofs.StretchesLemmas.{StandsBehind}
 use Rattle.journal_scan.proofs.checking.check.Given as goal
 
 -- the watcher was told of some stretches, and the tally is of these

@@ -1,4 +1,4 @@
-use Rattle.journal_scan.proofs.Standing.{stands_longer}
+use Rattle.journal_scan.proofs.StandingLemmas.{stands_longer}
 use Rattle.journal_scan.proofs.laws.goes_on.Goals as goal
 
 pub returns : goal.returns

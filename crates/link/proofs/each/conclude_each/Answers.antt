@@ -1,9 +1,9 @@
 use Rattle.std.proofs.Common.{[], ◌∷◌, ◌++◌, Ok, refl, sym, ◌∙◌, subst}
 use Rattle.std.proofs.lemmas.List.{append-nil}
 use Rattle.link.specs.Stream.{begun}
-use Rattle.link.specs.Listening.{Keeps, HasGiven, Stopped}
-use Rattle.link.proofs.Ending.{ended_by}
-use Rattle.link.proofs.Handing.{handed_none, handed_one, handed_paused}
+use Rattle.link.specs.Listening.{KeepsAnswer, HasGiven, Stopped}
+use Rattle.link.proofs.EndingLemmas.{ended_by}
+use Rattle.link.proofs.HandingLemmas.{handed_none, handed_one, handed_paused}
 use Rattle.link.proofs.each.conclude_each.Goals as goal
 
 pub returns-in-Some-clause-handed : goal.returns-in-Some-clause-handed
@@ -12,14 +12,14 @@ returns-in-Some-clause-handed g c limit s stream given h =
     let a = c.in-Some.answer in
     rw c.in-Ended.is (handed_paused g.E.Effect.hears g.E.Effect.laws _ _ _ _ (handed_one g.E.Effect.hears g.E.Effect.laws _ _ a _ c.end.ensures
     (ended_by g.E.Effect.holds limit s stream g.E.Effect.reads given (given ++ (a ∷ [])) (begun limit s stream) refl k.given
-    (subst (λ o. Keeps (Ok o) given (given ++ (a ∷ []))) (sym c.in-Some.is ∙ c.ending.ensures limit s stream k.after) refl))) c.pause.ensures)
+    (subst (λ o. KeepsAnswer (Ok o) given (given ++ (a ∷ []))) (sym c.in-Some.is ∙ c.ending.ensures limit s stream k.after) refl))) c.pause.ensures)
 
 pub returns-in-None-clause-handed : goal.returns-in-None-clause-handed
 returns-in-None-clause-handed g c limit s stream given h =
     let k = rw c.in-Ended.is at h in
     rw c.in-Ended.is (handed_none g.E.Effect.hears g.E.Effect.laws _ _
     (ended_by g.E.Effect.holds limit s stream g.E.Effect.reads given (given ++ []) (begun limit s stream) refl k.given
-    (subst (λ o. Keeps (Ok o) given (given ++ [])) (sym c.in-None.is ∙ c.ending.ensures limit s stream k.after) (append-nil given))))
+    (subst (λ o. KeepsAnswer (Ok o) given (given ++ [])) (sym c.in-None.is ∙ c.ending.ensures limit s stream k.after) (append-nil given))))
 
 pub returns-in-ReadFault-clause-handed : goal.returns-in-ReadFault-clause-handed
 returns-in-ReadFault-clause-handed g c limit s stream given h =

@@ -1,8 +1,8 @@
 use Rattle.std.proofs.Common.{[], ◌++◌, refl, ◌∙◌, subst, append_assoc}
 use Rattle.line_io.specs.Calls.{Gave-then}
 use Rattle.link.specs.Listening.{Hears, IsHeard}
-use Rattle.link.proofs.Hearing.{gave_none}
-use Rattle.link.proofs.Handing.{handed_none, handed_next, nothing_more, read_then, uses_none, uses_then}
+use Rattle.link.proofs.HearingLemmas.{gave_none}
+use Rattle.link.proofs.HandingLemmas.{handed_none, handed_next, nothing_more, read_then, uses_none, uses_then}
 use Rattle.link.proofs.each.listen_each.Goals as goal
 
 pub loop-alloc-init : goal.loop-alloc-init

@@ -1,7 +1,7 @@
 use Rattle.std.proofs.Common.{◌≡◌, Some, [], refl, ap, ◌∙◌}
-use Rattle.link.proofs.Ending.{none_given}
-use Rattle.link.proofs.Prefixes.{received}
-use Rattle.link.proofs.Handing.{handed_as, handed_next}
+use Rattle.link.proofs.EndingLemmas.{none_given}
+use Rattle.link.proofs.PrefixesLemmas.{received}
+use Rattle.link.proofs.HandingLemmas.{handed_as, handed_next}
 use Rattle.link.proofs.each.receive_each_by.Goals as goal
 
 which : {A : Type 0} {x y : A} → Some x ≡ Some y → x ≡ y

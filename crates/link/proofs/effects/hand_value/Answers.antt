@@ -1,5 +1,5 @@
 use Rattle.std.proofs.Common.{refl}
-use Rattle.link.proofs.Handing.{handed_one}
+use Rattle.link.proofs.HandingLemmas.{handed_one}
 use Rattle.link.proofs.effects.hand_value.Goals as goal
 
 pub returns-in-Ok-Some-clause-ok : goal.returns-in-Ok-Some-clause-ok

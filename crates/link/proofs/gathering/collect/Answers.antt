@@ -2,10 +2,10 @@ use Rattle.std.proofs.Common.{[], ◌++◌, take, refl, sym, ◌∙◌, ap, subs
 use Rattle.std.proofs.lemmas.List.{append-nil}
 use Rattle.line_io.specs.Calls.{Gave-then}
 use Rattle.postcard.specs.Gathers.{held_of, sentinel_of}
-use Rattle.link.specs.Gathering.{Gathers}
-use Rattle.link.proofs.Hearing.{on_ok, on_err, gave_none, read_failed, read_quiet, nothing_taken}
-use Rattle.link.proofs.Handing.{uses_none, uses_then, uses_read, uses_last, taken_some}
-use Rattle.link.proofs.Fetching.{gathers_no_bytes, gathers_more, lacks_more}
+use Rattle.link.specs.Gathering.{GathersOnLine}
+use Rattle.link.proofs.HearingLemmas.{on_ok, on_err, gave_none, read_failed, read_quiet, nothing_taken}
+use Rattle.link.proofs.HandingLemmas.{uses_none, uses_then, uses_read, uses_last, taken_some}
+use Rattle.link.proofs.FetchingLemmas.{gathers_no_bytes, gathers_more, lacks_more}
 use Rattle.link.proofs.gathering.collect.Goals as goal
 
 pub loop-n-init : goal.loop-n-init
@@ -14,13 +14,13 @@ loop-n-init g c = (uses_none _ _ _, [], gave_none _ _, refl, gathers_no_bytes _ 
 pub returns-in-None-clause-gathered : goal.returns-in-None-clause-gathered
 returns-in-None-clause-gathered g c =
     let k = c.loop-n.invariant in
-    let f = λ (x : _). Gathers g.T.Readable.takes g.T.Readable.reads g.T.Readable.growing g.row.N (sentinel_of c.args.accumulator.now) (held_of c.args.accumulator.now) x (held_of c.loop-n.accumulator) c.args.values.now.items c.loop-n.values.items in
+    let f = λ (x : _). GathersOnLine g.T.Readable.takes g.T.Readable.reads g.T.Readable.growing g.row.N (sentinel_of c.args.accumulator.now) (held_of c.args.accumulator.now) x (held_of c.loop-n.accumulator) c.args.values.now.items c.loop-n.values.items in
     (k.1 ++ [], (Gave-then _ _ _ _ _ _ _ _ k.2 c.in-None.ensures.bytes, read_failed _ _ _ _ _ c.in-None.ensures.faults c.in-None.ensures.calls k.3), subst f (sym (append-nil k.1)) k.4)
 
 pub returns-in-Some-eq0-clause-gathered : goal.returns-in-Some-eq0-clause-gathered
 returns-in-Some-eq0-clause-gathered g c =
     let k = c.loop-n.invariant in
-    let f = λ (x : _). Gathers g.T.Readable.takes g.T.Readable.reads g.T.Readable.growing g.row.N (sentinel_of c.args.accumulator.now) (held_of c.args.accumulator.now) x (held_of c.loop-n.accumulator) c.args.values.now.items c.loop-n.values.items in
+    let f = λ (x : _). GathersOnLine g.T.Readable.takes g.T.Readable.reads g.T.Readable.growing g.row.N (sentinel_of c.args.accumulator.now) (held_of c.args.accumulator.now) x (held_of c.loop-n.accumulator) c.args.values.now.items c.loop-n.values.items in
     let none = nothing_taken c.in-Some-eq0.field-0 c.read.new.room c.in-Some-eq0.field-0-test in (
       k.1 ++ take c.in-Some-eq0.field-0 c.read.new.room,
       (

@@ -1,4 +1,4 @@
-use Rattle.link.proofs.Fetching.{those_by, looped_by}
+use Rattle.link.proofs.FetchingLemmas.{those_by, looped_by}
 use Rattle.link.proofs.gathering.receive_by_accumulator_with_sentinel.Goals as goal
 
 pub returns-clause-received : goal.returns-clause-received

@@ -50,7 +50,7 @@ use Rattle.postcard_de.specs.contracts.de_flavors.RefSliceU8Bytes.TheImpl as sha
 use Rattle.cobs.specs.Sentinel.{masked}
 use Rattle.cobs.specs.Whole.{unpadded}
 use Rattle.link.specs.InPlace.{ReadsNext, IsEnd, IsNext, AnswersNext, KeptUnlessEnded}
-use Rattle.link.proofs.Keeping.{kept_unless_ended}
+use Rattle.link.proofs.KeepingLemmas.{kept_unless_ended}
 use Rattle.link.specs.contracts.receiver.Answer.{the_row as Answer}
 use Rattle.link.proofs.receiver.Answer.TheLaws.{the_row_laws as answer_laws}
 use Rattle.link.specs.contracts.receiver.NoMemory.{the_row as NoMemory}

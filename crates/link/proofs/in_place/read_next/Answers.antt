@@ -1,6 +1,6 @@
 use Rattle.std.proofs.Common.{refl, subst}
 use Rattle.link.specs.InPlace.{IsNext}
-use Rattle.link.proofs.Nexts.{line_some}
+use Rattle.link.proofs.NextsLemmas.{line_some}
 use Rattle.link.proofs.in_place.read_next.Goals as goal
 
 pub read_stretch-requires : goal.read_stretch-requires

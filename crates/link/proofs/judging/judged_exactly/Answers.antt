@@ -1,4 +1,4 @@
-use Rattle.link.proofs.Sentness.{strict_judged}
+use Rattle.link.proofs.SentnessLemmas.{strict_judged}
 use Rattle.link.proofs.judging.judged_exactly.Goals as goal
 
 pub returns : goal.returns

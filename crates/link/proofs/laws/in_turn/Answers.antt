@@ -1,4 +1,4 @@
-use Rattle.link.proofs.InTurn.{in_turn}
+use Rattle.link.proofs.InTurnLemmas.{in_turn}
 use Rattle.link.proofs.laws.in_turn.Goals as goal
 
 pub returns : goal.returns

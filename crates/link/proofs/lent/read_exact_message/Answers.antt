@@ -1,7 +1,7 @@
 use Rattle.std.proofs.Common.{◌≡◌, Bool, true, false}
 use Rattle.link.specs.Facts.{exactly_holds}
-use Rattle.link.proofs.Reading.{holds_none}
-use Rattle.link.proofs.Sentness.{sent_value, not_sent}
+use Rattle.link.proofs.ReadingLemmas.{holds_none}
+use Rattle.link.proofs.SentnessLemmas.{sent_value, not_sent}
 use Rattle.link.proofs.lent.read_exact_message.Goals as goal
 
 not_both : (b : Bool) → b ≡ false → b ≡ true → ⊥

@@ -1,5 +1,5 @@
 use Rattle.link.specs.Finds.{lent_message}
-use Rattle.link.proofs.Reading.{damaged_replies}
+use Rattle.link.proofs.ReadingLemmas.{damaged_replies}
 use Rattle.link.proofs.reception.read.Goals as goal
 
 pub returns-in-Damaged-clause-replies : goal.returns-in-Damaged-clause-replies

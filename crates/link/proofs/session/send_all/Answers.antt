@@ -1,6 +1,6 @@
 use Rattle.std.proofs.Common.{◌∙◌, ap, sym, arith, ◌++◌, ◌∷◌, [], take, length, ◌<◌}
 use Rattle.std.proofs.lemmas.List.{take_more, take_more_set}
-use Rattle.link.proofs.Turns.{one_sent}
+use Rattle.link.proofs.TurnsLemmas.{one_sent}
 use Rattle.link.proofs.session.send_all.Goals as goal
 
 pub loop-i-preserved : goal.loop-i-preserved

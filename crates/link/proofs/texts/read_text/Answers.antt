@@ -1,6 +1,6 @@
 use Rattle.link.specs.Each.{reads_lent}
 use Rattle.link.specs.Finds.{lent_message}
-use Rattle.link.proofs.Reading.{damaged_replies}
+use Rattle.link.proofs.ReadingLemmas.{damaged_replies}
 use Rattle.link.proofs.texts.read_text.Goals as goal
 
 pub returns-in-Damaged-clause-replies : goal.returns-in-Damaged-clause-replies

@@ -1,4 +1,4 @@
-use Rattle.link.proofs.Handing.{had_memory}
+use Rattle.link.proofs.HandingLemmas.{had_memory}
 use Rattle.link.proofs.texts.receive_each_text_owned_strict.Goals as goal
 
 pub returns-clause-received : goal.returns-clause-received

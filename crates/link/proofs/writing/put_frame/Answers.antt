@@ -1,7 +1,7 @@
 use Rattle.std.proofs.Common.{◌++◌, inl, inr, take, ◌∙◌, arith}
 use Rattle.line_io.specs.Calls.{Wrote-then}
 use Rattle.link.specs.Writings.{lead}
-use Rattle.link.proofs.Sending.{wrote_as, fewer_out, front_out, none_out, all_out}
+use Rattle.link.proofs.SendingLemmas.{wrote_as, fewer_out, front_out, none_out, all_out}
 use Rattle.link.proofs.writing.put_frame.Goals as goal
 
 pub returns-then-k-frame-clause-fewer : goal.returns-then-k-frame-clause-fewer

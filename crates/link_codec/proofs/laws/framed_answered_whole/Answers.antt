@@ -1,6 +1,6 @@
 use Rattle.tokio_util.specs.Codec.Framed.{reading_side}
 use Rattle.link_codec.specs.Decoders.{IsGiven}
-use Rattle.link_codec.proofs.Whole.{answered_beside}
+use Rattle.link_codec.proofs.WholeLemmas.{answered_beside}
 use Rattle.link_codec.proofs.laws.framed_answered_whole.Goals as goal
 
 pub returns : goal.returns

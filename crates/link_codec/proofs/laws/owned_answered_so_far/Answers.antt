@@ -1,6 +1,6 @@
 use Rattle.tokio_util.specs.Codec.Framed.{framed_read}
 use Rattle.link_codec.specs.Decoders.{IsGivenOwned}
-use Rattle.link_codec.proofs.First.{answered_so_far}
+use Rattle.link_codec.proofs.FirstLemmas.{answered_so_far}
 use Rattle.link_codec.proofs.laws.owned_answered_so_far.Goals as goal
 
 pub returns : goal.returns

@@ -1,6 +1,6 @@
 use Rattle.tokio_util.specs.Codec.Framed.{framed_read}
 use Rattle.link_codec.specs.Decoders.{IsGivenOwned}
-use Rattle.link_codec.proofs.Whole.{answered_whole}
+use Rattle.link_codec.proofs.WholeLemmas.{answered_whole}
 use Rattle.link_codec.proofs.laws.owned_answered_whole.Goals as goal
 
 pub returns : goal.returns

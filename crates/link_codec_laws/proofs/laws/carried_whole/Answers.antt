@@ -5,7 +5,7 @@ use Rattle.link.specs.Run.{IsSession, session_line, line, told_session}
 use Rattle.link.specs.Pushes.{Matches}
 use Rattle.link_codec.specs.Encoding.{encoder_sentinel}
 use Rattle.link_codec.specs.Whole.{answers_of}
-use Rattle.link_codec_laws.proofs.Sessions.{sends_of_each, told_alike}
+use Rattle.link_codec_laws.proofs.SessionsLemmas.{sends_of_each, told_alike}
 use Rattle.link_codec_laws.proofs.laws.carried_whole.Goals as goal
 
 pub returns : goal.returns

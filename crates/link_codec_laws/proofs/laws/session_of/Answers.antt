@@ -1,4 +1,4 @@
-use Rattle.link_codec_laws.proofs.Sessions.{session_of}
+use Rattle.link_codec_laws.proofs.SessionsLemmas.{session_of}
 use Rattle.link_codec_laws.proofs.laws.session_of.Goals as goal
 
 pub returns : goal.returns

@@ -1,6 +1,6 @@
 use Rattle.std.proofs.Common.{inl, inr}
 use Rattle.postcard.specs.Frames.{Holds}
-use Rattle.link_laws.proofs.RunHeard.{run_received, not_ended}
+use Rattle.link_laws.proofs.RunHeardLemmas.{run_received, not_ended}
 use Rattle.link_laws.proofs.headline.receive_owned_run.Goals as goal
 
 pub returns : goal.returns

@@ -1,5 +1,5 @@
 use Rattle.postcard_de.specs.Deserializer.{bytes_of}
-use Rattle.schemas.proofs.Fronts.{fronts_by}
+use Rattle.schemas.proofs.FrontsLemmas.{fronts_by}
 use Rattle.schemas.proofs.de.from_bytes.Goals as goal
 
 pub returns-clause-only : goal.returns-clause-only

@@ -1,4 +1,4 @@
-use Rattle.schemas.proofs.Agreeing.{schemas_agree}
+use Rattle.schemas.proofs.AgreeingLemmas.{schemas_agree}
 use Rattle.schemas.proofs.laws.reading_by_schemas_agrees.Goals as goal
 
 pub returns : goal.returns

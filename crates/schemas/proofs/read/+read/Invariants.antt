@@ -2,7 +2,7 @@ use Rattle.std.proofs.Common.{◌+◌, ◌-◌, ◌*◌, drop}
 use Rattle.postcard_de.specs.Parts.{PartsRead}
 use Rattle.postcard_de.specs.Deserializer.{flavor_of}
 use Rattle.schemas.specs.Schemas.{SchemaTakes, SchemaHas, SchemaReads, SchemaRefuses}
-use Rattle.schemas.proofs.Taking.{FieldsRead}
+use Rattle.schemas.proofs.TakingLemmas.{FieldsRead}
 use Rattle.schemas.proofs.read.+read.Given as goal
 
 abbrev pub decreases-read_array : goal.decreases-read_array

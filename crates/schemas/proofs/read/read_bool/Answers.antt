@@ -1,4 +1,4 @@
-use Rattle.schemas.proofs.Tops.{bool_by}
+use Rattle.schemas.proofs.TopsLemmas.{bool_by}
 use Rattle.schemas.proofs.read.read_bool.Goals as goal
 
 pub returns : goal.returns

@@ -1,4 +1,4 @@
-use Rattle.schemas.proofs.Tops.{bytes_by}
+use Rattle.schemas.proofs.TopsLemmas.{bytes_by}
 use Rattle.schemas.proofs.read.read_bytes.Goals as goal
 
 pub returns : goal.returns

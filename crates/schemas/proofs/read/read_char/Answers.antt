@@ -1,4 +1,4 @@
-use Rattle.schemas.proofs.Tops.{char_by}
+use Rattle.schemas.proofs.TopsLemmas.{char_by}
 use Rattle.schemas.proofs.read.read_char.Goals as goal
 
 pub returns : goal.returns

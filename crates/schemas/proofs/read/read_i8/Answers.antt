@@ -1,5 +1,5 @@
 use Rattle.std.proofs.Common.{rules}
-use Rattle.schemas.proofs.Tops.{signed_byte_by}
+use Rattle.schemas.proofs.TopsLemmas.{signed_byte_by}
 use Rattle.schemas.proofs.read.read_i8.Goals as goal
 
 pub returns : goal.returns

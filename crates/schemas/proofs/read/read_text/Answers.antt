@@ -1,4 +1,4 @@
-use Rattle.schemas.proofs.Tops.{text_by}
+use Rattle.schemas.proofs.TopsLemmas.{text_by}
 use Rattle.schemas.proofs.read.read_text.Goals as goal
 
 pub returns : goal.returns

@@ -1,4 +1,4 @@
-use Rattle.schemas.proofs.Tops.{number_by, tree-U128, top-U128}
+use Rattle.schemas.proofs.TopsLemmas.{number_by, tree-U128, top-U128}
 use Rattle.schemas.proofs.read.read_u128.Goals as goal
 
 pub returns : goal.returns

@@ -1,4 +1,4 @@
-use Rattle.schemas.proofs.Tops.{number_by, tree-U64, top-U64}
+use Rattle.schemas.proofs.TopsLemmas.{number_by, tree-U64, top-U64}
 use Rattle.schemas.proofs.read.read_u64.Goals as goal
 
 pub returns : goal.returns

@@ -1,4 +1,4 @@
-use Rattle.schemas.proofs.Tops.{byte_by}
+use Rattle.schemas.proofs.TopsLemmas.{byte_by}
 use Rattle.schemas.proofs.read.read_u8.Goals as goal
 
 pub returns : goal.returns

@@ -1,4 +1,4 @@
-use Rattle.schemas.proofs.Tables.{added_as, leaf_schema}
+use Rattle.schemas.proofs.TablesLemmas.{added_as, leaf_schema}
 use Rattle.schemas.proofs.types.add_leaf.Goals as goal
 
 pub returns-clause-is_schema : goal.returns-clause-is_schema

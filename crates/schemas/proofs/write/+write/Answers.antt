@@ -1,7 +1,7 @@
 use Rattle.std.proofs.Common.{length, arith}
 use Rattle.std.proofs.lemmas.Result.{err_from_is_err_and}
 use Rattle.schemas.specs.Values.{trees_in}
-use Rattle.schemas.proofs.Pushed.{count_in, sequence_then, sequence_stops, values_more, values_stop}
+use Rattle.schemas.proofs.PushedLemmas.{count_in, sequence_then, sequence_stops, values_more, values_stop}
 use Rattle.schemas.proofs.write.+write.Goals as goal
 
 pub write_list-returns-in_err-serialize_seq-clause-writes : goal.write_list-returns-in_err-serialize_seq-clause-writes

@@ -1,6 +1,6 @@
 use Rattle.std.proofs.Common.{ap, get_or, ◌∙◌}
 use Rattle.sealed.specs.Checksum.{behind_byte}
-use Rattle.sealed.proofs.Summed.{behind_more}
+use Rattle.sealed.proofs.SummedLemmas.{behind_more}
 use Rattle.sealed.proofs.checksum.add_bytes.Goals as goal
 
 pub loop-byte-preserved : goal.loop-byte-preserved

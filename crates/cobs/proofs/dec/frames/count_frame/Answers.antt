@@ -1,4 +1,4 @@
-use Rattle.cobs.proofs.Wholes.{entering_on, entering_positive}
+use Rattle.cobs.proofs.WholesLemmas.{entering_on, entering_positive}
 use Rattle.cobs.proofs.dec.frames.count_frame.Goals as goal
 
 pub take_in-requires : goal.take_in-requires

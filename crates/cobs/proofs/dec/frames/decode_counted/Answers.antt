@@ -1,7 +1,7 @@
 use Rattle.std.proofs.Common.{length, sym, ◌∙◌, arith}
 use Rattle.cobs.specs.Sentinel.{masked}
-use Rattle.cobs.proofs.Masking.{masked_length}
-use Rattle.cobs.proofs.Wholes.{EnteredAll, entered_all, sentinel_broken}
+use Rattle.cobs.proofs.MaskingLemmas.{masked_length}
+use Rattle.cobs.proofs.WholesLemmas.{EnteredAll, entered_all, sentinel_broken}
 use Rattle.cobs.proofs.dec.frames.decode_counted.Goals as goal
 use Rattle.cobs.proofs.dec.frames.decode_counted.Goals.{After-feed}
 

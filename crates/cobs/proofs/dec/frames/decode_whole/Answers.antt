@@ -1,7 +1,7 @@
 use Rattle.std.proofs.Common.{length, sym, ◌∙◌, arith}
 use Rattle.cobs.specs.Sentinel.{masked}
-use Rattle.cobs.proofs.Masking.{masked_length}
-use Rattle.cobs.proofs.Short.{short_whole, short_broken}
+use Rattle.cobs.proofs.MaskingLemmas.{masked_length}
+use Rattle.cobs.proofs.ShortLemmas.{short_whole, short_broken}
 use Rattle.cobs.proofs.dec.frames.decode_whole.Goals as goal
 
 pub returns-then-left-eq0-clause-answer : goal.returns-then-left-eq0-clause-answer

@@ -3,10 +3,10 @@ use Rattle.std.proofs.lemmas.List.{take_all, length-take-le, get_or-drop}
 use Rattle.cobs.specs.Frames.{NoZero}
 use Rattle.cobs.specs.Sentinel.{masked}
 use Rattle.cobs.specs.Taking.{TakesFront}
-use Rattle.cobs.proofs.Masking.{masked_length, masked_get}
-use Rattle.cobs.proofs.Short.{Entering, entering_new, entered_long, entered_shorter, entering_byte, entering_front, entering_none, behind_read}
-use Rattle.cobs.proofs.Sources.{clear_at, clear_byte}
-use Rattle.cobs.proofs.Wholes.{entering_positive}
+use Rattle.cobs.proofs.MaskingLemmas.{masked_length, masked_get}
+use Rattle.cobs.proofs.ShortLemmas.{Entering, entering_new, entered_long, entered_shorter, entering_byte, entering_front, entering_none, behind_read}
+use Rattle.cobs.proofs.SourcesLemmas.{clear_at, clear_byte}
+use Rattle.cobs.proofs.WholesLemmas.{entering_positive}
 use Rattle.cobs.proofs.dec.frames.take_long.Goals as goal
 use Rattle.cobs.proofs.dec.frames.take_long.Goals.{After-take_clear-taken}
 

@@ -1,6 +1,6 @@
 use Rattle.std.proofs.Common.{◌<◌, ◌-◌, length}
 use Rattle.cobs.specs.Sentinel.{masked}
-use Rattle.cobs.proofs.Short.{Entering}
+use Rattle.cobs.proofs.ShortLemmas.{Entering}
 use Rattle.cobs.proofs.dec.frames.take_long.Given as goal
 
 abbrev pub invariant-loop-read : goal.invariant-loop-read

@@ -3,8 +3,8 @@ use Rattle.std.proofs.lemmas.List.{take_all}
 use Rattle.std.specs.Prelude.{bit_xor}
 use Rattle.cobs.specs.Sentinel.{masked}
 use Rattle.cobs.specs.declared.dec.state.DecoderState.TheVariants.{GrabChain}
-use Rattle.cobs.proofs.Masking.{masked_length}
-use Rattle.cobs.proofs.Short.{Taken, taken_full, code_first}
+use Rattle.cobs.proofs.MaskingLemmas.{masked_length}
+use Rattle.cobs.proofs.ShortLemmas.{Taken, taken_full, code_first}
 use Rattle.cobs.proofs.dec.frames.take_short.Goals as goal
 use Rattle.cobs.proofs.dec.frames.take_short.Goals.{After-copy_at_once}
 

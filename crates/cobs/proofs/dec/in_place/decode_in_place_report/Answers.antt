@@ -1,4 +1,4 @@
-use Rattle.cobs.proofs.Masking.{masked_zero}
+use Rattle.cobs.proofs.MaskingLemmas.{masked_zero}
 use Rattle.cobs.proofs.dec.in_place.decode_in_place_report.Goals as goal
 
 pub returns-clause-answer : goal.returns-clause-answer

@@ -2,9 +2,9 @@ use Rattle.std.proofs.Common.{◌≡◌, ◌+◌, ◌<◌, ℕ, length, get_or, 
 use Rattle.std.proofs.lemmas.Nat.{xor_of_8}
 use Rattle.std.specs.Prelude.{bit_xor}
 use Rattle.cobs.specs.Sentinel.{masked}
-use Rattle.cobs.proofs.Sources.{masked_positive}
-use Rattle.cobs.proofs.Reading.{Reading, reading_on, reading_done, reading_holds, reading_rest, reading_short, whole, broken, is_frame, no_frame, EndsAt, shorter}
-use Rattle.cobs.proofs.Within.{reading_new, reading_front, unread_byte, unread_clear, ends_at}
+use Rattle.cobs.proofs.SourcesLemmas.{masked_positive}
+use Rattle.cobs.proofs.ReadingLemmas.{Reading, reading_on, reading_done, reading_holds, reading_rest, reading_short, whole, broken, is_frame, no_frame, EndsAt, shorter}
+use Rattle.cobs.proofs.WithinLemmas.{reading_new, reading_front, unread_byte, unread_clear, ends_at}
 use Rattle.cobs.proofs.dec.in_place.decode_in_place_report_with_sentinel.Goals as goal
 use Rattle.cobs.proofs.dec.in_place.decode_in_place_report_with_sentinel.Goals.{After-feed, After-take_within-taken}
 

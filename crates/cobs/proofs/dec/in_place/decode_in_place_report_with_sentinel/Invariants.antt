@@ -1,5 +1,5 @@
 use Rattle.std.proofs.Common.{ℕ, ◌-◌, ◌<◌, ◌≤◌, get_or}
-use Rattle.cobs.proofs.Reading.{Reading}
+use Rattle.cobs.proofs.ReadingLemmas.{Reading}
 use Rattle.cobs.proofs.dec.in_place.decode_in_place_report_with_sentinel.Given as goal
 
 abbrev pub invariant-loop-read : goal.invariant-loop-read

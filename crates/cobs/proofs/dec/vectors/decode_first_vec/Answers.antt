@@ -1,7 +1,7 @@
 use Rattle.std.proofs.Common.{◌≡◌, ◌<◌, length, rules}
 use Rattle.cobs.specs.Whole.{frame_in}
-use Rattle.cobs.proofs.Masking.{masked_zero}
-use Rattle.cobs.proofs.Wholes.{found, empty_frame, other_frame}
+use Rattle.cobs.proofs.MaskingLemmas.{masked_zero}
+use Rattle.cobs.proofs.WholesLemmas.{found, empty_frame, other_frame}
 use Rattle.cobs.proofs.dec.vectors.decode_first_vec.Goals as goal
 use Rattle.cobs.proofs.dec.vectors.decode_first_vec.Goals.{After-before-frame}
 

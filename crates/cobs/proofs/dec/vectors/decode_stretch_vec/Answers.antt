@@ -1,6 +1,6 @@
 use Rattle.std.proofs.Common.{◌≡◌, ap, rules}
 use Rattle.cobs.specs.Sentinel.{masked}
-use Rattle.cobs.proofs.Wholes.{masked_stretch}
+use Rattle.cobs.proofs.WholesLemmas.{masked_stretch}
 use Rattle.cobs.proofs.dec.vectors.decode_stretch_vec.Goals as goal
 
 pub returns : goal.returns

@@ -1,5 +1,5 @@
 use Rattle.cobs.specs.Whole.{frame_in}
-use Rattle.cobs.proofs.Verdicts.{if_answered, if_refused, frame_of_message, frame_refused, stretch_found}
+use Rattle.cobs.proofs.VerdictsLemmas.{if_answered, if_refused, frame_of_message, frame_refused, stretch_found}
 use Rattle.cobs.proofs.dec.vectors.decode_vec.Goals as goal
 
 pub returns-clause-frame : goal.returns-clause-frame

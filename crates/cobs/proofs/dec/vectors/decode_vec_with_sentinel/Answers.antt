@@ -1,6 +1,6 @@
 use Rattle.cobs.specs.InPlace.{stretch}
 use Rattle.cobs.specs.Sentinel.{masked}
-use Rattle.cobs.proofs.Verdicts.{if_answered, if_refused, frame_of_stretch, stretch_refused, stretch_masked}
+use Rattle.cobs.proofs.VerdictsLemmas.{if_answered, if_refused, frame_of_stretch, stretch_refused, stretch_masked}
 use Rattle.cobs.proofs.dec.vectors.decode_vec_with_sentinel.Goals as goal
 
 pub returns-clause-frame : goal.returns-clause-frame

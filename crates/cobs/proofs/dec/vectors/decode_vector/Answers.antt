@@ -1,7 +1,7 @@
 use Rattle.std.proofs.Common.{sym, ◌∙◌, ap, length, take}
 use Rattle.cobs.specs.InPlace.{stretch}
 use Rattle.cobs.specs.Sentinel.{masked}
-use Rattle.cobs.proofs.Wholes.{refilled, vector_whole, vector_refused}
+use Rattle.cobs.proofs.WholesLemmas.{refilled, vector_whole, vector_refused}
 use Rattle.cobs.proofs.dec.vectors.decode_vector.Goals as goal
 
 pub returns-in-Ok : goal.returns-in-Ok

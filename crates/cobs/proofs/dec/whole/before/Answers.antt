@@ -1,4 +1,4 @@
-use Rattle.cobs.proofs.Sources.{stretch_front}
+use Rattle.cobs.proofs.SourcesLemmas.{stretch_front}
 use Rattle.cobs.proofs.dec.whole.before.Goals as goal
 
 pub returns : goal.returns

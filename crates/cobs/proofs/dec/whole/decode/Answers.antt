@@ -1,4 +1,4 @@
-use Rattle.cobs.proofs.Verdicts.{from_frame, from_no_frame, stretch_found}
+use Rattle.cobs.proofs.VerdictsLemmas.{from_frame, from_no_frame, stretch_found}
 use Rattle.cobs.proofs.dec.whole.decode.Goals as goal
 
 pub returns-clause-frame : goal.returns-clause-frame

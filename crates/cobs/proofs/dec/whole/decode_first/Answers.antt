@@ -5,11 +5,11 @@ use Rattle.cobs.specs.Frames.{NoZero, part}
 use Rattle.cobs.specs.InPlace.{stretch, overwritten}
 use Rattle.cobs.specs.Sentinel.{masked}
 use Rattle.cobs.specs.Whole.{frame_in}
-use Rattle.cobs.proofs.Decoding.{part_shorter}
-use Rattle.cobs.proofs.Masking.{masked_zero, masked_length}
-use Rattle.cobs.proofs.Pushing.{short_refused, short_whole}
-use Rattle.cobs.proofs.Short.{as_at_zero, zero_into}
-use Rattle.cobs.proofs.Sources.{stretch_clear}
+use Rattle.cobs.proofs.DecodingLemmas.{part_shorter}
+use Rattle.cobs.proofs.MaskingLemmas.{masked_zero, masked_length}
+use Rattle.cobs.proofs.PushingLemmas.{short_refused, short_whole}
+use Rattle.cobs.proofs.ShortLemmas.{as_at_zero, zero_into}
+use Rattle.cobs.proofs.SourcesLemmas.{stretch_clear}
 use Rattle.cobs.proofs.dec.whole.decode_first.Goals as goal
 use Rattle.cobs.proofs.dec.whole.decode_first.Goals.{After-before-frame, After-decode_whole}
 

@@ -4,9 +4,9 @@ use Rattle.cobs.specs.InPlace.{overwritten}
 use Rattle.cobs.specs.Frames.{part}
 use Rattle.cobs.specs.Pieces.{first_answer, frame_left}
 use Rattle.cobs.specs.Whole.{frame_in}
-use Rattle.cobs.proofs.Pushing.{pushed_over, pushed_refused, pushed_whole, then_refused, then_empty, then_whole}
-use Rattle.cobs.proofs.Takes.{unmasked}
-use Rattle.cobs.proofs.Wholes.{passed_on}
+use Rattle.cobs.proofs.PushingLemmas.{pushed_over, pushed_refused, pushed_whole, then_refused, then_empty, then_whole}
+use Rattle.cobs.proofs.TakesLemmas.{unmasked}
+use Rattle.cobs.proofs.WholesLemmas.{passed_on}
 use Rattle.cobs.proofs.dec.whole.decode_pushed.Goals as goal
 use Rattle.cobs.proofs.dec.whole.decode_pushed.Goals.{After-push, After-end}
 

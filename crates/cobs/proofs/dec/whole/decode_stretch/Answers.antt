@@ -1,7 +1,7 @@
 use Rattle.std.proofs.Common.{sym, subst}
 use Rattle.cobs.specs.Frames.{NoZero}
 use Rattle.cobs.specs.Sentinel.{masked}
-use Rattle.cobs.proofs.Sources.{stretch_clear}
+use Rattle.cobs.proofs.SourcesLemmas.{stretch_clear}
 use Rattle.cobs.proofs.dec.whole.decode_stretch.Goals as goal
 
 pub decode_whole-requires-clause-clear : goal.decode_whole-requires-clause-clear

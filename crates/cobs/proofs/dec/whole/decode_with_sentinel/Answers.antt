@@ -1,6 +1,6 @@
 use Rattle.cobs.specs.InPlace.{stretch}
 use Rattle.cobs.specs.Sentinel.{masked}
-use Rattle.cobs.proofs.Verdicts.{into_frame, into_no_frame, stretch_masked}
+use Rattle.cobs.proofs.VerdictsLemmas.{into_frame, into_no_frame, stretch_masked}
 use Rattle.cobs.proofs.dec.whole.decode_with_sentinel.Goals as goal
 
 pub returns-clause-frame : goal.returns-clause-frame

@@ -1,5 +1,5 @@
 use Rattle.std.specs.Prelude.{bit_xor}
-use Rattle.cobs.proofs.Masking.{map_over}
+use Rattle.cobs.proofs.MaskingLemmas.{map_over}
 use Rattle.cobs.proofs.dec.window.copy.Goals as goal
 
 pub loop-place-preserved : goal.loop-place-preserved

@@ -1,5 +1,5 @@
 use Rattle.std.proofs.Common.{refl, arith}
-use Rattle.cobs.proofs.Windows.{walked_start, walked_on, walked_full, walked_end, walked_code}
+use Rattle.cobs.proofs.WindowsLemmas.{walked_start, walked_on, walked_full, walked_end, walked_code}
 use Rattle.cobs.proofs.dec.window.put_zeros.Goals as goal
 
 pub loop-at-init : goal.loop-at-init

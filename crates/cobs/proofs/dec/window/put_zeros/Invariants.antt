@@ -1,5 +1,5 @@
 use Rattle.std.proofs.Common.{ℕ, ◌-◌, ◌<◌, length, get_or}
-use Rattle.cobs.proofs.Windows.{Walked}
+use Rattle.cobs.proofs.WindowsLemmas.{Walked}
 use Rattle.cobs.proofs.dec.window.put_zeros.Given as goal
 
 abbrev pub invariant-loop-at : goal.invariant-loop-at

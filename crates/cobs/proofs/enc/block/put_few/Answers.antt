@@ -1,6 +1,6 @@
 use Rattle.std.proofs.Common.{add-zero, arith}
-use Rattle.cobs.proofs.Masking.{masked_put, masked_length}
-use Rattle.cobs.proofs.Putting.{putting_new, put_next_at, put_end_at, put_whole}
+use Rattle.cobs.proofs.MaskingLemmas.{masked_put, masked_length}
+use Rattle.cobs.proofs.PuttingLemmas.{putting_new, put_next_at, put_end_at, put_whole}
 use Rattle.cobs.proofs.enc.block.put_few.Goals as goal
 use Rattle.cobs.proofs.enc.block.put_few.Goals.{then-byte-eq0, else-byte-eq0}
 

@@ -2,8 +2,8 @@ use Rattle.std.proofs.Common.{bit_xor, arith}
 use Rattle.std.proofs.lemmas.List.{length-take, length-set}
 use Rattle.cobs.specs.Held.{pushed}
 use Rattle.cobs.specs.Sentinel.{masked}
-use Rattle.cobs.proofs.Coding.{no_room, no_room_next}
-use Rattle.cobs.proofs.Masking.{opens_masked}
+use Rattle.cobs.proofs.CodingLemmas.{no_room, no_room_next}
+use Rattle.cobs.proofs.MaskingLemmas.{opens_masked}
 use Rattle.cobs.proofs.enc.block.put_front.Goals as goal
 
 pub returns-then-dest-at-clause-none : goal.returns-then-dest-at-clause-none

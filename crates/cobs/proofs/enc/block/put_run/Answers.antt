@@ -1,7 +1,7 @@
 use Rattle.cobs.specs.Sentinel.{masked}
-use Rattle.cobs.proofs.Coding.{coded_end}
-use Rattle.cobs.proofs.Masking.{masked_put}
-use Rattle.cobs.proofs.Stepping.{open_new}
+use Rattle.cobs.proofs.CodingLemmas.{coded_end}
+use Rattle.cobs.proofs.MaskingLemmas.{masked_put}
+use Rattle.cobs.proofs.SteppingLemmas.{open_new}
 use Rattle.cobs.proofs.enc.block.put_run.Goals as goal
 
 pub returns : goal.returns

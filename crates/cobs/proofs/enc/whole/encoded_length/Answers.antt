@@ -1,6 +1,6 @@
 use Rattle.std.proofs.Common.{◌∙◌, arith}
 use Rattle.std.proofs.lemmas.List.{take_rest}
-use Rattle.cobs.proofs.Lengths.{counted_none, counted_zero, counted_full, counted_few, counted_all, frame_at_most, frame_reaches}
+use Rattle.cobs.proofs.LengthsLemmas.{counted_none, counted_zero, counted_full, counted_few, counted_all, frame_at_most, frame_reaches}
 use Rattle.cobs.proofs.enc.whole.encoded_length.Goals as goal
 
 pub loop-rest-init : goal.loop-rest-init

@@ -1,5 +1,5 @@
 use Rattle.std.proofs.Common.{length}
-use Rattle.cobs.proofs.Lengths.{Counted}
+use Rattle.cobs.proofs.LengthsLemmas.{Counted}
 use Rattle.cobs.proofs.enc.whole.encoded_length.Given as goal
 
 abbrev pub invariant-loop-rest : goal.invariant-loop-rest

@@ -1,4 +1,4 @@
-use Rattle.journal_scan.proofs.Standing.{stands_new}
+use Rattle.journal_scan.proofs.StandingLemmas.{stands_new}
 use Rattle.journal_scan.proofs.scanning.Scan.new.Goals as goal
 
 pub returns-in-Ok-resize-clause-stands : goal.returns-in-Ok-resize-clause-stands

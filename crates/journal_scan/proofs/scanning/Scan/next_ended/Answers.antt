@@ -3,7 +3,7 @@ use Rattle.std.proofs.lemmas.List.{take_all}
 use Rattle.link.specs.Stream.{ended}
 use Rattle.stores.specs.Store.{EndsBefore}
 use Rattle.journal_scan.specs.Scanning.{Found}
-use Rattle.journal_scan.proofs.Standing.{found_from}
+use Rattle.journal_scan.proofs.StandingLemmas.{found_from}
 use Rattle.journal_scan.proofs.scanning.Scan.next_ended.Goals as goal
 
 pub returns-in-Some-clause-found : goal.returns-in-Some-clause-found

@@ -1,6 +1,6 @@
 use Rattle.std.proofs.Common.{subst, ◌∙◌, rules}
 use Rattle.journal_scan.specs.Scanning.{Found}
-use Rattle.journal_scan.proofs.Standing.{found_from}
+use Rattle.journal_scan.proofs.StandingLemmas.{found_from}
 use Rattle.journal_scan.proofs.scanning.Scan.next_read.Goals as goal
 
 pub push-requires-clause-within : goal.push-requires-clause-within

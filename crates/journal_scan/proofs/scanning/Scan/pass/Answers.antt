@@ -2,7 +2,7 @@ use Rattle.std.proofs.Common.{◌≡◌, ◌+◌, ◌<◌, ◌∷◌, length, ta
 use Rattle.std.proofs.lemmas.List.{drop_more, get_or-take}
 use Rattle.link.specs.Stream.{HoldsExactly}
 use Rattle.journal.specs.Records.{takes_record, reads_record}
-use Rattle.journal_scan.proofs.Standing.{stands_past, stands_passed, next_from}
+use Rattle.journal_scan.proofs.StandingLemmas.{stands_past, stands_passed, next_from}
 use Rattle.journal_scan.proofs.scanning.Scan.pass.Goals as goal
 
 pub loop-self-preserved : goal.loop-self-preserved

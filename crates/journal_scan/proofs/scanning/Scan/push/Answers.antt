@@ -1,5 +1,5 @@
 use Rattle.std.proofs.Common.{◌≡◌, ◌<◌, length, take, drop, Ok, Some, ap, ◌∙◌, rules}
-use Rattle.journal_scan.proofs.Standing.{stands_later}
+use Rattle.journal_scan.proofs.StandingLemmas.{stands_later}
 use Rattle.journal_scan.proofs.scanning.Scan.push.Goals as goal
 
 pub returns-in-Ok-None-clause-goes : goal.returns-in-Ok-None-clause-goes

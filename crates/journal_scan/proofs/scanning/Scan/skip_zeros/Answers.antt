@@ -1,6 +1,6 @@
 use Rattle.std.proofs.Common.{◌≡◌, ◌+◌, ◌<◌, ◌∷◌, length, take, drop, get_or, sym, ap, ◌∙◌, arith, rules}
 use Rattle.std.proofs.lemmas.List.{drop_more, get_or-take}
-use Rattle.journal_scan.proofs.Standing.{stands_zero}
+use Rattle.journal_scan.proofs.StandingLemmas.{stands_zero}
 use Rattle.journal_scan.proofs.scanning.Scan.skip_zeros.Goals as goal
 
 pub loop-self-preserved : goal.loop-self-preserved

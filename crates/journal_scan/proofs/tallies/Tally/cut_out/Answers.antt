@@ -1,7 +1,7 @@
 use Rattle.std.proofs.Common.{◌≡◌, ◌+◌, ◌-◌, ap, ◌∙◌, arith, rules}
 use Rattle.std.specs.List.{insert}
 use Rattle.std.proofs.Math.ListN.{set}
-use Rattle.journal_scan.proofs.Gaps.{cut_low, cut_high, cut_both}
+use Rattle.journal_scan.proofs.GapsLemmas.{cut_low, cut_high, cut_both}
 use Rattle.journal_scan.proofs.tallies.Tally.cut_out.Goals as goal
 
 pub returns-then-number-last-clause-cut : goal.returns-then-number-last-clause-cut

@@ -1,5 +1,5 @@
 use Rattle.std.proofs.Common.{inl, inr}
-use Rattle.journal_scan.proofs.Gaps.{none_more}
+use Rattle.journal_scan.proofs.GapsLemmas.{none_more}
 use Rattle.journal_scan.proofs.tallies.Tally.place.Goals as goal
 use Rattle.journal_scan.proofs.tallies.Tally.place.Goals.{else-gap-number-via-then-gap-number+else-number-gap, else-gap-number-via-else-gap-number}
 

@@ -1,5 +1,5 @@
 use Rattle.std.proofs.Common.{Ok, sym, ap, ◌∙◌, arith}
-use Rattle.link.proofs.Receiving.{ended_byte, whole_frame, no_frame, zero_answers}
+use Rattle.link.proofs.ReceivingLemmas.{ended_byte, whole_frame, no_frame, zero_answers}
 use Rattle.link.proofs.reception.Reception.close.Goals as goal
 
 pub returns-in-Ok-Some-clause-found : goal.returns-in-Ok-Some-clause-found

@@ -3,9 +3,9 @@ use Rattle.std.proofs.lemmas.List.{append-nil}
 use Rattle.link.specs.Stream.{begun}
 use Rattle.link.specs.Receivers.{IsAt, IsBehind}
 use Rattle.link.specs.Listening.{Hears, HasGiven}
-use Rattle.link.proofs.Hearing.{on_err, on_ok, kept_given, stopped_by, parts_on}
-use Rattle.link.proofs.Answering.{behind_after, answered}
-use Rattle.link.proofs.Handing.{handed_none, handed_next, handed_as, keeps_behind}
+use Rattle.link.proofs.HearingLemmas.{on_err, on_ok, kept_given, stopped_by, parts_on}
+use Rattle.link.proofs.AnsweringLemmas.{behind_after, answered}
+use Rattle.link.proofs.HandingLemmas.{handed_none, handed_next, handed_as, keeps_behind}
 use Rattle.link.proofs.reception.Reception.hand_on.Goals as goal
 
 pub loop-rest-init : goal.loop-rest-init

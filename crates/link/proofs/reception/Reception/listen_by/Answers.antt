@@ -1,6 +1,6 @@
 use Rattle.std.proofs.Common.{[], take, refl, ◌∙◌, ap, arith, Some}
-use Rattle.link.proofs.Hearing.{read_failed, read_quiet, nothing_taken}
-use Rattle.link.proofs.Handing.{handed_none, handed_paused, nothing_more}
+use Rattle.link.proofs.HearingLemmas.{read_failed, read_quiet, nothing_taken}
+use Rattle.link.proofs.HandingLemmas.{handed_none, handed_paused, nothing_more}
 use Rattle.link.proofs.reception.Reception.listen_by.Goals as goal
 
 pub returns-in-None-clause-heard : goal.returns-in-None-clause-heard

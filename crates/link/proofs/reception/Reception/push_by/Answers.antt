@@ -1,8 +1,8 @@
 use Rattle.std.proofs.Common.{refl}
 use Rattle.link.specs.Stream.{begun}
 use Rattle.link.specs.Receivers.{IsAt}
-use Rattle.link.proofs.Answering.{behind_after, answered}
-use Rattle.link.proofs.Spanning.{stretch_of}
+use Rattle.link.proofs.AnsweringLemmas.{behind_after, answered}
+use Rattle.link.proofs.SpanningLemmas.{stretch_of}
 use Rattle.link.proofs.reception.Reception.push_by.Goals as goal
 
 pub returns-clause-stands : goal.returns-clause-stands

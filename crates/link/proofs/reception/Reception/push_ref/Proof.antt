@@ -42,8 +42,8 @@ use Rattle.std.specs.contracts.alloc.Global.{the_row as Global, the_type as glob
 use Rattle.std.proofs.alloc.Global.TheLaws as global
 use Rattle.postcard_de.specs.contracts.deserialize.Deserialize.TheBound as bound
 use Rattle.postcard_de.specs.contracts.de_flavors.RefSliceU8Bytes.TheImpl as bytes
-use Rattle.link.specs.Lending.{Reads, Advances, Leads, AnswersBy, StandsBy}
-use Rattle.link.proofs.LentBy.{lent_answers, lent_stands}
+use Rattle.link.specs.Lending.{ReadsLent, AdvancesToEvent, Leads, AnswersBy, StandsBy}
+use Rattle.link.proofs.LentByLemmas.{lent_answers, lent_stands}
 use Rattle.link.specs.contracts.reception.Taken.{the_row as Taken, the_type as taken_type}
 use Rattle.link.proofs.reception.Taken.TheLaws as taken
 use Rattle.link.specs.contracts.receiver.Pushed.{the_row as Pushed, the_type as pushed_type}
@@ -107,7 +107,7 @@ push_ref_spec 𝓤 𝓛 𝓜 𝓡 wired D T LD L gc dc gd dd gr dr dx P met_c me
     let E₁ = advances.ended D gc dc in
     let G₁ = triple_of 𝓛 (advances.signature D) (advances.spec D gc dc 𝓛 𝓜.mem 𝓡.returns) in
     let z₁ : G₁.Ghost = (((κs.0, (κs.1.0, (κs.1.1.0, tt))), (qs.0, (qs.1.0, (qs.1.1.0, tt))), bounds, (me, (input, tt)), (us, (is, tt))), tt) in
-    let Step : Adv.Denot → Type 0 = λ x. Advances gc.inside me.now input.now x in
+    let Step : Adv.Denot → Type 0 = λ x. AdvancesToEvent gc.inside me.now input.now x in
     -- the call of `pushed`
     let P₂ : Lfts 2 → Type 0 = λ κs'. κs'.0 ≡ κs.0 in
     let Bound : Lft → Type 2 = λ κ. bound.Met 𝓛 𝓜 𝓡 𝓡.env T (shr_slice_field (record { mir = erased; lft = κ }) u8 tt).row gd dd gr dr bytes.ghosts bytes.dict in
@@ -143,7 +143,7 @@ push_ref_spec 𝓤 𝓛 𝓜 𝓡 wired D T LD L gc dc gd dd gr dr dx P met_c me
     move ! (1 ∷ 0 ∷ []) $ join ! $ use1 𝓛 (raw (G₂.pre z₂)) (id⊢ 𝓤 _) $
     calls_at ! (framed 𝓤 H 𝓜 𝓣) G₂ (read_met.met 𝓤 𝓛 𝓜 𝓡 (code.calls-link::lent::pushed 𝓡.env wired) T L gd dd gr dr dx P₂ (λ κs' e. subst Bound (sym e) (met_d κs p)) met_r met_x) z₂ (and_then ! (get ! refl) (and_then ! (get ! refl) (no_more !))) (λ u.
     use1 𝓛 (later (some (λ (r : Res.Denot). ((t₀ ⊛ t₃ ⊛ ‵ ftrue) ⊛ ‵ (Res.own_val r (u ∷ []))) ⊛
-    some (λ (ls : Lasts E₂ z₂.0.0 z₂.0.3). ‵ (lasts E₂ z₂.0.0 z₂.0.3 ls) ⊛ raw (fact 𝓤 (Reads gr.takes gr.reads gr.growing x r)))))) (id⊢ 𝓤 _) $
+    some (λ (ls : Lasts E₂ z₂.0.0 z₂.0.3). ‵ (lasts E₂ z₂.0.0 z₂.0.3 ls) ⊛ raw (fact 𝓤 (ReadsLent gr.takes gr.reads gr.growing x r)))))) (id⊢ 𝓤 _) $
     await ! tt $ pick ! (λ r. split ! $ move ! (1 ∷ []) $ pick ! (λ ls'. split ! $ drop ! $ heard ! _ (λ answers. split ! $ move ! (1 ∷ []) $
     -- [the answer; two tokens; a token; nothing; a token; what it ends as]
     peeks ! Res _ (shows 𝓛 Res) r (u ∷ []) (λ has'.

@@ -4,10 +4,10 @@ use Rattle.cobs.specs.InPlace.{stretch}
 use Rattle.cobs.specs.Sentinel.{masked}
 use Rattle.link.specs.Stream.{over}
 use Rattle.link.specs.Receivers.{IsAt, buffer_in}
-use Rattle.link.proofs.Fetching.{has_bytes}
+use Rattle.link.proofs.FetchingLemmas.{has_bytes}
 use Rattle.link.specs.Finds.{front_of}
-use Rattle.link.proofs.Spanning.{limit_at}
-use Rattle.link.proofs.Runs.{run_of, span_at, past_brings, run_brings, sentinel_brings, sentinel_behind}
+use Rattle.link.proofs.SpanningLemmas.{limit_at}
+use Rattle.link.proofs.RunsLemmas.{run_of, span_at, past_brings, run_brings, sentinel_brings, sentinel_behind}
 use Rattle.link.proofs.reception.Reception.take_next.Goals as goal
 
 pub returns-in-Some-clause-brings : goal.returns-in-Some-clause-brings

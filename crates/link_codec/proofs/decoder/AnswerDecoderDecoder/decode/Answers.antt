@@ -1,7 +1,7 @@
 use Rattle.std.proofs.Common.{◌++◌, take}
 use Rattle.std.proofs.Math.Logic.{∥∥₁_map}
 use Rattle.link_codec.specs.Decoders.{IsGiven, stands}
-use Rattle.link_codec.proofs.Decoding.{decodes_ok, none_left_if}
+use Rattle.link_codec.proofs.DecodingLemmas.{decodes_ok, none_left_if}
 use Rattle.link_codec.proofs.decoder.AnswerDecoderDecoder.decode.Goals as goal
 
 pub invariant_of-self : goal.invariant_of-self

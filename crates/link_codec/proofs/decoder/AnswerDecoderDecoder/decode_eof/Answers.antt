@@ -1,7 +1,7 @@
 use Rattle.std.proofs.Math.Logic.{∥∥₁_map}
 use Rattle.std.proofs.Common.{[]}
 use Rattle.link_codec.specs.Decoders.{IsGiven}
-use Rattle.link_codec.proofs.Decoding.{decodes_end}
+use Rattle.link_codec.proofs.DecodingLemmas.{decodes_end}
 use Rattle.link_codec.proofs.decoder.AnswerDecoderDecoder.decode_eof.Goals as goal
 
 pub invariant_of-self : goal.invariant_of-self

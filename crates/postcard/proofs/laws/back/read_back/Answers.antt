@@ -1,4 +1,4 @@
-use Rattle.postcard.proofs.Trips.{back_alike, back_memory}
+use Rattle.postcard.proofs.TripsLemmas.{back_alike, back_memory}
 use Rattle.postcard.proofs.laws.back.read_back.Goals as goal
 
 pub returns-clause-alike : goal.returns-clause-alike

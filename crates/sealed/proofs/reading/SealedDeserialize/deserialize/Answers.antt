@@ -1,4 +1,4 @@
-use Rattle.sealed.proofs.Found.{seal_outcome, pair_fails}
+use Rattle.sealed.proofs.FoundLemmas.{seal_outcome, pair_fails}
 use Rattle.sealed.proofs.reading.SealedDeserialize.deserialize.Goals as goal
 
 pub returns-in-Ok : goal.returns-in-Ok

@@ -1,4 +1,4 @@
-use Rattle.sealed.proofs.Writing.{seal_written}
+use Rattle.sealed.proofs.WritingLemmas.{seal_written}
 use Rattle.sealed.proofs.value.SealedSerialize.serialize.Goals as goal
 
 pub returns-in-Ok-clause-writes : goal.returns-in-Ok-clause-writes

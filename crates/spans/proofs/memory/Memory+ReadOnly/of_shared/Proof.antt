@@ -20,7 +20,7 @@ use denote.Slice.{ShrSlice, slice_val}
 use denote.Steps.{nothing}
 use denote.Struct.Tuple.{Tuple}
 use denote.Triple.Walked.{Stays, stay_dropped, ends_at, walk_of}
-use Rattle.spans.proofs.MemoryValues.{slot_at, goes, start_val, start_own, start_made, mark_val, mark_own, mark_made, pair_of, pair_val, says_two}
+use Rattle.spans.proofs.MemoryValuesLemmas.{slot_at, goes, start_val, start_own, start_made, mark_val, mark_own, mark_made, pair_of, pair_val, says_two}
 use Rattle.spans.specs.contracts.memory.Start as S
 use Rattle.spans.specs.contracts.memory.Memory as M'
 use Rattle.spans.specs.contracts.memory.ReadOnly as W'

@@ -31,7 +31,7 @@ use denote.Slice.{elements_shared, elements_shr_laws, shr_slice_at, shr_slice_va
 use denote.Steps.{nothing, heard}
 use denote.Struct.Tuple.{Tuple}
 use denote.Triple.Walked.{Stays, stay_dropped, ends_at, walk_of}
-use Rattle.spans.proofs.MemoryValues.{slot_at, goes, start_val, start_own, start_told, start_made, mark_val, mark_own, mark_told, mark_made, three_val, three_of, cut_apart, says_five}
+use Rattle.spans.proofs.MemoryValuesLemmas.{slot_at, goes, start_val, start_own, start_told, start_made, mark_val, mark_own, mark_told, mark_made, three_val, three_of, cut_apart, says_five}
 use Rattle.spans.specs.Memory.{view_of}
 use Rattle.spans.specs.contracts.memory.Start as S
 use Rattle.spans.specs.contracts.memory.Memory as M'

@@ -32,7 +32,7 @@ use denote.Signature.{types_at, named_lft}
 use denote.Slice.{MutSlice, Room, slice_val, mut_slice_at, mut_slice_vals}
 use denote.Steps.{nothing, heard, opens, closes}
 use denote.Triple.Walked.{Stays, stay_dropped, says, ends_at, walk_of}
-use Rattle.spans.proofs.MemoryValues.{slot_at, goes, start_val, start_told, mark_own}
+use Rattle.spans.proofs.MemoryValuesLemmas.{slot_at, goes, start_val, start_told, mark_own}
 use Rattle.spans.specs.Memory.{borrow_of}
 use Rattle.spans.specs.Lending.{with_bytes}
 use Rattle.spans.specs.contracts.memory.Memory as M'

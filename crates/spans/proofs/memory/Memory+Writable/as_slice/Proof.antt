@@ -26,7 +26,7 @@ use denote.Signature.{types_at}
 use denote.Slice.{ShrSlice, slice_val, mut_slice_at, mut_slice_vals, shr_slice_at, shr_slice_vals, elements_shared, elements_shr_laws}
 use denote.Steps.{nothing, heard}
 use denote.Triple.Walked.{Stays, stay_dropped, says, ends_at, walk_of}
-use Rattle.spans.proofs.MemoryValues.{slot_at, goes, start_val, start_told}
+use Rattle.spans.proofs.MemoryValuesLemmas.{slot_at, goes, start_val, start_told}
 use Rattle.spans.specs.Memory.{borrow_of}
 use Rattle.spans.specs.contracts.memory.Memory+Writable.as_slice as f
 use Rattle.spans.proofs.memory.Memory+Writable.as_slice.Statement.{statement}

@@ -20,7 +20,7 @@ use denote.Signature.{types_at}
 use denote.Slice.{MutSlice, slice_val}
 use denote.Steps.{nothing, heard}
 use denote.Triple.Walked.{Stays, stay_dropped, ends_at, walk_of}
-use Rattle.spans.proofs.MemoryValues.{slot_at, goes, start_val, start_told, mark_val, mark_told, says_three}
+use Rattle.spans.proofs.MemoryValuesLemmas.{slot_at, goes, start_val, start_told, mark_val, mark_told, says_three}
 use Rattle.spans.specs.Memory.{borrow_of}
 use Rattle.spans.specs.contracts.memory.Memory+Writable.into_slice as f
 use Rattle.spans.proofs.memory.Memory+Writable.into_slice.Statement.{statement}

@@ -15,7 +15,7 @@ use denote.Slice.{MutSlice, mut_slice_vals, mut_slice_Tells}
 use denote.Steps.{nothing}
 use denote.Struct.Tuple.{Tuple}
 use denote.Triple.Walked.{Stays, stay_dropped, ends_at, walk_of, Goes-spent_slice}
-use Rattle.spans.proofs.MemoryValues.{start_val, start_own, start_made, mark_val, mark_own, mark_made, pair_of, pair_val, says_four}
+use Rattle.spans.proofs.MemoryValuesLemmas.{start_val, start_own, start_made, mark_val, mark_own, mark_made, pair_of, pair_val, says_four}
 use Rattle.spans.specs.contracts.memory.Start as S
 use Rattle.spans.specs.contracts.memory.Memory as M'
 use Rattle.spans.specs.contracts.memory.Writable as W'

@@ -28,7 +28,7 @@ use denote.Signature.{types_at, plain, named_lft}
 use denote.Slice.{mut_slice_at, mut_slice_vals}
 use denote.Steps.{nothing, heard, opens, closes}
 use denote.Triple.Walked.{Stays, stay_dropped, stay_ref, ends_at, walk_of, Goes-ref}
-use Rattle.spans.proofs.MemoryValues.{slot_at, goes, start_val, start_told, says_three}
+use Rattle.spans.proofs.MemoryValuesLemmas.{slot_at, goes, start_val, start_told, says_three}
 use Rattle.spans.specs.Memory.{borrow_of}
 use Rattle.spans.specs.contracts.memory.Memory as M'
 use Rattle.spans.specs.contracts.memory.Writable as W'

@@ -15,7 +15,7 @@ use Rattle.std.specs.contracts.marker.PhantomData as marker
 use Rattle.spans.specs.declared.memory.Access.{Ghosts}
 use Rattle.spans.specs.contracts.memory.Memory as C
 use Rattle.spans.proofs.memory.Memory.TheLaw.Statement.{statement}
-use Rattle.spans.proofs.MemorySharing.{access_laws, Lends-access}
+use Rattle.spans.proofs.MemorySharingLemmas.{access_laws, Lends-access}
 
 pub shares : (a : NamedLft) (T : RattleType) (g : Ghosts T.Denot) (L : Laws T) → statement a T g L
 shares a T g L =

@@ -1,6 +1,6 @@
 use Rattle.std.proofs.Common.{◌≡◌, subst, sym}
 use Rattle.stores.specs.Store.{EndsBefore}
-use Rattle.stores.proofs.Ending.{nothing_to_come}
+use Rattle.stores.proofs.EndingLemmas.{nothing_to_come}
 use Rattle.stores.proofs.front.FrontInlet.read.Goals as goal
 
 pub returns-in-Some-clause-end : goal.returns-in-Some-clause-end

@@ -1,7 +1,7 @@
 use Rattle.std.proofs.Common.{List, ℕ, length, refl, sym, ◌∙◌, ap, subst}
 use Rattle.cobs.specs.Sentinel.{masked}
 use Rattle.cobs.specs.Taking.{TakesPiece}
-use Rattle.cobs.proofs.Wholes.{refilled}
+use Rattle.cobs.proofs.WholesLemmas.{refilled}
 use Rattle.cobs.proofs.dec.heapless.CobsDecoderHeapless.push.Goals as goal
 
 pub returns-clause-takes : goal.returns-clause-takes

@@ -1,5 +1,5 @@
 use Rattle.std.proofs.Common.{◌≤◌, length, arith}
-use Rattle.cobs.proofs.Takes.{takes_zero, takes_nonzero, none_within}
+use Rattle.cobs.proofs.TakesLemmas.{takes_zero, takes_nonzero, none_within}
 use Rattle.cobs.proofs.dec.progress.Progress.feed.Goals as goal
 
 pub returns-then-byte-eq0 : goal.returns-then-byte-eq0

@@ -1,8 +1,8 @@
 use Rattle.std.proofs.Common.{ℕ, zero, suc, ◌<◌, List, [], ◌∷◌, get_or, set, None, Ok, ◌∙◌, arith}
 use Rattle.std.proofs.lemmas.List.{length-set}
-use Rattle.cobs.proofs.Takes.{takes_piece}
-use Rattle.cobs.proofs.Turns.{all_taken}
-use Rattle.cobs.proofs.Windows.{inside, run_written, one_written}
+use Rattle.cobs.proofs.TakesLemmas.{takes_piece}
+use Rattle.cobs.proofs.TurnsLemmas.{all_taken}
+use Rattle.cobs.proofs.WindowsLemmas.{inside, run_written, one_written}
 use Rattle.cobs.proofs.dec.progress.Progress.push_byte.Goals as goal
 
 single : (x : ℕ) → 0 < x → (j : ℕ) → j < 1 → 0 < get_or (x ∷ []) j 0

@@ -2,10 +2,10 @@ use Rattle.std.proofs.Common.{◌≡◌, ◌+◌, ◌<◌, arith, ap, sym, ◌�
 use Rattle.std.specs.Prelude.{bit_xor}
 use Rattle.cobs.specs.Feeding.{answer_of, frame_after, placed}
 use Rattle.cobs.specs.Sentinel.{masked}
-use Rattle.cobs.specs.Streaming.{Stands}
-use Rattle.cobs.proofs.Masking.{masked_length, masked_get}
-use Rattle.cobs.proofs.Takes.{takes_piece}
-use Rattle.cobs.proofs.Turns.{Turn, turn_some, turn_refused, turn_on, turn_end, turn_front_for}
+use Rattle.cobs.specs.Streaming.{HasStreamed}
+use Rattle.cobs.proofs.MaskingLemmas.{masked_length, masked_get}
+use Rattle.cobs.proofs.TakesLemmas.{takes_piece}
+use Rattle.cobs.proofs.TurnsLemmas.{Turn, turn_some, turn_refused, turn_on, turn_end, turn_front_for}
 use Rattle.cobs.proofs.dec.progress.Progress.push_fronts.Goals as goal
 use Rattle.cobs.proofs.dec.progress.Progress.push_fronts.Goals.{After-feed}
 
@@ -13,7 +13,7 @@ use Rattle.cobs.proofs.dec.progress.Progress.push_fronts.Goals.{After-feed}
 abbrev bytes : (c : After-feed) → List ℕ
 bytes c = masked c.args.sentinel c.args.piece.now
 
-turned : (c : After-feed) (p : List ℕ) → Stands c.args.self.now p → Turn p (bytes c) c.args.buffer.now c.loop-at.at c.take_front-taken.new.buffer c.take_front-taken.new.self
+turned : (c : After-feed) (p : List ℕ) → HasStreamed c.args.self.now p → Turn p (bytes c) c.args.buffer.now c.loop-at.at c.take_front-taken.new.buffer c.take_front-taken.new.self
 turned c p s =
     let none : c.loop-at.at + c.take_front-taken.result ≡ c.loop-at.at = omega (arith, c.if-taken-gt0.false) in
     subst (λ j. Turn p (bytes c) c.args.buffer.now j c.take_front-taken.new.buffer c.take_front-taken.new.self) none
@@ -30,13 +30,13 @@ fed c = sym (masked_get c.args.sentinel c.args.piece.now c.loop-at.at c.loop-at-
 room : (c : After-feed) → length c.take_front-taken.new.buffer ≡ length c.args.buffer.now
 room c = c.take_front-taken.auto.buffer ∙ c.loop-at.auto.buffer
 
-answers : (c : After-feed) (now : List ℕ) → Stands c.take_front-taken.new.self now → c.feed.result ≡ answer_of (length c.args.buffer.now) now (get_or (bytes c) c.loop-at.at 0)
+answers : (c : After-feed) (now : List ℕ) → HasStreamed c.take_front-taken.new.self now → c.feed.result ≡ answer_of (length c.args.buffer.now) now (get_or (bytes c) c.loop-at.at 0)
 answers c now s = rw (room c, fed c) at (c.feed.ensures.answer now s)
 
-has : (c : After-feed) (now : List ℕ) → Stands c.take_front-taken.new.self now → Stands c.feed.new.self (frame_after now (get_or (bytes c) c.loop-at.at 0))
+has : (c : After-feed) (now : List ℕ) → HasStreamed c.take_front-taken.new.self now → HasStreamed c.feed.new.self (frame_after now (get_or (bytes c) c.loop-at.at 0))
 has c now s = rw (fed c) at (c.feed.ensures.has now s)
 
-put : (c : After-feed) (now : List ℕ) → Stands c.take_front-taken.new.self now → c.feed.new.buffer ≡ placed now (get_or (bytes c) c.loop-at.at 0) c.take_front-taken.new.buffer
+put : (c : After-feed) (now : List ℕ) → HasStreamed c.take_front-taken.new.self now → c.feed.new.buffer ≡ placed now (get_or (bytes c) c.loop-at.at 0) c.take_front-taken.new.buffer
 put c now s = rw (fed c) at (c.feed.ensures.buffer now s)
 
 pub loop-at-preserved-then-taken-gt0 : goal.loop-at-preserved-then-taken-gt0

@@ -1,7 +1,7 @@
 use Rattle.std.proofs.Common.{◌≡◌, ℕ, ◌+◌, ◌-◌, ◌^◌, min, List, [], ◌∷◌, ◌++◌, sym, ◌∙◌, ap, arith, Some, None}
 use Rattle.cobs.specs.Feeding.{told_by, fed}
-use Rattle.cobs.specs.Streaming.{Stands}
-use Rattle.cobs.proofs.Feeds.{stays, counts, goes_on, runs_over}
+use Rattle.cobs.specs.Streaming.{HasStreamed}
+use Rattle.cobs.proofs.FeedsLemmas.{stays, counts, goes_on, runs_over}
 use Rattle.cobs.proofs.dec.progress.Progress.take_in.Goals as goal
 use Rattle.cobs.proofs.dec.progress.Progress.take_in.Goals.{In_default, In-Some}
 
@@ -18,7 +18,7 @@ pub returns-in_default-clause-answer : goal.returns-in_default-clause-answer
 returns-in_default-clause-answer c = λ p s. (stays c.args.buffer.now c.args.self.now p c.args.byte c.requires (omega (arith, c.ranges.byte.fits)) s (nothing c)).1
 
 -- a byte that was told is counted
-counted : (c : In-Some) (p : List ℕ) → Stands c.args.self.now p → (n : ℕ) → n ≡ min (c.args.self.now.len + 1) (2 ^ 64 - 1) → Stands (record { state = c.feed.new.self; len = n }) (p ++ c.args.byte ∷ [])
+counted : (c : In-Some) (p : List ℕ) → HasStreamed c.args.self.now p → (n : ℕ) → n ≡ min (c.args.self.now.len + 1) (2 ^ 64 - 1) → HasStreamed (record { state = c.feed.new.self; len = n }) (p ++ c.args.byte ∷ [])
 counted c p s n i = rw c.feed.ensures.state (counts c.args.buffer.now c.args.self.now p c.args.byte c.requires (omega (arith, c.ranges.byte.fits)) s c.in-Some.told (something c) n i)
 
 pub returns-then-place-buffer-clause-stands : goal.returns-then-place-buffer-clause-stands

@@ -2,9 +2,9 @@ use Rattle.std.proofs.Common.{◌≡◌, ◌<◌, ◌≤◌, length, take, ap, s
 use Rattle.std.proofs.lemmas.List.{length-take-le}
 use Rattle.cobs.specs.InPlace.{written_over}
 use Rattle.cobs.specs.Sentinel.{masked}
-use Rattle.cobs.proofs.Masking.{masked_length, masked_take}
-use Rattle.cobs.proofs.Sources.{nonzero_front}
-use Rattle.cobs.proofs.Windows.{inside, run_written}
+use Rattle.cobs.proofs.MaskingLemmas.{masked_length, masked_take}
+use Rattle.cobs.proofs.SourcesLemmas.{nonzero_front}
+use Rattle.cobs.proofs.WindowsLemmas.{inside, run_written}
 use Rattle.cobs.proofs.dec.progress.Progress.take_run.Goals as goal
 
 pub returns-clause-front : goal.returns-clause-front

@@ -6,9 +6,9 @@ use Rattle.cobs.specs.Frames.{part_from, after}
 use Rattle.cobs.specs.InPlace.{written_over}
 use Rattle.cobs.specs.Sentinel.{masked}
 use Rattle.cobs.specs.declared.dec.state.DecoderState.TheVariants.{Grab}
-use Rattle.cobs.proofs.Masking.{xor_twice, masked_length, masked_take, masked_get}
-use Rattle.cobs.proofs.Sources.{nonzero_front, nonzero_bytes}
-use Rattle.cobs.proofs.Windows.{at_grab, at_chain, of_ones, front_written, run_written, part_written}
+use Rattle.cobs.proofs.MaskingLemmas.{xor_twice, masked_length, masked_take, masked_get}
+use Rattle.cobs.proofs.SourcesLemmas.{nonzero_front, nonzero_bytes}
+use Rattle.cobs.proofs.WindowsLemmas.{at_grab, at_chain, of_ones, front_written, run_written, part_written}
 use Rattle.cobs.proofs.dec.progress.Progress.take_window.Goals as goal
 
 -- codes 01

@@ -6,9 +6,9 @@ use Rattle.cobs.specs.Frames.{part_from, after}
 use Rattle.cobs.specs.InPlace.{written_over}
 use Rattle.cobs.specs.Sentinel.{masked}
 use Rattle.cobs.specs.declared.dec.state.DecoderState.TheVariants.{Grab}
-use Rattle.cobs.proofs.Masking.{xor_twice, masked_length}
-use Rattle.cobs.proofs.Windows.{at_grab, at_chain, of_ones, front_written, run_written, part_written}
-use Rattle.cobs.proofs.Within.{written_part, written_anew, ahead_within, ahead_front, ahead_nonzero, ahead_byte}
+use Rattle.cobs.proofs.MaskingLemmas.{xor_twice, masked_length}
+use Rattle.cobs.proofs.WindowsLemmas.{at_grab, at_chain, of_ones, front_written, run_written, part_written}
+use Rattle.cobs.proofs.WithinLemmas.{written_part, written_anew, ahead_within, ahead_front, ahead_nonzero, ahead_byte}
 use Rattle.cobs.proofs.dec.progress.Progress.take_within.Goals as goal
 
 -- codes 01

@@ -1,4 +1,4 @@
-use Rattle.cobs.proofs.Masking.{begins_masked}
+use Rattle.cobs.proofs.MaskingLemmas.{begins_masked}
 use Rattle.cobs.proofs.enc.front.FrameFront.begin_with_sentinel.Goals as goal
 
 pub returns-clause-stands : goal.returns-clause-stands

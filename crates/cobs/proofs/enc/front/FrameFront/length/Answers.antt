@@ -1,4 +1,4 @@
-use Rattle.cobs.proofs.Masking.{front_masked}
+use Rattle.cobs.proofs.MaskingLemmas.{front_masked}
 use Rattle.cobs.proofs.enc.front.FrameFront.length.Goals as goal
 
 pub returns-else-self-clause-frame : goal.returns-else-self-clause-frame

@@ -1,4 +1,4 @@
-use Rattle.cobs.proofs.Keeping.{kept_end}
+use Rattle.cobs.proofs.KeepingLemmas.{kept_end}
 use Rattle.cobs.proofs.enc.state.EncoderState.finalize.Goals as goal
 
 pub returns-clause-frame : goal.returns-clause-frame

@@ -1,5 +1,5 @@
 use Rattle.std.proofs.Common.{arith}
-use Rattle.cobs.proofs.Keeping.{kept_zero, kept_full}
+use Rattle.cobs.proofs.KeepingLemmas.{kept_zero, kept_full}
 use Rattle.cobs.proofs.enc.state.EncoderState.push.Goals as goal
 
 pub returns-then-byte-eq0-clause-keeps : goal.returns-then-byte-eq0-clause-keeps

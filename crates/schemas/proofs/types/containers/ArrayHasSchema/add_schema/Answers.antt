@@ -1,5 +1,5 @@
 use Rattle.schemas.specs.declared.node.Node.TheVariants.{Array}
-use Rattle.schemas.proofs.Tables.{added_as, array_schema}
+use Rattle.schemas.proofs.TablesLemmas.{added_as, array_schema}
 use Rattle.schemas.proofs.types.containers.ArrayHasSchema.add_schema.Goals as goal
 
 pub returns-clause-is_schema : goal.returns-clause-is_schema

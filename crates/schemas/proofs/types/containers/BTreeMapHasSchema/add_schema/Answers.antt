@@ -1,5 +1,5 @@
 use Rattle.schemas.specs.declared.node.Node.TheVariants.{List}
-use Rattle.schemas.proofs.Tables.{added_as, list_schema}
+use Rattle.schemas.proofs.TablesLemmas.{added_as, list_schema}
 use Rattle.schemas.proofs.types.containers.BTreeMapHasSchema.add_schema.Goals as goal
 
 pub returns-clause-is_schema : goal.returns-clause-is_schema

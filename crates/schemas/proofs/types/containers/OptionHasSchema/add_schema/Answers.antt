@@ -1,5 +1,5 @@
 use Rattle.schemas.specs.declared.node.Node.TheVariants.{Option}
-use Rattle.schemas.proofs.Tables.{added_as, option_schema}
+use Rattle.schemas.proofs.TablesLemmas.{added_as, option_schema}
 use Rattle.schemas.proofs.types.containers.OptionHasSchema.add_schema.Goals as goal
 
 pub returns-clause-is_schema : goal.returns-clause-is_schema

@@ -1,5 +1,5 @@
 use Rattle.schemas.specs.declared.node.Node.TheVariants.{Enum}
-use Rattle.schemas.proofs.Tables.{added_as, later, payload_result, enum_schema}
+use Rattle.schemas.proofs.TablesLemmas.{added_as, later, payload_result, enum_schema}
 use Rattle.schemas.proofs.types.containers.ResultResultHasSchema.add_schema.Goals as goal
 
 pub returns-clause-is_schema : goal.returns-clause-is_schema

@@ -1,5 +1,5 @@
 use Rattle.schemas.specs.declared.node.Node.TheVariants.{Struct}
-use Rattle.schemas.proofs.Tables.{added_as, struct_schema, no_fields}
+use Rattle.schemas.proofs.TablesLemmas.{added_as, struct_schema, no_fields}
 use Rattle.schemas.proofs.types.containers.UnitHasSchema.add_schema.Goals as goal
 
 pub returns-clause-is_schema : goal.returns-clause-is_schema

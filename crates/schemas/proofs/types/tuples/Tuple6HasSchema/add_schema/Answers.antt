@@ -1,5 +1,5 @@
 use Rattle.schemas.specs.declared.node.Node.TheVariants.{Struct}
-use Rattle.schemas.proofs.Tables.{added_as, begins_more, later, field_then, no_fields, struct_schema}
+use Rattle.schemas.proofs.TablesLemmas.{added_as, begins_more, later, field_then, no_fields, struct_schema}
 use Rattle.schemas.proofs.types.tuples.Tuple6HasSchema.add_schema.Goals as goal
 
 pub returns-clause-is_schema : goal.returns-clause-is_schema

@@ -1,6 +1,6 @@
 use Rattle.std.proofs.Common.{◌≡◌, ◌++◌, ◌∷◌, [], arith}
 use Rattle.std.proofs.lemmas.Grind.{common_steps}
-use Rattle.schemas.proofs.Tables.{payloads_last}
+use Rattle.schemas.proofs.TablesLemmas.{payloads_last}
 use Rattle.schemas.proofs.types.variants.LastHasPayloadSchemas.add_payloads.Goals as goal
 
 pub returns-clause-are_schemas : goal.returns-clause-are_schemas

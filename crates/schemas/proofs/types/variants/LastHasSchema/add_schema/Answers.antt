@@ -1,5 +1,5 @@
 use Rattle.schemas.specs.declared.node.Node.TheVariants.{Enum}
-use Rattle.schemas.proofs.Tables.{added_as, enum_added}
+use Rattle.schemas.proofs.TablesLemmas.{added_as, enum_added}
 use Rattle.schemas.proofs.types.variants.LastHasSchema.add_schema.Goals as goal
 
 pub returns-clause-is_schema : goal.returns-clause-is_schema

@@ -1,6 +1,6 @@
 use Rattle.std.proofs.Common.{◌≡◌, ◌++◌, ◌∷◌, [], arith}
 use Rattle.std.proofs.lemmas.Grind.{common_steps}
-use Rattle.schemas.proofs.Tables.{payloads_as, payloads_first}
+use Rattle.schemas.proofs.TablesLemmas.{payloads_as, payloads_first}
 use Rattle.schemas.proofs.types.variants.VariantHasPayloadSchemas.add_payloads.Goals as goal
 
 pub returns-clause-are_schemas : goal.returns-clause-are_schemas

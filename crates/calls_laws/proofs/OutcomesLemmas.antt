@@ -1,0 +1,167 @@
+-- What one call over two lines makes of the application.
+use Rattle.std.proofs.Common.{◌≡◌, ℕ, List, [], ◌∷◌, map, Option, Some, None, refl, sym, ap, ◌∙◌, subst, inl, inr, ◌⊎◌, arith}
+use Rattle.std.specs.Prelude.{IfSome}
+use Rattle.std.specs.List.{AllByRecursion, AllZip, FoldsTo, zip}
+use Rattle.std.proofs.lemmas.Bool.{cases_lt}
+use Rattle.std.proofs.lemmas.List.{append-nil}
+use Rattle.line_io.specs.Device.{Wrote}
+use Rattle.postcard_tree.specs.Tree.{Tree}
+use Rattle.postcard_tree.specs.Alike.{AlikePairs}
+use Rattle.link.specs.Run.{Send, line}
+use Rattle.link.specs.Fates.{IsSendOf}
+use Rattle.link.specs.declared.receiver.Answer.{Answer}
+use Rattle.link_laws.specs.Values.{runs_of, values_sent}
+use Rattle.link_laws.specs.Sessions.{all_sent, no_session, then_session, takes_run, all_written}
+use Rattle.calls.specs.Calls.{Execution, next_of, ServesAll, Rises, In, OnePerNumber, ExecutesOnce}
+use Rattle.calls.specs.Serving.{Runs, requests_of}
+use Rattle.calls_laws.specs.Heard.{HearsSent}
+use Rattle.calls_laws.specs.Headline.{WentOver, WasExecuted, RepliesAreRight}
+use Rattle.calls_laws.specs.Exchange.{ExecutedOnce, ExecutedAtMostOnce, LeftBy, HeardFront, AsksOnly, ServesLine, TakesReply}
+use Rattle.calls_laws.proofs.FrontsLemmas.{in_parts}
+
+-- the values of a session are its messages
+values_beside : {V : Type 0} (P : V → Send → Type 0) (values : List V) (xs : List Send) → AllZip P values xs → map (λ (c : V × Send). c.0) (zip values xs) ≡ values
+values_beside P [] xs h = refl
+values_beside P (v ∷ values) [] h = absurd h
+values_beside P (v ∷ values) (x ∷ xs) h = ap (λ l. v ∷ l) (values_beside P values xs h.1)
+
+module _ {V : Type 0} (takes : Tree → Type 0) (holds : List ℕ → Tree → Type 0) (reads : Tree → V → Type 0) (writes : V → Option Tree) (valid : V → Type 0) (taken : (v : V) (t : Tree) → valid v → writes v ≡ Some t → takes t) (limit s : ℕ) where
+  -- what one sender left, and what was heard of a front of it
+  pub went_over : (messages : List V) (bytes : List ℕ) (answers : List (Answer V)) (l : LeftBy limit s writes valid messages bytes) → HeardFront holds reads limit s bytes answers
+      → WentOver takes holds reads writes valid limit s (zip messages l.said.sends ∷ []) answers
+  went_over messages bytes answers l h =
+      let calls = zip messages l.said.sends in
+      let left = takes_run taken (then_session l.sentinel l.fresh (all_sent l.said) no_session) in
+      let there = line s (runs_of (calls ∷ [])) in
+      let whole : bytes ≡ there = all_written l.start.told bytes there l.start.faults l.stop.faults l.empty (subst (λ z. Wrote l.start.told z l.start.faults l.stop.faults there) l.told left.wrote) in
+      record { is = left.is; of = left.of; front = h.front; rest = h.rest; parts = sym whole ∙ h.parts; end = h.end; received = h.received }
+
+  pub sent_are : (messages : List V) (bytes : List ℕ) (l : LeftBy limit s writes valid messages bytes) → values_sent (zip messages l.said.sends ∷ []) ≡ messages
+  sent_are messages bytes l =
+      append-nil (map (λ (c : V × Send). c.0) (zip messages l.said.sends)) ∙ values_beside (λ v x. IsSendOf limit (writes v) (valid v) x) messages l.said.sends l.said.of
+
+-- all that are in a list of one alone are that one
+in_only : {V : Type 0} (x : V) (xs : List V) → AllByRecursion (λ m. m ≡ x) xs → (y : V) → In y xs → y ≡ x
+in_only x [] h y i = absurd i
+in_only x (z ∷ xs) h y (inl e) = e ∙ h.0
+in_only x (z ∷ xs) h y (inr i) = in_only x xs h.1 y i
+
+module _ {Q R : Type 0} where
+  -- what was executed was heard
+  was_heard : (kept later : Option (ℕ × R)) (qs : List (ℕ × Q)) (log : List (Execution Q R)) (out : List (ℕ × R)) → ServesAll kept qs log out later → (e : Execution Q R) → In e log → In (e.number, e.asks) qs
+  was_heard kept later [] log out h e i = absurd (subst (In e) h.0 i)
+  was_heard kept later (q ∷ qs) log out (first, others, says, more, mid, one, rest, log_is, out_is) e i =
+      elim (in_parts e first others (subst (In e) log_is i)) [
+        | inr k ↦ inr (was_heard mid later qs others more rest e k)
+        | inl k ↦ elim (cases_lt q.0 (next_of kept)) [
+          | inl l ↦ absurd (subst (In e) (one.known l).0 k)
+          | inr l ↦ inl (here e q ((one.fresh l).0) (subst (In e) (one.fresh l).1 k))
+        ]
+      ]
+    where
+      here : (e : Execution Q R) (q : ℕ × Q) (says : R) → In e ((let x : Execution Q R = record { number = q.0; asks = q.1; says = says } in x) ∷ []) → ◌≡◌ {A = ℕ × Q} (e.number, e.asks) q
+      here e q says (inl f) = ap (λ (x : Execution Q R). let p : ℕ × Q = (x.number, x.asks) in p) f
+      here e q says (inr f) = absurd f
+
+  -- executions that rise and have one number alone are one at most
+  at_most_one : (n m : ℕ) (log : List (Execution Q R)) → Rises m log → ((e : Execution Q R) → In e log → e.number ≡ n) → (log ≡ []) ⊎ ((e : Execution Q R) × (log ≡ e ∷ []))
+  at_most_one n m [] h all = inl refl
+  at_most_one n m (e ∷ []) h all = inr (e, refl)
+  at_most_one n m (e ∷ f ∷ log) h all = absurd (let l = h.1.0 in let a = all e (inl refl) in let b = all f (inr (inl refl)) in omega (arith, l, a, b))
+
+module _ {A Q R : Type 0} (executes : A → Q → R → A → Type 0) (alike_asked : Q → Q → Type 0) (alike_said : R → R → Type 0)
+    {takes : Tree → Type 0} {holds : List ℕ → Tree → Type 0} {reads : Tree → ℕ × Q → Type 0} {writes : ℕ × Q → Option Tree} {valid : ℕ × Q → Type 0}
+    {takes' : Tree → Type 0} {holds' : List ℕ → Tree → Type 0} {reads' : Tree → ℕ × R → Type 0} {writes' : ℕ × R → Option Tree} {valid' : ℕ × R → Type 0}
+    (taken : (v : ℕ × Q) (t : Tree) → valid v → writes v ≡ Some t → takes t) (taken' : (v : ℕ × R) (t : Tree) → valid' v → writes' v ≡ Some t → takes' t)
+    (hears : HearsSent takes holds reads (AlikePairs (λ m m'. m ≡ m') alike_asked) writes valid) (once : ExecutesOnce Q R)
+    (right : RepliesAreRight alike_asked alike_said (WentOver takes holds reads writes valid) (WentOver takes' holds' reads' writes' valid'))
+    {limit s limit' s' : ℕ} {old new : A} {x : ℕ × Q} {pending : Option (ℕ × Q)} {requests replies : List ℕ}
+    (asks : AsksOnly limit s writes valid x pending requests) (serves : ServesLine executes holds reads writes' valid' limit s limit' s' old new requests replies) where
+  -- each request that was heard has the number, and is alike the one that was asked
+  heard_alike : (w : ℕ × Q) → In w (requests_of serves.heard) → (x.0 ≡ w.0) × alike_asked x.1 w.1
+  heard_alike w i =
+      let over = went_over takes holds reads writes valid taken limit s asks.messages requests serves.heard asks.left serves.over in
+      let v = hears limit s (zip asks.messages asks.left.said.sends ∷ []) over.end serves.heard over.front over.rest over.is over.of over.parts over.received w i in
+      let same : v.0 ≡ x = in_only x asks.messages asks.only v.0 (subst (In v.0) (sent_are takes holds reads writes valid taken limit s asks.messages requests asks.left) v.1) in
+      (sym (ap (λ p. p.0) same) ∙ v.2.0, subst (λ p. alike_asked p.1 w.1) same v.2.1)
+
+  numbered : (e : Execution Q R) → In e serves.log → e.number ≡ x.0
+  numbered e i = sym (heard_alike (e.number, e.asks) (was_heard None serves.later (requests_of serves.heard) serves.log serves.out serves.served e i)).0
+
+  rising : Rises 0 serves.log
+  rising = (once None serves.later (requests_of serves.heard) serves.log serves.out serves.served).0
+
+  -- the application ran one execution alone
+  ran_one : (log : List (Execution Q R)) (e : Execution Q R) → log ≡ e ∷ [] → FoldsTo (Runs executes) old log new → executes old e.asks e.says new
+  ran_one log e one ran =
+      let r = subst (λ l. FoldsTo (Runs executes) old l new) one ran in subst (λ a. executes old e.asks e.says a) r.2 r.1
+
+  ran_none : (log : List (Execution Q R)) → log ≡ [] → FoldsTo (Runs executes) old log new → new ≡ old
+  ran_none log none ran = sym (subst (λ l. FoldsTo (Runs executes) old l new) none ran)
+
+  pub executed_at_most_once : ExecutedAtMostOnce {R = R} executes alike_asked old new x.1
+  executed_at_most_once = elim (at_most_one x.0 0 serves.log rising numbered) [
+    | inl none ↦ inl (ran_none serves.log none serves.ran)
+    | inr one ↦ inr (record {
+      asks = one.0.asks;
+      says = one.0.says;
+      executed = ran_one serves.log one.0 one.1 serves.ran;
+      asks_alike = (heard_alike (one.0.number, one.0.asks) (was_heard None serves.later (requests_of serves.heard) serves.log serves.out serves.served one.0 (subst (In one.0) (sym one.1) (inl refl)))).1;
+      says_so = tt;
+    })
+  ]
+
+  one_number : OnePerNumber asks.messages
+  one_number a b i j e = in_only x asks.messages asks.only a i ∙ sym (in_only x asks.messages asks.only b j)
+
+  -- the reply that was taken, by the law of whole lines
+  taken_was_said : (r : R) → TakesReply holds' reads' limit' s' pending replies r → WasExecuted alike_asked alike_said serves.log x.0 x.1 r
+  taken_was_said r t =
+      let sends = asks.left.said.sends in
+      let is : (t.number, t.asked) ≡ x = (asks.sent (t.number, t.asked) t.is_pending).0 in
+      let sent = sent_are takes holds reads writes valid taken limit s asks.messages requests asks.left in
+      right limit s limit' s' (zip asks.messages sends ∷ []) (zip serves.out serves.left.said.sends ∷ []) serves.heard t.heard serves.log serves.out serves.later x.0 x.1 r
+      (went_over takes holds reads writes valid taken limit s asks.messages requests serves.heard asks.left serves.over)
+      serves.served
+      (went_over takes' holds' reads' writes' valid' taken' limit' s' serves.out replies t.heard serves.left t.over)
+      (sent_are takes' holds' reads' writes' valid' taken' limit' s' serves.out replies serves.left)
+      (subst OnePerNumber (sym sent) one_number)
+      (subst (In x) (sym sent) (asks.sent (t.number, t.asked) t.is_pending).1)
+      (subst (λ p. In (p.0, r) (requests_of t.heard)) is t.said)
+
+  pub reply_is_right : (r : R) → TakesReply holds' reads' limit' s' pending replies r → ExecutedOnce executes alike_asked old new x.1 (λ says. alike_said says r)
+  reply_is_right r t =
+      let w = taken_was_said r t in
+      elim (at_most_one x.0 0 serves.log rising numbered) [
+        | inl none ↦ absurd (subst (In w.call) none w.executed)
+        | inr one ↦ (
+            let e : w.call ≡ one.0 = elim (subst (In w.call) one.1 w.executed) [ inl k ↦ k | inr k ↦ absurd k ] in
+            record {
+              asks = w.call.asks;
+              says = w.call.says;
+              executed = ran_one serves.log w.call (one.1 ∙ ap (λ z. z ∷ []) (sym e)) serves.ran;
+              asks_alike = w.asks_alike;
+              says_so = w.says_alike;
+            }
+            )
+      ]
+
+module _ {A Q R : Type 0} (executes : A → Q → R → A → Type 0) (alike_asked : Q → Q → Type 0) (alike_said : R → R → Type 0)
+    {takes : Tree → Type 0} {holds : List ℕ → Tree → Type 0} {reads : Tree → ℕ × Q → Type 0} {writes : ℕ × Q → Option Tree} {valid : ℕ × Q → Type 0}
+    {takes' : Tree → Type 0} {holds' : List ℕ → Tree → Type 0} {reads' : Tree → ℕ × R → Type 0} {writes' : ℕ × R → Option Tree} {valid' : ℕ × R → Type 0}
+    (taken : (v : ℕ × Q) (t : Tree) → valid v → writes v ≡ Some t → takes t) (taken' : (v : ℕ × R) (t : Tree) → valid' v → writes' v ≡ Some t → takes' t)
+    (hears : HearsSent takes holds reads (AlikePairs (λ m m'. m ≡ m') alike_asked) writes valid) (once : ExecutesOnce Q R)
+    (right : RepliesAreRight alike_asked alike_said (WentOver takes holds reads writes valid) (WentOver takes' holds' reads' writes' valid'))
+    {limit s limit' s' : ℕ} {old new : A} {x : ℕ × Q} {pending : Option (ℕ × Q)} {requests requests' replies replies' : List ℕ} where
+  -- what came of a call: the reply, where one was taken, and what the application did
+  pub outcome : AsksOnly limit s writes valid x pending requests → ServesLine executes holds reads writes' valid' limit s limit' s' old new requests' replies → requests' ≡ requests → replies' ≡ replies
+      → (said : Option R) → IfSome said (TakesReply holds' reads' limit' s' pending replies')
+      → IfSome said (λ r. ExecutedOnce executes alike_asked old new x.1 (λ says. alike_said says r)) × ExecutedAtMostOnce {R = R} executes alike_asked old new x.1
+  outcome asks serves e f said takes_it =
+      let there = subst (λ b. ServesLine executes holds reads writes' valid' limit s limit' s' old new b replies) e serves in
+      (of said takes_it there, executed_at_most_once executes alike_asked alike_said taken taken' hears once right asks there)
+    where
+      of : (o : Option R) → IfSome o (TakesReply holds' reads' limit' s' pending replies') → ServesLine executes holds reads writes' valid' limit s limit' s' old new requests replies
+          → IfSome o (λ r. ExecutedOnce executes alike_asked old new x.1 (λ says. alike_said says r))
+      of None t there = tt
+      of (Some r) t there = reply_is_right executes alike_asked alike_said taken taken' hears once right asks there r (subst (λ b. TakesReply holds' reads' limit' s' pending b r) f t)

@@ -1,0 +1,184 @@
+-- What each side of an exchange does, by what the calls say.
+use Rattle.std.proofs.Common.{◌≡◌, ℕ, Bool, true, false, cond, eqb, List, [], ◌∷◌, ◌++◌, Option, Some, None, Result, Ok, Err, refl, sym, ap, ◌∙◌, subst, inl, inr, ◌⊎◌, arith, append_assoc}
+use Rattle.std.specs.List.{AllByRecursion}
+use Rattle.std.specs.Prelude.{IfSome}
+use Rattle.std.proofs.lemmas.Bool.{eqb-true, le-ltb}
+use Rattle.postcard_tree.specs.Tree.{Tree}
+use Rattle.link.specs.Stream.{too_long}
+use Rattle.link.specs.Decoding.{Inside}
+use Rattle.link.specs.Listening.{HasRead, HasGiven, IsReceived, Stopped}
+use Rattle.link.specs.Each.{HasReadNow, IsHeardNow}
+use Rattle.link.specs.declared.reception.Reception.{Reception}
+use Rattle.link.specs.declared.sender.SendError.{SendError}
+use Rattle.link.specs.declared.receiver.Answer.{Answer}
+use Rattle.link.specs.declared.receiver.Answer.TheVariants.{Value, Damaged, TooLong, Cut}
+use Rattle.link.specs.declared.listening.End.{End}
+use Rattle.link.specs.declared.listening.End.TheVariants.{Ended, ReadFault, NoMemory}
+use Rattle.calls.specs.Calls.{In, ServesAll}
+use Rattle.calls.specs.Places.{SenderPlace, HasSaid}
+use Rattle.calls.specs.Asking.{Asker, stepped, calls, ends, IsCalled, IsRepeated}
+use Rattle.calls.specs.Serving.{requests_of, Executes}
+use Rattle.calls.specs.ServedLaws.{says_none, says_one, says_then}
+use Rattle.calls.specs.Waits.{Waiter, after_reply, after_answers}
+use Rattle.calls.specs.declared.client.CallError.{CallError}
+use Rattle.calls.specs.declared.client.CallError.TheVariants.{Full, Idle, Unsent}
+use Rattle.calls_laws.specs.Exchange.{HeardFront, Repeats, AsksOnly, ServesLine, TakesReply}
+use Rattle.calls_laws.proofs.FrontsLemmas.{in_first}
+
+pub inside : {A : Type 0} {x y : A} → Some x ≡ Some y → x ≡ y
+inside e = cc
+
+module _ {Q : Type 0} (limit : ℕ) (writes : ℕ × Q → Option Tree) (valid : ℕ × Q → Type 0) where
+  one_sent : (old new : Asker Q) (q : Q) (P P' : SenderPlace) (r : Result (Unit {0}) SendError) → new ≡ stepped old (calls q) → HasSaid limit (writes (old.next, q)) (valid (old.next, q)) P P' r
+      → Repeats limit writes valid (old.next, q) new.pending P P'
+  one_sent old new q P P' r e h =
+      let x = says_one limit writes valid (old.next, q) P P' r h in
+      record {
+        messages = (old.next, q) ∷ [];
+        fates = x.0 ∷ [];
+        said = x.1;
+        sentinel = h.sentinel;
+        only = (refl, tt);
+        sent = λ p f. (inside (sym f ∙ ap (λ (a : Asker Q). a.pending) e), inl refl);
+      }
+
+  pub called : (old new : Asker Q) (q : Q) (r : Result (Unit {0}) CallError) (P P' : SenderPlace) (same : Type 0) → (same → P' ≡ P) → old.pending ≡ None
+      → IsCalled old new q r same (λ p x. HasSaid limit (writes p) (valid p) P P' x) → Repeats limit writes valid (old.next, q) new.pending P P'
+  called old new q (Ok u) P P' same stays idle h = one_sent old new q P P' (Ok tt) h.0 h.1
+  called old new q (Err (Unsent e)) P P' same stays idle h = one_sent old new q P P' (Err e) h.0 h.1
+  called old new q (Err Full) P P' same stays idle h =
+      subst (λ z. Repeats limit writes valid (old.next, q) new.pending P z) (sym (stays h.1)) (record {
+        messages = [];
+        fates = [];
+        said = says_none limit writes valid P;
+        sentinel = refl;
+        only = tt;
+        sent = λ p f. absurd (let no : ◌≡◌ {A = Option (ℕ × Q)} None (Some p) = sym idle ∙ sym (ap (λ (a : Asker Q). a.pending) h.0) ∙ f in cc);
+      })
+  called old new q (Err Idle) P P' same stays idle h = absurd h
+
+  all_more : (x p : ℕ × Q) (ms : List (ℕ × Q)) → AllByRecursion (λ m. m ≡ x) ms → p ≡ x → AllByRecursion (λ m. m ≡ x) (ms ++ (p ∷ []))
+  all_more x p [] h e = (e, tt)
+  all_more x p (m ∷ ms) h e = (h.0, all_more x p ms h.1 e)
+
+  one_more : (x p : ℕ × Q) (old new : Asker Q) (r : Result (Unit {0}) SendError) (P0 P P' : SenderPlace) → Repeats limit writes valid x old.pending P0 P → new ≡ old → old.pending ≡ Some p
+      → HasSaid limit (writes p) (valid p) P P' r → Repeats limit writes valid x new.pending P0 P'
+  one_more x p old new r P0 P P' k e is h =
+      let one = says_one limit writes valid p P P' r h in
+      record {
+        messages = k.messages ++ (p ∷ []);
+        fates = k.fates ++ (one.0 ∷ []);
+        said = says_then limit writes valid P0 P P' k.messages (p ∷ []) k.fates (one.0 ∷ []) k.sentinel k.said one.1;
+        sentinel = h.sentinel ∙ k.sentinel;
+        only = all_more x p k.messages k.only (k.sent p is).0;
+        sent = λ q f. let z = k.sent q (sym (ap (λ (a : Asker Q). a.pending) e) ∙ f) in (z.0, in_first x k.messages (p ∷ []) z.1);
+      }
+
+  pub repeated : (x : ℕ × Q) (old new : Asker Q) (r : Result (Unit {0}) CallError) (P0 P P' : SenderPlace) (same : Type 0) → (same → P' ≡ P) → Repeats limit writes valid x old.pending P0 P
+      → IsRepeated old new r same (λ p z. HasSaid limit (writes p) (valid p) P P' z) → Repeats limit writes valid x new.pending P0 P'
+  repeated x old new (Ok u) P0 P P' same stays k h = one_more x h.1 old new (Ok tt) P0 P P' k h.0 h.2 h.3
+  repeated x old new (Err (Unsent e)) P0 P P' same stays k h = one_more x h.1 old new (Err e) P0 P P' k h.0 h.2 h.3
+  repeated x old new (Err Full) P0 P P' same stays k h = absurd h
+  repeated x old new (Err Idle) P0 P P' same stays k h =
+      subst (λ z. Repeats limit writes valid x new.pending P0 z) (sym (stays h.1))
+      (subst (λ (a : Asker Q). Repeats limit writes valid x a.pending P0 P) (sym h.0) k)
+
+-- a reader that tells what comes gave a front of that
+pub front_read : (end : End) (old new : List ℕ) (before after calls_left : ℕ) (bytes : List ℕ) → HasRead (Some old) (Some new) before after calls_left end bytes → old ≡ bytes ++ new
+front_read Ended old new before after calls_left bytes h = h.0.came
+front_read ReadFault old new before after calls_left bytes h = h.0.came
+front_read NoMemory old new before after calls_left bytes h = h.0.came
+
+module _ {V : Type 0} (holds : List ℕ → Tree → Type 0) (reads : Tree → V → Type 0) (limit s : ℕ) where
+  given_front : (all bytes rest : List ℕ) (answers : List (Answer V)) → all ≡ bytes ++ rest → HasGiven holds reads limit s answers bytes → HeardFront holds reads limit s all answers
+  given_front all bytes rest answers e h = record { front = bytes; rest = rest; parts = e; end = ReadFault; received = h }
+
+  stopped_front : (all bytes rest : List ℕ) (answers : List (Answer V)) → all ≡ bytes ++ rest → Stopped holds reads limit s answers bytes → HeardFront holds reads limit s all answers
+  stopped_front all bytes rest answers e h =
+      given_front all h.front (h.rest ++ rest) answers (e ∙ ap (λ x. x ++ rest) h.parts ∙ append_assoc h.front h.rest rest) h.given
+
+  -- what was heard by now, of a reader that tells what comes
+  heard_by_now : {D : Type 0} (inner : D → Inside) (result : Option End) (r : Reception D) (old new : List ℕ) (before after calls_left : ℕ) (bytes : List ℕ) (answers : List (Answer V))
+      → HasReadNow (Some old) (Some new) before after calls_left result bytes → IsHeardNow inner holds reads limit s result r answers bytes → HeardFront holds reads limit s old answers
+  heard_by_now inner None r old new before after calls_left bytes answers k h = given_front old bytes new answers k.0.came h.given
+  heard_by_now inner (Some Ended) r old new before after calls_left bytes answers k h = given_front old bytes new answers k.0.came h.given
+  heard_by_now inner (Some ReadFault) r old new before after calls_left bytes answers k h = given_front old bytes new answers k.0.came h.given
+  heard_by_now inner (Some NoMemory) r old new before after calls_left bytes answers k h = stopped_front old bytes new answers k.0.came h
+
+  pub heard_of : {D : Type 0} (inner : D → Inside) (result : Option End) (r : Reception D) (all old new : List ℕ) (before after calls_left : ℕ) (bytes : List ℕ) (answers : List (Answer V)) → old ≡ all
+      → HasReadNow (Some old) (Some new) before after calls_left result bytes → IsHeardNow inner holds reads limit s result r answers bytes → HeardFront holds reads limit s all answers
+  heard_of inner result r all old new before after calls_left bytes answers e k h =
+      subst (λ x. HeardFront holds reads limit s x answers) e (heard_by_now inner result r old new before after calls_left bytes answers k h)
+
+module _ {Q R : Type 0} where
+  -- a reply was said to a client that waits: before these answers, or by one of them to its pending call
+  abbrev pub SaidTo : Waiter Q R → List (Answer (ℕ × R)) → R → Type 0
+  SaidTo w answers r = (w.said ≡ Some r) ⊎ ((n : ℕ) × (q : Q) × (w.asker.pending ≡ Some (n, q)) × In (n, r) (requests_of answers))
+
+  by_reply : (w : Waiter Q R) (pending : Option (ℕ × Q)) (n : ℕ) (x : R) (answers : List (Answer (ℕ × R))) (r : R) → w.asker.pending ≡ pending
+      → SaidTo (after_reply w pending n x) answers r → SaidTo w (Value (n, x) ∷ answers) r
+  by_reply w None n x answers r e (inl f) = inl f
+  by_reply w None n x answers r e (inr k) = inr (k.0, k.1, k.2, inr k.3)
+  by_reply w (Some p) n x answers r e h = numbered (eqb n p.0) refl h
+    where
+      numbered : (b : Bool) → eqb n p.0 ≡ b → SaidTo (cond b (let v : Waiter Q R = record { asker = stepped w.asker ends; said = Some x } in v) w) answers r → SaidTo w (Value (n, x) ∷ answers) r
+      numbered true f (inl g) = inr (p.0, p.1, e, inl (let d : n ≡ p.0 = eqb-true n p.0 f in let k : x ≡ r = inside g in cc))
+      numbered true f (inr k) = absurd (let no : ◌≡◌ {A = Option (ℕ × Q)} None (Some (k.0, k.1)) = k.2 in cc)
+      numbered false f (inl g) = inl g
+      numbered false f (inr k) = inr (k.0, k.1, k.2, inr k.3)
+
+  pub said_to : (w : Waiter Q R) (answers : List (Answer (ℕ × R))) (r : R) → (after_answers w answers).said ≡ Some r → SaidTo w answers r
+  said_to w [] r e = inl e
+  said_to w (Value p ∷ answers) r e = by_reply w w.asker.pending p.0 p.1 answers r refl (said_to (after_reply w w.asker.pending p.0 p.1) answers r e)
+  said_to w (Damaged ∷ answers) r e = said_to w answers r e
+  said_to w (TooLong ∷ answers) r e = said_to w answers r e
+  said_to w (Cut ∷ answers) r e = said_to w answers r e
+
+-- nothing is given of nothing
+pub nothing_given : {V : Type 0} (holds : List ℕ → Tree → Type 0) (reads : Tree → V → Type 0) (limit s : ℕ) → HasGiven holds reads limit s [] []
+nothing_given holds reads limit s = record {
+  verdicts = [];
+  given = record { done = []; each = tt; whole = sym (ap (λ b. cond b (too_long ∷ []) []) (le-ltb limit 0 (omega arith))) };
+  matching = tt;
+}
+
+-- what a client left on an empty line that calls, and sends its call again
+pub asks_only : {Q : Type 0} (limit s : ℕ) (writes : ℕ × Q → Option Tree) (valid : ℕ × Q → Type 0) (n m : ℕ) (q : Q) (p p' : Option (ℕ × Q)) (start stop : SenderPlace) (bytes : List ℕ)
+    → Repeats limit writes valid (n, q) p start stop → n ≡ m → p' ≡ p → start.told ≡ Some [] → start.clean ≡ false → start.sentinel ≡ s → stop.told ≡ Some bytes
+    → AsksOnly limit s writes valid (m, q) p' bytes
+asks_only limit s writes valid n m q p p' start stop bytes r e f empty fresh sentinel told =
+    subst (λ z. AsksOnly limit s writes valid (z, q) p' bytes) e (record {
+      messages = r.messages;
+      left = record { start = start; stop = stop; fates = r.fates; said = r.said; empty = empty; fresh = fresh; sentinel = sentinel; told = told };
+      only = r.only;
+      sent = λ y k. r.sent y (sym f ∙ k);
+    })
+
+-- what a new server did over an empty line, with the requests of a reader that tells what comes
+pub serves_line : {A Q R : Type 0} (executes : A → Q → R → A → Type 0) (holds : List ℕ → Tree → Type 0) (reads : Tree → ℕ × Q → Type 0) (writes : ℕ × R → Option Tree) (valid : ℕ × R → Type 0)
+    (limit s limit' s' : ℕ) (old new : A) (kept later : Option (ℕ × R)) (start stop : SenderPlace) (requests replies bytes rest : List ℕ) (end : End) (heard : List (Answer (ℕ × Q)))
+    → Executes executes limit' writes valid old new kept later start stop (requests_of heard) → IsReceived holds reads limit s end heard bytes → requests ≡ bytes ++ rest
+    → kept ≡ None → start.told ≡ Some [] → start.clean ≡ false → start.sentinel ≡ s' → stop.told ≡ Some replies
+    → ServesLine executes holds reads writes valid limit s limit' s' old new requests replies
+serves_line executes holds reads writes valid limit s limit' s' old new kept later start stop requests replies bytes rest end heard e received parts none empty fresh sentinel told = record {
+  heard = heard;
+  over = record { front = bytes; rest = rest; parts = parts; end = end; received = received };
+  log = e.log;
+  out = e.out;
+  later = later;
+  served = subst (λ k. ServesAll k (requests_of heard) e.log e.out later) none e.served;
+  ran = e.ran;
+  left = record { start = start; stop = stop; fates = e.fates; said = e.replied; empty = empty; fresh = fresh; sentinel = sentinel; told = told };
+}
+
+-- what a client took as its reply that had taken none before
+pub takes_reply : {Q R : Type 0} (holds : List ℕ → Tree → Type 0) (reads : Tree → ℕ × R → Type 0) (limit s : ℕ) (w w' : Waiter Q R) (replies : List ℕ) (heard : List (Answer (ℕ × R)))
+    → w.said ≡ None → w' ≡ after_answers w heard → HeardFront holds reads limit s replies heard → IfSome w'.said (TakesReply holds reads limit s w.asker.pending replies)
+takes_reply {Q} {R} holds reads limit s w w' replies heard none after over = by w'.said refl
+  where
+    by : (o : Option R) → w'.said ≡ o → IfSome o (TakesReply holds reads limit s w.asker.pending replies)
+    by None e = tt
+    by (Some r) e = elim (said_to w heard r (sym (ap (λ (v : Waiter Q R). v.said) after) ∙ e)) [
+      | inl f ↦ absurd (let no : ◌≡◌ {A = Option R} None (Some r) = sym none ∙ f in cc)
+      | inr k ↦ record { heard = heard; over = over; number = k.0; asked = k.1; is_pending = k.2; said = k.3 }
+    ]

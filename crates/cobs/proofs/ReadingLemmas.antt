@@ -1,0 +1,204 @@
+-- Decoding over the source: how far it has come.
+use Rattle.std.proofs.Common.{◌≡◌, ◌≢◌, ℕ, zero, suc, ◌+◌, ◌-◌, ◌^◌, ◌<◌, ◌≤◌, ◌==◌, if◌then◌else◌, Bool, false, List, [], ◌∷◌, ◌++◌, length, take, drop, get_or, ◌⊎◌, inl, inr, refl, ap, sym, ◌∙◌, arith, subst, Result, Ok, Err}
+use Rattle.std.proofs.lemmas.List.{take_more, take_all, take-append-drop, length-take-le, drop_more}
+use Rattle.std.proofs.lemmas.Bool.{eq-eqb, ne_eqb}
+use Rattle.std.specs.Prelude.{bit_xor}
+use Rattle.std.specs.Int.Bits.{xor_self}
+use Rattle.cobs.specs.Frames.{Frame, part, after, missing}
+use Rattle.cobs.specs.Feeding.{fed, standing, placed}
+use Rattle.cobs.specs.InPlace.{stretch, in_place, overwritten}
+use Rattle.cobs.specs.Reports.{report}
+use Rattle.cobs.specs.Sentinel.{masked}
+use Rattle.cobs.specs.declared.dec.state.DecoderState.{DecoderState}
+use Rattle.cobs.specs.declared.dec.progress.Progress.{Progress}
+use Rattle.cobs.specs.Streaming.{HasStreamed}
+use Rattle.cobs.specs.declared.dec.state.DecodeResult.{DecodeResult}
+use Rattle.cobs.specs.declared.dec.report.DecodeError.{DecodeError}
+use Rattle.cobs.specs.declared.dec.report.DecodeError.TheVariants.{InvalidFrame}
+use Rattle.cobs.specs.declared.dec.state.DecodeResult.TheVariants.{DataComplete}
+use Rattle.cobs.proofs.DecodingLemmas.{Stretch, part_shorter, stretch_frame, frame_ends}
+use Rattle.cobs.proofs.FeedsLemmas.{fed_zero}
+use Rattle.cobs.proofs.MaskingLemmas.{masked_length, masked_get}
+use Rattle.cobs.proofs.OverwritingLemmas.{placed_on, behind, front, rest, length-overwritten}
+
+stretch_push : (bytes : List ℕ) (byte : ℕ) → Stretch bytes → 0 < byte → byte < 256 → Stretch (bytes ++ byte ∷ [])
+stretch_push [] byte h p w = ((p, w), tt)
+stretch_push (x ∷ bytes) byte h p w = (h.0, stretch_push bytes byte h.1 p w)
+
+-- The first bytes of a source are of a frame, and were taken in.
+pub record Reads (source : List ℕ) (read : ℕ) (d : Progress) : Type 0 where
+  pub within : read ≤ length source
+  pub small : length source < 2 ^ 64
+  pub clear : Stretch (take read source)
+  pub stands : HasStreamed d (take read source)
+
+-- nothing is left, or a zero comes
+abbrev pub Ends : List ℕ → ℕ → Type 0
+Ends source read = (length source ≤ read) ⊎ ((read < length source) × (get_or source read 0 ≡ 0))
+
+module _ (source : List ℕ) (read : ℕ) (d : Progress) (r : Reads source read d) where
+  -- all of the message so far is counted, and is shorter
+  pub counted : d.len ≡ length (part (take read source))
+  counted = omega (arith, r.stands.len, r.within, r.small, part_shorter (take read source), length-take-le read source r.within)
+
+  pub shorter : d.len ≤ read - 1
+  shorter = omega (arith, counted, part_shorter (take read source), length-take-le read source r.within)
+
+  -- a byte more
+  pub reads_on : (d' : Progress) → read < length source → 0 < get_or source read 0 → get_or source read 0 < 256 → HasStreamed d' (take read source ++ get_or source read 0 ∷ []) → Reads source (read + 1) d'
+  reads_on d' l p w t =
+      let more : take (read + 1) source ≡ take read source ++ get_or source read 0 ∷ [] = take_more source read 0 l in
+      record {
+        within = omega arith;
+        small = r.small;
+        clear = subst Stretch (sym more) (stretch_push (take read source) (get_or source read 0) r.clear p w);
+        stands = subst (HasStreamed d') (sym more) t;
+      }
+
+-- where the bytes before the first zero end
+stretch_all : (bytes : List ℕ) → Stretch bytes → stretch bytes ≡ bytes
+stretch_all [] h = refl
+stretch_all (byte ∷ bytes) h = rw (ne_eqb byte 0 (λ e. omega (arith, h.0))) (ap (λ b. byte ∷ b) (stretch_all bytes h.1))
+
+stretch_ends : (bytes rest : List ℕ) → Stretch bytes → stretch (bytes ++ 0 ∷ rest) ≡ bytes
+stretch_ends [] rest h = refl
+stretch_ends (byte ∷ bytes) rest h = rw (ne_eqb byte 0 (λ e. omega (arith, h.0))) (ap (λ b. byte ∷ b) (stretch_ends bytes rest h.1))
+
+stretch_is : (source : List ℕ) (read : ℕ) (d : Progress) → Reads source read d → Ends source read → stretch source ≡ take read source
+stretch_is source read d r (inl e) =
+    let all : take read source ≡ source = take_all read source e in
+    ap stretch (sym all) ∙ stretch_all (take read source) r.clear
+stretch_is source read d r (inr e) =
+    ap stretch (sym (take-append-drop read source) ∙ ap (λ d. take read source ++ d) (drop_more source read 0 e.0 ∙ ap (λ b. b ∷ drop (read + 1) source) e.1))
+    ∙ stretch_ends (take read source) (drop (read + 1) source) r.clear
+
+-- all of the stretch was taken in
+pub record Done (source : List ℕ) (read : ℕ) (d : Progress) : Type 0 where
+  pub parsed : read ≡ length (stretch source)
+  pub stands : d.state ≡ standing (stretch source)
+  pub counts : d.len ≡ length (part (stretch source))
+  pub clear : Stretch (stretch source)
+
+pub done : (source : List ℕ) (read : ℕ) (d : Progress) → Reads source read d → Ends source read → Done source read d
+done source read d r e =
+    let s = stretch_is source read d r e in
+    record {
+      parsed = sym (ap length s ∙ length-take-le read source r.within);
+      stands = r.stands.state ∙ ap standing (sym s);
+      counts = counted source read d r ∙ ap (λ b. length (part b)) (sym s);
+      clear = subst Stretch (sym s) r.clear;
+    }
+
+-- what the zero behind a stretch tells
+zero_tells : (bytes : List ℕ) (d : DecodeResult) → fed (standing bytes) 0 ≡ Ok d → missing bytes ≡ 0
+zero_tells [] d e = refl
+zero_tells (code ∷ bytes) d e = let a = after 0 false (code ∷ bytes) in tells a.0 a.1 (sym (fed_zero a.0 a.1) ∙ e)
+  where
+    tells : (left : ℕ) (owed : Bool) → (if left == 0 then Ok DataComplete else Err (InvalidFrame 0)) ≡ Ok d → left ≡ 0
+    tells zero owed f = refl
+    tells (suc left) owed f = let g : ◌≡◌ {A = Result DecodeResult DecodeError} (Err (InvalidFrame 0)) (Ok d) = rw (ne_eqb (suc left) 0 (λ z. omega arith)) at f in cc
+
+zero_refuses : (bytes : List ℕ) (x : DecodeError) → fed (standing bytes) 0 ≡ Err x → missing bytes ≡ 0 → ⊥
+zero_refuses [] x e m = cc
+zero_refuses (code ∷ bytes) x e m =
+    let a = after 0 false (code ∷ bytes) in
+    refuses a.0 a.1 (sym (fed_zero a.0 a.1) ∙ e) m
+  where
+    refuses : (left : ℕ) (owed : Bool) → (if left == 0 then Ok DataComplete else Err (InvalidFrame 0)) ≡ Err x → left ≡ 0 → ⊥
+    refuses zero owed f m = cc
+    refuses (suc left) owed f m = omega arith
+
+-- the same from a state
+pub ends_whole : (bytes : List ℕ) (state : DecoderState) (d : DecodeResult) → state ≡ standing bytes → fed state 0 ≡ Ok d → missing bytes ≡ 0
+ends_whole bytes state d s e = zero_tells bytes d (sym (ap (λ z. fed z 0) s) ∙ e)
+
+pub ends_broken : (bytes : List ℕ) (state : DecoderState) (x : DecodeError) → state ≡ standing bytes → fed state 0 ≡ Err x → missing bytes ≡ 0 → ⊥
+ends_broken bytes state x s e = zero_refuses bytes x (sym (ap (λ z. fed z 0) s) ∙ e)
+
+-- the answers of decoding in place
+module _ (source : List ℕ) (read : ℕ) (p : Progress) (t : Done source read p) where
+  pub whole : (d : DecodeResult) → fed p.state 0 ≡ Ok d → Ok (report read p.len) ≡ in_place (stretch source)
+  whole d e =
+      let m : missing (stretch source) ≡ 0 = ends_whole (stretch source) p.state d t.stands e in
+      rw (eq-eqb (missing (stretch source)) 0 m, t.parsed, t.counts) refl
+
+  pub broken : (x : DecodeError) → fed p.state 0 ≡ Err x → Err (InvalidFrame p.len) ≡ in_place (stretch source)
+  broken x e =
+      let m : missing (stretch source) ≡ 0 → ⊥ = ends_broken (stretch source) p.state x t.stands e in
+      rw (ne_eqb (missing (stretch source)) 0 m, t.counts) refl
+
+  -- by frames
+  pub is_frame : (d : DecodeResult) → fed p.state 0 ≡ Ok d → (room buffer : List ℕ) → buffer ≡ overwritten (part (stretch source)) room → p.len ≤ length room → stretch source ≢ [] → Frame (stretch source) (take p.len buffer)
+  is_frame d e room buffer h l n =
+      let m : missing (stretch source) ≡ 0 = ends_whole (stretch source) p.state d t.stands e in
+      rw (h, front room (part (stretch source)) p.len t.counts l) (stretch_frame (stretch source) t.clear n m)
+
+  pub no_frame : (x : DecodeError) → fed p.state 0 ≡ Err x → (message : List ℕ) → Frame (stretch source) message → ⊥
+  no_frame x e message f = ends_broken (stretch source) p.state x t.stands e (frame_ends (stretch source) message f)
+
+-- The bytes that were read stand in the buffer as what they decode to, and then the source's, which are XORed once they are read.
+pub record Reading (sentinel : ℕ) (source buffer : List ℕ) (read : ℕ) (d : Progress) : Type 0 where
+  pub reads : Reads (masked sentinel source) read d
+  pub holds : buffer ≡ overwritten (part (take read (masked sentinel source))) source
+  pub long : length buffer ≡ length source
+
+-- the sentinel comes, or nothing is left
+abbrev pub EndsAt : ℕ → List ℕ → ℕ → Type 0
+EndsAt sentinel buffer read = (length buffer ≤ read) ⊎ ((read < length buffer) × (get_or buffer read 0 ≡ sentinel))
+
+module _ (sentinel : ℕ) (source buffer : List ℕ) (read : ℕ) (d : Progress) (r : Reading sentinel source buffer read d) where
+  abbrev bytes : List ℕ
+  bytes = masked sentinel source
+
+  whole_length : length bytes ≡ length source
+  whole_length = masked_length sentinel source
+
+  -- what comes next is as it was
+  same_byte : read < length source → get_or bytes read 0 ≡ bit_xor sentinel (get_or buffer read 0)
+  same_byte l =
+      masked_get sentinel source read l
+      ∙ ap (bit_xor sentinel) (sym (ap (λ b. get_or b read 0) r.holds ∙ behind (part (take read bytes)) source read (omega (arith, shorter bytes read d r.reads, counted bytes read d r.reads)) l))
+
+  pub reading_on : (buffer' : List ℕ) (d' : Progress) → read < length buffer → 0 < bit_xor sentinel (get_or buffer read 0) → bit_xor sentinel (get_or buffer read 0) < 256
+      → ((p : List ℕ) → HasStreamed d p → HasStreamed d' (p ++ bit_xor sentinel (get_or buffer read 0) ∷ []))
+      → ((p : List ℕ) → HasStreamed d p → buffer' ≡ placed p (bit_xor sentinel (get_or buffer read 0)) buffer)
+      → Reading sentinel source buffer' (read + 1) d'
+  reading_on buffer' d' l p w t h =
+      let inside : read < length source = omega (arith, r.long) in
+      let within : read < length bytes = omega (arith, inside, whole_length) in
+      let same : bit_xor sentinel (get_or buffer read 0) ≡ get_or bytes read 0 = sym (same_byte inside) in
+      let t' = rw same at (t (take read bytes) r.reads.stands) in
+      let h' = rw same at (h (take read bytes) r.reads.stands) in
+      let p' : 0 < get_or bytes read 0 = rw same at p in
+      let w' : get_or bytes read 0 < 256 = rw same at w in
+      let holds' : buffer' ≡ overwritten (part (take (read + 1) bytes)) source = h' ∙ placed_on (take read bytes) (get_or bytes read 0) source buffer p' r.holds ∙ ap (λ b. overwritten (part b) source) (sym (take_more bytes read 0 within)) in
+      record {
+        reads = reads_on bytes read d r.reads d' within p' w' t';
+        holds = holds';
+        long = ap length holds' ∙ length-overwritten (part (take (read + 1) bytes)) source;
+      }
+
+  module _ (e : EndsAt sentinel buffer read) where
+    -- at the end
+    source_ends : Ends bytes read
+    source_ends = elim e [
+      | inl l ↦ inl (omega (arith, r.long, l, whole_length))
+      | inr z ↦
+          let inside : read < length source = omega (arith, r.long, z.0) in
+          inr (omega (arith, inside, whole_length), same_byte inside ∙ ap (bit_xor sentinel) z.1 ∙ xor_self sentinel)
+    ]
+
+    pub reading_done : Done bytes read d
+    reading_done = done bytes read d r.reads source_ends
+
+    pub reading_holds : buffer ≡ overwritten (part (stretch bytes)) source
+    reading_holds = r.holds ∙ ap (λ b. overwritten (part b) source) (sym (stretch_is bytes read d r.reads source_ends))
+
+    pub reading_rest : drop (length (stretch bytes)) buffer ≡ drop (length (stretch bytes)) source
+    reading_rest =
+        let e' = reading_done in
+        ap (drop (length (stretch bytes))) reading_holds
+        ∙ rest source (part (stretch bytes)) (length (stretch bytes)) (omega (arith, part_shorter (stretch bytes))) (omega (arith, e'.parsed, r.reads.within, whole_length))
+
+    pub reading_short : d.len ≤ length source
+    reading_short = omega (arith, shorter bytes read d r.reads, r.reads.within, whole_length)

@@ -1,0 +1,156 @@
+-- Frames that are decoded at once, since there is room for them.
+use Rattle.std.proofs.Common.{◌≡◌, ◌≢◌, ℕ, pred, ◌+◌, ◌-◌, ◌^◌, ◌<◌, ◌≤◌, nat_lt, Bool, true, false, List, [], ◌∷◌, ◌++◌, length, take, drop, get_or, length-drop, Result, Option, Some, Ok, Err, inl, inr, refl, ap, sym, subst, ◌∙◌, arith}
+use Rattle.std.proofs.lemmas.List.{take_all, take_more, length-take-le}
+use Rattle.std.proofs.lemmas.Bool.{eq-eqb, ne_eqb, le-ltb, lt-ltb}
+use Rattle.std.proofs.lemmas.Bool.Decides.{eqb_tells}
+use Rattle.std.specs.Prelude.{bit_xor}
+use Rattle.cobs.specs.Frames.{NoZero, part, part_from, after, missing}
+use Rattle.cobs.specs.Feeding.{stands_by, standing, at_zero, placed}
+use Rattle.cobs.specs.InPlace.{overwritten}
+use Rattle.cobs.specs.Sentinel.{masked}
+use Rattle.cobs.specs.Streaming.{HasStreamed}
+use Rattle.cobs.specs.Taking.{left_in, TakesFront}
+use Rattle.cobs.specs.Whole.{decoded_into}
+use Rattle.cobs.specs.declared.dec.report.DecodeError.{DecodeError}
+use Rattle.cobs.specs.declared.dec.report.DecodeError.TheVariants.{InvalidFrame}
+use Rattle.cobs.specs.declared.dec.state.DecoderState.{DecoderState}
+use Rattle.cobs.specs.declared.dec.state.DecoderState.TheVariants.{GrabChain}
+use Rattle.cobs.specs.declared.dec.progress.Progress.{Progress}
+use Rattle.cobs.proofs.DecodingLemmas.{part_shorter}
+use Rattle.cobs.proofs.MaskingLemmas.{masked_length, masked_drop}
+use Rattle.cobs.proofs.OverwritingLemmas.{overwritten_short, placed_on, length-overwritten}
+use Rattle.cobs.proofs.PassingLemmas.{all_placed, placed_over}
+use Rattle.cobs.proofs.SourcesLemmas.{clear_at}
+use Rattle.cobs.proofs.WindowsLemmas.{one_part, one_after}
+use Rattle.cobs.proofs.WithinLemmas.{placed_front}
+use Rattle.cobs.proofs.WrittenLemmas.{front_then}
+
+-- a code and what is behind it
+pub code_first : (sentinel : ℕ) (frame : List ℕ) → 0 < length frame → masked sentinel frame ≡ bit_xor sentinel (get_or frame 0 0) ∷ masked sentinel (drop 1 frame)
+code_first s [] l = absurd (omega arith)
+code_first s (b ∷ frame) l = refl
+
+pub code_positive : (sentinel : ℕ) (frame : List ℕ) → 0 < length frame → NoZero (masked sentinel frame) → 0 < bit_xor sentinel (get_or frame 0 0)
+code_positive s [] l h = absurd (omega arith)
+code_positive s (b ∷ frame) l h = h.0
+
+pub bytes_positive : (sentinel : ℕ) (frame : List ℕ) → 0 < length frame → NoZero (masked sentinel frame) → (k : ℕ) → k < length (drop 1 frame) → 0 < get_or (masked sentinel (drop 1 frame)) k 0
+bytes_positive s [] l h k q = absurd (omega arith)
+bytes_positive s (b ∷ frame) l h k q = clear_at (masked s frame) k h.1 (omega (arith, q, masked_length s frame))
+
+-- What was taken in of a frame, whose code is first, stands in the front of a buffer.
+pub record Taken (frame old new : List ℕ) (d : Progress) : Type 0 where
+  pub stands : HasStreamed d frame
+  pub holds : new ≡ overwritten (part frame) old
+
+module _ (frame bytes out old new : List ℕ) (code n : ℕ) (state : DecoderState) (f : frame ≡ code ∷ bytes) (few : length bytes ≤ 254) (long : length out ≡ n) (same : length bytes ≡ n) (room : n ≤ length old)
+    (put : new ≡ out ++ drop n old) where
+  taken : out ≡ part frame → state ≡ standing frame → Taken frame old new (record { state = state; len = n })
+  taken o s = record {
+    stands = record { state = s; len = omega (arith, ap length o, long, same, few) };
+    holds = put ∙ ap (λ m. m ++ drop n old) o ∙ ap (λ j. part frame ++ drop j old) (omega (arith, ap length o, long)) ∙ sym (overwritten_short (part frame) old (omega (arith, ap length o, long, room)));
+  }
+
+  -- behind the code of a full block
+  pub taken_full : code ≡ 255 → out ≡ bytes → state ≡ GrabChain (254 - n) → Taken frame old new (record { state = state; len = n })
+  taken_full e o s =
+      let is : frame ≡ 255 ∷ bytes = f ∙ ap (λ c. c ∷ bytes) e in
+      taken (o ∙ sym (ap part is ∙ one_part 254 false bytes few))
+      (s ∙ ap (λ k. GrabChain (254 - k)) (sym same) ∙ sym (ap standing is ∙ ap stands_by (one_after 254 false bytes few)))
+
+  -- behind another one
+  pub taken_open : 0 < code → code < 255 → out ≡ part_from (code - 1) true bytes → state ≡ stands_by (after (code - 1) true bytes) → Taken frame old new (record { state = state; len = n })
+  taken_open p l o s =
+      let owed : nat_lt code 255 ≡ true = lt-ltb code 255 l in
+      let left : code - 1 ≡ pred code = omega arith in
+      taken
+      (o ∙ ap (λ k. part_from k true bytes) left ∙ sym (ap part f ∙ ap (λ t. part_from (pred code) t bytes) owed))
+      (s ∙ ap (λ k. stands_by (after k true bytes)) left ∙ sym (ap standing f ∙ ap (λ t. stands_by (after (pred code) t bytes)) owed))
+
+-- how many bytes are missing
+left_of : (a : ℕ × Bool) → left_in (stands_by a) ≡ a.0
+left_of (n, true) = refl
+left_of (n, false) = refl
+
+left_missing : (frame : List ℕ) (state : DecoderState) → state ≡ standing frame → 0 < length frame → left_in state ≡ missing frame
+left_missing [] state s l = absurd (omega arith)
+left_missing (code ∷ bytes) state s l = ap left_in s ∙ left_of (after 0 false (code ∷ bytes))
+
+module _ (room : ℕ) (frame : List ℕ) (d : Progress) (s : HasStreamed d frame) (some : 0 < length frame) (few : length frame < 2 ^ 64) (fits : length frame ≤ room + 1) where
+  len_is : d.len ≡ length (part frame)
+  len_is = omega (arith, s.len, few, part_shorter frame)
+
+  pub short_whole : left_in d.state ≡ 0 → Ok d.len ≡ decoded_into room frame
+  short_whole z =
+      rw (eq-eqb (missing frame) 0 (sym (left_missing frame d.state s.state some) ∙ z), le-ltb room (length (part frame)) (omega (arith, fits, part_shorter frame))) (ap (λ n. Ok n) len_is)
+
+  pub short_broken : left_in d.state ≢ 0 → Err (InvalidFrame d.len) ≡ decoded_into room frame
+  short_broken z = rw (ne_eqb (missing frame) 0 (λ e. z (left_missing frame d.state s.state some ∙ e))) (ap (λ n. Err (InvalidFrame n)) len_is)
+
+-- the same as a streaming decoder's answer to the zero behind it
+abbrev pub as_at_zero : Result ℕ DecodeError → Result (Option ℕ) DecodeError
+as_at_zero (Ok n) = Ok (Some n)
+as_at_zero (Err e) = Err e
+
+pub zero_into : (room : ℕ) (frame : List ℕ) → 0 < length frame → length frame ≤ room + 1 → at_zero room frame ≡ as_at_zero (decoded_into room frame)
+zero_into room [] some l = absurd (omega arith)
+zero_into room (code ∷ bytes) some l =
+    let frame : List ℕ = code ∷ bytes in
+    let fits : length (part frame) ≤ room = omega (arith, l, part_shorter frame) in
+    elim (eqb_tells (missing frame) 0) [
+      | inl t ↦ rw (eq-eqb (missing frame) 0 t.1, le-ltb room (length (part frame)) fits) refl
+      | inr t ↦ rw (ne_eqb (missing frame) 0 t.1) (ap (λ n. Err (InvalidFrame n)) (omega (arith, fits)))
+    ]
+
+-- The first bytes of a frame were taken in.
+pub record Entering (bytes source dest : List ℕ) (read : ℕ) (d : Progress) : Type 0 where
+  pub within : read ≤ length bytes
+  pub stands : HasStreamed d (take read bytes)
+  pub holds : dest ≡ overwritten (part (take read bytes)) source
+
+pub entering_new : (bytes source : List ℕ) (d : Progress) → HasStreamed d [] → Entering bytes source source 0 d
+entering_new bytes source d s = record {
+  within = omega arith;
+  stands = s;
+  holds = sym (ap (λ m. m ++ source) (take_all (length source) [] (omega arith)));
+}
+
+module _ (bytes source dest : List ℕ) (read : ℕ) (d : Progress) (r : Entering bytes source dest read d) where
+  pub entered_long : length dest ≡ length source
+  entered_long = ap length r.holds ∙ length-overwritten (part (take read bytes)) source
+
+  pub entered_shorter : length bytes < 2 ^ 64 → d.len ≤ read - 1
+  entered_shorter w = omega (arith, r.stands.len, r.within, w, part_shorter (take read bytes), length-take-le read bytes r.within)
+
+  -- a byte more
+  pub entering_byte : (d' : Progress) (dest' : List ℕ) (byte : ℕ) → read < length bytes → get_or bytes read 0 ≡ byte → 0 < byte
+      → ((p : List ℕ) → HasStreamed d p → HasStreamed d' (p ++ byte ∷ [])) → ((p : List ℕ) → HasStreamed d p → dest' ≡ placed p byte dest) → Entering bytes source dest' (read + 1) d'
+  entering_byte d' dest' byte l e p t h =
+      let more : take (read + 1) bytes ≡ take read bytes ++ byte ∷ [] = take_more bytes read 0 l ∙ ap (λ b. take read bytes ++ b ∷ []) e in
+      record {
+        within = omega arith;
+        stands = subst (HasStreamed d') (sym more) (t (take read bytes) r.stands);
+        holds = h (take read bytes) r.stands ∙ placed_on (take read bytes) byte source dest p r.holds ∙ ap (λ b. overwritten (part b) source) (sym more);
+      }
+
+  -- bytes that were taken in at once
+  module _ (n : ℕ) (d' : Progress) (dest' : List ℕ) (f : TakesFront (take read bytes) (drop read bytes) dest n d' dest') where
+    front : take read bytes ++ take n (drop read bytes) ≡ take (read + n) bytes
+    front = ap (λ j. take read bytes ++ take j (drop read bytes)) (omega arith) ∙ front_then read (read + n) bytes (omega arith)
+
+    put : dest' ≡ all_placed (take read bytes) (take n (drop read bytes)) dest
+    put = placed_front (take read bytes) (drop read bytes) dest n d' dest' f
+
+    pub entering_front : Entering bytes source dest' (read + n) d'
+    entering_front = record {
+      within = omega (arith, f.within, length-drop read bytes, r.within);
+      stands = subst (HasStreamed d') front f.has;
+      holds = put ∙ ap (all_placed (take read bytes) (take n (drop read bytes))) r.holds ∙ placed_over (take read bytes) (take n (drop read bytes)) source f.clear ∙ ap (λ b. overwritten (part b) source) front;
+    }
+
+    pub entering_none : n ≡ 0 → Entering bytes source dest' read d'
+    entering_none z = let none : read + n ≡ read = omega (arith, z) in subst (λ j. Entering bytes source dest' j d') none entering_front
+
+-- the bytes behind those that were read
+pub behind_read : (sentinel read : ℕ) (frame : List ℕ) → masked sentinel (take (length frame - read) (drop read frame)) ≡ drop read (masked sentinel frame)
+behind_read s read frame = ap (masked s) (take_all (length frame - read) (drop read frame) (omega (arith, length-drop read frame))) ∙ sym (masked_drop s read frame)

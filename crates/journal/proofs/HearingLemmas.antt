@@ -1,0 +1,288 @@
+-- How answers are handed on, push by push, and what is read of a store so far.
+use Rattle.line_io.specs.Device.{read_faults}
+use Rattle.line_io.specs.Transfers.{Failed}
+use Rattle.std.proofs.Common.{◌≡◌, ℕ, zero, suc, ◌+◌, ◌-◌, ◌<◌, ◌≤◌, ◌/◌, ◌^◌, min, nat_lt, Bool, true, false, get_or, List, [], ◌∷◌, ◌++◌, length, take, drop, Option, Some, None, Result, Ok, Err, refl, sym, ap, ◌∙◌, subst, inl, inr, append_assoc, arith, rules}
+use Rattle.std.specs.Prelude.{IfSome, if◌then◌else◌}
+use Rattle.std.proofs.lemmas.Bool.{lt-ltb, le-ltb, cases_lt}
+use Rattle.std.specs.List.{AllZip}
+use Rattle.std.proofs.lemmas.List.{append-nil, take-append-drop, take-append-le, take_all, take_more, length-take, length-append}
+use Rattle.std.proofs.Math.Seq.{take-add}
+use Rattle.postcard_tree.specs.Tree.{Tree}
+use Rattle.cobs.specs.declared.dec.heapless.CobsDecoderHeapless.{CobsDecoderHeapless}
+use Rattle.link.specs.Decoding.{in_array}
+use Rattle.link.specs.Receivers.{IsBehind}
+use Rattle.link.specs.Pushes.{listed, Matches, Answered, IsStretchOf}
+use Rattle.link.specs.Listening.{HasGiven}
+use Rattle.link.specs.declared.receiver.Answer.{Answer}
+use Rattle.link.specs.declared.receiver.Answer.TheVariants.{Value, Damaged, TooLong, Cut}
+use Rattle.link.specs.declared.receiver.NoMemory.{NoMemory}
+use Rattle.link.specs.declared.reception.Reception.{Reception}
+use Rattle.stores.specs.Store.{GaveAt, EndsBefore}
+use Rattle.journal.specs.Records.{reads_record, past, past_all}
+use Rattle.journal.specs.Places.{Located, answers_in, IsLocatedIn, AreLocatedIn, Numbering, numbered_from, furthest, believed, numbered_behind, all_believed, numbered_after}
+use Rattle.journal.specs.declared.numbers.Count.{Count}
+use Rattle.journal.specs.Visits.{VisitorLaws}
+use Rattle.journal.specs.Reading.{IsRead, IsReadTo, HearsLog, HearsMore, HandsOnBelieved}
+
+zip_one : {A B : Type 0} (R : A → B → Type 0) (xs : List A) (ys : List B) (x : A) (y : B) → AllZip R xs ys → R x y → AllZip R (xs ++ x ∷ []) (ys ++ y ∷ [])
+zip_one R [] [] x y h r = (r, tt)
+zip_one R [] (b ∷ ys) x y h r = absurd h
+zip_one R (a ∷ xs) [] x y h r = absurd h
+zip_one R (a ∷ xs) (b ∷ ys) x y h r = (h.0, zip_one R xs ys x y h.1 r)
+
+-- a record moves the next number by no more than there are bytes from the last one through it
+moves_by : (next first through later before n : ℕ) → next ≤ first + through → through < later → before < later → n ≤ next + (before - through) / 3
+    → min (n + 1) (2 ^ 64 - 1) ≤ first + later
+moves_by next first through later before n w t b l =
+    let third : (before - through) / 3 ≤ before - through = omega arith in
+    omega (arith, third)
+
+module _ {V : Type 0} where
+  -- the number behind answers that are handed on
+  past_one : (c : Numbering) (through : ℕ) (a : Answer (ℕ × V)) → past c.next a ≡ (numbered_behind c through a).next
+  past_one c through (Value r) = go (nat_lt r.0 c.next)
+    where
+      go : (b : Bool) → (if b then c.next else min (r.0 + 1) (2 ^ 64 - 1)) ≡ (let n : Numbering = if b then c else record { next = min (r.0 + 1) (2 ^ 64 - 1); through = through } in n.next)
+      go true = refl
+      go false = refl
+  past_one c through Damaged = refl
+  past_one c through TooLong = refl
+  past_one c through Cut = refl
+
+  pub next_past : (c : Numbering) (located : List (Located V)) → past_all c.next (all_believed c located) ≡ (numbered_after c located).next
+  next_past c [] = refl
+  next_past c (p ∷ located) =
+      let b = believed c p.before p.answer in
+      let later = numbered_behind c p.through b in
+      ap (λ n. past_all n (all_believed later located)) (past_one c p.through b) ∙ next_past later located
+
+  -- one more answer behind others
+  pub answers_more : (located : List (Located V)) (p : Located V) → answers_in (located ++ p ∷ []) ≡ answers_in located ++ p.answer ∷ []
+  answers_more [] p = refl
+  answers_more (q ∷ located) p = ap (λ x. q.answer ∷ x) (answers_more located p)
+
+  pub believed_more : (c : Numbering) (located : List (Located V)) (p : Located V) → all_believed c (located ++ p ∷ []) ≡ all_believed c located ++ believed (numbered_after c located) p.before p.answer ∷ []
+  believed_more c [] p = refl
+  believed_more c (q ∷ located) p = ap (λ x. believed c q.before q.answer ∷ x) (believed_more (numbered_behind c q.through (believed c q.before q.answer)) located p)
+
+  pub numbered_more : (c : Numbering) (located : List (Located V)) (p : Located V)
+      → numbered_after c (located ++ p ∷ []) ≡ numbered_behind (numbered_after c located) p.through (believed (numbered_after c located) p.before p.answer)
+  numbered_more c [] p = refl
+  numbered_more c (q ∷ located) p = numbered_more (numbered_behind c q.through (believed c q.before q.answer)) located p
+
+  pub moves_within : (c : Numbering) (first before through : ℕ) (a : Answer (ℕ × V)) → c.next ≤ first + c.through → c.through < through → before < through
+      → (numbered_behind c through (believed c before a)).next ≤ first + (numbered_behind c through (believed c before a)).through
+  moves_within c first before through (Value r) w t b = elim (cases_lt (furthest c before) r.0) [
+    | inl l ↦ rw (lt-ltb (furthest c before) r.0 l) w
+    | inr l ↦ rw (le-ltb (furthest c before) r.0 l) (elim (cases_lt r.0 c.next) [
+      | inl m ↦ rw (lt-ltb r.0 c.next m) w
+      | inr m ↦ rw (le-ltb r.0 c.next m) (moves_by c.next first c.through through before r.0 w t b l)
+    ])
+  ]
+  moves_within c first before through Damaged w t b = w
+  moves_within c first before through TooLong w t b = w
+  moves_within c first before through Cut w t b = w
+
+  pub moves_to : (c : Numbering) (through : ℕ) (a : Answer (ℕ × V)) → c.through ≤ through → (numbered_behind c through a).through ≤ through
+  moves_to c through (Value r) l = elim (cases_lt r.0 c.next) [
+    | inl m ↦ rw (lt-ltb r.0 c.next m) l
+    | inr m ↦ rw (le-ltb r.0 c.next m) (omega arith)
+  ]
+  moves_to c through Damaged l = l
+  moves_to c through TooLong l = l
+  moves_to c through Cut l = l
+
+module _ {V : Type 0} (holds : List ℕ → Tree → Type 0) (reads : Tree → V → Type 0) (limit : ℕ) where
+  -- in a longer log
+  one_longer : (bytes more : List ℕ) (given : List (Answer (ℕ × V))) (p : Located V) → IsLocatedIn holds reads limit bytes given p → IsLocatedIn holds reads limit (bytes ++ more) given p
+  one_longer bytes more given p h = record {
+    front = h.front;
+    byte = h.byte;
+    rest = h.rest ++ more;
+    bytes_are = ap (λ x. x ++ more) h.bytes_are ∙ append_assoc (h.front ++ h.byte ∷ []) h.rest more;
+    not_yet = h.not_yet;
+    now = h.now;
+    before_is = h.before_is;
+    through_is = h.through_is;
+  }
+
+  pub located_longer : (bytes more : List ℕ) (given : List (Answer (ℕ × V))) (located : List (Located V)) → AreLocatedIn holds reads limit bytes given located → AreLocatedIn holds reads limit (bytes ++ more) given located
+  located_longer bytes more given [] h = tt
+  located_longer bytes more given (p ∷ located) h = (one_longer bytes more given p h.0, located_longer bytes more (given ++ p.answer ∷ []) located h.1)
+
+  pub located_more : (bytes : List ℕ) (given : List (Answer (ℕ × V))) (located : List (Located V)) (p : Located V)
+      → AreLocatedIn holds reads limit bytes given located → IsLocatedIn holds reads limit bytes (given ++ answers_in located) p → AreLocatedIn holds reads limit bytes given (located ++ p ∷ [])
+  located_more bytes given [] p h k = (subst (λ g. IsLocatedIn holds reads limit bytes g p) (append-nil given) k, tt)
+  located_more bytes given (q ∷ located) p h k = (
+    h.0,
+    located_more bytes (given ++ q.answer ∷ []) located p h.1 (subst (λ g. IsLocatedIn holds reads limit bytes g p) (sym (append_assoc given (q.answer ∷ []) (answers_in located))) k),
+  )
+
+  -- what is said of all bytes
+  pub read_whole : (first : ℕ) (answers : List (Answer (ℕ × V))) (c : Numbering) (bytes : List ℕ) → IsReadTo holds reads limit first answers c bytes → IsRead holds reads limit first answers c.next bytes
+  read_whole first answers c bytes h = record {
+    located = h.located;
+    given = h.given;
+    places = h.places;
+    handed_on = h.handed_on;
+    next_is = ap (λ n. n.next) h.numbers ∙ sym (next_past (numbered_from first) h.located) ∙ ap (past_all first) (sym h.handed_on);
+    within = omega (arith, h.within, h.so_far);
+  }
+
+module _ {V : Type 0} (holds : List ℕ → Tree → Type 0) (reads : Tree → V → Type 0) (limit first : ℕ) (front rest : List ℕ) (used : ℕ) where
+  -- a push that answered nothing
+  pub read_quiet : (answers : List (Answer (ℕ × V))) (c : Numbering) → IsReadTo holds reads limit first answers c front
+      → Answered holds (reads_record reads) limit 0 front rest used (Ok None) → IsReadTo holds reads limit first answers c (front ++ take used rest)
+  read_quiet answers c g (a, says, push) = record {
+    located = g.located;
+    given = record {
+      verdicts = g.given.verdicts ++ listed a;
+      given = push.gives g.given.verdicts g.given.given;
+      matching =
+          subst (λ o. AllZip (Matches (reads_record reads)) (answers_in g.located) (g.given.verdicts ++ listed o)) (sym says)
+          (subst (λ x. AllZip (Matches (reads_record reads)) (answers_in g.located) x) (sym (append-nil g.given.verdicts)) g.given.matching);
+    };
+    places = located_longer holds reads limit front (take used rest) [] g.located g.places;
+    handed_on = g.handed_on;
+    numbers = g.numbers;
+    within = g.within;
+    so_far = omega (arith, g.so_far, length-append front (take used rest));
+  }
+
+  -- one that answered: what was given
+  given_more : (answers : List (Answer (ℕ × V))) (x : Answer (ℕ × V)) → HasGiven holds (reads_record reads) limit 0 answers front
+      → Answered holds (reads_record reads) limit 0 front rest used (Ok (Some x)) → HasGiven holds (reads_record reads) limit 0 (answers ++ x ∷ []) (front ++ take used rest)
+  given_more answers x g (a, says, push) = record {
+    verdicts = g.verdicts ++ listed a;
+    given = push.gives g.verdicts g.given;
+    matching = subst (λ o. AllZip (Matches (reads_record reads)) (answers ++ x ∷ []) (g.verdicts ++ listed o)) (sym says.2) (zip_one (Matches (reads_record reads)) answers g.verdicts x says.0 g.matching says.1);
+  }
+
+  -- and where it stands
+  located_at : (answers : List (Answer (ℕ × V))) (x : Answer (ℕ × V)) (stretch heard : ℕ) → HasGiven holds (reads_record reads) limit 0 answers front
+      → Answered holds (reads_record reads) limit 0 front rest used (Ok (Some x)) → IsStretchOf 0 front rest used (Ok (Some x)) stretch → 0 < used → used ≤ length rest → heard ≡ length front + used
+      → IsLocatedIn holds reads limit (front ++ take used rest) answers (record { before = (heard - 1) - stretch; through = heard; answer = x })
+  located_at answers x stretch heard g (a, says, push) st some fits e =
+      let all = front ++ take (used - 1) rest in
+      let byte = get_or rest (used - 1) 0 in
+      let one : (used - 1) + 1 ≡ used = omega (arith, some) in
+      let cut : take used rest ≡ take (used - 1) rest ++ byte ∷ [] = subst (λ n. take n rest ≡ take (used - 1) rest ++ byte ∷ []) one (take_more rest (used - 1) 0 (omega (arith, some, fits))) in
+      let bytes : front ++ take used rest ≡ all ++ byte ∷ [] = ap (λ z. front ++ z) cut ∙ sym (append_assoc front (take (used - 1) rest) (byte ∷ [])) in
+      let long : length all ≡ length front + (used - 1) = length-append front (take (used - 1) rest) ∙ ap (λ n. length front + n) (length-take (used - 1) rest ∙ omega (arith, fits)) in
+      record {
+        front = all;
+        byte = byte;
+        rest = [];
+        bytes_are = bytes ∙ sym (append-nil (all ++ byte ∷ []));
+        not_yet = record { verdicts = g.verdicts; given = push.least.same g.verdicts g.given (used - 1) (omega (arith, some)); matching = g.matching };
+        now = subst (λ z. HasGiven holds (reads_record reads) limit 0 (answers ++ x ∷ []) z) bytes (given_more answers x g (a, says, push));
+        before_is = omega (arith, st, long, e, some);
+        through_is = omega (arith, long, e, some);
+      }
+
+  pub read_answer : (answers : List (Answer (ℕ × V))) (c : Numbering) (x : Answer (ℕ × V)) (stretch heard : ℕ) → IsReadTo holds reads limit first answers c front
+      → Answered holds (reads_record reads) limit 0 front rest used (Ok (Some x)) → IsStretchOf 0 front rest used (Ok (Some x)) stretch → 0 < used → used ≤ length rest → heard ≡ length front + used
+      → IsReadTo holds reads limit first (answers ++ believed c ((heard - 1) - stretch) x ∷ []) (numbered_behind c heard (believed c ((heard - 1) - stretch) x)) (front ++ take used rest)
+  read_answer answers c x stretch heard g h st some fits e =
+      let before = (heard - 1) - stretch in
+      let p : Located V = record { before = before; through = heard; answer = x } in
+      let start = numbered_from first in
+      let long : length (front ++ take used rest) ≡ heard = length-append front (take used rest) ∙ ap (λ n. length front + n) (length-take used rest ∙ omega (arith, fits)) ∙ sym e in
+      let to : (numbered_behind c heard (believed c before x)).through ≤ heard = moves_to c heard (believed c before x) (omega (arith, g.so_far, e)) in
+      record {
+        located = g.located ++ p ∷ [];
+        given = subst (λ z. HasGiven holds (reads_record reads) limit 0 z (front ++ take used rest)) (sym (answers_more g.located p)) (given_more (answers_in g.located) x g.given h);
+        places =
+            located_more holds reads limit (front ++ take used rest) [] g.located p (located_longer holds reads limit front (take used rest) [] g.located g.places)
+            (located_at (answers_in g.located) x stretch heard g.given h st some fits e);
+        handed_on = ap (λ z. z ++ believed c before x ∷ []) g.handed_on ∙ ap (λ n. all_believed start g.located ++ believed n before x ∷ []) g.numbers ∙ sym (believed_more start g.located p);
+        numbers = ap (λ n. numbered_behind n heard (believed n before x)) g.numbers ∙ sym (numbered_more start g.located p);
+        within = moves_within c first before heard x g.within (omega (arith, g.so_far, e, some)) (omega (arith, e, some));
+        so_far = omega (arith, to, long);
+      }
+
+  -- either, and its answer was handed on
+  pub read_on : {S : Type 0} {took : S → List (Answer (ℕ × V)) → S → Type 0} → VisitorLaws took → (answers more : List (Answer (ℕ × V))) (c later : Numbering) (stretch heard : ℕ) (r : Result (Option (Answer (ℕ × V))) NoMemory) (old mid new : S)
+      → took old more mid → IsReadTo holds reads limit first (answers ++ more) c front
+      → Answered holds (reads_record reads) limit 0 front rest used r → IsStretchOf 0 front rest used r stretch → 0 < used → used ≤ length rest → heard ≡ length front + used
+      → HandsOnBelieved took r ((heard - 1) - stretch) heard mid new c later
+      → (also : List (Answer (ℕ × V))) × took old also new × IsReadTo holds reads limit first (answers ++ also) later (front ++ take used rest)
+  read_on {took} laws answers more c later stretch heard (Ok None) old mid new before g h st some fits e k = (
+    more ++ [],
+    laws.more old mid new more [] before k.0,
+    subst (λ z. IsReadTo holds reads limit first (answers ++ z) later (front ++ take used rest)) (sym (append-nil more))
+        (subst (λ n. IsReadTo holds reads limit first (answers ++ more) n (front ++ take used rest)) (sym k.1) (read_quiet (answers ++ more) c g h)),
+  )
+  read_on {took} laws answers more c later stretch heard (Ok (Some x)) old mid new before g h st some fits e k = (
+    more ++ believed c ((heard - 1) - stretch) x ∷ [],
+    laws.more old mid new more (believed c ((heard - 1) - stretch) x ∷ []) before k.0,
+    subst (λ z. IsReadTo holds reads limit first z later (front ++ take used rest)) (append_assoc answers more (believed c ((heard - 1) - stretch) x ∷ []))
+        (subst (λ n. IsReadTo holds reads limit first ((answers ++ more) ++ believed c ((heard - 1) - stretch) x ∷ []) n (front ++ take used rest)) (sym k.1) (read_answer (answers ++ more) c x stretch heard g h st some fits e)),
+  )
+  read_on laws answers more c later stretch heard (Err x) old mid new before g h st some fits e k = absurd k
+
+-- nothing was heard yet
+pub heard_none : {S V : Type 0} {N : ℕ} {took : S → List (Answer (ℕ × V)) → S → Type 0} {holds : List ℕ → Tree → Type 0} {reads : Tree → V → Type 0} → VisitorLaws took → (first : ℕ) (visitor : S) (receiver : Reception (CobsDecoderHeapless N)) (answers : List (Answer (ℕ × V))) (count : Count) (stream : List ℕ)
+    → HearsLog holds reads first receiver answers count stream → HearsMore took holds reads first visitor visitor receiver answers count (stream ++ [])
+heard_none {holds} {reads} laws first visitor receiver answers count stream h = record {
+  more = [];
+  handed = laws.nothing visitor;
+  hears = subst (λ z. HearsLog holds reads first receiver z count (stream ++ [])) (sym (append-nil answers)) (subst (λ z. HearsLog holds reads first receiver answers count z) (sym (append-nil stream)) h);
+}
+
+-- at the start of a log
+pub heard_first : {S V : Type 0} {N : ℕ} {took : S → List (Answer (ℕ × V)) → S → Type 0} (holds : List ℕ → Tree → Type 0) (reads : Tree → V → Type 0) → VisitorLaws took → (first : ℕ) (visitor : S) (receiver : Reception (CobsDecoderHeapless N))
+    → IsBehind in_array N 0 receiver [] → HearsMore took holds reads first visitor visitor receiver [] (record { next = first; through = 0; heard = 0 }) []
+heard_first holds reads laws first visitor receiver h = record {
+  more = [];
+  handed = laws.nothing visitor;
+  hears = record {
+    after = h;
+    read = record { located = []; given = record { verdicts = []; given = search rules; matching = tt }; places = tt; handed_on = refl; numbers = refl; within = omega arith; so_far = omega arith };
+    heard = refl;
+  };
+}
+
+-- more was heard behind what was
+pub then_more : {S V : Type 0} {N : ℕ} {took : S → List (Answer (ℕ × V)) → S → Type 0} {holds : List ℕ → Tree → Type 0} {reads : Tree → V → Type 0} → VisitorLaws took → (first : ℕ) (old mid new : S) (receiver : Reception (CobsDecoderHeapless N)) (answers before : List (Answer (ℕ × V))) (count : Count) (stream : List ℕ)
+    → took old before mid → HearsMore took holds reads first mid new receiver (answers ++ before) count stream → HearsMore took holds reads first old new receiver answers count stream
+then_more {holds} {reads} laws first old mid new receiver answers before count stream b h = record {
+  more = before ++ h.more;
+  handed = laws.more old mid new before h.more b h.handed;
+  hears = subst (λ z. HearsLog holds reads first receiver z count stream) (append_assoc answers before h.more) h.hears;
+}
+
+pub parts_on : (piece done rest : List ℕ) (used : ℕ) → piece ≡ done ++ rest → piece ≡ (done ++ take used rest) ++ drop used rest
+parts_on piece done rest used e = e ∙ sym (append_assoc done (take used rest) (drop used rest) ∙ ap (λ x. done ++ x) (take-append-drop used rest))
+
+-- n bytes more were read
+more_read : (bytes room : List ℕ) (at n : ℕ) → n ≤ length room → drop at bytes ≡ take n room ++ drop (at + n) bytes → take (at + n) bytes ≡ take at bytes ++ take n room
+more_read bytes room at n l e =
+    let long : length (take n room) ≡ n = length-take n room ∙ omega arith in
+    take-add at n bytes ∙ ap (λ x. take at bytes ++ x) (ap (take n) e ∙ take-append-le n (take n room) (drop (at + n) bytes) (omega (arith, long)) ∙ take_all n (take n room) (omega (arith, long)))
+
+-- what is said of the bytes so far
+pub reads_on : (held : Option (List ℕ)) (room : List ℕ) (at n : ℕ) (P Q : List ℕ → Type 0) → n ≤ length room → GaveAt held at n room → IfSome held (λ bytes. P (take at bytes))
+    → ((stream : List ℕ) → P stream → Q (stream ++ take n room)) → IfSome held (λ bytes. Q (take (at + n) bytes))
+reads_on None room at n P Q l g h f = tt
+reads_on (Some bytes) room at n P Q l g h f = subst Q (sym (more_read bytes room at n l g)) (f (take at bytes) h)
+
+-- and at the end of all
+pub reads_all : (held : Option (List ℕ)) (at : ℕ) (P Q : List ℕ → Type 0) → EndsBefore held at → IfSome held (λ bytes. P (take at bytes)) → ((stream : List ℕ) → P stream → Q stream) → IfSome held Q
+reads_all None at P Q e h f = tt
+reads_all (Some bytes) at P Q e h f = subst Q (take_all at bytes e) (f (take at bytes) h)
+
+-- at the start
+pub reads_none : (held : Option (List ℕ)) (P : List ℕ → Type 0) → P [] → IfSome held (λ bytes. P (take 0 bytes))
+reads_none None P h = tt
+reads_none (Some bytes) P h = h
+
+-- a read that was no fault
+pub no_fault : (before now after left n : ℕ) → after ≡ now + read_faults left (Some n) → now ≡ before → after ≡ before
+no_fault before now after zero n f q = omega (arith, f)
+no_fault before now after (suc left) n f q = omega (arith, f)
+
+-- a fault, or no call was left
+pub read_failed : (before now after left calls : ℕ) → after ≡ now + read_faults left None → calls ≡ left - 1 → now ≡ before → Failed before after calls
+read_failed before now after zero calls f e q = inr (omega arith)
+read_failed before now after (suc left) calls f e q = inl (omega (arith, f))

@@ -1,0 +1,127 @@
+-- How a history goes on.
+use Rattle.std.proofs.Common.{◌≡◌, ℕ, ◌+◌, ◌-◌, ◌<◌, ◌^◌, min, true, false, List, [], ◌∷◌, ◌++◌, length, Option, Some, None, Ok, refl, sym, ap, ◌∙◌, subst, append_assoc, arith}
+use Rattle.std.specs.List.{AllZip}
+use Rattle.std.proofs.lemmas.List.{append-nil, length-append}
+use Rattle.std.specs.Prelude.{Bool, IfSome}
+use Rattle.cobs.specs.Sentinel.{frame_for}
+use Rattle.postcard_tree.specs.Spelling.{short}
+use Rattle.line_io.specs.Device.{Wrote}
+use Rattle.line_io.specs.Calls.{Wrote-none, Wrote-then}
+use Rattle.postcard_tree.specs.Tree.{Tree, IsTree}
+use Rattle.link.specs.Run.{Send, completed, sent, written, session_line, line, IsSend, IsFramed, IsSession, IsRun}
+use Rattle.journal.specs.Records.{numbered, takes_record}
+use Rattle.journal.specs.Appending.{Appended}
+use Rattle.journal_laws.specs.Numbers.{LogEvent, appended, appends, opened, after, history, IsHistory, HasBytes, read_of}
+use Rattle.journal_laws.specs.Sessions.{AppendsAll, HistoryGoesOn}
+use Rattle.journal_laws.proofs.RunsLemmas.{runs_joined}
+
+zip_one : {A B : Type 0} (R : A → B → Type 0) (xs : List A) (ys : List B) (x : A) (y : B) → AllZip R xs ys → R x y → AllZip R (xs ++ x ∷ []) (ys ++ y ∷ [])
+zip_one R [] [] x y h r = (r, tt)
+zip_one R [] (b ∷ ys) x y h r = absurd h
+zip_one R (a ∷ xs) [] x y h r = absurd h
+zip_one R (a ∷ xs) (b ∷ ys) x y h r = (h.0, zip_one R xs ys x y h.1 r)
+
+line_more : (n : ℕ) (ts : List Tree) (t : Tree) → session_line 0 true (appends numbered n ts) ++ sent 0 true (numbered (n + length ts) t) ≡ session_line 0 true (appends numbered n (ts ++ t ∷ []))
+line_more n [] t = ap (λ m. sent 0 true (numbered m t)) (let e : n + 0 ≡ n = omega arith in e) ∙ sym (append-nil (sent 0 true (numbered n t)))
+line_more n (u ∷ ts) t =
+    append_assoc (sent 0 true (numbered n u)) (session_line 0 true (appends numbered (n + 1) ts)) (sent 0 true (numbered (n + length (u ∷ ts)) t))
+    ∙ ap (λ x. sent 0 true (numbered n u) ++ x) (ap (λ m. session_line 0 true (appends numbered (n + 1) ts) ++ sent 0 true (numbered m t)) (let e : n + length (u ∷ ts) ≡ (n + 1) + length ts = omega arith in e) ∙ line_more (n + 1) ts t)
+
+module _ (takes : Tree → Type 0) (limit : ℕ) where
+  session_more : (n : ℕ) (ts : List Tree) (t : Tree) → IsSession takes limit 0 true (appends numbered n ts) → IsFramed takes limit (numbered (n + length ts) t) → IsSession takes limit 0 true (appends numbered n (ts ++ t ∷ []))
+  session_more n [] t h f = (subst (λ m. IsFramed takes limit (numbered m t)) (let e : n + 0 ≡ n = omega arith in e) f, tt)
+  session_more n (u ∷ ts) t h f = (h.0, session_more (n + 1) ts t h.1 (subst (λ m. IsFramed takes limit (numbered m t)) (let e : n + length (u ∷ ts) ≡ (n + 1) + length ts = omega arith in e) f))
+
+  -- a session that begins behind an opening's sentinel
+  session_opened : (any : Tree) (n : ℕ) (ts : List Tree) → IsFramed takes limit any → IsSession takes limit 0 true (appends numbered n ts) → IsSession takes limit 0 false (opened any (appends numbered n ts))
+  session_opened any n [] f h = ((f, some_sent any), tt)
+    where
+      some_sent : (t : Tree) → 1 < length (sent 0 false t)
+      some_sent t = omega (arith, length-append (frame_for 0 (short t)) (0 ∷ []))
+  session_opened any n (t ∷ ts) f h = h
+
+length_more : (ts : List Tree) (t : Tree) → length (ts ++ t ∷ []) ≡ length ts + 1
+length_more ts t = length-append ts (t ∷ [])
+
+module _ {V : Type 0} (takes : Tree → Type 0) (writes : V → Option Tree) (limit n : ℕ) (old : Option (List ℕ)) (before : ℕ) where
+  pub none_appended : AppendsAll takes writes limit n n old old before before []
+  none_appended = record { trees = []; of = tt; are = tt; wrote = Wrote-none old before; quiet = refl; next_is = omega arith }
+
+  -- one more
+  pub one_appended : (now next m : ℕ) (mid new : Option (List ℕ)) (between after : ℕ) (spent : Bool) (values : List V) (v : V)
+      → AppendsAll takes writes limit n now old mid before between values → Appended (limit - 1) spent now (writes v) (Ok m) mid new between after → after ≡ between → next ≡ now + 1 → now < 2 ^ 64 - 1
+      → ((t : Tree) → writes v ≡ Some t → takes t) → AppendsAll takes writes limit n next old new before after (values ++ v ∷ [])
+  one_appended now next m mid new between after spent values v p q quiet e l taken =
+      let t = q.is.1.0 in
+      let done : q.send ≡ completed (numbered now t) = q.is.1.2 in
+      let here : now ≡ n + length p.trees = p.next_is in
+      let framed : IsFramed IsTree (limit - 1) (numbered now t) = subst (λ x. IsSend IsTree (limit - 1) 0 true x) done q.is_send in
+      let bytes : Wrote mid new between after (sent 0 true (numbered now t)) = subst (λ x. Wrote mid new between after (written 0 true x)) done q.wrote in
+      record {
+        trees = p.trees ++ t ∷ [];
+        of = zip_one (λ v t. writes v ≡ Some t) values p.trees v t p.of q.is.1.1;
+        are = session_more (takes_record takes) limit n p.trees t p.are (subst (λ m. IsFramed (takes_record takes) limit (numbered m t)) here
+            (record { taken = ((refl, omega (arith, l)), (taken t q.is.1.1, tt)); within = omega (arith, framed.within) }));
+        wrote = subst (λ b. Wrote old new before after b) (ap (λ m. session_line 0 true (appends numbered n p.trees) ++ sent 0 true (numbered m t)) here ∙ line_more n p.trees t) (Wrote-then _ _ _ _ _ _ _ _ p.wrote bytes);
+        quiet = quiet ∙ p.quiet;
+        next_is = omega (arith, e, here, length_more p.trees t);
+      }
+
+-- one event more
+history_more : (any : Tree) (run : List (List Send)) (events : List LogEvent) (e : LogEvent) → history 0 numbered any run (events ++ e ∷ []) ≡ after 0 numbered any (history 0 numbered any run events) e
+history_more any run [] e = refl
+history_more any run (d ∷ events) e = history_more any (after 0 numbered any run d) events e
+
+module _ (takes : Tree → Type 0) (limit : ℕ) (any : Tree) where
+  run_of : (run : List (List Send)) (events : List LogEvent) → IsHistory takes limit 0 numbered any run events → IsRun takes limit 0 (history 0 numbered any run events)
+  run_of run [] d = d
+  run_of run (e ∷ events) d = run_of (after 0 numbered any run e) events d
+
+  of_run : (run : List (List Send)) (events : List LogEvent) → IsRun takes limit 0 (history 0 numbered any run events) → IsHistory takes limit 0 numbered any run events
+  of_run run [] d = d
+  of_run run (e ∷ events) d = of_run (after 0 numbered any run e) events d
+
+-- the bytes behind told ones
+told_on : (old bytes : List ℕ) (new : Option (List ℕ)) (f g : ℕ) → Wrote (Some old) new f g bytes → g ≡ f → new ≡ Some (old ++ bytes)
+told_on old bytes None f g w e = absurd (omega (arith, w.grew))
+told_on old bytes (Some x) f g w e = ap (λ z. Some z) w.grew
+
+-- numbers that count on from the records that are there
+same_numbers : (n : ℕ) (count : ℕ) (ts : List Tree) → n ≡ min count (2 ^ 64 - 1) → (0 < length ts → n < 2 ^ 64 - 1) → appends numbered n ts ≡ appends numbered count ts
+same_numbers n count [] e h = refl
+same_numbers n count (t ∷ ts) e h = ap (λ m. appends numbered m (t ∷ ts)) (let l : n < 2 ^ 64 - 1 = h (omega arith) in let k : n ≡ count = omega (arith, e, l) in k)
+
+zip_length : {A B : Type 0} (R : A → B → Type 0) (xs : List A) (ys : List B) → AllZip R xs ys → length ys ≡ length xs
+zip_length R [] [] h = refl
+zip_length R [] (y ∷ ys) h = absurd h
+zip_length R (x ∷ xs) [] h = absurd h
+zip_length R (x ∷ xs) (y ∷ ys) h = omega (arith, zip_length R xs ys h.1)
+
+-- what is said of a result where there is one, together
+pub both_some : {A : Type 0} {P Q R : A → Type 0} (r : Option A) → IfSome r P → IfSome r Q → ((x : A) → P x → Q x → R x) → IfSome r R
+both_some None p q f = tt
+both_some (Some x) p q f = f x p q
+
+module _ {V : Type 0} (takes : Tree → Type 0) (writes : V → Option Tree) (limit : ℕ) (has : HasBytes (takes_record takes) limit 0) where
+  pub goes_on : (any : Tree) (events : List LogEvent) (n next : ℕ) (old new : Option (List ℕ)) (before after' : ℕ) (values : List V)
+      → IsFramed (takes_record takes) limit any → IsHistory (takes_record takes) limit 0 numbered any [] events
+      → old ≡ Some (line 0 (history 0 numbered any [] events) ++ 0 ∷ []) → n ≡ min (length (read_of (history 0 numbered any [] events))) (2 ^ 64 - 1)
+      → AppendsAll takes writes limit n next old new before after' values → (0 < length values → n < 2 ^ 64 - 1) → HistoryGoesOn takes writes limit any events new values
+  goes_on any events n next old new before after' values f is held e p below =
+      let run = history 0 numbered any [] events in
+      let count = length (read_of run) in
+      let more = same_numbers n count p.trees e (λ l. below (omega (arith, l, zip_length (λ v t. writes v ≡ Some t) values p.trees p.of))) in
+      let are : IsSession (takes_record takes) limit 0 true (appends numbered count p.trees) = subst (λ x. IsSession (takes_record takes) limit 0 true x) more p.are in
+      let is_run = run_of (takes_record takes) limit any [] events is in
+      let joined : IsRun (takes_record takes) limit 0 (after 0 numbered any run (appended p.trees)) =
+      runs_joined (takes_record takes) limit 0 run (opened any (appends numbered count p.trees) ∷ []) is_run (session_opened (takes_record takes) limit any count p.trees f are, tt) in
+      let behind = history_more any [] events (appended p.trees) in
+      let bytes : new ≡ Some ((line 0 run ++ 0 ∷ []) ++ session_line 0 true (appends numbered n p.trees)) =
+      told_on (line 0 run ++ 0 ∷ []) (session_line 0 true (appends numbered n p.trees)) new before after' (subst (λ x. Wrote x new before after' (session_line 0 true (appends numbered n p.trees))) held p.wrote) p.quiet in
+      record {
+        trees = p.trees;
+        of = p.of;
+        is_history = of_run (takes_record takes) limit any [] (events ++ appended p.trees ∷ []) (subst (λ r. IsRun (takes_record takes) limit 0 r) (sym behind) joined);
+        bytes = bytes ∙ ap (λ x. Some x) (append_assoc (line 0 run) (0 ∷ []) (session_line 0 true (appends numbered n p.trees)) ∙ ap (λ x. line 0 run ++ (0 ∷ session_line 0 true x)) more
+            ∙ sym (has numbered any run (appended p.trees) is_run) ∙ ap (λ r. line 0 r) (sym behind));
+      }

@@ -1,0 +1,88 @@
+-- Records appended anew, and logs that were damaged.
+use Rattle.std.proofs.Common.{◌≡◌, ℕ, ◌≤◌, Bool, true, false, cond, ltb, List, [], ◌∷◌, ◌++◌, length, map, refl, sym, ap, ◌∙◌, subst, arith}
+use Rattle.std.proofs.lemmas.List.{append-nil, length-map}
+use Rattle.std.specs.List.{AllZip}
+use Rattle.postcard_tree.specs.Tree.{Tree}
+use Rattle.postcard.specs.Frames.{Holds}
+use Rattle.link.specs.Stream.{Verdict, cut, damaged, too_long, value, ended, unfinished, IsAnswer, begun_answers, cut_answers, Answers}
+use Rattle.link.specs.Run.{completed, IsFramed, IsSession, IsRun, told_session, told}
+use Rattle.link.specs.Laws.{IsLeast}
+use Rattle.link.specs.Roads.{values_of}
+use Rattle.journal_laws.specs.Laws.{anew}
+use Rattle.journal_laws.proofs.RunsLemmas.{values_joined}
+
+told_anew_in : (s : ℕ) (clean : Bool) (later : List ℕ) (ts : List Tree) → told_session s clean later (map completed ts) ≡ map value ts
+told_anew_in s clean later [] = refl
+told_anew_in s clean later (t ∷ ts) = ap (λ x. value t ∷ x) (told_anew_in s true later ts)
+
+-- what is told of records that were appended in one session
+pub told_anew : (s : ℕ) (ts : List Tree) → told s (anew ts) ≡ map value ts
+told_anew s ts = append-nil (told_session s false [] (map completed ts)) ∙ told_anew_in s false [] ts
+
+-- each of these
+abbrev pub AllOf : (Tree → Type 0) → List Tree → Type 0
+AllOf P [] = Unit {0}
+AllOf P (t ∷ ts) = P t × AllOf P ts
+
+pub session_anew : (takes : Tree → Type 0) (limit s : ℕ) (clean : Bool) (ts : List Tree) → AllOf (IsFramed takes limit) ts → IsSession takes limit s clean (map completed ts)
+session_anew takes limit s clean [] h = tt
+session_anew takes limit s clean (t ∷ ts) h = (h.0, session_anew takes limit s true ts h.1)
+
+-- what is said of an unfinished stretch holds no record
+none_in_cut : (limit : ℕ) (p : List ℕ) → values_of (cut_answers limit p) ≡ []
+none_in_cut limit [] = refl
+none_in_cut limit (b ∷ p) = go (ltb limit (length (b ∷ p)))
+  where
+    go : (c : Bool) → values_of (cond c [] (cut ∷ [])) ≡ []
+    go true = refl
+    go false = refl
+
+none_in_begun : (limit : ℕ) (p : List ℕ) → values_of (begun_answers limit p) ≡ []
+none_in_begun limit p = go (ltb limit (length p))
+  where
+    go : (c : Bool) → values_of (cond c (too_long ∷ []) []) ≡ []
+    go true = refl
+    go false = refl
+
+none_at_end : (limit : ℕ) (p : List ℕ) → values_of (begun_answers limit p ++ cut_answers limit p) ≡ []
+none_at_end limit p = values_joined (begun_answers limit p) (cut_answers limit p) ∙ ap (λ x. x ++ values_of (cut_answers limit p)) (none_in_begun limit p) ∙ none_in_cut limit p
+
+module _ (takes : Tree → Type 0) (limit : ℕ) (least : IsLeast takes limit) where
+  framed_answer : (p : List ℕ) (t : Tree) → IsAnswer (Holds takes) limit p (value t) → IsFramed takes limit t
+  framed_answer p t h = record { taken = h.1.taken; within = (let l = least p t h in let m : length p ≤ limit = h.0 in omega (arith, l, m)) }
+
+  all_framed : (ps : List (List ℕ)) (answers : List Verdict) → AllZip (IsAnswer (Holds takes) limit) ps answers → AllOf (IsFramed takes limit) (values_of answers)
+  all_framed [] [] z = tt
+  all_framed [] (a ∷ answers) z = absurd z
+  all_framed (p ∷ ps) [] z = absurd z
+  all_framed (p ∷ ps) (value t ∷ answers) z = (framed_answer p t z.0, all_framed ps answers z.1)
+  all_framed (p ∷ ps) (damaged ∷ answers) z = all_framed ps answers z.1
+  all_framed (p ∷ ps) (too_long ∷ answers) z = all_framed ps answers z.1
+  all_framed (p ∷ ps) (cut ∷ answers) z = all_framed ps answers z.1
+
+  -- whatever is read can be appended anew
+  pub run_anew : (s : ℕ) (stream : List ℕ) (answers : List Verdict) → Answers (Holds takes) limit s stream answers → IsRun takes limit s (anew (values_of answers))
+  run_anew s stream answers h =
+      let same : values_of answers ≡ values_of h.done =
+      ap values_of h.whole ∙ values_joined h.done (begun_answers limit (unfinished s stream) ++ cut_answers limit (unfinished s stream)) ∙ ap (λ x. values_of h.done ++ x) (none_at_end limit (unfinished s stream)) ∙ append-nil (values_of h.done) in
+      (session_anew takes limit s false (values_of answers) (subst (AllOf (IsFramed takes limit)) (sym same) (all_framed (ended s stream) h.done h.each)), tt)
+
+-- a part of values is values
+pub record ValuesIn (ts : List Tree) (us rest : List Verdict) : Type 0 where
+  pub first : List Tree
+  pub others : List Tree
+  pub whole : ts ≡ first ++ others
+  pub are : us ≡ map value first
+  pub rest_are : rest ≡ map value others
+
+pub values_in : (ts : List Tree) (us rest : List Verdict) → map value ts ≡ us ++ rest → ValuesIn ts us rest
+values_in ts [] rest e = record { first = []; others = ts; whole = refl; are = refl; rest_are = sym e }
+values_in [] (u ∷ us) rest e = absurd (cc)
+values_in (t ∷ ts) (u ∷ us) rest e =
+    let tail : map value ts ≡ us ++ rest = cc in
+    let head : u ≡ value t = cc in
+    let h = values_in ts us rest tail in
+    record { first = t ∷ h.first; others = h.others; whole = ap (λ x. t ∷ x) h.whole; are = ap (λ x. x ∷ us) head ∙ ap (λ x. value t ∷ x) h.are; rest_are = h.rest_are }
+
+pub count_values : (ts : List Tree) → length (map value ts) ≡ length ts
+count_values ts = length-map ts value

@@ -1,0 +1,334 @@
+-- What each step of a scan makes of where it stands.
+use Rattle.std.proofs.Common.{◌≡◌, ℕ, ◌+◌, ◌-◌, ◌<◌, ◌≤◌, nat_lt, Bool, true, false, List, [], ◌∷◌, ◌++◌, length, take, drop, Option, Some, None, Result, Ok, Err, refl, sym, ap, ◌∙◌, subst, inl, inr, append_assoc, arith}
+use Rattle.std.specs.Prelude.{if◌then◌else◌}
+use Rattle.std.proofs.lemmas.Bool.{ltb-true, ltb-false, lt-ltb, le-ltb}
+use Rattle.std.proofs.lemmas.List.{append-nil, length-append, length-take, take-append-le, drop-append-le, take-append-drop, length-drop, drop-drop, nil_from_length}
+use Rattle.std.proofs.Math.Seq.{take-add}
+use Rattle.cobs.specs.Frames.{NoZero}
+use Rattle.cobs.specs.declared.dec.owned.CobsDecoderOwned.{CobsDecoderOwned}
+use Rattle.postcard_tree.specs.Tree.{Tree}
+use Rattle.link.specs.Stream.{Verdict, value, damaged, too_long, cut, Begun, kept, over, begun, ended, unfinished, IsAnswer, HoldsExactly}
+use Rattle.link.specs.Laws.{EndsBetween}
+use Rattle.link.specs.Pieces.{none_unfinished, ended_skip}
+use Rattle.link.specs.Pushes.{IsPush, IsLost, Matches, Answered}
+use Rattle.link.specs.Decoding.{in_owner}
+use Rattle.link.specs.Receivers.{IsBehind, IsAt}
+use Rattle.link.specs.declared.reception.Reception.{Reception}
+use Rattle.link.specs.declared.receiver.Answer.{Answer}
+use Rattle.link.specs.declared.receiver.Answer.TheVariants.{Value, Damaged, TooLong, Cut}
+use Rattle.link.specs.declared.receiver.NoMemory.{NoMemory}
+use Rattle.journal.specs.Records.{takes_record, reads_record}
+use Rattle.journal_scan.specs.declared.scanning.Stretch.{Stretch}
+use Rattle.journal_scan.specs.Scanning.{ScanStands, IsNextStretch, Found}
+use Rattle.journal_scan.proofs.WalkingLemmas.{no_zero_more, alone_ended, alone_unfinished, zero_ended, zero_unfinished, behind_of, first_of, push_quiet, push_answer}
+
+-- what is begun depends on the unfinished stretch alone
+abbrev begun_by : ℕ → List ℕ → Begun
+begun_by limit u = if nat_lt limit (length u) then over else kept u
+
+same_behind : (limit : ℕ) (r : Reception CobsDecoderOwned) (x y : List ℕ) → begun limit 0 x ≡ begun limit 0 y → IsBehind in_owner limit 0 r x → IsBehind in_owner limit 0 r y
+same_behind limit r x y e h = subst (IsAt in_owner limit 0 r) e h
+
+not_less : (a b : ℕ) → nat_lt a b ≡ false → b ≤ a
+not_less a b e = ltb-false a b e
+
+no_less : (n : ℕ) → nat_lt n 0 ≡ false
+no_less n = le-ltb n 0 (omega arith)
+
+none_begun : (limit : ℕ) (x : List ℕ) → kept [] ≡ begun_by limit x → x ≡ []
+none_begun limit x e = go (nat_lt limit (length x)) e
+  where
+    is_kept : Begun → ℕ
+    is_kept (kept p) = 1
+    is_kept over = 0
+
+    bytes_of : Begun → List ℕ
+    bytes_of (kept p) = p
+    bytes_of over = []
+
+    go : (b : Bool) → kept [] ≡ (if b then over else kept x) → x ≡ []
+    go false e = sym (ap bytes_of e)
+    go true e = absurd (omega (arith, ap is_kept e))
+
+abbrev is_too_long : Verdict → ℕ
+is_too_long (value t) = 0
+is_too_long damaged = 0
+is_too_long too_long = 1
+is_too_long cut = 0
+
+not_so : ◌≡◌ {A = ℕ} 0 1 → ⊥
+not_so e = omega (arith, e)
+
+-- so many of the bytes that were read were gone over
+pub record Moved (at used : ℕ) (unread rest bytes : List ℕ) : Type 0 where
+  pub taken : take (at + used) bytes ≡ take at bytes ++ take used unread
+  pub inside : at + used ≤ length bytes
+  pub left : drop (at + used) bytes ≡ drop used unread ++ rest
+
+pub moved : (at used : ℕ) (unread rest bytes : List ℕ) → at ≤ length bytes → drop at bytes ≡ unread ++ rest → used ≤ length unread → Moved at used unread rest bytes
+moved at used unread rest bytes within e l = record {
+  taken = take-add at used bytes ∙ ap (λ x. take at bytes ++ x) (ap (take used) e ∙ take-append-le used unread rest l);
+  inside = omega (arith, within, l, sym (length-drop at bytes) ∙ ap length e ∙ length-append unread rest);
+  left = sym (drop-drop used at bytes) ∙ ap (drop used) e ∙ drop-append-le used unread rest l;
+}
+
+-- a new one
+pub stands_new : (limit at : ℕ) (r : Reception CobsDecoderOwned) (bytes : List ℕ) → at ≤ length bytes → EndsBetween 0 (take at bytes) → IsBehind in_owner limit 0 r [] → ScanStands limit r at at false [] bytes
+stands_new limit at r bytes l e h =
+    let none : unfinished 0 (take at bytes) ≡ [] = none_unfinished 0 (take at bytes) e in
+    record {
+      within = l;
+      rest = drop at bytes;
+      unread_is = refl;
+      from_is = omega (arith, ap length none);
+      behind = same_behind limit r [] (take at bytes) (ap (begun_by limit) (sym none)) h;
+      past_is = sym (ap (λ u. nat_lt limit (length u)) none ∙ no_less limit);
+    }
+
+-- one that read other bytes from where it is
+pub stands_read : {limit at from : ℕ} {r : Reception CobsDecoderOwned} {past : Bool} {unread bytes : List ℕ} (now rest : List ℕ) → ScanStands limit r at from past unread bytes → drop at bytes ≡ now ++ rest → ScanStands limit r at from past now bytes
+stands_read now rest s e = record { within = s.within; rest = rest; unread_is = e; from_is = s.from_is; behind = s.behind; past_is = s.past_is }
+
+module _ {limit at from : ℕ} {r : Reception CobsDecoderOwned} {past : Bool} {unread bytes : List ℕ} (s : ScanStands limit r at from past unread bytes) where
+  abbrev stream : List ℕ
+  stream = take at bytes
+
+  abbrev u : List ℕ
+  u = unfinished 0 (take at bytes)
+
+  at_begin : from ≡ at → u ≡ []
+  at_begin e = nil_from_length u (omega (arith, e, s.from_is))
+
+  -- the place of a stretch that a zero ends
+  pub found : {V : Type 0} (holds : List ℕ → Tree → Type 0) (reads : Tree → V → Type 0) (later : List ℕ) (used : ℕ) (answer : Answer V) (v : Verdict) → Matches reads answer v → 0 < used → used ≤ length unread → take used unread ≡ later ++ 0 ∷ []
+      → NoZero (u ++ later) → 0 < length (u ++ later) → IsAnswer holds limit (u ++ later) v → IsNextStretch holds reads limit bytes at (at + used) from (at + (used - 1)) answer
+  found holds reads later used answer v says some l are z more is =
+      let m = moved at used unread s.rest bytes s.within s.unread_is l in
+      let k = behind_of stream (take used unread) in
+      let all : u ++ take used unread ≡ (u ++ later) ++ 0 ∷ [] = ap (λ x. u ++ x) are ∙ sym (append_assoc u later (0 ∷ [])) in
+      let size : length later + 1 ≡ used = sym (length-append later (0 ∷ [])) ∙ ap length (sym are) ∙ length-take used unread ∙ omega (arith, l) in
+      let lengths : at ≡ length k.front + length u = sym (length-take at bytes ∙ omega (arith, s.within)) ∙ ap length k.whole ∙ length-append k.front u in
+      record {
+        stretch = u ++ later;
+        is = record {
+          front = k.front;
+          rest = drop (at + used) bytes;
+          bytes_are = sym (take-append-drop (at + used) bytes) ∙ ap (λ x. x ++ drop (at + used) bytes) (m.taken ∙ ap (λ x. x ++ take used unread) k.whole ∙ append_assoc k.front u (take used unread) ∙ ap (λ x. k.front ++ x) all)
+              ∙ append_assoc k.front ((u ++ later) ++ 0 ∷ []) (drop (at + used) bytes) ∙ ap (λ x. k.front ++ x) (append_assoc (u ++ later) (0 ∷ []) (drop (at + used) bytes));
+          from_is = omega (arith, lengths, s.from_is);
+          to_is = omega (arith, s.from_is, size, length-append u later);
+          between = k.between;
+          nonzero = z;
+          some = more;
+          verdict = v;
+          says = says;
+          is = is;
+        };
+        behind = omega (arith, some);
+        next = ap (ended 0) m.taken ∙ k.more_ended ∙ ap (λ x. ended 0 stream ++ x) (ap (ended 0) all ∙ zero_ended (u ++ later) z more);
+      }
+
+  -- no stretch is unfinished then
+  pub stands_between : (used : ℕ) (now : Reception CobsDecoderOwned) → used ≤ length unread → unfinished 0 (u ++ take used unread) ≡ []
+      → (begun limit 0 (take (at + used) bytes) ≡ kept [] → IsBehind in_owner limit 0 now (take (at + used) bytes)) → ScanStands limit now (at + used) (at + used) false (drop used unread) bytes
+  stands_between used now l e h =
+      let m = moved at used unread s.rest bytes s.within s.unread_is l in
+      let k = behind_of stream (take used unread) in
+      let none : unfinished 0 (take (at + used) bytes) ≡ [] = ap (unfinished 0) m.taken ∙ k.more_unfinished ∙ e in
+      record {
+        within = m.inside;
+        rest = s.rest;
+        unread_is = m.left;
+        from_is = omega (arith, ap length none);
+        behind = h (ap (begun_by limit) none ∙ ap (λ b. if b then over else kept []) (no_less limit));
+        past_is = sym (ap (λ x. nat_lt limit (length x)) none ∙ no_less limit);
+      }
+
+  -- behind a zero that ends a stretch
+  pub stands_found : (later : List ℕ) (used : ℕ) (now : Reception CobsDecoderOwned) → used ≤ length unread → take used unread ≡ later ++ 0 ∷ [] → NoZero (u ++ later)
+      → (begun limit 0 (take (at + used) bytes) ≡ kept [] → IsBehind in_owner limit 0 now (take (at + used) bytes)) → ScanStands limit now (at + used) (at + used) false (drop used unread) bytes
+  stands_found later used now l are z h =
+      stands_between used now l (ap (unfinished 0) (ap (λ x. u ++ x) are ∙ sym (append_assoc u later (0 ∷ []))) ∙ zero_unfinished (u ++ later) z) h
+
+  -- more bytes of a stretch that goes on
+  pub stands_on : (used : ℕ) (now : Reception CobsDecoderOwned) (later : Bool) → used ≤ length unread → NoZero (u ++ take used unread) → nat_lt limit (length (u ++ take used unread)) ≡ later
+      → IsBehind in_owner limit 0 now (take (at + used) bytes) → ScanStands limit now (at + used) from later (drop used unread) bytes × (ended 0 (take (at + used) bytes) ≡ ended 0 (take at bytes))
+  stands_on used now later l z past_now h =
+      let m = moved at used unread s.rest bytes s.within s.unread_is l in
+      let k = behind_of stream (take used unread) in
+      let w = u ++ take used unread in
+      let same : unfinished 0 (take (at + used) bytes) ≡ w = ap (unfinished 0) m.taken ∙ k.more_unfinished ∙ alone_unfinished w z in
+      let size : length (take used unread) ≡ used = length-take used unread ∙ omega (arith, l) in (
+        record {
+          within = m.inside;
+          rest = s.rest;
+          unread_is = m.left;
+          from_is = omega (arith, ap length same, length-append u (take used unread), size, s.from_is);
+          behind = h;
+          past_is = sym (ap (λ x. nat_lt limit (length x)) same ∙ past_now);
+        },
+        ap (ended 0) m.taken ∙ k.more_ended ∙ ap (λ x. ended 0 stream ++ x) (alone_ended w z) ∙ append-nil (ended 0 stream),
+      )
+
+  -- a zero before a stretch
+  pub stands_zero : (later : List ℕ) → from ≡ at → unread ≡ 0 ∷ later → ScanStands limit r (at + 1) (at + 1) past later bytes × (ended 0 (take (at + 1) bytes) ≡ ended 0 (take at bytes))
+  stands_zero later e z =
+      let m = moved at 1 unread s.rest bytes s.within s.unread_is (omega (arith, ap length z)) in
+      let k = behind_of stream (take 1 unread) in
+      let none = at_begin e in
+      let all : u ++ take 1 unread ≡ 0 ∷ [] = ap (λ x. x ++ take 1 unread) none ∙ ap (take 1) z in
+      let none_now : unfinished 0 (take (at + 1) bytes) ≡ [] = ap (unfinished 0) m.taken ∙ k.more_unfinished ∙ ap (unfinished 0) all ∙ zero_unfinished [] tt in (
+        record {
+          within = m.inside;
+          rest = s.rest;
+          unread_is = m.left ∙ ap (λ x. drop 1 x ++ s.rest) z;
+          from_is = omega (arith, ap length none_now);
+          behind = same_behind limit r (take at bytes) (take (at + 1) bytes) (ap (begun_by limit) (none ∙ sym none_now)) s.behind;
+          past_is = s.past_is ∙ ap (λ x. nat_lt limit (length x)) (none ∙ sym none_now);
+        },
+        ap (ended 0) m.taken ∙ k.more_ended ∙ ap (λ x. ended 0 stream ++ x) (ap (ended 0) all ∙ ended_skip 0 []) ∙ append-nil (ended 0 stream),
+      )
+
+  nonzero : NoZero u
+  nonzero = (behind_of stream []).nonzero
+
+  -- the receiver stands behind the unfinished stretch alone, too
+  own : IsBehind in_owner limit 0 r u
+  own = same_behind limit r stream u (ap (begun_by limit) (sym (alone_unfinished u nonzero))) s.behind
+
+  -- what a push of the bytes that were read says
+  module _ {V : Type 0} (takes : Tree → Type 0) (reads : Tree → V → Type 0) (used : ℕ) (now : Reception CobsDecoderOwned) (fresh : past ≡ false) (first : from ≡ at → (later : List ℕ) → unread ≡ 0 ∷ later → ⊥)
+      (some : 0 < used) (l : used ≤ length unread) (stands : (stream : List ℕ) → IsBehind in_owner limit 0 r stream → IsBehind in_owner limit 0 now (stream ++ take used unread)) where
+    abbrev holds : List ℕ → Tree → Type 0
+    holds = HoldsExactly (takes_record takes)
+
+    fits : nat_lt limit (length u) ≡ false
+    fits = sym s.past_is ∙ fresh
+
+    first_byte : (later : List ℕ) → u ++ unread ≡ 0 ∷ later → ⊥
+    first_byte = first_of u unread nonzero (λ e. first (omega (arith, s.from_is, ap length e)))
+
+    later_behind : IsBehind in_owner limit 0 now (take (at + used) bytes)
+    later_behind = subst (IsBehind in_owner limit 0 now) (sym (moved at used unread s.rest bytes s.within s.unread_is l).taken) (stands stream s.behind)
+
+    pub pushed_none : Answered {V = ℕ × V} holds (reads_record reads) limit 0 u unread used (Ok None) → ScanStands limit now (at + used) from past (drop used unread) bytes × (ended 0 (take (at + used) bytes) ≡ ended 0 (take at bytes))
+    pushed_none (a, e, p) =
+        let k = push_quiet holds limit u unread used nonzero fits first_byte (subst (IsPush holds limit 0 u unread used) e p) in
+        subst (λ b. ScanStands limit now (at + used) from b (drop used unread) bytes × (ended 0 (take (at + used) bytes) ≡ ended 0 (take at bytes))) (sym fresh) (stands_on used now false l k.0 k.1 later_behind)
+
+    pub pushed_over : Answered {V = ℕ × V} holds (reads_record reads) limit 0 u unread used (Ok (Some TooLong)) → ScanStands limit now (at + used) from true (drop used unread) bytes × (ended 0 (take (at + used) bytes) ≡ ended 0 (take at bytes))
+    pushed_over (a, says, p) = elim (push_answer holds limit u unread used nonzero fits first_byte says.0 some l (subst (IsPush holds limit 0 u unread used) says.2 p)) [
+      | inl e ↦ absurd (omega (arith, not_less limit (length (u ++ take (used - 1) unread)) e.fits, subst (IsAnswer holds limit (u ++ take (used - 1) unread)) says.1 e.is))
+      | inr e ↦ stands_on used now true l e.nonzero e.long later_behind
+    ]
+
+    pub pushed_found : (x : Answer (ℕ × V)) → ((y : Verdict) → Matches (reads_record reads) x y → y ≡ too_long → ⊥) → Answered holds (reads_record reads) limit 0 u unread used (Ok (Some x))
+        → ScanStands limit now (at + used) (at + used) past (drop used unread) bytes × IsNextStretch holds (reads_record reads) limit bytes at (at + used) from (at + (used - 1)) x
+    pushed_found x other (a, says, p) = elim (push_answer holds limit u unread used nonzero fits first_byte says.0 some l (subst (IsPush holds limit 0 u unread used) says.2 p)) [
+      | inl e ↦ (
+        subst (λ b. ScanStands limit now (at + used) (at + used) b (drop used unread) bytes) (sym fresh) (stands_found (take (used - 1) unread) used now l e.are e.nonzero (λ _. later_behind)),
+        found holds (reads_record reads) (take (used - 1) unread) used x says.0 says.1 some l e.are e.nonzero e.some e.is,
+      )
+      | inr e ↦ absurd (other says.0 says.1 e.is)
+    ]
+
+    pub pushed_lost : IsLost holds limit 0 u unread used → ScanStands limit now (at + used) (at + used) past (drop used unread) bytes
+    pushed_lost h = subst (λ b. ScanStands limit now (at + used) (at + used) b (drop used unread) bytes) (sym fresh) (stands_between used now l (none_begun limit (unfinished 0 (u ++ take used unread)) h.after) (λ _. later_behind))
+
+    -- all of it
+    abbrev pub Step : Result (Option (Answer (ℕ × V))) NoMemory → Type 0
+    Step (Ok None) = ScanStands limit now (at + used) from past (drop used unread) bytes × (ended 0 (take (at + used) bytes) ≡ ended 0 (take at bytes))
+    Step (Ok (Some TooLong)) = ScanStands limit now (at + used) from true (drop used unread) bytes × (ended 0 (take (at + used) bytes) ≡ ended 0 (take at bytes))
+    Step (Ok (Some x)) = ScanStands limit now (at + used) (at + used) past (drop used unread) bytes × IsNextStretch holds (reads_record reads) limit bytes at (at + used) from (at + (used - 1)) x
+    Step (Err e) = ScanStands limit now (at + used) (at + used) past (drop used unread) bytes
+
+    pub pushed : (result : Result (Option (Answer (ℕ × V))) NoMemory) → ((stream : List ℕ) → IsBehind in_owner limit 0 r stream → Answered holds (reads_record reads) limit 0 stream unread used result) → Step result
+    pushed (Ok None) h = pushed_none (h u own)
+    pushed (Ok (Some TooLong)) h = pushed_over (h u own)
+    pushed (Ok (Some (Value v))) h = pushed_found (Value v) (λ y m e. not_so (ap is_too_long (sym m.2 ∙ e))) (h u own)
+    pushed (Ok (Some Damaged)) h = pushed_found Damaged (λ y m e. not_so (ap is_too_long (sym m ∙ e))) (h u own)
+    pushed (Ok (Some Cut)) h = pushed_found Cut (λ y m e. not_so (ap is_too_long (sym m ∙ e))) (h u own)
+    pushed (Err e) h = pushed_lost (h u own)
+
+  -- a byte of a stretch that is too long
+  pub stands_past : (b : ℕ) (later : List ℕ) → past ≡ true → 0 < b → unread ≡ b ∷ later → ScanStands limit r (at + 1) from past later bytes × (ended 0 (take (at + 1) bytes) ≡ ended 0 (take at bytes))
+  stands_past b later e l z =
+      let k = behind_of stream [] in
+      let m = moved at 1 unread s.rest bytes s.within s.unread_is (omega (arith, ap length z)) in
+      let all : u ++ take 1 unread ≡ u ++ b ∷ [] = ap (λ x. u ++ take 1 x) z in
+      let n : NoZero (u ++ take 1 unread) = subst NoZero (sym all) (no_zero_more u b k.nonzero l) in
+      let long : limit < length u = ltb-true limit (length u) (sym s.past_is ∙ e) in
+      let later_long : nat_lt limit (length (u ++ take 1 unread)) ≡ true = lt-ltb limit (length (u ++ take 1 unread)) (omega (arith, long, ap length all, length-append u (b ∷ []))) in
+      let same : unfinished 0 (take (at + 1) bytes) ≡ u ++ take 1 unread = ap (unfinished 0) m.taken ∙ (behind_of stream (take 1 unread)).more_unfinished ∙ alone_unfinished (u ++ take 1 unread) n in
+      let both : begun limit 0 stream ≡ begun limit 0 (take (at + 1) bytes) =
+      ap (λ c. if c then over else kept u) (sym s.past_is ∙ e) ∙ sym (ap (begun_by limit) same ∙ ap (λ c. if c then over else kept (u ++ take 1 unread)) later_long) in
+      let t = stands_on 1 r true (omega (arith, ap length z)) n later_long (same_behind limit r stream (take (at + 1) bytes) both s.behind) in
+      (subst (λ x. ScanStands limit r (at + 1) from past x bytes) (ap (drop 1) z) (subst (λ c. ScanStands limit r (at + 1) from c (drop 1 unread) bytes) (sym e) t.0), t.1)
+
+  -- and the zero that ends it
+  pub stands_passed : {V : Type 0} (rule : List ℕ → Tree → Type 0) (reads : Tree → V → Type 0) (now : Reception CobsDecoderOwned) (later : List ℕ) → past ≡ true → unread ≡ 0 ∷ later → IsBehind in_owner limit 0 now []
+      → ScanStands limit now (at + 1) (at + 1) false later bytes × IsNextStretch rule reads limit bytes at (at + 1) from at TooLong
+  stands_passed rule reads now later e z h =
+      let zero_more : at + (1 - 1) ≡ at = omega arith in
+      let k = behind_of stream [] in
+      let within : 1 ≤ length unread = omega (arith, ap length z) in
+      let long : limit < length u = ltb-true limit (length u) (sym s.past_is ∙ e) in
+      let are : take 1 unread ≡ [] ++ 0 ∷ [] = ap (take 1) z in
+      let n : NoZero (u ++ []) = subst NoZero (sym (append-nil u)) k.nonzero in
+      let t = stands_found [] 1 now within are n (λ g. same_behind limit now [] (take (at + 1) bytes) (ap (λ c. if c then over else kept []) (no_less limit) ∙ sym g) h) in
+      let size : length (u ++ []) ≡ length u = ap length (append-nil u) in
+      let f = found rule reads [] 1 TooLong too_long refl (omega arith) within are n (omega (arith, size, long)) (omega (arith, size, long)) in
+      (subst (λ x. ScanStands limit now (at + 1) (at + 1) false x bytes) (ap (drop 1) z) t, subst (λ to. IsNextStretch rule reads limit bytes at (at + 1) from to TooLong) zero_more f)
+
+-- what a push of a piece says that is what was read; what is left of it stands behind the bytes that were used
+module _ {V : Type 0} (takes : Tree → Type 0) (reads : Tree → V → Type 0) (limit at from : ℕ) (past : Bool) (bytes room : List ℕ) (start used : ℕ) (now : Reception CobsDecoderOwned) where
+  abbrev pub Later : Result (Option (Answer (ℕ × V))) NoMemory → Type 0
+  Later (Ok None) = ScanStands limit now (at + used) from past (drop (start + used) room) bytes × (ended 0 (take (at + used) bytes) ≡ ended 0 (take at bytes))
+  Later (Ok (Some TooLong)) = ScanStands limit now (at + used) from true (drop (start + used) room) bytes × (ended 0 (take (at + used) bytes) ≡ ended 0 (take at bytes))
+  Later (Ok (Some x)) =
+      ScanStands limit now (at + used) (at + used) past (drop (start + used) room) bytes × IsNextStretch (HoldsExactly (takes_record takes)) (reads_record reads) limit bytes at (at + used) from (at + (used - 1)) x
+  Later (Err e) = ScanStands limit now (at + used) (at + used) past (drop (start + used) room) bytes
+
+  later_of : {r : Reception CobsDecoderOwned} (s : ScanStands limit r at from past (drop start room) bytes) (fresh : past ≡ false) (first : from ≡ at → (later : List ℕ) → drop start room ≡ 0 ∷ later → ⊥) (some : 0 < used) (l : used ≤ length (drop start room))
+      (stands : (stream : List ℕ) → IsBehind in_owner limit 0 r stream → IsBehind in_owner limit 0 now (stream ++ take used (drop start room)))
+      (result : Result (Option (Answer (ℕ × V))) NoMemory) → Step s takes reads used now fresh first some l stands result → Later result
+  later_of s fresh first some l stands (Ok None) h = subst (λ x. ScanStands limit now (at + used) from past x bytes × (ended 0 (take (at + used) bytes) ≡ ended 0 (take at bytes))) (drop-drop used start room) h
+  later_of s fresh first some l stands (Ok (Some TooLong)) h = subst (λ x. ScanStands limit now (at + used) from true x bytes × (ended 0 (take (at + used) bytes) ≡ ended 0 (take at bytes))) (drop-drop used start room) h
+  later_of s fresh first some l stands (Ok (Some (Value v))) h = (subst (λ x. ScanStands limit now (at + used) (at + used) past x bytes) (drop-drop used start room) h.0, h.1)
+  later_of s fresh first some l stands (Ok (Some Damaged)) h = (subst (λ x. ScanStands limit now (at + used) (at + used) past x bytes) (drop-drop used start room) h.0, h.1)
+  later_of s fresh first some l stands (Ok (Some Cut)) h = (subst (λ x. ScanStands limit now (at + used) (at + used) past x bytes) (drop-drop used start room) h.0, h.1)
+  later_of s fresh first some l stands (Err e) h = subst (λ x. ScanStands limit now (at + used) (at + used) past x bytes) (drop-drop used start room) h
+
+  pub stands_later : {r : Reception CobsDecoderOwned} → ScanStands limit r at from past (drop start room) bytes → past ≡ false → (from ≡ at → (later : List ℕ) → drop start room ≡ 0 ∷ later → ⊥)
+      → (piece : List ℕ) → piece ≡ drop start room → 0 < used → used ≤ length piece
+      → ((stream : List ℕ) → IsBehind in_owner limit 0 r stream → IsBehind in_owner limit 0 now (stream ++ take used piece))
+      → (result outcome : Result (Option (Answer (ℕ × V))) NoMemory) → ((stream : List ℕ) → IsBehind in_owner limit 0 r stream → Answered (HoldsExactly (takes_record takes)) (reads_record reads) limit 0 stream piece used result)
+      → result ≡ outcome → Later outcome
+  stands_later {r} s fresh first piece same some l stands result outcome answers e =
+      let bound : used ≤ length (drop start room) = subst (λ p. used ≤ length p) same l in
+      let on = subst (λ p. (stream : List ℕ) → IsBehind in_owner limit 0 r stream → IsBehind in_owner limit 0 now (stream ++ take used p)) same stands in
+      let says = subst (λ p. (stream : List ℕ) → IsBehind in_owner limit 0 r stream → Answered (HoldsExactly (takes_record takes)) (reads_record reads) limit 0 stream p used result) same answers in
+      subst Later e (later_of s fresh first some bound on result (pushed s takes reads used now fresh first some bound on result says))
+
+-- from an offset before which no more stretch ends
+pub next_from : {V : Type 0} {holds : List ℕ → Tree → Type 0} {reads : Tree → V → Type 0} {limit first old new from to : ℕ} {bytes : List ℕ} {answer : Answer V} → ended 0 (take old bytes) ≡ ended 0 (take first bytes)
+    → IsNextStretch holds reads limit bytes old new from to answer → IsNextStretch holds reads limit bytes first new from to answer
+next_from e n = record { stretch = n.stretch; is = n.is; behind = n.behind; next = n.next ∙ ap (λ x. x ++ n.stretch ∷ []) e }
+
+module _ {V : Type 0} (takes : Tree → Type 0) (reads : Tree → V → Type 0) (limit : ℕ) (bytes : List ℕ) (first old new : ℕ) where
+  pub found_from : (o : Option (Stretch V)) → ended 0 (take old bytes) ≡ ended 0 (take first bytes) → Found takes reads limit bytes old new o → Found takes reads limit bytes first new o
+  found_from None e f = f ∙ e
+  found_from (Some s) e f = next_from e f
+
+-- in a longer log
+pub stands_longer : {limit at from : ℕ} {r : Reception CobsDecoderOwned} {past : Bool} {unread : List ℕ} (bytes more : List ℕ) → ScanStands limit r at from past unread bytes → ScanStands limit r at from past unread (bytes ++ more)
+stands_longer {limit} {at} {from} {r} {past} {unread} bytes more s =
+    let same : take at (bytes ++ more) ≡ take at bytes = take-append-le at bytes more s.within in
+    record {
+      within = omega (arith, s.within, length-append bytes more);
+      rest = s.rest ++ more;
+      unread_is = drop-append-le at bytes more s.within ∙ ap (λ x. x ++ more) s.unread_is ∙ append_assoc unread s.rest more;
+      from_is = ap (λ x. from + length (unfinished 0 x)) same ∙ s.from_is;
+      behind = subst (IsBehind in_owner limit 0 r) (sym same) s.behind;
+      past_is = s.past_is ∙ ap (λ x. nat_lt limit (length (unfinished 0 x))) (sym same);
+    }

@@ -1,0 +1,95 @@
+-- How answers are handed on, push by push.
+use Rattle.std.proofs.Common.{◌≡◌, ◌-◌, ◌<◌, ◌≤◌, false, ℕ, inl, inr, arith, List, [], ◌∷◌, ◌++◌, length, take, Option, Some, None, Result, Ok, Err, sym, ap, ◌∙◌, subst}
+use Rattle.std.proofs.lemmas.List.{append-nil, length-append, length-take-le}
+use Rattle.line_io.specs.Device.{Gave}
+use Rattle.line_io.specs.Calls.{Gave-none, Gave-then}
+use Rattle.postcard_tree.specs.Tree.{Tree}
+use Rattle.link.specs.Decoding.{Inside}
+use Rattle.link.specs.Listening.{KeepsAnswer, HasRead, Hears}
+use Rattle.line_io.specs.Transfers.{Failed}
+use Rattle.link.specs.declared.listening.End.{End}
+use Rattle.link.specs.declared.listening.End.TheVariants.{Ended, ReadFault, NoMemory as NoneLeft}
+use Rattle.link.specs.declared.reception.Reception.{Reception}
+use Rattle.std.specs.Prelude.{IsOk, IsErr}
+use Rattle.link.specs.Each.{Handed, HearerLaws, UsesFew, MayLackMemory, HadMemory, last_call}
+use Rattle.link.specs.declared.receiver.Answer.{Answer}
+use Rattle.link.specs.declared.receiver.NoMemory.{NoMemory}
+
+module _ {H V : Type 0} (hears : H → List (Answer V) → H → Type 0) (laws : HearerLaws hears) where
+  -- nothing was handed on
+  pub handed_none : (h : H) (P : List (Answer V) → Type 0) → P [] → Handed hears h h P
+  handed_none h P p = record { answers = []; heard = laws.none h; so = p }
+
+  pub handed_one : (h k : H) (a : Answer V) (P : List (Answer V) → Type 0) → hears h (a ∷ []) k → P (a ∷ []) → Handed hears h k P
+  handed_one h k a P e p = record { answers = a ∷ []; heard = e; so = p }
+
+  -- the same where the others are known to be behind these
+  pub handed_next : (h m k : H) (P Q R : List (Answer V) → Type 0) (p : Handed hears h m P) → Handed hears m k Q → ((ys : List (Answer V)) → Q ys → R (p.answers ++ ys)) → Handed hears h k R
+  handed_next h m k P Q R p q f =
+      record { answers = p.answers ++ q.answers; heard = laws.more h m k p.answers q.answers p.heard q.heard; so = f q.answers q.so }
+
+  -- and then a pause
+  pub handed_paused : (h m k : H) (P : List (Answer V) → Type 0) → Handed hears h m P → hears m [] k → Handed hears h k P
+  handed_paused h m k P p q = record { answers = p.answers; heard = subst (λ xs. hears h xs k) (append-nil p.answers) (laws.more h m k p.answers [] p.heard q); so = p.so }
+
+  pub handed_as : (h k : H) (P Q : List (Answer V) → Type 0) → Handed hears h k P → ((xs : List (Answer V)) → P xs → Q xs) → Handed hears h k Q
+  handed_as h k P Q p f = record { answers = p.answers; heard = p.heard; so = f p.answers p.so }
+
+-- an answer that is kept behind none is kept behind others
+pub keeps_behind : {V : Type 0} (answer : Result (Option (Answer V)) NoMemory) (old more : List (Answer V)) → KeepsAnswer answer [] more → KeepsAnswer answer old (old ++ more)
+keeps_behind (Ok None) old more k = ap (λ x. old ++ x) k ∙ append-nil old
+keeps_behind (Ok (Some a)) old more k = ap (λ x. old ++ x) k
+keeps_behind (Err e) old more k = absurd k
+
+-- no byte came, and nothing was handed on
+pub nothing_more : {D V : Type 0} (inside : D → Inside) (holds : List ℕ → Tree → Type 0) (reads : Tree → V → Type 0) (limit s : ℕ) (r : Reception D) (given : List (Answer V)) (stream bytes : List ℕ) → bytes ≡ []
+    → Hears inside holds reads limit s r given stream → Hears inside holds reads limit s r (given ++ []) (stream ++ bytes)
+nothing_more inside holds reads limit s r given stream bytes e h =
+    subst (λ xs. Hears inside holds reads limit s r xs (stream ++ bytes)) (sym (append-nil given))
+    (subst (λ x. Hears inside holds reads limit s r given x) (sym (ap (λ x. stream ++ x) e ∙ append-nil stream)) h)
+
+-- reads that were no fault, and then the last ones
+pub read_then : (u v w : Option (List ℕ)) (before now after calls : ℕ) (a b : List ℕ) (end : End) → Gave u v before now a → now ≡ before → HasRead v w now after calls end b → HasRead u w before after calls end (a ++ b)
+read_then u v w before now after calls a b Ended g q h = (Gave-then _ _ _ _ _ _ _ _ g h.0, h.1 ∙ q, h.2)
+read_then u v w before now after calls a b ReadFault g q h = (Gave-then _ _ _ _ _ _ _ _ g h.0, Failed-on _ _ _ _ q h.1)
+  where
+    Failed-on : (f n m calls : ℕ) → n ≡ f → Failed n m calls → Failed f m calls
+    Failed-on f n m calls e (inl l) = inl (omega arith)
+    Failed-on f n m calls e (inr z) = inr z
+read_then u v w before now after calls a b NoneLeft g q h = (Gave-then _ _ _ _ _ _ _ _ g h.0, h.1 ∙ q)
+
+-- no call was used
+pub uses_none : (w : Option (List ℕ)) (f calls : ℕ) → UsesFew w w f f calls calls 0
+uses_none w f calls = record { bytes = []; gave = Gave-none w f; few = omega arith }
+
+-- few calls, and then few others
+pub uses_then : (u v w : Option (List ℕ)) (f g h c d e last : ℕ) → UsesFew u v f g c d 0 → UsesFew v w g h d e last → UsesFew u w f h c e last
+uses_then u v w f g h c d e last p q = record {
+  bytes = p.bytes ++ q.bytes;
+  gave = Gave-then u v w f g h p.bytes q.bytes p.gave q.gave;
+  few = omega (arith, p.few, q.few, length-append p.bytes q.bytes);
+}
+
+-- what was taken isn't empty
+pub taken_some : (n : ℕ) (room : List ℕ) → (n ≡ 0 → ⊥) → n ≤ length room → 0 < length (take n room)
+taken_some n room some bound = omega (arith, length-take-le n room bound, some)
+
+-- a read that took bytes
+pub uses_read : (u w : Option (List ℕ)) (f h c e : ℕ) (bytes : List ℕ) → Gave u w f h bytes → e ≡ c - 1 → 0 < length bytes → UsesFew u w f h c e 0
+uses_read u w f h c e bytes g z l = record { bytes = bytes; gave = g; few = omega (arith, z, l) }
+
+-- the last read
+pub uses_last : (u w : Option (List ℕ)) (f h c e : ℕ) (bytes : List ℕ) → Gave u w f h bytes → e ≡ c - 1 → UsesFew u w f h c e 1
+uses_last u w f h c e bytes g z = record { bytes = bytes; gave = g; few = omega (arith, z) }
+
+-- few calls, however it ended
+pub uses_ended : (u w : Option (List ℕ)) (f h c e : ℕ) (end : Option End) → UsesFew u w f h c e (last_call end) → UsesFew u w f h c e 1
+uses_ended u w f h c e None p = record { bytes = p.bytes; gave = p.gave; few = omega (arith, p.few) }
+uses_ended u w f h c e (Some end) p = p
+
+-- of values that ask for no memory none is wanting
+pub had_memory : (end : Option End) → MayLackMemory false end → HadMemory end
+had_memory None h = tt
+had_memory (Some Ended) h = tt
+had_memory (Some ReadFault) h = tt
+had_memory (Some NoneLeft) h = cc

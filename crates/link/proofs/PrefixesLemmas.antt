@@ -1,0 +1,200 @@
+-- What is given of a front of a stream are the first answers to the whole.
+use Rattle.std.proofs.Common.{◌≡◌, ℕ, ◌+◌, ◌<◌, ◌≤◌, List, [], ◌∷◌, ◌++◌, length, take, drop, Some, refl, sym, ap, ◌∙◌, subst, inl, inr, arith, append_assoc}
+use Rattle.std.specs.List.{AllZip}
+use Rattle.std.proofs.lemmas.List.{append-nil, length-append, take-append-drop, length-take, take-take, take-append-le}
+use Rattle.std.proofs.lemmas.Bool.{cases_lt, lt-ltb, le-ltb}
+use Rattle.cobs.specs.Frames.{Frame, spelled, block}
+use Rattle.std.proofs.Math.Seq.{take-length}
+use Rattle.cobs.specs.Sentinel.{masked}
+use Rattle.postcard_tree.specs.Tree.{Tree}
+use Rattle.std.proofs.lemmas.List.{map-append}
+use Rattle.std.specs.Prelude.{bit_xor}
+use Rattle.link.specs.Stream.{Verdict, too_long, cut, IsAnswer, begun_answers, cut_answers, Given, Answers, ended, unfinished, kept}
+use Rattle.link.specs.Relational.{Stretches}
+use Rattle.link.specs.Pushes.{IsBegun, IsPush, IsLost}
+use Rattle.link.specs.Listening.{IsDue, AnswersBeginProperly, IsKeptDue, IsReceived}
+use Rattle.link.specs.declared.receiver.Answer.{Answer}
+use Rattle.link.specs.declared.listening.End.{End}
+use Rattle.link.specs.declared.listening.End.TheVariants.{Ended, ReadFault, NoMemory}
+use Rattle.link.specs.Stepwise.{filled, has_stretches, ended_is, unfinished_is}
+use Rattle.link.proofs.StreamsLemmas.{NoZero-append, goes_on}
+use Rattle.link.proofs.FeedingLemmas.{is_short}
+use Rattle.link.specs.Judged.{IsJudged}
+use Rattle.link.specs.OneAnswers.{one_answer}
+
+spelled_some : (first : List ℕ) (others : List (List ℕ)) → 0 < length (spelled first others)
+spelled_some first [] = omega arith
+spelled_some first (next ∷ runs) = omega (arith, length-append (block first) (spelled next runs))
+
+frame_some : (p m : List ℕ) → Frame p m → 0 < length p
+frame_some p m f = omega (arith, ap length f.spells, spelled_some f.first f.others)
+
+pub front_taken : (x y : List ℕ) → take (length x) (x ++ y) ≡ x
+front_taken x y = take-append-le (length x) x y (omega arith) ∙ take-length x
+
+-- the answers to the first of some stretches, and those to the others
+pub record Split (R : List ℕ → Verdict → Type 0) (qs : List (List ℕ)) (us vs : List Verdict) : Type 0 where
+  pub tail : List Verdict
+  pub whole : vs ≡ us ++ tail
+  pub each : AllZip R qs tail
+
+split_front : (R : List ℕ → Verdict → Type 0) → ((p : List ℕ) (v w : Verdict) → R p v → R p w → v ≡ w) → (ps qs : List (List ℕ)) (us vs : List Verdict) → AllZip R ps us → AllZip R (ps ++ qs) vs → Split R qs us vs
+split_front R one [] qs [] vs h k = record { tail = vs; whole = refl; each = k }
+split_front R one [] qs (u ∷ us) vs h k = absurd h
+split_front R one (p ∷ ps) qs [] vs h k = absurd h
+split_front R one (p ∷ ps) qs (u ∷ us) [] h k = absurd k
+split_front R one (p ∷ ps) qs (u ∷ us) (v ∷ vs) h k =
+    let r = split_front R one ps qs us vs h.1 k.1 in
+    let same : v ≡ u = one p v u k.0 h.0 in
+    record { tail = r.tail; whole = ap (λ x. x ∷ vs) same ∙ ap (λ x. u ∷ x) r.whole; each = r.each }
+
+filled_joined : (ps qs : List (List ℕ)) → filled (ps ++ qs) ≡ filled ps ++ filled qs
+filled_joined [] qs = refl
+filled_joined ([] ∷ ps) qs = filled_joined ps qs
+filled_joined ((b ∷ p) ∷ ps) qs = ap (λ x. (b ∷ p) ∷ x) (filled_joined ps qs)
+
+-- a stream, and more with a sentinel in it
+meets : (s : ℕ) (x y : List ℕ) (ps : List (List ℕ)) (u q : List ℕ) (qs : List (List ℕ)) (v : List ℕ) → Stretches s x ps u → Stretches s y (q ∷ qs) v → Stretches s (x ++ y) (ps ++ ((u ++ q) ∷ qs)) v
+meets s x y [] u q qs v (z, e) (after, w, d, more) =
+    (after, NoZero-append u q z w, ap (λ a. a ++ y) e ∙ ap (λ a. masked s u ++ a) d ∙ sym (append_assoc (masked s u) (masked s q) (s ∷ after)) ∙ ap (λ a. a ++ (s ∷ after)) (sym (map-append (λ b. bit_xor s b) u q)), more)
+meets s x y (p ∷ ps) u q qs v (after, z, e, more) k =
+    (after ++ y, z, ap (λ a. a ++ y) e ∙ append_assoc (masked s p) (s ∷ after) y, meets s after y ps u q qs v more k)
+
+long_said : (limit : ℕ) (u : List ℕ) → limit < length u → begun_answers limit u ≡ too_long ∷ []
+long_said limit u l = rw (lt-ltb limit (length u) l) refl
+
+short_said : (limit : ℕ) (u : List ℕ) → length u ≤ limit → begun_answers limit u ≡ []
+short_said limit u l = rw (le-ltb limit (length u) l) refl
+
+module _ (holds : List ℕ → Tree → Type 0) (limit s : ℕ) (one : (p : List ℕ) (v w : Verdict) → IsAnswer holds limit p v → IsAnswer holds limit p w → v ≡ w) where
+  -- what is said of an unfinished stretch at once is the first that is said of a longer one
+  said_more : (u v : List ℕ) → (tail : List Verdict) × (begun_answers limit (u ++ v) ++ cut_answers limit (u ++ v) ≡ begun_answers limit u ++ tail)
+  said_more u v = elim (cases_lt limit (length u)) [
+    | inl l ↦ (cut_answers limit (u ++ v), ap (λ x. x ++ cut_answers limit (u ++ v)) (long_said limit (u ++ v) (omega (arith, length-append u v)) ∙ sym (long_said limit u l)))
+    | inr l ↦ (begun_answers limit (u ++ v) ++ cut_answers limit (u ++ v), ap (λ x. x ++ (begun_answers limit (u ++ v) ++ cut_answers limit (u ++ v))) (sym (short_said limit u l)))
+  ]
+
+  -- or of one that is ended
+  said_ended : (u q : List ℕ) (qs : List (List ℕ)) (answers : List Verdict) → AllZip (IsAnswer holds limit) (filled ((u ++ q) ∷ qs)) answers → (tail : List Verdict) × (answers ≡ begun_answers limit u ++ tail)
+  said_ended u q qs answers h = elim (cases_lt limit (length u)) [
+    | inl l ↦ first_long (u ++ q) qs answers (begun_answers limit u) (omega (arith, length-append u q)) (long_said limit u l) h
+    | inr l ↦ (answers, ap (λ x. x ++ answers) (sym (short_said limit u l)))
+  ]
+    where
+      first_long : (p : List ℕ) (qs : List (List ℕ)) (answers said : List Verdict) → limit < length p → said ≡ too_long ∷ [] → AllZip (IsAnswer holds limit) (filled (p ∷ qs)) answers → (tail : List Verdict) × (answers ≡ said ++ tail)
+      first_long [] qs answers said l e h = absurd (omega arith)
+      first_long (b ∷ p) qs [] said l e h = absurd h
+      first_long (b ∷ p) qs (a ∷ answers) said l e h = (answers, ap (λ x. x ∷ answers) (one (b ∷ p) a too_long h.0 l) ∙ ap (λ x. x ++ answers) (sym e))
+
+  -- the answers to a front and to the whole, by its stretches
+  front_by : (x y : List ℕ) (us all : List Verdict) (ps : List (List ℕ)) (u : List ℕ) → Stretches s x ps u → (qs : List (List ℕ)) (v : List ℕ) → Stretches s y qs v
+      → Given holds limit s x us → Answers holds limit s (x ++ y) all → (tail : List Verdict) × (all ≡ us ++ tail)
+  front_by x y us all ps u m [] v k g a =
+      let j : Stretches s (x ++ y) ps (u ++ v) = subst (λ b. Stretches s (x ++ b) ps (u ++ v)) (sym k.1) (goes_on s x ps u v m k.0) in
+      let r = split_front (IsAnswer holds limit) one (filled ps) [] g.done a.done (subst (λ b. AllZip (IsAnswer holds limit) b g.done) (ended_is s x ps u m) g.each)
+      (subst (λ b. AllZip (IsAnswer holds limit) b a.done) (ended_is s (x ++ y) ps (u ++ v) j ∙ sym (append-nil (filled ps))) a.each) in
+      let t = said_more u v in (
+        t.0,
+        a.whole ∙ ap (λ b. a.done ++ (begun_answers limit b ++ cut_answers limit b)) (unfinished_is s (x ++ y) ps (u ++ v) j) ∙ ap (λ b. a.done ++ b) t.1
+            ∙ ap (λ b. b ++ (begun_answers limit u ++ t.0)) (r.whole ∙ ap (λ b. g.done ++ b) (none_left r.tail r.each) ∙ append-nil g.done)
+            ∙ sym (append_assoc g.done (begun_answers limit u) t.0) ∙ ap (λ b. b ++ t.0) (sym (g.whole ∙ ap (λ b. g.done ++ begun_answers limit b) (unfinished_is s x ps u m))),
+      )
+    where
+      none_left : (tail : List Verdict) → AllZip (IsAnswer holds limit) [] tail → tail ≡ []
+      none_left [] h = refl
+      none_left (b ∷ tail) h = absurd h
+  front_by x y us all ps u m (q ∷ qs) v k g a =
+      let j = meets s x y ps u q qs v m k in
+      let r = split_front (IsAnswer holds limit) one (filled ps) (filled ((u ++ q) ∷ qs)) g.done a.done (subst (λ b. AllZip (IsAnswer holds limit) b g.done) (ended_is s x ps u m) g.each)
+      (subst (λ b. AllZip (IsAnswer holds limit) b a.done) (ended_is s (x ++ y) (ps ++ ((u ++ q) ∷ qs)) v j ∙ filled_joined ps ((u ++ q) ∷ qs)) a.each) in
+      let t = said_ended u q qs r.tail r.each in
+      let said = begun_answers limit (unfinished s (x ++ y)) ++ cut_answers limit (unfinished s (x ++ y)) in (
+        t.0 ++ said,
+        a.whole ∙ ap (λ b. b ++ said) (r.whole ∙ ap (λ b. g.done ++ b) t.1 ∙ sym (append_assoc g.done (begun_answers limit u) t.0) ∙ ap (λ b. b ++ t.0) (sym (g.whole ∙ ap (λ b. g.done ++ begun_answers limit b) (unfinished_is s x ps u m))))
+            ∙ append_assoc us t.0 said,
+      )
+
+  pub given_front : (x y : List ℕ) (us all : List Verdict) → Given holds limit s x us → Answers holds limit s (x ++ y) all → (tail : List Verdict) × (all ≡ us ++ tail)
+  given_front x y us all g a =
+      let h = has_stretches s x in
+      let k = has_stretches s y in
+      front_by x y us all h.before h.rest h.stretches k.before k.rest k.stretches g a
+
+  one_first : (p : List ℕ) (qs : List (List ℕ)) (tail : List Verdict) → 0 < length p → AllZip (IsAnswer holds limit) (filled (p ∷ qs)) tail → (w : Verdict) × (more : List Verdict) × (tail ≡ w ∷ more)
+  one_first [] qs tail l h = absurd (omega arith)
+  one_first (b ∷ p) qs [] l h = absurd h
+  one_first (b ∷ p) qs (w ∷ more) l h = (w, more, refl)
+
+  -- a sentinel behind an unfinished stretch brings a further answer
+  pub given_ended : (x z : List ℕ) (us all : List Verdict) → 0 < length (unfinished s x) → length (unfinished s x) ≤ limit → Given holds limit s x us → Answers holds limit s (x ++ (s ∷ z)) all
+      → (w : Verdict) × (more : List Verdict) × (all ≡ us ++ (w ∷ more))
+  given_ended x z us all l n g a =
+      let h = has_stretches s x in
+      let k = has_stretches s z in
+      let u = h.rest in
+      let same = unfinished_is s x h.before u h.stretches in
+      let j = meets s x (s ∷ z) h.before u [] k.before k.rest h.stretches (z, tt, refl, k.stretches) in
+      let r = split_front (IsAnswer holds limit) one (filled h.before) (filled ((u ++ []) ∷ k.before)) g.done a.done (subst (λ b. AllZip (IsAnswer holds limit) b g.done) (ended_is s x h.before u h.stretches) g.each)
+      (subst (λ b. AllZip (IsAnswer holds limit) b a.done) (ended_is s (x ++ (s ∷ z)) (h.before ++ ((u ++ []) ∷ k.before)) k.rest j ∙ filled_joined h.before ((u ++ []) ∷ k.before)) a.each) in
+      let f = one_first (u ++ []) k.before r.tail (omega (arith, ap length same, length-append u [])) r.each in
+      let said = begun_answers limit (unfinished s (x ++ (s ∷ z))) ++ cut_answers limit (unfinished s (x ++ (s ∷ z))) in
+      let none : us ≡ g.done = g.whole ∙ ap (λ b. g.done ++ b) (short_said limit (unfinished s x) n) ∙ append-nil g.done in (
+        f.0,
+        f.1 ++ said,
+        a.whole ∙ ap (λ b. b ++ said) (r.whole ∙ ap (λ b. g.done ++ b) f.2) ∙ append_assoc g.done (f.0 ∷ f.1) said ∙ ap (λ b. b ++ (f.0 ∷ (f.1 ++ said))) (sym none),
+      )
+
+module _ (holds : List ℕ → Tree → Type 0) (judged : IsJudged holds) (limit s : ℕ) (front rest : List ℕ) (vs : List Verdict) (g : Given holds limit s front vs) where
+  one : (p : List ℕ) (v w : Verdict) → IsAnswer holds limit p v → IsAnswer holds limit p w → v ≡ w
+  one = one_answer holds limit judged.one
+
+  by_push : (used : ℕ) (a : Verdict) → IsPush holds limit s front rest used (Some a) → AnswersBeginProperly holds limit s (front ++ rest) vs
+  by_push used a p all h =
+      let parts : front ++ rest ≡ (front ++ take used rest) ++ drop used rest = ap (λ b. front ++ b) (sym (take-append-drop used rest)) ∙ sym (append_assoc front (take used rest) (drop used rest)) in
+      let t = given_front holds limit s one (front ++ take used rest) (drop used rest) (vs ++ a ∷ []) all (p.gives vs g) (subst (λ b. Answers holds limit s b all) parts h) in
+      (a, t.0, t.1 ∙ append_assoc vs (a ∷ []) t.0)
+
+  by_end : (b : ℕ) (p : List ℕ) → rest ≡ [] → IsBegun limit s front (kept (b ∷ p)) → AnswersBeginProperly holds limit s (front ++ rest) vs
+  by_end b p e i all h =
+      let k = is_short limit (unfinished s front) (b ∷ p) i in
+      let a = subst (λ y. Answers holds limit s y all) (ap (λ y. front ++ y) e ∙ append-nil front) h in
+      let r = split_front (IsAnswer holds limit) one (ended s front) [] g.done a.done g.each (subst (λ y. AllZip (IsAnswer holds limit) y a.done) (sym (append-nil (ended s front))) a.each) in
+      let long : length (b ∷ p) ≤ limit = subst (λ y. length y ≤ limit) k.0 k.1 in
+      let last : cut_answers limit (unfinished s front) ≡ cut ∷ [] = ap (cut_answers limit) k.0 ∙ rw (le-ltb limit (length (b ∷ p)) long) refl in
+      let none : vs ≡ g.done = g.whole ∙ ap (λ y. g.done ++ y) (short_said limit (unfinished s front) k.1) ∙ append-nil g.done in (
+        cut,
+        [],
+        a.whole ∙ ap (λ y. a.done ++ (y ++ cut_answers limit (unfinished s front))) (short_said limit (unfinished s front) k.1) ∙ ap (λ y. a.done ++ y) last
+            ∙ ap (λ y. y ++ (cut ∷ [])) (r.whole ∙ ap (λ y. g.done ++ y) (left_none r.tail r.each) ∙ append-nil g.done ∙ sym none),
+      )
+    where
+      left_none : (tail : List Verdict) → AllZip (IsAnswer holds limit) [] tail → tail ≡ []
+      left_none [] h = refl
+      left_none (x ∷ tail) h = absurd h
+
+  by_loss : (used : ℕ) → IsLost holds limit s front rest used → AnswersBeginProperly holds limit s (front ++ rest) vs
+  by_loss used l all h =
+      let n = length l.front in
+      let long : n + 1 ≤ used = omega (arith, ap length l.bytes, length-append l.front (s ∷ []), length-take used rest) in
+      let begins : take n rest ≡ l.front = sym (take-take n used rest (omega arith)) ∙ ap (take n) l.bytes ∙ front_taken l.front (s ∷ []) in
+      let given = subst (λ y. Given holds limit s (front ++ y) vs) begins (l.least.same vs g n (omega arith)) in
+      let parts : front ++ rest ≡ (front ++ l.front) ++ (s ∷ drop used rest) =
+      ap (λ y. front ++ y) (sym (take-append-drop used rest) ∙ ap (λ y. y ++ drop used rest) l.bytes ∙ append_assoc l.front (s ∷ []) (drop used rest)) ∙ sym (append_assoc front l.front (s ∷ drop used rest)) in
+      let k = is_short limit (unfinished s (front ++ l.front)) l.stretch l.begun in
+      given_ended holds limit s one (front ++ l.front) (drop used rest) vs all (omega (arith, ap length k.0, frame_some l.stretch l.message l.frame)) k.1 given (subst (λ y. Answers holds limit s y all) parts h)
+
+  -- where a further answer is due, those so far are a proper beginning of all
+  pub due_begins : IsDue holds limit s front rest → AnswersBeginProperly holds limit s (front ++ rest) vs
+  due_begins (inl (used, a, p)) = by_push used a p
+  due_begins (inr (inl (used, l))) = by_loss used l
+  due_begins (inr (inr (b, p, e, i))) = by_end b p e i
+
+-- what was kept is what is received
+pub received : {V : Type 0} (holds : List ℕ → Tree → Type 0) → IsJudged holds → (reads : Tree → V → Type 0) (limit s : ℕ) (end : End) (answers : List (Answer V)) (stream : List ℕ) → IsKeptDue holds reads limit s end answers stream → IsReceived holds reads limit s end answers stream
+received holds judged reads limit s Ended answers stream h = h
+received holds judged reads limit s ReadFault answers stream h = h
+received holds judged reads limit s NoMemory answers stream h = record {
+  verdicts = h.given.verdicts;
+  begins = subst (λ x. AnswersBeginProperly holds limit s x h.given.verdicts) (sym h.parts) (due_begins holds judged limit s h.front h.rest h.given.verdicts h.given.given h.due);
+  matching = h.given.matching;
+}

@@ -1,0 +1,210 @@
+-- What runs without sentinels do to a receiver, and where they end.
+use Rattle.std.proofs.Common.{◌≡◌, ℕ, zero, suc, ◌+◌, ◌-◌, ◌<◌, ◌≤◌, Bool, true, false, List, [], ◌∷◌, ◌++◌, length, take, drop, get_or, Option, Some, None, Result, Ok, refl, sym, ap, ◌∙◌, subst, inl, inr, arith, append_assoc}
+use Rattle.std.specs.Prelude.{bit_xor}
+use Rattle.std.specs.List.{AllByRecursion}
+use Rattle.std.proofs.lemmas.Nat.{xor_lt}
+use Rattle.std.proofs.lemmas.Bool.{cases_eq, cases_lt, ne_eqb, eq-eqb, eqb-true, lt-ltb, le-ltb}
+use Rattle.std.proofs.lemmas.List.{append-nil, length-append, length-drop}
+use Rattle.cobs.specs.Frames.{NoZero, part}
+use Rattle.cobs.specs.FrameLaws.{DecidesLess}
+use Rattle.cobs.specs.InPlace.{stretch}
+use Rattle.cobs.specs.Pieces.{frame_left, ended}
+use Rattle.cobs.specs.Feeding.{answer_of, frame_after}
+use Rattle.cobs.specs.Streaming.{HasStreamed, Decoded}
+use Rattle.cobs.specs.Sentinel.{masked}
+use Rattle.cobs.specs.Taking.{TakesPiece}
+use Rattle.cobs.specs.declared.dec.report.DecodeError.{DecodeError}
+use Rattle.cobs.specs.declared.dec.report.DecodeReport.{DecodeReport}
+use Rattle.link.specs.Stream.{Begun, kept, over}
+use Rattle.link.specs.Steps.{Event, quiet, passed, event_at, begun_at, Course, course_on, course_of, ahead, RunsOn, RunsPast}
+use Rattle.link.specs.Decoding.{Inside}
+use Rattle.link.specs.Receivers.{Has, IsAtBy}
+use Rattle.link.specs.Finds.{Finds, IsSpan, BringsNothing, BringsAbout, Brings}
+use Rattle.link.specs.declared.reception.Found.{Found}
+use Rattle.link.specs.declared.reception.Found.TheVariants.{Nothing, Damaged, TooLong, Whole}
+use Rattle.link.specs.declared.reception.Taken.{Taken}
+use Rattle.link.proofs.MasksLemmas.{sentinel_is_zero, no_sentinel, masked_length}
+use Rattle.link.proofs.StreamsLemmas.{nonzero as unlike}
+use Rattle.link.proofs.TurningLemmas.{nothing_found, some_found}
+
+above : (b : ℕ) → 0 < b → b ≡ 0 → ⊥
+above b l e = omega (arith, l, e)
+
+-- the first sentinel
+stretch_none : (s b : ℕ) (x : List ℕ) → b ≡ s → stretch (masked s (b ∷ x)) ≡ []
+stretch_none s b x e = rw (eq-eqb (bit_xor s b) 0 (sentinel_is_zero s b e)) refl
+
+stretch_byte : (s b : ℕ) (x : List ℕ) → (b ≡ s → ⊥) → stretch (masked s (b ∷ x)) ≡ bit_xor s b ∷ stretch (masked s x)
+stretch_byte s b x n = rw (ne_eqb (bit_xor s b) 0 (above (bit_xor s b) (unlike s b n))) refl
+
+-- courses over runs
+course_as : (used later : ℕ) (e : Event) (c : Begun) → used ≡ later → (let k : Course = record { used = used; event = e; begun = c } in k) ≡ record { used = later; event = e; begun = c }
+course_as used later e c h = ap (λ n. let k : Course = record { used = n; event = e; begun = c } in k) h
+
+ahead_more : (n : ℕ) (k : Course) → course_on quiet over (ahead n k) ≡ ahead (suc n) k
+ahead_more n k = course_as ((n + k.used) + 1) (suc n + k.used) k.event k.begun (omega arith)
+
+over_on : (limit s : ℕ) (x later : List ℕ) → NoZero (masked s x) → course_of limit s over (x ++ later) ≡ ahead (length x) (course_of limit s over later)
+over_on limit s [] later z = let k = course_of limit s over later in course_as k.used (0 + k.used) k.event k.begun (omega arith)
+over_on limit s (b ∷ x) later z =
+    let k = course_of limit s over later in
+    rw (ne_eqb b s (no_sentinel s b z.0)) (ap (course_on quiet over) (over_on limit s x later z.1) ∙ ahead_more (length x) k)
+
+kept_on : (limit s : ℕ) (p x later : List ℕ) → NoZero (masked s x) → length p + length x ≤ limit → course_of limit s (kept p) (x ++ later) ≡ ahead (length x) (course_of limit s (kept (p ++ masked s x)) later)
+kept_on limit s p [] later z l =
+    let k = course_of limit s (kept p) later in
+    course_as k.used (0 + k.used) k.event k.begun (omega arith) ∙ ap (λ q. ahead 0 (course_of limit s (kept q) later)) (sym (append-nil p))
+kept_on limit s p (b ∷ x) later z l =
+    let c = bit_xor s b in
+    let k = course_of limit s (kept (p ++ (c ∷ masked s x))) later in
+    let short : length p < limit = omega (arith, l) in
+    let behind : length (p ++ c ∷ []) + length x ≤ limit = omega (arith, l, length-append p (c ∷ [])) in
+    rw (ne_eqb b s (no_sentinel s b z.0), lt-ltb (length p) limit short)
+    (ap (course_on quiet over) (kept_on limit s (p ++ c ∷ []) x later z.1 behind ∙ ap (λ q. ahead (length x) (course_of limit s (kept q) later)) (append_assoc p (c ∷ []) (masked s x))) ∙ ahead_more (length x) k)
+
+kept_past : (limit s : ℕ) (p x later : List ℕ) → NoZero (masked s x) → length p ≤ limit → limit < length p + length x → course_of limit s (kept p) (x ++ later) ≡ record { used = (limit - length p) + 1; event = passed; begun = over }
+kept_past limit s p [] later z l m = absurd (omega (arith, l, m))
+kept_past limit s p (b ∷ x) later z l m = elim (cases_lt (length p) limit) [
+  | inl short ↦ (
+      let c = bit_xor s b in
+      let behind = length-append p (c ∷ []) in
+      let rest = kept_past limit s (p ++ c ∷ []) x later z.1 (omega (arith, short, behind)) (omega (arith, m, behind)) in
+      rw (ne_eqb b s (no_sentinel s b z.0), lt-ltb (length p) limit short)
+      (ap (course_on quiet over) rest ∙ course_as (((limit - length (p ++ c ∷ [])) + 1) + 1) ((limit - length p) + 1) passed over (omega (arith, short, behind))))
+  | inr full ↦ rw (ne_eqb b s (no_sentinel s b z.0), le-ltb (length p) limit full) (course_as 1 ((limit - length p) + 1) passed over (omega (arith, full)))
+]
+
+-- what a decoder keeps of a run
+all_joined : (P : ℕ → Type 0) (p x : List ℕ) → AllByRecursion P p → AllByRecursion P x → AllByRecursion P (p ++ x)
+all_joined P [] x h k = k
+all_joined P (b ∷ p) x h k = (h.0, all_joined P p x h.1 k)
+
+quiet_byte : (room b : ℕ) (p : List ℕ) → DecidesLess → 0 < b → length p < room → answer_of room p b ≡ Ok None
+quiet_byte room b p less z l =
+    let w = less (p ++ b ∷ []) in
+    let n = length-append p (b ∷ []) in
+    rw (ne_eqb b 0 (above b z), le-ltb room (length (part (p ++ b ∷ []))) (omega (arith, w, n, l))) refl
+
+left_on : (room : ℕ) (p x : List ℕ) → DecidesLess → NoZero x → length p + length x ≤ room → frame_left room p x ≡ p ++ x
+left_on room p [] less z l = sym (append-nil p)
+left_on room p (b ∷ x) less z l =
+    let behind : frame_after p b ≡ p ++ b ∷ [] = rw (ne_eqb b 0 (above b z.0)) refl in
+    ap (λ r. ended r (frame_after p b) (frame_left room (frame_after p b) x)) (quiet_byte room b p less z.0 (omega (arith, l)))
+    ∙ ap (λ q. frame_left room q x) behind ∙ left_on room (p ++ b ∷ []) x less z.1 (omega (arith, l, length-append p (b ∷ []))) ∙ append_assoc p (b ∷ []) x
+
+pub has_run : (limit s : ℕ) (old new : Inside) (count : ℕ) (p x : List ℕ) (result : Result (Option DecodeReport) DecodeError) → Has limit s old count p → DecidesLess → NoZero (masked s x)
+    → AllByRecursion (λ b. (0 < b) × (b < 256)) (masked s x) → count + length x ≤ limit
+    → TakesPiece old.progress old.buffer (masked old.sentinel x) result new.progress new.buffer → new.sentinel ≡ old.sentinel → Has limit s new (count + length x) (p ++ masked s x)
+has_run limit s old new count p x result h less z bytes l t m =
+    let k : TakesPiece old.progress old.buffer (masked s x) result new.progress new.buffer = subst (λ n. TakesPiece old.progress old.buffer (masked n x) result new.progress new.buffer) h.sentinel t in
+    let n = masked_length s x in
+    let behind = left_on (length old.buffer) p (masked s x) less z (omega (arith, l, h.room, h.counted, n)) in
+    record {
+      room = k.room ∙ h.room;
+      sentinel = m ∙ h.sentinel;
+      byte = h.byte;
+      taken = subst (λ q. HasStreamed new.progress q) behind (k.has p h.taken);
+      decoded = subst (λ q. Decoded new.buffer q) behind (k.decoded p h.taken h.decoded);
+      counted = omega (arith, h.counted, length-append p (masked s x), n);
+      within = omega (arith, l, h.counted, length-append p (masked s x), n);
+      bytes = all_joined (λ b. (0 < b) × (b < 256)) p (masked s x) h.bytes bytes;
+    }
+
+-- of a stretch that is too long nothing is said
+pub runs_over : (limit s : ℕ) (inside : Inside) (count : ℕ) (past : Bool) (b : Begun) (x : List ℕ) (At : Begun → Type 0) → past ≡ true → IsAtBy limit s inside count past b → At b → NoZero (masked s x) → RunsOn limit s b x At
+runs_over limit s inside count past (kept p) x At e i h z = absurd (let no : past ≡ false = i.0 in let w : true ≡ false = sym e ∙ no in cc)
+runs_over limit s inside count past over x At e i h z = record { now = over; at = h; rest = λ later. over_on limit s x later z }
+
+pub runs_on : (limit s : ℕ) (b : Begun) (p x : List ℕ) (At : Begun → Type 0) → b ≡ kept p → NoZero (masked s x) → length p + length x ≤ limit → At (kept (p ++ masked s x)) → RunsOn limit s b x At
+runs_on limit s b p x At e z l h = record { now = kept (p ++ masked s x); at = h; rest = λ later. ap (λ c. course_of limit s c (x ++ later)) e ∙ kept_on limit s p x later z l }
+
+pub runs_past : (limit s : ℕ) (b : Begun) (p x : List ℕ) (used : ℕ) (At : Begun → Type 0) → b ≡ kept p → NoZero (masked s x) → length p ≤ limit → limit < length p + length x → used ≡ (limit - length p) + 1 → At over → RunsPast limit s b x used At
+runs_past limit s b p x used At e z l m u h = record {
+  at = h;
+  rest = λ later. ap (λ c. course_of limit s c (x ++ later)) e ∙ kept_past limit s p x later z l m ∙ course_as ((limit - length p) + 1) used passed over (sym u);
+}
+
+pub nonzero_bytes : (s : ℕ) (x : List ℕ) → s < 256 → NoZero (masked s x) → ((k : ℕ) → get_or x k 0 < 256) → AllByRecursion (λ b. (0 < b) × (b < 256)) (masked s x)
+nonzero_bytes s [] l z h = tt
+nonzero_bytes s (b ∷ x) l z h = ((z.0, xor_lt 8 s b l (h 0)), nonzero_bytes s x l z.1 (λ k. h (suc k)))
+
+-- a stretch, and the sentinel behind it
+no_zero_in : (s : ℕ) (x : List ℕ) → NoZero (masked s (take (length (stretch (masked s x))) x))
+no_zero_in s [] = tt
+no_zero_in s (b ∷ x) = elim (cases_eq b s) [
+  | inl e ↦ subst (λ y. NoZero (masked s (take (length y) (b ∷ x)))) (sym (stretch_none s b x e)) tt
+  | inr n ↦ subst (λ y. NoZero (masked s (take (length y) (b ∷ x)))) (sym (stretch_byte s b x n)) (unlike s b n, no_zero_in s x)
+]
+
+pub run_of : (s : ℕ) (x run : List ℕ) (size : ℕ) → size ≡ length (stretch (masked s x)) → run ≡ take size x → NoZero (masked s run)
+run_of s x run size e f = subst (λ y. NoZero (masked s y)) (sym (f ∙ ap (λ n. take n x) e)) (no_zero_in s x)
+
+sentinel_follows : (s : ℕ) (x : List ℕ) → length (stretch (masked s x)) < length x → drop (length (stretch (masked s x))) x ≡ s ∷ drop (suc (length (stretch (masked s x)))) x
+sentinel_follows s [] l = absurd (omega (arith, l))
+sentinel_follows s (b ∷ x) l = elim (cases_eq b s) [
+  | inl e ↦ rw (ap length (stretch_none s b x e)) (ap (λ c. c ∷ x) e)
+  | inr n ↦ (
+      let e : length (stretch (masked s (b ∷ x))) ≡ suc (length (stretch (masked s x))) = ap length (stretch_byte s b x n) in
+      rw e (sentinel_follows s x (omega (arith, l, e))))
+]
+
+pub sentinel_behind : (s : ℕ) (x behind : List ℕ) (size : ℕ) → size ≡ length (stretch (masked s x)) → behind ≡ drop size x → 0 < length behind → behind ≡ s ∷ drop (size + 1) x
+sentinel_behind s x behind size e f l =
+    let g : behind ≡ drop (length (stretch (masked s x))) x = f ∙ ap (λ n. drop n x) e in
+    let short : length (stretch (masked s x)) < length x = omega (arith, l, ap length g, length-drop (length (stretch (masked s x))) x) in
+    let n : suc (length (stretch (masked s x))) ≡ size + 1 = omega (arith, e) in
+    g ∙ sentinel_follows s x short ∙ ap (λ n. s ∷ drop n x) n
+
+-- what a course brings
+about : {M : Type 0} (limit s : ℕ) (b : Begun) (bytes : List ℕ) (message : M → List ℕ) (taken : Taken M) (At : Begun → Type 0) (e : Event) (c : Begun)
+    → course_of limit s b bytes ≡ record { used = taken.used; event = e; begun = c } → Finds message e taken.found → IsSpan limit e taken.stretch → At c → BringsAbout limit s b bytes message taken At
+about limit s b bytes message taken At e c q f n h = record {
+  about = record {
+    used = sym (ap (λ (k : Course). k.used) q);
+    finds = subst (λ (x : Event). Finds message x taken.found) (sym (ap (λ (k : Course). k.event) q)) f;
+    span = subst (λ (x : Event). IsSpan limit x taken.stretch) (sym (ap (λ (k : Course). k.event) q)) n;
+  };
+  at = subst At (sym (ap (λ (k : Course). k.begun) q)) h;
+}
+
+ahead_on : (n : ℕ) (c : Begun) (k : Course) → ahead n (course_on quiet c k) ≡ ahead (n + 1) k
+ahead_on n c k = course_as (n + (k.used + 1)) ((n + 1) + k.used) k.event k.begun (omega arith)
+
+-- how many bytes of a stretch stand before its sentinel
+pub span_at : (limit s : ℕ) (inside : Inside) (count : ℕ) (past : Bool) (b : Begun) → IsAtBy limit s inside count past b → IsSpan limit (event_at limit s b s) count
+span_at limit s inside count past (kept []) h = rw (eq-eqb s s refl) h.1.counted
+span_at limit s inside count past (kept (x ∷ p)) h = rw (eq-eqb s s refl) h.1.counted
+span_at limit s inside count past over h = h.1.counted
+
+module _ {M : Type 0} (limit s : ℕ) (b : Begun) (bytes run behind : List ℕ) (message : M → List ℕ) (size : ℕ) (parts : bytes ≡ run ++ behind) where
+  pub past_brings : (used : ℕ) (At : Begun → Type 0) (stretch : ℕ) → stretch ≡ limit → RunsPast limit s b run used At → BringsAbout limit s b bytes message (record { used = used; stretch = stretch; found = TooLong }) At
+  past_brings used At stretch e r = about limit s b bytes message (record { used = used; stretch = stretch; found = TooLong }) At passed over (ap (course_of limit s b) parts ∙ r.rest behind) refl e r.at
+
+  module _ (sized : length run ≡ size) (Before : Begun → Type 0) (r : RunsOn limit s b run Before) where
+    to_here : course_of limit s b bytes ≡ ahead size (course_of limit s r.now behind)
+    to_here = ap (course_of limit s b) parts ∙ r.rest behind ∙ ap (λ n. ahead n (course_of limit s r.now behind)) sized
+
+    pub run_brings : behind ≡ drop size bytes → BringsNothing limit s b bytes size Before
+    run_brings e = record { now = r.now; at = r.at; rest = to_here ∙ ap (λ x. ahead size (course_of limit s r.now x)) e }
+
+    module _ (At : Begun → Type 0) (marked : behind ≡ s ∷ drop (size + 1) bytes) (h : At (begun_at limit s r.now s)) (stretch : ℕ) (n : IsSpan limit (event_at limit s r.now s) stretch) where
+      to_sentinel : course_of limit s b bytes ≡ ahead size (course_on (event_at limit s r.now s) (begun_at limit s r.now s) (course_of limit s (begun_at limit s r.now s) (drop (size + 1) bytes)))
+      to_sentinel = to_here ∙ ap (λ x. ahead size (course_of limit s r.now x)) marked
+
+      ends_nothing : Finds message (event_at limit s r.now s) Nothing → BringsNothing limit s b bytes (size + 1) At
+      ends_nothing f =
+          let k = course_of limit s (begun_at limit s r.now s) (drop (size + 1) bytes) in
+          let q = nothing_found message (event_at limit s r.now s) Nothing f refl in
+          record { now = begun_at limit s r.now s; at = h; rest = to_sentinel ∙ ap (λ e. ahead size (course_on e (begun_at limit s r.now s) k)) q ∙ ahead_on size (begun_at limit s r.now s) k }
+
+      ends_about : (found : Found M) → Finds message (event_at limit s r.now s) found → (found ≡ Nothing → ⊥) → BringsAbout limit s b bytes message (record { used = size + 1; stretch = stretch; found = found }) At
+      ends_about found f m =
+          let k = course_of limit s (begun_at limit s r.now s) (drop (size + 1) bytes) in
+          about limit s b bytes message (record { used = size + 1; stretch = stretch; found = found }) At (event_at limit s r.now s) (begun_at limit s r.now s)
+          (to_sentinel ∙ ap (ahead size) (some_found message (event_at limit s r.now s) found (begun_at limit s r.now s) k f m)) f n h
+
+      pub sentinel_brings : (found : Found M) → Finds message (event_at limit s r.now s) found → Brings limit s b bytes message (record { used = size + 1; stretch = stretch; found = found }) At
+      sentinel_brings Nothing f = ends_nothing f
+      sentinel_brings Damaged f = ends_about Damaged f (λ e. cc)
+      sentinel_brings TooLong f = ends_about TooLong f (λ e. cc)
+      sentinel_brings (Whole m) f = ends_about (Whole m) f (λ e. cc)

@@ -1,0 +1,79 @@
+-- How answers are kept, push by push, and what the end of a stream adds.
+use Rattle.std.proofs.Common.{◌≡◌, ℕ, ◌<◌, ◌≤◌, List, [], ◌∷◌, ◌++◌, length, take, Option, Some, None, Result, Ok, Err, refl, sym, ap, ◌∙◌, subst, inl, inr, arith, append-nil, append_assoc, nat_lt, ltb, if◌then◌else◌}
+use Rattle.std.specs.List.{AllZip}
+use Rattle.std.proofs.lemmas.Bool.{cases_lt, lt-ltb, le-ltb}
+use Rattle.postcard_tree.specs.Tree.{Tree}
+use Rattle.link.specs.Stream.{Verdict, cut, too_long, begun_answers, cut_answers, unfinished, begun, kept, over, Given, Answers}
+use Rattle.link.specs.Pushes.{listed, Matches, Answered, finished}
+use Rattle.link.specs.Listening.{HasGiven, HasAnswered, KeepsAnswer}
+use Rattle.link.specs.declared.receiver.Answer.{Answer}
+use Rattle.link.specs.declared.receiver.Answer.TheVariants.{Cut}
+use Rattle.link.specs.declared.receiver.NoMemory.{NoMemory as NoAnswer}
+
+zip_one : {A B : Type 0} (R : A → B → Type 0) (xs : List A) (ys : List B) (x : A) (y : B) → AllZip R xs ys → R x y → AllZip R (xs ++ x ∷ []) (ys ++ y ∷ [])
+zip_one R [] [] x y h r = (r, tt)
+zip_one R [] (b ∷ ys) x y h r = absurd h
+zip_one R (a ∷ xs) [] x y h r = absurd h
+zip_one R (a ∷ xs) (b ∷ ys) x y h r = (h.0, zip_one R xs ys x y h.1 r)
+
+-- a stream of nothing
+pub none_begun : (limit s : ℕ) → begun limit s [] ≡ kept []
+none_begun limit s = rw (le-ltb limit 0 (omega arith)) refl
+
+pub none_given : {V : Type 0} (holds : List ℕ → Tree → Type 0) (reads : Tree → V → Type 0) (limit s : ℕ) → HasGiven {V = V} holds reads limit s [] []
+none_given holds reads limit s = record { verdicts = []; given = record { done = []; each = tt; whole = rw (le-ltb limit 0 (omega arith)) refl }; matching = tt }
+
+module _ {V : Type 0} (holds : List ℕ → Tree → Type 0) (reads : Tree → V → Type 0) (limit s : ℕ) (front rest : List ℕ) (answers new : List (Answer V)) (used : ℕ) where
+  kept_none : (vs : List Verdict) (a : Option Verdict) → a ≡ None → AllZip (Matches reads) answers vs → AllZip (Matches reads) answers (vs ++ listed a)
+  kept_none vs a e h = subst (λ o. AllZip (Matches reads) answers (vs ++ listed o)) (sym e) (subst (λ x. AllZip (Matches reads) answers x) (sym (append-nil vs)) h)
+
+  kept_some : (vs : List Verdict) (x : Answer V) (y : Verdict) (a : Option Verdict) → a ≡ Some y → Matches reads x y → AllZip (Matches reads) answers vs → AllZip (Matches reads) (answers ++ x ∷ []) (vs ++ listed a)
+  kept_some vs x y a e m h = subst (λ o. AllZip (Matches reads) (answers ++ x ∷ []) (vs ++ listed o)) (sym e) (zip_one (Matches reads) answers vs x y h m)
+
+  -- what is given of the stream and the bytes that a push used
+  pub kept_given : (answer : Result (Option (Answer V)) NoAnswer) → HasGiven holds reads limit s answers front → Answered holds reads limit s front rest used answer → KeepsAnswer answer answers new
+      → HasGiven holds reads limit s new (front ++ take used rest)
+  kept_given (Ok None) g (a, says, push) k = record {
+    verdicts = g.verdicts ++ listed a;
+    given = push.gives g.verdicts g.given;
+    matching = subst (λ x. AllZip (Matches reads) x (g.verdicts ++ listed a)) (sym k) (kept_none g.verdicts a says g.matching);
+  }
+  kept_given (Ok (Some x)) g (a, says, push) k = record {
+    verdicts = g.verdicts ++ listed a;
+    given = push.gives g.verdicts g.given;
+    matching = subst (λ z. AllZip (Matches reads) z (g.verdicts ++ listed a)) (sym k) (kept_some g.verdicts x says.0 a says.2 says.1 g.matching);
+  }
+  kept_given (Err e) g h k = absurd k
+
+module _ (holds : List ℕ → Tree → Type 0) (limit s : ℕ) (stream : List ℕ) where
+  -- the answers so far are all with those that the end adds
+  all_of : (vs more : List Verdict) → Given holds limit s stream vs → more ≡ cut_answers limit (unfinished s stream) → Answers holds limit s stream (vs ++ more)
+  all_of vs more g e = record {
+    done = g.done;
+    each = g.each;
+    whole = ap (λ x. x ++ more) g.whole ∙ append_assoc g.done (begun_answers limit (unfinished s stream)) more
+        ∙ ap (λ x. g.done ++ (begun_answers limit (unfinished s stream) ++ x)) e;
+  }
+
+  module _ {V : Type 0} (reads : Tree → V → Type 0) (answers new : List (Answer V)) where
+    -- by the unfinished stretch
+    ended_at : (u : List ℕ) → u ≡ unfinished s stream → HasGiven holds reads limit s answers stream → KeepsAnswer (Ok (finished (if nat_lt limit (length u) then over else kept u))) answers new → HasAnswered holds reads limit s new stream
+    ended_at [] e g k =
+        let same : new ≡ answers = rw (le-ltb limit 0 (omega arith)) at k in
+        record { verdicts = g.verdicts ++ []; all = all_of g.verdicts [] g.given (ap (cut_answers limit) e); matching = subst (λ x. AllZip (Matches reads) x (g.verdicts ++ [])) (sym same) (subst (λ x. AllZip (Matches reads) answers x) (sym (append-nil g.verdicts)) g.matching) }
+    ended_at (b ∷ p) e g k = elim (cases_lt limit (length (b ∷ p))) [
+      | inl l ↦ (
+          let long = lt-ltb limit (length (b ∷ p)) l in
+          let same : new ≡ answers = rw long at k in
+          let none : [] ≡ cut_answers limit (b ∷ p) = rw long refl in
+          record { verdicts = g.verdicts ++ []; all = all_of g.verdicts [] g.given (none ∙ ap (cut_answers limit) e); matching = subst (λ x. AllZip (Matches reads) x (g.verdicts ++ [])) (sym same) (subst (λ x. AllZip (Matches reads) answers x) (sym (append-nil g.verdicts)) g.matching) })
+      | inr l ↦ (
+          let short = le-ltb limit (length (b ∷ p)) l in
+          let more : new ≡ answers ++ Cut ∷ [] = rw short at k in
+          let one : cut ∷ [] ≡ cut_answers limit (b ∷ p) = rw short refl in
+          record { verdicts = g.verdicts ++ cut ∷ []; all = all_of g.verdicts (cut ∷ []) g.given (one ∙ ap (cut_answers limit) e); matching = subst (λ x. AllZip (Matches reads) x (g.verdicts ++ cut ∷ [])) (sym more) (zip_one (Matches reads) answers g.verdicts Cut cut g.matching refl) })
+    ]
+
+    -- what the end of a stream adds
+    pub ended_by : HasGiven holds reads limit s answers stream → KeepsAnswer (Ok (finished (begun limit s stream))) answers new → HasAnswered holds reads limit s new stream
+    ended_by = ended_at (unfinished s stream) refl
