@@ -59,7 +59,7 @@ fn agree(rt: &HostRuntime, name: &str, digits: &str, text: &str, hex: bool) -> b
 }
 
 #[test]
-fn every_kind(rt: HostRuntime) {
+fn numbers(rt: HostRuntime) {
     let rows = [
         ("bool", "01", "true"),
         ("bool", "00", "false"),
@@ -83,10 +83,18 @@ fn every_kind(rt: HostRuntime) {
             "ffffffffffffffffffffffffffffffffffff03",
             "-170141183460469231731687303715884105728",
         ),
+    ];
+    for (name, digits, text) in rows {
+        assert!(rt; agree(&rt, name, digits, text, false));
+    }
+}
+
+#[test]
+fn texts_and_options(rt: HostRuntime) {
+    let rows = [
         ("char", "02c3a9", r#""é""#),
         ("String", "03225c0a", r#""\"\\\n""#),
         ("&'a str", "00", r#""""#),
-        ("Vec<u8>", "0201ff", "[1,255]"),
         ("&'a [u8]", "00", "[]"),
         ("Option<u8>", "00", "null"),
         ("Option<u8>", "0105", "5"),
@@ -98,9 +106,18 @@ fn every_kind(rt: HostRuntime) {
         ("Option<Maybe>", "0100", r#"{"Some":null}"#),
         ("Option<Maybe>", "010107", r#"{"Some":7}"#),
         ("()", "", "null"),
-        ("Off", "", "null"),
         ("Result<u8, String>", "0005", r#"{"Ok":5}"#),
         ("Result<u8, String>", "010161", r#"{"Err":"a"}"#),
+    ];
+    for (name, digits, text) in rows {
+        assert!(rt; agree(&rt, name, digits, text, false));
+    }
+}
+
+#[test]
+fn lists_and_maps(rt: HostRuntime) {
+    let rows = [
+        ("Vec<u8>", "0201ff", "[1,255]"),
         ("Vec<u16>", "020102", "[1,2]"),
         ("[u8; 3]", "010203", "[1,2,3]"),
         ("[bool; 0]", "", "[]"),
@@ -109,6 +126,17 @@ fn every_kind(rt: HostRuntime) {
         ("BTreeMap<String, u8>", "02016101016202", r#"{"a":1,"b":2}"#),
         ("BTreeMap<String, u8>", "02016101016102", r#"{"a":1,"a":2}"#),
         ("BTreeMap<u8, bool>", "010501", "[[5,true]]"),
+    ];
+    for (name, digits, text) in rows {
+        assert!(rt; agree(&rt, name, digits, text, false));
+    }
+    assert!(rt; agree(&rt, "Vec<u8>", "0201ff", "\"01ff\"", true));
+}
+
+#[test]
+fn named_types(rt: HostRuntime) {
+    let rows = [
+        ("Off", "", "null"),
         ("Light", "00", r#""Dark""#),
         ("Light", "0105", r#"{"Lit":5}"#),
         ("Light", "020506", r#"{"Both":[5,6]}"#),
@@ -122,7 +150,6 @@ fn every_kind(rt: HostRuntime) {
     for (name, digits, text) in rows {
         assert!(rt; agree(&rt, name, digits, text, false));
     }
-    assert!(rt; agree(&rt, "Vec<u8>", "0201ff", "\"01ff\"", true));
 }
 
 /// Why the text is no value of the type.
