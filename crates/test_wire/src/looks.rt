@@ -1,0 +1,201 @@
+//! Values as JSON and back. Bytes and texts of the rows are by the rules of postcard and serde_json.
+use declarations::{Schema, read_schema};
+use postcard::to_allocvec;
+use schemas::{Value, from_bytes};
+use std::alloc::Global;
+use wire_lib::DEPTH;
+use wire_lib::parse::{ParseError, parse};
+use wire_lib::print::print;
+
+/// The types that the rows speak of, behind the one that is read.
+const BESIDE: &str = "
+// message
+struct Off;
+// message
+struct Maybe(Option<u8>);
+// message
+enum Light { Dark, Lit(u8), Both(u8, u16), At { x: u8 }, Nothing(()), Braces {}, Parens() }
+// message
+struct Point { y: i8, x: i8 }
+// message
+enum Chain { End, More(u32, Box<Chain>) }
+";
+
+/// A schema whose first type holds this one alone, so that its values look the same.
+fn schema_of(alloc: Global, name: &str) -> Option<Schema> {
+    let mut text = String::from_str(alloc, "// message\nstruct Whole(").ok()?;
+    text.push_str(name).ok()?;
+    text.push_str(");").ok()?;
+    text.push_str(BESIDE).ok()?;
+    read_schema(alloc, text.as_str()).ok()
+}
+
+/// The JSON of the value that these bytes are.
+fn printed(alloc: Global, name: &str, digits: &str, hex: bool) -> Option<Vec<u8>> {
+    let schema = schema_of(alloc, name)?;
+    let bytes = hex::decode(alloc, digits.as_bytes()).ok()?;
+    let value: Value = from_bytes(alloc, &schema.nodes, 0, DEPTH, &bytes).ok()?;
+    print(alloc, &schema, 0, hex, &value).ok()
+}
+
+/// The digits of the bytes of the value that this JSON is.
+fn sent(alloc: Global, name: &str, text: &str) -> Option<String> {
+    let schema = schema_of(alloc, name)?;
+    let value = parse(alloc, &schema, 0, text.as_bytes()).ok()?;
+    let bytes = to_allocvec(alloc, &value).ok()?;
+    hex::encode(alloc, &bytes).ok()
+}
+
+/// Whether the bytes print as the text, and the text is sent as the bytes.
+fn agree(rt: &HostRuntime, name: &str, digits: &str, text: &str, hex: bool) -> bool {
+    let printed = printed(rt.alloc(), name, digits, hex);
+    let sent = sent(rt.alloc(), name, text);
+    let good = matches!(&printed, Some(line) if line.as_slice() == text.as_bytes())
+        && matches!(&sent, Some(found) if found.as_str() == digits);
+    if !good {
+        let _ = eprintln!(rt; "{name}: {digits} {text}: {printed:?} {sent:?}");
+    }
+    good
+}
+
+#[test]
+fn numbers(rt: HostRuntime) {
+    let rows = [
+        ("bool", "01", "true"),
+        ("bool", "00", "false"),
+        ("u8", "ff", "255"),
+        ("i8", "80", "-128"),
+        ("u16", "ffff03", "65535"),
+        ("i16", "ffff03", "-32768"),
+        ("u32", "ffffffff0f", "4294967295"),
+        ("i32", "01", "-1"),
+        ("u64", "ffffffffffffffffff01", "18446744073709551615"),
+        ("i64", "8280808080808020", "9007199254740993"),
+        ("usize", "ac02", "300"),
+        ("isize", "03", "-2"),
+        (
+            "u128",
+            "ffffffffffffffffffffffffffffffffffff03",
+            "340282366920938463463374607431768211455",
+        ),
+        (
+            "i128",
+            "ffffffffffffffffffffffffffffffffffff03",
+            "-170141183460469231731687303715884105728",
+        ),
+    ];
+    for (name, digits, text) in rows {
+        assert!(rt; agree(&rt, name, digits, text, false));
+    }
+}
+
+#[test]
+fn texts_and_options(rt: HostRuntime) {
+    let rows = [
+        ("char", "02c3a9", r#""é""#),
+        ("String", "03225c0a", r#""\"\\\n""#),
+        ("&'a str", "00", r#""""#),
+        ("&'a [u8]", "00", "[]"),
+        ("Option<u8>", "00", "null"),
+        ("Option<u8>", "0105", "5"),
+        ("Option<Option<u8>>", "00", "null"),
+        ("Option<Option<u8>>", "0100", r#"{"Some":null}"#),
+        ("Option<Option<u8>>", "010105", r#"{"Some":5}"#),
+        ("Option<()>", "00", "null"),
+        ("Option<()>", "01", r#"{"Some":null}"#),
+        ("Option<Maybe>", "0100", r#"{"Some":null}"#),
+        ("Option<Maybe>", "010107", r#"{"Some":7}"#),
+        ("()", "", "null"),
+        ("Result<u8, String>", "0005", r#"{"Ok":5}"#),
+        ("Result<u8, String>", "010161", r#"{"Err":"a"}"#),
+    ];
+    for (name, digits, text) in rows {
+        assert!(rt; agree(&rt, name, digits, text, false));
+    }
+}
+
+#[test]
+fn lists_and_maps(rt: HostRuntime) {
+    let rows = [
+        ("Vec<u8>", "0201ff", "[1,255]"),
+        ("Vec<u16>", "020102", "[1,2]"),
+        ("[u8; 3]", "010203", "[1,2,3]"),
+        ("[bool; 0]", "", "[]"),
+        ("(u8, bool)", "0501", "[5,true]"),
+        ("(u8,)", "05", "[5]"),
+        ("BTreeMap<String, u8>", "02016101016202", r#"{"a":1,"b":2}"#),
+        ("BTreeMap<String, u8>", "02016101016102", r#"{"a":1,"a":2}"#),
+        ("BTreeMap<u8, bool>", "010501", "[[5,true]]"),
+    ];
+    for (name, digits, text) in rows {
+        assert!(rt; agree(&rt, name, digits, text, false));
+    }
+    assert!(rt; agree(&rt, "Vec<u8>", "0201ff", "\"01ff\"", true));
+}
+
+#[test]
+fn named_types(rt: HostRuntime) {
+    let rows = [
+        ("Off", "", "null"),
+        ("Light", "00", r#""Dark""#),
+        ("Light", "0105", r#"{"Lit":5}"#),
+        ("Light", "020506", r#"{"Both":[5,6]}"#),
+        ("Light", "0307", r#"{"At":{"x":7}}"#),
+        ("Light", "04", r#"{"Nothing":null}"#),
+        ("Light", "05", r#"{"Braces":{}}"#),
+        ("Light", "06", r#"{"Parens":[]}"#),
+        ("Point", "01ff", r#"{"y":1,"x":-1}"#),
+        ("Chain", "0101010200", r#"{"More":[1,{"More":[2,"End"]}]}"#),
+    ];
+    for (name, digits, text) in rows {
+        assert!(rt; agree(&rt, name, digits, text, false));
+    }
+}
+
+/// Why the text is no value of the type.
+fn refusal(alloc: Global, name: &str, text: &str) -> Option<&'static str> {
+    let schema = schema_of(alloc, name)?;
+    match parse(alloc, &schema, 0, text.as_bytes()) {
+        Err(ParseError::Wrong(why)) => Some(why),
+        _ => None,
+    }
+}
+
+#[test]
+fn refusals(rt: HostRuntime) {
+    let rows = [
+        ("u8", "256"),
+        ("u8", "-1"),
+        ("u8", "1.0"),
+        ("i16", "32768"),
+        ("u128", "340282366920938463463374607431768211456"),
+        ("u8", "\"5\""),
+        ("bool", "1"),
+        ("char", "\"ab\""),
+        ("char", "\"\""),
+        ("Vec<u8>", "\"0\""),
+        ("Vec<u8>", "[256]"),
+        ("Option<Option<u8>>", "5"),
+        ("[u8; 3]", "[1,2]"),
+        ("(u8, bool)", "[5]"),
+        ("()", "0"),
+        ("BTreeMap<String, u8>", "[]"),
+        ("Light", "\"Lit\""),
+        ("Light", "\"Bright\""),
+        ("Light", "{\"Dark\":null}"),
+        ("Point", "{\"y\":1}"),
+        ("Point", "{\"y\":1,\"y\":2}"),
+        ("Point", "{\"y\":1,\"x\":2,\"z\":3}"),
+        ("u8", "5 5"),
+        ("u8", ""),
+    ];
+    for (name, text) in rows {
+        assert!(rt; refusal(rt.alloc(), name, text).is_some(), "{name}: {text}");
+    }
+}
+
+#[test]
+fn fields_in_any_order(rt: HostRuntime) {
+    let sent = sent(rt.alloc(), "Point", "{\"x\":-1,\"y\":1}");
+    assert!(rt; matches!(&sent, Some(digits) if digits.as_str() == "01ff"));
+}
