@@ -6,7 +6,7 @@ ghost use Rattle.calls_laws.specs.Heard.{HearsSent};
 use postcard::Lawful;
 
 /// Whoever was given a front of a line, perhaps all of it, heard only values that are alike those sent, however the reading ended:
-/// at the reader's end, by a fault, or for want of memory.
+/// at the reader's end, by a fault, or out of memory.
 pub fn heard_was_sent<T: Lawful>()
     ensures ordinary { HearsSent T.takes (Holds T.takes) T.reads T.alike T.writes T.valid }
     ensures strict { HearsSent T.takes (HoldsExactly T.takes) T.reads T.alike T.writes T.valid }

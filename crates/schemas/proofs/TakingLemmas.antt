@@ -83,7 +83,7 @@ pub some_by : {P : Tree → Type 0} {H : Value → Type 0} {a b : SourceState} {
     → Reads a b (Spelled (ReadsBy (TakesOption P) (AtTop (OfOption H)))) (Present v)
 some_by {P} {H} {a} {b} {x} v e h = read_as (Present v) (λ t k. some_of P H t x v e k) h
 
--- want of memory behind two reads
+-- out of memory behind two reads
 pub no_memory_behind : {A B : Type 0} {G : List ℕ → A → Type 0} {H : List ℕ → B → Type 0} {a b c : SourceState} {x : A} {y : B} (R : List ℕ → Error → Type 0)
     → Reads a b G x → Reads b c H y → Fails a c R true OutOfMemory
 no_memory_behind R p q = no_memory R (gave_more p.gave q.gave)
