@@ -74,7 +74,7 @@ fn full_blocks(rt: HostRuntime) {
 
 /// Each growth that is refused is out of memory, and nothing else.
 #[test]
-fn want_of_memory(rt: HostRuntime) {
+fn out_of_memory(rt: HostRuntime) {
     let is_right = match framed(&[7u8; 100], Cobs::try_new(AllocVec::new(rt.alloc()))) {
         Err(cause) => cause == Error::OutOfMemory,
         Ok(bytes) => bytes.len() == 102,

@@ -138,7 +138,7 @@ fn extended_vectors(rt: HostRuntime) {
 
 /// Where a growth is refused, the flavor holds what it held.
 #[test]
-fn want_of_memory(rt: HostRuntime) {
+fn out_of_memory(rt: HostRuntime) {
     let mut vec = AllocVec::new(rt.alloc());
     for round in 1..5 {
         let held = vec.held();
@@ -152,7 +152,7 @@ fn want_of_memory(rt: HostRuntime) {
 
 /// As above, of a vector that is extended.
 #[test]
-fn want_of_memory_for_more(rt: HostRuntime) {
+fn out_of_memory_for_more(rt: HostRuntime) {
     let mut extended = ExtendFlavor::new(Vec::new(rt.alloc()));
     let is_right = match extended.try_extend(&[1; 40]) {
         Ok(()) => is_vector(extended.finalize(), &[1; 40]),
