@@ -2,3 +2,4 @@ pub mod WalkingLemmas
 pub mod StandingLemmas
 pub mod GapsLemmas
 pub mod StretchesLemmas
+pub mod AnewLemmas

@@ -1,17 +1,13 @@
 -- The stretches that a scan found one after another.
-use Rattle.std.proofs.Common.{◌≡◌, ℕ, ◌<◌, ◌+◌, Bool, List, [], ◌∷◌, ◌++◌, map, take, Option, Some, None, refl, sym, ap, ◌∙◌, subst, append_assoc, arith}
-use Rattle.std.specs.Prelude.{if◌then◌else◌, length, IfSome}
+use Rattle.std.proofs.Common.{◌≡◌, ℕ, Bool, List, [], ◌∷◌, ◌++◌, take, Option, Some, None, refl, sym, ap, ◌∙◌, subst, append_assoc}
+use Rattle.std.specs.Prelude.{IfSome}
 use Rattle.std.specs.List.{AllZip}
 use Rattle.std.proofs.lemmas.List.{append-nil}
 use Rattle.postcard_tree.specs.Tree.{Tree}
 use Rattle.link.specs.Stream.{ended}
-use Rattle.link.specs.declared.receiver.Answer.{Answer}
-use Rattle.link.specs.declared.receiver.Answer.TheVariants.{Value, Damaged, TooLong, Cut}
 use Rattle.journal_scan.specs.declared.scanning.Stretch.{Stretch}
 use Rattle.journal_scan.specs.declared.scanning.Scan.{Scan}
-use Rattle.journal_scan.specs.declared.tallies.Tally.{Tally}
-use Rattle.journal_scan.specs.Tallies.{IsTally}
-use Rattle.journal_scan.specs.Scanning.{IsStretchAt, IsNextStretch, IsScanning, Found, FoundAll, offset_of}
+use Rattle.journal_scan.specs.Scanning.{IsScanning, FoundAll, offset_of}
 use Rattle.journal_scan.specs.Checks.{StandAt, AreStretches, record_in, records_in, numbers_of}
 
 zip_one : {A B : Type 0} (R : A → B → Type 0) (xs : List A) (ys : List B) (x : A) (y : B) → AllZip R xs ys → R x y → AllZip R (xs ++ x ∷ []) (ys ++ y ∷ [])
@@ -43,7 +39,7 @@ records_joined counted (s ∷ a) b = ap (λ x. record_in counted s.answer ++ x) 
 pub records_more : {V : Type 0} (counted : ℕ → V → Bool) (a : List (Stretch V)) (s : Stretch V) → records_in counted (a ++ s ∷ []) ≡ records_in counted a ++ record_in counted s.answer
 records_more counted a s = records_joined counted a (s ∷ []) ∙ ap (λ x. records_in counted a ++ x) (append-nil (record_in counted s.answer))
 
-numbers_joined : {V : Type 0} (a b : List (ℕ × V)) → numbers_of (a ++ b) ≡ numbers_of a ++ numbers_of b
+pub numbers_joined : {V : Type 0} (a b : List (ℕ × V)) → numbers_of (a ++ b) ≡ numbers_of a ++ numbers_of b
 numbers_joined [] b = refl
 numbers_joined (r ∷ a) b = ap (λ x. r.0 ∷ x) (numbers_joined a b)
 

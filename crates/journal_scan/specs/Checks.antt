@@ -1,5 +1,5 @@
 -- What a log's stretches are as a whole, and what checking it finds.
-use Rattle.std.specs.Prelude.{◌≡◌, ℕ, Bool, List, [], ◌∷◌, ◌++◌, length, map, if◌then◌else◌, Option, IfSome}
+use Rattle.std.specs.Prelude.{ℕ, Bool, List, [], ◌∷◌, ◌++◌, length, map, if◌then◌else◌, Option, IfSome}
 use Rattle.std.specs.List.{AllZip}
 use Rattle.postcard_tree.specs.Tree.{Tree}
 use Rattle.link.specs.Stream.{ended, HoldsExactly}

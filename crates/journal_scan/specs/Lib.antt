@@ -1,3 +1,4 @@
 pub mod Scanning
 pub mod Tallies
 pub mod Checks
+pub mod Repairs

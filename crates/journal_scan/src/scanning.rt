@@ -64,6 +64,7 @@ impl Scan {
         ensures stands { IfOk result (λ scan. (bytes : List ℕ) → at ≤ length bytes
             → EndsBetween 0 (take at bytes) → IsScanning limit bytes scan) }
         ensures at { IfOk result (λ scan. offset_of scan ≡ at) }
+        ensures memory { IfErr result (λ e. e ≡ ScanError.NoMemory) }
     {
         let Ok(receiver) = OwnedReceiver::new(alloc, limit, 0) else {
             return Err(ScanError::NoMemory);

@@ -1,10 +1,9 @@
-use Rattle.std.proofs.Common.{◌≡◌, ◌≤◌, ◌∷◌, ◌++◌, [], List, Some, None, length, take, refl, sym, ap, ◌∙◌, subst, inl, arith, rules}
+use Rattle.std.proofs.Common.{◌≡◌, ◌∷◌, ◌++◌, [], List, Some, length, take, refl, sym, ap, ◌∙◌, subst, inl, arith, rules}
 use Rattle.link.specs.Stream.{ended}
-use Rattle.journal_scan.specs.declared.scanning.Stretch.{Stretch}
 use Rattle.journal_scan.specs.Scanning.{FoundAll, IsUnfinishedStretch, offset_of}
 use Rattle.journal_scan.specs.Tallies.{IsTally}
-use Rattle.journal_scan.specs.Checks.{AreStretches, records_in, record_in, numbers_of}
-use Rattle.journal_scan.proofs.StretchesLemmas.{StandsBehind, none_behind, one_behind, all_behind, numbers_more, if_told}
+use Rattle.journal_scan.specs.Checks.{AreStretches}
+use Rattle.journal_scan.proofs.StretchesLemmas.{none_behind, one_behind, all_behind, numbers_more, if_told}
 use Rattle.journal_scan.proofs.checking.check.Goals as goal
 
 pub loop-stretch-init : goal.loop-stretch-init

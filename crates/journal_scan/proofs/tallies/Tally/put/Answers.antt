@@ -1,5 +1,4 @@
-use Rattle.std.proofs.Common.{◌≡◌, true, false, refl, sym, subst, ◌∷◌, ◌++◌, [], arith, rules}
-use Rattle.journal_scan.specs.Tallies.{Tallies}
+use Rattle.std.proofs.Common.{◌≡◌, true, false, refl, rules}
 use Rattle.journal_scan.proofs.GapsLemmas.{one_again, was_counted, not_counted, counted_next, counted_late, not_counted_late}
 use Rattle.journal_scan.proofs.tallies.Tally.put.Goals as goal
 

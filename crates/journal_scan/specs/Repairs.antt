@@ -1,0 +1,124 @@
+-- What appending the records of a log anew writes.
+use Rattle.std.specs.Prelude.{◌≡◌, ℕ, ◌+◌, ◌-◌, ◌^◌, ◌<◌, min, true, List, [], ◌∷◌, ◌++◌, length, map, take, Option, Some, IfSome}
+use Rattle.std.specs.List.{AllZip}
+use Rattle.cobs.specs.Frames.{shortest_frame}
+use Rattle.line_io.specs.Device.{Wrote}
+use Rattle.postcard_tree.specs.Tree.{Tree}
+use Rattle.postcard.specs.Written.{UnlessRefused}
+use Rattle.link.specs.Stream.{Verdict, HoldsExactly, Given, Answers}
+use Rattle.link.specs.Run.{completed, sent, session_line}
+use Rattle.link.specs.Roads.{values_of}
+use Rattle.link.specs.declared.receiver.Answer.{Answer}
+use Rattle.link.specs.declared.receiver.Answer.TheVariants.{Value, Damaged, TooLong, Cut}
+use Rattle.journal.specs.Records.{numbered, record_of, takes_record}
+use Rattle.journal_scan.specs.Checks.{numbers_of}
+use Rattle.journal_scan.specs.Tallies.{behind_greatest}
+use Rattle.journal_scan.specs.declared.scanning.ScanError.TheVariants.{Fault, NoMemory}
+use Rattle.journal_scan.specs.declared.repairing.Repaired.{Repaired}
+use Rattle.journal_scan.specs.declared.repairing.RepairError.{RepairError}
+use Rattle.journal_scan.specs.declared.repairing.RepairError.TheVariants.{Read, Refused, Line, Sync}
+
+-- the bytes of records that are appended one behind another, each its frame and a zero
+abbrev pub appended_anew : List Tree → List ℕ
+appended_anew ts = session_line 0 true (map completed ts)
+
+-- the bytes of a repaired log: a zero, and then its records
+abbrev pub rewritten : List Tree → List ℕ
+rewritten ts = 0 ∷ appended_anew ts
+
+-- the tree of a record whose value writes one
+abbrev pub IsTreeOf : {V : Type 0} → (V → Option Tree) → ℕ × V → Tree → Type 0
+IsTreeOf writes r t = (v : Tree) × (writes r.1 ≡ Some v) × (t ≡ numbered r.0 v)
+
+-- the trees of records, in order
+abbrev pub AreTreesOf : {V : Type 0} → (V → Option Tree) → List (ℕ × V) → List Tree → Type 0
+AreTreesOf writes records ts = AllZip (IsTreeOf writes) records ts
+
+-- these are the trees of all records that are read of a log, strictly, in order
+pub record AreReadIn (takes : Tree → Type 0) (limit : ℕ) (bytes : List ℕ) (ts : List Tree) : Type 0 where
+  pub answers : List Verdict
+  pub whole : Answers (HoldsExactly (takes_record takes)) limit 0 bytes answers
+  pub are : values_of answers ≡ ts
+
+-- these are the trees of all records that are read of some front of a log
+pub record AreReadFirst (takes : Tree → Type 0) (limit : ℕ) (bytes : List ℕ) (ts : List Tree) : Type 0 where
+  pub count : ℕ
+  pub answers : List Verdict
+  pub given : Given (HoldsExactly (takes_record takes)) limit 0 (take count bytes) answers
+  pub are : values_of answers ≡ ts
+
+-- A log was repaired: all records that are read of it were appended anew, behind a zero; so many they are, and this is the number
+-- behind the greatest of theirs.
+pub record IsRepaired {V : Type 0} (takes : Tree → Type 0) (writes : V → Option Tree) (limit : ℕ) (held old new : Option (List ℕ)) (before after : ℕ) (repaired : Repaired) : Type 0 where
+  pub records : List (ℕ × V)
+  pub trees : List Tree
+  pub of : AreTreesOf writes records trees
+  pub read : IfSome held (λ bytes. AreReadIn takes limit bytes trees)
+  pub wrote : Wrote old new before after (rewritten trees)
+  pub records_are : repaired.records ≡ min (length records) (2 ^ 64 - 1)
+  pub next_is : repaired.next ≡ behind_greatest (numbers_of records)
+
+-- A repair was broken off: a front of what appending the first records anew writes is there.
+pub record IsPartlyRepaired (takes : Tree → Type 0) (limit : ℕ) (held old new : Option (List ℕ)) (before after : ℕ) : Type 0 where
+  pub trees : List Tree
+  pub count : ℕ
+  pub read : IfSome held (λ bytes. AreReadFirst takes limit bytes trees)
+  pub wrote : Wrote old new before after (take count (rewritten trees))
+
+-- the record that an answer is, where it is one
+abbrev pub record_read : {V : Type 0} → Answer (ℕ × V) → List (ℕ × V)
+record_read (Value r) = r ∷ []
+record_read Damaged = []
+record_read TooLong = []
+record_read Cut = []
+
+-- a record was appended anew
+pub record WentAnew (writes : Option Tree) (n : ℕ) (old new : Option (List ℕ)) (before after : ℕ) : Type 0 where
+  pub value : Tree
+  pub is : writes ≡ Some value
+  pub wrote : Wrote old new before after (sent 0 true (numbered n value))
+
+-- a front of it was
+pub record BrokeAnew (writes : Option Tree) (n : ℕ) (old new : Option (List ℕ)) (before after : ℕ) : Type 0 where
+  pub value : Tree
+  pub is : writes ≡ Some value
+  pub count : ℕ
+  pub wrote : Wrote old new before after (take count (sent 0 true (numbered n value)))
+
+-- it wasn't appended: a front of it was, or it was refused, since it takes more than so many bytes
+abbrev pub StoppedAnew : Option Tree → ℕ → ℕ → Option (List ℕ) → Option (List ℕ) → ℕ → ℕ → RepairError → Type 0
+StoppedAnew writes n most old new before after Line = BrokeAnew writes n old new before after
+StoppedAnew writes n most old new before after (Refused e) =
+    Wrote old new before after [] × UnlessRefused (record_of n writes) (λ bytes. most < length (shortest_frame bytes))
+StoppedAnew writes n most old new before after (Read e) = ⊥
+StoppedAnew writes n most old new before after Sync = ⊥
+
+-- the record that an answer is was appended anew, where it is one, and is counted
+pub record GoesAnew {V : Type 0} (writes : V → Option Tree) (answer : Answer (ℕ × V)) (old new : Option (List ℕ)) (before after : ℕ) (repaired later : Repaired) : Type 0 where
+  pub trees : List Tree
+  pub of : AreTreesOf writes (record_read answer) trees
+  pub wrote : Wrote old new before after (appended_anew trees)
+  pub records_are : later.records ≡ min (repaired.records + length trees) (2 ^ 64 - 1)
+  pub next_is : (ns : List ℕ) → repaired.next ≡ behind_greatest ns → later.next ≡ behind_greatest (ns ++ numbers_of (record_read answer))
+
+-- it wasn't
+abbrev pub StopsAnew : {V : Type 0} → (V → Option Tree) → ℕ → Answer (ℕ × V) → Option (List ℕ) → Option (List ℕ) → ℕ → ℕ → RepairError → Type 0
+StopsAnew writes most (Value r) old new before after e = StoppedAnew (writes r.1) r.0 most old new before after e
+StopsAnew writes most Damaged old new before after e = ⊥
+StopsAnew writes most TooLong old new before after e = ⊥
+StopsAnew writes most Cut old new before after e = ⊥
+
+-- why a repair was broken off: the log's store failed, or the destination did
+abbrev pub RepairCause : RepairError → Type 0 → Type 0 → Type 0
+RepairCause (Read Fault) P Q = P
+RepairCause (Read NoMemory) P Q = Unit {0}
+RepairCause (Refused e) P Q = Unit {0}
+RepairCause Line P Q = Q
+RepairCause Sync P Q = Q
+
+-- a fact where a record was refused
+abbrev pub IfRefused : RepairError → Type 0 → Type 0
+IfRefused (Read e) P = Unit {0}
+IfRefused (Refused e) P = P
+IfRefused Line P = Unit {0}
+IfRefused Sync P = Unit {0}
