@@ -5,7 +5,7 @@ use crate::entries::{Entry, MOST, open_file};
 use journal::{AppendError, Journal, Unheard};
 use sealed::Sealed;
 use std::fs::File;
-use std::io;
+use std::io::{self, BufRead, BufReader};
 use stores::Stored;
 
 type Log = Stored<File>;
@@ -40,7 +40,10 @@ pub fn append(rt: &HostRuntime, path: &str) -> io::Result<u8> {
         Err(status) => return Ok(status),
     };
     let mut status = 0u8;
-    for line in rt.lines(rt.alloc()) {
+    let Ok(input) = BufReader::new(rt.alloc(), rt.reader()) else {
+        return Ok(4);
+    };
+    for line in input.lines(rt.alloc()) {
         let entry = Sealed((journal.next(), line?));
         match journal.append(&entry) {
             Ok(number) => {

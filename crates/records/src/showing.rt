@@ -6,7 +6,7 @@ use journal_scan::Scan;
 use link::Answer;
 use sealed::Sealed;
 use std::alloc::Global;
-use std::io;
+use std::io::{self, BufWriter, Write};
 use stores::{Store, Stored};
 
 // The next record that is numbered `first` and on, and is sealed with its own number; or the status where it can't be had.
@@ -32,37 +32,44 @@ fn next_record<S: Store>(
     Err(3)
 }
 
-// Prints a record as a line of text, or of JSON.
-fn print_record(rt: &HostRuntime, number: u64, text: &String, json: bool) -> io::Result<u8> {
+// Writes a record as a line of text, or of JSON.
+fn write_record<W: Write>(
+    alloc: Global,
+    to: &mut W,
+    number: u64,
+    text: &String,
+    json: bool,
+) -> io::Result<u8> {
     if !json {
-        println!(rt; "{number} {text}")?;
+        writeln!(to, "{number} {text}")?;
         return Ok(0);
     }
-    match serde_json::to_string(rt.alloc(), text) {
+    match serde_json::to_string(alloc, text) {
         Ok(quoted) => {
-            println!(rt; "{{\"number\":{number},\"text\":{quoted}}}")?;
+            writeln!(to, "{{\"number\":{number},\"text\":{quoted}}}")?;
             Ok(0)
         }
         Err(_) => Ok(4),
     }
 }
 
-// Prints what is wanted of the records that the scan still comes to, without the first `passed` of them.
-fn show_rest<S: Store>(
-    rt: &HostRuntime,
+// Writes what is wanted of the records that the scan still comes to, without the first `passed` of them.
+fn write_rest<S: Store, W: Write>(
+    alloc: Global,
     scan: &mut Scan,
     store: &mut S,
+    to: &mut W,
     wanted: Wanted<'_>,
     passed: u64,
 ) -> io::Result<u8> {
     let mut left = passed;
     for _ in 0..u64::MAX {
-        match next_record(rt.alloc(), scan, store, wanted.first) {
+        match next_record(alloc, scan, store, wanted.first) {
             Ok(Some((number, text))) => {
                 if left > 0 {
                     left -= 1;
                 } else {
-                    let status = print_record(rt, number, &text, wanted.json)?;
+                    let status = write_record(alloc, to, number, &text, wanted.json)?;
                     if status != 0 {
                         return Ok(status);
                     }
@@ -73,6 +80,22 @@ fn show_rest<S: Store>(
         }
     }
     Ok(3)
+}
+
+// Prints the same. The lines are gathered, and all of them are printed before this returns, also where it goes no further.
+fn show_rest<S: Store>(
+    rt: &HostRuntime,
+    scan: &mut Scan,
+    store: &mut S,
+    wanted: Wanted<'_>,
+    passed: u64,
+) -> io::Result<u8> {
+    let Ok(mut printed) = BufWriter::new(rt.alloc(), io::writer(rt)) else {
+        return Ok(4);
+    };
+    let shown = write_rest(rt.alloc(), scan, store, &mut printed, wanted, passed);
+    printed.flush()?;
+    shown
 }
 
 // How many records are numbered `first` and on.

@@ -1,3 +1,4 @@
 pub mod SummedLemmas
 pub mod WritingLemmas
 pub mod FoundLemmas
+pub mod ChecksumLemmas

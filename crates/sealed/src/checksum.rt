@@ -1,30 +1,18 @@
 //! The sum CRC-32, as Ethernet, gzip and PNG have it.
 ghost use Rattle.std.specs.Prelude.{◌≡◌};
-ghost use Rattle.sealed.specs.Checksum.{shifted, behind_byte, behind_bytes, sum_of_bytes};
+ghost use Rattle.sealed.specs.Checksum.{behind_byte, behind_bytes, sum_of_bytes};
 
-const POLYNOMIAL: u32 = 0xEDB8_8320;
+use crate::table::SHIFTED;
 
 // The register before the first byte.
 pub(crate) const FIRST: u32 = 0xFFFF_FFFF;
 
-// The register moved by one bit.
-fn shift(register: u32) -> u32
-    ensures { result ≡ shifted register }
-{
-    if register % 2 == 0 {
-        register / 2
-    } else {
-        (register / 2) ^ POLYNOMIAL
-    }
-}
-
 // The register behind one byte more.
-#[tactic(auto, unfolding(crate::specs::Checksum::behind_byte))]
 pub(crate) fn add_byte(register: u32, byte: u8) -> u32
     ensures { result ≡ behind_byte register byte }
 {
-    let half = shift(shift(shift(shift(register ^ u32::from(byte)))));
-    shift(shift(shift(shift(half))))
+    let mixed = register ^ u32::from(byte);
+    (mixed / 256) ^ SHIFTED[(mixed % 256) as usize]
 }
 
 // The register behind these bytes.

@@ -18,6 +18,7 @@ pub mod laws;
 mod reading;
 mod sizes;
 mod summing;
+mod table;
 mod value;
 
 pub use checksum::crc32;
