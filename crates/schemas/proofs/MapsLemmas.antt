@@ -1,9 +1,9 @@
 -- Who takes the same of the types inside takes the same of the whole.
-use Rattle.std.specs.Prelude.{◌≡◌, ℕ, zero, suc, List, [], ◌∷◌}
+use Rattle.std.specs.Prelude.{ℕ, zero, suc, List, [], ◌∷◌}
 use Rattle.std.proofs.Common.{inl, inr}
 use Rattle.postcard_tree.specs.declared.error.Error.{Error}
-use Rattle.postcard_tree.specs.Tree.{Tree, byte, number, character, sequence, group, Trees, end, part}
-use Rattle.postcard_tree.specs.Reading.{TakesOption, TakesAll, TakesSequence, TakesArray, TakesVariant, PartThen, GroupOf, RefusesOption, RefusesAfter, RefusesPartThen, RefusesEach, RefusesBehindCount, RefusesSequence, RefusesBehindIndex, RefusesVariant}
+use Rattle.postcard_tree.specs.Tree.{Tree, byte, number, sequence, group, Trees, end, part}
+use Rattle.postcard_tree.specs.Reading.{TakesOption, TakesAll, TakesSequence, TakesArray, TakesVariant, PartThen, GroupOf, RefusesOption, RefusesAfter, RefusesPartThen, RefusesEach, RefusesSequence, TakesUpTo, IsTooMany, RefusesPast, RefusesUpTo, RefusesVariant}
 use Rattle.schemas.specs.TypeSchemas.{TakeTheSame}
 
 abbrev Same : {A : Type 0} → (A → Type 0) → (A → Type 0) → Type 0
@@ -26,6 +26,9 @@ all_taken f (part t ts) h = (f t h.0, all_taken f ts h.1)
 sequence_taken : {P Q : Tree → Type 0} → Same P Q → Same (TakesSequence P) (TakesSequence Q)
 sequence_taken f (sequence ts) h = (h.0, all_taken f ts h.1)
 sequence_taken f _ h = absurd h
+
+up_to_taken : {P Q : Tree → Type 0} (n : ℕ) → Same P Q → Same (TakesUpTo n P) (TakesUpTo n Q)
+up_to_taken n f t h = (sequence_taken f t h.0, h.1)
 
 array_taken : {P Q : Tree → Type 0} (n : ℕ) → Same P Q → Same (TakesArray n P) (TakesArray n Q)
 array_taken n f (group ts) h = (all_taken f ts h.0, h.1)
@@ -70,6 +73,20 @@ sequence_refused f g s e (inl h) = inl h
 sequence_refused f g s e (inr h) =
     inr (record { n = h.n; count = h.count; rest = h.rest; whole = h.whole; counted = h.counted; refused = each_refused f g h.n h.rest e h.refused })
 
+too_many : {P Q : Tree → Type 0} → Same P Q → (n : ℕ) → SameRefused (IsTooMany P n) (IsTooMany Q n)
+too_many f n s e h =
+    record { trees = h.trees; front = h.front; rest = h.rest; whole = h.whole; spells = h.spells; taken = all_taken f h.trees h.taken; counted = h.counted; error = h.error }
+
+past_refused : {P Q : Tree → Type 0} {F G : List ℕ → Error → Type 0} → Same P Q → SameRefused F G → (n m : ℕ) → SameRefused (RefusesPast n P F m) (RefusesPast n Q G m)
+past_refused f g n m s e (inl h) = inl (h.0, each_refused f g m s e h.1)
+past_refused f g n m s e (inr (inl h)) = inr (inl (h.0, each_refused f g (suc n) s e h.1))
+past_refused f g n m s e (inr (inr h)) = inr (inr (h.0, too_many f (suc n) s e h.1))
+
+up_to_refused : {P Q : Tree → Type 0} {F G : List ℕ → Error → Type 0} → Same P Q → SameRefused F G → (n : ℕ) → SameRefused (RefusesUpTo n P F) (RefusesUpTo n Q G)
+up_to_refused f g n s e (inl h) = inl h
+up_to_refused f g n s e (inr h) =
+    inr (record { n = h.n; count = h.count; rest = h.rest; whole = h.whole; counted = h.counted; refused = past_refused f g n h.n h.rest e h.refused })
+
 variant_refused : {F G : ℕ → List ℕ → Error → Type 0} → ((n : ℕ) → SameRefused (F n) (G n)) → SameRefused (RefusesVariant F) (RefusesVariant G)
 variant_refused f s e (inl h) = inl h
 variant_refused f s e (inr h) =
@@ -87,6 +104,14 @@ same_sequence h = record {
   from = sequence_taken h.from;
   refused_to = sequence_refused h.to h.refused_to;
   refused_from = sequence_refused h.from h.refused_from;
+}
+
+pub same_up_to : {P Q : Tree → Type 0} {F G : List ℕ → Error → Type 0} (n : ℕ) → TakeTheSame P Q F G → TakeTheSame (TakesUpTo n P) (TakesUpTo n Q) (RefusesUpTo n P F) (RefusesUpTo n Q G)
+same_up_to n h = record {
+  to = up_to_taken n h.to;
+  from = up_to_taken n h.from;
+  refused_to = up_to_refused h.to h.refused_to n;
+  refused_from = up_to_refused h.from h.refused_from n;
 }
 
 pub same_array : {P Q : Tree → Type 0} {F G : List ℕ → Error → Type 0} (n : ℕ) → TakeTheSame P Q F G → TakeTheSame (TakesArray n P) (TakesArray n Q) (RefusesEach P F n) (RefusesEach Q G n)

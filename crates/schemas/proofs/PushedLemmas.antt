@@ -7,8 +7,20 @@ use Rattle.postcard_tree.specs.Tree.{Tree, Trees, sequence, group, end, part, jo
 use Rattle.postcard_tree.specs.Spelling.{short, short_all, varint}
 use Rattle.postcard_ser.specs.Flavor.{FlavorLaws, RefusedAs, Pushes}
 use Rattle.postcard_ser.specs.Writing.{Writes, WritesAll}
+use Rattle.postcard_ser.specs.FixedTree.{little_tree, big_tree}
 use Rattle.schemas.specs.declared.value.Value.{Value}
+use Rattle.schemas.specs.Integers.{little_group, big_group}
 use Rattle.schemas.specs.Values.{tree_of, trees_in, parts_as}
+
+-- Integers by their bytes
+
+pub little_written : (k n : ℕ) → little_tree k n ≡ Some (little_group k n)
+unfolding little_tree little_group
+little_written k n = refl
+
+pub big_written : (k n : ℕ) → big_tree k n ≡ Some (big_group k n)
+unfolding big_tree big_group
+big_written k n = refl
 
 -- Lists of trees
 

@@ -1,19 +1,21 @@
 -- Nodes that are put behind a table.
-use Rattle.std.specs.Prelude.{◌≡◌, ℕ, zero, suc, ◌+◌, ◌≤◌, List, [], ◌∷◌, ◌++◌, length, refl, Option, Some, Result, Ok, Err, IfOk}
+use Rattle.std.specs.Prelude.{◌≡◌, ℕ, zero, suc, ◌+◌, ◌≤◌, List, [], ◌∷◌, ◌++◌, length, refl, Some, Result, Ok, Err, IfOk}
 use Rattle.std.specs.List.{slice_get}
 use Rattle.std.specs.Global.{Global}
 use Rattle.std.specs.declared.alloc.AllocError.{AllocError}
 use Rattle.std.proofs.Common.{sym, ◌∙◌, ap, subst, arith, append_assoc, append-nil, length-append, Vec}
 use Rattle.postcard_tree.specs.declared.error.Error.{Error}
-use Rattle.postcard_tree.specs.declared.error.Error.TheVariants.{SerdeDeCustom}
 use Rattle.postcard_tree.specs.Tree.{Tree, Trees}
-use Rattle.postcard_tree.specs.Reading.{TakesOption, RefusesOption, TakesSequence, RefusesSequence, TakesArray, RefusesEach, NoParts, RefusesNoParts, PartThen, RefusesPartThen, GroupOf, TakesVariant, RefusesVariant, TakesResult, RefusesResult}
+use Rattle.postcard_tree.specs.Reading.{TakesOption, RefusesOption, TakesSequence, RefusesSequence, IsShort, TakesUpTo, RefusesUpTo, TakesArray, RefusesEach, NoParts, RefusesNoParts, PartThen, RefusesPartThen, GroupOf, TakesVariant, RefusesVariant, TakesResult, RefusesResult}
 use Rattle.postcard_tree.specs.Variants.{TakesLast, RefusesLast, TakesFirst, RefusesFirst}
+use Rattle.postcard_tree.specs.Fixed.{TakesFixed}
+use Rattle.schemas.specs.declared.integer.IntegerType.{IntegerType}
 use Rattle.schemas.specs.declared.node.Node.{Node}
 use Rattle.schemas.specs.declared.node.Node.TheVariants as node
+use Rattle.schemas.specs.Integers.{width_of}
 use Rattle.schemas.specs.Schemas.{TakesNode, RefusesNode, TakesPlace, RefusesPlace, TakesPayload, RefusesPayload, SchemaTakes, SchemaRefuses}
 use Rattle.schemas.specs.TypeSchemas.{BeginsWith, TakeTheSame, IsSchemaOf, AreSchemasOf, ArePayloadsOf, PayloadsAdded, IsAdded, IsLeaf, LeafTakes, LeafRefuses}
-use Rattle.schemas.proofs.MapsLemmas.{same_option, same_sequence, same_array, same_parts, same_group, same_variant, same_itself}
+use Rattle.schemas.proofs.MapsLemmas.{same_option, same_sequence, same_up_to, same_array, same_parts, same_group, same_variant, same_itself}
 
 -- Fronts
 
@@ -83,17 +85,26 @@ same_leaf takes refuses node.I16 h = same_itself (LeafTakes node.I16) (LeafRefus
 same_leaf takes refuses node.I32 h = same_itself (LeafTakes node.I32) (LeafRefuses node.I32)
 same_leaf takes refuses node.I64 h = same_itself (LeafTakes node.I64) (LeafRefuses node.I64)
 same_leaf takes refuses node.I128 h = same_itself (LeafTakes node.I128) (LeafRefuses node.I128)
+same_leaf takes refuses (node.LE k) h = same_itself (LeafTakes (node.LE k)) (LeafRefuses (node.LE k))
+same_leaf takes refuses (node.BE k) h = same_itself (LeafTakes (node.BE k)) (LeafRefuses (node.BE k))
 same_leaf takes refuses node.Char h = same_itself (LeafTakes node.Char) (LeafRefuses node.Char)
 same_leaf takes refuses node.Text h = same_itself (LeafTakes node.Text) (LeafRefuses node.Text)
+same_leaf takes refuses (node.TextUpTo m) h = same_itself (LeafTakes (node.TextUpTo m)) (LeafRefuses (node.TextUpTo m))
 same_leaf takes refuses node.Bytes h = same_itself (LeafTakes node.Bytes) (LeafRefuses node.Bytes)
 same_leaf takes refuses (node.Option i) h = absurd h
 same_leaf takes refuses (node.List i) h = absurd h
+same_leaf takes refuses (node.ListUpTo m i) h = absurd h
 same_leaf takes refuses (node.Array m i) h = absurd h
 same_leaf takes refuses (node.Struct is) h = absurd h
 same_leaf takes refuses (node.Enum is) h = absurd h
 
 pub leaf_schema : (n : Node) {old new : List Node} {place : ℕ} → IsLeaf n → IsAdded n old new place → IsSchemaOf (LeafTakes n) (LeafRefuses n) new place
 leaf_schema n l h = node_schema n h (λ depth table m w. same_leaf (SchemaTakes depth table) (SchemaRefuses depth table) n l)
+
+-- the integer type of a leaf, by how wide it is
+pub as_wide : {size : ℕ} (nodes : List Node) (k m : IntegerType) (r : Result ℕ AllocError) → k ≡ m → width_of m ≡ size
+    → IfOk r (λ place. IsSchemaOf (TakesFixed (width_of k)) (IsShort (width_of k)) nodes place) → IfOk r (λ place. IsSchemaOf (TakesFixed size) (IsShort size) nodes place)
+as_wide nodes k m r e w h = subst (λ z. IfOk r (λ place. IsSchemaOf (TakesFixed z) (IsShort z) nodes place)) (ap width_of e ∙ w) h
 
 pub option_schema : {P : Tree → Type 0} {F : List ℕ → Error → Type 0} {i : ℕ} {old new : List Node} {place : ℕ}
     → IsSchemaOf P F old i → IsAdded (node.Option i) old new place → IsSchemaOf (TakesOption P) (RefusesOption F) new place
@@ -102,6 +113,10 @@ option_schema {P} {F} {i} s h = node_schema (node.Option i) h (λ depth table m 
 pub list_schema : {P : Tree → Type 0} {F : List ℕ → Error → Type 0} {i : ℕ} {old new : List Node} {place : ℕ}
     → IsSchemaOf P F old i → IsAdded (node.List i) old new place → IsSchemaOf (TakesSequence P) (RefusesSequence P F) new place
 list_schema {P} {F} {i} s h = node_schema (node.List i) h (λ depth table m w. same_sequence (s.same depth table m w))
+
+pub list_up_to_schema : {P : Tree → Type 0} {F : List ℕ → Error → Type 0} {n i : ℕ} {old new : List Node} {place : ℕ}
+    → IsSchemaOf P F old i → IsAdded (node.ListUpTo n i) old new place → IsSchemaOf (TakesUpTo n P) (RefusesUpTo n P F) new place
+list_up_to_schema {P} {F} {n} {i} s h = node_schema (node.ListUpTo n i) h (λ depth table m w. same_up_to n (s.same depth table m w))
 
 pub array_schema : {P : Tree → Type 0} {F : List ℕ → Error → Type 0} {n i : ℕ} {old new : List Node} {place : ℕ}
     → IsSchemaOf P F old i → IsAdded (node.Array n i) old new place → IsSchemaOf (TakesArray n P) (RefusesEach P F n) new place

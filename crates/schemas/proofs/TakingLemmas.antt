@@ -8,7 +8,8 @@ use Rattle.std.proofs.Math.ListN.{drop_of_length-le}
 use Rattle.postcard_tree.specs.declared.error.Error.{Error}
 use Rattle.postcard_tree.specs.declared.error.Error.TheVariants.{OutOfMemory, SerdeDeCustom}
 use Rattle.postcard_tree.specs.Tree.{Tree, byte, number, character, sequence, group, Trees, end, part}
-use Rattle.postcard_tree.specs.Reading.{Spelled, ReadsNumber, TakesOption, ReadsOption, TakesAll, ReadsAll, TakesSequence, ReadsSequence, TakesArray, ReadsArray, TakesVariant, ReadsVariant, RefusesVariant, NoParts, PartThen, GroupOf}
+use Rattle.postcard_tree.specs.Reading.{Spelled, ReadsNumber, TakesOption, ReadsOption, TakesAll, ReadsAll, TakesSequence, ReadsSequence, TakesUpTo, ReadsUpTo, TakesArray, ReadsArray, TakesVariant, ReadsVariant, RefusesVariant, NoParts, PartThen, GroupOf}
+use Rattle.postcard_tree.specs.Kinds.{upto_taken}
 use Rattle.postcard_de.specs.Source.{SourceState, SourceGave, Reads, Fails, Outcome}
 use Rattle.postcard_de.specs.Steps.{gave_none, gave_more, no_memory, refused_here}
 use Rattle.postcard_de.specs.Values.{variant_read, variant_fails, variant_unknown, ReadsParts, no_fields, field_then, group_read, field_fails, rest_fails}
@@ -43,6 +44,14 @@ list_of P H (group ts) v h = absurd h
 pub list_by : {P : Tree → Type 0} {H : Value → Type 0} {a b : SourceState} (v : Vec Value Global) → Reads a b (Spelled (ReadsSequence (ReadsBy P H))) v.items
     → Reads a b (Spelled (ReadsBy (TakesSequence P) (AtTop (OfList (EachHas H))))) (Listed v)
 list_by {P} {H} v h = read_as (Listed v) (λ t k. list_of P H t v k) h
+
+list_up_to_of : (P : Tree → Type 0) (H : Value → Type 0) (most : ℕ) (t : Tree) (v : Vec Value Global) → ReadsUpTo most (ReadsBy P H) t v.items
+    → TakesUpTo most P t × (tree_of (Listed v) ≡ t) × AtTop (OfList (EachHas H)) (Listed v)
+list_up_to_of P H most t v h = let k = list_of P H t v h.0 in (upto_taken most P (ReadsBy P H) (λ u w j. j.0) t v.items h, k.1, k.2)
+
+pub list_up_to_by : {P : Tree → Type 0} {H : Value → Type 0} {a b : SourceState} (most : ℕ) (v : Vec Value Global) → Reads a b (Spelled (ReadsUpTo most (ReadsBy P H))) v.items
+    → Reads a b (Spelled (ReadsBy (TakesUpTo most P) (AtTop (OfList (EachHas H))))) (Listed v)
+list_up_to_by {P} {H} most v h = read_as (Listed v) (λ t k. list_up_to_of P H most t v k) h
 
 array_of : (P : Tree → Type 0) (H : Value → Type 0) (n : ℕ) (t : Tree) (v : Vec Value Global) → ReadsArray n (ReadsBy P H) t v.items
     → TakesArray n P t × (tree_of (Group v) ≡ t) × AtTop (OfGroup (EachHas H)) (Group v)

@@ -1,19 +1,30 @@
 -- The tree and the kind of a value, by its constructor; and what is read as a leaf.
-use Rattle.std.specs.Prelude.{◌≡◌, ℕ, ℤ, List, [], ◌∷◌, refl, Bool, string_bytes, if◌then◌else◌}
+use Rattle.std.specs.Prelude.{◌≡◌, ℕ, ℤ, ◌<◌, ◌≤◌, List, [], ◌∷◌, ◌++◌, length, refl, Bool, true, string_bytes, if◌then◌else◌}
 use Rattle.std.specs.Global.{Global}
 use Rattle.std.specs.Int.{w8, cast_unsigned}
-use Rattle.std.proofs.Common.{sym, ◌∙◌, ap, subst, rules, Vec}
+use Rattle.std.specs.Str.{IsUtf8}
+use Rattle.std.proofs.Common.{sym, ◌∙◌, ap, subst, inr, arith, rules, append_assoc, length-append, Vec}
+use Rattle.std.proofs.Math.Seq.{take-append_seam}
 use Rattle.std.specs.Prelude.{Box}
-use Rattle.postcard_tree.specs.Tree.{Tree, byte, number, character, sequence, group, Trees, end, part, text_of, bytes_of, zigzag}
-use Rattle.postcard_tree.specs.Reading.{Spelled, TakesBool, ReadsBool, TakesByte, ReadsByte, TakesOctet, ReadsSignedByte, TakesNumber, ReadsNumber, ReadsSigned, TakesCharacter, ReadsCharacter, ReadsAll, ReadsBytes, TakesText, ReadsText, TakesSequence}
+use Rattle.postcard_tree.specs.declared.error.Error.TheVariants.{SerdeDeCustom}
+use Rattle.postcard_tree.specs.Number.{Number}
+use Rattle.postcard_tree.specs.Spelling.{Spells, SpellsAll}
+use Rattle.postcard_tree.specs.Tree.{Tree, byte, number, character, sequence, group, Trees, end, part, count_of, text_of, bytes_of, zigzag}
+use Rattle.postcard_tree.specs.Reading.{Spelled, TakesBool, ReadsBool, TakesByte, ReadsByte, TakesOctet, ReadsSignedByte, TakesNumber, ReadsNumber, ReadsSigned, TakesCharacter, ReadsCharacter, ReadsAll, ReadsBytes, TakesText, ReadsText, TakesSequence, TakesTextUpTo, RefusesTextUpTo}
 use Rattle.postcard_tree.specs.Once.{sequence_taken, byte_taken, numbers_taken}
-use Rattle.postcard_tree.specs.Kinds.{bool_taken, signed_byte_taken, signed_taken, character_taken}
-use Rattle.postcard_de.specs.Source.{SourceState, Reads, SpelledBytes}
+use Rattle.postcard_tree.specs.Kinds.{bool_taken, signed_byte_taken, signed_taken, character_taken, text_upto_taken}
+use Rattle.postcard_de.specs.Source.{SourceState, Reads, Fails, SpelledBytes}
+use Rattle.postcard_de.specs.Steps.{refused_here}
 use Rattle.postcard_de.specs.Runs.{bytes_read}
-use Rattle.schemas.specs.declared.value.Value.{Value, out-Value, Bool as Truth, U8, I8, U16, U32, U64, U128, I16, I32, I64, I128, Char, Text, Bytes, Absent, Present, List as Listed, Group, Variant, the_lemmas}
+use Rattle.postcard_tree.specs.Fixed.{little_endian, big_endian, TakesFixed, ReadsFixed, FixedLaws}
+use Rattle.postcard_tree.specs.FixedOnce.{little_laws, big_laws}
+use Rattle.schemas.specs.declared.integer.IntegerType.{IntegerType}
+use Rattle.schemas.specs.declared.integer.Integer.{Integer}
+use Rattle.schemas.specs.Integers.{width_of, type_of, bits_in, little_group, big_group, little_tree_of, big_tree_of}
+use Rattle.schemas.specs.declared.value.Value.{Value, out-Value, Bool as Truth, U8, I8, U16, U32, U64, U128, I16, I32, I64, I128, LE, BE, Char, Text, Bytes, Absent, Present, List as Listed, Group, Variant, the_lemmas}
 use Rattle.schemas.specs.declared.value.Value.TheOpen.{Value-F}
 use Rattle.schemas.specs.Values.{tree_of, trees_in}
-use Rattle.schemas.specs.Schemas.{ReadsBy, AtTop, OfBool, OfU8, OfI8, OfU16, OfU32, OfU64, OfU128, OfI16, OfI32, OfI64, OfI128, OfChar, OfText, OfBytes, OfOption, OfList, OfGroup, OfVariant}
+use Rattle.schemas.specs.Schemas.{ReadsBy, AtTop, OfBool, OfU8, OfI8, OfU16, OfU32, OfU64, OfU128, OfI16, OfI32, OfI64, OfI128, OfLE, OfBE, OfChar, OfText, OfBytes, OfOption, OfList, OfGroup, OfVariant}
 
 pub tree-Truth : (b : Bool) → tree_of (Truth b) ≡ byte (if b then 1 else 0)
 tree-Truth b = search (rules, the_lemmas)
@@ -80,6 +91,18 @@ tree-I128 n = search (rules, the_lemmas)
 
 out-I128 : (n : _) → out-Value (I128 n) ≡ Value-F.I128 n
 out-I128 n = search (rules, the_lemmas)
+
+pub tree-LE : (i : _) → tree_of (LE i) ≡ little_tree_of i
+tree-LE i = search (rules, the_lemmas)
+
+out-LE : (i : _) → out-Value (LE i) ≡ Value-F.LE i
+out-LE i = search (rules, the_lemmas)
+
+pub tree-BE : (i : _) → tree_of (BE i) ≡ big_tree_of i
+tree-BE i = search (rules, the_lemmas)
+
+out-BE : (i : _) → out-Value (BE i) ≡ Value-F.BE i
+out-BE i = search (rules, the_lemmas)
 
 pub tree-Char : (c : _) → tree_of (Char c) ≡ character c
 tree-Char c = search (rules, the_lemmas)
@@ -163,6 +186,12 @@ top-I64 n = subst OfI64 (sym (out-I64 n)) tt
 
 pub top-I128 : (n : _) → AtTop OfI128 (I128 n)
 top-I128 n = subst OfI128 (sym (out-I128 n)) tt
+
+top-LE : (k : IntegerType) (i : Integer) → type_of i ≡ k → AtTop (OfLE k) (LE i)
+top-LE k i e = subst (OfLE k) (sym (out-LE i)) e
+
+top-BE : (k : IntegerType) (i : Integer) → type_of i ≡ k → AtTop (OfBE k) (BE i)
+top-BE k i e = subst (OfBE k) (sym (out-BE i)) e
 
 top-Char : (c : _) → AtTop OfChar (Char c)
 top-Char c = subst OfChar (sym (out-Char c)) tt
@@ -255,3 +284,74 @@ bytes_by v h = read_as (Bytes v) (λ t k. (sequence_taken TakesByte ReadsByte by
 
 pub text_by : {a b : SourceState} (s : _) → Reads a b (Spelled (λ t v. ReadsText t (string_bytes v))) s → Reads a b (Spelled (ReadsBy TakesText (AtTop OfText))) (Text s)
 text_by s h = read_as (Text s) (λ t k. ((string_bytes s, k.0, k.1), tree-Text s ∙ text_tree t (string_bytes s) k.0, top-Text s)) h
+
+-- Texts with a greatest length
+
+pub text_up_to_by : {a b : SourceState} (most : ℕ) (s : _) → length (string_bytes s) ≤ most → Reads a b (Spelled (λ t v. ReadsText t (string_bytes v))) s
+    → Reads a b (Spelled (ReadsBy (TakesTextUpTo most) (AtTop OfText))) (Text s)
+text_up_to_by most s l h = read_as (Text s) (λ t k. (text_upto_taken most t (string_bytes s) (k, l), tree-Text s ∙ text_tree t (string_bytes s) k.0, top-Text s)) h
+
+bytes_at : (ts : Trees) (front s : List ℕ) → SpellsAll ts front → ReadsAll ReadsByte ts s → front ≡ s
+unfolding Spells SpellsAll
+bytes_at end front [] h k = h
+bytes_at end front (x ∷ s) h k = absurd k
+bytes_at (part t ts) front [] h k = absurd k
+bytes_at (part (byte b) ts) front (x ∷ s) (a, v, j, g, h) k =
+    let e : x ≡ b = k.0 in
+    let f : v ≡ s = bytes_at ts v s h k.1 in
+    let w : b ∷ v ≡ x ∷ s = cc in
+    j ∙ ap (λ z. z ++ v) g ∙ w
+bytes_at (part _ ts) front (x ∷ s) h k = absurd k.0
+
+count_bytes : (ts : Trees) (s : List ℕ) → ReadsAll ReadsByte ts s → count_of ts ≡ length s
+count_bytes end [] h = refl
+count_bytes end (x ∷ s) h = absurd h
+count_bytes (part t ts) [] h = absurd h
+count_bytes (part t ts) (x ∷ s) h = omega (arith, count_bytes ts s h.1)
+
+text_past : (most : ℕ) (s : List ℕ) (t : Tree) (taken rest : List ℕ) → most < length s → Spells t taken → ReadsText t s → RefusesTextUpTo most (taken ++ rest) SerdeDeCustom
+unfolding Spells
+text_past most s (sequence ts) taken rest l (count, front, whole, counted, spells) k =
+    let e : front ≡ s = bytes_at ts front s spells k.0.1 in
+    inr (record {
+      n = length s;
+      count = count;
+      rest = s ++ rest;
+      whole = ap (λ z. z ++ rest) (whole ∙ ap (λ z. count ++ z) e) ∙ append_assoc count s rest;
+      counted = subst (λ z. Number 64 z count) (count_bytes ts s k.0.1) counted;
+      refused = inr (inr (l, omega (arith, length-append s rest), subst IsUtf8 (sym (take-append_seam s rest)) k.1, refl));
+    })
+text_past most s _ taken rest l h k = absurd k.0
+
+pub text_too_long : {A : Type 0} {a b : SourceState} (most : ℕ) (bytes : A → List ℕ) (s : A) → most < length (bytes s) → Reads a b (Spelled (λ t v. ReadsText t (bytes v))) s
+    → Fails a b (RefusesTextUpTo most) true SerdeDeCustom
+text_too_long most bytes s l r = refused_here {s = r.taken} (RefusesTextUpTo most) r.gave (λ rest. text_past most (bytes s) r.found.tree r.taken rest l r.found.spells r.found.read) (λ e. refl)
+
+-- Integers by their bytes
+
+little_group_is : (k n : ℕ) → little_group k n ≡ group (bytes_of (little_endian k n))
+unfolding little_group
+little_group_is k n = refl
+
+big_group_is : (k n : ℕ) → big_group k n ≡ group (bytes_of (big_endian k n))
+unfolding big_group
+big_group_is k n = refl
+
+little_tree_as : (k : IntegerType) (i : Integer) (size bits : ℕ) → type_of i ≡ k → width_of k ≡ size → bits_in i ≡ bits → little_tree_of i ≡ little_group size bits
+little_tree_as k i size bits e w f = ap (λ z. little_group z (bits_in i)) (ap width_of e ∙ w) ∙ ap (little_group size) f
+
+big_tree_as : (k : IntegerType) (i : Integer) (size bits : ℕ) → type_of i ≡ k → width_of k ≡ size → bits_in i ≡ bits → big_tree_of i ≡ big_group size bits
+big_tree_as k i size bits e w f = ap (λ z. big_group z (bits_in i)) (ap width_of e ∙ w) ∙ ap (big_group size) f
+
+module _ {A B : Type 0} {a b : SourceState} {size : ℕ} {in_range : A → Type 0} {bits : A → ℕ} {of_bits : ℕ → A} (laws : FixedLaws size in_range bits of_bits) (k : IntegerType) (i : Integer) (view : B → A) (v : B) where
+  pub little_by : width_of k ≡ size → type_of i ≡ k → bits_in i ≡ bits (view v) → Reads a b (Spelled (λ t w. ReadsFixed (λ n. little_endian size (bits n)) in_range t (view w))) v
+      → Reads a b (Spelled (ReadsBy (TakesFixed size) (AtTop (OfLE k)))) (LE i)
+  little_by w e f h =
+      read_as (LE i)
+      (λ t r. ((little_laws laws).taken t (view v) r, tree-LE i ∙ (little_tree_as k i size (bits (view v)) e w f ∙ (little_group_is size (bits (view v)) ∙ sym r.0)), top-LE k i e)) h
+
+  pub big_by : width_of k ≡ size → type_of i ≡ k → bits_in i ≡ bits (view v) → Reads a b (Spelled (λ t w. ReadsFixed (λ n. big_endian size (bits n)) in_range t (view w))) v
+      → Reads a b (Spelled (ReadsBy (TakesFixed size) (AtTop (OfBE k)))) (BE i)
+  big_by w e f h =
+      read_as (BE i)
+      (λ t r. ((big_laws laws).taken t (view v) r, tree-BE i ∙ (big_tree_as k i size (bits (view v)) e w f ∙ (big_group_is size (bits (view v)) ∙ sym r.0)), top-BE k i e)) h

@@ -1,16 +1,22 @@
 -- What the trees that a type of a table takes, its values and the bytes that it refuses owe one another.
-use Rattle.std.specs.Prelude.{ℕ, zero, suc, List, [], ◌∷◌, Option, Some, None, refl}
+use Rattle.std.specs.Prelude.{◌≡◌, ℕ, zero, suc, nat_le, true, List, [], ◌∷◌, Option, Some, None, refl}
 use Rattle.std.specs.List.{slice_get}
 use Rattle.std.proofs.Common.{sym, ◌∙◌}
 use Rattle.postcard_tree.specs.declared.error.Error.{Error}
 use Rattle.postcard_tree.specs.declared.error.Error.TheVariants.{SerdeDeCustom}
 use Rattle.postcard_tree.specs.Tree.{Tree}
 use Rattle.postcard_tree.specs.Bounds.{part_trees, width_16, width_32, width_64, width_128}
+use Rattle.postcard_tree.specs.Reading.{IsShort}
+use Rattle.postcard_tree.specs.Fixed.{TakesFixed}
+use Rattle.postcard_tree.specs.FixedOnce.{little_laws, unsigned_laws}
 use Rattle.postcard_tree.specs.Once.{part_once, part_refused}
-use Rattle.postcard_tree.specs.ReadingLaws.{ReadingLaws, PartsLaws, byte_laws, number_laws, bool_laws, character_laws, signed_byte_laws, no_parts_laws, group_laws, option_laws, variant_laws, unknown_laws, sequence_laws, array_laws, bytes_laws, text_laws}
+use Rattle.postcard_tree.specs.ReadingLaws.{ReadingLaws, PartsLaws, byte_laws, number_laws, bool_laws, character_laws, signed_byte_laws, no_parts_laws, group_laws, option_laws, variant_laws, unknown_laws, sequence_laws, upto_laws, array_laws, bytes_laws, text_laws, text_upto_laws}
+use Rattle.schemas.specs.declared.integer.IntegerType.{IntegerType}
+use Rattle.schemas.specs.declared.integer.IntegerType.TheVariants as types
 use Rattle.schemas.specs.declared.node.Node.{Node}
 use Rattle.schemas.specs.declared.node.Node.TheVariants as node
 use Rattle.schemas.specs.declared.value.Value.{Value}
+use Rattle.schemas.specs.Integers.{width_of}
 use Rattle.schemas.specs.Values.{AreOneTree}
 use Rattle.schemas.specs.Schemas.{ReadsBy, TakesFields, RefusesFields, TakesPayload, RefusesPayload, TakesNode, RefusesNode, TakesPlace, RefusesPlace, SchemaTakes, SchemaRefuses, SchemaReads}
 
@@ -47,6 +53,21 @@ payload_laws one [] n = by (unknown_laws {A = Value} {L = λ v w. Unit {0}} Serd
 payload_laws one (i ∷ is) zero = one i
 payload_laws one (i ∷ is) (suc n) = payload_laws one is n
 
+-- no integer is wider
+narrow : (k : IntegerType) → nat_le (width_of k) 16 ≡ true
+narrow types.U16 = refl
+narrow types.U32 = refl
+narrow types.U64 = refl
+narrow types.U128 = refl
+narrow types.I16 = refl
+narrow types.I32 = refl
+narrow types.I64 = refl
+narrow types.I128 = refl
+
+-- integers of that type by their bytes
+integer_laws : (k : IntegerType) → LawsBy (TakesFixed (width_of k)) (IsShort (width_of k))
+integer_laws k = by (little_laws (unsigned_laws (width_of k) (narrow k)))
+
 node_laws : {takes : ℕ → Tree → Type 0} {refuses : ℕ → List ℕ → Error → Type 0} → ((i : ℕ) → LawsBy (takes i) (refuses i)) → (n : Node) → LawsBy (TakesNode takes n) (RefusesNode takes refuses n)
 node_laws one node.Bool = by bool_laws
 node_laws one node.U8 = by byte_laws
@@ -59,11 +80,15 @@ node_laws one node.I16 = by (number_laws 16 2 3 width_16 refl refl)
 node_laws one node.I32 = by (number_laws 32 4 15 width_32 refl refl)
 node_laws one node.I64 = by (number_laws 64 9 1 width_64 refl refl)
 node_laws one node.I128 = by (number_laws 128 18 3 width_128 refl refl)
+node_laws one (node.LE k) = integer_laws k
+node_laws one (node.BE k) = integer_laws k
 node_laws one node.Char = by character_laws
 node_laws one node.Text = by text_laws
+node_laws one (node.TextUpTo n) = by (text_upto_laws n)
 node_laws one node.Bytes = by bytes_laws
 node_laws one (node.Option i) = by (option_laws (one i))
 node_laws one (node.List i) = by (sequence_laws (one i))
+node_laws one (node.ListUpTo n i) = by (upto_laws n (one i))
 node_laws one (node.Array n i) = by (array_laws n (one i))
 node_laws one (node.Struct v) = by (group_laws (fields_laws one v.items))
 node_laws one (node.Enum v) = by (variant_laws (payload_laws one v.items))

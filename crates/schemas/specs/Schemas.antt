@@ -4,11 +4,14 @@ use Rattle.std.specs.List.{slice_get}
 use Rattle.postcard_tree.specs.declared.error.Error.{Error}
 use Rattle.postcard_tree.specs.declared.error.Error.TheVariants.{SerdeDeCustom}
 use Rattle.postcard_tree.specs.Tree.{Tree, Trees}
-use Rattle.postcard_tree.specs.Reading.{TakesByte, RefusesByte, TakesOctet, TakesNumber, RefusesGroups, TakesBool, RefusesBool, TakesCharacter, RefusesCharacter, TakesText, RefusesText, TakesSequence, RefusesSequence, RefusesBytes, TakesOption, RefusesOption, TakesArray, RefusesEach, NoParts, PartThen, GroupOf, RefusesNoParts, RefusesPartThen, TakesVariant, RefusesVariant}
+use Rattle.postcard_tree.specs.Reading.{TakesByte, RefusesByte, TakesOctet, TakesNumber, RefusesGroups, IsShort, TakesBool, RefusesBool, TakesCharacter, RefusesCharacter, TakesText, RefusesText, TakesSequence, RefusesSequence, RefusesBytes, TakesUpTo, RefusesUpTo, TakesTextUpTo, RefusesTextUpTo, TakesOption, RefusesOption, TakesArray, RefusesEach, NoParts, PartThen, GroupOf, RefusesNoParts, RefusesPartThen, TakesVariant, RefusesVariant}
+use Rattle.postcard_tree.specs.Fixed.{TakesFixed}
+use Rattle.schemas.specs.declared.integer.IntegerType.{IntegerType}
 use Rattle.schemas.specs.declared.node.Node.{Node}
 use Rattle.schemas.specs.declared.node.Node.TheVariants as node
 use Rattle.schemas.specs.declared.value.Value.{Value, out-Value}
 use Rattle.schemas.specs.declared.value.Value.TheOpen.{Value-F}
+use Rattle.schemas.specs.Integers.{width_of, type_of}
 use Rattle.schemas.specs.Values.{tree_of}
 
 -- Which trees: `takes` says it of the types inside, by their places
@@ -37,11 +40,15 @@ TakesNode takes node.I16 = TakesNumber 16
 TakesNode takes node.I32 = TakesNumber 32
 TakesNode takes node.I64 = TakesNumber 64
 TakesNode takes node.I128 = TakesNumber 128
+TakesNode takes (node.LE k) = TakesFixed (width_of k)
+TakesNode takes (node.BE k) = TakesFixed (width_of k)
 TakesNode takes node.Char = TakesCharacter
 TakesNode takes node.Text = TakesText
+TakesNode takes (node.TextUpTo n) = TakesTextUpTo n
 TakesNode takes node.Bytes = TakesSequence TakesByte
 TakesNode takes (node.Option i) = TakesOption (takes i)
 TakesNode takes (node.List i) = TakesSequence (takes i)
+TakesNode takes (node.ListUpTo n i) = TakesUpTo n (takes i)
 TakesNode takes (node.Array n i) = TakesArray n (takes i)
 TakesNode takes (node.Struct is) = GroupOf (TakesFields takes is.items)
 TakesNode takes (node.Enum is) = TakesVariant (TakesPayload takes is.items)
@@ -82,11 +89,15 @@ RefusesNode takes refuses node.I16 = RefusesGroups 3 3
 RefusesNode takes refuses node.I32 = RefusesGroups 5 15
 RefusesNode takes refuses node.I64 = RefusesGroups 10 1
 RefusesNode takes refuses node.I128 = RefusesGroups 19 3
+RefusesNode takes refuses (node.LE k) = IsShort (width_of k)
+RefusesNode takes refuses (node.BE k) = IsShort (width_of k)
 RefusesNode takes refuses node.Char = RefusesCharacter
 RefusesNode takes refuses node.Text = RefusesText
+RefusesNode takes refuses (node.TextUpTo n) = RefusesTextUpTo n
 RefusesNode takes refuses node.Bytes = RefusesBytes
 RefusesNode takes refuses (node.Option i) = RefusesOption (refuses i)
 RefusesNode takes refuses (node.List i) = RefusesSequence (takes i) (refuses i)
+RefusesNode takes refuses (node.ListUpTo n i) = RefusesUpTo n (takes i) (refuses i)
 RefusesNode takes refuses (node.Array n i) = RefusesEach (takes i) (refuses i) n
 RefusesNode takes refuses (node.Struct is) = RefusesFields takes refuses is.items
 RefusesNode takes refuses (node.Enum is) = RefusesVariant (RefusesPayload refuses is.items)
@@ -162,6 +173,16 @@ abbrev pub OfI128 : Value-F Value → Type 0
 OfI128 (Value-F.I128 n) = Unit {0}
 OfI128 _ = ⊥
 
+-- an integer of this type, its lowest byte first
+abbrev pub OfLE : IntegerType → Value-F Value → Type 0
+OfLE k (Value-F.LE i) = type_of i ≡ k
+OfLE k _ = ⊥
+
+-- an integer of this type, its highest byte first
+abbrev pub OfBE : IntegerType → Value-F Value → Type 0
+OfBE k (Value-F.BE i) = type_of i ≡ k
+OfBE k _ = ⊥
+
 -- a character
 abbrev pub OfChar : Value-F Value → Type 0
 OfChar (Value-F.Char c) = Unit {0}
@@ -228,11 +249,15 @@ NodeHas has node.I16 = OfI16
 NodeHas has node.I32 = OfI32
 NodeHas has node.I64 = OfI64
 NodeHas has node.I128 = OfI128
+NodeHas has (node.LE k) = OfLE k
+NodeHas has (node.BE k) = OfBE k
 NodeHas has node.Char = OfChar
 NodeHas has node.Text = OfText
+NodeHas has (node.TextUpTo n) = OfText
 NodeHas has node.Bytes = OfBytes
 NodeHas has (node.Option i) = OfOption (has i)
 NodeHas has (node.List i) = OfList (EachHas (has i))
+NodeHas has (node.ListUpTo n i) = OfList (EachHas (has i))
 NodeHas has (node.Array n i) = OfGroup (EachHas (has i))
 NodeHas has (node.Struct is) = OfGroup (FieldsHave has is.items)
 NodeHas has (node.Enum is) = OfVariant (PayloadHas has is.items)

@@ -67,6 +67,7 @@ pub record IsAdded (n : Node) (old new : List Node) (place : ℕ) : Type 0 where
 abbrev pub IsLeaf : Node → Type 0
 IsLeaf (node.Option i) = ⊥
 IsLeaf (node.List i) = ⊥
+IsLeaf (node.ListUpTo n i) = ⊥
 IsLeaf (node.Array n i) = ⊥
 IsLeaf (node.Struct is) = ⊥
 IsLeaf (node.Enum is) = ⊥

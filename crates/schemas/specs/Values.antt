@@ -3,6 +3,7 @@ use Rattle.std.specs.Prelude.{◌≡◌, List, [], ◌∷◌, map, string_bytes,
 use Rattle.std.specs.Int.{w8, cast_unsigned}
 use Rattle.postcard_tree.specs.Tree.{Tree, byte, number, character, sequence, group, Trees, end, part, text_of, zigzag}
 use Rattle.schemas.specs.declared.value.Value.{Value, fold-Value}
+use Rattle.schemas.specs.Integers.{little_tree_of, big_tree_of}
 use Rattle.schemas.specs.declared.value.Value.TheOpen.{Value-F}
 
 -- the trees, one part each
@@ -23,6 +24,8 @@ tree_step (Value-F.I16 z) = number 16 (zigzag z)
 tree_step (Value-F.I32 z) = number 32 (zigzag z)
 tree_step (Value-F.I64 z) = number 64 (zigzag z)
 tree_step (Value-F.I128 z) = number 128 (zigzag z)
+tree_step (Value-F.LE i) = little_tree_of i
+tree_step (Value-F.BE i) = big_tree_of i
 tree_step (Value-F.Char c) = character c
 tree_step (Value-F.Text s) = text_of (string_bytes s)
 tree_step (Value-F.Bytes v) = text_of v.items

@@ -1,5 +1,7 @@
 //! What a message type is, as nodes of one table that name one another by their places.
 
+use crate::IntegerType;
+
 /// A type. The types inside are given by their places in the table, so that a type may hold itself.
 #[derive(Drop)]
 pub enum Node {
@@ -25,16 +27,24 @@ pub enum Node {
     I64,
     /// `i128`.
     I128,
+    /// `LE<T>`, by the type of its integer.
+    LE(IntegerType),
+    /// `BE<T>`.
+    BE(IntegerType),
     /// `char`.
     Char,
     /// `String`, `&str`.
     Text,
+    /// `ArrayString<N>`: a text of at most so many bytes.
+    TextUpTo(u64),
     /// `Vec<u8>`, `&[u8]`.
     Bytes,
     /// `Option<T>`.
     Option(usize),
     /// `Vec<T>`; a map by the type of its pairs.
     List(usize),
+    /// `ArrayVec<T, N>`: at most how many elements, and their type.
+    ListUpTo(u64, usize),
     /// `[T; N]`: how many elements, and their type.
     Array(u64, usize),
     /// A tuple or a struct, by the types of its fields; without fields, `()`.

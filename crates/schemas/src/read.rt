@@ -1,12 +1,15 @@
 //! Reading a value by a schema.
 ghost use Rattle.std.specs.Prelude.{true};
-ghost use Rattle.postcard_tree.specs.Reading.{Spelled, TakesBool, RefusesBool, TakesByte, RefusesByte, TakesOctet, TakesNumber, RefusesGroups, TakesCharacter, RefusesCharacter, TakesText, RefusesText, TakesSequence, RefusesSequence, RefusesBytes, TakesOption, RefusesOption, TakesArray, RefusesEach, GroupOf, TakesVariant, RefusesVariant};
+ghost use Rattle.postcard_tree.specs.Reading.{Spelled, TakesBool, RefusesBool, TakesByte, RefusesByte, TakesOctet, TakesNumber, RefusesGroups, IsShort, TakesCharacter, RefusesCharacter, TakesText, RefusesText, TakesSequence, RefusesSequence, RefusesBytes, TakesUpTo, RefusesUpTo, TakesTextUpTo, RefusesTextUpTo, TakesOption, RefusesOption, TakesArray, RefusesEach, GroupOf, TakesVariant, RefusesVariant};
+ghost use Rattle.postcard_tree.specs.Fixed.{TakesFixed};
 ghost use Rattle.postcard_de.specs.Deserializer.{OutcomeOf};
-ghost use Rattle.schemas.specs.Schemas.{ReadsBy, AtTop, OfBool, OfU8, OfI8, OfU16, OfU32, OfU64, OfU128, OfI16, OfI32, OfI64, OfI128, OfChar, OfText, OfBytes, OfOption, OfList, OfGroup, OfVariant, EachHas, FieldsHave, PayloadHas, NodeHas, TakesFields, TakesPayload, TakesNode, RefusesFields, RefusesPayload, RefusesNode, SchemaTakes, SchemaHas, SchemaReads, SchemaRefuses};
+ghost use Rattle.schemas.specs.Integers.{width_of};
+ghost use Rattle.schemas.specs.Schemas.{ReadsBy, AtTop, OfBool, OfU8, OfI8, OfU16, OfU32, OfU64, OfU128, OfI16, OfI32, OfI64, OfI128, OfLE, OfBE, OfChar, OfText, OfBytes, OfOption, OfList, OfGroup, OfVariant, EachHas, FieldsHave, PayloadHas, NodeHas, TakesFields, TakesPayload, TakesNode, RefusesFields, RefusesPayload, RefusesNode, SchemaTakes, SchemaHas, SchemaReads, SchemaRefuses};
 
-use crate::{Node, Value};
-use postcard_de::Deserializer;
+use crate::{HasIntegerType, IntegerType, Node, Value};
 use postcard_de::de_flavors::Flavor;
+use postcard_de::{DeserializeOwned, Deserializer};
+use postcard_tree::fixint::{BE, LE};
 use postcard_tree::{Error, Result};
 
 fn read_bool<F: Flavor>(d: &mut Deserializer<F>) -> Result<Value>
@@ -97,6 +100,57 @@ fn read_i128<F: Flavor>(d: &mut Deserializer<F>) -> Result<Value>
     Ok(Value::I128(v))
 }
 
+// An integer of a type that is known by name.
+fn little_as<T: HasIntegerType, F: Flavor>(d: &mut Deserializer<F>) -> Result<Value>
+    ensures { OutcomeOf F.source d.old d.new result
+        (Spelled (ReadsBy (TakesFixed T.size) (AtTop (OfLE T.which)))) (IsShort T.size) true }
+{
+    let read = LE::<T>::deserialize_owned(d)?;
+    Ok(Value::LE(read.0.integer()))
+}
+
+fn big_as<T: HasIntegerType, F: Flavor>(d: &mut Deserializer<F>) -> Result<Value>
+    ensures { OutcomeOf F.source d.old d.new result
+        (Spelled (ReadsBy (TakesFixed T.size) (AtTop (OfBE T.which)))) (IsShort T.size) true }
+{
+    let read = BE::<T>::deserialize_owned(d)?;
+    Ok(Value::BE(read.0.integer()))
+}
+
+fn read_little<F: Flavor>(d: &mut Deserializer<F>, of: IntegerType) -> Result<Value>
+    ensures { OutcomeOf F.source d.old d.new result
+        (Spelled (ReadsBy (TakesFixed (width_of of)) (AtTop (OfLE of))))
+        (IsShort (width_of of)) true }
+{
+    match of {
+        IntegerType::U16 => little_as::<u16, F>(d),
+        IntegerType::U32 => little_as::<u32, F>(d),
+        IntegerType::U64 => little_as::<u64, F>(d),
+        IntegerType::U128 => little_as::<u128, F>(d),
+        IntegerType::I16 => little_as::<i16, F>(d),
+        IntegerType::I32 => little_as::<i32, F>(d),
+        IntegerType::I64 => little_as::<i64, F>(d),
+        IntegerType::I128 => little_as::<i128, F>(d),
+    }
+}
+
+fn read_big<F: Flavor>(d: &mut Deserializer<F>, of: IntegerType) -> Result<Value>
+    ensures { OutcomeOf F.source d.old d.new result
+        (Spelled (ReadsBy (TakesFixed (width_of of)) (AtTop (OfBE of))))
+        (IsShort (width_of of)) true }
+{
+    match of {
+        IntegerType::U16 => big_as::<u16, F>(d),
+        IntegerType::U32 => big_as::<u32, F>(d),
+        IntegerType::U64 => big_as::<u64, F>(d),
+        IntegerType::U128 => big_as::<u128, F>(d),
+        IntegerType::I16 => big_as::<i16, F>(d),
+        IntegerType::I32 => big_as::<i32, F>(d),
+        IntegerType::I64 => big_as::<i64, F>(d),
+        IntegerType::I128 => big_as::<i128, F>(d),
+    }
+}
+
 fn read_char<F: Flavor>(d: &mut Deserializer<F>) -> Result<Value>
     ensures { OutcomeOf F.source d.old d.new result
         (Spelled (ReadsBy TakesCharacter (AtTop OfChar))) RefusesCharacter true }
@@ -111,6 +165,18 @@ fn read_text<F: Flavor>(d: &mut Deserializer<F>) -> Result<Value>
 {
     let v = d.deserialize_string()?;
     Ok(Value::Text(v))
+}
+
+// A text that is too long is taken whole before it is refused.
+fn read_text_up_to<F: Flavor>(d: &mut Deserializer<F>, most: u64) -> Result<Value>
+    ensures { OutcomeOf F.source d.old d.new result
+        (Spelled (ReadsBy (TakesTextUpTo most) (AtTop OfText))) (RefusesTextUpTo most) true }
+{
+    let text = d.deserialize_string()?;
+    if text.len() as u64 > most {
+        return Err(Error::SerdeDeCustom);
+    }
+    Ok(Value::Text(text))
 }
 
 fn read_bytes<F: Flavor>(d: &mut Deserializer<F>) -> Result<Value>
@@ -161,6 +227,35 @@ fn read_list<F: Flavor>(
     let mut items = Vec::new(d.allocator());
     for _ in 0..count {
         let item = read_value(d, nodes, place, depth)?;
+        if items.push(item).is_err() {
+            return Err(Error::OutOfMemory);
+        }
+    }
+    Ok(Value::List(items))
+}
+
+// An element that is one too many is read before it is refused.
+#[cycle(read)]
+fn read_list_up_to<F: Flavor>(
+    d: &mut Deserializer<F>,
+    nodes: &[Node],
+    most: u64,
+    place: usize,
+    depth: u32,
+) -> Result<Value>
+    ensures { OutcomeOf F.source d.old d.new result
+        (Spelled (ReadsBy (TakesUpTo most (SchemaTakes depth nodes.now place))
+        (AtTop (OfList (EachHas (SchemaHas depth nodes.now place))))))
+        (RefusesUpTo most (SchemaTakes depth nodes.now place)
+        (SchemaRefuses depth nodes.now place)) true }
+{
+    let count = d.deserialize_u64()?;
+    let mut items = Vec::new(d.allocator());
+    for i in 0..count {
+        let item = read_value(d, nodes, place, depth)?;
+        if i == most {
+            return Err(Error::SerdeDeCustom);
+        }
         if items.push(item).is_err() {
             return Err(Error::OutOfMemory);
         }
@@ -262,11 +357,15 @@ fn read_node<F: Flavor>(
         Node::I32 => read_i32(d),
         Node::I64 => read_i64(d),
         Node::I128 => read_i128(d),
+        Node::LE(of) => read_little(d, *of),
+        Node::BE(of) => read_big(d, *of),
         Node::Char => read_char(d),
         Node::Text => read_text(d),
+        Node::TextUpTo(most) => read_text_up_to(d, *most),
         Node::Bytes => read_bytes(d),
         Node::Option(inner) => read_option(d, nodes, *inner, depth),
         Node::List(inner) => read_list(d, nodes, *inner, depth),
+        Node::ListUpTo(most, inner) => read_list_up_to(d, nodes, *most, *inner, depth),
         Node::Array(count, inner) => read_array(d, nodes, *count, *inner, depth),
         Node::Struct(fields) => read_fields(d, nodes, fields, depth),
         Node::Enum(payloads) => read_variant(d, nodes, payloads, depth),

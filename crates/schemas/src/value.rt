@@ -1,5 +1,7 @@
 //! Values that are read by a schema.
 
+use crate::Integer;
+
 /// A value as its type has it; the names of fields and variants are the reader's.
 #[derive(Drop)]
 pub enum Value {
@@ -25,6 +27,10 @@ pub enum Value {
     I64(i64),
     /// A signed number of 128 bits.
     I128(i128),
+    /// An integer as its bytes, the lowest first.
+    LE(Integer),
+    /// An integer as its bytes, the highest first.
+    BE(Integer),
     /// A character.
     Char(char),
     /// A text.

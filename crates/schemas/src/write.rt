@@ -2,12 +2,14 @@
 ghost use Rattle.std.specs.Prelude.{Some, ⊤};
 ghost use Rattle.postcard_tree.specs.Tree.{byte, number, sequence, group, end, part};
 ghost use Rattle.postcard_ser.specs.Writing.{Writes, WritesAll};
+ghost use Rattle.schemas.specs.Integers.{little_group, big_group, little_tree_of, big_tree_of};
 ghost use Rattle.schemas.specs.Values.{tree_of, trees_in};
 
-use crate::Value;
+use crate::{Integer, Value};
 use postcard_ser::ser_flavors::Flavor;
 use postcard_ser::{Serialize, Serializer};
 use postcard_tree::Result;
+use postcard_tree::fixint::{BE, FixInt, LE};
 
 /// A value is written as the tree that it stands for; its type isn't asked.
 impl Serialize for Value {
@@ -17,6 +19,56 @@ impl Serialize for Value {
 
     fn serialize<F: Flavor>(&self, serializer: &mut Serializer<F>) -> Result<()> {
         write_value(self, serializer)
+    }
+}
+
+fn write_as_little<T: FixInt, F: Flavor>(n: T, serializer: &mut Serializer<F>) -> Result<()>
+    ensures writes { Writes F.took F.refused serializer.old.output
+        (Some (little_group T.size (T.bits n))) result serializer.new.output }
+    ensures same { F.same serializer.old.output serializer.new.output }
+{
+    LE(n).serialize(serializer)
+}
+
+fn write_little<F: Flavor>(n: Integer, serializer: &mut Serializer<F>) -> Result<()>
+    ensures writes { Writes F.took F.refused serializer.old.output (Some (little_tree_of n)) result
+        serializer.new.output }
+    ensures same { F.same serializer.old.output serializer.new.output }
+{
+    match n {
+        Integer::U16(n) => write_as_little(n, serializer),
+        Integer::U32(n) => write_as_little(n, serializer),
+        Integer::U64(n) => write_as_little(n, serializer),
+        Integer::U128(n) => write_as_little(n, serializer),
+        Integer::I16(n) => write_as_little(n, serializer),
+        Integer::I32(n) => write_as_little(n, serializer),
+        Integer::I64(n) => write_as_little(n, serializer),
+        Integer::I128(n) => write_as_little(n, serializer),
+    }
+}
+
+fn write_as_big<T: FixInt, F: Flavor>(n: T, serializer: &mut Serializer<F>) -> Result<()>
+    ensures writes { Writes F.took F.refused serializer.old.output
+        (Some (big_group T.size (T.bits n))) result serializer.new.output }
+    ensures same { F.same serializer.old.output serializer.new.output }
+{
+    BE(n).serialize(serializer)
+}
+
+fn write_big<F: Flavor>(n: Integer, serializer: &mut Serializer<F>) -> Result<()>
+    ensures writes { Writes F.took F.refused serializer.old.output (Some (big_tree_of n)) result
+        serializer.new.output }
+    ensures same { F.same serializer.old.output serializer.new.output }
+{
+    match n {
+        Integer::U16(n) => write_as_big(n, serializer),
+        Integer::U32(n) => write_as_big(n, serializer),
+        Integer::U64(n) => write_as_big(n, serializer),
+        Integer::U128(n) => write_as_big(n, serializer),
+        Integer::I16(n) => write_as_big(n, serializer),
+        Integer::I32(n) => write_as_big(n, serializer),
+        Integer::I64(n) => write_as_big(n, serializer),
+        Integer::I128(n) => write_as_big(n, serializer),
     }
 }
 
@@ -38,6 +90,8 @@ fn write_value<F: Flavor>(v: &Value, serializer: &mut Serializer<F>) -> Result<(
         Value::I32(n) => serializer.serialize_i32(*n),
         Value::I64(n) => serializer.serialize_i64(*n),
         Value::I128(n) => serializer.serialize_i128(*n),
+        Value::LE(n) => write_little(*n, serializer),
+        Value::BE(n) => write_big(*n, serializer),
         Value::Char(c) => serializer.serialize_char(*c),
         Value::Text(s) => serializer.serialize_bytes(s.as_bytes()),
         Value::Bytes(bytes) => serializer.serialize_bytes(bytes),

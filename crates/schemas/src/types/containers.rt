@@ -1,6 +1,7 @@
 //! Nothing, options, results, boxes, sequences, arrays and maps.
 use super::{HasSchema, add_node};
 use crate::Node;
+use arrayvec::ArrayVec;
 use std::alloc::{AllocError, Global};
 use std::collections::BTreeMap;
 
@@ -43,6 +44,13 @@ impl<T: HasSchema> HasSchema for Vec<T> {
     fn add_schema(alloc: Global, nodes: &mut Vec<Node>) -> Result<usize, AllocError> {
         let inner = T::add_schema(alloc, nodes)?;
         add_node(nodes, Node::List(inner))
+    }
+}
+
+impl<T: HasSchema, const N: usize> HasSchema for ArrayVec<T, N> {
+    fn add_schema(alloc: Global, nodes: &mut Vec<Node>) -> Result<usize, AllocError> {
+        let inner = T::add_schema(alloc, nodes)?;
+        add_node(nodes, Node::ListUpTo(N as u64, inner))
     }
 }
 

@@ -1,6 +1,7 @@
 //! Truth values and numbers.
 use super::{HasSchema, add_leaf};
-use crate::Node;
+use crate::{HasIntegerType, Node};
+use postcard_tree::fixint::{BE, LE};
 use std::alloc::{AllocError, Global};
 
 impl HasSchema for bool {
@@ -78,5 +79,17 @@ impl HasSchema for isize {
 impl HasSchema for i128 {
     fn add_schema(_alloc: Global, nodes: &mut Vec<Node>) -> Result<usize, AllocError> {
         add_leaf(nodes, Node::I128)
+    }
+}
+
+impl<T: HasIntegerType> HasSchema for LE<T> {
+    fn add_schema(_alloc: Global, nodes: &mut Vec<Node>) -> Result<usize, AllocError> {
+        add_leaf(nodes, Node::LE(T::integer_type()))
+    }
+}
+
+impl<T: HasIntegerType> HasSchema for BE<T> {
+    fn add_schema(_alloc: Global, nodes: &mut Vec<Node>) -> Result<usize, AllocError> {
+        add_leaf(nodes, Node::BE(T::integer_type()))
     }
 }

@@ -5,6 +5,7 @@ ghost use Rattle.schemas.specs.TypeSchemas.{BeginsWith, IsSchemaOf};
 
 use super::{HasSchema, add_leaf};
 use crate::Node;
+use arrayvec::ArrayString;
 use std::alloc::{AllocError, Global};
 
 impl HasSchema for char {
@@ -16,6 +17,12 @@ impl HasSchema for char {
 impl HasSchema for String {
     fn add_schema(_alloc: Global, nodes: &mut Vec<Node>) -> Result<usize, AllocError> {
         add_leaf(nodes, Node::Text)
+    }
+}
+
+impl<const N: usize> HasSchema for ArrayString<N> {
+    fn add_schema(_alloc: Global, nodes: &mut Vec<Node>) -> Result<usize, AllocError> {
+        add_leaf(nodes, Node::TextUpTo(N as u64))
     }
 }
 

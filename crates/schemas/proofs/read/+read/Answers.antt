@@ -1,12 +1,12 @@
-use Rattle.std.proofs.Common.{◌≡◌, ◌++◌, ◌∷◌, [], length, arith, refl}
+use Rattle.std.proofs.Common.{◌≡◌, ◌<◌, ◌≤◌, ◌+◌, ◌++◌, ◌∷◌, [], length, min, suc, arith, refl}
 use Rattle.std.proofs.lemmas.Result.{err_from_is_err_and}
 use Rattle.std.proofs.lemmas.Grind.{common_steps}
 use Rattle.postcard_de.specs.Values.{none_read, some_read, some_fails}
-use Rattle.postcard_de.specs.Steps.{no_memory}
-use Rattle.postcard_de.specs.Parts.{parts_more, parts_at, parts_last, sequence_read, sequence_fails, sequence_no_memory, array_read, array_fails}
+use Rattle.postcard_de.specs.Steps.{gave_more, no_memory}
+use Rattle.postcard_de.specs.Parts.{parts_more, parts_at, parts_last, sequence_read, sequence_fails, sequence_no_memory, parts_as, most_parts, upto_read, upto_fails, upto_past, array_read, array_fails}
 use Rattle.std.proofs.lemmas.Option.{slice_get_past, slice_get_read}
 use Rattle.schemas.specs.Schemas.{SchemaTakes, SchemaHas, SchemaRefuses}
-use Rattle.schemas.proofs.TakingLemmas.{list_by, array_by, none_by, parts_none_yet, fields_none_yet, fields_more, field_refused, fields_by, fields_no_memory, fields_at, fields_last, some_by, variant_by, payload_fails, no_payload, no_memory_behind, too_deep, no_place, enum_at, at_place}
+use Rattle.schemas.proofs.TakingLemmas.{list_by, list_up_to_by, array_by, none_by, parts_none_yet, fields_none_yet, fields_more, field_refused, fields_by, fields_no_memory, fields_at, fields_last, some_by, variant_by, payload_fails, no_payload, no_memory_behind, too_deep, no_place, enum_at, at_place}
 use Rattle.schemas.proofs.read.+read.Goals as goal
 
 pub read_list-loop-init : goal.read_list-loop-init
@@ -28,6 +28,45 @@ read_list-loop-preserved g t c =
 
 pub read_list-returns : goal.read_list-returns
 read_list-returns g t c = list_by _ (sequence_read c.in_ok-count.ensures (parts_last _ _ c.loop-test.false c.loop.invariant))
+
+pub read_list_up_to-loop-i-init : goal.read_list_up_to-loop-i-init
+read_list_up_to-loop-i-init g t c = record { parts = parts_none_yet c.new-items.ensures.items; within = omega arith }
+
+pub read_list_up_to-returns-in_err-item : goal.read_list_up_to-returns-in_err-item
+read_list_up_to-returns-in_err-item g t c =
+    let p = err_from_is_err_and c.from_residual-in_err-item.result c.from_residual-in_err-item.ensures.1 in
+    let i = c.loop-i.invariant in
+    let below : c.loop-i.i < min c.in_ok-count.count (c.args.most + 1) = omega (arith, i.within) in
+    rw (p.1, p.2) (upto_fails c.args.most (most_parts c.in_ok-count.count c.args.most) c.in_ok-count.ensures (parts_at _ _ below i.parts) c.in_err-item.ensures)
+
+pub read_list_up_to-returns-then-i-most : goal.read_list_up_to-returns-then-i-most
+read_list_up_to-returns-then-i-most g t c =
+    let i = c.loop-i.invariant in
+    let below : c.loop-i.i < min c.in_ok-count.count (c.args.most + 1) = omega (arith, i.within) in
+    let m = parts_more (λ u v j. j.0) (parts_at _ _ below i.parts) c.in_ok-item.ensures in
+    let full : c.args.most < c.in_ok-count.count = omega (arith, i.within) in
+    upto_past c.args.most full (λ u v j. j.0) c.in_ok-count.ensures (parts_as (suc c.args.most) 0 (omega (arith, full)) (omega (arith, full)) m)
+
+pub read_list_up_to-returns-then-is_err : goal.read_list_up_to-returns-then-is_err
+read_list_up_to-returns-then-is_err g t c =
+    let i = c.loop-i.invariant in
+    let below : c.loop-i.i < min c.in_ok-count.count (c.args.most + 1) = omega (arith, i.within) in
+    let m = parts_more (λ u v j. j.0) (parts_at _ _ below i.parts) c.in_ok-item.ensures in
+    no_memory _ (gave_more c.in_ok-count.ensures.gave m.gave)
+
+pub read_list_up_to-loop-i-preserved : goal.read_list_up_to-loop-i-preserved
+read_list_up_to-loop-i-preserved g t c =
+    let i = c.loop-i.invariant in
+    let below : c.loop-i.i < min c.in_ok-count.count (c.args.most + 1) = omega (arith, i.within) in
+    let m = parts_more (λ u v j. j.0) (parts_at _ _ below i.parts) c.in_ok-item.ensures in
+    let e : c.push.new.self.items ≡ c.loop-i.items.items ++ c.in_ok-item.item ∷ [] = grind (arith, common_steps) in
+    record { parts = rw e m; within = omega (arith, i.within) }
+
+pub read_list_up_to-returns : goal.read_list_up_to-returns
+read_list_up_to-returns g t c =
+    let i = c.loop-i.invariant in
+    let few : c.in_ok-count.count ≤ c.args.most = omega (arith, i.within) in
+    list_up_to_by c.args.most _ (upto_read _ few c.in_ok-count.ensures (parts_as c.in_ok-count.count 0 (omega (arith, few)) (omega (arith, few)) i.parts))
 
 pub read_array-loop-init : goal.read_array-loop-init
 read_array-loop-init g t c = parts_none_yet c.new-items.ensures.items

@@ -1,4 +1,4 @@
-use Rattle.std.proofs.Common.{◌+◌, ◌-◌, ◌*◌, drop}
+use Rattle.std.proofs.Common.{◌+◌, ◌-◌, ◌*◌, ◌≤◌, min, drop}
 use Rattle.postcard_de.specs.Parts.{PartsRead}
 use Rattle.postcard_de.specs.Deserializer.{flavor_of}
 use Rattle.schemas.specs.Schemas.{SchemaTakes, SchemaHas, SchemaReads, SchemaRefuses}
@@ -17,6 +17,9 @@ decreases-read_node g l = 3 * l.depth + 2
 abbrev pub decreases-read_list : goal.decreases-read_list
 decreases-read_list g l = 3 * l.depth + 1
 
+abbrev pub decreases-read_list_up_to : goal.decreases-read_list_up_to
+decreases-read_list_up_to g l = 3 * l.depth + 1
+
 abbrev pub decreases-read_value : goal.decreases-read_value
 decreases-read_value g l = 3 * l.depth
 
@@ -33,6 +36,13 @@ invariant-read_array-loop g l =
 abbrev pub invariant-read_list-loop : goal.invariant-read_list-loop
 invariant-read_list-loop g l =
     PartsRead (SchemaTakes l.depth l.nodes l.place) (SchemaReads l.depth l.nodes l.place) (SchemaRefuses l.depth l.nodes l.place) (g.F.Flavor.source (flavor_of l.initial.d)) (g.F.Flavor.source (flavor_of l.d)) l.count (l.count - l.counter) l.items.items
+
+-- at most one element more than may be is read
+abbrev pub invariant-read_list_up_to-loop-i : goal.invariant-read_list_up_to-loop-i
+invariant-read_list_up_to-loop-i g l = record {
+  parts : PartsRead (SchemaTakes l.depth l.nodes l.place) (SchemaReads l.depth l.nodes l.place) (SchemaRefuses l.depth l.nodes l.place) (g.F.Flavor.source (flavor_of l.initial.d)) (g.F.Flavor.source (flavor_of l.d)) (min l.count (l.most + 1)) (min l.count (l.most + 1) - l.i) l.items.items;
+  within : l.i ≤ l.most;
+}
 
 abbrev pub invariant-read_fields-loop-i : goal.invariant-read_fields-loop-i
 invariant-read_fields-loop-i g l =
