@@ -12,7 +12,7 @@ use stores::Store;
 use thiserror::Error;
 
 // How many bytes are asked for in one read.
-const ROOM: usize = 1024;
+const ROOM: usize = 16384;
 
 /// Why the next stretch isn't known.
 #[derive(Clone, Copy, PartialEq, Eq, Debug, Drop, Error)]
