@@ -28,7 +28,7 @@ use Rattle.journal_scan.specs.declared.repairing.RepairError.TheVariants.{Read, 
 use Rattle.journal_scan.specs.Tallies.{behind_greatest}
 use Rattle.journal_scan.specs.Checks.{numbers_of}
 use Rattle.journal_scan.specs.Scanning.{IsScanning, FoundAll, offset_of}
-use Rattle.journal_scan.specs.Repairs.{appended_anew, rewritten, IsTreeOf, AreTreesOf, AreReadIn, AreReadFirst, IsRepaired, IsPartlyRepaired, record_read, WentAnew, BrokeAnew, GoesAnew, StopsAnew, RepairCause, IfRefused}
+use Rattle.journal_scan.specs.Repairs.{appended_anew, rewritten, IsTreeOf, AreTreesOf, AreReadIn, AreReadFirst, IsRepaired, IsPartlyRepaired, record_read, WentAnew, BrokeAnew, GoesAnew, StopsAnew, RepairCause, IfRefused, IfUnsynced}
 use Rattle.journal_scan.proofs.GapsLemmas.{behind_push}
 use Rattle.journal_scan.proofs.StretchesLemmas.{if_told, numbers_joined}
 
@@ -255,6 +255,16 @@ cause_of Sync P Q R f h = f h
 pub on_any : {T E : Type 0} (r : Result T E) (P : Type 0) → P → IfErr r (λ _. P)
 on_any (Ok x) P p = tt
 on_any (Err e) P p = p
+
+-- an append doesn't sync
+pub if_stopped : {V : Type 0} (writes : V → Option Tree) (most : ℕ) (a : Answer (ℕ × V)) (old new : Option (List ℕ)) (before after : ℕ) (e : RepairError) (P : Type 0) → StopsAnew writes most a old new before after e → IfUnsynced e P
+if_stopped writes most a old new before after (Read x) P h = tt
+if_stopped writes most a old new before after (Refused x) P h = tt
+if_stopped writes most a old new before after Line P h = tt
+if_stopped writes most (Value r) old new before after Sync P h = absurd h
+if_stopped writes most Damaged old new before after Sync P h = absurd h
+if_stopped writes most TooLong old new before after Sync P h = absurd h
+if_stopped writes most Cut old new before after Sync P h = absurd h
 
 -- a fact of an error that is passed on
 pub if_passed : {T E : Type 0} (r : Result T E) (e : E) (P : E → Type 0) → IsErrAnd r (λ y. y ≡ e) → P e → IfErr r P

@@ -31,17 +31,20 @@ abbrev pub IsTreeOf : {V : Type 0} → (V → Option Tree) → ℕ × V → Tree
 IsTreeOf writes r t = (v : Tree) × (writes r.1 ≡ Some v) × (t ≡ numbered r.0 v)
 
 -- the trees of records, in order
-abbrev pub AreTreesOf : {V : Type 0} → (V → Option Tree) → List (ℕ × V) → List Tree → Type 0
+abbrev pub AreTreesOf : {V : Type 0} → (V → Option Tree) → List (ℕ × V) → List Tree
+    → Type 0
 AreTreesOf writes records ts = AllZip (IsTreeOf writes) records ts
 
 -- these are the trees of all records that are read of a log, strictly, in order
-pub record AreReadIn (takes : Tree → Type 0) (limit : ℕ) (bytes : List ℕ) (ts : List Tree) : Type 0 where
+pub record AreReadIn (takes : Tree → Type 0) (limit : ℕ) (bytes : List ℕ)
+    (ts : List Tree) : Type 0 where
   pub answers : List Verdict
   pub whole : Answers (HoldsExactly (takes_record takes)) limit 0 bytes answers
   pub are : values_of answers ≡ ts
 
 -- these are the trees of all records that are read of some front of a log
-pub record AreReadFirst (takes : Tree → Type 0) (limit : ℕ) (bytes : List ℕ) (ts : List Tree) : Type 0 where
+pub record AreReadFirst (takes : Tree → Type 0) (limit : ℕ) (bytes : List ℕ)
+    (ts : List Tree) : Type 0 where
   pub count : ℕ
   pub answers : List Verdict
   pub given : Given (HoldsExactly (takes_record takes)) limit 0 (take count bytes) answers
@@ -49,7 +52,9 @@ pub record AreReadFirst (takes : Tree → Type 0) (limit : ℕ) (bytes : List �
 
 -- A log was repaired: all records that are read of it were appended anew, behind a zero; so many they are, and this is the number
 -- behind the greatest of theirs.
-pub record IsRepaired {V : Type 0} (takes : Tree → Type 0) (writes : V → Option Tree) (limit : ℕ) (held old new : Option (List ℕ)) (before after : ℕ) (repaired : Repaired) : Type 0 where
+pub record IsRepaired {V : Type 0} (takes : Tree → Type 0) (writes : V → Option Tree)
+    (limit : ℕ) (held old new : Option (List ℕ)) (before after : ℕ)
+    (repaired : Repaired) : Type 0 where
   pub records : List (ℕ × V)
   pub trees : List Tree
   pub of : AreTreesOf writes records trees
@@ -59,7 +64,8 @@ pub record IsRepaired {V : Type 0} (takes : Tree → Type 0) (writes : V → Opt
   pub next_is : repaired.next ≡ behind_greatest (numbers_of records)
 
 -- A repair was broken off: a front of what appending the first records anew writes is there.
-pub record IsPartlyRepaired (takes : Tree → Type 0) (limit : ℕ) (held old new : Option (List ℕ)) (before after : ℕ) : Type 0 where
+pub record IsPartlyRepaired (takes : Tree → Type 0) (limit : ℕ)
+    (held old new : Option (List ℕ)) (before after : ℕ) : Type 0 where
   pub trees : List Tree
   pub count : ℕ
   pub read : IfSome held (λ bytes. AreReadFirst takes limit bytes trees)
@@ -73,37 +79,45 @@ record_read TooLong = []
 record_read Cut = []
 
 -- a record was appended anew
-pub record WentAnew (writes : Option Tree) (n : ℕ) (old new : Option (List ℕ)) (before after : ℕ) : Type 0 where
+pub record WentAnew (writes : Option Tree) (n : ℕ) (old new : Option (List ℕ))
+    (before after : ℕ) : Type 0 where
   pub value : Tree
   pub is : writes ≡ Some value
   pub wrote : Wrote old new before after (sent 0 true (numbered n value))
 
 -- a front of it was
-pub record BrokeAnew (writes : Option Tree) (n : ℕ) (old new : Option (List ℕ)) (before after : ℕ) : Type 0 where
+pub record BrokeAnew (writes : Option Tree) (n : ℕ) (old new : Option (List ℕ))
+    (before after : ℕ) : Type 0 where
   pub value : Tree
   pub is : writes ≡ Some value
   pub count : ℕ
   pub wrote : Wrote old new before after (take count (sent 0 true (numbered n value)))
 
 -- it wasn't appended: a front of it was, or it was refused, since it takes more than so many bytes
-abbrev pub StoppedAnew : Option Tree → ℕ → ℕ → Option (List ℕ) → Option (List ℕ) → ℕ → ℕ → RepairError → Type 0
+abbrev pub StoppedAnew : Option Tree → ℕ → ℕ → Option (List ℕ) → Option (List ℕ) → ℕ → ℕ
+    → RepairError → Type 0
 StoppedAnew writes n most old new before after Line = BrokeAnew writes n old new before after
 StoppedAnew writes n most old new before after (Refused e) =
-    Wrote old new before after [] × UnlessRefused (record_of n writes) (λ bytes. most < length (shortest_frame bytes))
+    Wrote old new before after []
+    × UnlessRefused (record_of n writes) (λ bytes. most < length (shortest_frame bytes))
 StoppedAnew writes n most old new before after (Read e) = ⊥
 StoppedAnew writes n most old new before after Sync = ⊥
 
 -- the record that an answer is was appended anew, where it is one, and is counted
-pub record GoesAnew {V : Type 0} (writes : V → Option Tree) (answer : Answer (ℕ × V)) (old new : Option (List ℕ)) (before after : ℕ) (repaired later : Repaired) : Type 0 where
+pub record GoesAnew {V : Type 0} (writes : V → Option Tree) (answer : Answer (ℕ × V))
+    (old new : Option (List ℕ)) (before after : ℕ) (repaired later : Repaired) : Type 0 where
   pub trees : List Tree
   pub of : AreTreesOf writes (record_read answer) trees
   pub wrote : Wrote old new before after (appended_anew trees)
   pub records_are : later.records ≡ min (repaired.records + length trees) (2 ^ 64 - 1)
-  pub next_is : (ns : List ℕ) → repaired.next ≡ behind_greatest ns → later.next ≡ behind_greatest (ns ++ numbers_of (record_read answer))
+  pub next_is : (ns : List ℕ) → repaired.next ≡ behind_greatest ns
+      → later.next ≡ behind_greatest (ns ++ numbers_of (record_read answer))
 
 -- it wasn't
-abbrev pub StopsAnew : {V : Type 0} → (V → Option Tree) → ℕ → Answer (ℕ × V) → Option (List ℕ) → Option (List ℕ) → ℕ → ℕ → RepairError → Type 0
-StopsAnew writes most (Value r) old new before after e = StoppedAnew (writes r.1) r.0 most old new before after e
+abbrev pub StopsAnew : {V : Type 0} → (V → Option Tree) → ℕ → Answer (ℕ × V)
+    → Option (List ℕ) → Option (List ℕ) → ℕ → ℕ → RepairError → Type 0
+StopsAnew writes most (Value r) old new before after e =
+    StoppedAnew (writes r.1) r.0 most old new before after e
 StopsAnew writes most Damaged old new before after e = ⊥
 StopsAnew writes most TooLong old new before after e = ⊥
 StopsAnew writes most Cut old new before after e = ⊥
@@ -122,3 +136,10 @@ IfRefused (Read e) P = Unit {0}
 IfRefused (Refused e) P = P
 IfRefused Line P = Unit {0}
 IfRefused Sync P = Unit {0}
+
+-- a fact where the destination couldn't be synced
+abbrev pub IfUnsynced : RepairError → Type 0 → Type 0
+IfUnsynced (Read e) P = Unit {0}
+IfUnsynced (Refused e) P = Unit {0}
+IfUnsynced Line P = Unit {0}
+IfUnsynced Sync P = P

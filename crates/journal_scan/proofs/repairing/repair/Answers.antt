@@ -1,7 +1,7 @@
 use Rattle.std.proofs.Common.{◌≡◌, ◌∷◌, [], List, ℕ, Some, refl, ◌∙◌, subst, inl, arith}
 use Rattle.line_io.specs.Calls.{Wrote-none}
 use Rattle.journal_scan.specs.Scanning.{IsScanning, FoundAll, offset_of}
-use Rattle.journal_scan.proofs.AnewLemmas.{none_appended, none_went, on_any, if_passed, wrote_zero, repair_begins, repair_ends, repair_stops, repair_goes, repair_breaks, repair_fits}
+use Rattle.journal_scan.proofs.AnewLemmas.{if_stopped, none_appended, none_went, on_any, if_passed, wrote_zero, repair_begins, repair_ends, repair_stops, repair_goes, repair_breaks, repair_fits}
 use Rattle.journal_scan.proofs.repairing.repair.Goals as goal
 use Rattle.journal_scan.proofs.repairing.repair.Goals.{in-Ok-sync, in-Err-sync}
 
@@ -103,3 +103,18 @@ loop-stretch-preserved g c =
       quiet = c.in_ok-repaired.ensures.quiet ∙ before.quiet;
       so_far = repair_goes g.T.Readable.reads g.T.Serialize.writes g.met.T.Exact.writes_back g.T.Readable.takes c.args.limit _ _ _ before.so_far scan s stands found _ _ c.in_ok-repaired.repaired c.in_ok-repaired.ensures.goes;
     }
+
+pub returns-in-Ok-None-clause-unsynced : goal.returns-in-Ok-None-clause-unsynced
+returns-in-Ok-None-clause-unsynced g c =
+    let before = c.loop-stretch.invariant in
+    let scan = c.next_ended.new.self in
+    let found = λ (bytes : List ℕ) (h : g.S.Store.held c.args.from.now ≡ Some bytes) (k : IsScanning c.args.limit bytes c.loop-stretch.scan).
+    subst (λ o. FoundAll g.T.Readable.takes g.T.Readable.reads c.args.limit bytes (offset_of c.loop-stretch.scan) (offset_of scan) o) c.in-Ok-None.field-0-is (c.in-Ok-None.ensures.found c.args.limit bytes (before.held ∙ h) k) in
+    elim c.match-sync.branch [
+      | in-Ok-sync w ↦ rw w.result-is tt
+      | in-Err-sync w ↦ rw w.result-is (c.loop-stretch.repaired, repair_ends g.T.Readable.reads g.T.Serialize.writes g.met.T.Exact.writes_back g.T.Readable.takes c.args.limit _ _ _ before.so_far _ _ (offset_of scan) found c.sync.ensures.held c.sync.ensures.more)
+    ]
+
+pub returns-in_err-repaired-clause-unsynced : goal.returns-in_err-repaired-clause-unsynced
+returns-in_err-repaired-clause-unsynced g c =
+    if_passed c.from_residual-in_err-repaired.result c.in_err-repaired.field-0.0 _ c.from_residual-in_err-repaired.ensures.1 (if_stopped g.T.Serialize.writes _ c.in-Ok-Some.stretch.answer _ _ _ _ c.in_err-repaired.field-0.0 _ c.in_err-repaired.ensures.stops)
