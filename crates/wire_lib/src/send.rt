@@ -130,11 +130,7 @@ impl<'a> Sender<'a> {
     }
 
     /// Ends the text: as `push` for a last line without a line feed; and says whether all lines were values.
-    pub fn finish(
-        mut self,
-        frames: &mut Vec<u8>,
-        wrongs: &mut String,
-    ) -> Result<bool, SendError> {
+    pub fn finish(mut self, frames: &mut Vec<u8>, wrongs: &mut String) -> Result<bool, SendError> {
         self.send_rest(frames, wrongs)?;
         Ok(self.is_good)
     }
