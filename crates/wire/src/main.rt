@@ -6,12 +6,11 @@
 
 use declarations::{Error, Schema, read_schema};
 use std::alloc::AllocError;
-use std::io::{BufRead, BufReader, Read, Write};
+use std::io::{Read, Write};
 use std::process::ExitCode;
 use std::{env, fs};
-use wire_lib::parse::ParseError;
 use wire_lib::receive::{Reading, Receiver};
-use wire_lib::send::frame_of;
+use wire_lib::send::{SendError, Sender, Sending};
 use wire_lib::sizes::greatest_sizes;
 use wire_lib::words::{Options, options_of};
 
@@ -40,6 +39,15 @@ enum Stop {
 impl From<AllocError> for Stop {
     fn from(_: AllocError) -> Stop {
         Stop::NoMemory
+    }
+}
+
+impl From<SendError> for Stop {
+    fn from(error: SendError) -> Stop {
+        match error {
+            SendError::NotText => Stop::ReadFault,
+            SendError::OutOfMemory => Stop::NoMemory,
+        }
     }
 }
 
@@ -158,52 +166,56 @@ fn read(rt: &HostRuntime, schema: &Schema, place: usize, options: Options) -> Ra
     Ok(is_good)
 }
 
-/// Writes bytes of frames, as they are or as hexadecimal text.
-fn send(rt: &HostRuntime, hex: bool, bytes: &[u8]) -> Result<(), Stop> {
-    if !hex {
-        return say(rt, bytes);
-    }
-    let digits = hex::encode(rt.alloc(), bytes)?;
-    say(rt, digits.as_bytes())
-}
-
-/// Sends the value of a line, or says why it is none; and whether it was one.
-fn write_line(
+/// Writes frames, as they are or as hexadecimal text, and then what is wrong with lines; and forgets both.
+fn send(
     rt: &HostRuntime,
-    schema: &Schema,
-    place: usize,
-    options: Options,
-    number: u64,
-    line: &str,
-) -> Ran {
-    match frame_of(rt.alloc(), schema, place, options.sentinel, line.as_bytes()) {
-        Ok(frame) => {
-            send(rt, options.hex, &frame)?;
-            Ok(true)
-        }
-        Err(ParseError::Wrong(why)) => match eprintln!(rt; "line {number}: {why}") {
-            Ok(()) => Ok(false),
-            Err(_) => Err(Stop::WriteFault),
-        },
-        Err(ParseError::OutOfMemory) => Err(Stop::NoMemory),
+    hex: bool,
+    frames: &mut Vec<u8>,
+    wrongs: &mut String,
+) -> Result<(), Stop> {
+    if hex {
+        let digits = hex::encode(rt.alloc(), frames.as_slice())?;
+        say(rt, digits.as_bytes())?;
+    } else {
+        say(rt, frames)?;
     }
+    frames.clear();
+    if !wrongs.is_empty() && eprint!(rt; "{wrongs}").is_err() {
+        return Err(Stop::WriteFault);
+    }
+    wrongs.clear();
+    Ok(())
 }
 
-/// Makes a frame of each line, and says whether all were values. The first has a sentinel before it.
+/// Makes a frame of each line, and says whether all were values. The first has a sentinel before it. The frames of each read are
+/// written at its end.
 fn write(rt: &HostRuntime, schema: &Schema, place: usize, options: Options) -> Ran {
-    send(rt, options.hex, &[options.sentinel])?;
-    let Ok(reader) = BufReader::new(rt.alloc(), rt.reader()) else {
-        return Err(Stop::NoMemory);
-    };
-    let mut is_good = true;
-    let mut number: u64 = 0;
-    for line in reader.lines(rt.alloc()) {
-        let Ok(line) = line else {
-            return Err(Stop::ReadFault);
-        };
-        number = number.saturating_add(1);
-        is_good = write_line(rt, schema, place, options, number, line.as_str())? && is_good;
+    let alloc = rt.alloc();
+    let sentinel = options.sentinel;
+    let mut sender = Sender::new(Sending {
+        alloc,
+        schema,
+        place,
+        sentinel,
+    });
+    let mut wrongs = String::new(alloc);
+    let mut frames = Vec::new(alloc);
+    frames.extend_from_slice(&[sentinel])?;
+    send(rt, options.hex, &mut frames, &mut wrongs)?;
+    let mut room = [0u8; ROOM];
+    for _ in 0..u64::MAX {
+        let count = read_some(rt, &mut room)?;
+        if count == 0 {
+            break;
+        }
+        let piece = room.get(..count).unwrap_or(&[]);
+        let pushed = sender.push(piece, &mut frames, &mut wrongs);
+        send(rt, options.hex, &mut frames, &mut wrongs)?;
+        pushed?;
     }
+    let finished = sender.finish(&mut frames, &mut wrongs);
+    send(rt, options.hex, &mut frames, &mut wrongs)?;
+    let is_good = finished?;
     if options.hex {
         say(rt, b"\n")?;
     }

@@ -1,12 +1,13 @@
 //! Frames as lines of JSON.
 use crate::DEPTH;
 use crate::print::{PrintError, print_into};
-use cobs::{before_sentinel, decode_in_place_report_with_sentinel};
+use cobs::{before_sentinel, decode_with_sentinel};
 use declarations::Schema;
 use json::Writer;
 use postcard::{Error, to_allocvec_cobs_with_sentinel};
 use schemas::{Value, from_bytes};
 use std::alloc::{AllocError, Global};
+use std::mem;
 
 /// How many bytes a stretch between sentinels may have.
 pub const LIMIT: usize = 65536;
@@ -39,13 +40,31 @@ fn is_exact(reading: Reading<'_>, stretch: &[u8], value: &Value) -> Result<bool,
     }
 }
 
-/// The value that a stretch holds, which has a byte at least and no sentinel: that of the front of its message, if it is a frame.
-/// It is decoded over itself.
-fn held(reading: Reading<'_>, stretch: &mut [u8]) -> Result<Option<Value>, AllocError> {
-    let Ok(report) = decode_in_place_report_with_sentinel(stretch, reading.sentinel) else {
+/// The message of a stretch, which has a byte at least and no sentinel, if it is a frame. It is decoded into the front of `room`,
+/// which grows to the longest stretch.
+fn message_of<'b>(
+    sentinel: u8,
+    stretch: &[u8],
+    room: &'b mut Vec<u8>,
+) -> Result<Option<&'b [u8]>, AllocError> {
+    if room.len() < stretch.len() {
+        room.resize(stretch.len(), 0)?;
+    }
+    match decode_with_sentinel(stretch, room, sentinel) {
+        Ok(count) => Ok(room.get(..count)),
+        Err(_) => Ok(None),
+    }
+}
+
+/// The value of the front of a stretch's message, if it is a frame.
+fn held(
+    reading: Reading<'_>,
+    stretch: &[u8],
+    room: &mut Vec<u8>,
+) -> Result<Option<Value>, AllocError> {
+    let Some(message) = message_of(reading.sentinel, stretch, room)? else {
         return Ok(None);
     };
-    let message = stretch.get(..report.frame_size()).unwrap_or(&[]);
     match from_bytes(
         reading.alloc,
         &reading.schema.nodes,
@@ -61,10 +80,14 @@ fn held(reading: Reading<'_>, stretch: &mut [u8]) -> Result<Option<Value>, Alloc
 
 /// The value that a stretch between sentinels holds; nothing where it is damaged.
 ///
-/// It has a byte at least and no sentinel. Where `strict` is asked, it also has to be the frame that sending the value makes.
-pub fn read_stretch(reading: Reading<'_>, stretch: &[u8]) -> Result<Option<Value>, AllocError> {
-    let mut bytes = stretch.to_vec(reading.alloc)?;
-    let Some(value) = held(reading, &mut bytes)? else {
+/// It has a byte at least and no sentinel. Where `strict` is asked, it also has to be the frame that sending the value makes. `room`
+/// is for its message, and is kept from one stretch to the next.
+pub fn read_stretch(
+    reading: Reading<'_>,
+    stretch: &[u8],
+    room: &mut Vec<u8>,
+) -> Result<Option<Value>, AllocError> {
+    let Some(value) = held(reading, stretch, room)? else {
         return Ok(None);
     };
     if reading.strict && !is_exact(reading, stretch, &value)? {
@@ -79,10 +102,12 @@ pub struct Receiver<'a> {
     reading: Reading<'a>,
     /// How many bytes are still to be passed over.
     skip: u64,
-    /// The stretch so far, and how many bytes of the stream stand before it and before what comes.
+    /// What earlier pieces had of the stretch, and how many bytes of the stream stand before it and before what comes.
     stretch: Vec<u8>,
     begin: u64,
     at: u64,
+    /// Where messages are decoded.
+    room: Vec<u8>,
     /// Whether the stretch was answered as too long.
     is_past: bool,
     /// Whether all answers were values.
@@ -98,47 +123,29 @@ impl<'a> Receiver<'a> {
             stretch: Vec::new(reading.alloc),
             begin: from,
             at: from,
+            room: Vec::new(reading.alloc),
             is_past: false,
             is_good: true,
         }
     }
 
     /// Appends the line of a value.
-    fn say_value(&mut self, value: &Value, lines: &mut Vec<u8>) -> Result<(), AllocError> {
-        let Reading {
-            alloc,
-            schema,
-            place,
-            hex,
-            ..
-        } = self.reading;
-        let mut out = Writer::new(Vec::new(alloc));
-        out.begin_object()?;
-        out.key("value")?;
-        match print_into(&mut out, alloc, schema, place, hex, value) {
-            Ok(()) => {}
-            // What was read by a schema is of its type.
-            Err(PrintError::NotOfType) => out.null()?,
-            Err(PrintError::OutOfMemory) => return Err(AllocError),
-        }
-        out.end_object()?;
-        put_line(lines, &out.into_inner())
+    fn say_value(&self, value: &Value, lines: &mut Vec<u8>) -> Result<(), AllocError> {
+        let mut out = Writer::new(mem::replace(lines, Vec::new(self.reading.alloc)));
+        let said = put_value(&mut out, self.reading, value);
+        *lines = out.into_inner();
+        said?;
+        lines.extend_from_slice(b"\n")
     }
 
     /// Appends the line of a stretch that is no value: what it is, and the bytes of the stream that it has so far.
     fn say_stretch(&mut self, what: &str, lines: &mut Vec<u8>) -> Result<(), AllocError> {
         self.is_good = false;
-        let mut out = Writer::new(Vec::new(self.reading.alloc));
-        out.begin_object()?;
-        out.key(what)?;
-        out.begin_object()?;
-        out.key("from")?;
-        out.u64(self.begin)?;
-        out.key("to")?;
-        out.u64(self.at)?;
-        out.end_object()?;
-        out.end_object()?;
-        put_line(lines, &out.into_inner())
+        let mut out = Writer::new(mem::replace(lines, Vec::new(self.reading.alloc)));
+        let said = put_place(&mut out, what, self.begin, self.at);
+        *lines = out.into_inner();
+        said?;
+        lines.extend_from_slice(b"\n")
     }
 
     /// Gathers bytes of a stretch.
@@ -156,19 +163,37 @@ impl<'a> Receiver<'a> {
     }
 
     /// Answers a stretch that has ended.
-    fn answer(&mut self, lines: &mut Vec<u8>) -> Result<(), AllocError> {
-        if self.is_past || self.stretch.is_empty() {
+    fn answer(&mut self, stretch: &[u8], lines: &mut Vec<u8>) -> Result<(), AllocError> {
+        if stretch.is_empty() {
             return Ok(());
         }
-        match read_stretch(self.reading, &self.stretch)? {
+        match read_stretch(self.reading, stretch, &mut self.room)? {
             Some(value) => self.say_value(&value, lines),
             None => self.say_stretch("damaged", lines),
         }
     }
 
-    /// Answers a stretch at its sentinel, and begins the next.
-    fn end(&mut self, lines: &mut Vec<u8>) -> Result<(), AllocError> {
-        self.answer(lines)?;
+    /// Answers a stretch that began in an earlier piece, or is longer than one may be.
+    fn answer_gathered(&mut self, part: &[u8], lines: &mut Vec<u8>) -> Result<(), AllocError> {
+        self.gather(part, lines)?;
+        if self.is_past {
+            return Ok(());
+        }
+        let stretch = mem::replace(&mut self.stretch, Vec::new(self.reading.alloc));
+        let answered = self.answer(&stretch, lines);
+        self.stretch = stretch;
+        answered
+    }
+
+    /// Answers a stretch, of which this is the last part, at its sentinel, and begins the next. One that lies whole in the piece is
+    /// read from there.
+    fn end(&mut self, part: &[u8], lines: &mut Vec<u8>) -> Result<(), AllocError> {
+        if self.is_past || !self.stretch.is_empty() || part.len() > LIMIT {
+            self.answer_gathered(part, lines)?;
+        } else {
+            self.at = self.at.saturating_add(part.len() as u64);
+            self.answer(part, lines)?;
+        }
         self.stretch.clear();
         self.is_past = false;
         self.at = self.at.saturating_add(1);
@@ -190,14 +215,11 @@ impl<'a> Receiver<'a> {
         let mut rest = self.behind_skipped(piece);
         for _ in 0..piece.len() {
             let (part, behind) = rest.split_at(before_sentinel(rest, self.reading.sentinel));
-            self.gather(part, lines)?;
-            match behind {
-                [_, after @ ..] => {
-                    self.end(lines)?;
-                    rest = after;
-                }
-                [] => break,
-            }
+            let [_, after @ ..] = behind else {
+                return self.gather(part, lines);
+            };
+            self.end(part, lines)?;
+            rest = after;
         }
         Ok(())
     }
@@ -212,8 +234,35 @@ impl<'a> Receiver<'a> {
     }
 }
 
-/// Appends a line and its line feed.
-fn put_line(lines: &mut Vec<u8>, line: &[u8]) -> Result<(), AllocError> {
-    lines.extend_from_slice(line)?;
-    lines.extend_from_slice(b"\n")
+/// Appends the answer of a value, without a line feed.
+fn put_value(out: &mut Writer, reading: Reading<'_>, value: &Value) -> Result<(), AllocError> {
+    let Reading {
+        alloc,
+        schema,
+        place,
+        hex,
+        ..
+    } = reading;
+    out.begin_object()?;
+    out.key("value")?;
+    match print_into(out, alloc, schema, place, hex, value) {
+        Ok(()) => {}
+        // What was read by a schema is of its type.
+        Err(PrintError::NotOfType) => out.null()?,
+        Err(PrintError::OutOfMemory) => return Err(AllocError),
+    }
+    out.end_object()
+}
+
+/// Appends what a stretch that is no value is, and the bytes of the stream that it has, without a line feed.
+fn put_place(out: &mut Writer, what: &str, from: u64, to: u64) -> Result<(), AllocError> {
+    out.begin_object()?;
+    out.key(what)?;
+    out.begin_object()?;
+    out.key("from")?;
+    out.u64(from)?;
+    out.key("to")?;
+    out.u64(to)?;
+    out.end_object()?;
+    out.end_object()
 }
