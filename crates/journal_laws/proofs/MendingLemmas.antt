@@ -37,14 +37,14 @@ none_in_cut limit (b ∷ p) = go (ltb limit (length (b ∷ p)))
     go true = refl
     go false = refl
 
-none_in_begun : (limit : ℕ) (p : List ℕ) → values_of (begun_answers limit p) ≡ []
+pub none_in_begun : (limit : ℕ) (p : List ℕ) → values_of (begun_answers limit p) ≡ []
 none_in_begun limit p = go (ltb limit (length p))
   where
     go : (c : Bool) → values_of (cond c (too_long ∷ []) []) ≡ []
     go true = refl
     go false = refl
 
-none_at_end : (limit : ℕ) (p : List ℕ) → values_of (begun_answers limit p ++ cut_answers limit p) ≡ []
+pub none_at_end : (limit : ℕ) (p : List ℕ) → values_of (begun_answers limit p ++ cut_answers limit p) ≡ []
 none_at_end limit p = values_joined (begun_answers limit p) (cut_answers limit p) ∙ ap (λ x. x ++ values_of (cut_answers limit p)) (none_in_begun limit p) ∙ none_in_cut limit p
 
 module _ (takes : Tree → Type 0) (limit : ℕ) (least : IsLeast takes limit) where

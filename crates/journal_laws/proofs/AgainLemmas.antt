@@ -1,0 +1,128 @@
+-- What is read of what repairing a log wrote, and of a front of a log.
+use Rattle.std.proofs.Common.{◌≡◌, ◌↔◌, ℕ, zero, suc, ◌≤◌, List, [], ◌∷◌, ◌++◌, length, map, take, drop, true, false, refl, sym, ap, ◌∙◌, subst, append_assoc}
+use Rattle.std.proofs.lemmas.List.{append-nil, take-append-drop}
+use Rattle.std.specs.List.{AllZip}
+use Rattle.cobs.specs.Sentinel.{masked}
+use Rattle.postcard_tree.specs.Tree.{Tree}
+use Rattle.link.specs.Stream.{Verdict, cut, damaged, too_long, value, ended, unfinished, IsAnswer, HoldsExactly, begun_answers, cut_answers, Answers}
+use Rattle.link.specs.Run.{completed, sent, session_line, line, IsFramed, IsRun}
+use Rattle.link.specs.Laws.{IsTold, HasOneAnswer}
+use Rattle.link.specs.Pieces.{ended_skip, unfinished_skip, ended_behind, ended_alone, ends_at}
+use Rattle.link.specs.Roads.{values_of}
+use Rattle.journal.specs.Records.{takes_record}
+use Rattle.journal_scan.specs.Repairs.{appended_anew, rewritten, AreReadIn, AreReadFirst}
+use Rattle.journal_laws.specs.Laws.{anew}
+use Rattle.journal_laws.proofs.RunsLemmas.{values_joined}
+use Rattle.journal_laws.proofs.MendingLemmas.{told_anew, AllOf, session_anew, none_in_begun, none_at_end}
+
+values_back : (ts : List Tree) → values_of (map value ts) ≡ ts
+values_back [] = refl
+values_back (t ∷ ts) = ap (λ x. t ∷ x) (values_back ts)
+
+-- the values are those of the stretches that are ended
+values_done : {holds : List ℕ → Tree → Type 0} {limit : ℕ} {stream : List ℕ} {answers : List Verdict} (h : Answers holds limit 0 stream answers) → values_of answers ≡ values_of h.done
+values_done {holds} {limit} {stream} h =
+    let u = unfinished 0 stream in
+    ap values_of h.whole ∙ values_joined h.done (begun_answers limit u ++ cut_answers limit u) ∙ ap (λ x. values_of h.done ++ x) (none_at_end limit u) ∙ append-nil (values_of h.done)
+
+-- a zero in front changes no answer
+behind_zero : (holds : List ℕ → Tree → Type 0) (limit : ℕ) (stream : List ℕ) (answers : List Verdict) → Answers holds limit 0 (0 ∷ stream) answers ↔ Answers holds limit 0 stream answers
+behind_zero holds limit stream answers =
+    let e = ended_skip 0 stream in
+    let f = ap (λ u. begun_answers limit u ++ cut_answers limit u) (unfinished_skip 0 stream) in (
+      λ h. record { done = h.done; each = subst (λ ps. AllZip (IsAnswer holds limit) ps h.done) e h.each; whole = h.whole ∙ ap (λ x. h.done ++ x) f },
+      λ h. record { done = h.done; each = subst (λ ps. AllZip (IsAnswer holds limit) ps h.done) (sym e) h.each; whole = h.whole ∙ ap (λ x. h.done ++ x) (sym f) },
+    )
+
+module _ (takes : Tree → Type 0) (limit : ℕ) where
+  framed_strictly : (p : List ℕ) (t : Tree) → IsAnswer (HoldsExactly takes) limit p (value t) → IsFramed takes limit t
+  framed_strictly p t h = record { taken = h.1.0; within = subst (λ x. length x ≤ limit) h.1.1 h.0 }
+
+  all_framed_strictly : (ps : List (List ℕ)) (answers : List Verdict) → AllZip (IsAnswer (HoldsExactly takes) limit) ps answers → AllOf (IsFramed takes limit) (values_of answers)
+  all_framed_strictly [] [] z = tt
+  all_framed_strictly [] (a ∷ answers) z = absurd z
+  all_framed_strictly (p ∷ ps) [] z = absurd z
+  all_framed_strictly (p ∷ ps) (value t ∷ answers) z = (framed_strictly p t z.0, all_framed_strictly ps answers z.1)
+  all_framed_strictly (p ∷ ps) (damaged ∷ answers) z = all_framed_strictly ps answers z.1
+  all_framed_strictly (p ∷ ps) (too_long ∷ answers) z = all_framed_strictly ps answers z.1
+  all_framed_strictly (p ∷ ps) (cut ∷ answers) z = all_framed_strictly ps answers z.1
+
+-- what is read of a log, appended anew, is a run
+read_run : (takes : Tree → Type 0) (limit : ℕ) (bytes : List ℕ) (ts : List Tree) → AreReadIn takes limit bytes ts → IsRun (takes_record takes) limit 0 (anew ts)
+read_run takes limit bytes ts a =
+    let all = all_framed_strictly (takes_record takes) limit (ended 0 bytes) a.whole.done a.whole.each in
+    (session_anew (takes_record takes) limit 0 false ts (subst (AllOf (IsFramed (takes_record takes) limit)) (sym (values_done a.whole) ∙ a.are) all), tt)
+
+rewritten_line : (t : Tree) (ts : List Tree) → rewritten (t ∷ ts) ≡ line 0 (anew (t ∷ ts))
+rewritten_line t ts = sym (append-nil (rewritten (t ∷ ts)))
+
+module _ (takes : Tree → Type 0) (limit : ℕ) where
+  abbrev strictly : List ℕ → Tree → Type 0
+  strictly = HoldsExactly (takes_record takes)
+
+  pub repairs_again : IsTold (takes_record takes) (HoldsExactly (takes_record takes)) limit 0 → (bytes : List ℕ) (ts us : List Tree) → AreReadIn takes limit bytes ts → AreReadIn takes limit (rewritten ts) us ↔ (us ≡ ts)
+  repairs_again told bytes [] us a = (
+    λ h. sym h.are ∙ ap values_of ((told [] h.answers tt).0 ((behind_zero strictly limit [] h.answers).0 h.whole)),
+    λ e. record { answers = []; whole = (behind_zero strictly limit [] []).1 ((told [] [] tt).1 refl); are = sym e },
+  )
+  repairs_again told bytes (t ∷ ts) us a =
+      let run = read_run takes limit bytes (t ∷ ts) a in
+      let same = rewritten_line t ts in (
+        λ h. sym h.are ∙ ap values_of ((told (anew (t ∷ ts)) h.answers run).0 (subst (λ x. Answers strictly limit 0 x h.answers) same h.whole) ∙ told_anew 0 (t ∷ ts)) ∙ values_back (t ∷ ts),
+        λ e. record {
+          answers = map value (t ∷ ts);
+          whole = subst (λ x. Answers strictly limit 0 x (map value (t ∷ ts))) (sym same) ((told (anew (t ∷ ts)) (map value (t ∷ ts)) run).1 (sym (told_anew 0 (t ∷ ts))));
+          are = values_back (t ∷ ts) ∙ sym e;
+        },
+      )
+
+-- the stretches that are ended in a front are the first ones
+record MoreEnded (a b : List ℕ) : Type 0 where
+  more : List (List ℕ)
+  are : ended 0 (a ++ b) ≡ ended 0 a ++ more
+
+more_ended : (a b : List ℕ) → MoreEnded a b
+more_ended a b =
+    let h = ends_at 0 a in
+    let tail = masked 0 (unfinished 0 a) in
+    let own : ended 0 a ≡ ended 0 h.front = ap (ended 0) h.whole ∙ ended_behind 0 h.front tail h.between ∙ ap (λ x. ended 0 h.front ++ x) (ended_alone 0 (unfinished 0 a) h.nonzero) ∙ append-nil (ended 0 h.front) in
+    record {
+      more = ended 0 (tail ++ b);
+      are = ap (λ x. ended 0 (x ++ b)) h.whole ∙ ap (ended 0) (append_assoc h.front tail b) ∙ ended_behind 0 h.front (tail ++ b) h.between ∙ ap (λ x. x ++ ended 0 (tail ++ b)) (sym own);
+    }
+
+record ZipFront {A B : Type 0} (R : A → B → Type 0) (xs : List A) (ys : List B) : Type 0 where
+  first : List B
+  others : List B
+  whole : ys ≡ first ++ others
+  each : AllZip R xs first
+
+zip_front : {A B : Type 0} (R : A → B → Type 0) (xs zs : List A) (ys : List B) → AllZip R (xs ++ zs) ys → ZipFront R xs ys
+zip_front R [] zs ys h = record { first = []; others = ys; whole = refl; each = tt }
+zip_front R (x ∷ xs) zs [] h = absurd h
+zip_front R (x ∷ xs) zs (y ∷ ys) h = let k = zip_front R xs zs ys h.1 in record { first = y ∷ k.first; others = k.others; whole = ap (λ l. y ∷ l) k.whole; each = (h.0, k.each) }
+
+fronts : (k : ℕ) (a b : List ℕ) → (j : ℕ) × (take k a ≡ take j (a ++ b))
+fronts zero a b = (0, refl)
+fronts (suc k) [] b = (0, refl)
+fronts (suc k) (x ∷ a) b = let h = fronts k a b in (suc h.0, ap (λ y. x ∷ y) h.1)
+
+anew_joined : (ts us : List Tree) → appended_anew (ts ++ us) ≡ appended_anew ts ++ appended_anew us
+anew_joined [] us = refl
+anew_joined (t ∷ ts) us = ap (λ x. sent 0 true t ++ x) (anew_joined ts us) ∙ sym (append_assoc (sent 0 true t) (appended_anew ts) (appended_anew us))
+
+-- of a front of a log the first records are read
+pub repairs_in_fronts : (takes : Tree → Type 0) (limit : ℕ) → HasOneAnswer (HoldsExactly (takes_record takes)) limit 0 → (bytes : List ℕ) (ts us : List Tree) (count : ℕ) → AreReadFirst takes limit bytes ts → AreReadIn takes limit bytes us
+    → (k : ℕ) × (take count (rewritten ts) ≡ take k (rewritten us))
+repairs_in_fronts takes limit one bytes ts us count f w =
+    let strict = IsAnswer (HoldsExactly (takes_record takes)) limit in
+    let a = take f.count bytes in
+    let m = more_ended a (drop f.count bytes) in
+    let z = zip_front strict (ended 0 a) m.more w.whole.done (subst (λ ps. AllZip strict ps w.whole.done) (ap (ended 0) (sym (take-append-drop f.count bytes)) ∙ m.are) w.whole.each) in
+    let said = begun_answers limit (unfinished 0 a) in
+    let same : z.first ++ said ≡ f.answers = one.given a (z.first ++ said) f.answers (record { done = z.first; each = z.each; whole = refl }) f.given in
+    let first : values_of z.first ≡ ts = sym (append-nil (values_of z.first)) ∙ ap (λ x. values_of z.first ++ x) (sym (none_in_begun limit (unfinished 0 a))) ∙ sym (values_joined z.first said) ∙ ap values_of same ∙ f.are in
+    let all : us ≡ ts ++ values_of z.others = sym w.are ∙ values_done w.whole ∙ ap values_of z.whole ∙ values_joined z.first z.others ∙ ap (λ x. x ++ values_of z.others) first in
+    let bytes_are : rewritten us ≡ rewritten ts ++ appended_anew (values_of z.others) = ap rewritten all ∙ ap (λ x. 0 ∷ x) (anew_joined ts (values_of z.others)) in
+    let k = fronts count (rewritten ts) (appended_anew (values_of z.others)) in
+    (k.0, k.1 ∙ ap (take k.0) (sym bytes_are))

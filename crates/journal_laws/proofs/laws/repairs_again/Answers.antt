@@ -1,0 +1,5 @@
+use Rattle.journal_laws.proofs.AgainLemmas.{repairs_again}
+use Rattle.journal_laws.proofs.laws.repairs_again.Goals as goal
+
+pub returns : goal.returns
+returns g c limit bytes ts us a = repairs_again g.T.Readable.takes limit (c.told.ensures.strict limit 0) bytes ts us a
