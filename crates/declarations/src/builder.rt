@@ -4,18 +4,12 @@ ghost use Rattle.std.specs.Prelude.{◌≤◌, length, IfOk};
 use crate::Names;
 use declaration_parser::declaration::{Body, Declaration, Fields, Form, VariantOf};
 use declaration_parser::faults::Faults;
-use declaration_parser::tokens::{Token, is_among, is_lifetime};
-use schemas::Node;
+use declaration_parser::tokens::{Token, is_lifetime};
+use schemas::{IntegerType, Node};
 use std::alloc::{AllocError, Global};
 
 /// How deep the words of one type may nest, as `Vec<Option<u8>>` nests three deep.
 const DEEPEST: u32 = 64;
-
-/// Types whose greatest length no node has.
-const BOUNDED: &[&str] = &["ArrayVec", "ArrayString"];
-
-/// Types of numbers in a fixed order of bytes, which no node has.
-const ORDERED: &[&str] = &["LE", "BE"];
 
 /// A node, and what its values are called by.
 #[derive(Drop)]
@@ -56,6 +50,21 @@ fn plain_node(word: &str) -> Option<Node> {
         "char" => Node::Char,
         "str" | "String" => Node::Text,
         "ByteBuf" => Node::Bytes,
+        _ => return None,
+    })
+}
+
+/// An integer type that may stand as its bytes, by its word.
+fn integer_type(word: &str) -> Option<IntegerType> {
+    Some(match word {
+        "u16" => IntegerType::U16,
+        "u32" => IntegerType::U32,
+        "u64" => IntegerType::U64,
+        "u128" => IntegerType::U128,
+        "i16" => IntegerType::I16,
+        "i32" => IntegerType::I32,
+        "i64" => IntegerType::I64,
+        "i128" => IntegerType::I128,
         _ => return None,
     })
 }
@@ -154,8 +163,11 @@ impl<'a> Builder<'a> {
             "Box" => self.inner(depth - 1),
             "Option" => self.option(depth - 1),
             "Vec" => self.list(depth - 1),
+            "ArrayVec" => self.list_up_to(depth - 1),
             "Result" => self.outcome(depth - 1),
             "BTreeMap" => self.map(depth - 1),
+            "ArrayString" => self.text_up_to(),
+            "LE" | "BE" => self.ordered(word),
             _ => self.named(word),
         }
     }
@@ -164,20 +176,6 @@ impl<'a> Builder<'a> {
     fn named(&mut self, word: &str) -> usize {
         if let Some(node) = plain_node(word) {
             return self.add(node, Names::Nothing);
-        }
-        if is_among(word, BOUNDED) {
-            return self.wrong(&[
-                "`",
-                word,
-                "` has a greatest length, which no schema has yet",
-            ]);
-        }
-        if is_among(word, ORDERED) {
-            return self.wrong(&[
-                "`",
-                word,
-                "` has an order of bytes, which no schema has yet",
-            ]);
         }
         match declared_place(self.declared, word) {
             Some(place) => place,
@@ -229,6 +227,49 @@ impl<'a> Builder<'a> {
         self.add(list_node(is_byte, element), Names::Nothing)
     }
 
+    /// Takes a length in plain digits.
+    fn length(&mut self) -> u64 {
+        let word = self.step();
+        match word.parse::<u64>() {
+            Ok(length) => length,
+            Err(_) => {
+                self.wrong(&["`", word, "` isn't a length in plain digits"]);
+                0
+            }
+        }
+    }
+
+    /// Behind `ArrayVec`: a list of a type, and its greatest length.
+    #[cycle(types)]
+    fn list_up_to(&mut self, depth: u32) -> usize {
+        self.owe("<");
+        let element = self.place(depth);
+        self.owe(",");
+        let most = self.length();
+        self.owe(">");
+        self.add(Node::ListUpTo(most, element), Names::Nothing)
+    }
+
+    /// Behind `ArrayString`: the greatest length of a text.
+    fn text_up_to(&mut self) -> usize {
+        self.owe("<");
+        let most = self.length();
+        self.owe(">");
+        self.add(Node::TextUpTo(most), Names::Nothing)
+    }
+
+    /// Behind `LE` or `BE`: an integer whose bytes stand in this order.
+    fn ordered(&mut self, order: &str) -> usize {
+        self.owe("<");
+        let word = self.step();
+        self.owe(">");
+        match integer_type(word) {
+            Some(of) if order == "LE" => self.add(Node::LE(of), Names::Nothing),
+            Some(of) => self.add(Node::BE(of), Names::Nothing),
+            None => self.wrong(&["`", word, "` isn't an integer of 16 to 128 bits"]),
+        }
+    }
+
     /// Behind `[`: an array, or what is lent as a slice.
     #[cycle(types)]
     fn array(&mut self, depth: u32) -> usize {
@@ -238,12 +279,9 @@ impl<'a> Builder<'a> {
             return self.add(list_node(is_byte, element), Names::Nothing);
         }
         self.owe(";");
-        let word = self.step();
+        let count = self.length();
         self.owe("]");
-        match word.parse::<u64>() {
-            Ok(count) => self.add(Node::Array(count, element), Names::Nothing),
-            Err(_) => self.wrong(&["`", word, "` isn't a length in plain digits"]),
-        }
+        self.add(Node::Array(count, element), Names::Nothing)
     }
 
     /// Behind `(`: a tuple, or a type in parentheses.

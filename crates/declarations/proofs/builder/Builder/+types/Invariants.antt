@@ -10,6 +10,9 @@ decreases-inner l = 4 * l.depth + 1
 abbrev pub decreases-list : goal.decreases-list
 decreases-list l = 4 * l.depth + 1
 
+abbrev pub decreases-list_up_to : goal.decreases-list_up_to
+decreases-list_up_to l = 4 * l.depth + 1
+
 abbrev pub decreases-map : goal.decreases-map
 decreases-map l = 4 * l.depth + 2
 
