@@ -96,7 +96,7 @@ fn types_that_hold_themselves(rt: HostRuntime) {
 }
 
 const PLACES: [Row; 5] = [
-    (39, 9, &[0], "!SerdeDeCustom"),
+    (46, 9, &[0], "!SerdeDeCustom"),
     (usize::MAX, 9, &[], "!SerdeDeCustom"),
     (NOWHERE, 9, &[0], "none +0"),
     (NOWHERE, 9, &[1, 0], "!SerdeDeCustom"),

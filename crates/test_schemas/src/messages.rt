@@ -1,12 +1,14 @@
-//! Message types with schemas, as they are written by hand: a struct and an enum.
+//! Message types with schemas, as they are written by hand: a struct and an enum; and a tuple of bounded types.
 ghost use Rattle.postcard_tree.specs.ReadingLaws.{seen_as};
 ghost use Rattle.postcard_tree.specs.Shapes.{read_as_shape};
 
 use crate::checks::check;
+use arrayvec::{ArrayString, ArrayVec};
+use postcard::fixint::{BE, LE};
 use postcard::{
     AsShape, Formed, Last, Readable, ReadableShape, ShapeOf, Shaped, Variant, from_bytes_owned,
 };
-use schemas::{HasSchema, Node, Value, from_bytes, schema_of};
+use schemas::{HasSchema, Integer, Node, Value, from_bytes, schema_of};
 use std::alloc::{AllocError, Global};
 
 /// A lamp.
@@ -140,6 +142,46 @@ fn by_the_schema_as_by_the_type(rt: HostRuntime) {
     check(&rt, is_read);
     let is_same = match from_bytes_owned::<Reading>(alloc, &bytes) {
         Ok(reading) => reading.celsius == -21 && reading.light == Light::Lit(7),
+        Err(_) => false,
+    };
+    check(&rt, is_same);
+}
+
+/// Types whose numbers have an order of bytes, and whose texts and lists have a greatest length.
+type Bounded = (LE<u32>, ArrayVec<u8, 2>, ArrayString<3>, BE<i16>);
+
+fn is_bounded(value: &Value) -> bool {
+    match value {
+        Value::Group(parts) => match parts.as_slice() {
+            [
+                Value::LE(Integer::U32(first)),
+                Value::List(items),
+                Value::Text(text),
+                Value::BE(Integer::I16(last)),
+            ] => *first == 1 && items.len() == 1 && text.as_str() == "ab" && *last == -2,
+            _ => false,
+        },
+        _ => false,
+    }
+}
+
+#[test]
+fn of_lengths_and_orders(rt: HostRuntime) {
+    let alloc = rt.alloc();
+    let (nodes, place) = schema_of::<Bounded>(alloc).expect(&rt, "a table");
+    let bytes = [1, 0, 0, 0, 1, 7, 2, 0x61, 0x62, 0xFF, 0xFE];
+    let is_read = match from_bytes(alloc, &nodes, place, 8, &bytes) {
+        Ok(value) => is_bounded(&value),
+        Err(_) => false,
+    };
+    check(&rt, is_read);
+    let is_same = match from_bytes_owned::<Bounded>(alloc, &bytes) {
+        Ok((first, items, text, last)) => {
+            first.0 == 1
+                && items.as_slice() == [7].as_slice()
+                && text.as_str() == "ab"
+                && last.0 == -2
+        }
         Err(_) => false,
     };
     check(&rt, is_same);

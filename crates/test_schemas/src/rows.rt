@@ -2,8 +2,9 @@
 use crate::checks::check_row;
 use crate::saying::{say_read, say_refused};
 use crate::table::{
-    ARRAY, BOOL, BYTES, CHAR, DEPTH, ENUM, I8, I16, I32, I64, I128, LIST, MAP, NESTED, OPTION,
-    OPTION_TWICE, PAIRS, RESULT, TEXT, TUPLE, U8, U16, U32, U64, U128, table,
+    ARRAY, BE_I64, BE_U16, BOOL, BYTES, CHAR, DEPTH, ENUM, I8, I16, I32, I64, I128, LE_I32, LE_U16,
+    LE_U128, LIST, MAP, NESTED, OPTION, OPTION_TWICE, PAIRS, RESULT, SHORT_LIST, SHORT_TEXT, TEXT,
+    TUPLE, U8, U16, U32, U64, U128, table,
 };
 use postcard::to_stdvec;
 use schemas::{Node, Value, take_from_bytes};
@@ -189,6 +190,48 @@ fn variants_and_maps(rt: HostRuntime) {
     check_answers(&rt, rt.alloc(), &VARIANTS_AND_MAPS);
 }
 
+// By the rules of the format: the bytes of an integer as they stand, a count and what it counts.
+const BOUNDED: [Row; 11] = [
+    (LE_U16, "cdab", "43981 +0"),
+    (BE_U16, "abcdff", "43981 +1"),
+    (LE_I32, "feffffff", "-2 +0"),
+    (BE_I64, "8000000000000001", "-9223372036854775807 +0"),
+    (
+        LE_U128,
+        "00000000000000000000000000000080",
+        "170141183460469231731687303715884105728 +0",
+    ),
+    (SHORT_LIST, "020100", "[true,false] +0"),
+    (SHORT_LIST, "000301", "[] +2"),
+    (SHORT_LIST, "820001001f", "[true,false] +1"),
+    (SHORT_TEXT, "03486921", "s(486921) +0"),
+    (SHORT_TEXT, "02c3a94a", "s(c3a9) +1"),
+    (SHORT_TEXT, "00", "s() +0"),
+];
+
+#[test]
+fn bounded(rt: HostRuntime) {
+    check_answers(&rt, rt.alloc(), &BOUNDED);
+}
+
+const REFUSED_BOUNDED: [Row; 10] = [
+    (LE_U16, "cd", "!DeserializeUnexpectedEnd"),
+    (BE_I64, "80000000000000", "!DeserializeUnexpectedEnd"),
+    (SHORT_LIST, "03010001", "!SerdeDeCustom"),
+    (SHORT_LIST, "030100", "!DeserializeUnexpectedEnd"),
+    (SHORT_LIST, "03010006", "!DeserializeBadBool"),
+    (SHORT_LIST, "030600", "!DeserializeBadBool"),
+    (SHORT_LIST, "ffffffffffffffffff21", "!DeserializeBadVarint"),
+    (SHORT_TEXT, "0441424344", "!SerdeDeCustom"),
+    (SHORT_TEXT, "04414243", "!DeserializeUnexpectedEnd"),
+    (SHORT_TEXT, "04ff414243", "!DeserializeBadUtf8"),
+];
+
+#[test]
+fn refused_bounded(rt: HostRuntime) {
+    check_answers(&rt, rt.alloc(), &REFUSED_BOUNDED);
+}
+
 const REFUSED_LEAVES: [Row; 8] = [
     (BOOL, "06", "!DeserializeBadBool"),
     (BOOL, "", "!DeserializeUnexpectedEnd"),
@@ -274,6 +317,25 @@ const NUMBERS_WRITTEN_AGAIN: [Row; 8] = [
 #[test]
 fn numbers_written_again(rt: HostRuntime) {
     check_written(&rt, rt.alloc(), &NUMBERS_WRITTEN_AGAIN);
+}
+
+const BOUNDED_WRITTEN_AGAIN: [Row; 7] = [
+    (LE_U16, "cdab", "cdab"),
+    (BE_U16, "abcd", "abcd"),
+    (LE_I32, "feffffff", "feffffff"),
+    (BE_I64, "8000000000000001", "8000000000000001"),
+    (
+        LE_U128,
+        "000102030405060708090a0b0c0d0e0f",
+        "000102030405060708090a0b0c0d0e0f",
+    ),
+    (SHORT_LIST, "820001001f", "020100"),
+    (SHORT_TEXT, "8300486921", "03486921"),
+];
+
+#[test]
+fn bounded_written_again(rt: HostRuntime) {
+    check_written(&rt, rt.alloc(), &BOUNDED_WRITTEN_AGAIN);
 }
 
 const PARTS_WRITTEN_AGAIN: [Row; 5] = [

@@ -1,6 +1,6 @@
 //! Values in the words of the lines of vectors.
 use postcard_tree::Error;
-use schemas::Value;
+use schemas::{Integer, Value};
 use std::alloc::{AllocError, Global};
 
 /// The bytes of a text.
@@ -30,6 +30,19 @@ fn say_bool(holds: bool, line: &mut String) -> Result<(), AllocError> {
 
 fn say_unsigned(n: u128, line: &mut String) -> Result<(), AllocError> {
     write!(line, "{n}")
+}
+
+fn say_integer(n: Integer, line: &mut String) -> Result<(), AllocError> {
+    match n {
+        Integer::U16(n) => say_unsigned(n as u128, line),
+        Integer::U32(n) => say_unsigned(n as u128, line),
+        Integer::U64(n) => say_unsigned(n as u128, line),
+        Integer::U128(n) => say_unsigned(n, line),
+        Integer::I16(n) => say_signed(n as i128, line),
+        Integer::I32(n) => say_signed(n as i128, line),
+        Integer::I64(n) => say_signed(n as i128, line),
+        Integer::I128(n) => say_signed(n, line),
+    }
 }
 
 fn say_signed(n: i128, line: &mut String) -> Result<(), AllocError> {
@@ -93,6 +106,7 @@ pub(crate) fn say(value: &Value, line: &mut String) -> Result<(), AllocError> {
         Value::I32(n) => say_signed(*n as i128, line),
         Value::I64(n) => say_signed(*n as i128, line),
         Value::I128(n) => say_signed(*n, line),
+        Value::LE(n) | Value::BE(n) => say_integer(*n, line),
         Value::Char(c) => say_char(*c, line),
         Value::Text(text) => say_text(text.as_str(), line),
         Value::Bytes(bytes) => say_bytes(bytes, line),

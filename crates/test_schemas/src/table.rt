@@ -1,5 +1,5 @@
 //! One table of the types that the rows are of.
-use schemas::Node;
+use schemas::{IntegerType, Node};
 use std::alloc::{AllocError, Global};
 
 /// How deep the values of the rows may nest.
@@ -63,6 +63,20 @@ pub(crate) const ITSELF: usize = 36;
 pub(crate) const NOWHERE: usize = 37;
 /// An enum without variants.
 pub(crate) const NEVER: usize = 38;
+/// `LE<u16>`
+pub(crate) const LE_U16: usize = 39;
+/// `BE<u16>`
+pub(crate) const BE_U16: usize = 40;
+/// `LE<i32>`
+pub(crate) const LE_I32: usize = 41;
+/// `BE<i64>`
+pub(crate) const BE_I64: usize = 42;
+/// `LE<u128>`
+pub(crate) const LE_U128: usize = 43;
+/// `ArrayVec<bool, 2>`
+pub(crate) const SHORT_LIST: usize = 44;
+/// `ArrayString<3>`
+pub(crate) const SHORT_TEXT: usize = 45;
 
 fn add_struct<const N: usize>(
     alloc: Global,
@@ -149,6 +163,18 @@ fn add_bad_types(alloc: Global, nodes: &mut Vec<Node>) -> Result<(), AllocError>
     add_enum(alloc, nodes, [])
 }
 
+// The types at 39 to 45.
+fn add_bounded(nodes: &mut Vec<Node>) -> Result<(), AllocError> {
+    nodes.push(Node::LE(IntegerType::U16))?;
+    nodes.push(Node::BE(IntegerType::U16))?;
+    nodes.push(Node::LE(IntegerType::I32))?;
+    nodes.push(Node::BE(IntegerType::I64))?;
+    nodes.push(Node::LE(IntegerType::U128))?;
+    nodes.push(Node::ListUpTo(2, BOOL))?;
+    nodes.push(Node::TextUpTo(3))?;
+    Ok(())
+}
+
 /// The table.
 pub(crate) fn table(alloc: Global) -> Result<Vec<Node>, AllocError> {
     let mut nodes = leaves(alloc)?;
@@ -156,5 +182,6 @@ pub(crate) fn table(alloc: Global) -> Result<Vec<Node>, AllocError> {
     add_messages(alloc, &mut nodes)?;
     add_nested(alloc, &mut nodes)?;
     add_bad_types(alloc, &mut nodes)?;
+    add_bounded(&mut nodes)?;
     Ok(nodes)
 }

@@ -90,6 +90,54 @@ fn numbers(rt: HostRuntime) {
 }
 
 #[test]
+fn integers_as_their_bytes(rt: HostRuntime) {
+    let rows = [
+        ("LE<u16>", "cdab", "43981"),
+        ("BE<u16>", "abcd", "43981"),
+        ("LE<i16>", "feff", "-2"),
+        ("BE<i16>", "fffe", "-2"),
+        ("LE<u32>", "0000c03f", "1069547520"),
+        ("BE<u32>", "00000001", "1"),
+        ("LE<i32>", "00000080", "-2147483648"),
+        ("BE<i32>", "7fffffff", "2147483647"),
+        ("LE<u64>", "ffffffffffffffff", "18446744073709551615"),
+        ("BE<i64>", "8000000000000000", "-9223372036854775808"),
+        (
+            "LE<u128>",
+            "00000000000000000000000000000080",
+            "170141183460469231731687303715884105728",
+        ),
+        (
+            "BE<i128>",
+            "80000000000000000000000000000000",
+            "-170141183460469231731687303715884105728",
+        ),
+    ];
+    for (name, digits, text) in rows {
+        assert!(rt; agree(&rt, name, digits, text, false));
+    }
+}
+
+#[test]
+fn of_a_greatest_length(rt: HostRuntime) {
+    let rows = [
+        ("ArrayVec<u16, 2>", "00", "[]"),
+        ("ArrayVec<u16, 2>", "0201ac02", "[1,300]"),
+        ("ArrayVec<u8, 2>", "02ff00", "[255,0]"),
+        ("ArrayVec<ArrayString<1>, 1>", "010161", r#"["a"]"#),
+        ("ArrayVec<(), 0>", "00", "[]"),
+        ("ArrayString<2>", "02c3a9", r#""é""#),
+        ("ArrayString<2>", "00", r#""""#),
+        ("BTreeMap<ArrayString<2>, u8>", "0102616205", r#"{"ab":5}"#),
+    ];
+    for (name, digits, text) in rows {
+        assert!(rt; agree(&rt, name, digits, text, false));
+    }
+    assert!(rt; printed(rt.alloc(), "ArrayVec<u8, 1>", "020102", false).is_none());
+    assert!(rt; printed(rt.alloc(), "ArrayString<1>", "02c3a9", false).is_none());
+}
+
+#[test]
 fn texts_and_options(rt: HostRuntime) {
     let rows = [
         ("char", "02c3a9", r#""é""#),
@@ -186,6 +234,12 @@ fn refusals(rt: HostRuntime) {
         ("Point", "{\"y\":1}"),
         ("Point", "{\"y\":1,\"y\":2}"),
         ("Point", "{\"y\":1,\"x\":2,\"z\":3}"),
+        ("LE<u16>", "65536"),
+        ("BE<i16>", "-32769"),
+        ("LE<u32>", "\"1\""),
+        ("ArrayVec<u8, 1>", "[1,2]"),
+        ("ArrayString<1>", "\"é\""),
+        ("BTreeMap<ArrayString<1>, u8>", "{\"ab\":5}"),
         ("u8", "5 5"),
         ("u8", ""),
     ];

@@ -1,6 +1,6 @@
 //! Tables of declarations: the expected lines are by the rules of `schemas`' README and of serde.
 use declarations::{Error, Names, Schema, read_schema};
-use schemas::Node;
+use schemas::{IntegerType, Node};
 use std::alloc::AllocError;
 use std::fmt::Write;
 
@@ -20,6 +20,20 @@ fn put_names(line: &mut String, names: &[String]) -> Result<(), AllocError> {
     Ok(())
 }
 
+/// The word of an integer type.
+fn word_of(of: IntegerType) -> &'static str {
+    match of {
+        IntegerType::U16 => "u16",
+        IntegerType::U32 => "u32",
+        IntegerType::U64 => "u64",
+        IntegerType::U128 => "u128",
+        IntegerType::I16 => "i16",
+        IntegerType::I32 => "i32",
+        IntegerType::I64 => "i64",
+        IntegerType::I128 => "i128",
+    }
+}
+
 /// Appends a node, by its kind and the places in it.
 fn put_node(line: &mut String, node: &Node) -> Result<(), AllocError> {
     match node {
@@ -34,11 +48,15 @@ fn put_node(line: &mut String, node: &Node) -> Result<(), AllocError> {
         Node::I32 => line.push_str("i32"),
         Node::I64 => line.push_str("i64"),
         Node::I128 => line.push_str("i128"),
+        Node::LE(of) => write!(line, "le {}", word_of(*of)),
+        Node::BE(of) => write!(line, "be {}", word_of(*of)),
         Node::Char => line.push_str("char"),
         Node::Text => line.push_str("text"),
+        Node::TextUpTo(most) => write!(line, "text up to {most}"),
         Node::Bytes => line.push_str("bytes"),
         Node::Option(inner) => write!(line, "option {inner}"),
         Node::List(inner) => write!(line, "list {inner}"),
+        Node::ListUpTo(most, inner) => write!(line, "list up to {most} {inner}"),
         Node::Array(count, inner) => write!(line, "array {count} {inner}"),
         Node::Struct(fields) => {
             line.push_str("struct")?;
@@ -106,7 +124,7 @@ fn check_all(rt: &HostRuntime, rows: &[(&str, &str)]) -> bool {
 
 #[test]
 fn kinds(rt: HostRuntime) {
-    let rows: [(&str, &str); 11] = [
+    let rows: [(&str, &str); 13] = [
         (
             "// message\npub struct Reading {\n    pub level: i16,\n    light: Light,\n}\n#[derive(Debug, Serialize)]\nenum Light {\n    Dark,\n    Lit(u8),\n    Both(u8, u16),\n    At { x: u8 },\n}\n",
             "struct 2 1, fields level light\nenum 3 4 7 9, variants Dark Lit Both At\ni16\nstruct, empty\nu8\nu8\nu16\nstruct 5 6, tuple\nu8\nstruct 8, fields x\n",
@@ -136,6 +154,14 @@ fn kinds(rt: HostRuntime) {
         (
             "// message\nstruct T(BTreeMap<String, usize>);",
             "struct 4, newtype\ntext\nu64\nstruct 1 2, tuple\nlist 3, map\n",
+        ),
+        (
+            "// message\nstruct T(ArrayVec<i8, 4>, ArrayString<9>);",
+            "struct 2 3, tuple\ni8\nlist up to 4 1\ntext up to 9\n",
+        ),
+        (
+            "// message\nstruct T(LE<u32>, BE<i128>);",
+            "struct 1 2, tuple\nle u32\nbe i128\n",
         ),
         (
             "// message\nenum List { End, More(u32, Box<List>) }",
@@ -169,12 +195,12 @@ fn refusals(rt: HostRuntime) {
             "line 2: `N` isn't a length in plain digits\n",
         ),
         (
-            "// message\nstruct A(ArrayVec<u8, 4>);",
-            "line 2: `ArrayVec` has a greatest length, which no schema has yet\n",
+            "// message\nstruct A(ArrayVec<u8, N>);",
+            "line 2: `N` isn't a length in plain digits\n",
         ),
         (
-            "// message\nstruct A(LE<u32>);",
-            "line 2: `LE` has an order of bytes, which no schema has yet\n",
+            "// message\nstruct A(LE<u8>);",
+            "line 2: `u8` isn't an integer of 16 to 128 bits\n",
         ),
         (
             "// message\nstruct A(Option);",

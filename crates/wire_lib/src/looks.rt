@@ -26,7 +26,7 @@ pub fn may_be_null(schema: &Schema, place: usize) -> bool {
 pub fn has_text_keys(schema: &Schema, pair: usize) -> bool {
     match schema.nodes.get(pair) {
         Some(Node::Struct(fields)) => match fields.as_slice() {
-            [key, _] => matches!(schema.nodes.get(*key), Some(Node::Text)),
+            [key, _] => matches!(schema.nodes.get(*key), Some(Node::Text | Node::TextUpTo(_))),
             _ => false,
         },
         _ => false,

@@ -3,7 +3,7 @@ use crate::DEPTH;
 use crate::looks::{PRESENT, has_text_keys, is_empty, may_be_null};
 use declarations::{Names, Schema};
 use json::{Error, Scratch, Value as Json};
-use schemas::{Node, Value};
+use schemas::{Integer, IntegerType, Node, Value};
 use std::alloc::{AllocError, AllocFailed, Global};
 
 /// Why a line isn't a value of the type.
@@ -61,6 +61,22 @@ fn text(alloc: Global, json: &Json<'_>) -> Parsed {
     }
 }
 
+/// A text of at most so many bytes.
+fn text_up_to(alloc: Global, most: u64, held: &str) -> Parsed {
+    if held.len() as u64 > most {
+        return Err(ParseError::Wrong("a text is too long"));
+    }
+    Ok(Value::Text(String::from_str(alloc, held)?))
+}
+
+/// The same of what stands for it.
+fn short_text(alloc: Global, most: u64, json: &Json<'_>) -> Parsed {
+    match json {
+        Json::String(held) => text_up_to(alloc, most, held),
+        _ => Err(ParseError::Wrong("a text is wanted")),
+    }
+}
+
 /// A byte, by its number.
 fn byte(json: &Json<'_>) -> Result<u8, ParseError> {
     match json {
@@ -98,6 +114,20 @@ fn bytes(alloc: Global, json: &Json<'_>) -> Parsed {
     }
 }
 
+/// An integer of the type, if it is in its range.
+fn integer_of(of: IntegerType, text: &str) -> Option<Integer> {
+    match of {
+        IntegerType::U16 => Some(Integer::U16(text.parse().ok()?)),
+        IntegerType::U32 => Some(Integer::U32(text.parse().ok()?)),
+        IntegerType::U64 => Some(Integer::U64(text.parse().ok()?)),
+        IntegerType::U128 => Some(Integer::U128(text.parse().ok()?)),
+        IntegerType::I16 => Some(Integer::I16(text.parse().ok()?)),
+        IntegerType::I32 => Some(Integer::I32(text.parse().ok()?)),
+        IntegerType::I64 => Some(Integer::I64(text.parse().ok()?)),
+        IntegerType::I128 => Some(Integer::I128(text.parse().ok()?)),
+    }
+}
+
 /// A number of the type, if it is in its range.
 fn number_of(node: &Node, text: &str) -> Option<Value> {
     match node {
@@ -111,6 +141,8 @@ fn number_of(node: &Node, text: &str) -> Option<Value> {
         Node::I64 => Some(Value::I64(text.parse().ok()?)),
         Node::U128 => Some(Value::U128(text.parse().ok()?)),
         Node::I128 => Some(Value::I128(text.parse().ok()?)),
+        Node::LE(of) => Some(Value::LE(integer_of(*of, text)?)),
+        Node::BE(of) => Some(Value::BE(integer_of(*of, text)?)),
         _ => None,
     }
 }
@@ -177,6 +209,7 @@ fn key_of(alloc: Global, schema: &Schema, place: usize, depth: u32, key: &str) -
     }
     match schema.nodes.get(place) {
         Some(Node::Text) => Ok(Value::Text(String::from_str(alloc, key)?)),
+        Some(Node::TextUpTo(most)) => text_up_to(alloc, *most, key),
         _ => Err(NO_TYPE),
     }
 }
@@ -256,6 +289,24 @@ fn list(
             Ok(Value::List(items(alloc, schema, place, depth, elements)?))
         }
         _ => Err(ParseError::Wrong("an array is wanted, or an object for a map of texts")),
+    }
+}
+
+/// A list of at most so many elements.
+#[cycle(parse)]
+fn list_up_to(
+    alloc: Global,
+    schema: &Schema,
+    most: u64,
+    place: usize,
+    depth: u32,
+    json: &Json<'_>,
+) -> Parsed {
+    match json {
+        Json::Array(elements) if elements.len() as u64 <= most => {
+            Ok(Value::List(items(alloc, schema, place, depth, elements)?))
+        }
+        _ => Err(ParseError::Wrong("an array is wanted, of no more elements than the type has")),
     }
 }
 
@@ -399,12 +450,14 @@ fn of_node(
         Node::Bool => boolean(json),
         Node::Char => character(json),
         Node::Text => text(alloc, json),
+        Node::TextUpTo(most) => short_text(alloc, *most, json),
         Node::Bytes => bytes(alloc, json),
         Node::Option(inner) => option(alloc, schema, *inner, depth, json),
         Node::List(inner) => {
             let is_map = matches!(names, Names::Map);
             list(alloc, schema, is_map, *inner, depth, json)
         }
+        Node::ListUpTo(most, inner) => list_up_to(alloc, schema, *most, *inner, depth, json),
         Node::Array(count, inner) => array(alloc, schema, *count, *inner, depth, json),
         Node::Struct(fields) => group(alloc, schema, names, fields, depth, json),
         Node::Enum(payloads) => variant(alloc, schema, names, payloads, depth, json),

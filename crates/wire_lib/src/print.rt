@@ -3,7 +3,7 @@ use crate::DEPTH;
 use crate::looks::{PRESENT, has_text_keys, is_empty, may_be_null};
 use declarations::{Names, Schema};
 use json::{Writer, is_number};
-use schemas::{Node, Value};
+use schemas::{Integer, Node, Value};
 use std::alloc::{AllocError, Global};
 
 /// Why a value isn't printed.
@@ -53,6 +53,20 @@ fn put_i128(out: &mut Writer, n: i128) -> Printed {
     put_digits(out, buffer.format(n))
 }
 
+/// Appends an integer whose bytes stand as they are.
+fn put_integer(out: &mut Writer, n: Integer) -> Printed {
+    match n {
+        Integer::U16(n) => Ok(out.u64(u64::from(n))?),
+        Integer::U32(n) => Ok(out.u64(u64::from(n))?),
+        Integer::U64(n) => Ok(out.u64(n)?),
+        Integer::U128(n) => put_u128(out, n),
+        Integer::I16(n) => Ok(out.i64(i64::from(n))?),
+        Integer::I32(n) => Ok(out.i64(i64::from(n))?),
+        Integer::I64(n) => Ok(out.i64(n)?),
+        Integer::I128(n) => put_i128(out, n),
+    }
+}
+
 /// Appends a character as a text.
 fn put_char(out: &mut Writer, alloc: Global, c: char) -> Printed {
     let mut text = String::new(alloc);
@@ -92,6 +106,7 @@ fn put_plain(out: &mut Writer, style: Style<'_>, value: &Value) -> Printed {
         Value::I32(n) => Ok(out.i64(i64::from(*n))?),
         Value::I64(n) => Ok(out.i64(*n)?),
         Value::I128(n) => put_i128(out, *n),
+        Value::LE(n) | Value::BE(n) => put_integer(out, *n),
         Value::Char(c) => put_char(out, style.alloc, *c),
         Value::Text(text) => Ok(out.string(text.as_str())?),
         Value::Bytes(bytes) => put_bytes(out, style, bytes),
@@ -114,6 +129,7 @@ fn put(out: &mut Writer, style: Style<'_>, place: usize, value: &Value) -> Print
         (Node::Option(_), Value::Absent) => Ok(out.null()?),
         (Node::Option(inner), Value::Present(held)) => put_present(out, style, *inner, held),
         (Node::List(inner), Value::List(items)) => put_list(out, style, place, *inner, items),
+        (Node::ListUpTo(_, inner), Value::List(items)) => put_items(out, style, *inner, items),
         (Node::Array(_, inner), Value::Group(items)) => put_items(out, style, *inner, items),
         (Node::Struct(fields), Value::Group(items)) => {
             put_struct(out, style, place, fields, items)

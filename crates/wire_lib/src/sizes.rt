@@ -1,5 +1,5 @@
 //! Greatest sizes.
-use schemas::Node;
+use schemas::{IntegerType, Node};
 use std::alloc::{AllocError, Global};
 
 /// How many bytes a number takes as a varint.
@@ -43,6 +43,24 @@ fn greatest(sizes: &[Option<u64>], payloads: &[usize]) -> Option<u64> {
     Some(most)
 }
 
+/// How many bytes an integer takes as its bytes.
+fn width_of(of: IntegerType) -> u64 {
+    match of {
+        IntegerType::U16 | IntegerType::I16 => 2,
+        IntegerType::U32 | IntegerType::I32 => 4,
+        IntegerType::U64 | IntegerType::I64 => 8,
+        IntegerType::U128 | IntegerType::I128 => 16,
+    }
+}
+
+/// The greatest size of as many elements as may be, behind their count.
+fn counted(most: u64, element: Option<u64>) -> Option<u64> {
+    if most == 0 {
+        return Some(1);
+    }
+    element?.checked_mul(most)?.checked_add(varint_size(most))
+}
+
 /// The greatest size of a node's values, by those of the types inside.
 fn size_of_node(sizes: &[Option<u64>], node: &Node) -> Option<u64> {
     match node {
@@ -51,6 +69,9 @@ fn size_of_node(sizes: &[Option<u64>], node: &Node) -> Option<u64> {
         Node::U32 | Node::I32 | Node::Char => Some(5),
         Node::U64 | Node::I64 => Some(10),
         Node::U128 | Node::I128 => Some(19),
+        Node::LE(of) | Node::BE(of) => Some(width_of(*of)),
+        Node::TextUpTo(most) => counted(*most, Some(1)),
+        Node::ListUpTo(most, inner) => counted(*most, size_at(sizes, *inner)),
         Node::Text | Node::Bytes | Node::List(_) => None,
         Node::Option(inner) => size_at(sizes, *inner)?.checked_add(1),
         Node::Array(0, _) => Some(0),
@@ -74,7 +95,7 @@ fn next_sizes(
 }
 
 /// How many bytes a value of each type of a table takes at most, unframed; nothing where there is no such number: for texts, bytes
-/// and lists, for a type that holds itself, and past 2^64.
+/// and lists without a greatest length, for a type that holds itself, and past 2^64.
 pub fn greatest_sizes(alloc: Global, nodes: &[Node]) -> Result<Vec<Option<u64>>, AllocError> {
     let mut sizes = Vec::new(alloc);
     for _ in 0..nodes.len() {

@@ -25,6 +25,9 @@ decreases-pairs l = 4 * l.depth + 1
 abbrev pub decreases-list : goal.decreases-list
 decreases-list l = 4 * l.depth + 2
 
+abbrev pub decreases-list_up_to : goal.decreases-list_up_to
+decreases-list_up_to l = 4 * l.depth + 2
+
 abbrev pub decreases-array : goal.decreases-array
 decreases-array l = 4 * l.depth + 2
 
