@@ -8,6 +8,30 @@ use std::io::Read;
 // How many bytes a reader is asked for at most, in one read.
 const SCRATCH: usize = 16384;
 
+// A room of so many bytes or fewer is read by way of as many: clearing all of the scratch takes longer than such a read.
+const FEW: usize = 1024;
+
+// Reads once by way of the scratch, which isn't empty, and copies what came to the front of the room.
+fn read_by<R: Read>(reader: &mut R, room: &mut [u8], scratch: &mut [u8]) -> Option<usize>
+    requires { 0 < length scratch.old }
+    ensures bound { IfSome result (λ n. n ≤ length room.new) }
+    ensures past { drop (unwrap_or result 0) room.new ≡ drop (unwrap_or result 0) room.old }
+    ensures end { result ≡ Some 0 → 0 < length room.new → IsAtEnd (R.remaining reader.new) }
+    ensures bytes { MatchOption result
+        (Keeps (R.remaining reader.old) (R.remaining reader.new))
+        (λ n. Consumes (R.remaining reader.old) (R.remaining reader.new) (take n room.new)) }
+{
+    let most = room.len().min(scratch.len());
+    let lent = &mut scratch[..most];
+    match reader.read(lent) {
+        Ok(n) => {
+            room[..n].copy_from_slice(&lent[..n]);
+            Some(n)
+        }
+        Err(_) => None,
+    }
+}
+
 /// Reads once, and copies what came to the front of the room: past its answer a reader of std may write what it likes.
 ///
 /// It asks for at most 16384 bytes. At `None`, a read that failed or was interrupted, the room is as it was.
@@ -19,16 +43,12 @@ pub fn read_front<R: Read>(reader: &mut R, room: &mut [u8]) -> Option<usize>
         (Keeps (R.remaining reader.old) (R.remaining reader.new))
         (λ n. Consumes (R.remaining reader.old) (R.remaining reader.new) (take n room.new)) }
 {
-    let mut scratch = [0u8; SCRATCH];
-    let most = room.len().min(SCRATCH);
-    let lent = &mut scratch[..most];
-    match reader.read(lent) {
-        Ok(n) => {
-            room[..n].copy_from_slice(&lent[..n]);
-            Some(n)
-        }
-        Err(_) => None,
+    if room.len() <= FEW {
+        let mut scratch = [0u8; FEW];
+        return read_by(reader, room, &mut scratch);
     }
+    let mut scratch = [0u8; SCRATCH];
+    read_by(reader, room, &mut scratch)
 }
 
 /// An [`Inlet`](crate::Inlet) over a reader of std.

@@ -1,3 +1,4 @@
 pub mod MemoryValuesLemmas
 pub mod MemorySharingLemmas
+pub mod MemoryCutLemmas
 pub mod SpanLemmas

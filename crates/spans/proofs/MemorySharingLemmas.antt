@@ -1,10 +1,10 @@
 -- A `&` to the right to bytes shows the bytes. Assumes `Logic`.
-use Rattle.std.proofs.Common.{ℕ, List, [], ◌∷◌, ◌++◌, length}
+use Rattle.std.proofs.Common.{ℕ, List, [], ◌∷◌, ◌++◌, length, refl}
 use lib.ListN.{length-map}
 use seplogic.Ra.Ura.{Ura}
 use base.Fraction.{full_share}
 use base.Logic.{sep, emp, id⊢}
-use base.Fml.{Lft, GName, Fml, Incl, Incl-trans, ftrue, fsep, fbor, fobs}
+use base.Fml.{Lft, GName, Fml, Incl, Incl-refl, Incl-trans, ftrue, fsep, fbor, fobs}
 use contract.BorrowLft.{meet_⊑_left, meet_⊑_right, ⊑_meet, ⊑_static}
 use denote.Param.Shared.{copy_shared}
 use denote.Struct.Field.{u8-field}
@@ -20,12 +20,13 @@ use denote.Memory.{mem, shared_of}
 use denote.Plain.{uint_row_laws}
 use denote.Shares.{peels, bor-Cut, shares_each}
 use denote.Sharing.{ShrLaws, within, said}
+use denote.Shadow.{pure_l, pure_i}
 use denote.SharingLaws.{beside_shr_laws, said_shr_laws, within_shr_laws}
 use denote.Slice.{heres, coded_holeys, elements_shared, elements_shr_laws, mut_slice_at, mut_slice_vals}
 use denote.Struct.Lending.{Lends, Lends-both, Lends-said}
 use mir.Syntax.{w8}
 use mathlib.Core.Bool.{Bool, true, false}
-use base.Logic.{wand, apply∗}
+use base.Logic.{ent, wand, apply∗}
 use base.Fml.{fhide}
 use denote.Opens.{hide, unhide}
 use denote.SharingLaws.{contraction, shortens}
@@ -107,3 +108,18 @@ access_laws false κ place γ xs = seen_laws κ place xs
 pub Lends-access : (t : Bool) (κ : Lft) (place : Place) (γ : GName) (xs : List ℕ) {M : Type 1} {𝓤 : Ura M} (𝓛 : Logic 𝓤) (l : Lft) → Incl l κ → Lends 𝓛 (access_owned t κ place γ xs) (access_lent t κ place γ xs) l
 Lends-access true κ place γ xs 𝓛 l il = Lends-bytes κ place γ xs 𝓛 l il
 Lends-access false κ place γ xs 𝓛 l il = Lends-seen κ place xs 𝓛 l
+
+-- a `&` to the right shows the bytes as a `&` of them does
+pub access_shown : (t : Bool) (κ κa : Lft) (place : Place) (γ : GName) (xs : List ℕ) {M : Type 1} {𝓤 : Ura M} (𝓛 : Logic 𝓤) → Incl κ κa
+    → ent 𝓤 (sem 𝓛 (access_lent t κa place γ xs κ)) (sem 𝓛 (bytes_seen κ place xs))
+access_shown true κ κa place γ xs 𝓛 i =
+    let All = elements_shared u8 xs place.0 place.1 in
+    qed 𝓛 (‵ (bytes_lent κa place γ xs κ) ∷ []) {P = sem 𝓛 (bytes_seen κ place xs)} (
+    fsplit ! $ pure_l ! (mut_slice_at u8 (borrow_of place γ xs) (mut_slice_vals (borrow_of place γ xs))) (λ ok.
+    use1 𝓛 (‵ (All κ)) (shortens 𝓛 All (elements_shr_laws u8 (uint_row_laws w8) xs place.0 place.1) (κ ++ κa) κ (⊑_meet κ κ κa (Incl-refl κ) i)) $ hide ! $
+    pure_i ! (shr_slice_at u8 (view_of place xs) (shr_slice_vals (view_of place xs))) (tt, (tt, tt)) (refl, ok.1) $ fjoin ! $ done !))
+access_shown false κ κa place γ xs 𝓛 i =
+    let All = elements_shared u8 xs place.0 place.1 in
+    qed 𝓛 (‵ (seen_lent κa place xs κ) ∷ []) {P = sem 𝓛 (bytes_seen κ place xs)} (
+    fsplit ! $ move ! (1 ∷ []) $ use1 𝓛 (‵ (All κ)) (shortens 𝓛 All (elements_shr_laws u8 (uint_row_laws w8) xs place.0 place.1) (κ ++ κa) κ (⊑_meet κ κ κa (Incl-refl κ) i)) $ hide ! $
+    move ! (1 ∷ 0 ∷ []) $ fjoin ! $ done !)

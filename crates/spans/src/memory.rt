@@ -87,6 +87,41 @@ impl<'a, K: Access> Model for Memory<'a, K> {
     ghost also_shares = { λ m _ κ. access_lent K.writes 'a m.place m.name m.bytes κ };
 }
 
+impl<'a, K: Access> Memory<'a, K> {
+    // All the bytes, to be read for the call.
+    pub(crate) fn as_slice(&self, start: Start, count: usize) -> &[u8]
+        requires start { start.at ≡ block_ptr self.now.place.0 self.now.place.1 }
+        requires count { count ≡ length self.now.bytes }
+        ensures { result.now ≡ self.now.bytes }
+    {
+        unsafe { slice::from_raw_parts(start.at, count) }
+    }
+
+    // The right to the first `count` bytes, and that to the rest with its start.
+    pub(crate) fn split_at(
+        self,
+        start: Start,
+        count: usize,
+    ) -> (Memory<'a, K>, Start, Memory<'a, K>)
+        requires start { start.at ≡ block_ptr self.place.0 self.place.1 }
+        requires within { count ≤ length self.bytes }
+        ensures place { result.0.place ≡ self.entry.place }
+        ensures start { result.1.at ≡ block_ptr result.2.place.0 result.2.place.1 }
+        ensures parts { self.entry.bytes ≡ result.0.bytes ++ result.2.bytes }
+        ensures count { length result.0.bytes ≡ count }
+        ensures apart { Apart result.0.place (length result.0.bytes)
+            result.2.place (length result.2.bytes) }
+    {
+        let Memory { mark: _ } = self;
+        let at = unsafe { start.at.add(count) };
+        (
+            Memory { mark: PhantomData },
+            Start { at },
+            Memory { mark: PhantomData },
+        )
+    }
+}
+
 impl<'a> Memory<'a, Writable> {
     ghost use Rattle.std.specs.Borrow.{sem};
     ghost use Rattle.spans.specs.Lending.{lends_all};
@@ -125,15 +160,6 @@ impl<'a> Memory<'a, Writable> {
         unsafe { *start.at.add(index) = byte };
     }
 
-    // All the bytes, to be read for the call.
-    pub(crate) fn as_slice(&self, start: Start, count: usize) -> &[u8]
-        requires start { start.at ≡ block_ptr self.now.place.0 self.now.place.1 }
-        requires count { count ≡ length self.now.bytes }
-        ensures { result.now ≡ self.now.bytes }
-    {
-        unsafe { slice::from_raw_parts(start.at, count) }
-    }
-
     // All the bytes, to be written for the call.
     pub(crate) fn as_mut_slice(&mut self, start: Start, count: usize) -> &mut [u8]
         requires start { start.at ≡ block_ptr self.old.place.0 self.old.place.1 }
@@ -142,30 +168,6 @@ impl<'a> Memory<'a, Writable> {
         ensures value { result.now ≡ self.old.bytes }
     {
         unsafe { slice::from_raw_parts_mut(start.at, count) }
-    }
-
-    // The right to the first `count` bytes, and that to the rest with its start.
-    pub(crate) fn split_at(
-        self,
-        start: Start,
-        count: usize,
-    ) -> (Memory<'a, Writable>, Start, Memory<'a, Writable>)
-        requires start { start.at ≡ block_ptr self.place.0 self.place.1 }
-        requires within { count ≤ length self.bytes }
-        ensures place { result.0.place ≡ self.entry.place }
-        ensures start { result.1.at ≡ block_ptr result.2.place.0 result.2.place.1 }
-        ensures parts { self.entry.bytes ≡ result.0.bytes ++ result.2.bytes }
-        ensures count { length result.0.bytes ≡ count }
-        ensures apart { Apart result.0.place (length result.0.bytes)
-            result.2.place (length result.2.bytes) }
-    {
-        let Memory { mark: _ } = self;
-        let at = unsafe { start.at.add(count) };
-        (
-            Memory { mark: PhantomData },
-            Start { at },
-            Memory { mark: PhantomData },
-        )
     }
 }
 
@@ -188,38 +190,5 @@ impl<'a> Memory<'a, ReadOnly> {
     {
         let Memory { mark: _ } = self;
         unsafe { slice::from_raw_parts(start.at, count) }
-    }
-
-    // All the bytes, for the call.
-    pub(crate) fn as_slice(&self, start: Start, count: usize) -> &[u8]
-        requires start { start.at ≡ block_ptr self.now.place.0 self.now.place.1 }
-        requires count { count ≡ length self.now.bytes }
-        ensures { result.now ≡ self.now.bytes }
-    {
-        unsafe { slice::from_raw_parts(start.at, count) }
-    }
-
-    // The right to the first `count` bytes, and that to the rest with its start.
-    pub(crate) fn split_at(
-        self,
-        start: Start,
-        count: usize,
-    ) -> (Memory<'a, ReadOnly>, Start, Memory<'a, ReadOnly>)
-        requires start { start.at ≡ block_ptr self.place.0 self.place.1 }
-        requires within { count ≤ length self.bytes }
-        ensures place { result.0.place ≡ self.entry.place }
-        ensures start { result.1.at ≡ block_ptr result.2.place.0 result.2.place.1 }
-        ensures parts { self.entry.bytes ≡ result.0.bytes ++ result.2.bytes }
-        ensures count { length result.0.bytes ≡ count }
-        ensures apart { Apart result.0.place (length result.0.bytes)
-            result.2.place (length result.2.bytes) }
-    {
-        let Memory { mark: _ } = self;
-        let at = unsafe { start.at.add(count) };
-        (
-            Memory { mark: PhantomData },
-            Start { at },
-            Memory { mark: PhantomData },
-        )
     }
 }
