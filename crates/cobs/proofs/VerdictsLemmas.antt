@@ -4,13 +4,16 @@ use Rattle.std.proofs.lemmas.Bool.{eq-eqb, ne_eqb, le-ltb, lt-ltb, cases_lt}
 use Rattle.std.proofs.lemmas.Bool.Decides.{eqb_tells}
 use Rattle.std.proofs.lemmas.Nat.{xor_of_8}
 use Rattle.std.specs.Prelude.{min, IfOk, IfErr, OnErr, MatchResult, ◌⊎◌}
-use Rattle.cobs.specs.Frames.{Frame, part, missing, spelled}
+use Rattle.cobs.specs.Frames.{Frame, NoZero, part, missing, spelled}
 use Rattle.cobs.specs.Feeding.{at_zero}
 use Rattle.cobs.specs.InPlace.{stretch, overwritten}
 use Rattle.cobs.specs.Pieces.{first_answer}
 use Rattle.cobs.specs.Reports.{report, frame_size}
 use Rattle.cobs.specs.Sentinel.{masked}
+use Rattle.cobs.specs.Streaming.{HasStreamed}
+use Rattle.cobs.specs.Taking.{DecodesWhole}
 use Rattle.cobs.specs.Whole.{unpadded, frame_in, decoded_from, decoded_into, reported, message_of_stretch, message_of_frame, RefusesWhole}
+use Rattle.cobs.specs.declared.dec.progress.Progress.{Progress}
 use Rattle.cobs.specs.declared.dec.report.DecodeError.{DecodeError}
 use Rattle.cobs.specs.declared.dec.report.DecodeError.TheVariants.{EmptyFrame, InvalidFrame, TargetBufTooSmall}
 use Rattle.cobs.specs.declared.dec.report.DecodeReport.{DecodeReport}
@@ -75,6 +78,43 @@ module _ (p old : List ℕ) where
         let is : ◌≡◌ {A = Result ℕ DecodeError} (Err x) (Ok (length (part p))) = a ∙ rw (eq-eqb (missing p) 0 (frame_ends p m f), le-ltb (length old) (length (part p)) l) refl in
         absurd (cc)
   ]
+
+  into_within : (r : Result ℕ DecodeError) → r ≡ decoded_into (length old) p → IfOk r (λ n. n ≤ length old)
+  into_within (Ok n) a = elim (eqb_tells (missing p) 0) [
+    | inl t ↦ elim (cases_lt (length old) (length (part p))) [
+      | inl l ↦
+          let is : ◌≡◌ {A = Result ℕ DecodeError} (Ok n) (Err TargetBufTooSmall) = a ∙ rw (eq-eqb (missing p) 0 t.1, lt-ltb (length old) (length (part p)) l) refl in
+          absurd (cc)
+      | inr l ↦
+          let is : ◌≡◌ {A = Result ℕ DecodeError} (Ok n) (Ok (length (part p))) = a ∙ rw (eq-eqb (missing p) 0 t.1, le-ltb (length old) (length (part p)) l) refl in
+          let e : n ≡ length (part p) = cc in
+          omega (arith, e, l)
+    ]
+    | inr t ↦
+        let is : ◌≡◌ {A = Result ℕ DecodeError} (Ok n) (Err (InvalidFrame (length (part p)))) = a ∙ rw (ne_eqb (missing p) 0 t.1) refl in
+        absurd (cc)
+  ]
+  into_within (Err x) a = tt
+
+  -- a frame that lies whole
+  pub decodes_whole : (r : Result ℕ DecodeError) (behind : Progress) (new : List ℕ) → Stretch p → r ≡ decoded_into (length old) p → new ≡ overwritten (part p) old → length new ≡ length old → HasStreamed behind [] → DecodesWhole old p r behind new
+  decodes_whole r behind new s a h room idle = record {
+    answer = a;
+    message = into_frame r new s a h;
+    no_frame = into_no_frame r a;
+    buffer = h;
+    within = subst (λ n. IfOk r (λ k. k ≤ n)) (sym room) (into_within r a);
+    room = room;
+    idle = idle;
+  }
+
+-- bytes without the sentinel, each XORed with it
+clear_bytes : (p : List ℕ) → NoZero p → ((k : ℕ) → get_or p k 0 < 256) → Stretch p
+clear_bytes [] z h = tt
+clear_bytes (b ∷ p) z h = ((z.0, h 0), clear_bytes p z.1 (λ k. h (suc k)))
+
+pub clear_masked : (sentinel : ℕ) (bytes : List ℕ) → NoZero (masked sentinel bytes) → sentinel < 256 → ((k : ℕ) → get_or bytes k 0 < 256) → Stretch (masked sentinel bytes)
+clear_masked s bytes z f h = clear_bytes (masked s bytes) z (masked_small s bytes f h)
 
 -- what a streaming decoder answers to the zero behind a frame that has room
 zero_whole : (room : ℕ) (frame : List ℕ) → 0 < length frame → missing frame ≡ 0 → length (part frame) ≤ room → at_zero room frame ≡ Ok (Some (length (part frame)))

@@ -1,12 +1,13 @@
 -- What the streaming decoders do with what they are given, each byte XORed with the sentinel: what each keeps, and its buffer,
 -- before and afterwards.
-use Rattle.std.specs.Prelude.{◌≡◌, ℕ, ◌-◌, ◌<◌, ◌≤◌, false, List, ◌++◌, length, take, Option, Result, IfOk, IfSome}
-use Rattle.cobs.specs.Frames.{NoZero, part, part_from, after}
+use Rattle.std.specs.Prelude.{◌≡◌, ◌≢◌, ℕ, ◌-◌, ◌<◌, ◌≤◌, false, List, [], ◌++◌, length, take, Option, Result, IfOk, OnErr, IfSome}
+use Rattle.cobs.specs.Frames.{Frame, NoZero, part, part_from, after}
 use Rattle.cobs.specs.Feeding.{answer_of, frame_after, placed}
-use Rattle.cobs.specs.InPlace.{written_over}
+use Rattle.cobs.specs.InPlace.{overwritten, written_over}
 use Rattle.cobs.specs.Pieces.{first_answer, frame_left, frame_met, buffer_left}
 use Rattle.cobs.specs.Reports.{parsed_size, frame_size}
 use Rattle.cobs.specs.Streaming.{HasStreamed, Decoded}
+use Rattle.cobs.specs.Whole.{decoded_into}
 use Rattle.cobs.specs.declared.dec.report.DecodeError.{DecodeError}
 use Rattle.cobs.specs.declared.dec.state.DecoderState.{DecoderState}
 use Rattle.cobs.specs.declared.dec.state.DecoderState.TheVariants.{Idle, Grab, GrabChain}
@@ -40,6 +41,18 @@ pub record TakesPiece (before : Progress) (old piece : List ℕ)
   pub within : IfOk result
       (λ o. IfSome o (λ r. (parsed_size r ≤ length piece) × (frame_size r ≤ length new)))
   pub room : length new ≡ length old
+
+-- A frame that lies whole, without the zero behind it, is decoded: the answer, also by frames; the buffer; and nothing was
+-- taken in of a frame afterwards.
+pub record DecodesWhole (old frame : List ℕ) (result : Result ℕ DecodeError)
+    (behind : Progress) (new : List ℕ) : Type 0 where
+  pub answer : result ≡ decoded_into (length old) frame
+  pub message : IfOk result (λ n. frame ≢ [] → Frame frame (take n new))
+  pub no_frame : OnErr result ((m : List ℕ) → Frame frame m → length old < length m)
+  pub buffer : new ≡ overwritten (part frame) old
+  pub within : IfOk result (λ n. n ≤ length new)
+  pub room : length new ≡ length old
+  pub idle : HasStreamed behind []
 
 -- The first n bytes of a piece are taken in at once (private contracts alone): none is zero, and all that they decide has
 -- room, where there are any.

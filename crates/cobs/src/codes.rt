@@ -3,12 +3,12 @@
 //! It goes by 64 bytes, and then by those that are left. They are copied by vectors, which tell whether there is a zero among
 //! them; the zeros are found by masks, and 64 zeros are filled at once. A byte is written XORed with the sentinel, as all of a
 //! frame is; the pieces are bytes of the message.
-ghost use Rattle.std.specs.Prelude.{◌≡◌, ◌≢◌, ℕ, ◌<◌, ◌≤◌, length, slice_index, true};
+ghost use Rattle.std.specs.Prelude.{◌≡◌, ◌≢◌, ℕ, ◌+◌, ◌<◌, ◌≤◌, List, length, take, drop, slice_index, true};
 ghost use Rattle.std.specs.Int.{bit_at};
 ghost use Rattle.cobs.specs.Codes.{InBlock, Coded, Marks, Stepped};
 ghost use Rattle.cobs.specs.Sentinel.{masked};
 
-use crate::moves::{copy_64, copy_block, copy_few, is_clear, zeros_of};
+use crate::moves::{copy_64, copy_block, copy_few, is_clear, zeros_of, zeros_of_few};
 use std::simd::prelude::*;
 
 // Writes a code at each zero of bytes that stand in the open block, from a place on, and answers where the last code is to be.
@@ -54,21 +54,23 @@ pub(crate) fn lowest(bits: u64) -> (usize, u64)
     (n, bits & !(1 << n))
 }
 
-// The same as `put_codes_near`, of at most 64 bytes, from the marks of their zeros.
+// The same as `put_codes_near`, of at most 64 bytes, from the marks of their zeros. What is to be coded is what stands there.
 #[inline(always)]
 fn put_codes_marked(
     dest: &mut [u8],
     code_at: usize,
     from: usize,
-    bytes: &[u8],
+    n: usize,
     marks: u64,
     sentinel: u8,
 ) -> usize
-    requires block { InBlock dest.old code_at from bytes.now }
-    requires few { length bytes.now ≤ 64 }
-    requires marks { Marks marks 0 bytes.now }
-    ensures { Coded (masked sentinel dest.old) code_at from bytes.now
-        (masked sentinel dest.new) result }
+    requires begins { code_at < from }
+    requires within { from + n ≤ length dest.old }
+    requires short { from + n ≤ code_at + 255 }
+    requires few { n ≤ 64 }
+    requires marks { Marks marks 0 (masked sentinel (take n (drop from dest.old))) }
+    ensures { Coded (masked sentinel dest.old) code_at from
+        (masked sentinel (take n (drop from dest.old))) (masked sentinel dest.new) result }
 {
     let mut code = code_at;
     let mut zeros = marks;
@@ -114,6 +116,7 @@ fn put_codes_of_64(
 ) -> usize
     requires block { InBlock dest.old code_at from bytes.now }
     requires long { length bytes.now ≡ 64 }
+    requires stands { masked sentinel (take (length bytes.now) (drop from dest.old)) ≡ bytes.now }
     ensures { Coded (masked sentinel dest.old) code_at from bytes.now
         (masked sentinel dest.new) result }
 {
@@ -121,7 +124,7 @@ fn put_codes_of_64(
     if marks == u64::MAX {
         put_codes_of_zeros(dest, code_at, from, bytes, sentinel)
     } else {
-        put_codes_marked(dest, code_at, from, bytes, marks, sentinel)
+        put_codes_marked(dest, code_at, from, bytes.len(), marks, sentinel)
     }
 }
 
@@ -139,13 +142,14 @@ fn put_codes_of_marks(
     requires some { 0 < length bytes.now }
     requires few { length bytes.now ≤ 64 }
     requires marks { Marks marks 0 bytes.now }
+    requires stands { masked sentinel (take (length bytes.now) (drop from dest.old)) ≡ bytes.now }
     ensures { Coded (masked sentinel dest.old) code_at from bytes.now
         (masked sentinel dest.new) result }
 {
     if are_all_marked(marks, bytes.len()) {
         put_codes_of_zeros(dest, code_at, from, bytes, sentinel)
     } else {
-        put_codes_marked(dest, code_at, from, bytes, marks, sentinel)
+        put_codes_marked(dest, code_at, from, bytes.len(), marks, sentinel)
     }
 }
 
@@ -158,6 +162,32 @@ fn are_all_marked(marks: u64, n: usize) -> bool
         return true;
     }
     n <= marks.trailing_ones() as usize
+}
+
+// The same as `put_codes_near`, of n bytes that stand in the buffer XORed with the sentinel.
+#[inline(always)]
+pub(crate) fn put_codes_standing(
+    dest: &mut [u8],
+    code_at: usize,
+    from: usize,
+    n: usize,
+    sentinel: u8,
+) -> usize
+    requires begins { code_at < from }
+    requires some { 4 ≤ n }
+    requires few { n ≤ 64 }
+    requires within { from + n ≤ length dest.old }
+    requires short { from + n ≤ code_at + 255 }
+    ensures { Coded (masked sentinel dest.old) code_at from
+        (masked sentinel (take n (drop from dest.old))) (masked sentinel dest.new) result }
+{
+    let bytes = &dest[from..from + n];
+    let marks = if n < 8 {
+        zeros_of_few(bytes, sentinel)
+    } else {
+        zeros_of(bytes, sentinel)
+    };
+    put_codes_marked(dest, code_at, from, n, marks, sentinel)
 }
 
 // Copies 64 bytes into the open block and writes a code at each zero of them. Answers where the last code is to be.

@@ -212,6 +212,16 @@ pub(crate) fn zeros_of(bytes: &[u8], sentinel: u8) -> u64
     }
 }
 
+// The same of 4 to 8 bytes.
+#[inline(always)]
+pub(crate) fn zeros_of_few(bytes: &[u8], sentinel: u8) -> u64
+    requires some { 4 ≤ length bytes.now }
+    requires few { length bytes.now ≤ 8 }
+    ensures { Marks result 0 (masked sentinel bytes.now) }
+{
+    zeros_of_ends::<4>(bytes, sentinel)
+}
+
 // Moves n bytes towards the front, from a place on to another one: as many as one to two vectors have.
 #[inline(always)]
 fn move_ends<const W: usize>(buffer: &mut [u8], from: usize, n: usize, place: usize, sentinel: u8)

@@ -2,7 +2,7 @@
 use crate::checks::{all_true, are_equal, check, check_all, decodes, ends, fails, goes_on};
 use cobs::{
     CobsDecoder, CobsDecoderHeapless, CobsDecoderOwned, CobsEncoder, DecodeError, FrameFront,
-    decode_in_place_report_with_sentinel,
+    decode_in_place_report_with_sentinel, encode_in_place,
 };
 
 // 10, 11, 0, 12 as a frame for the sentinel 10
@@ -27,9 +27,12 @@ fn encodes_in_pieces(rt: HostRuntime) {
 fn front_of_a_frame(rt: HostRuntime) {
     let mut room = [0u8; 5];
     let mut front = FrameFront::begin_with_sentinel(&mut room, 255);
+    let mut standing = [0u8, 1];
     check_all(
         &rt,
         [
+            encode_in_place(&mut standing, 1, 255) == 2,
+            are_equal(&standing, &[0xFD, 0xFE]),
             front.push(&mut room, &[1]).is_ok(),
             front.length() == 2,
             are_equal(&room[..2], &[0xFD, 0xFE]),

@@ -38,17 +38,20 @@ fn takes_message(encoder: &mut CobsEncoder<'_>) -> bool {
     ])
 }
 
-// No byte behind a frame is changed, by a whole message or by one in pieces.
+// No byte behind a frame is changed, by a whole message, where it stands, or by one in pieces.
 #[test]
 fn what_is_behind_a_frame_stays(rt: HostRuntime) {
     let mut dest = [9u8; 8];
     let mut room = [9u8; 8];
+    let mut standing = [9u8, 10, 11, 0, 12, 9, 9, 9];
     let mut encoder = CobsEncoder::new(&mut room);
     check_all(
         &rt,
         [
             try_encode(&MESSAGE, &mut dest).is_ok(),
             are_equal(&dest, &[3, 10, 11, 2, 12, 9, 9, 9]),
+            encode_in_place(&mut standing, 4, 0) == 5,
+            are_equal(&standing, &[3, 10, 11, 2, 12, 9, 9, 9]),
             takes_message(&mut encoder),
             encoder.finalize() == 5,
             are_equal(&room, &[3, 10, 11, 2, 12, 9, 9, 9]),

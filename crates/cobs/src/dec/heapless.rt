@@ -1,6 +1,7 @@
 //! The streaming decoder over an array of its own.
 ghost use Rattle.std.specs.Prelude.{bit_xor, ◌≡◌, ◌+◌, ◌-◌, ◌≤◌, [], ◌++◌, length, replicate};
 ghost use Rattle.std.specs.Borrow.{sem};
+ghost use Rattle.cobs.specs.Frames.{NoZero};
 ghost use Rattle.cobs.specs.InPlace.{written_over};
 ghost use Rattle.cobs.specs.Sentinel.{masked};
 
@@ -19,7 +20,7 @@ pub struct CobsDecoderHeapless<const N: usize> {
 
 impl<const N: usize> CobsDecoderHeapless<N> {
     ghost use Rattle.cobs.specs.Arrays.{ArrayHas, array_progress, array_buffer, array_sentinel, LendsArrayBuffer};
-    ghost use Rattle.cobs.specs.Taking.{FeedsByte, TakesPiece};
+    ghost use Rattle.cobs.specs.Taking.{FeedsByte, TakesPiece, DecodesWhole};
 
     /// An idle decoder of frames that end in zeros, over a buffer of zeros.
     pub fn new() -> CobsDecoderHeapless<N>
@@ -97,6 +98,21 @@ impl<const N: usize> CobsDecoderHeapless<N> {
             .push(self.array.as_mut_slice(), data, self.sentinel)
     }
 
+    /// Decodes a frame that lies whole, without its sentinel, as `decode_with_sentinel` does: the message of n bytes is then
+    /// `dest()[..n]`. What was taken in of another frame is forgotten, and the decoder is idle.
+    ///
+    /// The caller owes that no byte of it is the sentinel.
+    pub fn decode_whole(&mut self, frame: &[u8]) -> Result<usize, DecodeError>
+        requires { NoZero (masked (array_sentinel self.old) frame.now) }
+        ensures decodes { DecodesWhole (array_buffer self.old)
+            (masked (array_sentinel self.old) frame.now) result
+            (array_progress self.new) (array_buffer self.new) }
+        ensures sentinel { array_sentinel self.new ≡ array_sentinel self.old }
+    {
+        self.progress
+            .decode(self.array.as_mut_slice(), frame, self.sentinel)
+    }
+
     /// Makes the decoder idle. What was taken in of a frame is forgotten; the sentinel stays.
     pub fn reset(&mut self)
         ensures idle { ArrayHas self.new [] }
@@ -104,6 +120,13 @@ impl<const N: usize> CobsDecoderHeapless<N> {
         ensures sentinel { array_sentinel self.new ≡ array_sentinel self.old }
     {
         self.progress = Progress::new();
+    }
+
+    /// The byte that ends its frames.
+    pub fn sentinel(&self) -> u8
+        ensures { result ≡ array_sentinel self.now }
+    {
+        self.sentinel
     }
 
     /// The buffer.

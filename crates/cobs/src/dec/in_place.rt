@@ -55,8 +55,16 @@ pub fn decode_in_place_report_with_sentinel(
         drop n buf.new ≡ drop n buf.old }
 {
     let end = end_in(buf, sentinel);
+    if end == 0 {
+        return Ok(DecodeReport {
+            parsed: 0,
+            decoded: 0,
+        });
+    }
     let mut progress = Progress::new();
-    let mut read: usize = 0;
+    let code = sentinel ^ buf[0];
+    let _ = progress.take_in(buf, code);
+    let mut read: usize = 1;
     while read < end {
         let taken = progress.take_within(buf, read, end, sentinel);
         if 0 < taken {

@@ -1,6 +1,7 @@
 //! The streaming decoder over a vector of its own.
 ghost use Rattle.std.specs.Prelude.{bit_xor, ◌≡◌, ℕ, ◌+◌, ◌-◌, ◌≤◌, List, [], ◌++◌, length, take, replicate, ◌↔◌, IsTrue, IsOk, IfOk, OnOk, OnErr};
 ghost use Rattle.std.specs.Borrow.{sem};
+ghost use Rattle.cobs.specs.Frames.{NoZero};
 ghost use Rattle.cobs.specs.InPlace.{written_over};
 ghost use Rattle.cobs.specs.Sentinel.{masked};
 
@@ -19,7 +20,7 @@ pub struct CobsDecoderOwned {
 
 impl CobsDecoderOwned {
     ghost use Rattle.cobs.specs.Owners.{OwnedHas, owned_progress, owned_buffer, owned_sentinel, LendsOwnedBuffer};
-    ghost use Rattle.cobs.specs.Taking.{FeedsByte, TakesPiece};
+    ghost use Rattle.cobs.specs.Taking.{FeedsByte, TakesPiece, DecodesWhole};
 
     /// An idle decoder of frames that end in zeros, over a buffer of `size` zeros.
     pub fn new(alloc: Global, size: usize) -> Result<CobsDecoderOwned, AllocError>
@@ -76,6 +77,21 @@ impl CobsDecoderOwned {
             .push(self.buffer.as_mut_slice(), data, self.sentinel)
     }
 
+    /// Decodes a frame that lies whole, without its sentinel, as `decode_with_sentinel` does: the message of n bytes is then
+    /// `dest()[..n]`. What was taken in of another frame is forgotten, and the decoder is idle.
+    ///
+    /// The caller owes that no byte of it is the sentinel.
+    pub fn decode_whole(&mut self, frame: &[u8]) -> Result<usize, DecodeError>
+        requires { NoZero (masked (owned_sentinel self.old) frame.now) }
+        ensures decodes { DecodesWhole (owned_buffer self.old)
+            (masked (owned_sentinel self.old) frame.now) result
+            (owned_progress self.new) (owned_buffer self.new) }
+        ensures sentinel { owned_sentinel self.new ≡ owned_sentinel self.old }
+    {
+        self.progress
+            .decode(self.buffer.as_mut_slice(), frame, self.sentinel)
+    }
+
     /// Makes the decoder idle. What was taken in of a frame is forgotten; the sentinel stays.
     pub fn reset(&mut self)
         ensures idle { OwnedHas self.new [] }
@@ -108,6 +124,13 @@ impl CobsDecoderOwned {
         ensures granted { size ≤ length (owned_buffer self.old) → IsOk result }
     {
         self.buffer.resize(size, 0)
+    }
+
+    /// The byte that ends its frames.
+    pub fn sentinel(&self) -> u8
+        ensures { result ≡ owned_sentinel self.now }
+    {
+        self.sentinel
     }
 
     /// The buffer.

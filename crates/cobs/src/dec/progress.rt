@@ -1,11 +1,13 @@
 //! A frame that comes in pieces, decoded into a buffer: what the streaming decoders keep beside it.
 ghost use Rattle.std.specs.Prelude.{◌≡◌, ◌≢◌, ◌^◌, ℕ, ◌+◌, ◌-◌, ◌<◌, ◌≤◌, List, [], ◌∷◌, ◌++◌, length, take, drop, slice_index, ◌↔◌, IsTrue, IfOk, IfSome, IsNone};
 ghost use Rattle.cobs.specs.Feeding.{placed};
+ghost use Rattle.cobs.specs.Frames.{NoZero};
 ghost use Rattle.cobs.specs.Sentinel.{masked};
 ghost use Rattle.cobs.specs.Streaming.{HasStreamed};
 
 use super::report::{DecodeError, DecodeReport};
 use super::state::{DecoderState, told_by};
+use super::whole::decode_clear;
 use super::window::{
     FEW, WINDOW, before_by_call, copy, copy_run, decode_at_once, decode_window, put_zeros,
     same_by_64,
@@ -21,7 +23,7 @@ pub(crate) struct Progress {
 
 impl Progress {
     ghost use Rattle.cobs.specs.Feeding.{at_zero, at_byte};
-    ghost use Rattle.cobs.specs.Taking.{FeedsByte, TakesPiece, TakesFront};
+    ghost use Rattle.cobs.specs.Taking.{FeedsByte, TakesPiece, TakesFront, DecodesWhole};
 
     pub(crate) fn new() -> Progress
         ensures { HasStreamed result [] }
@@ -381,6 +383,21 @@ impl Progress {
             (masked sentinel piece.now) result self.new buffer.new }
     {
         self.push_any(buffer, piece, sentinel)
+    }
+
+    // Decodes a frame that lies whole, each byte of it XORed with the sentinel. What was taken in of another is forgotten.
+    #[inline(always)]
+    pub(crate) fn decode(
+        &mut self,
+        buffer: &mut [u8],
+        frame: &[u8],
+        sentinel: u8,
+    ) -> Result<usize, DecodeError>
+        requires { NoZero (masked sentinel frame.now) }
+        ensures { DecodesWhole buffer.old (masked sentinel frame.now) result self.new buffer.new }
+    {
+        self.reset();
+        decode_clear(frame, buffer, sentinel)
     }
 
     // Takes in a piece up to the first answer. One byte takes no call.

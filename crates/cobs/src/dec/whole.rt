@@ -1,6 +1,6 @@
 //! A source that is there as a whole, decoded into a slice.
 ghost use Rattle.std.specs.Prelude.{◌≡◌, ◌≢◌, ℕ, ◌+◌, ◌<◌, ◌≤◌, List, [], length, take, IsTrue, IfOk, OnErr};
-ghost use Rattle.cobs.specs.Frames.{Frame, part};
+ghost use Rattle.cobs.specs.Frames.{Frame, NoZero, part};
 ghost use Rattle.cobs.specs.Reports.{frame_size};
 ghost use Rattle.cobs.specs.InPlace.{stretch, overwritten};
 ghost use Rattle.cobs.specs.Sentinel.{masked};
@@ -113,6 +113,24 @@ pub fn decode(source: &[u8], dest: &mut [u8]) -> Result<DecodeReport, DecodeErro
     decode_first(source, dest)
 }
 
+// Decodes bytes that hold no sentinel, each XORed with it.
+#[inline(always)]
+pub(crate) fn decode_clear(
+    frame: &[u8],
+    dest: &mut [u8],
+    sentinel: u8,
+) -> Result<usize, DecodeError>
+    requires { NoZero (masked sentinel frame.now) }
+    ensures answer { result ≡ decoded_into (length dest.old) (masked sentinel frame.now) }
+    ensures dest { dest.new ≡ overwritten (part (masked sentinel frame.now)) dest.old }
+{
+    if has_room(frame, dest.len()) {
+        decode_whole(frame, dest, sentinel)
+    } else {
+        decode_counted(frame, dest, sentinel)
+    }
+}
+
 // As `decode_with_sentinel`.
 #[inline(always)]
 fn decode_stretch(source: &[u8], dest: &mut [u8], sentinel: u8) -> Result<usize, DecodeError>
@@ -121,11 +139,7 @@ fn decode_stretch(source: &[u8], dest: &mut [u8], sentinel: u8) -> Result<usize,
     ensures dest { dest.new ≡ overwritten (part (stretch (masked sentinel source.now))) dest.old }
 {
     let frame = before(source, sentinel);
-    if has_room(frame, dest.len()) {
-        decode_whole(frame, dest, sentinel)
-    } else {
-        decode_counted(frame, dest, sentinel)
-    }
+    decode_clear(frame, dest, sentinel)
 }
 
 /// Decodes the bytes before the first sentinel, or all where there is none, each XORed with the sentinel.

@@ -1,7 +1,11 @@
 use Rattle.std.proofs.Common.{arith}
 use Rattle.cobs.proofs.MaskingLemmas.{masked_zero}
+use Rattle.cobs.proofs.StandingLemmas.{over_stands}
 use Rattle.cobs.proofs.SteppingLemmas.{stepped, stepped_clear}
 use Rattle.cobs.proofs.codes.put_64.Goals as goal
+
+pub put_codes_of_64-requires-clause-stands : goal.put_codes_of_64-requires-clause-stands
+put_codes_of_64-requires-clause-stands c = over_stands c.args.sentinel c.args.from c.args.dest.now c.copy_64.new.buffer c.args.bytes.now c.requires.block.within c.copy_64.ensures
 
 pub returns-then-is_clear : goal.returns-then-is_clear
 returns-then-is_clear c =

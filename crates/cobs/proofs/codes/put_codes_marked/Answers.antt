@@ -1,12 +1,16 @@
-use Rattle.std.proofs.Common.{arith}
+use Rattle.std.proofs.Common.{◌≡◌, length, take, drop, ◌∙◌, arith, length-drop}
+use Rattle.std.proofs.lemmas.List.{length-take-le}
+use Rattle.cobs.specs.Sentinel.{masked}
 use Rattle.cobs.proofs.LanesLemmas.{going_on, going_end}
-use Rattle.cobs.proofs.MaskingLemmas.{masked_put}
+use Rattle.cobs.proofs.MaskingLemmas.{masked_put, masked_length}
 use Rattle.cobs.proofs.codes.put_codes_marked.Goals as goal
 
 pub loop-zeros-preserved : goal.loop-zeros-preserved
 loop-zeros-preserved c =
     let f = c.lowest-n.ensures in
-    rw (masked_put c.args.sentinel c.loop-zeros.dest c.loop-zeros.code _) (going_on _ _ _ _ _ _ _ _ _ c.requires.few f.set f.below f.others f.no_more c.loop-zeros.invariant)
+    let there = drop c.args.from c.args.dest.now in
+    let long : length (masked c.args.sentinel (take c.args.n there)) ≡ c.args.n = masked_length c.args.sentinel (take c.args.n there) ∙ length-take-le c.args.n there (omega (arith, length-drop c.args.from c.args.dest.now, c.requires.within)) in
+    rw (masked_put c.args.sentinel c.loop-zeros.dest c.loop-zeros.code _) (going_on _ _ _ _ _ _ _ _ _ (omega (arith, long, c.requires.few)) f.set f.below f.others f.no_more c.loop-zeros.invariant)
 
 pub returns : goal.returns
 returns c =

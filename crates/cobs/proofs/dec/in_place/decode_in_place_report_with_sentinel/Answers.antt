@@ -27,8 +27,20 @@ here c z =
     let none : c.loop-read.read + c.take_within-taken.result ≡ c.loop-read.read = omega (arith, z) in
     subst (λ j. Reading c.args.sentinel c.args.buf.now c.take_within-taken.new.buffer j c.take_within-taken.new.self) none (taken c)
 
+pub take_in-requires : goal.take_in-requires
+take_in-requires c = masked_positive c.args.sentinel (get_or c.args.buf.now 0 0) (c.end_in-end.ensures.none 0 (omega (arith, c.if-end-eq0.false)))
+
 pub loop-read-init : goal.loop-read-init
-loop-read-init c = record { reading = reading_new c.args.sentinel c.args.buf.now c.new-progress.result c.new-progress.ensures (omega arith); within = omega arith; small = c.end_in-end.ensures.bytes }
+loop-read-init c =
+    let s = c.args.sentinel in
+    let new = reading_new s c.args.buf.now c.new-progress.result c.new-progress.ensures (omega arith) in
+    let some = masked_positive s (get_or c.args.buf.now 0 0) (c.end_in-end.ensures.none 0 (omega (arith, c.if-end-eq0.false))) in
+    let fits = xor_of_8 s (get_or c.args.buf.now 0 0) c.ranges.sentinel.fits (c.end_in-end.ensures.bytes 0) in
+    record {
+      reading = reading_on s c.args.buf.now c.args.buf.now 0 c.new-progress.result new _ _ (omega (arith, c.if-end-eq0.false, c.end_in-end.ensures.within)) some fits c.take_in.ensures.stands c.take_in.ensures.buffer;
+      within = omega (arith, c.if-end-eq0.false);
+      small = c.end_in-end.ensures.bytes;
+    }
 
 pub take_within-taken-requires-clause-behind : goal.take_within-taken-requires-clause-behind
 take_within-taken-requires-clause-behind c = omega (arith, shorter _ _ _ c.loop-read.invariant.reading.reads)
@@ -39,9 +51,9 @@ take_within-taken-requires-clause-clear c = unread_clear c.args.sentinel c.args.
 pub loop-read-preserved-then-taken-gt0 : goal.loop-read-preserved-then-taken-gt0
 loop-read-preserved-then-taken-gt0 c = record { reading = taken (goal.at.loop-read-preserved-then-taken-gt0 c).After-take_within-taken; within = omega (arith, c.take_within-taken.ensures.within, c.loop-read.invariant.within); small = c.loop-read.invariant.small }
 
-pub take_in-requires : goal.take_in-requires
-take_in-requires c =
-    let e = (goal.at.take_in-requires c).After-take_within-taken in
+pub take_in-requires-in-loop-read : goal.take_in-requires-in-loop-read
+take_in-requires-in-loop-read c =
+    let e = (goal.at.take_in-requires-in-loop-read c).After-take_within-taken in
     let r = here e (omega (arith, c.if-taken-gt0.false)) in
     let same = unread_byte c.args.sentinel c.args.buf.now c.take_within-taken.new.buffer c.loop-read.read c.take_within-taken.new.self r c.loop-read.read (omega arith) (omega (arith, c.end_in-end.ensures.within, c.loop-read-test.true)) in
     rw same (masked_positive c.args.sentinel (get_or c.args.buf.now c.loop-read.read 0) (c.end_in-end.ensures.none c.loop-read.read c.loop-read-test.true))
@@ -58,7 +70,7 @@ loop-read-preserved c =
     let some : 0 < bit_xor s (get_or buffer read 0) = rw same at (masked_positive s (get_or c.args.buf.now read 0) (c.end_in-end.ensures.none read c.loop-read-test.true)) in
     let few : bit_xor s (get_or buffer read 0) < 256 = rw same at (fits e read) in
     record {
-      reading = reading_on s c.args.buf.now buffer read c.take_within-taken.new.self r _ _ (omega (arith, r.long, inside)) some few c.take_in.ensures.stands c.take_in.ensures.buffer;
+      reading = reading_on s c.args.buf.now buffer read c.take_within-taken.new.self r _ _ (omega (arith, r.long, inside)) some few c.take_in-in-loop-read.ensures.stands c.take_in-in-loop-read.ensures.buffer;
       within = omega (arith, c.loop-read-test.true);
       small = c.loop-read.invariant.small;
     }

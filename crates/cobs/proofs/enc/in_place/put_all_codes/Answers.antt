@@ -1,0 +1,23 @@
+use Rattle.std.proofs.Common.{◌≡◌, length, take, drop, arith, length-drop}
+use Rattle.std.proofs.lemmas.List.{length-take-le}
+use Rattle.cobs.specs.Sentinel.{masked}
+use Rattle.cobs.proofs.MaskingLemmas.{masked_length}
+use Rattle.cobs.proofs.StandingLemmas.{standing_new, standing_on}
+use Rattle.cobs.proofs.enc.in_place.put_all_codes.Goals as goal
+
+pub loop-done-init : goal.loop-done-init
+loop-done-init c = record {
+  within = omega arith;
+  coding = standing_new (masked c.args.sentinel c.args.buffer.now) c.args.n c.requires.few (omega (arith, masked_length c.args.sentinel c.args.buffer.now, c.requires.room));
+}
+
+pub loop-done-preserved : goal.loop-done-preserved
+loop-done-preserved c =
+    let whole = drop 1 (masked c.args.sentinel c.args.buffer.now) in
+    let m = take c.args.n whole in
+    let long : length m ≡ c.args.n = length-take-le c.args.n whole (omega (arith, length-drop 1 (masked c.args.sentinel c.args.buffer.now), masked_length c.args.sentinel c.args.buffer.now, c.requires.room)) in
+    let step = c.put_front_codes-next.ensures in
+    record {
+      within = omega (arith, step.within, c.loop-done-test.true);
+      coding = standing_on c.args.sentinel c.loop-done.buffer _ m c.loop-done.code_at c.loop-done.done c.put_front_codes-next.result.1 _ (omega (arith, long, step.within, c.loop-done-test.true)) c.loop-done.invariant.coding step.coded;
+    }

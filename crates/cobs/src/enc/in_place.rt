@@ -1,0 +1,103 @@
+//! A message whose frame is made where it stands.
+ghost use Rattle.std.specs.Prelude.{◌≡◌, ◌+◌, ◌<◌, ◌≤◌, [], length, take, drop};
+ghost use Rattle.cobs.specs.Frames.{shortest_frame};
+ghost use Rattle.cobs.specs.Codes.{Coding, Coded};
+ghost use Rattle.cobs.specs.Sentinel.{masked, frame_for};
+
+use crate::codes::put_codes_standing;
+use crate::masks::mask;
+
+/// Makes the frame of a message of n bytes, 254 at most, where it stands: in the buffer behind its first byte, which may be any.
+/// Answers the frame's length, n + 1. What the buffer holds behind the frame isn't stated.
+///
+/// ```
+/// let mut buffer = [0, 10, 11, 0, 12];
+/// assert_eq!(encode_in_place(&mut buffer, 4, 0), 5); // buffer is 3, 10, 11, 2, 12
+/// ```
+pub fn encode_in_place(buffer: &mut [u8], n: usize, sentinel: u8) -> usize
+    requires few { n ≤ 254 }
+    requires room { n < length buffer.old }
+    ensures plus_one { result ≡ n + 1 }
+    ensures length { result ≡ length (shortest_frame (take n (drop 1 buffer.old))) }
+    ensures frame { take result buffer.new ≡ frame_for sentinel (take n (drop 1 buffer.old)) }
+{
+    mask_message(buffer, n, sentinel);
+    let code_at = put_all_codes(buffer, n, sentinel);
+    let end = n + 1;
+    buffer[code_at] = sentinel ^ (end - code_at) as u8;
+    end
+}
+
+// XORs the message with the sentinel.
+#[inline(always)]
+fn mask_message(buffer: &mut [u8], n: usize, sentinel: u8)
+    requires { n < length buffer.old }
+    ensures { take n (drop 1 (masked sentinel buffer.new)) ≡ take n (drop 1 buffer.old) }
+{
+    if sentinel != 0 {
+        mask(&mut buffer[1..n + 1], sentinel);
+    }
+}
+
+// Writes a code at each zero of the message, and answers where the last code is to be.
+#[inline(always)]
+fn put_all_codes(buffer: &mut [u8], n: usize, sentinel: u8) -> usize
+    requires few { n ≤ 254 }
+    requires room { n < length buffer.old }
+    ensures { Coding (masked sentinel buffer.new) result (n + 1)
+        (take n (drop 1 (masked sentinel buffer.old))) [] }
+{
+    let mut code_at: usize = 0;
+    let mut done: usize = 0;
+    while done < n {
+        let (next, count) = put_front_codes(buffer, code_at, done + 1, n - done, sentinel);
+        code_at = next;
+        done += count;
+    }
+    code_at
+}
+
+// Writes a code at each zero of a front of the bytes that are left, and answers where the last code is to be, and how many bytes
+// that front has.
+#[inline(always)]
+fn put_front_codes(
+    buffer: &mut [u8],
+    code_at: usize,
+    from: usize,
+    left: usize,
+    sentinel: u8,
+) -> (usize, usize)
+    requires some { 0 < left }
+    requires begins { code_at < from }
+    requires within { from + left ≤ length buffer.old }
+    requires short { from + left ≤ code_at + 255 }
+    ensures some { 0 < result.1 }
+    ensures within { result.1 ≤ left }
+    ensures coded { Coded (masked sentinel buffer.old) code_at from
+        (masked sentinel (take result.1 (drop from buffer.old)))
+        (masked sentinel buffer.new) result.0 }
+{
+    if left < 4 {
+        (put_code(buffer, code_at, from, sentinel), 1)
+    } else {
+        let count = left.min(64);
+        let next = put_codes_standing(buffer, code_at, from, count, sentinel);
+        (next, count)
+    }
+}
+
+// The same of one byte.
+#[inline(always)]
+fn put_code(buffer: &mut [u8], code_at: usize, at: usize, sentinel: u8) -> usize
+    requires begins { code_at < at }
+    requires within { at < length buffer.old }
+    requires short { at < code_at + 255 }
+    ensures { Coded (masked sentinel buffer.old) code_at at
+        (masked sentinel (take 1 (drop at buffer.old))) (masked sentinel buffer.new) result }
+{
+    if buffer[at] != sentinel {
+        return code_at;
+    }
+    buffer[code_at] = sentinel ^ (at - code_at) as u8;
+    at
+}
