@@ -1,16 +1,16 @@
--- The frames of a text's lines, written some at a time.
-use Rattle.std.proofs.Common.{◌≡◌, ℕ, ◌<◌, Bool, true, false, List, [], ◌∷◌, ◌++◌, length, refl, sym, ap, ◌∙◌, arith, append_assoc, Option}
-use Rattle.std.proofs.lemmas.List.{append-nil, length-append}
-use Rattle.hex.specs.Hex.{encode_lower, encode_with}
-use Rattle.line_io.specs.Transfers.{WentOut, BrokeOff}
-use Rattle.line_io.specs.Calls.{WentOut-none}
-use Rattle.link.specs.Run.{Send, session_line}
+-- The frames of a text's lines, put some at a time.
+use Rattle.std.proofs.Common.{◌≡◌, ℕ, Bool, true, false, List, [], ◌∷◌, ◌++◌, length, refl, sym, ap, ◌∙◌, append_assoc, Option}
+use Rattle.std.proofs.lemmas.List.{append-nil}
+use Rattle.hex.specs.Hex.{encode_with}
+use Rattle.line_io.specs.Transfers.{BrokeOff}
+use Rattle.link.specs.Run.{Send, written, session_line}
 use Rattle.link.specs.Fates.{clean_after_all}
+use Rattle.framed_lib.specs.Output.{Put}
 use Rattle.framed_lib.specs.Program.{framed_text, shown, shown_end}
-use Rattle.framed_lib.specs.Sending.{lines_in, AreSendsOf, IsSendable, Sent}
+use Rattle.framed_lib.specs.Sending.{lines_in, AreSendsOf, IsSendOfLine, Sent}
 use Rattle.framed_lib.proofs.DigitsLemmas.{digits-append}
-use Rattle.framed_lib.proofs.OutputLemmas.{went-done, went-breaks}
-use Rattle.framed_lib.proofs.SendingLemmas.{Sent-split, session-join, next-some, none-sent}
+use Rattle.framed_lib.proofs.OutputLemmas.{put-none, put-done, put-breaks}
+use Rattle.framed_lib.proofs.SendingLemmas.{Sent-more, Sent-split, session-append, session-more, none-sent}
 
 shown-append : (hex : Bool) (a b : List ℕ) → shown hex (a ++ b) ≡ shown hex a ++ shown hex b
 shown-append false a b = refl
@@ -20,74 +20,51 @@ framed-is : (hex : Bool) (a : List ℕ) → framed_text hex a ≡ shown hex a ++
 framed-is false a = sym (append-nil a)
 framed-is true a = refl
 
--- the frames of the first lines, some of which went out while others are held, and those of the other lines
-framed-parts : (hex : Bool) (sentinel : ℕ) (front held : List ℕ) (done later : List Send) → session_line sentinel false done ≡ front ++ held
-    → framed_text hex (session_line sentinel false (done ++ later))
-    ≡ shown hex front ++ (shown hex held ++ (shown hex (session_line sentinel (clean_after_all false done) later) ++ shown_end hex))
-framed-parts hex sentinel front held done later e =
-    let more = session_line sentinel (clean_after_all false done) later in
-    framed-is hex (session_line sentinel false (done ++ later))
-    ∙ (ap (λ x. shown hex x ++ shown_end hex) (session-join sentinel done later ∙ (ap (λ x. x ++ more) e ∙ append_assoc front held more))
-    ∙ (ap (λ x. x ++ shown_end hex) (shown-append hex front (held ++ more) ∙ ap (λ x. shown hex front ++ x) (shown-append hex held more))
-    ∙ (append_assoc (shown hex front) (shown hex held ++ shown hex more) (shown_end hex)
-    ∙ ap (λ x. shown hex front ++ x) (append_assoc (shown hex held) (shown hex more) (shown_end hex)))))
-
-pub none-shown : (w : Option (List ℕ)) (f : ℕ) (hex : Bool) → WentOut w w f f (shown hex [])
+pub none-put : (w : Option (List ℕ)) (f : ℕ) (hex : Bool) → Put w w f f [] [] (shown hex [])
 unfolding encode_with
-none-shown w f false = WentOut-none w f
-none-shown w f true = WentOut-none w f
+none-put w f false = put-none w f []
+none-put w f true = put-none w f []
 
--- what was held went out
-pub held-went : {u v w : Option (List ℕ)} {f g h : ℕ} (hex : Bool) (all front held : List ℕ) → all ≡ front ++ held
-    → WentOut u v f g (shown hex front) → WentOut v w g h (shown hex held) → WentOut u w f h (shown hex all)
-held-went hex all front held e old new = went-done _ (ap (λ x. shown hex x) e ∙ shown-append hex front held) old new
+module _ (hex : Bool) (sentinel : ℕ) where
+  -- the frames of the first lines as they are written
+  abbrev pub shown_of : List Send → List ℕ
+  shown_of done = shown hex (session_line sentinel false done)
 
--- the writer failed on the way
-pub held-broke : {u v w : Option (List ℕ)} {f g h calls : ℕ} (hex : Bool) (sentinel : ℕ) (done : List Send) (text rest front held : List ℕ)
-    → Sent text rest done → session_line sentinel false done ≡ front ++ held
-    → WentOut u v f g (shown hex front) → BrokeOff v w g h calls (shown hex held)
-    → (sends : List Send) → AreSendsOf (lines_in text) sends → BrokeOff u w f h calls (framed_text hex (session_line sentinel false sends))
-held-broke hex sentinel done text rest front held p e old new sends a =
-    let d = Sent-split text rest done sends p a in
-    went-breaks _ (shown hex (session_line sentinel (clean_after_all false done) d.0) ++ shown_end hex)
-    (ap (λ x. framed_text hex (session_line sentinel false x)) d.1 ∙ framed-parts hex sentinel front held done d.0 e)
-    old new
+  abbrev pub text_of_all : List Send → List ℕ
+  text_of_all sends = framed_text hex (session_line sentinel false sends)
 
-shown-some : (hex : Bool) (a : List ℕ) → 0 < length a → 0 < length (shown hex a ++ shown_end hex)
-shown-some false a l = omega (arith, length-append a [])
-shown-some true a l = omega (arith, length-append (encode_lower a) (10 ∷ []))
+  -- one more line
+  pub shown-more : (clean : Bool) (done : List Send) (x : Send) → clean ≡ clean_after_all false done → shown_of (done ++ x ∷ []) ≡ shown_of done ++ shown hex (written sentinel clean x)
+  shown-more clean done x c = ap (shown hex) (session-more sentinel clean done x c) ∙ shown-append hex (session_line sentinel false done) (written sentinel clean x)
 
--- a line that can be sent wasn't, and the writer has failed
-pub unmade-broke : {u v w : Option (List ℕ)} {f g h calls : ℕ} (hex : Bool) (sentinel : ℕ) (done : List Send) (text rest line front held : List ℕ) (more : List (List ℕ))
-    → Sent text rest done → lines_in rest ≡ line ∷ more → IsSendable line → session_line sentinel false done ≡ front ++ held
-    → WentOut u v f g (shown hex front) → ((bytes : List ℕ) → 0 < length bytes → BrokeOff v w g h calls bytes)
-    → (sends : List Send) → AreSendsOf (lines_in text) sends → BrokeOff u w f h calls (framed_text hex (session_line sentinel false sends))
-unmade-broke hex sentinel done text rest line front held more p next good e old new sends a =
-    let d = Sent-split text rest done sends p a in
-    let later = session_line sentinel (clean_after_all false done) d.0 in
-    let left = shown hex held ++ (shown hex later ++ shown_end hex) in
-    let some = shown-some hex later (next-some sentinel (clean_after_all false done) line more d.0 (rw next at d.2) good) in
-    went-breaks _ []
-    (ap (λ x. framed_text hex (session_line sentinel false x)) d.1 ∙ (framed-parts hex sentinel front held done d.0 e ∙ ap (λ x. shown hex front ++ x) (sym (append-nil left))))
-    old (new left (omega (arith, some, length-append (shown hex held) (shown hex later ++ shown_end hex))))
+  abbrev later-shown : List Send → List Send → List ℕ
+  later-shown done later = shown hex (session_line sentinel (clean_after_all false done) later) ++ shown_end hex
 
-all-sent : (text rest : List ℕ) (done sends : List Send) → Sent text rest done → length rest ≡ 0 → AreSendsOf (lines_in text) sends → sends ≡ done
-all-sent text rest done sends p l a =
-    let d = Sent-split text rest done sends p a in
-    d.1 ∙ (ap (λ x. done ++ x) (none-sent rest d.0 l d.2) ∙ append-nil done)
+  framed-parts : (done later : List Send) → text_of_all (done ++ later) ≡ shown_of done ++ later-shown done later
+  framed-parts done later =
+      let a = session_line sentinel false done in let b = session_line sentinel (clean_after_all false done) later in
+      framed-is hex (session_line sentinel false (done ++ later))
+      ∙ (ap (λ x. shown hex x ++ shown_end hex) (session-append sentinel false done later) ∙ (ap (λ x. x ++ shown_end hex) (shown-append hex a b) ∙ append_assoc (shown hex a) (shown hex b) (shown_end hex)))
 
--- all went out
-pub end-went : {u v w : Option (List ℕ)} {f g h : ℕ} (hex : Bool) (sentinel : ℕ) (done : List Send) (text rest : List ℕ) → Sent text rest done → length rest ≡ 0
-    → WentOut u v f g (shown hex (session_line sentinel false done)) → WentOut v w g h (shown_end hex)
-    → (sends : List Send) → AreSendsOf (lines_in text) sends → WentOut u w f h (framed_text hex (session_line sentinel false sends))
-end-went hex sentinel done text rest p l old new sends a =
-    went-done _ (ap (λ x. framed_text hex (session_line sentinel false x)) (all-sent text rest done sends p l a) ∙ framed-is hex (session_line sentinel false done)) old new
+  all-shown : (text rest : List ℕ) (done sends : List Send) → Sent text rest done → length rest ≡ 0 → AreSendsOf (lines_in text) sends → text_of_all sends ≡ shown_of done ++ shown_end hex
+  all-shown text rest done sends s none a =
+      let d = Sent-split text rest done sends s a in
+      ap text_of_all (d.1 ∙ (ap (λ x. done ++ x) (none-sent rest d.0 none d.2) ∙ append-nil done)) ∙ framed-is hex (session_line sentinel false done)
 
-pub end-broke : {u v w : Option (List ℕ)} {f g h calls : ℕ} (hex : Bool) (sentinel : ℕ) (done : List Send) (text rest : List ℕ) → Sent text rest done → length rest ≡ 0
-    → WentOut u v f g (shown hex (session_line sentinel false done)) → BrokeOff v w g h calls (shown_end hex)
-    → (sends : List Send) → AreSendsOf (lines_in text) sends → BrokeOff u w f h calls (framed_text hex (session_line sentinel false sends))
-end-broke hex sentinel done text rest p l old new sends a =
-    went-breaks _ []
-    (ap (λ x. framed_text hex (session_line sentinel false x)) (all-sent text rest done sends p l a)
-    ∙ (framed-is hex (session_line sentinel false done) ∙ ap (λ x. shown hex (session_line sentinel false done) ++ x) (sym (append-nil (shown_end hex)))))
-    old new
+  module _ {u v w : Option (List ℕ)} {f g h : ℕ} {held : List ℕ} (text rest : List ℕ) (done : List Send) (s : Sent text rest done) (p : Put u v f g [] held (shown_of done)) where
+    -- the writer failed at a line
+    pub line-broke : {calls : ℕ} (line tail : List ℕ) (clean : Bool) (x : Send) → lines_in rest ≡ line ∷ lines_in tail → IsSendOfLine line x → clean ≡ clean_after_all false done
+        → BrokeOff v w g h calls (held ++ shown hex (written sentinel clean x)) → (sends : List Send) → AreSendsOf (lines_in text) sends → BrokeOff u w f h calls (text_of_all sends)
+    line-broke line tail clean x e o c q sends a =
+        let d = Sent-split text tail (done ++ x ∷ []) sends (Sent-more text rest line tail done x s e o) a in
+        let later = later-shown (done ++ x ∷ []) d.0 in
+        put-breaks _ (shown hex (written sentinel clean x)) later
+        (ap text_of_all d.1 ∙ (framed-parts (done ++ x ∷ []) d.0 ∙ (ap (λ t. t ++ later) (shown-more clean done x c) ∙ append_assoc (shown_of done) (shown hex (written sentinel clean x)) later))) p q
+
+    -- it failed at the end
+    pub end-broke : {calls : ℕ} → length rest ≡ 0 → BrokeOff v w g h calls (held ++ shown_end hex) → (sends : List Send) → AreSendsOf (lines_in text) sends → BrokeOff u w f h calls (text_of_all sends)
+    end-broke none q sends a = put-breaks _ (shown_end hex) [] (all-shown text rest done sends s none a ∙ ap (λ t. shown_of done ++ t) (sym (append-nil (shown_end hex)))) p q
+
+    -- all was put
+    pub all-put : {kept : List ℕ} → length rest ≡ 0 → Put v w g h held kept (shown_end hex) → (sends : List Send) → AreSendsOf (lines_in text) sends → Put u w f h [] kept (text_of_all sends)
+    all-put none q sends a = put-done _ (all-shown text rest done sends s none a) p q

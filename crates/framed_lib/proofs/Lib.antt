@@ -7,4 +7,4 @@ pub mod RunLemmas
 pub mod SendingLemmas
 pub mod WordsLemmas
 pub mod WorkLemmas
-pub mod TrialLemmas
+pub mod FramingLemmas

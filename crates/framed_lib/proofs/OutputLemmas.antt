@@ -1,7 +1,7 @@
 -- Bytes that are put one after another.
 use Rattle.std.proofs.Common.{◌≡◌, ℕ, List, [], ◌++◌, length, sym, ap, subst, ◌∙◌, arith, append_assoc, Option}
 use Rattle.std.proofs.lemmas.List.{append-nil, length-append}
-use Rattle.std.specs.Prelude.{Result, Ok, Err, IfOk, OnOk, OnErr}
+use Rattle.std.specs.Prelude.{Result, Ok, Err, OnErr}
 use Rattle.line_io.specs.Transfers.{WentOut, BrokeOff}
 use Rattle.framed_lib.specs.Output.{Put}
 pub use Rattle.framed_lib.specs.Output.{put-none, put-then, put-broke}
@@ -49,16 +49,6 @@ put-went {u = u} {w = w} {f = f} {h = h} p q =
 pub on_err : {T E P : Type 0} (r : Result T E) → P → OnErr r P
 on_err (Ok x) p = tt
 on_err (Err e) p = p
-
--- the first bytes went out, and then others
-pub went-done : {u v w : Option (List ℕ)} {f g h : ℕ} {a b : List ℕ} (all : List ℕ) → all ≡ a ++ b → WentOut u v f g a → WentOut v w g h b → WentOut u w f h all
-went-done {u = u} {w = w} {f = f} {h = h} all e p q = let P : List ℕ → Type 0 = λ t. WentOut u w f h t in subst P (sym e) (WentOut-then p q)
-
--- the first bytes went out, and then the device broke off
-pub went-breaks : {u v w : Option (List ℕ)} {f g h calls : ℕ} {a b : List ℕ} (all c : List ℕ) → all ≡ a ++ (b ++ c) → WentOut u v f g a
-    → BrokeOff v w g h calls b → BrokeOff u w f h calls all
-went-breaks {u = u} {w = w} {f = f} {h = h} {calls = calls} all c e p q =
-    let P : List ℕ → Type 0 = λ t. BrokeOff u w f h calls t in subst P (sym e) (BrokeOff-then p (BrokeOff-more c q))
 
 -- no device breaks off in nothing
 pub never-broke : {u w : Option (List ℕ)} {f h calls : ℕ} → BrokeOff u w f h calls [] → ⊥

@@ -5,7 +5,7 @@ use Rattle.std.proofs.lemmas.List.{append-nil, length-append, length-take, lengt
 use Rattle.std.proofs.lemmas.Slice.{drop-append-drop}
 use Rattle.std.proofs.Math.ListN.{drop_of_length-le}
 use Rattle.std.proofs.Math.Seq.{take-append_seam, take-length}
-use Rattle.framed_lib.specs.Program.{DropsLineFeed, StandsFor, IsNotHex}
+use Rattle.framed_lib.specs.Program.{DropsLineFeed, StandsFor}
 use Rattle.hex.specs.Hex.{decode_pairs, decode_of, pair_value, hex_digit_value}
 use Rattle.hex.specs.declared.error.FromHexError.{FromHexError}
 use Rattle.hex.specs.declared.error.FromHexError.TheVariants.{InvalidHexCharacter, OddLength}

@@ -1,14 +1,14 @@
 -- The sends of a text's lines, line by line.
-use Rattle.std.proofs.Common.{◌≡◌, ℕ, ◌+◌, ◌<◌, ◌==◌, inl, inr, Bool, ◌&&◌, true, false, List, [], ◌∷◌, ◌++◌, length, refl, sym, ap, ◌∙◌, arith, append_assoc}
-use Rattle.std.proofs.lemmas.List.{append-nil, length-append}
+use Rattle.std.proofs.Common.{◌≡◌, ℕ, ◌+◌, ◌<◌, ◌==◌, inl, inr, Bool, ◌&&◌, ◌||◌, true, false, List, [], ◌∷◌, ◌++◌, length, refl, sym, ap, ◌∙◌, arith, append_assoc}
+use Rattle.std.proofs.Math.Bool.{or-true, or-false}
+use Rattle.std.proofs.lemmas.List.{append-nil}
 use Rattle.std.proofs.lemmas.List.Folds.{list_all-append}
 use Rattle.std.proofs.lemmas.List.Splits.{slice_split_at, slice_split_none, length-slice_split}
-use Rattle.postcard_tree.specs.Tree.{Tree}
-use Rattle.link.specs.Run.{Send, completed, refused, broken, sent, written, clean_after, session_line}
+use Rattle.link.specs.Run.{Send, completed, refused, broken, written, clean_after, session_line}
 use Rattle.link.specs.Fates.{clean_after_all}
 use Rattle.framed_lib.specs.Pieces.{LacksMark, pieces}
 use Rattle.framed_lib.specs.Program.{SaysFirst}
-use Rattle.framed_lib.specs.Sending.{filled, lines_in, IsSendable, IsSendOfLine, AreSendsOf, is_whole, all_sent, said_of, refusals, Sent}
+use Rattle.framed_lib.specs.Sending.{filled, lines_in, IsSendOfLine, AreSendsOf, is_whole, all_sent, said_of, refusals, Sent}
 
 pieces-some : (bytes : List ℕ) → 0 < length (pieces 10 bytes)
 pieces-some bytes = omega (arith, length-slice_split (λ b. b == 10) bytes)
@@ -25,7 +25,7 @@ filled-last : (rest : List ℕ) → 0 < length rest → filled (rest ∷ []) ≡
 filled-last [] some = absurd (omega arith)
 filled-last (b ∷ rest) some = refl
 
-lines-last : (rest : List ℕ) → LacksMark 10 rest → 0 < length rest → lines_in rest ≡ rest ∷ []
+pub lines-last : (rest : List ℕ) → LacksMark 10 rest → 0 < length rest → lines_in rest ≡ rest ∷ []
 lines-last rest h some = ap filled (slice_split_none (λ b. b == 10) rest h) ∙ filled-last rest some
 
 lines-none : (rest : List ℕ) → length rest ≡ 0 → lines_in rest ≡ []
@@ -44,9 +44,6 @@ Sent-none text = record { seen = []; lines_are = refl; are = tt }
 -- the next line of the rest, and those behind it
 pub next-line : (rest line tail : List ℕ) → rest ≡ line ++ 10 ∷ tail → LacksMark 10 line → lines_in rest ≡ line ∷ lines_in tail
 next-line rest line tail e h = ap lines_in e ∙ lines-more line tail h
-
-pub last-line : (rest : List ℕ) → LacksMark 10 rest → 0 < length rest → lines_in rest ≡ rest ∷ []
-last-line rest h some = lines-last rest h some
 
 pub Sent-more : (text rest line tail : List ℕ) (done : List Send) (x : Send) → Sent text rest done
     → lines_in rest ≡ line ∷ lines_in tail → IsSendOfLine line x → Sent text tail (done ++ x ∷ [])
@@ -79,7 +76,7 @@ clean-append : (clean : Bool) (a b : List Send) → clean_after_all clean (a ++ 
 clean-append clean [] b = refl
 clean-append clean (x ∷ a) b = clean-append (clean_after clean x) a b
 
-session-append : (sentinel : ℕ) (clean : Bool) (a b : List Send) → session_line sentinel clean (a ++ b) ≡ session_line sentinel clean a ++ session_line sentinel (clean_after_all clean a) b
+pub session-append : (sentinel : ℕ) (clean : Bool) (a b : List Send) → session_line sentinel clean (a ++ b) ≡ session_line sentinel clean a ++ session_line sentinel (clean_after_all clean a) b
 session-append sentinel clean [] b = refl
 session-append sentinel clean (x ∷ a) b =
     ap (λ l. written sentinel clean x ++ l) (session-append sentinel (clean_after clean x) a b)
@@ -92,26 +89,21 @@ refusals-append n (x ∷ a) b =
     ap (λ l. said_of n x ++ l) (refusals-append (n + 1) a b ∙ ap (λ m. refusals (n + 1) a ++ refusals m b) k)
     ∙ sym (append_assoc (said_of n x) (refusals (n + 1) a) (refusals (n + length (x ∷ a)) b))
 
-pub session-more : (sentinel : ℕ) (bytes new : List ℕ) (clean : Bool) (done : List Send) (x : Send) → bytes ≡ session_line sentinel false done → clean ≡ clean_after_all false done
-    → new ≡ bytes ++ written sentinel clean x → new ≡ session_line sentinel false (done ++ x ∷ [])
-session-more sentinel bytes new clean done x b c e =
-    e ∙ rw (b, c) (sym (session-append sentinel false done (x ∷ []) ∙ ap (λ l. session_line sentinel false done ++ l) (append-nil (written sentinel (clean_after_all false done) x))))
+pub session-more : (sentinel : ℕ) (clean : Bool) (done : List Send) (x : Send) → clean ≡ clean_after_all false done
+    → session_line sentinel false (done ++ x ∷ []) ≡ session_line sentinel false done ++ written sentinel clean x
+session-more sentinel clean done x c =
+    session-append sentinel false done (x ∷ [])
+    ∙ ap (λ l. session_line sentinel false done ++ l) (append-nil (written sentinel (clean_after_all false done) x) ∙ ap (λ b. written sentinel b x) (sym c))
 
--- what a sender with this sentinel wrote
-pub more-written : (bytes new : List ℕ) (found sentinel : ℕ) (clean : Bool) (x : Send) → found ≡ sentinel → new ≡ bytes ++ written found clean x
-    → new ≡ bytes ++ written sentinel clean x
-more-written bytes new found sentinel clean x m e = e ∙ ap (λ s. bytes ++ written s clean x) m
+clean-next : (clean : Bool) (line : List ℕ) (x : Send) → IsSendOfLine line x → clean_after clean x ≡ (clean || is_whole x)
+clean-next clean line (completed t) o = sym (or-true clean)
+clean-next clean line refused o = sym (or-false clean)
+clean-next clean line (broken t k) o = absurd o
 
-pub clean-more : (clean new : Bool) (done : List Send) (x : Send) → clean ≡ clean_after_all false done → new ≡ clean_after clean x
-    → new ≡ clean_after_all false (done ++ x ∷ [])
-clean-more clean new done x c e = e ∙ rw c (sym (clean-append false done (x ∷ [])))
-
--- one more send, where a front of what was sent is written, and the others are held
-pub held-more : (sentinel : ℕ) (front held new : List ℕ) (found : ℕ) (clean : Bool) (done : List Send) (x : Send) → session_line sentinel false done ≡ front ++ held
-    → clean ≡ clean_after_all false done → found ≡ sentinel → new ≡ held ++ written found clean x → session_line sentinel false (done ++ x ∷ []) ≡ front ++ new
-held-more sentinel front held new found clean done x e c m w =
-    sym (session-more sentinel (front ++ held) (front ++ new) clean done x (sym e) c
-    (ap (λ l. front ++ l) (more-written held new found sentinel clean x m w) ∙ sym (append_assoc front held (written sentinel clean x))))
+pub clean-more : (clean some : Bool) (line : List ℕ) (done : List Send) (x : Send) → clean ≡ clean_after_all false done → IsSendOfLine line x → is_whole x ≡ some
+    → (clean || some) ≡ clean_after_all false (done ++ x ∷ [])
+clean-more clean some line done x c o w =
+    sym (clean-append false done (x ∷ []) ∙ (ap (λ b. clean_after b x) (sym c) ∙ (clean-next clean line x o ∙ ap (λ b. clean || b) w)))
 
 pub refusals-more : (n : ℕ) (done : List Send) (x : Send) → n ≡ length done + 1 → refusals 1 (done ++ x ∷ []) ≡ refusals 1 done ++ said_of n x
 refusals-more n done x e =
@@ -164,27 +156,7 @@ pub Sent-split : (text rest : List ℕ) (done sends : List Send) → Sent text r
     → (later : List Send) × (sends ≡ done ++ later) × AreSendsOf (lines_in rest) later
 Sent-split text rest done sends p h = sends-split p.seen (lines_in rest) done sends (rw p.lines_are at h) p.are
 
-pub session-join : (sentinel : ℕ) (done later : List Send) → session_line sentinel false (done ++ later) ≡ session_line sentinel false done ++ session_line sentinel (clean_after_all false done) later
-session-join sentinel done later = session-append sentinel false done later
-
 pub none-sent : (rest : List ℕ) (later : List Send) → length rest ≡ 0 → AreSendsOf (lines_in rest) later → later ≡ []
 none-sent [] [] l a = refl
 none-sent [] (x ∷ later) l a = absurd a
 none-sent (b ∷ rest) later l a = absurd (omega arith)
-
--- where one of the lines can be sent, there are bytes to write
-end-some : (sentinel : ℕ) (lead frame : List ℕ) → 0 < length (lead ++ (frame ++ (sentinel ∷ [])))
-end-some sentinel lead frame = omega (arith, length-append lead (frame ++ (sentinel ∷ [])), length-append frame (sentinel ∷ []))
-
-sent-some : (sentinel : ℕ) (clean : Bool) (t : Tree) → 0 < length (sent sentinel clean t)
-sent-some sentinel clean t = end-some sentinel _ _
-
--- the first line's bytes
-pub next-some : (sentinel : ℕ) (clean : Bool) (line : List ℕ) (more : List (List ℕ)) (sends : List Send) → AreSendsOf (line ∷ more) sends → IsSendable line
-    → 0 < length (session_line sentinel clean sends)
-next-some sentinel clean line more [] h s = absurd h
-next-some sentinel clean line more (completed t ∷ sends) h s =
-    let some = sent-some sentinel clean t in omega (arith, length-append (sent sentinel clean t) (session_line sentinel true sends))
-next-some sentinel clean line more (refused ∷ sends) (inl f, h) s = absurd (f s.0)
-next-some sentinel clean line more (refused ∷ sends) (inr f, h) s = absurd (f s.1)
-next-some sentinel clean line more (broken t k ∷ sends) h s = absurd h.0

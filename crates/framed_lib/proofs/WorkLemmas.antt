@@ -21,43 +21,32 @@ use Rattle.link.specs.Run.{Send, session_line}
 use Rattle.link.specs.Stream.{Verdict}
 use Rattle.framed_lib.specs.Lines.{AreAnswers, holds_text, reads_text, lines_of, is_value, answer_lines, has_value}
 use Rattle.framed_lib.specs.Sending.{lines_in, AreSendsOf, refusals, all_sent}
-use Rattle.framed_lib.specs.Program.{Packs, Unpacks, Program, GivesLines, WritesGiven, LacksLines, RunsOutOfMemory, IsToWrite, SaysBeforehand, StandsFor, IsNotHex, WritesFirst, framed_text, bad_hex, RunsToItsEnd, ReadFails, WriteFails, LacksMemory, SaysInVain, SayingFails, read_failed, write_failed, no_memory}
-use Rattle.framed_lib.specs.Working.{IsWhole, unpacking, says_nothing, Before, Worked, AnswersStream, outcome_of, outcome_now, without_fault_of, unless_fault}
+use Rattle.framed_lib.specs.Program.{Packs, Unpacks, Program, GivesLines, WritesGiven, LacksLines, RunsOutOfMemory, IsToWrite, SaysBeforehand, StandsFor, IsNotHex, WritesFirst, framed_text, bad_hex, RunsToItsEnd, ReadFails, WriteFails, LacksMemory, SayingFails, read_failed, write_failed, no_memory}
+use Rattle.framed_lib.specs.Working.{IsWhole, unpacking, says_nothing, Before, Worked, AnswersStream, outcome_of, without_fault_of, unless_fault}
 
-pub Finishes-map : {mode : Mode} {hex : Bool} {sentinel : ℕ} {status : ℕ} {r s : Reach → List ℕ → Type 0} {w v t : Fate → List ℕ → Type 0}
-    → ((reach : Reach) (text : List ℕ) → r reach text → s reach text) → ((bytes : List ℕ) → v whole bytes → t whole bytes)
-    → RunsToItsEnd mode hex sentinel status r w v → RunsToItsEnd mode hex sentinel status s w t
-Finishes-map f k h = record { text = h.text; out = h.out; said = h.said; is = h.is; read = f ended _ h.read; wrote = h.wrote; told = k _ h.told }
+-- the same end of a run, as another reading saw it, or what was said of it otherwise
+module _ {mode : Mode} {hex : Bool} {sentinel : ℕ} {r s : Reach → List ℕ → Type 0} {w : Fate → List ℕ → Type 0} (f : (reach : Reach) (text : List ℕ) → r reach text → s reach text) where
+  pub Finishes-map : {status : ℕ} {v t : Fate → List ℕ → Type 0} → ((bytes : List ℕ) → v whole bytes → t whole bytes)
+      → RunsToItsEnd mode hex sentinel status r w v → RunsToItsEnd mode hex sentinel status s w t
+  Finishes-map k h = record { text = h.text; out = h.out; said = h.said; is = h.is; read = f ended _ h.read; wrote = h.wrote; told = k _ h.told }
 
-pub ReadFails-map : {mode : Mode} {hex : Bool} {sentinel : ℕ} {r s : Reach → List ℕ → Type 0} {w : Fate → List ℕ → Type 0} {v t : List ℕ → Type 0}
-    → ((reach : Reach) (text : List ℕ) → r reach text → s reach text) → ((bytes : List ℕ) → v bytes → t bytes)
-    → ReadFails mode hex sentinel r w v → ReadFails mode hex sentinel s w t
-ReadFails-map f k h = record { text = h.text; out = h.out; is = h.is; read = f failed _ h.read; wrote = h.wrote; told = k _ h.told }
+  module _ {v t : List ℕ → Type 0} (k : (bytes : List ℕ) → v bytes → t bytes) where
+    pub ReadFails-map : ReadFails mode hex sentinel r w v → ReadFails mode hex sentinel s w t
+    ReadFails-map h = record { text = h.text; out = h.out; is = h.is; read = f failed _ h.read; wrote = h.wrote; told = k _ h.told }
 
-pub WriteFails-map : {mode : Mode} {hex : Bool} {sentinel : ℕ} {r s : Reach → List ℕ → Type 0} {w : Fate → List ℕ → Type 0} {v t : List ℕ → Type 0}
-    → ((reach : Reach) (text : List ℕ) → r reach text → s reach text) → ((bytes : List ℕ) → v bytes → t bytes)
-    → WriteFails mode hex sentinel r w v → WriteFails mode hex sentinel s w t
-WriteFails-map f k h =
-    record { reach = h.reach; text = h.text; out = h.out; said = h.said; is = h.is; read = f h.reach _ h.read; wrote = h.wrote; told = k _ h.told }
+    pub WriteFails-map : WriteFails mode hex sentinel r w v → WriteFails mode hex sentinel s w t
+    WriteFails-map h =
+        record { reach = h.reach; text = h.text; out = h.out; said = h.said; is = h.is; read = f h.reach _ h.read; wrote = h.wrote; told = k _ h.told }
 
-pub LacksMemory-map : {mode : Mode} {hex : Bool} {sentinel : ℕ} {r s : Reach → List ℕ → Type 0} {w : Fate → List ℕ → Type 0} {v t : List ℕ → Type 0}
-    → ((reach : Reach) (text : List ℕ) → r reach text → s reach text) → ((bytes : List ℕ) → v bytes → t bytes)
-    → LacksMemory mode hex sentinel r w v → LacksMemory mode hex sentinel s w t
-LacksMemory-map f k h =
-    record { reach = h.reach; text = h.text; out = h.out; said = h.said; is = h.is; read = f h.reach _ h.read; wrote = h.wrote; told = k _ h.told }
+    pub LacksMemory-map : LacksMemory mode hex sentinel r w v → LacksMemory mode hex sentinel s w t
+    LacksMemory-map h =
+        record { reach = h.reach; text = h.text; out = h.out; said = h.said; is = h.is; read = f h.reach _ h.read; wrote = h.wrote; told = k _ h.told }
 
-SaysInVain-map : {mode : Mode} {hex : Bool} {r s : Reach → List ℕ → Type 0} {w : Fate → List ℕ → Type 0} {v t : List ℕ → Type 0}
-    → ((reach : Reach) (text : List ℕ) → r reach text → s reach text) → ((bytes : List ℕ) → v bytes → t bytes)
-    → SaysInVain mode hex r w v → SaysInVain mode hex s w t
-SaysInVain-map f k h = record { text = h.text; said = h.said; is = h.is; read = f ended _ h.read; wrote = h.wrote; told = k _ h.told }
-
-pub SayingFails-map : {mode : Mode} {hex : Bool} {sentinel : ℕ} {r s : Reach → List ℕ → Type 0} {w : Fate → List ℕ → Type 0} {v t : List ℕ → Type 0}
-    → ((reach : Reach) (text : List ℕ) → r reach text → s reach text) → ((bytes : List ℕ) → v bytes → t bytes)
-    → SayingFails mode hex sentinel r w v → SayingFails mode hex sentinel s w t
-SayingFails-map f k (inl h) = inl (SaysInVain-map f k h)
-SayingFails-map f k (inr (inl h)) = inr (inl (ReadFails-map f k h))
-SayingFails-map f k (inr (inr (inl h))) = inr (inr (inl (WriteFails-map f k h)))
-SayingFails-map f k (inr (inr (inr h))) = inr (inr (inr (LacksMemory-map f k h)))
+    pub SayingFails-map : SayingFails mode hex sentinel r w v → SayingFails mode hex sentinel s w t
+    SayingFails-map (inl h) = inl (record { text = h.text; said = h.said; is = h.is; read = f ended _ h.read; wrote = h.wrote; told = k _ h.told })
+    SayingFails-map (inr (inl h)) = inr (inl (ReadFails-map h))
+    SayingFails-map (inr (inr (inl h))) = inr (inr (inl (WriteFails-map h)))
+    SayingFails-map (inr (inr (inr h))) = inr (inr (inr (LacksMemory-map h)))
 
 -- what is said before a line, said otherwise
 pub Before-map : {v t : List ℕ → Type 0} (line : List ℕ) → ((bytes : List ℕ) → v bytes → t bytes) → (bytes : List ℕ) → Before line v bytes → Before line t bytes
@@ -163,44 +152,34 @@ module _ (strict : Bool) (sentinel : ℕ) (verdicts : List Verdict) (text : List
   bytes-stopped a h o =
       record { reach = stopped; text = text; out = lines_of verdicts; said = []; is = inr (gives strict sentinel text (lines_of verdicts) (verdicts, a, refl), refl); read = h; wrote = o; told = before-line write_failed }
 
--- what a reader gave, as the words of line_io
-pub has-read : {D : Type 0} (to_come : D → Option (List ℕ)) (faults calls_left : D → ℕ) (old new : D) (e : End) (bytes : List ℕ)
-    → HasRead (to_come old) (to_come new) (faults old) (faults new) (calls_left new) e bytes → Reading to_come faults calls_left old new (reach_of e) bytes
-has-read to_come faults calls_left old new Ended bytes h = h
-has-read to_come faults calls_left old new ReadFault bytes h = h
-has-read to_come faults calls_left old new NoMemory bytes h = h
-
 abbrev pub reach_now : Option End → Reach
 reach_now None = stopped
 reach_now (Some e) = reach_of e
 
+-- what a reader gave, as the words of line_io
 pub has-read-now : {D : Type 0} (to_come : D → Option (List ℕ)) (faults calls_left : D → ℕ) (old new : D) (e : Option End) (bytes : List ℕ)
     → HasReadNow (to_come old) (to_come new) (faults old) (faults new) (calls_left new) e bytes → Reading to_come faults calls_left old new (reach_now e) bytes
 has-read-now to_come faults calls_left old new None bytes h = h
-has-read-now to_come faults calls_left old new (Some e) bytes h = has-read to_come faults calls_left old new e bytes h
+has-read-now to_come faults calls_left old new (Some Ended) bytes h = h
+has-read-now to_come faults calls_left old new (Some ReadFault) bytes h = h
+has-read-now to_come faults calls_left old new (Some NoMemory) bytes h = h
 
 module _ {A : Type 0} (strict : Bool) (sentinel : ℕ) (answers : List (Answer (String A))) (text : List ℕ) (r : Reach → List ℕ → Type 0) (w : Fate → List ℕ → Type 0) where
-  -- the lines of the answers to bytes that were received
-  pub bytes-worked : (e : End) (written : Result (Unit {0}) WriteFault) (good : Bool) → IsReceived (holds_text strict) reads_text 1024 sentinel e answers text → r (reach_of e) text
-      → OnOk written (w whole (answer_lines answers)) → OnErr written (w broken (answer_lines answers)) → good ≡ list_all has_value answers
+  -- the lines of the answers to bytes that were received; the reading may have ended because a write failed
+  pub bytes-worked : (e : Option End) (written : Result (Unit {0}) WriteFault) (good : Bool) → IsReceivedNow (holds_text strict) reads_text 1024 sentinel e answers text → r (reach_now e) text
+      → OnOk written (w whole (answer_lines answers)) → OnErr written (w broken (answer_lines answers)) → good ≡ list_all has_value answers → (e ≡ None → OnOk written ⊥)
       → Worked (unpacking strict) false sentinel r w says_nothing (outcome_of e written good)
-  bytes-worked e (Err fault) good h q o b g =
+  bytes-worked (Some e) (Err fault) good h q o b g n =
       let v = received strict sentinel e answers text h in bytes-unwritten strict sentinel v.0 text r w (reach_of e) v.1 q (rw (lines-same answers v.0 v.2) at b)
-  bytes-worked Ended (Ok u) good h q o b g =
+  bytes-worked (Some Ended) (Ok u) good h q o b g n =
       let v = received strict sentinel Ended answers text h in
       bytes-done strict sentinel v.0 text r w _ v.1 q (rw (lines-same answers v.0 v.2) at o) (ap (λ x. if x then 0 else 1) (g ∙ values-same answers v.0 v.2))
-  bytes-worked ReadFault (Ok u) good h q o b g =
+  bytes-worked (Some ReadFault) (Ok u) good h q o b g n =
       let v = received strict sentinel ReadFault answers text h in bytes-unread strict sentinel v.0 text r w v.1 q (rw (lines-same answers v.0 v.2) at o)
-  bytes-worked NoMemory (Ok u) good h q o b g =
+  bytes-worked (Some NoMemory) (Ok u) good h q o b g n =
       let v = received strict sentinel NoMemory answers text h in bytes-lack strict sentinel v.0 text r w v.1 q (rw (lines-same answers v.0 v.2) at o)
-
-  -- the same, where the reading may have ended because a write failed
-  pub bytes-worked-now : (e : Option End) (written : Result (Unit {0}) WriteFault) (good : Bool) → IsReceivedNow (holds_text strict) reads_text 1024 sentinel e answers text → r (reach_now e) text
-      → OnOk written (w whole (answer_lines answers)) → OnErr written (w broken (answer_lines answers)) → good ≡ list_all has_value answers → (e ≡ None → OnOk written ⊥)
-      → Worked (unpacking strict) false sentinel r w says_nothing (outcome_now e written good)
-  bytes-worked-now (Some e) written good h q o b g n = bytes-worked e written good h q o b g
-  bytes-worked-now None (Ok u) good h q o b g n = absurd (n refl)
-  bytes-worked-now None (Err fault) good h q o b g n =
+  bytes-worked None (Ok u) good h q o b g n = absurd (n refl)
+  bytes-worked None (Err fault) good h q o b g n =
       let v = received strict sentinel ReadFault answers text h in bytes-stopped strict sentinel v.0 text r w v.1 q (rw (lines-same answers v.0 v.2) at b)
 
 -- a device that tells all that is to come gave a front of it
@@ -223,7 +202,7 @@ module _ {A : Type 0} (strict : Bool) (sentinel : ℕ) (answers : List (Answer (
   pub stream-worked : (e : End) (written : Result (Unit {0}) WriteFault) (good : Bool) → HasRead (Some stream) new f g calls e bytes
       → IsReceived (holds_text strict) reads_text 1024 sentinel e answers bytes
       → OnOk written (w whole (answer_lines (unless_fault e answers))) → OnErr written (w broken (answer_lines (unless_fault e answers)))
-      → good ≡ list_all has_value (unless_fault e answers) → AnswersStream strict sentinel stream w (outcome_of (without_fault_of e) written good)
+      → good ≡ list_all has_value (unless_fault e answers) → AnswersStream strict sentinel stream w (outcome_of (Some (without_fault_of e)) written good)
   stream-worked Ended (Ok u) good q h o b k =
       let v = received strict sentinel Ended answers bytes h in (
         v.0,
@@ -304,11 +283,6 @@ pub bad-unsaid : (strict : Bool) (sentinel : ℕ) (text : List ℕ) (w t : Fate 
 bad-unsaid strict sentinel text w t h o s = inl (record { text = text; said = bad_hex; is = says-bad strict text h; read = refl; wrote = o; told = s })
 
 -- A text that isn't read to its end, where it is to be
-
--- a read failed
-pub unread : (mode : Mode) (hex : Bool) (sentinel : ℕ) (text : List ℕ) (r : Reach → List ℕ → Type 0) (w t : Fate → List ℕ → Type 0) → WritesGiven mode hex sentinel text [] → r failed text
-    → w whole [] → t whole [] → ReadFails mode hex sentinel r w (Before read_failed (t whole))
-unread mode hex sentinel text r w t g h o q = record { text = text; out = []; is = g; read = h; wrote = o; told = ([], refl, q) }
 
 -- no memory was found for more
 pub unheld : (mode : Mode) (hex : Bool) (sentinel : ℕ) (text : List ℕ) (r : Reach → List ℕ → Type 0) (w t : Fate → List ℕ → Type 0) → RunsOutOfMemory mode hex sentinel stopped text [] [] → r stopped text

@@ -1,4 +1,3 @@
-pub mod Collected
 pub mod Lines
 pub mod Output
 pub mod Pieces

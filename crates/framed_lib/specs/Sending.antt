@@ -1,11 +1,8 @@
 -- The sends of a text's lines, and what is said of lines that are refused.
-use Rattle.std.specs.Prelude.{◌≡◌, ℕ, ◌+◌, Bool, true, false, List, [], ◌∷◌, ◌++◌, codes, decimal, IsUtf8, ◌⊎◌, Option}
+use Rattle.std.specs.Prelude.{◌≡◌, ℕ, ◌+◌, Bool, true, false, List, [], ◌∷◌, ◌++◌, codes, decimal, IsUtf8, ◌⊎◌}
 use Rattle.std.specs.List.{AllZip, list_all}
-use Rattle.line_io.specs.Device.{Wrote}
 use Rattle.postcard_tree.specs.Tree.{IsTree, text_of}
-use Rattle.link.specs.Run.{Send, completed, refused, broken, written, clean_after, IsFramed}
-use Rattle.link.specs.Senders.{writer_of, clean_of, sentinel_of}
-use Rattle.link.specs.declared.sender.Sender.{Sender}
+use Rattle.link.specs.Run.{Send, completed, refused, broken, IsFramed}
 use Rattle.framed_lib.specs.Pieces.{pieces}
 
 -- the pieces but for an empty one at the end
@@ -63,11 +60,3 @@ pub record Sent (text rest : List ℕ) (done : List Send) : Type 0 where
   pub seen : List (List ℕ)
   pub lines_are : lines_in text ≡ seen ++ lines_in rest
   pub are : AreSendsOf seen done
-
--- one more send by a sender
-abbrev pub AddsSend : {W : Type 0} → (W → Option (List ℕ)) → (W → ℕ)
-    → Sender W 1024 → Sender W 1024 → Send → Type 0
-AddsSend told faults old new x =
-    Wrote (told (writer_of old)) (told (writer_of new))
-    (faults (writer_of old)) (faults (writer_of new)) (written (sentinel_of old) (clean_of old) x)
-    × (clean_of new ≡ clean_after (clean_of old) x) × (sentinel_of new ≡ sentinel_of old)

@@ -10,10 +10,14 @@ mode_text Pack = codes "pack"
 mode_text Unpack = codes "unpack"
 mode_text Strict = codes "strict"
 
+-- the word for hexadecimal text, or none
+abbrev pub hex_words : Bool → List (List ℕ)
+hex_words false = []
+hex_words true = codes "hex" ∷ []
+
 -- the words for a mode, and for hexadecimal text on the framed side or not
 abbrev pub words_for : Mode → Bool → List (List ℕ)
-words_for mode false = mode_text mode ∷ []
-words_for mode true = mode_text mode ∷ codes "hex" ∷ []
+words_for mode hex = mode_text mode ∷ hex_words hex
 
 -- the word names the sentinel: two hexadecimal digits, of either case, stand for it
 abbrev pub NamesSentinel : ℕ → List ℕ → Type 0

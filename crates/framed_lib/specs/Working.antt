@@ -60,17 +60,14 @@ Reports old new saying (Err stop.WriteFault) status = SaysLast saying write_fail
 Reports old new saying (Err stop.SayingFault) status = (status ≡ 3) × (new ≡ old)
 Reports old new saying (Err stop.NoMemory) status = SaysLast saying no_memory 4 status
 
--- how the work on answers ends, by how the reception ended, whether the lines were written, and whether all are values
-abbrev pub outcome_of : End → Result (Unit {0}) WriteFault → Bool → Result ℕ Stop
+-- how the work on answers ends, by how the reception ended, where no write ended it, whether the lines were written, and
+-- whether all are values
+abbrev pub outcome_of : Option End → Result (Unit {0}) WriteFault → Bool → Result ℕ Stop
 outcome_of end (Err fault) good = Err stop.WriteFault
-outcome_of Ended (Ok u) good = Ok (if good then 0 else 1)
-outcome_of ReadFault (Ok u) good = Err stop.ReadFault
-outcome_of NoMemory (Ok u) good = Err stop.NoMemory
-
--- the same of a reception that ends too where a write failed
-abbrev pub outcome_now : Option End → Result (Unit {0}) WriteFault → Bool → Result ℕ Stop
-outcome_now None written good = Err stop.WriteFault
-outcome_now (Some end) written good = outcome_of end written good
+outcome_of (Some Ended) (Ok u) good = Ok (if good then 0 else 1)
+outcome_of (Some ReadFault) (Ok u) good = Err stop.ReadFault
+outcome_of (Some NoMemory) (Ok u) good = Err stop.NoMemory
+outcome_of None (Ok u) good = Err stop.WriteFault
 
 -- the end of a reception from memory, and its answers, where a fault is taken as out of memory
 abbrev pub without_fault_of : End → End

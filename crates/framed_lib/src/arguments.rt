@@ -1,5 +1,5 @@
-ghost use Rattle.std.specs.Prelude.{◌≡◌, ◌≢◌, ℕ, Bool, map, string_bytes, IfSome, IfNone};
-ghost use Rattle.framed_lib.specs.Words.{mode_text, NamesSentinel, AreWordsFor};
+ghost use Rattle.std.specs.Prelude.{◌≡◌, ◌≢◌, ℕ, Bool, false, List, ◌∷◌, ◌++◌, map, codes, string_bytes, IfSome, IfNone};
+ghost use Rattle.framed_lib.specs.Words.{mode_text, hex_words, NamesSentinel, AreWordsFor};
 
 /// What the program does.
 #[derive(Clone, Copy, Debug, PartialEq, Eq, Drop)]
@@ -36,6 +36,22 @@ fn sentinel_of(word: &str) -> Option<u8>
     Some(sentinel[0])
 }
 
+/// Whether the first of the words is `hex`, and the words behind it.
+fn split_hex(words: &[String]) -> (bool, &[String])
+    ensures words { map string_bytes words.now
+        ≡ hex_words result.0 ++ map string_bytes result.1.now }
+    ensures none { result.0 ≡ false → (more : List (List ℕ))
+        → map string_bytes words.now ≡ codes "hex" ∷ more → ⊥ }
+{
+    match words {
+        [word, more @ ..] => match word.as_str() {
+            "hex" => (true, more),
+            _ => (false, words),
+        },
+        _ => (false, words),
+    }
+}
+
 /// The mode, whether the framed side is hexadecimal text, and the sentinel, by the words after the program's name:
 /// `pack`, `unpack` or `strict`, then `hex` or nothing, and then a word like `sentinel=0a` or nothing, which means zero.
 /// `None` where they are other words.
@@ -45,16 +61,12 @@ pub fn arguments(words: &[String]) -> Option<(Mode, bool, u8)>
     ensures none { IfNone result ((mode : Mode) (hex : Bool) (sentinel : ℕ)
         → AreWordsFor mode hex sentinel (map string_bytes words.now) → ⊥) }
 {
-    match words {
-        [mode] => Some((mode_of(mode.as_str())?, false, 0)),
-        [mode, word] => match word.as_str() {
-            "hex" => Some((mode_of(mode.as_str())?, true, 0)),
-            word => Some((mode_of(mode.as_str())?, false, sentinel_of(word)?)),
-        },
-        [mode, hex, word] => match hex.as_str() {
-            "hex" => Some((mode_of(mode.as_str())?, true, sentinel_of(word.as_str())?)),
-            _ => None,
-        },
+    let (mode, more) = words.split_first()?;
+    let mode = mode_of(mode.as_str())?;
+    let (hex, more) = split_hex(more);
+    match more {
+        [] => Some((mode, hex, 0)),
+        [word] => Some((mode, hex, sentinel_of(word.as_str())?)),
         _ => None,
     }
 }

@@ -5,9 +5,9 @@ ghost use Rattle.link.specs.Run.{Send};
 ghost use Rattle.framed_lib.specs.Program.{SaysFirst};
 ghost use Rattle.framed_lib.specs.Sending.{lines_in, IsSendOfLine, AreSendsOf, is_whole, all_sent, refusal, refusals, said_of};
 
+use crate::framing::is_sendable;
 use crate::output::{Held, put};
 use crate::pieces::next_line;
-use crate::trial::is_sendable;
 use arrayvec::ArrayVec;
 use itoa::Buffer;
 use line_io::{Outlet, WriteFault, write_all};

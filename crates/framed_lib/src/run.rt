@@ -26,7 +26,7 @@ pub struct Ran<R, W, E> {
 /// Does the work of the program: reads a text to its end, writes what the mode makes of it, and says on `faults` what
 /// went wrong.
 ///
-/// `Mode::Pack` sends each line as text by one sender, and says `line K: refused` of a line that isn't UTF-8 or whose frame
+/// `Mode::Pack` sends each line as text, as one sender does, and says `line K: refused` of a line that isn't UTF-8 or whose frame
 /// is longer than 1024 bytes; the refusals are said before the frames are written. `Mode::Unpack` writes a line for each
 /// answer to the framed bytes: `value` and the text, with a backslash as `\\` and a line feed as `\n`; `damaged`;
 /// `too long`, of a stretch of more than 1024 bytes; or `cut`. `Mode::Strict` does the same, but a stretch that isn't

@@ -1,6 +1,6 @@
 ghost use Rattle.std.specs.Prelude.{◌≡◌, true, false};
 ghost use Rattle.line_io.specs.Transfers.{Writing, Reading};
-ghost use Rattle.framed_lib.specs.Working.{Worked, IsWhole, AnswersStream, outcome_of, outcome_now, without_fault_of, unless_fault, unpacking, says_nothing};
+ghost use Rattle.framed_lib.specs.Working.{Worked, IsWhole, AnswersStream, outcome_of, without_fault_of, unless_fault, unpacking, says_nothing};
 
 use crate::answers::{hand_texts, receive_texts};
 use crate::decoding::decode_hex;
@@ -13,31 +13,19 @@ use line_io::{End, Inlet, Outlet, WriteFault, read_to_end, write_all};
 use link::{Answer, Received};
 use std::alloc::Global;
 
-/// How the work ends, by how the reception ended, whether its lines were written, and whether all answers are values.
-fn outcome(end: link::End, written: Result<(), WriteFault>, good: bool) -> Result<u8, Stop>
+/// How the work ends, by how the reception ended, whether its lines were written, and whether all answers are values. A
+/// reception has no end of its own where a write failed.
+fn outcome(end: Option<link::End>, written: Result<(), WriteFault>, good: bool) -> Result<u8, Stop>
     ensures { result ≡ outcome_of end written good }
 {
     match written {
         Ok(()) => match end {
-            link::End::Ended => Ok(status_of(good)),
-            link::End::ReadFault => Err(Stop::ReadFault),
-            link::End::NoMemory => Err(Stop::NoMemory),
+            Some(link::End::Ended) => Ok(status_of(good)),
+            Some(link::End::ReadFault) => Err(Stop::ReadFault),
+            Some(link::End::NoMemory) => Err(Stop::NoMemory),
+            None => Err(Stop::WriteFault),
         },
         Err(_) => Err(Stop::WriteFault),
-    }
-}
-
-/// The same of a reception that ends too where a write failed.
-fn outcome_so_far(
-    end: Option<link::End>,
-    written: Result<(), WriteFault>,
-    good: bool,
-) -> Result<u8, Stop>
-    ensures { result ≡ outcome_now end written good }
-{
-    match end {
-        Some(end) => outcome(end, written, good),
-        None => Err(Stop::WriteFault),
     }
 }
 
@@ -69,7 +57,7 @@ fn unpack_bytes<R: Inlet, W: Outlet>(
     } = telling;
     let mut writer = writer;
     let written = write_rest(&mut writer, failed, &held);
-    (reader, writer, outcome_so_far(end, written, good))
+    (reader, writer, outcome(end, written, good))
 }
 
 /// How a reception from memory ended, and its answers. A device over memory doesn't fail; the case that it has no call
@@ -104,7 +92,7 @@ fn unpack_stream<W: Outlet>(
     } = receive_texts(alloc, strict, sentinel, device);
     let (end, shown) = without_fault(end, &answers);
     let written = write_answers(writer, shown);
-    outcome(end, written, are_values(shown))
+    outcome(Some(end), written, are_values(shown))
 }
 
 /// Writes the lines of the answers to the bytes that a text's digits stand for, which take its place.

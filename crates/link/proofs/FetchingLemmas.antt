@@ -8,11 +8,11 @@ use Rattle.cobs.specs.Sentinel.{masked}
 use Rattle.postcard_tree.specs.Tree.{Tree}
 use Rattle.postcard.specs.Frames.{Holds, HoldsValue}
 use Rattle.postcard.specs.Feeds.{Feeds}
-use Rattle.link.specs.Stream.{Answers}
-use Rattle.link.specs.Roads.{Loops, done, stopped, used_up, consumed, overfull, failed, success, joined, AllFit, AreValues, IsSameByAccumulator}
+use Rattle.link.specs.Stream.{Verdict, Answers}
+use Rattle.link.specs.Roads.{Loops, done, stopped, used_up, consumed, overfull, failed, success, joined, AllFit, AreValues, AreFirst, values_of}
 use Rattle.link.specs.declared.listening.End.{End}
 use Rattle.link.specs.declared.listening.End.TheVariants.{Ended, ReadFault, NoMemory}
-use Rattle.link.specs.Gathering.{GathersFront, GathersPiece, GathersPieces, GathersOnLine, LacksListRoom, HasGathered, AreThose, AreBefore, AreThoseFor, AreLooped, LoopsOver, LacksPlace, AreSameByAccumulator, some_held}
+use Rattle.link.specs.Gathering.{GathersPieces, GathersOnLine, HasGathered, AreThose, AreThoseFor, AreLooped, LoopsOver, AreSameByAccumulator, some_held}
 use Rattle.link.specs.Pieces.{masked_twice}
 use Rattle.link.specs.RoadLaws.{zeroed, whole_length, less_length}
 
@@ -111,32 +111,27 @@ module _ (room s : ℕ) (held rest kept left : List ℕ) where
   pub answered_shorter : 0 < room → 0 < length rest → (P : List ℕ → Type 0) → Feeds room held (masked s rest) ⊥ (λ r. ⊥) (λ f r. (left ≡ masked s r) × P f) kept → 2 * length left + some_held kept < 2 * length rest + some_held held
   answered_shorter some l P g = shorter (answered_less room some held (masked s rest) kept (some_masked l) (masked s left) P (fed_answer s refl P g))
 
-module _ {V : Type 0} (takes : Tree → Type 0) (reads : Tree → V → Type 0) (growing : Bool) (room : ℕ) (first piece : List ℕ) (old : List V) where
-  module _ (held rest now : List ℕ) (new : List V) where
-    pub gathers_over : (left : List ℕ) → GathersFront takes reads growing room first piece held rest old new → Feeds room held rest ⊥ (λ r. left ≡ r) (λ f r. ⊥) now → GathersFront takes reads growing room first piece now left old new
-    gathers_over left p g = record { got = p.got; values = p.values; goes_on = λ may_stop later vs h. p.goes_on may_stop later vs (overfull left g h) }
+module _ {V : Type 0} (takes : Tree → Type 0) (reads : Tree → V → Type 0) (growing : Bool) (room : ℕ) (first : List ℕ) (pieces : List (List ℕ)) (old : List V) where
+  module _ (held rest now : List ℕ) (new : List V) (p : GathersPieces takes reads growing room first pieces held (rest ∷ []) old new) where
+    pub gathers_over : (left : List ℕ) → Feeds room held rest ⊥ (λ r. left ≡ r) (λ f r. ⊥) now → GathersPieces takes reads growing room first pieces now (left ∷ []) old new
+    gathers_over left g = record { got = p.got; values = p.values; goes_on = λ may_stop later vs h. p.goes_on may_stop later vs (overfull left g h) }
 
-    pub gathers_failed : (left : List ℕ) → GathersFront takes reads growing room first piece held rest old new → Feeds room held rest ⊥ (λ r. ⊥) (λ f r. (left ≡ r) × ((t : Tree) → Holds takes f t → growing ≡ true)) now
-        → GathersFront takes reads growing room first piece now left old new
-    gathers_failed left p g = record { got = p.got; values = p.values; goes_on = λ may_stop later vs h. p.goes_on may_stop later vs (failed left g h) }
+    pub gathers_failed : (left : List ℕ) → Feeds room held rest ⊥ (λ r. ⊥) (λ f r. (left ≡ r) × ((t : Tree) → Holds takes f t → growing ≡ true)) now → GathersPieces takes reads growing room first pieces now (left ∷ []) old new
+    gathers_failed left g = record { got = p.got; values = p.values; goes_on = λ may_stop later vs h. p.goes_on may_stop later vs (failed left g h) }
 
-    pub gathers_value : (v : V) (left : List ℕ) (more : List V) → GathersFront takes reads growing room first piece held rest old new → Feeds room held rest ⊥ (λ r. ⊥) (λ f r. (left ≡ r) × HoldsValue takes reads f v) now
-        → more ≡ new ++ v ∷ [] → GathersFront takes reads growing room first piece now left old more
-    gathers_value v left more p g e = record {
+    pub gathers_value : (v : V) (left : List ℕ) (more : List V) → Feeds room held rest ⊥ (λ r. ⊥) (λ f r. (left ≡ r) × HoldsValue takes reads f v) now
+        → more ≡ new ++ v ∷ [] → GathersPieces takes reads growing room first pieces now (left ∷ []) old more
+    gathers_value v left more g e = record {
       got = p.got ++ v ∷ [];
       values = e ∙ ap (λ x. x ++ v ∷ []) p.values ∙ append_assoc old p.got (v ∷ []);
-      goes_on = λ may_stop later vs h. subst (Loops takes reads growing may_stop room first (piece ∷ later)) (sym (append_assoc p.got (v ∷ []) vs)) (p.goes_on may_stop later (v ∷ vs) (success v left g h));
+      goes_on = λ may_stop later vs h. subst (Loops takes reads growing may_stop room first (pieces ++ later)) (sym (append_assoc p.got (v ∷ []) vs)) (p.goes_on may_stop later (v ∷ vs) (success v left g h));
     }
 
-    pub gathers_lost : (v : V) (left : List ℕ) (more : List V) → GathersFront takes reads growing room first piece held rest old new → Feeds room held rest ⊥ (λ r. ⊥) (λ f r. (left ≡ r) × HoldsValue takes reads f v) now
-        → more ≡ new → LacksPlace takes reads growing room first piece old more
-    gathers_lost v left more p g e = record { got = p.got; lost = v; kept = now; rest = left; values = e ∙ p.values; goes_on = λ may_stop later vs h. p.goes_on may_stop later (v ∷ vs) (success v left g h) }
+    pub gathers_consumed : Feeds room held rest (Unit {0}) (λ r. ⊥) (λ f r. ⊥) now → GathersPieces takes reads growing room first pieces now [] old new
+    gathers_consumed g = record { got = p.got; values = p.values; goes_on = λ may_stop later vs h. p.goes_on may_stop later vs (consumed g h) }
 
-    pub gathers_consumed : GathersFront takes reads growing room first piece held rest old new → Feeds room held rest (Unit {0}) (λ r. ⊥) (λ f r. ⊥) now → GathersPiece takes reads growing room first piece now old new
-    gathers_consumed p g = record { got = p.got; values = p.values; goes_on = λ may_stop later vs h. p.goes_on may_stop later vs (consumed g h) }
-
-    pub gathers_whole : GathersFront takes reads growing room first piece held rest old new → rest ≡ [] → GathersPiece takes reads growing room first piece held old new
-    gathers_whole p e = record { got = p.got; values = p.values; goes_on = λ may_stop later vs h. p.goes_on may_stop later vs (subst (λ x. Loops takes reads growing may_stop room held (x ∷ later) vs) (sym e) (used_up h)) }
+    pub gathers_whole : rest ≡ [] → GathersPieces takes reads growing room first pieces held [] old new
+    gathers_whole e = record { got = p.got; values = p.values; goes_on = λ may_stop later vs h. p.goes_on may_stop later vs (subst (λ x. Loops takes reads growing may_stop room held (x ∷ later) vs) (sym e) (used_up h)) }
 
 pub has_bytes : (rest : List ℕ) (b : Bool) → b ≡ (length rest == 0) → b ≡ false → 0 < length rest
 has_bytes [] b e f = let no : true ≡ false = sym e ∙ f in absurd (cc)
@@ -156,27 +151,24 @@ push_done (Ok a) new old more e h = h
 push_done (Err a) new old more e h = cc
 
 module _ {V : Type 0} (takes : Tree → Type 0) (reads : Tree → V → Type 0) (growing : Bool) (room s : ℕ) (held : List ℕ) (old : List V) where
-  pub gathers_no_bytes : GathersOnLine takes reads growing room s held [] held old old
+  pub gathers_no_bytes : GathersOnLine takes reads growing room s held [] held [] old old
   gathers_no_bytes = record { pieces = []; are = refl; gathers = record { got = []; values = sym (append-nil old); goes_on = λ may_stop later vs h. h } }
 
   joined_more : (pieces : List (List ℕ)) (piece : List ℕ) → joined (pieces ++ piece ∷ []) ≡ joined pieces ++ piece
   joined_more [] piece = append-nil piece
   joined_more (p ∷ pieces) piece = ap (λ x. p ++ x) (joined_more pieces piece) ∙ sym (append_assoc p (joined pieces) piece)
 
-  masked_more : (pieces : List (List ℕ)) (piece : List ℕ) → map (masked s) pieces ++ masked s piece ∷ [] ≡ map (masked s) (pieces ++ piece ∷ [])
-  masked_more pieces piece = sym (map-append (masked s) pieces (piece ∷ []))
-
-  pub gathers_more : (bytes piece kept now : List ℕ) (new more : List V) (t : ℕ) → t ≡ s → GathersOnLine takes reads growing room s held bytes kept old new → GathersPiece takes reads growing room kept (masked t piece) now new more
-      → GathersOnLine takes reads growing room s held (bytes ++ piece) now old more
-  gathers_more bytes piece kept now new more t e p fed =
+  pub gathers_more : (bytes piece kept now : List ℕ) (rest : List (List ℕ)) (new more : List V) (t : ℕ) → t ≡ s → GathersOnLine takes reads growing room s held bytes kept [] old new
+      → GathersPieces takes reads growing room kept (masked t piece ∷ []) now rest new more → GathersOnLine takes reads growing room s held (bytes ++ piece) now rest old more
+  gathers_more bytes piece kept now rest new more t e p fed =
       let k = p.gathers in
-      let q = subst (λ z. GathersPiece takes reads growing room kept (masked z piece) now new more) e fed in
+      let q = subst (λ z. GathersPieces takes reads growing room kept (masked z piece ∷ []) now rest new more) e fed in
       let before = map (masked s) p.pieces in
       let last = masked s piece in
       record {
         pieces = p.pieces ++ piece ∷ [];
         are = joined_more p.pieces piece ∙ ap (λ x. x ++ piece) p.are;
-        gathers = subst (λ ps. GathersPieces takes reads growing room held ps now old more) (masked_more p.pieces piece) (record {
+        gathers = subst (λ ps. GathersPieces takes reads growing room held ps now rest old more) (sym (map-append (masked s) p.pieces (piece ∷ []))) (record {
           got = k.got ++ q.got;
           values = q.values ∙ ap (λ x. x ++ q.got) k.values ∙ append_assoc old k.got q.got;
           goes_on = λ may_stop later vs h.
@@ -185,78 +177,39 @@ module _ {V : Type 0} (takes : Tree → Type 0) (reads : Tree → V → Type 0) 
         });
       }
 
-pub those : {V : Type 0} (takes : Tree → Type 0) (reads : Tree → V → Type 0) (growing : Bool) (room s : ℕ) (bytes kept : List ℕ) (old new : List V) → 0 < room → old ≡ [] → IsSameByAccumulator takes reads growing new s
-    → GathersOnLine takes reads growing room s [] bytes kept old new → AreThose takes reads growing room s bytes new
-those takes reads growing room s bytes kept old new l n same g answers f h =
-    let k = g.gathers in
-    let pieces = map (masked s) g.pieces in
-    let values : new ≡ k.got ++ [] = k.values ∙ ap (λ x. x ++ k.got) n ∙ sym (append-nil k.got) in
-    let loop : Loops takes reads growing false room [] pieces new =
-    subst (λ x. Loops takes reads growing false room [] pieces x) (sym values) (subst (λ x. Loops takes reads growing false room [] x (k.got ++ [])) (append-nil pieces) (k.goes_on false [] [] done)) in
-    let r = same false room g.pieces answers l (subst (AllFit room s) (sym g.are) f) (subst (λ x. Answers (Holds takes) room s x answers) (sym g.are) h) loop in
-    subst (λ ts. AreValues reads growing ts new) (sym (r.parts ∙ ap (λ x. r.first ++ x) (r.whole refl) ∙ append-nil r.first)) r.are
+  -- the loop over the pieces that were gathered, from nothing
+  loops_over : (may_stop : Bool) (bytes kept : List ℕ) (rest : List (List ℕ)) (new : List V) → held ≡ [] → old ≡ [] → Loops takes reads growing may_stop room kept (rest ++ []) []
+      → GathersOnLine takes reads growing room s held bytes kept rest old new → LoopsOver takes reads growing may_stop room s bytes new
+  loops_over may_stop bytes kept rest new e n l g =
+      let k = g.gathers in
+      let pieces = map (masked s) g.pieces in
+      let values : k.got ++ [] ≡ new = append-nil k.got ∙ sym (k.values ∙ ap (λ x. x ++ k.got) n) in
+      record {
+        pieces = g.pieces;
+        are = g.are;
+        loops = subst (λ x. Loops takes reads growing may_stop room x pieces new) e (subst (λ x. Loops takes reads growing may_stop room held pieces x) values (subst (λ x. Loops takes reads growing may_stop room held x (k.got ++ [])) (append-nil pieces) (k.goes_on may_stop [] [] l)));
+      }
 
--- the values of the pieces before, and of one in which a further value had no place
-pub lacks_more : {V : Type 0} (takes : Tree → Type 0) (reads : Tree → V → Type 0) (growing : Bool) (room s : ℕ) (held : List ℕ) (old : List V) (bytes piece kept : List ℕ) (new more : List V) (t : ℕ) → t ≡ s
-    → GathersOnLine takes reads growing room s held bytes kept old new → LacksPlace takes reads growing room kept (masked t piece) new more → LacksListRoom takes reads growing room s held (bytes ++ piece) old more
-lacks_more takes reads growing room s held old bytes piece kept new more t e p fed =
-    let k = p.gathers in
-    let q = subst (λ z. LacksPlace takes reads growing room kept (masked z piece) new more) e fed in
-    record {
-      pieces = p.pieces ++ piece ∷ [];
-      are = joined_more takes reads growing room s held old p.pieces piece ∙ ap (λ x. x ++ piece) p.are;
-      got = k.got ++ q.got;
-      lost = q.lost;
-      values = q.values ∙ ap (λ x. x ++ q.got) k.values ∙ append_assoc old k.got q.got;
-      loops =
-          subst (λ ps. Loops takes reads growing true room held ps ((k.got ++ q.got) ++ q.lost ∷ [])) (masked_more takes reads growing room s held old p.pieces piece)
-          (subst (λ x. Loops takes reads growing true room held (map (masked s) p.pieces ++ masked s piece ∷ []) x) (sym (append_assoc k.got q.got (q.lost ∷ [])))
-          (k.goes_on true (masked s piece ∷ []) (q.got ++ q.lost ∷ []) (q.goes_on true [] [] (stopped refl))));
-    }
+  looped : (bytes kept : List ℕ) (new : List V) (end : End) → held ≡ [] → old ≡ [] → HasGathered takes reads growing room s held bytes kept old new end → AreLooped takes reads growing room s bytes new end
+  looped bytes kept new Ended e n g = loops_over false bytes kept [] new e n done g
+  looped bytes kept new ReadFault e n g = loops_over false bytes kept [] new e n done g
+  looped bytes kept new NoMemory e n g = (g.0, loops_over true bytes g.1 g.2 (new ++ g.0 ∷ []) e n (stopped refl) g.3)
 
-pub before : {V : Type 0} (takes : Tree → Type 0) (reads : Tree → V → Type 0) (growing : Bool) (room s : ℕ) (bytes : List ℕ) (old new : List V) → 0 < room → old ≡ []
-    → AreSameByAccumulator takes reads growing → LacksListRoom takes reads growing room s [] bytes old new → AreBefore takes reads growing room s bytes new
-before takes reads growing room s bytes old new l n same g =
-    let values : new ≡ g.got = g.values ∙ ap (λ x. x ++ g.got) n in
-    let loop = subst (λ x. Loops takes reads growing true room [] (map (masked s) g.pieces) (x ++ g.lost ∷ [])) (sym values) g.loops in
-    record {
-      lost = g.lost;
-      those = λ answers f h. same (new ++ g.lost ∷ []) s true room g.pieces answers l (subst (AllFit room s) (sym g.are) f) (subst (λ x. Answers (Holds takes) room s x answers) (sym g.are) h) loop;
-    }
+  pub looped_by : (t : ℕ) → t ≡ s → (bytes kept : List ℕ) (new : List V) (end : End) → held ≡ [] → old ≡ [] → HasGathered takes reads growing room t held bytes kept old new end → AreLooped takes reads growing room s bytes new end
+  looped_by t is bytes kept new end e n g = looped bytes kept new end e n (subst (λ z. HasGathered takes reads growing room z held bytes kept old new end) is g)
 
-by_end : {V : Type 0} (takes : Tree → Type 0) (reads : Tree → V → Type 0) (growing : Bool) (room s : ℕ) (held bytes kept : List ℕ) (old new : List V) (end : End) → 0 < room → held ≡ [] → old ≡ [] → AreSameByAccumulator takes reads growing
-    → HasGathered takes reads growing room s held bytes kept old new end → AreThoseFor takes reads growing room s bytes new end
-by_end takes reads growing room s held bytes kept old new Ended l e n same g = those takes reads growing room s bytes kept old new l n (same new s) (subst (λ x. GathersOnLine takes reads growing room s x bytes kept old new) e g)
-by_end takes reads growing room s held bytes kept old new ReadFault l e n same g = those takes reads growing room s bytes kept old new l n (same new s) (subst (λ x. GathersOnLine takes reads growing room s x bytes kept old new) e g)
-by_end takes reads growing room s held bytes kept old new NoMemory l e n same g = before takes reads growing room s bytes old new l n same (subst (λ x. LacksListRoom takes reads growing room s x bytes old new) e g)
+module _ {V : Type 0} (takes : Tree → Type 0) (reads : Tree → V → Type 0) (growing : Bool) (room s : ℕ) (some : 0 < room) (same : AreSameByAccumulator takes reads growing) (bytes : List ℕ) where
+  first_of : (may_stop : Bool) (values : List V) → LoopsOver takes reads growing may_stop room s bytes values → (answers : List Verdict) → AllFit room s bytes → Answers (Holds takes) room s bytes answers
+      → AreFirst reads growing may_stop (values_of answers) values
+  first_of may_stop values g answers f h = same values s may_stop room g.pieces answers some (subst (AllFit room s) (sym g.are) f) (subst (λ x. Answers (Holds takes) room s x answers) (sym g.are) h) g.loops
 
-pub those_by : {V : Type 0} (takes : Tree → Type 0) (reads : Tree → V → Type 0) (growing : Bool) (room s t : ℕ) → t ≡ s → (held bytes kept : List ℕ) (old new : List V) (end : End) → 0 < room → held ≡ [] → old ≡ [] → AreSameByAccumulator takes reads growing
-    → HasGathered takes reads growing room t held bytes kept old new end → AreThoseFor takes reads growing room s bytes new end
-those_by takes reads growing room s t is held bytes kept old new end l e n same g =
-    by_end takes reads growing room s held bytes kept old new end l e n same (subst (λ z. HasGathered takes reads growing room z held bytes kept old new end) is g)
+  those : (values : List V) → LoopsOver takes reads growing false room s bytes values → AreThose takes reads growing room s bytes values
+  those values g answers f h =
+      let r = first_of false values g answers f h in
+      subst (λ ts. AreValues reads growing ts values) (sym (r.parts ∙ ap (λ x. r.first ++ x) (r.whole refl) ∙ append-nil r.first)) r.are
 
--- the values that the loop gives over the pieces that were gathered
-over_pieces : {V : Type 0} (takes : Tree → Type 0) (reads : Tree → V → Type 0) (growing : Bool) (room s : ℕ) (bytes kept : List ℕ) (old new : List V) → old ≡ []
-    → GathersOnLine takes reads growing room s [] bytes kept old new → LoopsOver takes reads growing false room s bytes new
-over_pieces takes reads growing room s bytes kept old new n g =
-    let k = g.gathers in
-    let pieces = map (masked s) g.pieces in
-    let values : new ≡ k.got ++ [] = k.values ∙ ap (λ x. x ++ k.got) n ∙ sym (append-nil k.got) in
-    record {
-      pieces = g.pieces;
-      are = g.are;
-      loops = subst (λ x. Loops takes reads growing false room [] pieces x) (sym values) (subst (λ x. Loops takes reads growing false room [] x (k.got ++ [])) (append-nil pieces) (k.goes_on false [] [] done));
-    }
-
-looped : {V : Type 0} (takes : Tree → Type 0) (reads : Tree → V → Type 0) (growing : Bool) (room s : ℕ) (held bytes kept : List ℕ) (old new : List V) (end : End) → held ≡ [] → old ≡ []
-    → HasGathered takes reads growing room s held bytes kept old new end → AreLooped takes reads growing room s bytes new end
-looped takes reads growing room s held bytes kept old new Ended e n g = over_pieces takes reads growing room s bytes kept old new n (subst (λ x. GathersOnLine takes reads growing room s x bytes kept old new) e g)
-looped takes reads growing room s held bytes kept old new ReadFault e n g = over_pieces takes reads growing room s bytes kept old new n (subst (λ x. GathersOnLine takes reads growing room s x bytes kept old new) e g)
-looped takes reads growing room s held bytes kept old new NoMemory e n g =
-    let h = subst (λ x. LacksListRoom takes reads growing room s x bytes old new) e g in
-    let values : new ≡ h.got = h.values ∙ ap (λ x. x ++ h.got) n in
-    (h.lost, record { pieces = h.pieces; are = h.are; loops = subst (λ x. Loops takes reads growing true room [] (map (masked s) h.pieces) (x ++ h.lost ∷ [])) (sym values) h.loops })
-
-pub looped_by : {V : Type 0} (takes : Tree → Type 0) (reads : Tree → V → Type 0) (growing : Bool) (room s t : ℕ) → t ≡ s → (held bytes kept : List ℕ) (old new : List V) (end : End) → held ≡ [] → old ≡ []
-    → HasGathered takes reads growing room t held bytes kept old new end → AreLooped takes reads growing room s bytes new end
-looped_by takes reads growing room s t is held bytes kept old new end e n g = looped takes reads growing room s held bytes kept old new end e n (subst (λ z. HasGathered takes reads growing room z held bytes kept old new end) is g)
+  -- where the stretches fit, these are the values of the answers
+  pub by_loop : (values : List V) (end : End) → AreLooped takes reads growing room s bytes values end → AreThoseFor takes reads growing room s bytes values end
+  by_loop values Ended g = those values g
+  by_loop values ReadFault g = those values g
+  by_loop values NoMemory g = record { lost = g.0; those = first_of true (values ++ g.0 ∷ []) g.1 }

@@ -5,13 +5,13 @@ use Rattle.line_io.specs.Device.{Gave}
 use Rattle.line_io.specs.Calls.{Gave-none, Gave-then}
 use Rattle.postcard_tree.specs.Tree.{Tree}
 use Rattle.link.specs.Decoding.{Inside}
-use Rattle.link.specs.Listening.{KeepsAnswer, HasRead, Hears}
+use Rattle.link.specs.Listening.{KeepsAnswer, HasRead, Hears, IsHeard}
 use Rattle.line_io.specs.Transfers.{Failed}
 use Rattle.link.specs.declared.listening.End.{End}
 use Rattle.link.specs.declared.listening.End.TheVariants.{Ended, ReadFault, NoMemory as NoneLeft}
 use Rattle.link.specs.declared.reception.Reception.{Reception}
 use Rattle.std.specs.Prelude.{IsOk, IsErr}
-use Rattle.link.specs.Each.{Handed, HearerLaws, UsesFew, MayLackMemory, HadMemory, last_call}
+use Rattle.link.specs.Each.{Handed, HearerLaws, UsesFew, MayLackMemory, HadMemory, StandsNow, last_call}
 use Rattle.link.specs.declared.receiver.Answer.{Answer}
 use Rattle.link.specs.declared.receiver.NoMemory.{NoMemory}
 
@@ -34,6 +34,17 @@ module _ {H V : Type 0} (hears : H → List (Answer V) → H → Type 0) (laws :
 
   pub handed_as : (h k : H) (P Q : List (Answer V) → Type 0) → Handed hears h k P → ((xs : List (Answer V)) → P xs → Q xs) → Handed hears h k Q
   handed_as h k P Q p f = record { answers = p.answers; heard = p.heard; so = f p.answers p.so }
+
+-- where a receiver stands of which this is heard
+pub stands_by : {D V : Type 0} (inside : D → Inside) (holds : List ℕ → Tree → Type 0) (reads : Tree → V → Type 0) (limit s : ℕ) (end : End) (r : Reception D) (answers : List (Answer V)) (stream : List ℕ)
+    → IsHeard inside holds reads limit s end r answers stream → StandsNow inside limit s (Some end) r stream
+stands_by inside holds reads limit s Ended r answers stream h = h.after
+stands_by inside holds reads limit s ReadFault r answers stream h = h.after
+stands_by inside holds reads limit s NoneLeft r answers stream h = tt
+
+-- the first of two facts
+pub handed_first : {H V : Type 0} (hears : H → List (Answer V) → H → Type 0) (h k : H) (P Q : List (Answer V) → Type 0) → Handed hears h k (λ xs. P xs × Q xs) → Handed hears h k P
+handed_first hears h k P Q p = record { answers = p.answers; heard = p.heard; so = p.so.0 }
 
 -- an answer that is kept behind none is kept behind others
 pub keeps_behind : {V : Type 0} (answer : Result (Option (Answer V)) NoMemory) (old more : List (Answer V)) → KeepsAnswer answer [] more → KeepsAnswer answer old (old ++ more)

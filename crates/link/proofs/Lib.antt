@@ -12,6 +12,7 @@ pub mod SpanningLemmas
 pub mod ReadingLemmas
 pub mod NextsLemmas
 pub mod KeepingLemmas
+pub mod InPlaceSteps
 pub mod SendingLemmas
 pub mod HandingLemmas
 pub mod HearingLemmas

@@ -176,6 +176,18 @@ span_at limit s inside count past (kept []) h = rw (eq-eqb s s refl) h.1.counted
 span_at limit s inside count past (kept (x ∷ p)) h = rw (eq-eqb s s refl) h.1.counted
 span_at limit s inside count past over h = h.1.counted
 
+-- the sentinel behind a stretch that isn't empty
+event_is : (limit s : ℕ) (run : List ℕ) → 0 < length run → event_at limit s (kept (masked s run)) s ≡ Event.ended (masked s run)
+event_is limit s [] l = absurd (omega (arith, l))
+event_is limit s (b ∷ x) l = rw (eq-eqb s s refl) refl
+
+begun_is : (limit s : ℕ) (p : List ℕ) → begun_at limit s (kept p) s ≡ kept []
+begun_is limit s p = rw (eq-eqb s s refl) refl
+
+pub none_kept : (p : List ℕ) (count : ℕ) → count ≡ length p → count ≡ 0 → p ≡ []
+none_kept [] count e z = refl
+none_kept (b ∷ p) count e z = absurd (omega (arith, e, z))
+
 module _ {M : Type 0} (limit s : ℕ) (b : Begun) (bytes run behind : List ℕ) (message : M → List ℕ) (size : ℕ) (parts : bytes ≡ run ++ behind) where
   pub past_brings : (used : ℕ) (At : Begun → Type 0) (stretch : ℕ) → stretch ≡ limit → RunsPast limit s b run used At → BringsAbout limit s b bytes message (record { used = used; stretch = stretch; found = TooLong }) At
   past_brings used At stretch e r = about limit s b bytes message (record { used = used; stretch = stretch; found = TooLong }) At passed over (ap (course_of limit s b) parts ∙ r.rest behind) refl e r.at
@@ -208,3 +220,12 @@ module _ {M : Type 0} (limit s : ℕ) (b : Begun) (bytes run behind : List ℕ) 
       sentinel_brings Damaged f = ends_about Damaged f (λ e. cc)
       sentinel_brings TooLong f = ends_about TooLong f (λ e. cc)
       sentinel_brings (Whole m) f = ends_about (Whole m) f (λ e. cc)
+
+  -- a stretch that lies whole
+  pub whole_brings : (At : Begun → Type 0) → b ≡ kept [] → NoZero (masked s run) → 0 < length run → length run ≤ limit → length run ≡ size → behind ≡ s ∷ drop (size + 1) bytes → At (kept [])
+      → (found : Found M) → Finds message (Event.ended (masked s run)) found → Brings limit s b bytes message (record { used = size + 1; stretch = size; found = found }) At
+  whole_brings At e z some short sized marked h found f =
+      let r : RunsOn limit s b run (λ now. now ≡ kept (masked s run)) = record { now = kept (masked s run); at = refl; rest = λ later. ap (λ c. course_of limit s c (run ++ later)) e ∙ kept_on limit s [] run later z (omega (arith, short)) } in
+      let q = event_is limit s run some in
+      sentinel_brings sized (λ now. now ≡ kept (masked s run)) r At marked (subst At (sym (begun_is limit s (masked s run))) h) size
+      (subst (λ x. IsSpan limit x size) (sym q) (omega (arith, sized, masked_length s run))) found (subst (λ x. Finds message x found) (sym q) f)

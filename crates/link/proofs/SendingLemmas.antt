@@ -36,6 +36,14 @@ pub front_out : (s : ℕ) (clean : Bool) (f : List ℕ) (k l : ℕ) → k ≤ le
 front_out s clean f k l h e =
     sym (ap (λ n. take (n + k) (framed s clean f)) e ∙ take-append-add (lead s clean) (f ++ (s ∷ [])) k ∙ ap (λ x. lead s clean ++ x) (take-append-le k f (s ∷ []) h))
 
+-- so many bytes behind the lead
+pub behind_lead : (s : ℕ) (clean : Bool) (bytes : List ℕ) (k l : ℕ) → l ≡ length (lead s clean) → lead s clean ++ take k bytes ≡ take (l + k) (lead s clean ++ bytes)
+behind_lead s clean bytes k l e = sym (ap (λ n. take (n + k) (lead s clean ++ bytes)) e ∙ take-append-add (lead s clean) bytes k)
+
+-- a part of what goes out before the sentinel
+pub front_behind : (s : ℕ) (clean : Bool) (f : List ℕ) (k : ℕ) → k ≤ length (lead s clean ++ f) → take k (lead s clean ++ f) ≡ take k (framed s clean f)
+front_behind s clean f k h = sym (ap (take k) (sym (append_assoc (lead s clean) f (s ∷ []))) ∙ take-append-le k (lead s clean ++ f) (s ∷ []) h)
+
 -- no byte behind these went out
 pub none_out : (s : ℕ) (x : List ℕ) (n : ℕ) → n ≡ 0 → x ++ take n (s ∷ []) ≡ x
 none_out s x n e = ap (λ i. x ++ take i (s ∷ [])) e ∙ append-nil x

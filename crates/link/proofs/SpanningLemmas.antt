@@ -21,6 +21,11 @@ pub limit_at : (limit s : ℕ) (inside : Inside) (count : ℕ) (past : _) (b : B
 limit_at limit s inside count past (kept p) h = h.1.room
 limit_at limit s inside count past over h = h.1.room
 
+-- and its sentinel the receiver's
+pub sentinel_at : (limit s : ℕ) (inside : Inside) (count : ℕ) (past : _) (b : Begun) → IsAtBy limit s inside count past b → inside.sentinel ≡ s
+sentinel_at limit s inside count past (kept p) h = h.1.sentinel
+sentinel_at limit s inside count past over h = h.1.sentinel
+
 module _ (limit s : ℕ) where
   -- a piece that goes past the limit: what stands before the byte past it led to a stretch that is as long as the limit at least
   record Passes (b : Begun) (piece : List ℕ) (used : ℕ) : Type 0 where

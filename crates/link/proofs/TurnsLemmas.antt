@@ -6,7 +6,7 @@ use Rattle.postcard_tree.specs.Tree.{Tree, IsTree}
 use Rattle.link.specs.Run.{Send, written, clean_after, session_line, IsSend, IsSession}
 use Rattle.link.specs.Fates.{IsSendOf, fate_of, fates_of, broke, brokens, clean_after_all, Did, FewBroke, SendsOne, SendsAll}
 use Rattle.link.specs.declared.session.Fate.{Fate}
-use Rattle.link.proofs.HearingLemmas.{zip_one}
+use Rattle.link.specs.Givens.{zip_one}
 
 clean_more : (clean : Bool) (xs : List Send) (x : Send) → clean_after_all clean (xs ++ x ∷ []) ≡ clean_after (clean_after_all clean xs) x
 clean_more clean [] x = refl

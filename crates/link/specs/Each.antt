@@ -5,6 +5,7 @@ use Rattle.postcard_tree.specs.Tree.{Tree}
 use Rattle.postcard_tree.specs.Reading.{ReadsText}
 use Rattle.std.specs.Borrow.{Bor}
 use Rattle.link.specs.Decoding.{Inside}
+use Rattle.link.specs.Receivers.{IsBehind}
 use Rattle.link.specs.Steps.{Event}
 use Rattle.link.specs.Finds.{Replies}
 use Rattle.link.specs.Listening.{KeepsAnswer, HasRead, HasGiven, IsReceived, IsKeptDue, Hears, IsHeard}
@@ -74,6 +75,13 @@ module _ {D : Type 0} (inside : D → Inside) where
       Hears inside holds reads limit s r answers stream
   IsHeardNow holds reads limit s (Some end) r answers stream =
       IsHeard inside holds reads limit s end r answers stream
+
+  -- where the receiver stands, unless it had no memory for an answer
+  abbrev pub StandsNow : ℕ → ℕ → Option End → Reception D → List ℕ → Type 0
+  StandsNow limit s None r stream = IsBehind inside limit s r stream
+  StandsNow limit s (Some Ended) r stream = IsBehind inside limit s r stream
+  StandsNow limit s (Some ReadFault) r stream = IsBehind inside limit s r stream
+  StandsNow limit s (Some NoMemory) r stream = Unit {0}
 
 -- what the answers are, by how the reading of the stream ended, or whether there may be more
 abbrev pub IsReceivedNow : {V : Type 0} → (List ℕ → Tree → Type 0) → (Tree → V → Type 0) → ℕ → ℕ

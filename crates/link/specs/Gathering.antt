@@ -15,36 +15,22 @@ use Rattle.link.specs.declared.listening.End.TheVariants.{Ended, ReadFault, NoMe
 abbrev pub AccumulatorFitsInMemory : RattleType → Type 0
 AccumulatorFitsInMemory N = FitsInMemory (accumulator.the_row N)
 
--- From these held bytes the piece was fed until `rest` of it was left, and these values came: whatever the loop gives from
--- there, it gives behind them.
-pub record GathersFront {V : Type 0} (takes : Tree → Type 0) (reads : Tree → V → Type 0)
-    (growing : Bool) (room : ℕ) (held piece kept rest : List ℕ) (old new : List V) : Type 0 where
+-- From these held bytes the pieces were fed until `rest` was left of them, and these values came: whatever the loop gives
+-- from there, it gives behind them.
+pub record GathersPieces {V : Type 0} (takes : Tree → Type 0) (reads : Tree → V → Type 0) (growing : Bool) (room : ℕ)
+    (held : List ℕ) (pieces : List (List ℕ)) (kept : List ℕ) (rest : List (List ℕ)) (old new : List V) : Type 0 where
   pub got : List V
   pub values : new ≡ old ++ got
   pub goes_on : (may_stop : Bool) (later : List (List ℕ)) (vs : List V)
-      → Loops takes reads growing may_stop room kept (rest ∷ later) vs
-      → Loops takes reads growing may_stop room held (piece ∷ later) (got ++ vs)
+      → Loops takes reads growing may_stop room kept (rest ++ later) vs
+      → Loops takes reads growing may_stop room held (pieces ++ later) (got ++ vs)
 
--- The same of the whole piece.
-pub record GathersPiece {V : Type 0} (takes : Tree → Type 0) (reads : Tree → V → Type 0)
-    (growing : Bool) (room : ℕ) (held piece kept : List ℕ) (old new : List V) : Type 0 where
-  pub got : List V
-  pub values : new ≡ old ++ got
-  pub goes_on : (may_stop : Bool) (later : List (List ℕ)) (vs : List V)
-      → Loops takes reads growing may_stop room kept later vs
-      → Loops takes reads growing may_stop room held (piece ∷ later) (got ++ vs)
-
--- A further value had no place in the list: whatever the loop would have given from there comes behind it.
-pub record LacksPlace {V : Type 0} (takes : Tree → Type 0) (reads : Tree → V → Type 0)
-    (growing : Bool) (room : ℕ) (held piece : List ℕ) (old new : List V) : Type 0 where
-  pub got : List V
-  pub lost : V
-  pub kept : List ℕ
-  pub rest : List ℕ
-  pub values : new ≡ old ++ got
-  pub goes_on : (may_stop : Bool) (later : List (List ℕ)) (vs : List V)
-      → Loops takes reads growing may_stop room kept (rest ∷ later) vs
-      → Loops takes reads growing may_stop room held (piece ∷ later) (got ++ (lost ∷ vs))
+-- A further value came, which had no place in the list.
+abbrev pub LacksPlace : {V : Type 0} → (Tree → Type 0) → (Tree → V → Type 0)
+    → Bool → ℕ → List ℕ → List (List ℕ) → List V → List V → Type 0
+LacksPlace {V} takes reads growing room held pieces old new =
+    (lost : V) × (kept : List ℕ) × (rest : List (List ℕ))
+    × GathersPieces takes reads growing room held pieces kept rest old (new ++ lost ∷ [])
 
 -- `roads`' law of an accumulator, of any values
 abbrev pub AreSameByAccumulator : {V : Type 0} → (Tree → Type 0) → (Tree → V → Type 0)
@@ -57,42 +43,23 @@ abbrev pub some_held : List ℕ → ℕ
 some_held [] = 0
 some_held (b ∷ held) = 1
 
--- The same of pieces one behind another.
-pub record GathersPieces {V : Type 0} (takes : Tree → Type 0) (reads : Tree → V → Type 0)
-    (growing : Bool) (room : ℕ) (held : List ℕ) (pieces : List (List ℕ))
-    (kept : List ℕ) (old new : List V) : Type 0 where
-  pub got : List V
-  pub values : new ≡ old ++ got
-  pub goes_on : (may_stop : Bool) (later : List (List ℕ)) (vs : List V)
-      → Loops takes reads growing may_stop room kept later vs
-      → Loops takes reads growing may_stop room held (pieces ++ later) (got ++ vs)
-
 -- pieces of these bytes on the line
 pub record GathersOnLine {V : Type 0} (takes : Tree → Type 0) (reads : Tree → V → Type 0) (growing : Bool)
-    (room s : ℕ) (held bytes kept : List ℕ) (old new : List V) : Type 0 where
+    (room s : ℕ) (held bytes kept : List ℕ) (rest : List (List ℕ)) (old new : List V) : Type 0 where
   pub pieces : List (List ℕ)
   pub are : joined pieces ≡ bytes
-  pub gathers : GathersPieces takes reads growing room held (map (masked s) pieces) kept old new
-
--- pieces of these bytes on the line; then a further value had no place in the list
-pub record LacksListRoom {V : Type 0} (takes : Tree → Type 0) (reads : Tree → V → Type 0) (growing : Bool)
-    (room s : ℕ) (held bytes : List ℕ) (old new : List V) : Type 0 where
-  pub pieces : List (List ℕ)
-  pub are : joined pieces ≡ bytes
-  pub got : List V
-  pub lost : V
-  pub values : new ≡ old ++ got
-  pub loops : Loops takes reads growing true room held (map (masked s) pieces) (got ++ lost ∷ [])
+  pub gathers : GathersPieces takes reads growing room held (map (masked s) pieces) kept rest old new
 
 -- what was gathered, by how the reading ended
 abbrev pub HasGathered : {V : Type 0} → (Tree → Type 0) → (Tree → V → Type 0) → Bool → ℕ → ℕ → List ℕ
     → List ℕ → List ℕ → List V → List V → End → Type 0
 HasGathered takes reads growing room s held bytes kept old new Ended =
-    GathersOnLine takes reads growing room s held bytes kept old new
+    GathersOnLine takes reads growing room s held bytes kept [] old new
 HasGathered takes reads growing room s held bytes kept old new ReadFault =
-    GathersOnLine takes reads growing room s held bytes kept old new
-HasGathered takes reads growing room s held bytes kept old new NoMemory =
-    LacksListRoom takes reads growing room s held bytes old new
+    GathersOnLine takes reads growing room s held bytes kept [] old new
+HasGathered {V} takes reads growing room s held bytes kept old new NoMemory =
+    (lost : V) × (now : List ℕ) × (rest : List (List ℕ))
+    × GathersOnLine takes reads growing room s held bytes now rest old (new ++ lost ∷ [])
 
 -- Where the stretches of the bytes fit, the values are those of the answers.
 abbrev pub AreThose : {V : Type 0} → (Tree → Type 0) → (Tree → V → Type 0)
@@ -135,9 +102,3 @@ AreLooped takes reads growing room s bytes values ReadFault =
     LoopsOver takes reads growing false room s bytes values
 AreLooped {V} takes reads growing room s bytes values NoMemory =
     (lost : V) × LoopsOver takes reads growing true room s bytes (values ++ lost ∷ [])
-
--- the same at the sentinel zero
-abbrev pub AreThoseBy : {V : Type 0} → (Tree → Type 0) → (Tree → V → Type 0)
-    → Bool → ℕ → List ℕ → List V → End → Type 0
-AreThoseBy takes reads growing room bytes values end =
-    AreThoseFor takes reads growing room 0 bytes values end

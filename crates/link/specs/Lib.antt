@@ -27,3 +27,4 @@ pub mod OneAnswers
 pub mod Stepwise
 pub mod Lengths
 pub mod RoadLaws
+pub mod Givens

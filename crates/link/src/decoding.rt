@@ -1,8 +1,9 @@
 //! What a receiver asks of its decoder, so that receiving is written once.
 ghost use Rattle.std.specs.Prelude.{◌≡◌, [], length, bit_xor};
+ghost use Rattle.cobs.specs.Frames.{NoZero};
 ghost use Rattle.cobs.specs.Sentinel.{masked};
 ghost use Rattle.cobs.specs.Streaming.{HasStreamed};
-ghost use Rattle.cobs.specs.Taking.{FeedsByte, TakesPiece};
+ghost use Rattle.cobs.specs.Taking.{FeedsByte, TakesPiece, DecodesWhole};
 ghost use Rattle.link.specs.Decoding.{Inside};
 
 use cobs::{CobsDecoderHeapless, CobsDecoderOwned, DecodeError, DecodeReport};
@@ -26,6 +27,15 @@ pub trait Decoding {
             (inside self.new).progress (inside self.new).buffer }
         ensures sentinel { (inside self.new).sentinel ≡ (inside self.old).sentinel };
 
+    /// Decodes a frame that lies whole, without its sentinel, and forgets what was taken of another. The caller owes that no byte of it
+    /// is the sentinel.
+    fn decode_whole(&mut self, frame: &[u8]) -> Result<usize, DecodeError>
+        requires clear { NoZero (masked (inside self.old).sentinel frame.now) }
+        ensures decodes { DecodesWhole (inside self.old).buffer
+            (masked (inside self.old).sentinel frame.now) result
+            (inside self.new).progress (inside self.new).buffer }
+        ensures sentinel { (inside self.new).sentinel ≡ (inside self.old).sentinel };
+
     /// Forgets what was taken of a frame.
     fn reset(&mut self)
         ensures idle { HasStreamed (inside self.new).progress [] }
@@ -35,6 +45,10 @@ pub trait Decoding {
     /// The buffer.
     fn dest(&self) -> &[u8]
         ensures { result.now ≡ (inside self.now).buffer };
+
+    /// The byte that ends its frames.
+    fn sentinel(&self) -> u8
+        ensures { result ≡ (inside self.now).sentinel };
 }
 
 impl<const N: usize> Decoding for CobsDecoderHeapless<N> {
@@ -50,12 +64,20 @@ impl<const N: usize> Decoding for CobsDecoderHeapless<N> {
         self.push(bytes)
     }
 
+    fn decode_whole(&mut self, frame: &[u8]) -> Result<usize, DecodeError> {
+        self.decode_whole(frame)
+    }
+
     fn reset(&mut self) {
         self.reset();
     }
 
     fn dest(&self) -> &[u8] {
         self.dest()
+    }
+
+    fn sentinel(&self) -> u8 {
+        self.sentinel()
     }
 }
 
@@ -72,11 +94,19 @@ impl Decoding for CobsDecoderOwned {
         self.push(bytes)
     }
 
+    fn decode_whole(&mut self, frame: &[u8]) -> Result<usize, DecodeError> {
+        self.decode_whole(frame)
+    }
+
     fn reset(&mut self) {
         self.reset();
     }
 
     fn dest(&self) -> &[u8] {
         self.dest()
+    }
+
+    fn sentinel(&self) -> u8 {
+        self.sentinel()
     }
 }

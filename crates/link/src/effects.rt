@@ -9,20 +9,19 @@ ghost use Rattle.link.specs.Each.{Handed, HandsOn, Withholds, HearerLaws, reads_
 ghost use Rattle.link.specs.declared.receiver.Answer.{Answer};
 
 use crate::each::Hearer;
-use crate::judging::Judging;
+use crate::judging::MessageReader;
 use crate::receiver::{Answer, NoMemory};
 use crate::reception::{Taken, read};
 use crate::texts::{JudgingText, TextHearer, read_text};
-use postcard_tree::Readable;
 use std::alloc::Global;
 
 // How a hearer takes answers whose values are seen as V.
 pub(crate) trait Effect<V, H> {
     // Which trees a stretch holds.
-    ghost holds: { List ℕ → Tree → Type 0 };
+    ghost holds: { Self → List ℕ → Tree → Type 0 };
 
     // What a value is read from.
-    ghost reads: { Tree → V → Type 0 };
+    ghost reads: { Self → Tree → V → Type 0 };
 
     // What answers make of the hearer, one after another, and whether it has had enough.
     ghost hears: { H → List (Answer V) → H → Type 0 };
@@ -32,21 +31,22 @@ pub(crate) trait Effect<V, H> {
     ghost enough: { H → Bool };
 
     // Whether values can ask for memory.
-    ghost growing: { Bool };
+    ghost growing: { Self → Bool };
 
     // A stretch holds one tree at most, and is a frame then.
-    fn show()
-        ensures { IsJudged holds };
+    fn show(&self)
+        ensures { IsJudged (holds self.now) };
 
     // Hands on the answer to what a receiver has found, where there is one.
-    fn hand(alloc: Global, taken: Taken<&[u8]>, hearer: &mut H) -> Result<(), NoMemory>
+    fn hand(&self, alloc: Global, taken: Taken<&[u8]>, hearer: &mut H) -> Result<(), NoMemory>
         ensures ok { OnOk result
             ((limit : ℕ) (k : Course) → IsTaken limit k lent_message taken.entry
-            → Handed hears hearer.old hearer.new (HandsOn holds reads k.event)) }
+            → Handed hears hearer.old hearer.new
+            (HandsOn (holds self.now) (reads self.now) k.event)) }
         ensures err { OnErr result ((hearer.new ≡ hearer.old)
             × ((limit : ℕ) (k : Course) → IsTaken limit k lent_message taken.entry
-            → Withholds holds reads k.event)) }
-        ensures memory { OnErr result (growing ≡ true) };
+            → Withholds (holds self.now) (reads self.now) k.event)) }
+        ensures memory { OnErr result (growing self.now ≡ true) };
 
     // Hands on what the end of the stream adds.
     fn end(hearer: &mut H, answer: Answer<V>)
@@ -59,15 +59,16 @@ pub(crate) trait Effect<V, H> {
         ensures { result ≡ enough hearer.now };
 }
 
-// By values, judged so.
-pub(crate) struct ByValue<J> {
-    _judging: J,
+// By values that this reads.
+#[derive(Drop)]
+pub(crate) struct ByValue<'a, M> {
+    pub messages: &'a M,
 }
 
 // Hands on an answer, where there is one.
-fn hand_value<T: Readable + Drop, H: Hearer<T>>(
+fn hand_value<V, H: Hearer<V>>(
     hearer: &mut H,
-    answer: Result<Option<Answer<T>>, NoMemory>,
+    answer: Result<Option<Answer<V>>, NoMemory>,
 ) -> Result<(), NoMemory>
     ensures ok { OnOk result
         (Handed H.hears hearer.old hearer.new (λ answers. KeepsAnswer answer [] answers)) }
@@ -79,14 +80,14 @@ fn hand_value<T: Readable + Drop, H: Hearer<T>>(
             hearer.hear(a);
             Ok(())
         }
-        Err(_) => Err(NoMemory),
+        Err(error) => Err(error),
     }
 }
 
-impl<T: Readable + Drop, J: Judging<T>, H: Hearer<T>> Effect<T, H> for ByValue<J> {
-    ghost holds = { J.holds };
+impl<V, M: MessageReader<V>, H: Hearer<V>> Effect<V, H> for ByValue<'_, M> {
+    ghost holds = { λ e. M.holds e.messages.now };
 
-    ghost reads = { T.reads };
+    ghost reads = { λ e. M.reads e.messages.now };
 
     ghost hears = { H.hears };
 
@@ -94,17 +95,17 @@ impl<T: Readable + Drop, J: Judging<T>, H: Hearer<T>> Effect<T, H> for ByValue<J
 
     ghost enough = { H.enough };
 
-    ghost growing = { T.growing };
+    ghost growing = { λ e. M.growing e.messages.now };
 
-    fn show() {
-        J::show();
+    fn show(&self) {
+        self.messages.show();
     }
 
-    fn hand(alloc: Global, taken: Taken<&[u8]>, hearer: &mut H) -> Result<(), NoMemory> {
-        hand_value(hearer, read::<T, J>(alloc, taken))
+    fn hand(&self, alloc: Global, taken: Taken<&[u8]>, hearer: &mut H) -> Result<(), NoMemory> {
+        hand_value(hearer, read(self.messages, alloc, taken))
     }
 
-    fn end(hearer: &mut H, answer: Answer<T>)
+    fn end(hearer: &mut H, answer: Answer<V>)
         ensures { H.hears hearer.old (answer ∷ []) hearer.new }
     {
         hearer.hear(answer);
@@ -120,8 +121,9 @@ impl<T: Readable + Drop, J: Judging<T>, H: Hearer<T>> Effect<T, H> for ByValue<J
 }
 
 // By texts that lie in the receiver, judged so.
+#[derive(Drop)]
 pub(crate) struct ByText<J> {
-    _judging: J,
+    pub judging: J,
 }
 
 // Hands on an answer, where there is one.
@@ -147,9 +149,9 @@ fn hand_text<H: TextHearer>(
 }
 
 impl<J: JudgingText, H: TextHearer> Effect<&'static str, H> for ByText<J> {
-    ghost holds = { J.holds };
+    ghost holds = { λ _. J.holds };
 
-    ghost reads = { reads_lent };
+    ghost reads = { λ _. reads_lent };
 
     ghost hears = { H.hears };
 
@@ -157,13 +159,13 @@ impl<J: JudgingText, H: TextHearer> Effect<&'static str, H> for ByText<J> {
 
     ghost enough = { H.enough };
 
-    ghost growing = { false };
+    ghost growing = { λ _. false };
 
-    fn show() {
+    fn show(&self) {
         J::show_text();
     }
 
-    fn hand(alloc: Global, taken: Taken<&[u8]>, hearer: &mut H) -> Result<(), NoMemory> {
+    fn hand(&self, alloc: Global, taken: Taken<&[u8]>, hearer: &mut H) -> Result<(), NoMemory> {
         hand_text(hearer, read_text::<J>(alloc, taken))
     }
 

@@ -1,5 +1,5 @@
 //! Frames of values.
-ghost use Rattle.std.specs.Prelude.{◌≡◌, ℕ, ◌<◌, ◌≤◌, [], true, false, Ok, Err, IfOk, IfErr, OnOk, length, take};
+ghost use Rattle.std.specs.Prelude.{◌≡◌, ℕ, ◌<◌, ◌≤◌, [], true, false, Ok, Err, IfOk, IfErr, IfSome, IsSome, OnOk, length, take, drop};
 ghost use Rattle.postcard.specs.Written.{WrittenWhole, UnlessRefused};
 ghost use Rattle.postcard_tree.specs.declared.error.Error.TheVariants.{SerializeBufferFull};
 ghost use Rattle.cobs.specs.Frames.{shortest_frame};
@@ -7,8 +7,8 @@ ghost use Rattle.cobs.specs.Sentinel.{frame_for};
 ghost use Rattle.cobs.specs.Fronts.{StandsIn};
 ghost use Rattle.link.specs.Framing.{Framing, told_of, TookBytes, Refuses, HasRoom, Finishes};
 
-use cobs::FrameFront;
-use postcard::ser_flavors::Flavor;
+use cobs::{FrameFront, encode_in_place};
+use postcard::ser_flavors::{Flavor, IndexByte, Slice};
 use postcard::{Error, Result, Serialize, Serializer};
 
 /// A flavor of postcard's that writes the shortest frame of what is pushed, in any pushes, to the front of a buffer, each byte XORed
@@ -119,6 +119,70 @@ pub fn frame_into_with_sentinel<T: Serialize>(
     buffer: &mut [u8],
     sentinel: u8,
 ) -> Result<usize>
+    requires { 0 < length buffer.old }
+    ensures ok { IfOk result (λ n. WrittenWhole (T.writes value.now) (λ bytes.
+        (n ≡ length (shortest_frame bytes)) × (take n buffer.new ≡ frame_for sentinel bytes))) }
+    ensures err { IfErr result (λ e. UnlessRefused (T.writes value.now) (λ bytes.
+        (e ≡ SerializeBufferFull) × (length buffer.old < length (shortest_frame bytes)))) }
+    ensures valid { OnOk result (T.valid value.now) }
+{
+    match spell_block(value, buffer) {
+        Some(n) => Ok(encode_in_place(buffer, n, sentinel)),
+        None => frame_pushed(value, buffer, sentinel),
+    }
+}
+
+// Spells a value into the buffer behind its first byte, where that has room for it and a block has: its frame can then be made where
+// it stands, which costs less than to frame each of its pieces. Nothing is said of why it isn't spelled.
+fn spell_block<T: Serialize>(value: &T, buffer: &mut [u8]) -> Option<usize>
+    requires { 0 < length buffer.old }
+    ensures spelled { IfSome result (λ n. WrittenWhole (T.writes value.now)
+        (λ bytes. take n (drop 1 buffer.new) ≡ bytes)) }
+    ensures few { IfSome result (λ n. n ≤ 254) }
+    ensures room { IfSome result (λ n. n < length buffer.new) }
+    ensures valid { IsSome result → T.valid value.now }
+{
+    let end = buffer.len().min(255);
+    spell_into(value, &mut buffer[1..end])
+}
+
+// Spells a value at the front of a room, where that has room for it, and answers how many bytes that takes.
+fn spell_into<T: Serialize>(value: &T, room: &mut [u8]) -> Option<usize>
+    ensures spelled { IfSome result (λ n. WrittenWhole (T.writes value.now)
+        (λ bytes. take n room.new ≡ bytes)) }
+    ensures within { IfSome result (λ n. n ≤ length room.new) }
+    ensures valid { IsSome result → T.valid value.now }
+{
+    let (_, spelled) = spell_and_return(value, room);
+    spelled
+}
+
+// The same, and gives the room back, by which its lender knows what it holds.
+fn spell_and_return<'a, T: Serialize>(
+    value: &T,
+    room: &'a mut [u8],
+) -> (&'a mut [u8], Option<usize>)
+    ensures same_reference { result.0.ghost_name ≡ room.entry.ghost_name }
+    ensures spelled { IfSome result.1 (λ n. WrittenWhole (T.writes value.now)
+        (λ bytes. take n result.0.now ≡ bytes)) }
+    ensures within { IfSome result.1 (λ n. n ≤ length result.0.now) }
+    ensures valid { IsSome result.1 → T.valid value.now }
+{
+    let mut spelling = Slice::new(room);
+    let mut serializer = Serializer {
+        output: &mut spelling,
+    };
+    let written = value.serialize(&mut serializer);
+    let n = spelling.held();
+    let room = spelling.into_inner();
+    match written {
+        Ok(()) => (room, Some(n)),
+        Err(_) => (room, None),
+    }
+}
+
+// The same as `frame_into_with_sentinel`, by framing each piece that the value pushes.
+fn frame_pushed<T: Serialize>(value: &T, buffer: &mut [u8], sentinel: u8) -> Result<usize>
     requires { 0 < length buffer.old }
     ensures ok { IfOk result (λ n. WrittenWhole (T.writes value.now) (λ bytes.
         (n ≡ length (shortest_frame bytes)) × (take n buffer.new ≡ frame_for sentinel bytes))) }

@@ -1,10 +1,10 @@
 //! Receiving by postcard's accumulator.
-ghost use Rattle.std.specs.Prelude.{◌≡◌, ◌<◌, OnOk, OnErr, List, ℕ};
+ghost use Rattle.std.specs.Prelude.{◌≡◌, ◌<◌, OnOk, OnErr, List, [], ◌∷◌, ℕ};
 ghost use Rattle.cobs.specs.Sentinel.{masked};
 ghost use Rattle.postcard.specs.Gathers.{held_of, sentinel_of};
 ghost use Rattle.link.specs.Listening.{HasRead};
 ghost use Rattle.link.specs.Each.{UsesFew};
-ghost use Rattle.link.specs.Gathering.{GathersPiece, LacksPlace, AreSameByAccumulator, HasGathered, AreThoseBy, AreThoseFor, AreLooped, AccumulatorFitsInMemory};
+ghost use Rattle.link.specs.Gathering.{GathersPieces, LacksPlace, AreSameByAccumulator, HasGathered, AreThoseFor, AreLooped, AccumulatorFitsInMemory};
 
 use crate::listening::End;
 use crate::receiver::NoMemory;
@@ -36,11 +36,11 @@ fn gather<T: DeserializeOwned, const N: usize>(
     piece: &[u8],
 ) -> Result<(), NoMemory>
     requires { 0 < N }
-    ensures ok { OnOk result (GathersPiece T.takes T.reads T.growing N
-        (held_of accumulator.old) (masked (sentinel_of accumulator.old) piece.now)
-        (held_of accumulator.new) values.old.items values.new.items) }
+    ensures ok { OnOk result (GathersPieces T.takes T.reads T.growing N
+        (held_of accumulator.old) (masked (sentinel_of accumulator.old) piece.now ∷ [])
+        (held_of accumulator.new) [] values.old.items values.new.items) }
     ensures err { OnErr result (LacksPlace T.takes T.reads T.growing N (held_of accumulator.old)
-        (masked (sentinel_of accumulator.old) piece.now) values.old.items values.new.items) }
+        (masked (sentinel_of accumulator.old) piece.now ∷ []) values.old.items values.new.items) }
     ensures sentinel { sentinel_of accumulator.new ≡ sentinel_of accumulator.old }
 {
     let mut rest = piece;
@@ -114,7 +114,7 @@ pub fn receive_by_accumulator<T: DeserializeOwned, R: Inlet, const N: usize>(
     requires fits { AccumulatorFitsInMemory N.row }
     ensures received { (bytes : List ℕ) × HasRead (R.to_come reader) (R.to_come result.reader)
         (R.faults reader) (R.faults result.reader) (R.calls_left result.reader) result.end bytes
-        × AreThoseBy T.takes T.reads T.growing N bytes result.values.items result.end
+        × AreThoseFor T.takes T.reads T.growing N 0 bytes result.values.items result.end
         × AreLooped T.takes T.reads T.growing N 0 bytes result.values.items result.end }
     ensures calls { UsesFew (R.to_come reader) (R.to_come result.reader)
         (R.faults reader) (R.faults result.reader)

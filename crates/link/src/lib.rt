@@ -36,6 +36,7 @@
 //! | frame what a serializer of the caller's pushes | `Framed`, a flavor of postcard's |
 //! | receive from pieces | `Receiver`: `push`, `push_ref` of values that borrow, `push_strict` of what sending makes alone; each tells how long the answered stretch was |
 //! | receive with a limit that is a value, and set it anew | `OwnedReceiver` |
+//! | receive by a reader of messages that is a value, as one by a table of types | `push_with`, `listen_with`, `receive_each_with` of a receiver; `MessageReader` |
 //! | receive from a reader, each answer handed on when its last byte was read | `listen` of a receiver, `receive_each`; `listen_texts`, `receive_each_text` of texts where they lie |
 //! | receive all that a reader gives | `receive`, `receive_strict`, `receive_owned`, `receive_by_accumulator` |
 //! | read a buffer where it lies | `read_in_place` |
@@ -85,6 +86,7 @@ pub use each::{
 pub use framed::{Framed, frame_into, frame_into_with_sentinel};
 pub use gathering::{Gathered, receive_by_accumulator, receive_by_accumulator_with_sentinel};
 pub use in_place::{read_in_place, read_in_place_with_sentinel};
+pub use judging::{ExactReader, FrontReader, MessageReader, OfType, Ordinary, Strict};
 pub use listening::{
     End, Received, receive, receive_owned, receive_owned_strict, receive_strict,
     receive_strict_with_sentinel, receive_with_sentinel,

@@ -8,17 +8,13 @@ ghost use Rattle.link.specs.Each.{UsesFew};
 ghost use Rattle.link.specs.Firsts.{listed_end};
 
 use crate::decoding::Decoding;
-use crate::each::receive_each_by;
-use crate::effects::ByValue;
-use crate::judging::{Judging, Ordinary, Strict};
+use crate::judging::{MessageReader, OfType, Ordinary, Strict};
 use crate::listed::Listed;
 use crate::owned::OwnedReceiver;
 use crate::receiver::{Answer, NoMemory, Receiver};
 use crate::reception::Reception;
-use cobs::{CobsDecoderHeapless, CobsDecoderOwned};
 use line_io::Inlet;
 use postcard::{DeserializeOwned, Exact};
-use postcard_tree::Readable;
 use std::alloc::Global;
 
 /// How a reception ended.
@@ -60,32 +56,28 @@ fn ended_as(end: Option<End>, full: bool) -> End
     }
 }
 
-// The answers to all that a reader gives, by a receiver that was given nothing and a way of judging frames.
-fn receive_by<T: Readable + Drop, J: Judging<T>, R: Inlet, D: Decoding>(
+// The answers to all that a reader gives, by a receiver that was given nothing and a reader of messages.
+fn receive_by<V: Drop, M: MessageReader<V>, R: Inlet, D: Decoding>(
     alloc: Global,
+    messages: &M,
     reader: R,
     receiver: &mut Reception<D>,
-) -> Received<T, R>
+) -> Received<V, R>
     ensures received { (limit s : ℕ) → IsBehind D.inside limit s receiver.old []
         → (bytes : List ℕ) × HasRead (R.to_come reader) (R.to_come result.reader)
         (R.faults reader) (R.faults result.reader) (R.calls_left result.reader) result.end bytes
-        × IsReceived J.holds T.reads limit s result.end result.answers.items bytes }
+        × IsReceived (M.holds messages.now) (M.reads messages.now) limit s result.end result.answers.items bytes }
     ensures calls { UsesFew (R.to_come reader) (R.to_come result.reader)
         (R.faults reader) (R.faults result.reader)
         (R.calls_left reader) (R.calls_left result.reader) 1 }
 {
-    J::show();
+    messages.show();
     let mut reader = reader;
     let mut list = Listed {
         answers: Vec::new(alloc),
         full: false,
     };
-    let end = receive_each_by::<T, ByValue<J>, R, D, Listed<T>>(
-        alloc,
-        receiver,
-        &mut reader,
-        &mut list,
-    );
+    let end = receiver.receive_each_with(alloc, messages, &mut reader, &mut list);
     let Listed { answers, full } = list;
     Received {
         answers,
@@ -128,7 +120,7 @@ pub fn receive_with_sentinel<T: DeserializeOwned, R: Inlet, const N: usize>(
         (R.calls_left reader) (R.calls_left result.reader) 1 }
 {
     let mut receiver = Receiver::<N>::new_with_sentinel(sentinel);
-    receive_by::<T, Ordinary, R, CobsDecoderHeapless<N>>(alloc, reader, &mut receiver)
+    receive_by(alloc, &Ordinary(OfType), reader, &mut receiver)
 }
 
 /// As `receive`, but a stretch within the limit is a `Value` only where it is the very frame that sending that value makes, and
@@ -164,7 +156,7 @@ pub fn receive_strict_with_sentinel<T: DeserializeOwned + Exact, R: Inlet, const
         (R.calls_left reader) (R.calls_left result.reader) 1 }
 {
     let mut receiver = Receiver::<N>::new_with_sentinel(sentinel);
-    receive_by::<T, Strict, R, CobsDecoderHeapless<N>>(alloc, reader, &mut receiver)
+    receive_by(alloc, &Strict(OfType), reader, &mut receiver)
 }
 
 // What is received where no receiver could be made: nothing was read.
@@ -195,11 +187,7 @@ pub fn receive_owned<T: DeserializeOwned, R: Inlet>(
         (R.calls_left reader) (R.calls_left result.reader) 1 }
 {
     match OwnedReceiver::new(alloc, limit, sentinel) {
-        Ok(mut receiver) => receive_by::<T, Ordinary, R, CobsDecoderOwned>(
-            alloc,
-            reader,
-            &mut receiver,
-        ),
+        Ok(mut receiver) => receive_by(alloc, &Ordinary(OfType), reader, &mut receiver),
         Err(NoMemory) => unmade(alloc, reader),
     }
 }
@@ -222,11 +210,7 @@ pub fn receive_owned_strict<T: DeserializeOwned + Exact, R: Inlet>(
         (R.calls_left reader) (R.calls_left result.reader) 1 }
 {
     match OwnedReceiver::new(alloc, limit, sentinel) {
-        Ok(mut receiver) => receive_by::<T, Strict, R, CobsDecoderOwned>(
-            alloc,
-            reader,
-            &mut receiver,
-        ),
+        Ok(mut receiver) => receive_by(alloc, &Strict(OfType), reader, &mut receiver),
         Err(NoMemory) => unmade(alloc, reader),
     }
 }

@@ -5,15 +5,14 @@ ghost use Rattle.cobs.specs.Frames.{NoZero};
 ghost use Rattle.cobs.specs.Sentinel.{masked};
 ghost use Rattle.link.specs.Stream.{Begun, kept, begun, HoldsExactly};
 ghost use Rattle.link.specs.Steps.{Event, event_at, begun_at, Course, course_of, RunsOn, RunsPast};
-ghost use Rattle.link.specs.Pushes.{Answered, IsStretchOf, finished};
+ghost use Rattle.link.specs.Pushes.{Answered, IsStretchOf, begun_length, finished};
 ghost use Rattle.link.specs.Finds.{Finds, IsWithin, IsTaken, Brings, Replies, front_of, lent_message};
 
 use crate::decoding::Decoding;
-use crate::judging::{Judging, Ordinary, Strict};
+use crate::judging::{MessageReader, OfType, Ordinary, Strict};
 use crate::receiver::{Answer, NoMemory, Pushed};
 use cobs::before_sentinel;
 use postcard::{DeserializeOwned, Exact};
-use postcard_tree::Readable;
 use std::alloc::Global;
 
 // What is found in a piece, by what a frame carries: how long its message is, which stands in front of the buffer, or the message.
@@ -48,20 +47,25 @@ pub struct Reception<D> {
 }
 
 // The answer to what was found.
-pub(crate) fn read<T: Readable + Drop, J: Judging<T>>(
+pub(crate) fn read<V, M: MessageReader<V>>(
+    messages: &M,
     alloc: Global,
     taken: Taken<&[u8]>,
-) -> Result<Option<Answer<T>>, NoMemory>
+) -> Result<Option<Answer<V>>, NoMemory>
     ensures replies { (limit : ℕ) (k : Course) → IsTaken limit k lent_message taken.entry
-        → Replies J.holds T.reads k.event result }
-    ensures memory { OnErr result (T.growing ≡ true) }
+        → Replies (M.holds messages.now) (M.reads messages.now) k.event result }
+    ensures memory { OnErr result (M.growing messages.now ≡ true) }
 {
-    J::show();
+    messages.show();
     match taken.found {
         Found::Nothing => Ok(None),
         Found::Damaged => Ok(Some(Answer::Damaged)),
         Found::TooLong => Ok(Some(Answer::TooLong)),
-        Found::Whole(message) => J::judge(alloc, message, taken.stretch),
+        Found::Whole(message) => match messages.read(alloc, message, taken.stretch) {
+            Ok(Some(value)) => Ok(Some(Answer::Value(value))),
+            Ok(None) => Ok(Some(Answer::Damaged)),
+            Err(error) => Err(error),
+        },
     }
 }
 
@@ -146,7 +150,28 @@ impl<D: Decoding> Reception<D> {
         None
     }
 
-    // Takes bytes through the first sentinel, or up to the byte past the limit.
+    // Takes a stretch that lies whole within the limit, without its sentinel, where none was begun.
+    #[inline(always)]
+    fn take_whole(&mut self, stretch: &[u8]) -> Found<usize>
+        requires { NoZero (masked (D.inside self.old.decoder).sentinel stretch.now) }
+        ensures found { (limit s : ℕ) → IsAt D.inside limit s self.old (kept [])
+            → 0 < length stretch.now → length stretch.now ≤ limit
+            → IsAt D.inside limit s self.new (kept [])
+            × Finds (front_of (buffer_in D.inside self.new)) (Event.ended (masked s stretch.now))
+            result }
+        ensures within { IsWithin (length (buffer_in D.inside self.new)) result }
+        ensures same { SameTerms D.inside self.old self.new }
+    {
+        cobs::laws::message_of_a_frame();
+        cobs::laws::shorter();
+        let Ok(size) = self.decoder.decode_whole(stretch) else {
+            return Found::Damaged;
+        };
+        Found::Whole(size)
+    }
+
+    // Takes bytes through the first sentinel, or up to the byte past the limit. A stretch that lies whole there is decoded at once.
+    #[inline(always)]
     fn take_next(&mut self, bytes: &[u8]) -> Taken<usize>
         ensures brings { (limit s : ℕ) (b : Begun) → IsAt D.inside limit s self.old b
             → Brings limit s b bytes.now (front_of (buffer_in D.inside self.new)) result
@@ -156,8 +181,15 @@ impl<D: Decoding> Reception<D> {
         ensures forward { 0 < length bytes.now → 0 < result.used }
         ensures same { SameTerms D.inside self.old self.new }
     {
-        let size = before_sentinel(bytes, self.sentinel);
+        let size = before_sentinel(bytes, self.decoder.sentinel());
         let (run, behind) = bytes.split_at(size);
+        if self.is_between() && !behind.is_empty() && 0 < size && size <= self.limit() {
+            return Taken {
+                used: size + 1,
+                stretch: size,
+                found: self.take_whole(run),
+            };
+        }
         match self.take_run(run) {
             Some(used) => {
                 return Taken {
@@ -248,33 +280,6 @@ impl<D: Decoding> Reception<D> {
         }
     }
 
-    // Takes bytes of the piece up to the first answer.
-    pub(crate) fn push_by<T: Readable + Drop, J: Judging<T>>(
-        &mut self,
-        alloc: Global,
-        piece: &[u8],
-    ) -> Pushed<T>
-        ensures within { result.used ≤ length piece.now }
-        ensures forward { 0 < length piece.now → 0 < result.used }
-        ensures stands { (limit s : ℕ) (stream : List ℕ) → IsBehind D.inside limit s self.old stream
-            → IsBehind D.inside limit s self.new (stream ++ take result.used piece.now) }
-        ensures answers { (limit s : ℕ) (stream : List ℕ)
-            → IsBehind D.inside limit s self.old stream
-            → Answered J.holds T.reads limit s stream piece.now result.used result.answer }
-        ensures stretch { (limit s : ℕ) (stream : List ℕ)
-            → IsBehind D.inside limit s self.old stream
-            → IsStretchOf s stream piece.now result.used result.answer result.stretch }
-        ensures memory { OnErr result.answer (T.growing ≡ true) }
-        ensures same { SameTerms D.inside self.old self.new }
-    {
-        let taken = self.take(piece);
-        Pushed {
-            used: taken.used,
-            stretch: taken.stretch,
-            answer: read::<T, J>(alloc, self.lend(taken)),
-        }
-    }
-
     /// Takes bytes of the piece up to the first answer: through the sentinel of an ended stretch, or through the byte past the limit;
     /// where there is none, all of them. An answer is to the stretch as a whole, also where earlier pushes took its beginning.
     pub fn push<T: DeserializeOwned>(&mut self, alloc: Global, piece: &[u8]) -> Pushed<T>
@@ -291,7 +296,7 @@ impl<D: Decoding> Reception<D> {
         ensures memory { OnErr result.answer (T.growing ≡ true) }
         ensures same { SameTerms D.inside self.old self.new }
     {
-        self.push_by::<T, Ordinary>(alloc, piece)
+        self.push_with(alloc, &Ordinary(OfType), piece)
     }
 
     /// As `push`, but a stretch within the limit is a `Value` only where it is the very frame that sending that value makes, and
@@ -314,7 +319,37 @@ impl<D: Decoding> Reception<D> {
         ensures memory { OnErr result.answer (T.growing ≡ true) }
         ensures same { SameTerms D.inside self.old self.new }
     {
-        self.push_by::<T, Strict>(alloc, piece)
+        self.push_with(alloc, &Strict(OfType), piece)
+    }
+
+    /// As `push`, by a reader of messages, of which each push may name another. `push` is this with
+    /// `Ordinary(OfType)`, and `push_strict` with `Strict(OfType)`.
+    pub fn push_with<V, M: MessageReader<V>>(
+        &mut self,
+        alloc: Global,
+        messages: &M,
+        piece: &[u8],
+    ) -> Pushed<V>
+        ensures within { result.used ≤ length piece.now }
+        ensures forward { 0 < length piece.now → 0 < result.used }
+        ensures stands { (limit s : ℕ) (stream : List ℕ) → IsBehind D.inside limit s self.old stream
+            → IsBehind D.inside limit s self.new (stream ++ take result.used piece.now) }
+        ensures answers { (limit s : ℕ) (stream : List ℕ)
+            → IsBehind D.inside limit s self.old stream
+            → Answered (M.holds messages.now) (M.reads messages.now)
+            limit s stream piece.now result.used result.answer }
+        ensures stretch { (limit s : ℕ) (stream : List ℕ)
+            → IsBehind D.inside limit s self.old stream
+            → IsStretchOf s stream piece.now result.used result.answer result.stretch }
+        ensures memory { OnErr result.answer (M.growing messages.now ≡ true) }
+        ensures same { SameTerms D.inside self.old self.new }
+    {
+        let taken = self.take(piece);
+        Pushed {
+            used: taken.used,
+            stretch: taken.stretch,
+            answer: read(messages, alloc, self.lend(taken)),
+        }
     }
 
     /// Whether no stretch is begun. After a `TooLong` one is, until its sentinel.
@@ -324,6 +359,14 @@ impl<D: Decoding> Reception<D> {
             → (IsTrue result ↔ (begun limit s stream ≡ kept [])) }
     {
         !self.past && self.count == 0
+    }
+
+    /// How many bytes a begun stretch has so far: 0 where none is begun, and after a `TooLong`.
+    pub fn begun_bytes(&self) -> usize
+        ensures { (limit s : ℕ) (stream : List ℕ) → IsBehind D.inside limit s self.now stream
+            → result ≡ begun_length (begun limit s stream) }
+    {
+        self.count
     }
 
     // What the end of the stream adds.

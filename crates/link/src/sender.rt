@@ -134,7 +134,8 @@ impl<W: Outlet, const N: usize> Sender<W, N> {
         match put_frame(
             &mut self.writer,
             self.clean,
-            &self.buffer[..n],
+            &mut self.buffer,
+            n,
             self.sentinel,
         ) {
             None => {

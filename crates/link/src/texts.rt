@@ -16,15 +16,14 @@ ghost use Rattle.link.specs.declared.receiver.Answer.{Answer};
 ghost use Rattle.link.specs.declared.listening.End.TheVariants.{ReadFault};
 
 use crate::decoding::Decoding;
-use crate::each::receive_each_by;
+use crate::each::{ROOM, receive_each_by};
 use crate::effects::ByText;
-use crate::judging::{Ordinary, Strict, judged, judged_exactly};
+use crate::judging::{OfType, Ordinary, Strict, judged, judged_exactly};
 use crate::lent::{read_exact_message, read_message};
 use crate::listening::End;
 use crate::owned::OwnedReceiver;
 use crate::receiver::{Answer, NoMemory, Receiver};
 use crate::reception::{Found, Reception, Taken};
-use cobs::{CobsDecoderHeapless, CobsDecoderOwned};
 use line_io::Inlet;
 use std::alloc::Global;
 
@@ -72,7 +71,7 @@ pub(crate) trait JudgingText {
         ensures { IsJudged holds };
 }
 
-impl JudgingText for Ordinary {
+impl JudgingText for Ordinary<OfType> {
     ghost holds = { Holds TakesText };
 
     fn judge_text<'de>(
@@ -89,7 +88,7 @@ impl JudgingText for Ordinary {
     }
 }
 
-impl JudgingText for Strict {
+impl JudgingText for Strict<OfType> {
     ghost holds = { HoldsExactly TakesText };
 
     fn judge_text<'de>(
@@ -146,7 +145,15 @@ impl<D: Decoding> Reception<D> {
             (R.calls_left reader.old) (R.calls_left reader.new) (last_call result) }
         ensures same { SameTerms D.inside self.old self.new }
     {
-        self.listen_by::<&'static str, ByText<Ordinary>, R, H>(alloc, reader, hearer)
+        self.listen_by(
+            &ByText {
+                judging: Ordinary(OfType),
+            },
+            alloc,
+            reader,
+            hearer,
+            &mut [0u8; ROOM],
+        )
     }
 
     /// As `listen_texts`, but a stretch within the limit is a `Value` only where it is the very frame that sending that text makes,
@@ -172,7 +179,15 @@ impl<D: Decoding> Reception<D> {
             (R.calls_left reader.old) (R.calls_left reader.new) (last_call result) }
         ensures same { SameTerms D.inside self.old self.new }
     {
-        self.listen_by::<&'static str, ByText<Strict>, R, H>(alloc, reader, hearer)
+        self.listen_by(
+            &ByText {
+                judging: Strict(OfType),
+            },
+            alloc,
+            reader,
+            hearer,
+            &mut [0u8; ROOM],
+        )
     }
 }
 
@@ -197,7 +212,10 @@ pub fn receive_each_text<R: Inlet, H: TextHearer, const N: usize>(
         (R.calls_left reader.old) (R.calls_left reader.new) (last_call result) }
 {
     let mut receiver = Receiver::<N>::new_with_sentinel(sentinel);
-    receive_each_by::<&'static str, ByText<Ordinary>, R, CobsDecoderHeapless<N>, H>(
+    receive_each_by(
+        &ByText {
+            judging: Ordinary(OfType),
+        },
         alloc,
         &mut receiver,
         reader,
@@ -226,7 +244,10 @@ pub fn receive_each_text_strict<R: Inlet, H: TextHearer, const N: usize>(
         (R.calls_left reader.old) (R.calls_left reader.new) (last_call result) }
 {
     let mut receiver = Receiver::<N>::new_with_sentinel(sentinel);
-    receive_each_by::<&'static str, ByText<Strict>, R, CobsDecoderHeapless<N>, H>(
+    receive_each_by(
+        &ByText {
+            judging: Strict(OfType),
+        },
         alloc,
         &mut receiver,
         reader,
@@ -257,7 +278,10 @@ pub fn receive_each_text_owned<R: Inlet, H: TextHearer>(
     ensures unmade { OnErr result ((reader.new ≡ reader.old) × (hearer.new ≡ hearer.old)) }
 {
     let mut receiver = OwnedReceiver::new(alloc, limit, sentinel)?;
-    Ok(receive_each_by::<&'static str, ByText<Ordinary>, R, CobsDecoderOwned, H>(
+    Ok(receive_each_by(
+        &ByText {
+            judging: Ordinary(OfType),
+        },
         alloc,
         &mut receiver,
         reader,
@@ -288,7 +312,10 @@ pub fn receive_each_text_owned_strict<R: Inlet, H: TextHearer>(
     ensures unmade { OnErr result ((reader.new ≡ reader.old) × (hearer.new ≡ hearer.old)) }
 {
     let mut receiver = OwnedReceiver::new(alloc, limit, sentinel)?;
-    Ok(receive_each_by::<&'static str, ByText<Strict>, R, CobsDecoderOwned, H>(
+    Ok(receive_each_by(
+        &ByText {
+            judging: Strict(OfType),
+        },
         alloc,
         &mut receiver,
         reader,

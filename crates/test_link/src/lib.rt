@@ -24,6 +24,8 @@ mod link_texts;
 #[cfg(test)]
 mod malicious;
 #[cfg(test)]
+mod message_readers;
+#[cfg(test)]
 mod owned_receiver;
 #[cfg(test)]
 mod refused_growths;

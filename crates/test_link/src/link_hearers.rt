@@ -4,6 +4,7 @@ ghost use Rattle.std.specs.Prelude.{◌≡◌, ⊤};
 ghost use Rattle.link.specs.Each.{HeardAnyhow, heard_anyhow};
 
 use crate::checks::check;
+use crate::message_readers::Chosen;
 use line_io::memory::In;
 use link::{
     Answer, End, Hearer, OwnedReceiver, Pushed, Receiver, TextHearer, receive_each,
@@ -191,6 +192,50 @@ fn each_by_a_limit(rt: HostRuntime) {
     let mut reader = In::new(&LINE, 1, None);
     let end = receive_each_owned_strict::<u32, _, _>(alloc, &mut reader, &mut wanted, 4, 0);
     check(&rt, end == Ok(Some(End::Ended)) && wanted.has_heard(7));
+}
+
+/// By a reader of messages that was told when the program ran how to read.
+#[test]
+fn each_by_a_reader(rt: HostRuntime) {
+    let alloc = rt.alloc();
+    let mut wanted = Wanted::new(&HEARD);
+    let mut reader = In::new(&LINE, 1, None);
+    let mut receiver = Receiver::<4>::new();
+    let end = receiver.receive_each_with(
+        alloc,
+        &Chosen { strict: false },
+        &mut reader,
+        &mut wanted,
+    );
+    check(&rt, end == Some(End::Ended) && wanted.has_heard(7));
+    let mut wanted = Wanted::new(&HEARD_STRICTLY);
+    let mut reader = In::new(&LINE, 28, None);
+    let mut receiver = Receiver::<4>::new();
+    let end = receiver.listen_with(alloc, &Chosen { strict: true }, &mut reader, &mut wanted);
+    check(
+        &rt,
+        end.is_none() && wanted.heard == 6 && wanted.pauses == 1,
+    );
+}
+
+/// Into a room of the caller's: a read brings no more than it holds, and what an earlier one has left there isn't heard.
+#[test]
+fn each_read_into_a_room(rt: HostRuntime) {
+    let mut receiver = Receiver::<4>::new();
+    let mut wanted = Wanted::new(&HEARD);
+    let mut reader = In::new(&LINE, 28, None);
+    let mut room = [0u8; 20];
+    for moved in [20, 28] {
+        let end = receiver.listen_with_room(
+            rt.alloc(),
+            &Chosen { strict: false },
+            &mut reader,
+            &mut wanted,
+            &mut room,
+        );
+        check(&rt, end.is_none() && reader.moved() == moved);
+    }
+    check(&rt, wanted.heard == 6 && wanted.pauses == 2);
 }
 
 /// One read a call, and nothing that it has brought about is left.

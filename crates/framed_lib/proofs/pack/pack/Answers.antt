@@ -14,8 +14,8 @@ returns-in-Ended g c =
     (Writing g.E.Outlet.written g.E.Outlet.faults g.E.Outlet.calls_left c.args.faults.now c.pack_text.new.faults)
     c.pack_text.result (whole-read c.deref.result.now _ (rw c.deref.ensures.value (read-whole c.new-text.ensures.items (c.in-Ended.ensures.ended refl)))) c.pack_text.ensures
 
-pub returns-in-NoMemory : goal.returns-in-NoMemory
-returns-in-NoMemory g c =
+pub returns : goal.returns
+returns g c =
     let lost = read-front (Reading g.R.Inlet.to_come g.R.Inlet.faults g.R.Inlet.calls_left c.args.reader.now c.read_to_end.new.inlet stopped) c.new-text.ensures.items (c.in-NoMemory.ensures.memory refl) in
     unheld Pack c.args.hex c.args.sentinel (c.read_to_end.new.bytes.items ++ lost.0)
     (Reading g.R.Inlet.to_come g.R.Inlet.faults g.R.Inlet.calls_left c.args.reader.now c.read_to_end.new.inlet)

@@ -1,5 +1,5 @@
 use Rattle.std.proofs.Common.{◌≡◌, ◌<◌, ◌+◌, ◌∷◌, length, ap, ◌∙◌, arith, length-append}
-use Rattle.framed_lib.proofs.SendingLemmas.{next-line, last-line}
+use Rattle.framed_lib.proofs.SendingLemmas.{next-line, lines-last}
 use Rattle.framed_lib.proofs.pieces.next_line.Goals as goal
 
 pub returns-in-Some : goal.returns-in-Some
@@ -13,4 +13,4 @@ returns-in-Some c =
 pub returns-in-None : goal.returns-in-None
 returns-in-None c =
     let some : 0 < length c.args.text.now = grind arith in
-    (last-line _ c.in-None.ensures some, some)
+    (lines-last _ c.in-None.ensures some, some)

@@ -3,7 +3,7 @@ use Rattle.std.proofs.lemmas.Result.{on_ok_weaker, on_err_weaker}
 use Rattle.line_io.specs.Transfers.{Writing, Reading, broken}
 use Rattle.framed_lib.specs.Lines.{answer_lines}
 use Rattle.framed_lib.proofs.OutputLemmas.{put-flush, put-went}
-use Rattle.framed_lib.proofs.WorkLemmas.{bytes-worked-now, has-read-now}
+use Rattle.framed_lib.proofs.WorkLemmas.{bytes-worked, has-read-now}
 use Rattle.framed_lib.proofs.unpack.unpack_bytes.Goals as goal
 
 no_both : (b : _) → b ≡ true → b ≡ false → ⊥
@@ -16,8 +16,8 @@ returns g c =
     let t = h.2.heard in
     let lines = answer_lines h.2.answers in
     let w = c.write_rest-written.result in
-    rw c.outcome_so_far.ensures
-    (bytes-worked-now c.args.strict c.args.sentinel h.2.answers h.0
+    rw c.outcome.ensures
+    (bytes-worked c.args.strict c.args.sentinel h.2.answers h.0
     (Reading g.R.Inlet.to_come g.R.Inlet.faults g.R.Inlet.calls_left c.args.reader c.hand_texts-end.new.reader)
     (Writing g.W.Outlet.written g.W.Outlet.faults g.W.Outlet.calls_left c.args.writer c.write_rest-written.new.writer)
     c.hand_texts-end.result w k.good h.2.so

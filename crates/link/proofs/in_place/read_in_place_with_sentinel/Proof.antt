@@ -1,60 +1,12 @@
 -- Where no stretch is ended the bytes are free again once that is answered: `cut_behind` says what they hold then.
 -- The proof is by hand, since none is generated where the result holds a value of a bound's type. Assumes `Logic`.
-use Rattle.std.proofs.Common.{◌≡◌, ℕ, List, [], ◌∷◌, ◌++◌, length, w8, w64, refl, sym, ap, ◌∙◌, subst, true, IfSome, IfNone, OnErr}
-use Rattle.std.specs.Borrow.{LendsBothIf, Array}
-use seplogic.Ra.Ura.{Ura}
-use mir.Syntax.{Fn, Args as TypeArgs, a_type, dcons, dnil, named, erased}
-use mir.MapTy.{inst_fn}
-use mir.Val.{Val, vstruct, of_list}
-use base.Fml.{Lft, ftrue, flft}
-use base.Logic.{id⊢, emp}
-use types.Logic.{Logic}
-use types.Kit.{‵, raw, ◌⊛◌, some, later, ◌$◌, ◌∵◌, !, qed, by, move, keep, drop, split, join, fjoin, pick, use0, use1, await, fsplit, fpick, feq_l, rewrite}
-use types.Part.{whole, sub, agg}
-use types.Run.{stop, fld, hop, from, addr, of_opd, no_more, and_then, returns, enter}
-use types.ByLocal.{alloc_all, pass_all, free_all, look_at, look_in_at, get, get_in, sets, lands_as}
-use contract.Monad.{fact, fact_i}
-use contract.Lifetimes.{Lfts}
-use contract.BorrowLft.{◌⊑◌}
-use contract.Running.{tables}
-use denote.Builtin.{u8, usize}
-use denote.Exit.{yes, no}
-use denote.RattleType.{RattleType}
-use denote.Plain.{uint_Makes, uint_vals, uint_Tells}
-use denote.Ref.{NamedLft}
-use denote.Slice.{MutSlice, Room, mut_slice_vals, mut_slice_Tells}
-use denote.Signature.{plain, mut_slice_of}
-use denote.Laws.{Is, Lawful, shows}
-use denote.Struct.Field.{shr_slice_field, mut_slice_field, u8-field}
+use Rattle.link.proofs.InPlaceSteps.{◌≡◌, ℕ, List, [], ◌∷◌, ◌++◌, length, w8, w64, refl, sym, ap, ◌∙◌, subst, true, IfSome, IfNone, OnErr, LendsBothIf, Array, Fn, TypeArgs, a_type, dcons, dnil, named, erased, inst_fn, Val, vstruct, of_list, Lft, ftrue, flft, id⊢, emp, ‵, raw, ◌⊛◌, some, later, ◌$◌, ◌∵◌, !, qed, by, move, keep, drop, split, join, fjoin, pick, use0, use1, await, fsplit, fpick, feq_l, rewrite, whole, sub, agg, stop, fld, hop, from, addr, of_opd, no_more, and_then, returns, enter, alloc_all, pass_all, free_all, look_at, look_in_at, get, get_in, sets, lands_as, fact, fact_i, Lfts, ◌⊑◌, tables, u8, usize, yes, no, RattleType, uint_Makes, uint_vals, uint_Tells, NamedLft, Room, mut_slice_vals, mut_slice_Tells, plain, mut_slice_of, Is, shows, shr_slice_field, Tuple, nothing, owned, heard, peeks, only, bounded, Lasts, lasts, triple_of, calls_at, framed, Stays, stay_dropped, walk_of, Goes-dropped, Goes-spent_slice, proved, leaves, Global, global_type, masked, unpadded, ReadsNext, IsEnd, IsNext, AnswersNext, KeptUnlessEnded, Slice, Parts, Found, lawful_parts, lawful_found}
 use denote.Struct.Laws as struct_law
 use denote.Struct.Loose as struct_loose
-use denote.Struct.Tuple.{Tuple, tuple_laws}
-use denote.Steps.{nothing, owned, heard, peeks, only}
-use denote.Param.{param, bounded}
-use denote.Param.Laws.{Laws, param_laws, of_field, row_shared}
-use denote.Param.Shared.{mut_slice_shared, copy_shared}
-use denote.Triple.Clauses.{Lasts, lasts}
-use denote.Triple.Spec.{triple_of}
-use denote.Triple.Call.{calls_at}
-use denote.Triple.Table.{framed}
-use denote.Triple.Walked.{Stays, stay_dropped, walk_of, Goes-dropped, Goes-spent_slice}
-use Rattle.std.proofs.raw_atomic.Walks.{proved, leaves}
-use Rattle.std.specs.contracts.option.Option.{the_row as Option}
-use Rattle.std.proofs.option.Option.TheLaws.{the_row_laws as option_laws}
-use Rattle.std.specs.contracts.result.Result.{the_row as Result}
-use Rattle.std.proofs.result.Result.TheLaws.{the_row_laws as result_laws}
-use Rattle.std.specs.contracts.alloc.Global.{the_row as Global, the_type as global_type}
 use Rattle.std.proofs.alloc.Global.TheLaws as global
 use Rattle.postcard_de.specs.contracts.deserialize.Deserialize.TheBound as bound
 use Rattle.postcard_de.specs.contracts.de_flavors.RefSliceU8Bytes.TheImpl as shared
-use Rattle.cobs.specs.Sentinel.{masked}
-use Rattle.cobs.specs.Whole.{unpadded}
-use Rattle.link.specs.InPlace.{ReadsNext, IsEnd, IsNext, AnswersNext, KeptUnlessEnded}
 use Rattle.link.proofs.KeepingLemmas.{kept_unless_ended}
-use Rattle.link.specs.contracts.receiver.Answer.{the_row as Answer}
-use Rattle.link.proofs.receiver.Answer.TheLaws.{the_row_laws as answer_laws}
-use Rattle.link.specs.contracts.receiver.NoMemory.{the_row as NoMemory}
-use Rattle.link.proofs.receiver.NoMemory.TheLaws.{the_row_laws as no_memory_laws}
 use Rattle.link.specs.contracts.in_place.with_end as ends
 use Rattle.link.proofs.in_place.with_end.Met as end_met
 use Rattle.link.specs.contracts.in_place.cut_behind as nexts
@@ -65,31 +17,6 @@ use Rattle.link.specs.contracts.in_place.read_in_place_with_sentinel as self
 use Rattle.link.specs.contracts.in_place.read_in_place_with_sentinel.Key.{name as #self}
 use Rattle.link.proofs.in_place.read_in_place_with_sentinel.Statement.{statement}
 use Rattle.link.proofs.in_place.read_in_place_with_sentinel.Code as code
-
--- a slice, the two parts, and the answer with the rest
-abbrev Slice : NamedLft → RattleType
-Slice α = MutSlice α.mir α.lft u8
-
-slice_laws : (α : NamedLft) → Laws (Slice α)
-slice_laws α =
-    of_field (mut_slice_field α u8-field.row tt) (struct_law.mut_slice_laws α u8-field.row tt) refl
-    (mut_slice_shared α u8-field.row tt (row_shared u8-field.row (of_field u8-field struct_law.u8-laws refl (copy_shared u8-field struct_law.u8-copy))))
-
-abbrev Parts : NamedLft → RattleType
-Parts α = Option (Tuple (Slice α ∷ Slice α ∷ []))
-
-abbrev Found : NamedLft → RattleType → RattleType
-Found α T = Option (Tuple (Result (Answer (param 0 T)) NoMemory ∷ Slice α ∷ []))
-
--- a value of either type has that type in memory
-lawful_parts : {M : Type 1} {𝓤 : Ura M} (𝓛 : Logic 𝓤) (α : NamedLft) → Lawful 𝓛 (Parts α)
-lawful_parts 𝓛 α = (option_laws (Tuple (Slice α ∷ Slice α ∷ [])) (tuple_laws (Slice α ∷ Slice α ∷ []) (slice_laws α, (slice_laws α, tt)))).lawful 𝓛
-
-lawful_found : {M : Type 1} {𝓤 : Ura M} (𝓛 : Logic 𝓤) (α : NamedLft) (T : RattleType) → Laws T → Lawful 𝓛 (Found α T)
-lawful_found 𝓛 α T L =
-    let Got : RattleType = Result (Answer (param 0 T)) NoMemory in
-    let got : Laws Got = result_laws (Answer (param 0 T)) NoMemory (answer_laws (param 0 T) (param_laws 0 T L)) no_memory_laws in
-    (option_laws (Tuple (Got ∷ Slice α ∷ [])) (tuple_laws (Got ∷ Slice α ∷ []) (got, (slice_laws α, tt)))).lawful 𝓛
 
 pub read_in_place_with_sentinel_spec : {M : Type 1} → statement M
 read_in_place_with_sentinel_spec 𝓤 𝓛 𝓜 𝓡 wired T L gd dd gr dr dx P met_d met_r met_x =

@@ -1,8 +1,5 @@
-use Rattle.link.proofs.HandingLemmas.{had_memory}
+use Rattle.link.proofs.HandingLemmas.{had_memory, handed_first}
 use Rattle.link.proofs.texts.receive_each_text.Goals as goal
 
 pub returns-clause-received : goal.returns-clause-received
-returns-clause-received g c = c.receive_each_by.ensures.received _ c.args.sentinel c.new_with_sentinel-receiver.ensures.after
-
-pub returns-clause-memory : goal.returns-clause-memory
-returns-clause-memory g c = had_memory _ c.receive_each_by.ensures.memory
+returns-clause-received g c = let h = c.receive_each_by.ensures.received _ c.args.sentinel c.new_with_sentinel-receiver.ensures.after in (h.0, h.1, handed_first _ _ _ _ _ h.2)

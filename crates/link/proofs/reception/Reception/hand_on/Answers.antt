@@ -3,7 +3,8 @@ use Rattle.std.proofs.lemmas.List.{append-nil}
 use Rattle.link.specs.Stream.{begun}
 use Rattle.link.specs.Receivers.{IsAt, IsBehind}
 use Rattle.link.specs.Listening.{Hears, HasGiven}
-use Rattle.link.proofs.HearingLemmas.{on_err, on_ok, kept_given, stopped_by, parts_on}
+use Rattle.link.specs.Givens.{kept_given}
+use Rattle.link.proofs.HearingLemmas.{on_err, on_ok, stopped_by, parts_on}
 use Rattle.link.proofs.AnsweringLemmas.{behind_after, answered}
 use Rattle.link.proofs.HandingLemmas.{handed_none, handed_next, handed_as, keeps_behind}
 use Rattle.link.proofs.reception.Reception.hand_on.Goals as goal
@@ -11,7 +12,7 @@ use Rattle.link.proofs.reception.Reception.hand_on.Goals as goal
 pub loop-rest-init : goal.loop-rest-init
 loop-rest-init g c = (
   (refl, refl),
-  λ limit s stream given h. ([], refl, handed_none g.E.Effect.hears g.E.Effect.laws _ _ (subst (λ xs. Hears g.D.Decoding.inside g.E.Effect.holds g.E.Effect.reads limit s c.args.self.now xs (stream ++ [])) (sym (append-nil given)) (subst (λ x. Hears g.D.Decoding.inside g.E.Effect.holds g.E.Effect.reads limit s c.args.self.now given x) (sym (append-nil stream)) h))),
+  λ limit s stream given h. ([], refl, handed_none g.E.Effect.hears g.E.Effect.laws _ _ (subst (λ xs. Hears g.D.Decoding.inside (g.E.Effect.holds c.args.effect.now) (g.E.Effect.reads c.args.effect.now) limit s c.args.self.now xs (stream ++ [])) (sym (append-nil given)) (subst (λ x. Hears g.D.Decoding.inside (g.E.Effect.holds c.args.effect.now) (g.E.Effect.reads c.args.effect.now) limit s c.args.self.now given x) (sym (append-nil stream)) h))),
 )
 
 pub returns-then-is_err-clause-err : goal.returns-then-is_err-clause-err
@@ -23,9 +24,9 @@ returns-then-is_err-clause-err g c limit s stream given h =
     let b = begun limit s (stream ++ k.0) in
     let taken = c.take-taken.ensures.taken limit s b heard.after in
     let held = e.1 limit _ (c.lend.ensures.same limit _ taken) in
-    stopped_by g.E.Effect.holds g.E.Effect.reads limit s (stream ++ k.0) rest (given ++ more) (given ++ more) c.take-taken.result.used held.reply _
+    stopped_by (g.E.Effect.holds c.args.effect.now) (g.E.Effect.reads c.args.effect.now) limit s (stream ++ k.0) rest (given ++ more) (given ++ more) c.take-taken.result.used held.reply _
     (ap (λ x. stream ++ x) k.1 ∙ sym (append_assoc stream k.0 rest)) heard.given
-    (answered g.E.Effect.holds limit s b rest (stream ++ k.0) refl g.E.Effect.reads _ held.reply taken.used held.replies) refl held.some))
+    (answered (g.E.Effect.holds c.args.effect.now) limit s b rest (stream ++ k.0) refl (g.E.Effect.reads c.args.effect.now) _ held.reply taken.used held.replies) refl held.some))
 
 pub returns-then-is_err-clause-memory : goal.returns-then-is_err-clause-memory
 returns-then-is_err-clause-memory g c = on_err c.hand.result _ (sym c.is_err.ensures.value ∙ c.if-is_err.true) c.hand.ensures.memory
@@ -47,9 +48,9 @@ loop-rest-preserved g c =
                 let at = (c.take-taken.ensures.taken limit s b heard.after).used in record {
                   after = subst (λ x. IsBehind g.D.Decoding.inside limit s c.take-taken.new.self x) (append_assoc stream k.0 (take used rest))
                       (behind_after limit s (IsAt g.D.Decoding.inside limit s c.take-taken.new.self) (stream ++ k.0) rest _ at (c.take-taken.ensures.at limit s b heard.after));
-                  given = rw (sym (append_assoc stream k.0 (take used rest))) (subst (λ zs. HasGiven g.E.Effect.holds g.E.Effect.reads limit s zs ((stream ++ k.0) ++ take used rest)) (append_assoc given xs ys)
-                      (kept_given g.E.Effect.holds g.E.Effect.reads limit s (stream ++ k.0) rest (given ++ xs) ((given ++ xs) ++ ys) used hands.reply heard.given
-                      (answered g.E.Effect.holds limit s b rest (stream ++ k.0) refl g.E.Effect.reads _ hands.reply at hands.replies)
+                  given = rw (sym (append_assoc stream k.0 (take used rest))) (subst (λ zs. HasGiven (g.E.Effect.holds c.args.effect.now) (g.E.Effect.reads c.args.effect.now) limit s zs ((stream ++ k.0) ++ take used rest)) (append_assoc given xs ys)
+                      (kept_given (g.E.Effect.holds c.args.effect.now) (g.E.Effect.reads c.args.effect.now) limit s (stream ++ k.0) rest (given ++ xs) ((given ++ xs) ++ ys) used hands.reply heard.given
+                      (answered (g.E.Effect.holds c.args.effect.now) limit s b rest (stream ++ k.0) refl (g.E.Effect.reads c.args.effect.now) _ hands.reply at hands.replies)
                       (keeps_behind hands.reply (given ++ xs) ys hands.keeps)));
                 }),
           ),

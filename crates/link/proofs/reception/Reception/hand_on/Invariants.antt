@@ -9,9 +9,9 @@ use Rattle.link.proofs.reception.Reception.hand_on.Given as goal
 abbrev pub invariant-loop-rest : goal.invariant-loop-rest
 invariant-loop-rest g l =
     SameTerms g.D.Decoding.inside l.fn.self l.self
-    × ((limit s : ℕ) (stream : List ℕ) (given : List (Answer g.row.V.Denot)) → Hears g.D.Decoding.inside g.E.Effect.holds g.E.Effect.reads limit s l.fn.self given stream
+    × ((limit s : ℕ) (stream : List ℕ) (given : List (Answer g.row.V.Denot)) → Hears g.D.Decoding.inside (g.E.Effect.holds l.fn.effect) (g.E.Effect.reads l.fn.effect) limit s l.fn.self given stream
     → (done : List ℕ) × (l.fn.piece ≡ done ++ l.rest)
-    × Handed g.E.Effect.hears l.fn.hearer l.hearer (λ more. Hears g.D.Decoding.inside g.E.Effect.holds g.E.Effect.reads limit s l.self (given ++ more) (stream ++ done)))
+    × Handed g.E.Effect.hears l.fn.hearer l.hearer (λ more. Hears g.D.Decoding.inside (g.E.Effect.holds l.fn.effect) (g.E.Effect.reads l.fn.effect) limit s l.self (given ++ more) (stream ++ done)))
 
 abbrev pub decreases-loop-rest : goal.decreases-loop-rest
 decreases-loop-rest g l = length l.rest

@@ -7,7 +7,7 @@ pub returns-in-None-clause-heard : goal.returns-in-None-clause-heard
 returns-in-None-clause-heard g c limit s stream given h = (
   [],
   (c.in-None.ensures.bytes, read_failed _ _ _ _ _ c.in-None.ensures.faults c.in-None.ensures.calls refl),
-  handed_none g.E.Effect.hears g.E.Effect.laws _ _ (nothing_more g.D.Decoding.inside g.E.Effect.holds g.E.Effect.reads limit s c.args.self.now given stream [] refl h),
+  handed_none g.E.Effect.hears g.E.Effect.laws _ _ (nothing_more g.D.Decoding.inside (g.E.Effect.holds c.args.effect.now) (g.E.Effect.reads c.args.effect.now) limit s c.args.self.now given stream [] refl h),
 )
 
 pub returns-in-Some-eq0-clause-heard : goal.returns-in-Some-eq0-clause-heard
@@ -17,9 +17,9 @@ returns-in-Some-eq0-clause-heard g c limit s stream given h =
       (
         c.in-Some-eq0.ensures.bytes,
         read_quiet _ _ _ _ _ c.in-Some-eq0.ensures.faults refl,
-        c.read.ensures.end (c.in-Some-eq0.is ∙ ap Some c.in-Some-eq0.field-0-test) (omega (arith, c.read.auto.room)),
+        c.read.ensures.end (c.in-Some-eq0.is ∙ ap Some c.in-Some-eq0.field-0-test) (omega (arith, c.read.auto.room, c.requires)),
       ),
-      handed_none g.E.Effect.hears g.E.Effect.laws _ _ (nothing_more g.D.Decoding.inside g.E.Effect.holds g.E.Effect.reads limit s c.args.self.now given stream _ none h),
+      handed_none g.E.Effect.hears g.E.Effect.laws _ _ (nothing_more g.D.Decoding.inside (g.E.Effect.holds c.args.effect.now) (g.E.Effect.reads c.args.effect.now) limit s c.args.self.now given stream _ none h),
     )
 
 pub returns-in-Ok-clause-heard : goal.returns-in-Ok-clause-heard

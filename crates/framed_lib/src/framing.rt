@@ -1,0 +1,70 @@
+//! Frames of lines.
+ghost use Rattle.std.specs.Prelude.{◌≡◌, ◌≤◌, length, take, nat_lt, true};
+ghost use Rattle.link.specs.Run.{Send, written};
+ghost use Rattle.framed_lib.specs.Sending.{IsSendOfLine, is_whole};
+
+use link::frame_into_with_sentinel;
+
+/// How long a frame may be. A text of so many bytes has a longer one.
+const LIMIT: usize = 1024;
+
+/// How many bytes a line may have, so that whatever they are its frame is within the limit.
+const SHORT: usize = 1017;
+
+/// Room for a frame between its sentinels.
+pub const ROOM: usize = LIMIT + 2;
+
+/// Whether the line can be sent, or else is refused. Only a line of the few lengths between these two is framed for it.
+pub fn is_sendable(line: &[u8]) -> bool
+    ensures { (x : Send) × IsSendOfLine line.now x × (result ≡ is_whole x) }
+{
+    cobs::laws::lengths();
+    if line.len() >= LIMIT {
+        return false;
+    }
+    if line.len() > SHORT {
+        return frame_clean(line, 0, &mut [0; LIMIT + 1]) > 0;
+    }
+    match std::str::from_utf8(line) {
+        Ok(_) => true,
+        Err(_) => false,
+    }
+}
+
+/// Puts what a clean sender writes for a line at the front of the room: the frame of its text, and a sentinel. Says how many
+/// bytes these are: none where the line is refused.
+fn frame_clean(line: &[u8], sentinel: u8, room: &mut [u8]) -> usize
+    requires { 1025 ≤ length room.old }
+    ensures sent { (x : Send) × IsSendOfLine line.now x
+        × (take result room.new ≡ written sentinel true x) × (is_whole x ≡ nat_lt 0 result) }
+    ensures within { result ≤ length room.new }
+{
+    let Ok(text) = std::str::from_utf8(line) else {
+        return 0;
+    };
+    let front = &mut room[..LIMIT];
+    match frame_into_with_sentinel(&text, front, sentinel) {
+        Ok(count) => {
+            room[count] = sentinel;
+            count + 1
+        }
+        Err(_) => 0,
+    }
+}
+
+/// The same of a sender that is clean or isn't: then a sentinel comes first.
+pub fn frame_line(line: &[u8], clean: bool, sentinel: u8, room: &mut [u8]) -> usize
+    requires { length room.old ≡ 1026 }
+    ensures sent { (x : Send) × IsSendOfLine line.now x
+        × (take result room.new ≡ written sentinel clean x) × (is_whole x ≡ nat_lt 0 result) }
+    ensures within { result ≤ length room.new }
+{
+    if clean {
+        return frame_clean(line, sentinel, room);
+    }
+    room[0] = sentinel;
+    match frame_clean(line, sentinel, &mut room[1..]) {
+        0 => 0,
+        count => count + 1,
+    }
+}
