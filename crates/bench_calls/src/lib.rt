@@ -5,9 +5,9 @@
 
 ghost use Rattle.std.specs.Prelude.{⊤};
 
-use calls::{Application, Client, Server, Service, Waiting, serve, wait};
+use calls::{Application, Client, Server, Service, Waiting, serve, wait_with};
 use line_io::memory::{In, Out};
-use link::Receiver;
+use link::{OfType, Ordinary, Receiver};
 use std::alloc::Global;
 
 type Request = (u16, u32);
@@ -99,11 +99,19 @@ pub extern "C" fn calls_c_call(
         client: Client::new(Out::new(room, EACH, None), first),
         said: None,
     };
+    let mut line = [0u8; EACH];
     let mut calls = 0u64;
     let mut sum = 0u64;
     for which in 0..count {
         let _sent = waiting.client.call((which, 65_536 + u32::from(which)));
-        let _end = wait(alloc, &mut receiver, &mut reader, &mut waiting);
+        let _end = wait_with(
+            alloc,
+            &mut receiver,
+            &Ordinary(OfType),
+            &mut reader,
+            &mut waiting,
+            &mut line,
+        );
         if let Some((_, said)) = waiting.said.take() {
             calls = calls.wrapping_add(1);
             sum = sum.wrapping_add(said);

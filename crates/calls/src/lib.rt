@@ -19,7 +19,7 @@ mod serving;
 mod waiting;
 
 pub use client::{CallError, Client};
-pub use listening::{listen_until, listen_until_strict};
+pub use listening::{listen_until, listen_until_strict, listen_until_with};
 pub use sealing::{Checked, Numbered, Numbering};
 pub use server::{Application, Served, Server};
 pub use service::Service;
@@ -27,4 +27,4 @@ pub use serving::{
     serve, serve_owned, serve_owned_strict, serve_strict, serve_strict_with_sentinel,
     serve_with_sentinel,
 };
-pub use waiting::{Waiting, wait, wait_strict};
+pub use waiting::{Waiting, wait, wait_strict, wait_with};

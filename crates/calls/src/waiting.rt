@@ -1,5 +1,5 @@
 //! Waiting for the reply to a call.
-ghost use Rattle.std.specs.Prelude.{◌≡◌, ℕ, List, [], ◌∷◌, ◌++◌, None, true};
+ghost use Rattle.std.specs.Prelude.{◌≡◌, ℕ, ◌<◌, List, [], ◌∷◌, ◌++◌, length, None, true};
 ghost use Rattle.postcard.specs.Frames.{Holds};
 ghost use Rattle.link.specs.Stream.{HoldsExactly};
 ghost use Rattle.link.specs.Receivers.{SameTerms};
@@ -10,9 +10,9 @@ ghost use Rattle.calls.specs.Asking.{asker_of, sender_of};
 ghost use Rattle.calls.specs.Waits.{is_over, WaitingHears, waiting_laws};
 
 use crate::client::Client;
-use crate::listening::{listen_until, listen_until_strict};
+use crate::listening::{listen_until, listen_until_strict, listen_until_with};
 use line_io::{Inlet, Outlet};
-use link::{Answer, Decoding, End, Hearer, Reception};
+use link::{Answer, Decoding, End, Hearer, MessageReader, Reception};
 use postcard::{DeserializeOwned, Exact, Readable, Serialize};
 use std::alloc::Global;
 
@@ -114,4 +114,39 @@ pub fn wait_strict<
     ensures same { SameTerms D.inside receiver.old receiver.new }
 {
     listen_until_strict::<(u64, R), I, D, Waiting<W, Q, R, N>>(alloc, receiver, reader, waiting)
+}
+
+/// As `wait`, by a reader of messages and into a room of the caller's, which may keep it for all its calls: what one read may bring is
+/// as much as the room holds. `wait` is this with `Ordinary(OfType)`, `wait_strict` with `Strict(OfType)`.
+///
+/// The caller owes that the room isn't empty.
+pub fn wait_with<
+    Q: Serialize + Drop,
+    R: Drop,
+    M: MessageReader<(u64, R)>,
+    W: Outlet,
+    I: Inlet,
+    D: Decoding,
+    const N: usize,
+>(
+    alloc: Global,
+    receiver: &mut Reception<D>,
+    messages: &M,
+    reader: &mut I,
+    waiting: &mut Waiting<W, Q, R, N>,
+    room: &mut [u8],
+) -> Option<End>
+    requires { 0 < length room.old }
+    ensures heard { (limit s : ℕ) (stream : List ℕ) (given : List (Answer (ℕ × R)))
+        → Hears D.inside (M.holds messages.now) (M.reads messages.now) limit s receiver.old given stream
+        → (bytes : List ℕ)
+        × HasReadNow (I.to_come reader.old) (I.to_come reader.new) (I.faults reader.old)
+        (I.faults reader.new) (I.calls_left reader.new) result bytes
+        × Handed WaitingHears waiting.old waiting.new
+        (λ more. IsHeardNow D.inside (M.holds messages.now) (M.reads messages.now) limit s result
+        receiver.new (given ++ more) (stream ++ bytes)) }
+    ensures over { result ≡ None → is_over (asker_of waiting.new.client) ≡ true }
+    ensures same { SameTerms D.inside receiver.old receiver.new }
+{
+    listen_until_with(alloc, receiver, messages, reader, waiting, room)
 }

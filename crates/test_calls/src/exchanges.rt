@@ -3,10 +3,10 @@
 use crate::served::{Adder, Line, line, service};
 use calls::{
     CallError, Client, Served, Server, Waiting, serve, serve_owned, serve_owned_strict,
-    serve_strict, serve_with_sentinel, wait, wait_strict,
+    serve_strict, serve_with_sentinel, wait, wait_strict, wait_with,
 };
 use line_io::memory::{Fault, In, Out};
-use link::{Answer, End, OwnedReceiver, Receiver, SendError};
+use link::{Answer, End, OfType, Ordinary, OwnedReceiver, Receiver, SendError};
 use std::alloc::Global;
 
 // A client of adders, whose first call has the number 5.
@@ -192,4 +192,30 @@ fn a_longer_reply(rt: HostRuntime) {
     let end = wait(rt.alloc(), &mut receiver, &mut reader, &mut waiting);
     assert!(rt; end.is_none());
     assert!(rt; waiting.said == Some(7));
+}
+
+// Two replies through a room of one byte, which both calls share.
+#[test]
+fn waiting_in_a_room(rt: HostRuntime) {
+    let replies = [0u8, 3, 5, 7, 0, 3, 6, 9, 0];
+    let mut waiting: Waiting<Line, u32, u32, 16> = Waiting {
+        client: client(rt.alloc(), 0),
+        said: None,
+    };
+    let mut receiver = Receiver::<8>::new();
+    let mut reader = In::new(&replies, 100, None);
+    let mut room = [0u8; 1];
+    for said in [7u32, 9] {
+        assert!(rt; waiting.client.call(said).is_ok());
+        let end = wait_with(
+            rt.alloc(),
+            &mut receiver,
+            &Ordinary(OfType),
+            &mut reader,
+            &mut waiting,
+            &mut room,
+        );
+        assert!(rt; end.is_none());
+        assert!(rt; waiting.said.take() == Some(said));
+    }
 }
