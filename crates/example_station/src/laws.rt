@@ -1,10 +1,11 @@
-//! What is written and read back has equal fields, type by type.
+//! What is written and read back has equal fields, and reading by a type's schema is reading by the type, type by type.
 //!
-//! Each call writes a value at the front of a room and reads it there, as [`postcard::laws::round_trip`] does; its clause
+//! Each call but the last writes a value at the front of a room and reads it there, as [`postcard::laws::round_trip`] does; its clause
 //! says what the value that comes back has in common with the first. Texts are compared by their bytes, lists and maps
 //! item by item.
 ghost use Rattle.std.specs.Prelude.{◌≡◌, IfOk, string_bytes};
 ghost use Rattle.postcard_tree.specs.Alike.{AlikeLists, AlikePairs};
+ghost use Rattle.schemas.specs.TypeSchemas.{AgreesWithItsSchemas};
 ghost use Rattle.example_station.specs.Same.{SameCommand};
 
 use crate::messages::{
@@ -12,6 +13,7 @@ use crate::messages::{
 };
 use postcard::laws::round_trip;
 use postcard::{Readable, Result};
+use schemas::laws::reading_by_schemas_agrees;
 use std::alloc::Global;
 
 /// All four fields.
@@ -107,4 +109,39 @@ pub fn event<'a>(alloc: Global, v: &Event, room: &'a mut [u8]) -> Result<(Event,
     ensures { IfOk result (λ p. v.now ≡ p.0) }
 {
     round_trip::<Event>(alloc, v, &[], room)
+}
+
+/// What is read by a type's schema and what is read by the type are of one tree, and leave the same rest.
+pub fn reading_by_schemas<'a>()
+    ensures sensor_reading { AgreesWithItsSchemas ⟦<SensorReading as Readable>⟧.takes
+        ⟦<SensorReading as Readable>⟧.reads ⟦<SensorReading as Readable>⟧.refuses }
+    ensures level { AgreesWithItsSchemas ⟦<Level as Readable>⟧.takes
+        ⟦<Level as Readable>⟧.reads ⟦<Level as Readable>⟧.refuses }
+    ensures log_record { AgreesWithItsSchemas ⟦<LogRecord as Readable>⟧.takes
+        ⟦<LogRecord as Readable>⟧.reads ⟦<LogRecord as Readable>⟧.refuses }
+    ensures address { AgreesWithItsSchemas ⟦<Address as Readable>⟧.takes
+        ⟦<Address as Readable>⟧.reads ⟦<Address as Readable>⟧.refuses }
+    ensures ping { AgreesWithItsSchemas ⟦<Ping as Readable>⟧.takes
+        ⟦<Ping as Readable>⟧.reads ⟦<Ping as Readable>⟧.refuses }
+    ensures command { AgreesWithItsSchemas ⟦<Command as Readable>⟧.takes
+        ⟦<Command as Readable>⟧.reads ⟦<Command as Readable>⟧.refuses }
+    ensures config { AgreesWithItsSchemas ⟦<Config as Readable>⟧.takes
+        ⟦<Config as Readable>⟧.reads ⟦<Config as Readable>⟧.refuses }
+    ensures packet { AgreesWithItsSchemas ⟦<Packet<'a> as Readable>⟧.takes
+        ⟦<Packet<'a> as Readable>⟧.reads ⟦<Packet<'a> as Readable>⟧.refuses }
+    ensures report { AgreesWithItsSchemas ⟦<Report as Readable>⟧.takes
+        ⟦<Report as Readable>⟧.reads ⟦<Report as Readable>⟧.refuses }
+    ensures event { AgreesWithItsSchemas ⟦<Event as Readable>⟧.takes
+        ⟦<Event as Readable>⟧.reads ⟦<Event as Readable>⟧.refuses }
+{
+    reading_by_schemas_agrees::<SensorReading>();
+    reading_by_schemas_agrees::<Level>();
+    reading_by_schemas_agrees::<LogRecord>();
+    reading_by_schemas_agrees::<Address>();
+    reading_by_schemas_agrees::<Ping>();
+    reading_by_schemas_agrees::<Command>();
+    reading_by_schemas_agrees::<Config>();
+    reading_by_schemas_agrees::<Packet<'a>>();
+    reading_by_schemas_agrees::<Report>();
+    reading_by_schemas_agrees::<Event>();
 }

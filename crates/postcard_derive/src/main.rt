@@ -1,7 +1,8 @@
 //! Writes how message types are written and read: reads declarations of Rust or Rattle on standard input, and writes the
 //! implementations for those that are marked, for a child module.
 //!
-//! `postcard_derive CRATE MODULE < src/MODULE.rt > src/MODULE/wire.rt`; at the root of a crate without MODULE. A declaration
+//! `postcard_derive CRATE MODULE < src/MODULE.rt > src/MODULE/wire.rt`; at the root of a crate without MODULE. With
+//! `--schemas` behind, those that are read have schemas too, for a crate that stands on `schemas`. A declaration
 //! is marked by a comment `// message` in a line before it, with `: Serialize` behind where it is only written and
 //! `: Deserialize` where it is only read; or by these names among its derives. What is written is proved with the crate in
 //! which it stands. One thing rests on this program: that fields of one type stand in the order of the declaration, which
@@ -22,19 +23,34 @@ use declaration_parser::tokens::{Read, Tokens};
 use std::process::ExitCode;
 use std::{env, io};
 
-/// The module that is named behind the program, as the path of its definitions: the crate, and the modules in it. Nothing
-/// where no crate is named.
-fn module_path(rt: &HostRuntime) -> io::Result<String> {
+/// What the words behind the program ask for.
+#[derive(Drop)]
+struct Asked {
+    /// The path of the definitions of a module: the crate, and the modules in it.
+    path: String,
+    /// Whether what is read has a schema.
+    with_schemas: bool,
+}
+
+/// What is asked for, where the words are right.
+fn read_words(rt: &HostRuntime) -> io::Result<Option<Asked>> {
     let mut path = Text::new(rt.alloc());
+    let mut with_schemas = false;
     let mut words = env::args(rt)?;
     words.next();
-    if let Some(name) = words.next() {
-        path.put_all(&[name.as_str(), ".specs.declared"]);
-    }
     for word in words {
-        path.put_all(&[".", word.as_str()]);
+        match word.as_str() {
+            "--schemas" if !with_schemas && !path.is_empty() => with_schemas = true,
+            name if with_schemas || name.starts_with('-') => return Ok(None),
+            name if path.is_empty() => path.put_all(&[name, ".specs.declared"]),
+            name => path.put_all(&[".", name]),
+        }
     }
-    Ok(path.finished()?)
+    if path.is_empty() {
+        return Ok(None);
+    }
+    let path = path.finished()?;
+    Ok(Some(Asked { path, with_schemas }))
 }
 
 /// The tokens of standard input.
@@ -48,24 +64,23 @@ fn read_tokens(rt: &HostRuntime) -> io::Result<Read> {
 }
 
 /// Writes the implementations, or what is wrong to standard error; and says whether nothing is.
-fn run(rt: &HostRuntime, path: &str) -> io::Result<bool> {
+fn run(rt: &HostRuntime, asked: &Asked) -> io::Result<bool> {
     let read = read_tokens(rt)?;
     let (all, faults) = declarations(rt.alloc(), Purpose::Implementations, &read)?;
     if !faults.is_empty() {
         eprint!(rt; "{faults}")?;
         return Ok(false);
     }
-    let text = write_all(rt.alloc(), path, &all)?;
+    let text = write_all(rt.alloc(), asked.path.as_str(), asked.with_schemas, &all)?;
     print!(rt; "{text}")?;
     Ok(true)
 }
 
 fn main(rt: HostRuntime) -> io::Result<ExitCode> {
-    let path = module_path(&rt)?;
-    if path.is_empty() {
-        eprintln!(rt; "usage: postcard_derive CRATE [MODULE]..")?;
+    let Some(asked) = read_words(&rt)? else {
+        eprintln!(rt; "usage: postcard_derive CRATE [MODULE].. [--schemas]")?;
         return Ok(ExitCode::from(2));
-    }
-    let is_written = run(&rt, path.as_str())?;
+    };
+    let is_written = run(&rt, &asked)?;
     Ok(ExitCode::from(if is_written { 0 } else { 1 }))
 }

@@ -20,6 +20,16 @@ const HEAD: &str = "//! How the message types of the module above are written an
 // Written by postcard_derive from their declarations: change those, and write this anew.
 ";
 
+/// What ghost text brings in for tables of types with parameters.
+const OF_TABLES: &str = "ghost use Rattle.std.specs.Prelude.{IfOk, ◌≡◌};
+ghost use Rattle.schemas.specs.TypeSchemas.{BeginsWith, IsSchemaOf};
+";
+
+/// What tables bring in.
+const FOR_TABLES: &str = "use schemas::HasSchema;
+use std::alloc::{AllocError, Global};
+";
+
 /// How a value is made of its shape, up to its argument.
 pub const FROM_SHAPE: &str = "
     fn from_shape(";
@@ -62,6 +72,26 @@ const READ_AS_SHAPE: &str = "
 
 impl%: Readable% ReadableShape for %Name% {
     ghost read_as = { read_as_shape };
+}
+";
+
+/// How a type that is read is put into a table.
+const SCHEMA: &str = "
+impl%: HasSchema% HasSchema for %Name% {
+    fn add_schema(alloc: Global, nodes: &mut Vec<schemas::Node>) -> Result<usize, AllocError>";
+
+/// What a function of the trait promises, which is written again for a type with parameters.
+const IS_SCHEMA: &str = "
+        ensures kept { BeginsWith nodes.old.items nodes.new.items }
+        ensures is_schema { IfOk result (λ place.
+            IsSchemaOf ⟦<ShapeOf<Self> as Readable>⟧.takes ⟦<ShapeOf<Self> as Readable>⟧.refuses
+            nodes.new.items place) }
+    {";
+
+/// What stands behind it.
+const OF_SHAPE: &str = "
+        ShapeOf::<Self>::add_schema(alloc, nodes)
+    }
 }
 ";
 
@@ -299,8 +329,10 @@ impl Text {
 
     /// Writes what ghost text brings in for types that are used so.
     fn lemmas(&mut self, used: Uses) {
-        if used.stated {
-            self.line(0, "ghost use Rattle.std.specs.Prelude.{◌≡◌};");
+        match (used.stated, used.put_in_tables) {
+            (true, true) => self.put(OF_TABLES),
+            (true, false) => self.line(0, "ghost use Rattle.std.specs.Prelude.{◌≡◌};"),
+            _ => {}
         }
         if used.read {
             self.line(
@@ -321,15 +353,18 @@ impl Text {
     }
 
     /// Writes what stands before the implementations.
-    fn top(&mut self, all: &[Declaration]) {
+    fn top(&mut self, all: &[Declaration], with_schemas: bool) {
         self.put(HEAD);
-        let used = uses_of(all);
+        let used = uses_of(all, with_schemas);
         self.lemmas(used);
         self.uses(all, Module::Above);
         if used.written {
             self.line(0, "use postcard::ser_flavors::Flavor;");
         }
         self.uses(all, Module::Postcard);
+        if used.put_in_tables {
+            self.put(FOR_TABLES);
+        }
     }
 
     /// Writes the implementations of a declaration.
@@ -353,6 +388,17 @@ impl Text {
         }
     }
 
+    /// Writes how a declaration is put into a table.
+    fn schema(&mut self, it: &Declaration) {
+        self.fill(it, SCHEMA);
+        self.put(if it.parameters.is_empty() {
+            " {"
+        } else {
+            IS_SCHEMA
+        });
+        self.put(OF_SHAPE);
+    }
+
     /// Writes how the values of a declaration are written.
     fn written(&mut self, it: &Declaration) {
         self.fill(it, WRITTEN);
@@ -365,35 +411,47 @@ impl Text {
     }
 }
 
-/// How types are used: whether one is written, one is read, and one that is read has parameters.
+/// How types are used: whether one is written, one is read, one that is read has parameters, and one is put into tables.
 #[derive(Clone, Copy, Drop)]
 struct Uses {
     written: bool,
     read: bool,
     stated: bool,
+    put_in_tables: bool,
 }
 
 /// How these are used.
-fn uses_of(all: &[Declaration]) -> Uses {
+fn uses_of(all: &[Declaration], with_schemas: bool) -> Uses {
     let mut used = Uses {
         written: false,
         read: false,
         stated: false,
+        put_in_tables: false,
     };
     for it in all {
         used.written = used.written || it.marks.written;
         used.read = used.read || it.marks.read;
         used.stated = used.stated || (it.marks.read && !it.parameters.is_empty());
+        used.put_in_tables = used.put_in_tables || (it.marks.read && with_schemas);
     }
     used
 }
 
-/// Writes the implementations of these declarations. `path` is that of the definitions of the module in which they stand.
-pub fn write_all(alloc: Global, path: &str, all: &[Declaration]) -> Result<String, AllocError> {
+/// Writes the implementations of these declarations, with the schemas of those that are read or without. `path` is that of the
+/// definitions of the module in which they stand.
+pub fn write_all(
+    alloc: Global,
+    path: &str,
+    with_schemas: bool,
+    all: &[Declaration],
+) -> Result<String, AllocError> {
     let mut text = Text::new(alloc);
-    text.top(all);
+    text.top(all, with_schemas);
     for it in all {
         text.put_declaration(it, path);
+        if it.marks.read && with_schemas {
+            text.schema(it);
+        }
     }
     text.finished()
 }

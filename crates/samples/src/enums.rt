@@ -8,6 +8,8 @@ use postcard::{
     AsShape, Formed, Last, Readable, ReadableShape, Result, Serialize, SerializeShape, Serializer,
     ShapeOf, Shaped, Variant, Variants4,
 };
+use schemas::{HasSchema, Node};
+use std::alloc::{AllocError, Global};
 
 /// Variants without a payload.
 #[derive(Clone, Copy, PartialEq, Eq, Drop)]
@@ -81,6 +83,12 @@ impl Serialize for BasicEnum {
 
 impl SerializeShape for BasicEnum {
     ghost written_as = { written_as_shape };
+}
+
+impl HasSchema for BasicEnum {
+    fn add_schema(alloc: Global, nodes: &mut Vec<Node>) -> std::result::Result<usize, AllocError> {
+        ShapeOf::<Self>::add_schema(alloc, nodes)
+    }
 }
 
 /// Variants with a payload of each form.
@@ -171,4 +179,10 @@ impl Serialize for DataEnum {
 
 impl SerializeShape for DataEnum {
     ghost written_as = { written_as_shape };
+}
+
+impl HasSchema for DataEnum {
+    fn add_schema(alloc: Global, nodes: &mut Vec<Node>) -> std::result::Result<usize, AllocError> {
+        ShapeOf::<Self>::add_schema(alloc, nodes)
+    }
 }

@@ -1,13 +1,16 @@
 //! Structs are their fields in order.
-ghost use Rattle.std.specs.Prelude.{◌≡◌};
+ghost use Rattle.std.specs.Prelude.{IfOk, ◌≡◌};
 ghost use Rattle.postcard_tree.specs.ReadingLaws.{seen_as};
 ghost use Rattle.postcard_tree.specs.Shapes.{read_as_shape, written_as_shape};
+ghost use Rattle.schemas.specs.TypeSchemas.{BeginsWith, IsSchemaOf};
 
 use postcard::ser_flavors::Flavor;
 use postcard::{
     AsShape, Formed, Readable, ReadableShape, Result, Serialize, SerializeShape, Serializer,
     ShapeOf, Shaped,
 };
+use schemas::{HasSchema, Node};
+use std::alloc::{AllocError, Global};
 
 /// Bytes and a text that lie where they were read.
 #[derive(Drop)]
@@ -69,6 +72,17 @@ impl<'a> SerializeShape for RefStruct<'a> {
     ghost written_as = { written_as_shape };
 }
 
+impl<'a> HasSchema for RefStruct<'a> {
+    fn add_schema(alloc: Global, nodes: &mut Vec<Node>) -> std::result::Result<usize, AllocError>
+        ensures kept { BeginsWith nodes.old.items nodes.new.items }
+        ensures is_schema { IfOk result (λ place.
+            IsSchemaOf ⟦<ShapeOf<Self> as Readable>⟧.takes ⟦<ShapeOf<Self> as Readable>⟧.refuses
+            nodes.new.items place) }
+    {
+        ShapeOf::<Self>::add_schema(alloc, nodes)
+    }
+}
+
 /// A number under a name of its own.
 #[derive(Clone, Copy, PartialEq, Eq, Drop)]
 pub struct NewTypeStruct(pub u32);
@@ -124,6 +138,12 @@ impl SerializeShape for NewTypeStruct {
     ghost written_as = { written_as_shape };
 }
 
+impl HasSchema for NewTypeStruct {
+    fn add_schema(alloc: Global, nodes: &mut Vec<Node>) -> std::result::Result<usize, AllocError> {
+        ShapeOf::<Self>::add_schema(alloc, nodes)
+    }
+}
+
 /// Two numbers by their places.
 #[derive(Clone, Copy, PartialEq, Eq, Drop)]
 pub struct TupleStruct(pub u8, pub u16);
@@ -177,6 +197,12 @@ impl Serialize for TupleStruct {
 
 impl SerializeShape for TupleStruct {
     ghost written_as = { written_as_shape };
+}
+
+impl HasSchema for TupleStruct {
+    fn add_schema(alloc: Global, nodes: &mut Vec<Node>) -> std::result::Result<usize, AllocError> {
+        ShapeOf::<Self>::add_schema(alloc, nodes)
+    }
 }
 
 /// A byte and a number, the payload of a variant of `DataEnum`.
@@ -235,4 +261,10 @@ impl Serialize for EnumStruct {
 
 impl SerializeShape for EnumStruct {
     ghost written_as = { written_as_shape };
+}
+
+impl HasSchema for EnumStruct {
+    fn add_schema(alloc: Global, nodes: &mut Vec<Node>) -> std::result::Result<usize, AllocError> {
+        ShapeOf::<Self>::add_schema(alloc, nodes)
+    }
 }

@@ -3,14 +3,15 @@ use Rattle.std.specs.Prelude.{◌≡◌, ℕ, ◌+◌, ◌<◌, ◌^◌, List, [
 use Rattle.std.proofs.Common.{sym, ◌∙◌, ap, subst, arith, take, drop, get_or, append_assoc, append-nil}
 use Rattle.std.proofs.lemmas.List.{map_more, take-append-drop, map-append}
 use Rattle.postcard_tree.specs.declared.error.Error.{Error}
-use Rattle.postcard_tree.specs.Tree.{Tree, Trees, sequence, group, end, part, joined, count_of, AreTrees}
+use Rattle.postcard_tree.specs.Tree.{Tree, Trees, number, sequence, group, end, part, joined, count_of, AreTrees}
 use Rattle.postcard_tree.specs.Spelling.{short, short_all, varint}
 use Rattle.postcard_ser.specs.Flavor.{FlavorLaws, RefusedAs, Pushes}
 use Rattle.postcard_ser.specs.Writing.{Writes, WritesAll}
 use Rattle.postcard_ser.specs.FixedTree.{little_tree, big_tree}
-use Rattle.schemas.specs.declared.value.Value.{Value}
+use Rattle.schemas.specs.declared.value.Value.{Value, Variant}
 use Rattle.schemas.specs.Integers.{little_group, big_group}
 use Rattle.schemas.specs.Values.{tree_of, trees_in, parts_as}
+use Rattle.schemas.proofs.TopsLemmas.{tree-Variant}
 
 -- Integers by their bytes
 
@@ -21,6 +22,11 @@ little_written k n = refl
 pub big_written : (k n : ℕ) → big_tree k n ≡ Some (big_group k n)
 unfolding big_tree big_group
 big_written k n = refl
+
+-- Variants
+
+pub variant_tree : (v w : Value) (n : ℕ) (b : _) → v ≡ Variant n b → w ≡ b.value → tree_of v ≡ group (part (number 32 n) (part (tree_of w) end))
+variant_tree v w n b e f = ap tree_of e ∙ tree-Variant n b ∙ ap (λ z. group (part (number 32 n) (part (tree_of z) end))) (sym f)
 
 -- Lists of trees
 

@@ -29,13 +29,15 @@ pub record IsSchemaOf (takes : Tree → Type 0) (refuses : List ℕ → Error �
   pub same : (depth : ℕ) (table : List Node) → length nodes ≤ depth → BeginsWith nodes table
       → TakeTheSame (SchemaTakes depth table place) takes (SchemaRefuses depth table place) refuses
 
--- What a schema of a type reads from bytes and what the type reads from them are one tree, with one rest behind it.
+-- A schema of a type and the type agree: they take the same trees and refuse the same bytes, as the same errors; and what both
+-- read from bytes is one tree, with one rest behind it.
 abbrev pub AgreesWithItsSchemas : {A : Type 0} → (Tree → Type 0) → (Tree → A → Type 0)
     → (List ℕ → Error → Type 0) → Type 0
 AgreesWithItsSchemas {A} takes reads refuses =
     (nodes : List Node) (place depth : ℕ) → IsSchemaOf takes refuses nodes place → length nodes ≤ depth
-    → (s rest rest' : List ℕ) (v : Value) (w : A) → ReadsFront (SchemaReads depth nodes place) s rest v
-    → ReadsFront reads s rest' w → (rest ≡ rest') × reads (tree_of v) w
+    → TakeTheSame (SchemaTakes depth nodes place) takes (SchemaRefuses depth nodes place) refuses
+    × ((s rest rest' : List ℕ) (v : Value) (w : A) → ReadsFront (SchemaReads depth nodes place) s rest v
+    → ReadsFront reads s rest' w → (rest ≡ rest') × reads (tree_of v) w)
 
 -- the same of fields, one after another
 pub record AreSchemasOf (takes : Trees → Type 0) (refuses : List ℕ → Error → Type 0)

@@ -17,8 +17,8 @@ pub fn reading_by_schemas()
         (SchemaReads depth nodes place) (SchemaRefuses depth nodes place) AreOneTree }
 {}
 
-/// Of every type that has a schema: what is read by the schema and what is read by the type are of one tree, and leave the
-/// same rest. Which bytes are refused, and how, is the same by `HasSchema`.
+/// Of every type that has a schema: the schema and the type take the same trees and refuse the same bytes, as the same errors;
+/// and what both read from bytes is of one tree, and leaves one rest.
 pub fn reading_by_schemas_agrees<T: HasSchema>()
     ensures { AgreesWithItsSchemas T.takes T.reads T.refuses }
 {}

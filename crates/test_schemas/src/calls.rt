@@ -129,11 +129,15 @@ fn a_count_alone_asks_for_nothing(rt: HostRuntime) {
         Node::Array(u64::MAX, 1),
         Node::Text,
         Node::Bytes,
+        Node::ListUpTo(u64::MAX, 1),
+        Node::TextUpTo(u64::MAX),
     ];
     check(&rt, is_end(from_bytes(alloc, &nodes, 0, 2, &MOST)));
     check(&rt, is_end(from_bytes(alloc, &nodes, 2, 2, &[0x80])));
     check(&rt, is_end(from_bytes(alloc, &nodes, 3, 1, &MOST)));
     check(&rt, is_end(from_bytes(alloc, &nodes, 4, 1, &MOST)));
+    check(&rt, is_end(from_bytes(alloc, &nodes, 5, 2, &MOST)));
+    check(&rt, is_end(from_bytes(alloc, &nodes, 6, 1, &MOST)));
 }
 
 fn is_list_of(value: &Value, count: usize) -> bool {

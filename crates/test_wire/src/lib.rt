@@ -4,4 +4,6 @@
 #[cfg(test)]
 mod looks;
 #[cfg(test)]
+mod receiving;
+#[cfg(test)]
 mod schemas_of;

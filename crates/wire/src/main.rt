@@ -154,7 +154,7 @@ fn read(rt: &HostRuntime, schema: &Schema, place: usize, options: Options) -> Ra
         strict: options.strict,
         sentinel: options.sentinel,
     };
-    let mut receiver = Receiver::new(reading, options.from);
+    let mut receiver = Receiver::new(reading, options.from)?;
     let mut lines = Vec::new(rt.alloc());
     if options.hex {
         receive_digits(rt, &mut receiver, &mut lines)?;

@@ -8,6 +8,7 @@ pub mod print;
 pub mod receive;
 pub mod send;
 pub mod sizes;
+pub mod table;
 pub mod words;
 
 /// How many nodes a value may nest in.

@@ -1,11 +1,20 @@
 //! Frames as lines of JSON.
+ghost use Rattle.std.specs.Prelude.{◌≡◌, ℕ, ◌<◌, ◌≤◌, ◌-◌, List, [], ◌++◌, length, take, drop, IfOk, OnOk};
+ghost use Rattle.link.specs.Decoding.{in_owner};
+ghost use Rattle.link.specs.Receivers.{IsBehind, SameTerms};
+ghost use Rattle.link.specs.Pushes.{Answered, IsStretchOf};
+ghost use Rattle.link.specs.declared.receiver.Answer.{Answer as Answers};
+ghost use Rattle.schemas.specs.declared.value.Value.{Value as Values};
+ghost use Rattle.wire_lib.specs.Received.{HasTold, held_by, read_by, reading_of, skip_of, is_a_value, are_all_values, added_at_end};
+
 use crate::DEPTH;
 use crate::print::{PrintError, print_into};
-use cobs::{before_sentinel, decode_with_sentinel};
+use crate::table::TableReader;
+use cobs::before_sentinel;
 use declarations::Schema;
 use json::Writer;
-use postcard::{Error, to_allocvec_cobs_with_sentinel};
-use schemas::{Value, from_bytes};
+use link::{Answer, NoMemory, Ordinary, OwnedReceiver, Pushed, Strict};
+use schemas::Value;
 use std::alloc::{AllocError, Global};
 use std::mem;
 
@@ -29,209 +38,209 @@ pub struct Reading<'a> {
     pub sentinel: u8,
 }
 
-/// Whether a stretch, which no sentinel ends, is the frame that sending this value makes.
-fn is_exact(reading: Reading<'_>, stretch: &[u8], value: &Value) -> Result<bool, AllocError> {
-    match to_allocvec_cobs_with_sentinel(reading.alloc, value, reading.sentinel) {
-        Ok(frame) => match frame.as_slice() {
-            [bytes @ .., _] => Ok(*bytes == *stretch),
-            [] => Ok(false),
-        },
-        Err(_) => Err(AllocError),
-    }
-}
-
-/// The message of a stretch, which has a byte at least and no sentinel, if it is a frame. It is decoded into the front of `room`,
-/// which grows to the longest stretch.
-fn message_of<'b>(
-    sentinel: u8,
-    stretch: &[u8],
-    room: &'b mut Vec<u8>,
-) -> Result<Option<&'b [u8]>, AllocError> {
-    if room.len() < stretch.len() {
-        room.resize(stretch.len(), 0)?;
-    }
-    match decode_with_sentinel(stretch, room, sentinel) {
-        Ok(count) => Ok(room.get(..count)),
-        Err(_) => Ok(None),
-    }
-}
-
-/// The value of the front of a stretch's message, if it is a frame.
-fn held(
-    reading: Reading<'_>,
-    stretch: &[u8],
-    room: &mut Vec<u8>,
-) -> Result<Option<Value>, AllocError> {
-    let Some(message) = message_of(reading.sentinel, stretch, room)? else {
-        return Ok(None);
-    };
-    match from_bytes(
-        reading.alloc,
-        &reading.schema.nodes,
-        reading.place,
-        DEPTH,
-        message,
-    ) {
-        Ok(value) => Ok(Some(value)),
-        Err(Error::OutOfMemory) => Err(AllocError),
-        Err(_) => Ok(None),
-    }
-}
-
-/// The value that a stretch between sentinels holds; nothing where it is damaged.
-///
-/// It has a byte at least and no sentinel. Where `strict` is asked, it also has to be the frame that sending the value makes. `room`
-/// is for its message, and is kept from one stretch to the next.
-pub fn read_stretch(
-    reading: Reading<'_>,
-    stretch: &[u8],
-    room: &mut Vec<u8>,
-) -> Result<Option<Value>, AllocError> {
-    let Some(value) = held(reading, stretch, room)? else {
-        return Ok(None);
-    };
-    if reading.strict && !is_exact(reading, stretch, &value)? {
-        return Ok(None);
-    }
-    Ok(Some(value))
-}
-
 /// Reads a stream of frames in pieces, and makes a line of each answer.
 #[derive(Drop)]
 pub struct Receiver<'a> {
     reading: Reading<'a>,
+    receiver: OwnedReceiver,
     /// How many bytes are still to be passed over.
     skip: u64,
-    /// What earlier pieces had of the stretch, and how many bytes of the stream stand before it and before what comes.
-    stretch: Vec<u8>,
-    begin: u64,
+    /// How many bytes of the stream came, those that were passed over too, and how many stand before what is begun of a stretch.
     at: u64,
-    /// Where messages are decoded.
-    room: Vec<u8>,
-    /// Whether the stretch was answered as too long.
-    is_past: bool,
     /// Whether all answers were values.
     is_good: bool,
 }
 
 impl<'a> Receiver<'a> {
     /// A receiver of a stream of which so many bytes are passed over.
-    pub fn new(reading: Reading<'a>, from: u64) -> Receiver<'a> {
-        Receiver {
-            reading,
-            skip: from,
-            stretch: Vec::new(reading.alloc),
-            begin: from,
-            at: from,
-            room: Vec::new(reading.alloc),
-            is_past: false,
-            is_good: true,
+    pub fn new(reading: Reading<'a>, from: u64) -> Result<Receiver<'a>, AllocError>
+        ensures told { IfOk result (λ r. HasTold r [] []) }
+        ensures reading { IfOk result (λ r. reading_of r ≡ reading.entry) }
+        ensures skip { IfOk result (λ r. skip_of r ≡ from) }
+    {
+        match OwnedReceiver::new(reading.alloc, LIMIT, reading.sentinel) {
+            Ok(receiver) => Ok(Receiver {
+                reading,
+                receiver,
+                skip: from,
+                at: from,
+                is_good: true,
+            }),
+            Err(NoMemory) => Err(AllocError),
         }
     }
 
-    /// Appends the line of a value.
-    fn say_value(&self, value: &Value, lines: &mut Vec<u8>) -> Result<(), AllocError> {
-        let mut out = Writer::new(mem::replace(lines, Vec::new(self.reading.alloc)));
-        let said = put_value(&mut out, self.reading, value);
-        *lines = out.into_inner();
-        said?;
-        lines.extend_from_slice(b"\n")
-    }
-
-    /// Appends the line of a stretch that is no value: what it is, and the bytes of the stream that it has so far.
-    fn say_stretch(&mut self, what: &str, lines: &mut Vec<u8>) -> Result<(), AllocError> {
-        self.is_good = false;
-        let mut out = Writer::new(mem::replace(lines, Vec::new(self.reading.alloc)));
-        let said = put_place(&mut out, what, self.begin, self.at);
-        *lines = out.into_inner();
-        said?;
-        lines.extend_from_slice(b"\n")
-    }
-
-    /// Gathers bytes of a stretch.
-    fn gather(&mut self, part: &[u8], lines: &mut Vec<u8>) -> Result<(), AllocError> {
-        let room = LIMIT.saturating_sub(self.stretch.len());
-        self.at = self.at.saturating_add(part.len() as u64);
-        if self.is_past {
-            return Ok(());
-        }
-        if part.len() > room {
-            self.is_past = true;
-            return self.say_stretch("too_long", lines);
-        }
-        self.stretch.extend_from_slice(part)
-    }
-
-    /// Answers a stretch that has ended.
-    fn answer(&mut self, stretch: &[u8], lines: &mut Vec<u8>) -> Result<(), AllocError> {
-        if stretch.is_empty() {
-            return Ok(());
-        }
-        match read_stretch(self.reading, stretch, &mut self.room)? {
-            Some(value) => self.say_value(&value, lines),
-            None => self.say_stretch("damaged", lines),
+    /// Appends the line of an answer, whose stretch has so many bytes before the last one that came. Behind that one stands what is
+    /// left of the piece.
+    fn say(
+        &self,
+        answer: &Answer<Value>,
+        stretch: usize,
+        left: &[u8],
+        lines: &mut Vec<u8>,
+    ) -> Result<(), AllocError> {
+        let last = self.at.saturating_sub(1);
+        let from = last.saturating_sub(stretch as u64);
+        match answer {
+            Answer::Value(value) => put_value_line(self.reading, value, lines),
+            Answer::Damaged => put_stretch_line(self.reading, "damaged", (from, last), lines),
+            Answer::TooLong => {
+                let more = before_sentinel(left, self.reading.sentinel);
+                let so_far = self.at.saturating_add(more as u64);
+                put_stretch_line(self.reading, "too_long", (from, so_far), lines)
+            }
+            Answer::Cut => put_stretch_line(self.reading, "cut", (from, last), lines),
         }
     }
 
-    /// Answers a stretch that began in an earlier piece, or is longer than one may be.
-    fn answer_gathered(&mut self, part: &[u8], lines: &mut Vec<u8>) -> Result<(), AllocError> {
-        self.gather(part, lines)?;
-        if self.is_past {
-            return Ok(());
+    /// Takes bytes of a piece up to the first answer, and appends its line. How many bytes it took.
+    fn push_one(&mut self, rest: &[u8], lines: &mut Vec<u8>) -> Result<usize, AllocError>
+        ensures told { IfOk result (λ used. (stream : List ℕ) (answers : List (Answers Values))
+            → HasTold self.old stream answers → (more : List (Answers Values))
+            × HasTold self.new (stream ++ take used rest.now) (answers ++ more)) }
+        ensures within { IfOk result (λ used. used ≤ length rest.now) }
+        ensures forward { 0 < length rest.now → IfOk result (λ used. 0 < used) }
+        ensures reading { reading_of self.new ≡ reading_of self.old }
+        ensures skip { skip_of self.new ≡ skip_of self.old }
+    {
+        let Pushed {
+            used,
+            stretch,
+            answer,
+        } = push_next(self.reading, &mut self.receiver, rest);
+        let (_, left) = rest.split_at(used);
+        self.at = self.at.saturating_add(used as u64);
+        match answer {
+            Ok(None) => Ok(used),
+            Ok(Some(answer)) => {
+                self.is_good = self.is_good & is_value(&answer);
+                self.say(&answer, stretch, left, lines)?;
+                Ok(used)
+            }
+            Err(NoMemory) => Err(AllocError),
         }
-        let stretch = mem::replace(&mut self.stretch, Vec::new(self.reading.alloc));
-        let answered = self.answer(&stretch, lines);
-        self.stretch = stretch;
-        answered
     }
 
-    /// Answers a stretch, of which this is the last part, at its sentinel, and begins the next. One that lies whole in the piece is
-    /// read from there.
-    fn end(&mut self, part: &[u8], lines: &mut Vec<u8>) -> Result<(), AllocError> {
-        if self.is_past || !self.stretch.is_empty() || part.len() > LIMIT {
-            self.answer_gathered(part, lines)?;
-        } else {
-            self.at = self.at.saturating_add(part.len() as u64);
-            self.answer(part, lines)?;
+    /// Takes bytes that aren't passed over.
+    fn push_all(&mut self, piece: &[u8], lines: &mut Vec<u8>) -> Result<(), AllocError>
+        ensures told { OnOk result ((stream : List ℕ) (answers : List (Answers Values))
+            → HasTold self.old stream answers → (more : List (Answers Values))
+            × HasTold self.new (stream ++ piece.now) (answers ++ more)) }
+        ensures reading { reading_of self.new ≡ reading_of self.old }
+        ensures skip { skip_of self.new ≡ skip_of self.old }
+    {
+        let mut rest = piece;
+        while !rest.is_empty() {
+            let used = self.push_one(rest, lines)?;
+            let (_, left) = rest.split_at(used);
+            rest = left;
         }
-        self.stretch.clear();
-        self.is_past = false;
-        self.at = self.at.saturating_add(1);
-        self.begin = self.at;
         Ok(())
     }
 
     /// What is left of a piece behind the bytes that are to be passed over.
-    fn behind_skipped<'b>(&mut self, piece: &'b [u8]) -> &'b [u8] {
+    fn behind_skipped<'b>(&mut self, piece: &'b [u8]) -> &'b [u8]
+        ensures rest { result.now ≡ drop (skip_of self.old) piece.now }
+        ensures told { (stream : List ℕ) (answers : List (Answers Values))
+            → HasTold self.old stream answers → HasTold self.new stream answers }
+        ensures reading { reading_of self.new ≡ reading_of self.old }
+        ensures skip { skip_of self.new ≡ skip_of self.old - length piece.now }
+    {
         let skipped = self.skip.min(piece.len() as u64);
-        self.skip = self.skip.saturating_sub(skipped);
-        piece.get(skipped as usize..).unwrap_or(&[])
+        self.skip -= skipped;
+        let (_, rest) = piece.split_at(skipped as usize);
+        rest
     }
 
     /// Takes the next bytes of the stream, and appends the line of each answer that they end:
     /// `{"value": ..}`; `{"damaged": {"from": .., "to": ..}}` with the bytes of the stream that the stretch has, counted from 0, the
-    /// last one not counted in; or `too_long` likewise, at the end of the piece in which the stretch grew past [`LIMIT`].
-    pub fn push(&mut self, piece: &[u8], lines: &mut Vec<u8>) -> Result<(), AllocError> {
-        let mut rest = self.behind_skipped(piece);
-        for _ in 0..piece.len() {
-            let (part, behind) = rest.split_at(before_sentinel(rest, self.reading.sentinel));
-            let [_, after @ ..] = behind else {
-                return self.gather(part, lines);
-            };
-            self.end(part, lines)?;
-            rest = after;
-        }
-        Ok(())
+    /// last one not counted in; or `too_long` likewise, with those that the piece in which the stretch grew past [`LIMIT`] has of it.
+    pub fn push(&mut self, piece: &[u8], lines: &mut Vec<u8>) -> Result<(), AllocError>
+        ensures told { OnOk result ((stream : List ℕ) (answers : List (Answers Values))
+            → HasTold self.old stream answers → (more : List (Answers Values))
+            × HasTold self.new (stream ++ drop (skip_of self.old) piece.now) (answers ++ more)) }
+        ensures reading { reading_of self.new ≡ reading_of self.old }
+        ensures skip { skip_of self.new ≡ skip_of self.old - length piece.now }
+    {
+        let rest = self.behind_skipped(piece);
+        self.push_all(rest, lines)
     }
 
     /// Ends the stream: appends a line `{"cut": {"from": .., "to": ..}}` if it ended in a stretch, and says whether all answers
     /// were values.
-    pub fn finish(mut self, lines: &mut Vec<u8>) -> Result<bool, AllocError> {
-        if !self.is_past && !self.stretch.is_empty() {
-            self.say_stretch("cut", lines)?;
+    pub fn finish(self, lines: &mut Vec<u8>) -> Result<bool, AllocError>
+        ensures { IfOk result (λ good. (stream : List ℕ) (answers : List (Answers Values))
+            → HasTold self.entry stream answers
+            → good ≡ are_all_values (answers ++ added_at_end self.entry stream)) }
+    {
+        let begun = self.receiver.begun_bytes() as u64;
+        let place = (self.at.saturating_sub(begun), self.at);
+        if self.receiver.finish::<Value>().is_some() {
+            put_stretch_line(self.reading, "cut", place, lines)?;
+            return Ok(false);
         }
         Ok(self.is_good)
     }
+}
+
+/// Takes bytes up to the first answer.
+fn push_next(reading: Reading<'_>, receiver: &mut OwnedReceiver, rest: &[u8]) -> Pushed<Value>
+    ensures within { result.used ≤ length rest.now }
+    ensures forward { 0 < length rest.now → 0 < result.used }
+    ensures stands { (limit s : ℕ) (stream : List ℕ) → IsBehind in_owner limit s receiver.old stream
+        → IsBehind in_owner limit s receiver.new (stream ++ take result.used rest.now) }
+    ensures answers { (limit s : ℕ) (stream : List ℕ)
+        → IsBehind in_owner limit s receiver.old stream
+        → Answered (held_by reading.entry) (read_by reading.entry)
+        limit s stream rest.now result.used result.answer }
+    ensures stretch { (limit s : ℕ) (stream : List ℕ)
+        → IsBehind in_owner limit s receiver.old stream
+        → IsStretchOf s stream rest.now result.used result.answer result.stretch }
+    ensures same { SameTerms in_owner receiver.old receiver.new }
+{
+    let table = TableReader {
+        nodes: &reading.schema.nodes,
+        place: reading.place,
+        depth: DEPTH,
+    };
+    if reading.strict {
+        return receiver.push_with(reading.alloc, &Strict(table), rest);
+    }
+    receiver.push_with(reading.alloc, &Ordinary(table), rest)
+}
+
+/// Whether an answer is a value.
+fn is_value(answer: &Answer<Value>) -> bool
+    ensures { result ≡ is_a_value answer.now }
+{
+    matches!(answer, Answer::Value(_))
+}
+
+/// Appends the line of a value.
+fn put_value_line(
+    reading: Reading<'_>,
+    value: &Value,
+    lines: &mut Vec<u8>,
+) -> Result<(), AllocError> {
+    let mut out = Writer::new(mem::replace(lines, Vec::new(reading.alloc)));
+    let said = put_value(&mut out, reading, value);
+    *lines = out.into_inner();
+    said?;
+    lines.extend_from_slice(b"\n")
+}
+
+/// Appends the line of a stretch that is no value: what it is, and which bytes of the stream it has.
+fn put_stretch_line(
+    reading: Reading<'_>,
+    what: &str,
+    (from, to): (u64, u64),
+    lines: &mut Vec<u8>,
+) -> Result<(), AllocError> {
+    let mut out = Writer::new(mem::replace(lines, Vec::new(reading.alloc)));
+    let said = put_place(&mut out, what, from, to);
+    *lines = out.into_inner();
+    said?;
+    lines.extend_from_slice(b"\n")
 }
 
 /// Appends the answer of a value, without a line feed.

@@ -1,6 +1,7 @@
 //! How the message types of the module above are written and read.
 // Written by postcard_derive from their declarations: change those, and write this anew.
-ghost use Rattle.std.specs.Prelude.{◌≡◌};
+ghost use Rattle.std.specs.Prelude.{IfOk, ◌≡◌};
+ghost use Rattle.schemas.specs.TypeSchemas.{BeginsWith, IsSchemaOf};
 ghost use Rattle.postcard_tree.specs.ReadingLaws.{seen_as};
 ghost use Rattle.postcard_tree.specs.Shapes.{read_as_shape, written_as_shape};
 
@@ -13,6 +14,8 @@ use postcard::{
     AsShape, Formed, Last, Readable, ReadableShape, Serialize, SerializeShape, Serializer, ShapeOf,
     Shaped, Variant, Variants4,
 };
+use schemas::HasSchema;
+use std::alloc::{AllocError, Global};
 
 type SensorReadingShape = (u16, u64, i16, bool);
 
@@ -71,6 +74,12 @@ impl Serialize for SensorReading {
 
 impl SerializeShape for SensorReading {
     ghost written_as = { written_as_shape };
+}
+
+impl HasSchema for SensorReading {
+    fn add_schema(alloc: Global, nodes: &mut Vec<schemas::Node>) -> Result<usize, AllocError> {
+        ShapeOf::<Self>::add_schema(alloc, nodes)
+    }
 }
 
 type LevelShape = Variant<(), Variant<(), Last<()>>>;
@@ -142,6 +151,12 @@ impl SerializeShape for Level {
     ghost written_as = { written_as_shape };
 }
 
+impl HasSchema for Level {
+    fn add_schema(alloc: Global, nodes: &mut Vec<schemas::Node>) -> Result<usize, AllocError> {
+        ShapeOf::<Self>::add_schema(alloc, nodes)
+    }
+}
+
 type LogRecordShape = (Level, u64, String, Option<u16>);
 
 impl Shaped for LogRecord {
@@ -201,6 +216,12 @@ impl SerializeShape for LogRecord {
     ghost written_as = { written_as_shape };
 }
 
+impl HasSchema for LogRecord {
+    fn add_schema(alloc: Global, nodes: &mut Vec<schemas::Node>) -> Result<usize, AllocError> {
+        ShapeOf::<Self>::add_schema(alloc, nodes)
+    }
+}
+
 impl Shaped for Address {
     type Shape = u32;
 
@@ -252,6 +273,12 @@ impl SerializeShape for Address {
     ghost written_as = { written_as_shape };
 }
 
+impl HasSchema for Address {
+    fn add_schema(alloc: Global, nodes: &mut Vec<schemas::Node>) -> Result<usize, AllocError> {
+        ShapeOf::<Self>::add_schema(alloc, nodes)
+    }
+}
+
 impl Shaped for Ping {
     type Shape = ();
 
@@ -301,6 +328,12 @@ impl Serialize for Ping {
 
 impl SerializeShape for Ping {
     ghost written_as = { written_as_shape };
+}
+
+impl HasSchema for Ping {
+    fn add_schema(alloc: Global, nodes: &mut Vec<schemas::Node>) -> Result<usize, AllocError> {
+        ShapeOf::<Self>::add_schema(alloc, nodes)
+    }
 }
 
 type CommandShape = Variants4<
@@ -390,6 +423,12 @@ impl SerializeShape for Command {
     ghost written_as = { written_as_shape };
 }
 
+impl HasSchema for Command {
+    fn add_schema(alloc: Global, nodes: &mut Vec<schemas::Node>) -> Result<usize, AllocError> {
+        ShapeOf::<Self>::add_schema(alloc, nodes)
+    }
+}
+
 type ConfigShape = (
     String,
     Vec<SensorReading>,
@@ -463,6 +502,12 @@ impl SerializeShape for Config {
     ghost written_as = { written_as_shape };
 }
 
+impl HasSchema for Config {
+    fn add_schema(alloc: Global, nodes: &mut Vec<schemas::Node>) -> Result<usize, AllocError> {
+        ShapeOf::<Self>::add_schema(alloc, nodes)
+    }
+}
+
 type PacketShape<'a> = (Address, &'a str, &'a [u8]);
 
 impl<'a> Shaped for Packet<'a> {
@@ -517,6 +562,17 @@ impl<'a> Serialize for Packet<'a> {
 
 impl<'a> SerializeShape for Packet<'a> {
     ghost written_as = { written_as_shape };
+}
+
+impl<'a> HasSchema for Packet<'a> {
+    fn add_schema(alloc: Global, nodes: &mut Vec<schemas::Node>) -> Result<usize, AllocError>
+        ensures kept { BeginsWith nodes.old.items nodes.new.items }
+        ensures is_schema { IfOk result (λ place.
+            IsSchemaOf ⟦<ShapeOf<Self> as Readable>⟧.takes ⟦<ShapeOf<Self> as Readable>⟧.refuses
+            nodes.new.items place) }
+    {
+        ShapeOf::<Self>::add_schema(alloc, nodes)
+    }
 }
 
 type ReportShape = (
@@ -593,6 +649,12 @@ impl Serialize for Report {
 
 impl SerializeShape for Report {
     ghost written_as = { written_as_shape };
+}
+
+impl HasSchema for Report {
+    fn add_schema(alloc: Global, nodes: &mut Vec<schemas::Node>) -> Result<usize, AllocError> {
+        ShapeOf::<Self>::add_schema(alloc, nodes)
+    }
 }
 
 type EventShape = Variants4<
@@ -708,4 +770,10 @@ impl Serialize for Event {
 
 impl SerializeShape for Event {
     ghost written_as = { written_as_shape };
+}
+
+impl HasSchema for Event {
+    fn add_schema(alloc: Global, nodes: &mut Vec<schemas::Node>) -> Result<usize, AllocError> {
+        ShapeOf::<Self>::add_schema(alloc, nodes)
+    }
 }

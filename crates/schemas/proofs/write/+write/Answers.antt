@@ -1,7 +1,7 @@
 use Rattle.std.proofs.Common.{length, arith}
 use Rattle.std.proofs.lemmas.Result.{err_from_is_err_and}
 use Rattle.schemas.specs.Values.{trees_in}
-use Rattle.schemas.proofs.PushedLemmas.{count_in, sequence_then, sequence_stops, values_more, values_stop}
+use Rattle.schemas.proofs.PushedLemmas.{variant_tree, count_in, sequence_then, sequence_stops, values_more, values_stop}
 use Rattle.schemas.proofs.write.+write.Goals as goal
 
 pub write_list-returns-in_err-serialize_seq-clause-writes : goal.write_list-returns-in_err-serialize_seq-clause-writes
@@ -24,3 +24,7 @@ write_values-loop-item-preserved g t c = record {
   wrote = values_more g.met.F.Flavor.laws _ _ _ c.args.items.now c.loop-item.item-index c.item-item.result c.loop-item-test.true c.item-item.is c.loop-item.invariant.wrote c.in_ok-write_value.ensures.writes;
   same = g.met.F.Flavor.laws.same_after _ _ _ c.loop-item.invariant.same c.in_ok-write_value.ensures.same;
 }
+
+pub write_value-returns-in-Variant-clause-writes : goal.write_value-returns-in-Variant-clause-writes
+write_value-returns-in-Variant-clause-writes g t c =
+    rw (variant_tree c.args.v.now c.deref-in-Variant.result.now c.in-Variant.index c.in-Variant.inner c.in-Variant.is c.deref-in-Variant.ensures) c.write_variant.ensures.writes

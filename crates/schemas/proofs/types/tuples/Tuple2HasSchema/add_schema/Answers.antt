@@ -1,6 +1,15 @@
 use Rattle.schemas.specs.declared.node.Node.TheVariants.{Struct}
-use Rattle.schemas.proofs.TablesLemmas.{added_as, later, field_then, no_fields, struct_schema}
+use Rattle.schemas.proofs.TablesLemmas.{added_as, begins_more, field_then, later, no_fields, struct_schema}
 use Rattle.schemas.proofs.types.tuples.Tuple2HasSchema.add_schema.Goals as goal
+
+pub returns-in_err-second-clause-kept : goal.returns-in_err-second-clause-kept
+returns-in_err-second-clause-kept g c = begins_more c.in_ok-first.ensures.kept c.in_err-second.ensures.kept
+
+pub returns-in_err-fields-clause-kept : goal.returns-in_err-fields-clause-kept
+returns-in_err-fields-clause-kept g c = begins_more c.in_ok-first.ensures.kept c.in_ok-second.ensures.kept
+
+pub returns-clause-kept : goal.returns-clause-kept
+returns-clause-kept g c = begins_more (begins_more c.in_ok-first.ensures.kept c.in_ok-second.ensures.kept) c.add_node.ensures.kept
 
 pub returns-clause-is_schema : goal.returns-clause-is_schema
 returns-clause-is_schema g c =

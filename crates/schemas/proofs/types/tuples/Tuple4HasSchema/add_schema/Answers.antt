@@ -2,6 +2,21 @@ use Rattle.schemas.specs.declared.node.Node.TheVariants.{Struct}
 use Rattle.schemas.proofs.TablesLemmas.{added_as, begins_more, later, field_then, no_fields, struct_schema}
 use Rattle.schemas.proofs.types.tuples.Tuple4HasSchema.add_schema.Goals as goal
 
+pub returns-in_err-second-clause-kept : goal.returns-in_err-second-clause-kept
+returns-in_err-second-clause-kept g c = begins_more c.in_ok-first.ensures.kept c.in_err-second.ensures.kept
+
+pub returns-in_err-third-clause-kept : goal.returns-in_err-third-clause-kept
+returns-in_err-third-clause-kept g c = begins_more (begins_more c.in_ok-first.ensures.kept c.in_ok-second.ensures.kept) c.in_err-third.ensures.kept
+
+pub returns-in_err-fourth-clause-kept : goal.returns-in_err-fourth-clause-kept
+returns-in_err-fourth-clause-kept g c = begins_more (begins_more (begins_more c.in_ok-first.ensures.kept c.in_ok-second.ensures.kept) c.in_ok-third.ensures.kept) c.in_err-fourth.ensures.kept
+
+pub returns-in_err-fields-clause-kept : goal.returns-in_err-fields-clause-kept
+returns-in_err-fields-clause-kept g c = begins_more (begins_more (begins_more c.in_ok-first.ensures.kept c.in_ok-second.ensures.kept) c.in_ok-third.ensures.kept) c.in_ok-fourth.ensures.kept
+
+pub returns-clause-kept : goal.returns-clause-kept
+returns-clause-kept g c = begins_more (begins_more (begins_more (begins_more c.in_ok-first.ensures.kept c.in_ok-second.ensures.kept) c.in_ok-third.ensures.kept) c.in_ok-fourth.ensures.kept) c.add_node.ensures.kept
+
 pub returns-clause-is_schema : goal.returns-clause-is_schema
 returns-clause-is_schema g c =
     let kept-third = c.in_ok-fourth.ensures.kept in

@@ -1,0 +1,16 @@
+use Rattle.std.proofs.Common.{◌≡◌, ℕ, List, ◌++◌, length}
+use Rattle.link.specs.declared.receiver.Answer.{Answer}
+use Rattle.schemas.specs.declared.value.Value.{Value}
+use Rattle.wire_lib.specs.Received.{HasTold, reading_of, skip_of}
+use Rattle.wire_lib.proofs.receive.Receiver.push_all.Given as goal
+
+-- what is left of the piece, and that what came before it was told
+abbrev pub invariant-loop-rest : goal.invariant-loop-rest
+invariant-loop-rest l =
+    (done : List ℕ) × (l.fn.piece ≡ done ++ l.rest)
+    × (reading_of l.self ≡ reading_of l.fn.self) × (skip_of l.self ≡ skip_of l.fn.self)
+    × ((stream : List ℕ) (answers : List (Answer Value)) → HasTold l.fn.self stream answers
+    → (more : List (Answer Value)) × HasTold l.self (stream ++ done) (answers ++ more))
+
+abbrev pub decreases-loop-rest : goal.decreases-loop-rest
+decreases-loop-rest l = length l.rest
