@@ -1,11 +1,12 @@
 //! Logs that are checked: what is told, and which numbers are missing.
 ghost use Rattle.std.specs.Prelude.{true, ⊤, OnOk};
 
+use crate::bytes::{check, holding};
+use crate::tallies::are_gaps;
 use journal::Halt;
-use journal_scan::{CheckError, Gap, Judge, Report, Stretch, Tally, Watcher, check};
+use journal_scan::{CheckError, Judge, Report, Stretch, Watcher};
 use link::Answer;
 use std::alloc::Global;
-use std::test::Fail;
 use stores::Memory;
 
 // Record 1, a damaged stretch, record 3, a stretch of more than twelve bytes, record 3 again, the record 2^64 - 1, and a cut one.
@@ -14,11 +15,35 @@ const BYTES: [u8; 47] = [
     255, 255, 255, 255, 255, 255, 255, 255, 255, 1, 9, 0, 0, 3, 4, 1,
 ];
 
-// What was told: from, to, the name of what stands there, and whether its number was there before.
+// From, to, the name of what stands there, and whether its number was there before.
+type Place = (u64, u64, char, bool);
+
+const PLACES: [Place; 6] = [
+    (1, 4, 'v', false),
+    (5, 7, 'd', false),
+    (8, 11, 'v', false),
+    (12, 25, 'l', false),
+    (26, 29, 'v', true),
+    (30, 42, 'v', false),
+];
+
+const MISSING: [(u64, u64); 3] = [(0, 0), (2, 2), (4, 18446744073709551614)];
+
+// What was told, so many stretches at most.
 #[derive(Drop)]
 struct Told {
     most: u64,
-    stretches: Vec<(u64, u64, char, bool)>,
+    stretches: Vec<Place>,
+}
+
+// The name of what stands somewhere.
+fn name<T>(answer: &Answer<T>) -> char {
+    match answer {
+        Answer::Value(_) => 'v',
+        Answer::Damaged => 'd',
+        Answer::TooLong => 'l',
+        Answer::Cut => 'c',
+    }
 }
 
 impl Judge<u32> for Told {
@@ -40,113 +65,105 @@ impl Watcher<u32> for Told {
         if self.stretches.len() as u64 >= self.most {
             return Err(Halt);
         }
-        let name = match stretch.answer {
-            Answer::Value(_) => 'v',
-            Answer::Damaged => 'd',
-            Answer::TooLong => 'l',
-            Answer::Cut => 'c',
-        };
-        match self.stretches.push((stretch.from, stretch.to, name, again)) {
+        let place = (stretch.from, stretch.to, name(&stretch.answer), again);
+        match self.stretches.push(place) {
             Ok(()) => Ok(()),
             Err(_) => Err(Halt),
         }
     }
 }
 
-// Checks these bytes, with a watcher that takes so many stretches.
-fn check_bytes(
-    alloc: Global,
-    bytes: &[u8],
-    most: u64,
-) -> Option<(Result<Report<u32>, CheckError>, Told)> {
-    let mut held = Vec::new(alloc);
-    held.extend_from_slice(bytes).ok()?;
-    let mut told = Told {
+// A watcher that takes so many stretches.
+fn watcher(alloc: Global, most: u64) -> Told {
+    Told {
         most,
         stretches: Vec::new(alloc),
-    };
-    let report = check::<u32, Memory, Told>(alloc, 12, &mut Memory::new(held), &mut told);
-    Some((report, told))
+    }
+}
+
+// Checks these bytes; nothing where no memory was found for them.
+fn checked(
+    alloc: Global,
+    bytes: &[u8],
+    told: &mut Told,
+) -> Option<Result<Report<u32>, CheckError>> {
+    match holding(alloc, bytes) {
+        Some(mut store) => Some(journal_scan::check::<u32, Memory, Told>(
+            alloc, 12, &mut store, told,
+        )),
+        None => None,
+    }
+}
+
+// Whether the last stretch is one that no zero ends, and is this.
+fn is_unfinished(report: &Report<u32>, from: u64, to: u64, what: char) -> bool {
+    match &report.unfinished {
+        Some(last) => last.from == from && last.to == to && name(&last.answer) == what,
+        None => false,
+    }
+}
+
+// Whether so many records were counted, and these numbers are missing.
+fn counts(report: &Report<u32>, count: u64, next: u64, missing: &[(u64, u64)]) -> bool {
+    report.tally.counted() == count
+        && report.tally.next() == next
+        && are_gaps(report.tally.missing(), missing)
+}
+
+fn tells_all(alloc: Global) -> bool {
+    let mut told = watcher(alloc, 9);
+    match checked(alloc, &BYTES, &mut told) {
+        Some(Ok(report)) => {
+            told.stretches.as_slice() == PLACES.as_slice()
+                && counts(&report, 4, 18446744073709551615, &MISSING)
+                && is_unfinished(&report, 44, 47, 'c')
+        }
+        _ => false,
+    }
 }
 
 #[test]
-fn what_a_log_has(rt: HostRuntime) -> Result<(), Fail> {
-    let (report, told) = check_bytes(rt.alloc(), &BYTES, 9).ok_or("check")?;
-    let report = report.map_err(|_| "report")?;
-    assert_eq!(rt;
-        told.stretches.as_slice(),
-        [
-            (1, 4, 'v', false),
-            (5, 7, 'd', false),
-            (8, 11, 'v', false),
-            (12, 25, 'l', false),
-            (26, 29, 'v', true),
-            (30, 42, 'v', false),
-        ]
-        .as_slice()
-    );
-    assert_eq!(rt; report.tally.counted(), 4);
-    assert_eq!(rt; report.tally.next(), 18446744073709551615);
-    assert_eq!(rt;
-        report.tally.missing(),
-        [
-            Gap { first: 0, last: 0 },
-            Gap { first: 2, last: 2 },
-            Gap {
-                first: 4,
-                last: 18446744073709551614,
-            },
-        ]
-        .as_slice()
-    );
-    let last = report.unfinished.ok_or("unfinished")?;
-    assert!(rt; last.from == 44 && last.to == 47 && matches!(last.answer, Answer::Cut));
-    Ok(())
+fn what_a_log_has(rt: HostRuntime) {
+    check(&rt, tells_all(rt.alloc()));
+}
+
+// Whether nothing is told of these bytes, and no record is counted; and what stands behind the last zero, where something does.
+fn tells_nothing(alloc: Global, bytes: &[u8]) -> Option<Option<(u64, u64, char)>> {
+    let mut told = watcher(alloc, 9);
+    match checked(alloc, bytes, &mut told) {
+        Some(Ok(report)) if told.stretches.is_empty() && counts(&report, 0, 0, &[]) => {
+            match &report.unfinished {
+                Some(last) => Some(Some((last.from, last.to, name(&last.answer)))),
+                None => Some(None),
+            }
+        }
+        _ => None,
+    }
 }
 
 // Nothing is there; or one zero; or one stretch that no zero ends and is too long.
+const WITHOUT_A_RECORD: [(&[u8], Option<(u64, u64, char)>); 3] = [
+    (&[], None),
+    (&[0], None),
+    (&[7; 13], Some((0, 13, 'l'))),
+];
+
 #[test]
-fn logs_without_a_record(rt: HostRuntime) -> Result<(), Fail> {
-    for count in 0usize..2 {
-        let bytes = [0u8; 2];
-        let (report, told) = check_bytes(rt.alloc(), &bytes[..count], 9).ok_or("check")?;
-        let report = report.map_err(|_| "report")?;
-        assert!(rt; told.stretches.is_empty() && report.unfinished.is_none());
-        assert!(rt; report.tally.next() == 0 && report.tally.missing().is_empty());
+fn logs_without_a_record(rt: HostRuntime) {
+    for (bytes, unfinished) in WITHOUT_A_RECORD {
+        check(&rt, tells_nothing(rt.alloc(), bytes) == Some(unfinished));
     }
-    let (report, _) = check_bytes(rt.alloc(), &[7; 13], 9).ok_or("check")?;
-    let last = report
-        .map_err(|_| "report")?
-        .unfinished
-        .ok_or("unfinished")?;
-    assert!(rt; last.from == 0 && last.to == 13 && matches!(last.answer, Answer::TooLong));
-    Ok(())
+}
+
+fn halts(alloc: Global) -> bool {
+    let mut told = watcher(alloc, 2);
+    match checked(alloc, &BYTES, &mut told) {
+        Some(Err(CheckError::Halted)) => told.stretches.len() == 2,
+        _ => false,
+    }
 }
 
 #[test]
-fn watcher_halts(rt: HostRuntime) -> Result<(), Fail> {
-    let (report, told) = check_bytes(rt.alloc(), &BYTES, 2).ok_or("check")?;
-    assert!(rt; matches!(report, Err(CheckError::Halted)));
-    assert_eq!(rt; told.stretches.len(), 2);
-    Ok(())
-}
-
-// Numbers that come in no order: each takes itself out of the ranges that are missing.
-#[test]
-fn numbers_in_any_order(rt: HostRuntime) -> Result<(), Fail> {
-    let gap = |first: u64, last: u64| Gap { first, last };
-    let mut tally = Tally::new(rt.alloc());
-    assert_eq!(rt; tally.count(5), Ok(false));
-    assert_eq!(rt; tally.missing(), [gap(0, 4)].as_slice());
-    assert_eq!(rt; tally.count(2), Ok(false));
-    assert_eq!(rt; tally.missing(), [gap(0, 1), gap(3, 4)].as_slice());
-    assert_eq!(rt; tally.count(2), Ok(true));
-    assert_eq!(rt; tally.count(0), Ok(false));
-    assert_eq!(rt; tally.missing(), [gap(1, 1), gap(3, 4)].as_slice());
-    assert_eq!(rt; tally.count(4), Ok(false));
-    assert_eq!(rt; tally.count(1), Ok(false));
-    assert_eq!(rt; tally.missing(), [gap(3, 3)].as_slice());
-    assert_eq!(rt; tally.count(3), Ok(false));
-    assert!(rt; tally.missing().is_empty() && tally.next() == 6 && tally.counted() == 7);
-    Ok(())
+fn watcher_halts(rt: HostRuntime) {
+    check(&rt, halts(rt.alloc()));
 }

@@ -1,10 +1,10 @@
 //! Logs that were damaged at one byte.
 
+use crate::bytes::{check, with};
 use journal::{Journal, Listed, read_all};
 use link::Answer;
 use sealed::Sealed;
 use std::alloc::Global;
-use std::test::Fail;
 use stores::Memory;
 
 const N: usize = 24;
@@ -14,53 +14,65 @@ const VALUES: [u32; 6] = [300, 5, 0, 70000, 1, 255];
 // A value with its record's number, and both sealed.
 type Entry = Sealed<(u64, u32)>;
 
-// The bytes of a log of the values.
+// The values, appended one by one.
+fn append_all(journal: &mut Journal<Memory, N>) -> bool {
+    for value in VALUES {
+        let number = journal.next();
+        if journal.append(&Sealed((number, value))).is_err() {
+            return false;
+        }
+    }
+    true
+}
+
+// A log of the values.
 fn log(alloc: Global) -> Option<Memory> {
     let mut list = Listed::<Entry>::new(alloc);
     let store = Memory::new(Vec::new(alloc));
-    let opened = Journal::<Memory, N>::open::<Entry, Listed<Entry>>(alloc, store, 0, &mut list);
-    let Ok(mut journal) = opened else {
-        return None;
-    };
-    for value in VALUES {
-        let number = journal.next();
-        journal.append(&Sealed((number, value))).ok()?;
+    match Journal::<Memory, N>::open::<Entry, Listed<Entry>>(alloc, store, 0, &mut list) {
+        Ok(mut journal) => {
+            if append_all(&mut journal) {
+                Some(journal.into_store())
+            } else {
+                None
+            }
+        }
+        Err(_) => None,
     }
-    Some(journal.into_store())
 }
 
-// The bytes with others in place of the one at an offset.
-fn with(alloc: Global, bytes: &[u8], at: usize, others: &[u8]) -> Option<Memory> {
-    let (front, rest) = bytes.split_at_checked(at)?;
-    let (_, behind) = rest.split_at_checked(1)?;
-    let mut changed = Vec::new(alloc);
-    changed.extend_from_slice(front).ok()?;
-    changed.extend_from_slice(others).ok()?;
-    changed.extend_from_slice(behind).ok()?;
-    Some(Memory::new(changed))
+// Whether the sealed value was appended as this number.
+fn is_appended(number: u64, value: u32) -> bool {
+    match VALUES.get(number as usize) {
+        Some(appended) => number < VALUES.len() as u64 && *appended == value,
+        None => false,
+    }
 }
 
-// Which of the values are read, as bits; nothing where a record is read that was never appended.
-fn found(alloc: Global, store: Memory) -> Option<u8> {
-    let mut list = Listed::<Entry>::new(alloc);
-    let mut store = store;
-    let read = read_all::<Entry, Memory, Listed<Entry>, N>(alloc, &mut store, 0, &mut list);
-    if read.is_err() {
-        return None;
-    }
+// Which of the values these are, as bits; nothing where one was never appended.
+fn bits(answers: &[Answer<(u64, Entry)>]) -> Option<u8> {
     let mut found = 0u8;
-    for answer in &list.answers {
+    for answer in answers {
         if let Answer::Value((number, Sealed((inner, value)))) = answer {
             // a record whose number isn't the sealed one is none
             if *number == *inner {
-                if *number >= VALUES.len() as u64 || VALUES[*number as usize] != *value {
+                if !is_appended(*number, *value) {
                     return None;
                 }
-                found |= 1u8 << (*number as u32);
+                found |= 1u8 << ((*number % 8) as u32);
             }
         }
     }
     Some(found)
+}
+
+// Which of the values are read, as bits; nothing where a record is read that was never appended.
+fn found(alloc: Global, store: &mut Memory) -> Option<u8> {
+    let mut list = Listed::<Entry>::new(alloc);
+    match read_all::<Entry, Memory, Listed<Entry>, N>(alloc, store, 0, &mut list) {
+        Ok(_) => bits(&list.answers),
+        Err(_) => None,
+    }
 }
 
 // The values whose record, with the zero on either side, has no byte at this offset.
@@ -84,7 +96,7 @@ fn untouched(bytes: &[u8], at: usize) -> u8 {
 fn bears(alloc: Global, bytes: &[u8], at: usize, others: &[u8]) -> bool {
     let kept = untouched(bytes, at);
     match with(alloc, bytes, at, others) {
-        Some(store) => match found(alloc, store) {
+        Some(changed) => match found(alloc, &mut Memory::new(changed)) {
             Some(found) => found & kept == kept,
             None => false,
         },
@@ -92,30 +104,30 @@ fn bears(alloc: Global, bytes: &[u8], at: usize, others: &[u8]) -> bool {
     }
 }
 
-// Each byte has each of its bits turned, is lost, and is doubled.
-#[test]
-fn damaged_at_every_byte(rt: HostRuntime) -> Result<(), Fail> {
-    let alloc = rt.alloc();
-    let log = log(alloc).ok_or("log")?;
-    let bytes = log.bytes();
-    let mut wrong = 0u64;
-    for (at, byte) in bytes.iter().enumerate() {
-        for bit in 0u32..8 {
-            if !bears(alloc, bytes, at, [*byte ^ (1u8 << bit)].as_slice()) {
-                wrong = wrong.saturating_add(1);
-            }
-        }
-        if !bears(alloc, bytes, at, [].as_slice())
-            || !bears(alloc, bytes, at, [*byte, *byte].as_slice())
-        {
-            wrong = wrong.saturating_add(1);
+// The byte at an offset has each of its bits turned, is lost, and is doubled.
+fn bears_each(alloc: Global, bytes: &[u8], at: usize, byte: u8) -> bool {
+    for bit in 0u32..8 {
+        if !bears(alloc, bytes, at, &[byte ^ (1u8 << bit)]) {
+            return false;
         }
     }
-    assert_eq!(rt; wrong, 0);
+    bears(alloc, bytes, at, &[]) && bears(alloc, bytes, at, &[byte, byte])
+}
+
+fn bears_all(alloc: Global, bytes: &[u8]) -> bool {
+    for (at, byte) in bytes.iter().enumerate() {
+        if !bears_each(alloc, bytes, at, *byte) {
+            return false;
+        }
+    }
     // all are there where nothing is damaged
-    assert!(rt;
-        untouched(bytes, bytes.len().saturating_add(1)) == 63
-            && bears(alloc, bytes, 0, [0].as_slice())
-    );
-    Ok(())
+    untouched(bytes, bytes.len().saturating_add(1)) == 63 && bears(alloc, bytes, 0, &[0])
+}
+
+#[test]
+fn damaged_at_every_byte(rt: HostRuntime) {
+    match log(rt.alloc()) {
+        Some(log) => check(&rt, bears_all(rt.alloc(), log.bytes())),
+        None => check(&rt, false),
+    }
 }

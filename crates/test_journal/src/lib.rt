@@ -2,6 +2,8 @@
 #![tactic(auto)]
 
 #[cfg(test)]
+mod bytes;
+#[cfg(test)]
 mod checks;
 #[cfg(test)]
 mod damage;
@@ -13,3 +15,5 @@ mod offsets;
 mod repairs;
 #[cfg(test)]
 mod seals;
+#[cfg(test)]
+mod tallies;

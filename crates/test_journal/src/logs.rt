@@ -1,40 +1,49 @@
 //! Logs whose store fails or crashes.
 
+use crate::bytes::{are_bytes, check};
 use journal::{Journal, Listed};
 use link::Answer;
 use std::alloc::Global;
-use std::test::Fail;
 use stores::{Memory, Store, put};
 
-const N: usize = 16;
+const N: usize = 24;
 
 const VALUES: [u32; 5] = [300, 5, 0, 70000, 1];
 
-// A log in memory of the values, opened once; how many appends were Ok.
-fn write(alloc: Global, store: Memory, values: &[u32]) -> (usize, Memory) {
-    let mut list = Listed::<u32>::new(alloc);
-    let mut journal = match Journal::<Memory, N>::open::<u32, Listed<u32>>(
-        alloc, store, 0, &mut list,
-    ) {
-        Ok(journal) => journal,
-        Err(e) => return (0, e.store),
-    };
-    let mut done = 0usize;
-    for value in values {
-        match journal.append(value) {
-            Ok(_) => done = done.saturating_add(1),
-            Err(_) => return (done, journal.into_store()),
+// What is appended behind all of them.
+const BEHIND: u32 = 9;
+
+type Log = Journal<Memory, N>;
+
+type List = Listed<u32>;
+
+// How many of the values were appended before one wasn't.
+fn append_all(journal: &mut Log, values: &[u32]) -> usize {
+    for (done, value) in values.iter().enumerate() {
+        if journal.append(value).is_err() {
+            return done;
         }
     }
-    (done, journal.into_store())
+    values.len()
 }
 
-// What is read of a store, opened.
-fn read(alloc: Global, store: Memory) -> Option<Vec<Answer<(u64, u32)>>> {
-    let mut list = Listed::<u32>::new(alloc);
-    match Journal::<Memory, N>::open::<u32, Listed<u32>>(alloc, store, 0, &mut list) {
-        Ok(_) => Some(list.answers),
-        Err(_) => None,
+// A log in memory of the values, opened once; how many appends were Ok.
+fn write(alloc: Global, store: Memory, values: &[u32]) -> (usize, Memory) {
+    let mut list = List::new(alloc);
+    match Log::open::<u32, List>(alloc, store, 0, &mut list) {
+        Ok(mut journal) => {
+            let done = append_all(&mut journal, values);
+            (done, journal.into_store())
+        }
+        Err(e) => (0, e.store),
+    }
+}
+
+// The value of the record with a number.
+fn value_at(number: usize) -> u32 {
+    match VALUES.get(number) {
+        Some(value) => *value,
+        None => BEHIND,
     }
 }
 
@@ -43,7 +52,7 @@ fn counted(answers: &[Answer<(u64, u32)>]) -> Option<usize> {
     let mut next = 0usize;
     for answer in answers {
         if let Answer::Value((number, value)) = answer {
-            if *number != next as u64 || *VALUES.get(next)? != *value {
+            if *number != next as u64 || *value != value_at(next) {
                 return None;
             }
             next = next.saturating_add(1);
@@ -52,86 +61,109 @@ fn counted(answers: &[Answer<(u64, u32)>]) -> Option<usize> {
     Some(next)
 }
 
+// How many records are read of a store, opened.
+fn count(alloc: Global, store: Memory) -> Option<usize> {
+    let mut list = List::new(alloc);
+    match Log::open::<u32, List>(alloc, store, 0, &mut list) {
+        Ok(_) => counted(&list.answers),
+        Err(_) => None,
+    }
+}
+
 #[test]
-fn bytes_of_a_log(rt: HostRuntime) -> Result<(), Fail> {
-    let alloc = rt.alloc();
-    let (done, store) = write(alloc, Memory::new(Vec::new(alloc)), [300, 5].as_slice());
-    assert_eq!(rt; done, 2);
-    assert_eq!(rt; store.bytes(), [0, 1, 3, 172, 2, 0, 3, 1, 5, 0].as_slice());
-    Ok(())
+fn bytes_of_a_log(rt: HostRuntime) {
+    let (done, store) = write(rt.alloc(), Memory::new(Vec::new(rt.alloc())), &[300, 5]);
+    check(
+        &rt,
+        done == 2 && are_bytes(store.bytes(), &[0, 1, 3, 172, 2, 0, 3, 1, 5, 0]),
+    );
 }
 
 // The store fails after so many bytes of the 24 of a session of five; then the log is opened, opened again and read: all records whose append
 // was Ok are there, and at most one more, whose frame went out whole.
-fn survives_fault(alloc: Global, at: usize) -> Option<bool> {
+fn survives_fault(alloc: Global, at: usize) -> bool {
     let mut store = Memory::new(Vec::new(alloc));
     store.fail_after(at);
-    let (done, store) = write(alloc, store, VALUES.as_slice());
-    let (_, store) = write(alloc, store, [].as_slice());
-    let count = counted(&read(alloc, store)?)?;
-    Some(count == done || count == done.saturating_add(1))
+    let (done, store) = write(alloc, store, &VALUES);
+    let (_, store) = write(alloc, store, &[]);
+    match count(alloc, store) {
+        Some(count) => count == done || count == done.saturating_add(1),
+        None => false,
+    }
 }
 
 #[test]
-fn torn_at_every_byte(rt: HostRuntime) -> Result<(), Fail> {
-    let mut wrong = 0u64;
+fn torn_at_every_byte(rt: HostRuntime) {
     for at in 0usize..25 {
-        if survives_fault(rt.alloc(), at) != Some(true) {
-            wrong = wrong.saturating_add(1);
-        }
+        check(&rt, survives_fault(rt.alloc(), at));
     }
-    assert_eq!(rt; wrong, 0);
-    Ok(())
+}
+
+// Whether a log that has so many records gets one more, and is synced.
+fn goes_on(journal: &mut Log, count: usize) -> bool {
+    journal.append(&value_at(count)) == Ok(count as u64) && journal.sync().is_ok()
+}
+
+// How many records a log has that is opened and gets one more, synced; and what it is then.
+fn gone_on(alloc: Global, store: Memory) -> Option<(usize, Memory)> {
+    let mut list = List::new(alloc);
+    let Ok(mut journal) = Log::open::<u32, List>(alloc, store, 0, &mut list) else {
+        return None;
+    };
+    match counted(&list.answers) {
+        Some(count) => {
+            if goes_on(&mut journal, count) {
+                Some((count, journal.into_store()))
+            } else {
+                None
+            }
+        }
+        None => None,
+    }
 }
 
 // A crash leaves so many of the bytes that weren't synced, and so many zeros behind them; then the log is opened, gets one more
 // record, is synced and read again.
-fn survives_crash(alloc: Global, left: usize, zeros: usize) -> Option<bool> {
-    let (_, store) = write(alloc, Memory::new(Vec::new(alloc)), VALUES.as_slice());
-    let mut list = Listed::<u32>::new(alloc);
-    let store = store.crash(left, zeros)?;
-    let opened = Journal::<Memory, N>::open::<u32, Listed<u32>>(alloc, store, 0, &mut list);
-    let Ok(mut journal) = opened else {
-        return None;
+fn survives_crash(alloc: Global, left: usize, zeros: usize) -> bool {
+    let (_, store) = write(alloc, Memory::new(Vec::new(alloc)), &VALUES);
+    let Some(store) = store.crash(left, zeros) else {
+        return false;
     };
-    let count = counted(&list.answers)?;
-    let next = *VALUES.get(count).unwrap_or(&9);
-    let appended = journal.append(&next) == Ok(count as u64) && journal.sync().is_ok();
-    let store = journal.into_store();
-    let settled = store.settled() == store.bytes().len();
-    let again = read(alloc, store)?;
-    Some(
-        appended
-            && settled
-            && (count == VALUES.len() || counted(&again)? == count.saturating_add(1)),
-    )
+    let Some((before, store)) = gone_on(alloc, store) else {
+        return false;
+    };
+    if store.settled() != store.bytes().len() {
+        return false;
+    }
+    count(alloc, store) == Some(before.saturating_add(1))
 }
 
 #[test]
-fn crashed_at_every_byte(rt: HostRuntime) -> Result<(), Fail> {
-    let mut wrong = 0u64;
+fn crashed_at_every_byte(rt: HostRuntime) {
     for left in 0usize..40 {
         for zeros in 0usize..4 {
-            if survives_crash(rt.alloc(), left, zeros) != Some(true) {
-                wrong = wrong.saturating_add(1);
-            }
+            check(&rt, survives_crash(rt.alloc(), left, zeros));
         }
     }
-    assert_eq!(rt; wrong, 0);
-    Ok(())
+}
+
+fn is_read(store: &mut Memory, from: u64, wanted: &[u8; 3]) -> bool {
+    let mut room = [0u8; 3];
+    store.read_at(from, &mut room) == Some(3) && room == *wanted
 }
 
 // Bytes that go in by parts, and are read at an offset.
 #[test]
-fn bytes_of_a_store(rt: HostRuntime) -> Result<(), Fail> {
+fn bytes_of_a_store(rt: HostRuntime) {
     let mut store = Memory::new(Vec::new(rt.alloc()));
     store.fail_after(3);
-    assert_eq!(rt; put(&mut store, &[1, 2, 3, 4]), 3);
-    assert_eq!(rt; put(&mut store, &[4, 5]), 2);
-    let mut room = [0u8; 3];
-    assert_eq!(rt; store.read_at(2, &mut room), Some(3));
-    assert_eq!(rt; room, [3, 4, 5]);
-    assert_eq!(rt; store.settled(), 0);
-    assert!(rt; store.sync().is_ok() && store.settled() == 5);
-    Ok(())
+    check(
+        &rt,
+        put(&mut store, &[1, 2, 3, 4]) == 3
+            && put(&mut store, &[4, 5]) == 2
+            && is_read(&mut store, 2, &[3, 4, 5])
+            && store.settled() == 0
+            && store.sync().is_ok()
+            && store.settled() == 5,
+    );
 }

@@ -1,47 +1,48 @@
 //! Sealed values as bytes.
 
+use crate::bytes::check;
 use postcard::Error;
 use sealed::{Sealed, crc32};
+use std::alloc::Global;
 use std::test::Fail;
 
 // The sum of the text 123456789, which is published, and those of nothing and of one zero.
 #[test]
-fn published_sums(rt: HostRuntime) -> Result<(), Fail> {
-    assert!(rt;
-        crc32(b"123456789") == 0xCBF4_3926 && crc32(b"") == 0 && crc32(&[0]) == 0xD202_EF8D
+fn published_sums(rt: HostRuntime) {
+    check(
+        &rt,
+        crc32(b"123456789") == 0xCBF4_3926 && crc32(b"") == 0 && crc32(&[0]) == 0xD202_EF8D,
     );
-    Ok(())
 }
 
 // A number with the sum of its two bytes behind it, as zlib gives that.
+const SEALED: [u8; 6] = [0xAC, 0x02, 0x36, 0x80, 0x65, 0xAD];
+
+// Whether the sealed number is refused so with another byte at one place; or read, where nothing refuses it.
+fn reads_with(alloc: Global, at: usize, byte: u8, refused: Option<Error>) -> bool {
+    let mut bytes = SEALED;
+    bytes[at % 6] = byte;
+    match postcard::from_bytes::<Sealed<u32>>(alloc, &bytes) {
+        Ok(Sealed(value)) => refused.is_none() && value == 300,
+        Err(e) => refused == Some(e),
+    }
+}
+
+// At 1, 0x82: the number goes on into its seal, which is a byte short then.
+const CHANGED: [(usize, u8, Option<Error>); 4] = [
+    (1, 2, None),
+    (1, 3, Some(Error::DeserializeBadCrc)),
+    (4, 0, Some(Error::DeserializeBadCrc)),
+    (1, 0x82, Some(Error::DeserializeUnexpectedEnd)),
+];
+
 #[test]
 fn sealed_number(rt: HostRuntime) -> Result<(), Fail> {
     let mut room = [0u8; 16];
     let front = postcard::to_slice(&Sealed(300u32), &mut room).map_err(|_| "room")?;
     assert_eq!(rt; &*front, [0xAC, 0x02, 0x36, 0x80, 0x65, 0xAD].as_slice());
-    Ok(())
-}
-
-// What is read of a sealed number with another byte at one place.
-fn read_with(rt: &HostRuntime, at: usize, byte: u8) -> Option<Result<u32, Error>> {
-    let mut room = [0u8; 16];
-    let length = postcard::to_slice(&Sealed(300u32), &mut room).ok()?.len();
-    *room.get_mut(at)? = byte;
-    match postcard::from_bytes::<Sealed<u32>>(rt.alloc(), &room[..length]) {
-        Ok(Sealed(value)) => Some(Ok(value)),
-        Err(e) => Some(Err(e)),
+    for (at, byte, refused) in CHANGED {
+        check(&rt, reads_with(rt.alloc(), at, byte, refused));
     }
-}
-
-#[test]
-fn wrong_seals(rt: HostRuntime) -> Result<(), Fail> {
-    assert_eq!(rt; read_with(&rt, 1, 2), Some(Ok(300)));
-    assert_eq!(rt; read_with(&rt, 1, 3), Some(Err(Error::DeserializeBadCrc)));
-    assert_eq!(rt; read_with(&rt, 4, 0), Some(Err(Error::DeserializeBadCrc)));
-    // the number goes on into its seal, which is a byte short then
-    assert_eq!(rt;
-        read_with(&rt, 1, 0x82),
-        Some(Err(Error::DeserializeUnexpectedEnd))
-    );
     Ok(())
 }

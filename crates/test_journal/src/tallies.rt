@@ -1,0 +1,41 @@
+//! Numbers that come in no order: each takes itself out of the ranges that are missing.
+
+use crate::bytes::check;
+use journal_scan::{Gap, Tally};
+
+/// Whether these are the ranges, each from its first number to its last.
+pub fn are_gaps(gaps: &[Gap], wanted: &[(u64, u64)]) -> bool {
+    for (gap, (first, last)) in gaps.iter().zip(wanted) {
+        if gap.first != *first || gap.last != *last {
+            return false;
+        }
+    }
+    gaps.len() == wanted.len()
+}
+
+// A number, whether it was there before, and which are missing then.
+const NUMBERS: [(u64, bool, &[(u64, u64)]); 7] = [
+    (5, false, &[(0, 4)]),
+    (2, false, &[(0, 1), (3, 4)]),
+    (2, true, &[(0, 1), (3, 4)]),
+    (0, false, &[(1, 1), (3, 4)]),
+    (4, false, &[(1, 1), (3, 3)]),
+    (1, false, &[(3, 3)]),
+    (3, false, &[]),
+];
+
+fn counts(tally: &mut Tally, number: u64, again: bool, missing: &[(u64, u64)]) -> bool {
+    match tally.count(number) {
+        Ok(found) => found == again && are_gaps(tally.missing(), missing),
+        Err(_) => false,
+    }
+}
+
+#[test]
+fn numbers_in_any_order(rt: HostRuntime) {
+    let mut tally = Tally::new(rt.alloc());
+    for (number, again, missing) in NUMBERS {
+        check(&rt, counts(&mut tally, number, again, missing));
+    }
+    check(&rt, tally.next() == 6 && tally.counted() == 7);
+}
