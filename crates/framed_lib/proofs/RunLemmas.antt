@@ -8,7 +8,7 @@ use Rattle.framed_lib.specs.declared.stop.Stop.TheVariants as stop
 use Rattle.line_io.specs.Transfers.{Fate, whole, broken, Reach}
 use Rattle.framed_lib.specs.Program.{Program, RunsToItsEnd, LacksMemory, SayingFails, FailsByDevice, read_failed, write_failed, no_memory}
 use Rattle.framed_lib.specs.Working.{Before, Worked, Reports}
-use Rattle.framed_lib.proofs.WorkLemmas.{Goes-map}
+use Rattle.framed_lib.proofs.WorkLemmas.{CarriesOut-map}
 
 low : (b : Bool) (status : ℕ) → status ≡ (if b then 0 else 1) → status < 3
 low true status e = omega arith
@@ -55,13 +55,13 @@ module _ {D : Type 0} (mid new : D) (mode : Mode) (hex : Bool) (sentinel : ℕ) 
       let P : D → Type 0 = λ d. RunsToItsEnd mode hex sentinel planned r w (t d) in
       let done : RunsToItsEnd mode hex sentinel status r w (t new) = rw p.0 (subst P (sym p.1) h) in
       record { finished = λ l. done; failed = λ e. absurd (omega arith); memory = λ e. absurd (omega arith); range = omega arith }
-  ends (Err stop.ReadFault) status h (inl p) = fails status p.0 (inl (Goes-map same (told read_failed p.1) h))
-  ends (Err stop.ReadFault) status h (inr p) = fails status p.0 (inr (inr (inr (inl (Goes-map same (untold read_failed p.1) h)))))
-  ends (Err stop.WriteFault) status h (inl p) = fails status p.0 (inr (inl (h.0, Goes-map same (told write_failed p.1) h.1)))
-  ends (Err stop.WriteFault) status h (inr p) = fails status p.0 (inr (inr (inr (inr (inl (h.0, Goes-map same (untold write_failed p.1) h.1))))))
+  ends (Err stop.ReadFault) status h (inl p) = fails status p.0 (inl (CarriesOut-map same (told read_failed p.1) h))
+  ends (Err stop.ReadFault) status h (inr p) = fails status p.0 (inr (inr (inr (inl (CarriesOut-map same (untold read_failed p.1) h)))))
+  ends (Err stop.WriteFault) status h (inl p) = fails status p.0 (inr (inl (h.0, CarriesOut-map same (told write_failed p.1) h.1)))
+  ends (Err stop.WriteFault) status h (inr p) = fails status p.0 (inr (inr (inr (inr (inl (h.0, CarriesOut-map same (untold write_failed p.1) h.1))))))
   ends (Err stop.SayingFault) status h p =
       let P : D → Type 0 = λ d. SayingFails mode hex sentinel r w (t d broken) in fails status p.0 (inr (inr (subst P (sym p.1) h)))
   ends (Err stop.NoMemory) status h (inl p) =
       let said = p.0 in
-      record { finished = λ l. absurd (omega arith); failed = λ e. absurd (omega arith); memory = λ e. (h.0, Goes-map same (told no_memory p.1) h.1); range = omega arith }
-  ends (Err stop.NoMemory) status h (inr p) = fails status p.0 (inr (inr (inr (inr (inr (h.0, Goes-map same (untold no_memory p.1) h.1))))))
+      record { finished = λ l. absurd (omega arith); failed = λ e. absurd (omega arith); memory = λ e. (h.0, CarriesOut-map same (told no_memory p.1) h.1); range = omega arith }
+  ends (Err stop.NoMemory) status h (inr p) = fails status p.0 (inr (inr (inr (inr (inr (h.0, CarriesOut-map same (untold no_memory p.1) h.1))))))

@@ -21,20 +21,20 @@ use Rattle.link.specs.Run.{Send, session_line}
 use Rattle.link.specs.Stream.{Verdict}
 use Rattle.framed_lib.specs.Lines.{AreAnswers, holds_text, reads_text, lines_of, is_value, answer_lines, has_value}
 use Rattle.framed_lib.specs.Sending.{lines_in, AreSendsOf, refusals, is_whole}
-use Rattle.framed_lib.specs.Program.{Packs, Unpacks, Program, WritesLines, WritesGiven, LacksLines, RunsOutOfMemory, IsToWrite, SaysBeforehand, StandsFor, IsNotHex, WritesFirst, framed_text, bad_hex, Goes, RunsToItsEnd, ReadFails, WriteFails, LacksMemory, SayingFails, read_failed, write_failed, no_memory}
+use Rattle.framed_lib.specs.Program.{Packs, Unpacks, Program, WritesLines, WritesGiven, LacksLines, RunsOutOfMemory, IsToWrite, SaysBeforehand, StandsFor, IsNotHex, WritesFirst, framed_text, bad_hex, CarriesOut, RunsToItsEnd, ReadFails, WriteFails, LacksMemory, SayingFails, read_failed, write_failed, no_memory}
 use Rattle.framed_lib.specs.Working.{IsWhole, unpacking, says_nothing, Before, Worked, AnswersStream, outcome_of, without_fault_of, unless_fault}
 
 -- the same end of a run, as another reading saw it, or what was said of it otherwise
 module _ {r s : Reach → List ℕ → Type 0} {w : Fate → List ℕ → Type 0} (f : (reach : Reach) (text : List ℕ) → r reach text → s reach text) where
-  pub Goes-map : {due : List ℕ → List ℕ → List ℕ → Type 0} {reach : Reach} {fate : Fate} {v t : List ℕ → Type 0} → ((bytes : List ℕ) → v bytes → t bytes)
-      → Goes due reach fate r w v → Goes due reach fate s w t
-  Goes-map {reach = reach} k h = record { text = h.text; out = h.out; said = h.said; is = h.is; read = f reach _ h.read; wrote = h.wrote; told = k _ h.told }
+  pub CarriesOut-map : {due : List ℕ → List ℕ → List ℕ → Type 0} {reach : Reach} {fate : Fate} {v t : List ℕ → Type 0} → ((bytes : List ℕ) → v bytes → t bytes)
+      → CarriesOut due reach fate r w v → CarriesOut due reach fate s w t
+  CarriesOut-map {reach = reach} k h = record { text = h.text; out = h.out; said = h.said; is = h.is; read = f reach _ h.read; wrote = h.wrote; told = k _ h.told }
 
   pub SayingFails-map : (mode : Mode) (hex : Bool) (sentinel : ℕ) {v t : List ℕ → Type 0} → ((bytes : List ℕ) → v bytes → t bytes) → SayingFails mode hex sentinel r w v → SayingFails mode hex sentinel s w t
-  SayingFails-map mode hex sentinel k (inl h) = inl (Goes-map k h)
-  SayingFails-map mode hex sentinel k (inr (inl h)) = inr (inl (Goes-map (λ bytes. k (bytes ++ read_failed)) h))
-  SayingFails-map mode hex sentinel k (inr (inr (inl h))) = inr (inr (inl (h.0, Goes-map (λ bytes. k (bytes ++ write_failed)) h.1)))
-  SayingFails-map mode hex sentinel k (inr (inr (inr h))) = inr (inr (inr (h.0, Goes-map (λ bytes. k (bytes ++ no_memory)) h.1)))
+  SayingFails-map mode hex sentinel k (inl h) = inl (CarriesOut-map k h)
+  SayingFails-map mode hex sentinel k (inr (inl h)) = inr (inl (CarriesOut-map (λ bytes. k (bytes ++ read_failed)) h))
+  SayingFails-map mode hex sentinel k (inr (inr (inl h))) = inr (inr (inl (h.0, CarriesOut-map (λ bytes. k (bytes ++ write_failed)) h.1)))
+  SayingFails-map mode hex sentinel k (inr (inr (inr h))) = inr (inr (inr (h.0, CarriesOut-map (λ bytes. k (bytes ++ no_memory)) h.1)))
 
 -- what is said before a line, said otherwise
 pub Before-map : {v t : List ℕ → Type 0} (line : List ℕ) → ((bytes : List ℕ) → v bytes → t bytes) → (said : List ℕ) → Before line v (said ++ line) → Before line t (said ++ line)
@@ -43,11 +43,11 @@ Before-map line k said h = (h.0, h.1, k h.0 h.2)
 -- the same work, as another reading saw it
 pub Worked-read : (mode : Mode) (hex : Bool) (sentinel : ℕ) (r s : Reach → List ℕ → Type 0) (w t : Fate → List ℕ → Type 0) (result : Result ℕ Stop)
     → ((reach : Reach) (text : List ℕ) → r reach text → s reach text) → Worked mode hex sentinel r w t result → Worked mode hex sentinel s w t result
-Worked-read mode hex sentinel r s w t (Ok status) f h = Goes-map f (λ bytes x. x) h
-Worked-read mode hex sentinel r s w t (Err stop.ReadFault) f h = Goes-map f (λ bytes x. x) h
-Worked-read mode hex sentinel r s w t (Err stop.WriteFault) f h = (h.0, Goes-map f (λ bytes x. x) h.1)
+Worked-read mode hex sentinel r s w t (Ok status) f h = CarriesOut-map f (λ bytes x. x) h
+Worked-read mode hex sentinel r s w t (Err stop.ReadFault) f h = CarriesOut-map f (λ bytes x. x) h
+Worked-read mode hex sentinel r s w t (Err stop.WriteFault) f h = (h.0, CarriesOut-map f (λ bytes x. x) h.1)
 Worked-read mode hex sentinel r s w t (Err stop.SayingFault) f h = SayingFails-map f mode hex sentinel (λ bytes x. x) h
-Worked-read mode hex sentinel r s w t (Err stop.NoMemory) f h = (h.0, Goes-map f (λ bytes x. x) h.1)
+Worked-read mode hex sentinel r s w t (Err stop.NoMemory) f h = (h.0, CarriesOut-map f (λ bytes x. x) h.1)
 
 -- a text that was read to its end, as the reading saw it
 pub whole-read : (bytes : List ℕ) (s : Reach → List ℕ → Type 0) → s ended bytes → (reach : Reach) (text : List ℕ) → IsWhole bytes reach text → s reach text
@@ -58,14 +58,14 @@ whole-read bytes s h failed text e = absurd e
 -- nothing said is nothing written
 pub Worked-quiet : (mode : Mode) (hex : Bool) (sentinel : ℕ) (r : Reach → List ℕ → Type 0) (w t : Fate → List ℕ → Type 0) (result : Result ℕ Stop)
     → t whole [] → Worked mode hex sentinel r w says_nothing result → Worked mode hex sentinel r w t result
-Worked-quiet mode hex sentinel r w t (Ok status) quiet h = Goes-map (λ reach text x. x) (λ bytes e. rw e quiet) h
+Worked-quiet mode hex sentinel r w t (Ok status) quiet h = CarriesOut-map (λ reach text x. x) (λ bytes e. rw e quiet) h
 Worked-quiet mode hex sentinel r w t (Err stop.ReadFault) quiet h =
-    Goes-map (λ reach text x. x) (Before-map {v = says_nothing whole} {t = t whole} read_failed (λ bytes e. rw e quiet)) h
+    CarriesOut-map (λ reach text x. x) (Before-map {v = says_nothing whole} {t = t whole} read_failed (λ bytes e. rw e quiet)) h
 Worked-quiet mode hex sentinel r w t (Err stop.WriteFault) quiet h =
-    (h.0, Goes-map (λ reach text x. x) (Before-map {v = says_nothing whole} {t = t whole} write_failed (λ bytes e. rw e quiet)) h.1)
+    (h.0, CarriesOut-map (λ reach text x. x) (Before-map {v = says_nothing whole} {t = t whole} write_failed (λ bytes e. rw e quiet)) h.1)
 Worked-quiet mode hex sentinel r w t (Err stop.SayingFault) quiet h = SayingFails-map (λ reach text x. x) mode hex sentinel (λ bytes e. absurd e) h
 Worked-quiet mode hex sentinel r w t (Err stop.NoMemory) quiet h =
-    (h.0, Goes-map (λ reach text x. x) (Before-map {v = says_nothing whole} {t = t whole} no_memory (λ bytes e. rw e quiet)) h.1)
+    (h.0, CarriesOut-map (λ reach text x. x) (Before-map {v = says_nothing whole} {t = t whole} no_memory (λ bytes e. rw e quiet)) h.1)
 
 -- the line alone is said
 before-line : (line : List ℕ) → Before line (says_nothing whole) line

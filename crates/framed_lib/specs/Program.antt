@@ -139,8 +139,8 @@ RunsOutOfMemory Pack hex sentinel _ text out said = ⊥
 RunsOutOfMemory Unpack hex sentinel reach text out said = LacksLines false hex sentinel reach text out said
 RunsOutOfMemory Strict hex sentinel reach text out said = LacksLines true hex sentinel reach text out said
 
--- A text was read so far, this was to be written and said for it, and so it went out.
-pub record Goes (due : List ℕ → List ℕ → List ℕ → Type 0) (reach : Reach) (fate : Fate)
+-- A text was read so far, this was due for it, and so it went out.
+pub record CarriesOut (due : List ℕ → List ℕ → List ℕ → Type 0) (reach : Reach) (fate : Fate)
     (reading : Reach → List ℕ → Type 0) (writing : Fate → List ℕ → Type 0)
     (says : List ℕ → Type 0) : Type 0 where
   pub text : List ℕ
@@ -155,7 +155,7 @@ pub record Goes (due : List ℕ → List ℕ → List ℕ → Type 0) (reach : R
 abbrev pub RunsToItsEnd : Mode → Bool → ℕ → ℕ → (Reach → List ℕ → Type 0)
     → (writing saying : Fate → List ℕ → Type 0) → Type 0
 RunsToItsEnd mode hex sentinel status reading writing saying =
-    Goes (λ text out said. Program mode hex sentinel text out said status) ended whole
+    CarriesOut (λ text out said. Program mode hex sentinel text out said status) ended whole
     reading writing (saying whole)
 
 -- What is to be written and said for a text, by how far it was read, where the writer may fail. Reading may stop there, with the
@@ -173,21 +173,21 @@ IsToWrite mode hex sentinel failed text out said =
 abbrev pub ReadFails : Mode → Bool → ℕ → (Reach → List ℕ → Type 0)
     → (Fate → List ℕ → Type 0) → (List ℕ → Type 0) → Type 0
 ReadFails mode hex sentinel reading writing says =
-    Goes (IsToWrite mode hex sentinel failed) failed whole
+    CarriesOut (IsToWrite mode hex sentinel failed) failed whole
     reading writing (λ said. says (said ++ read_failed))
 
 -- A write failed: the writer has a beginning, and 'write failed' was said after what was said before.
 abbrev pub WriteFails : Mode → Bool → ℕ → (Reach → List ℕ → Type 0)
     → (Fate → List ℕ → Type 0) → (List ℕ → Type 0) → Type 0
 WriteFails mode hex sentinel reading writing says =
-    (reach : Reach) × Goes (IsToWrite mode hex sentinel reach) reach broken
+    (reach : Reach) × CarriesOut (IsToWrite mode hex sentinel reach) reach broken
     reading writing (λ said. says (said ++ write_failed))
 
 -- Memory ran out: what was answered by then went out, and 'no memory' was said after what was said before.
 abbrev pub LacksMemory : Mode → Bool → ℕ → (Reach → List ℕ → Type 0)
     → (Fate → List ℕ → Type 0) → (List ℕ → Type 0) → Type 0
 LacksMemory mode hex sentinel reading writing says =
-    (reach : Reach) × Goes (RunsOutOfMemory mode hex sentinel reach) reach whole
+    (reach : Reach) × CarriesOut (RunsOutOfMemory mode hex sentinel reach) reach whole
     reading writing (λ said. says (said ++ no_memory))
 
 -- what is said of a text before anything is written
@@ -199,7 +199,7 @@ SaysBeforehand _ hex text said = IsNotHex hex text × (said ≡ bad_hex)
 abbrev pub SaysInVain : Mode → Bool → (Reach → List ℕ → Type 0)
     → (Fate → List ℕ → Type 0) → (List ℕ → Type 0) → Type 0
 SaysInVain mode hex reading writing says =
-    Goes (λ text out said. (out ≡ []) × SaysBeforehand mode hex text said) ended whole
+    CarriesOut (λ text out said. (out ≡ []) × SaysBeforehand mode hex text said) ended whole
     reading writing says
 
 -- Standard error failed, there or while the last line was said: it has a beginning of what was to be said.
