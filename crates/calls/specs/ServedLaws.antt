@@ -1,8 +1,8 @@
 -- What serving is, one request after another: laws of what a service owes as a hearer.
-use Rattle.std.proofs.Common.{◌≡◌, ℕ, length, ◌+◌, ◌<◌, ◌≤◌, Bool, true, cond, eqb, List, [], ◌∷◌, ◌++◌, Option, Some, None, Result, Ok, Err, refl, sym, ap, ◌∙◌, subst, inl, inr, arith, append_assoc}
+use Rattle.std.proofs.Common.{◌≡◌, ℕ, length, ◌+◌, ◌<◌, ◌≤◌, Bool, true, cond, eqb, List, [], ◌∷◌, ◌++◌, map, Option, Some, None, Result, Ok, Err, refl, sym, ap, ◌∙◌, subst, inl, inr, arith, append_assoc}
 use Rattle.std.specs.List.{FoldsTo, AllZip}
 use Rattle.std.proofs.lemmas.Bool.{cases_lt, eq-eqb}
-use Rattle.std.proofs.lemmas.List.{append-nil}
+use Rattle.std.proofs.lemmas.List.{append-nil, map-append}
 use Rattle.line_io.specs.Calls.{Wrote-none, Wrote-then}
 use Rattle.postcard_tree.specs.Tree.{Tree, IsTree}
 use Rattle.link.specs.Run.{Send, completed, refused, broken, written, clean_after, session_line, IsSession}
@@ -11,7 +11,7 @@ use Rattle.link.specs.Senders.{IsSent, IsRefusal}
 use Rattle.cobs.specs.Frames.{shortest_frame}
 use Rattle.postcard.specs.Written.{UnlessRefused}
 use Rattle.postcard_tree.specs.declared.error.Error.{Error}
-use Rattle.link.specs.Fates.{IsSendOf, fate_of, fates_of, broke, brokens, clean_after_all, Did, FewBroke, SendsAll}
+use Rattle.link.specs.Fates.{IsSendOf, fate_of, broke, brokens, clean_after_all, Did, FewBroke, SendsAll}
 use Rattle.link.specs.declared.sender.SendError.{SendError}
 use Rattle.link.specs.declared.sender.SendError.TheVariants.{Refused, Line}
 use Rattle.link.specs.declared.session.Fate.{Fate}
@@ -29,10 +29,6 @@ use Rattle.calls.specs.declared.server.Served.TheVariants.{Executed, Again, Pass
 clean_then : (clean : Bool) (xs ys : List Send) → clean_after_all clean (xs ++ ys) ≡ clean_after_all (clean_after_all clean xs) ys
 clean_then clean [] ys = refl
 clean_then clean (x ∷ xs) ys = clean_then (clean_after clean x) xs ys
-
-fates_then : (xs ys : List Send) → fates_of (xs ++ ys) ≡ fates_of xs ++ fates_of ys
-fates_then [] ys = refl
-fates_then (x ∷ xs) ys = ap (λ fs. fate_of x ∷ fs) (fates_then xs ys)
 
 brokens_then : (xs ys : List Send) → brokens (xs ++ ys) ≡ brokens xs + brokens ys
 brokens_then [] ys = omega arith
@@ -93,7 +89,7 @@ module _ {V : Type 0} (limit : ℕ) (writes : V → Option Tree) (valid : V → 
         sends = xs ++ ys;
         are = session_then limit s old.clean xs ys p.are (subst (λ z. IsSession IsTree limit s z ys) p.then q.are);
         of = zip_then (λ v x. IsSendOf limit (writes v) (valid v) x) vs xs ws ys p.of q.of;
-        fated = ap (λ l. l ++ gs) p.fated ∙ ap (λ l. fates_of xs ++ l) q.fated ∙ sym (fates_then xs ys);
+        fated = ap (λ l. l ++ gs) p.fated ∙ ap (λ l. map fate_of xs ++ l) q.fated ∙ sym (map-append fate_of xs ys);
         did = subst (λ n. Did old.told new.told old.faults new.faults old.calls_left new.calls_left (session_line s old.clean (xs ++ ys)) n) (sym (brokens_then xs ys))
             (subst (λ b. Did old.told new.told old.faults new.faults old.calls_left new.calls_left b (brokens xs + brokens ys)) (sym line)
             (did_then _ _ _ _ _ _ _ _ _ (session_line s old.clean xs) (session_line s mid.clean ys) (brokens xs) (brokens ys) p.did q.did));

@@ -21,49 +21,91 @@ const C: Reading = Reading {
     temperature: -54,
 };
 
-// Ends a test where the second send wasn't answered so, or these weren't heard.
-fn check(
-    rt: &impl Abort,
-    all: &Exchanged,
-    second: Result<(), SendError>,
-    answers: &[Answer<Reading>],
-) {
-    assert!(rt; all.first == Ok(()) && all.second == second && all.third == Ok(()));
-    assert!(rt; *all.answers.as_slice() == *answers);
+// Ends a test that isn't right.
+fn check(rt: &impl Abort, is_right: bool) {
+    assert!(rt; is_right);
+}
+
+// Whether an answer is this reading; or damage, where none is wanted.
+fn is_heard(answer: &Answer<Reading>, wanted: &Option<Reading>) -> bool {
+    match answer {
+        Answer::Value(reading) => match wanted {
+            Some(wanted) => *reading == *wanted,
+            None => false,
+        },
+        Answer::Damaged => wanted.is_none(),
+        _ => false,
+    }
+}
+
+// Whether these answers are all, in order.
+fn are_heard(answers: &[Answer<Reading>], wanted: &[Option<Reading>]) -> bool {
+    for (answer, wanted) in answers.iter().zip(wanted) {
+        if !is_heard(answer, wanted) {
+            return false;
+        }
+    }
+    answers.len() == wanted.len()
+}
+
+// Whether a send broke off.
+fn broke_off(sent: &Result<(), SendError>) -> bool {
+    matches!(sent, Err(SendError::Line))
+}
+
+// Whether all three are sent and heard.
+fn all_go_over(all: &Exchanged) -> bool {
+    all.first.is_ok()
+        && all.second.is_ok()
+        && all.third.is_ok()
+        && are_heard(&all.answers, &[Some(A), Some(B), Some(C)])
 }
 
 #[test]
 fn all_are_heard(rt: HostRuntime) {
-    let all = exchange(rt.alloc(), None, &A, &B, &C);
-    let values = [Answer::Value(A), Answer::Value(B), Answer::Value(C)];
-    check(&rt, &all, Ok(()), &values);
+    check(&rt, all_go_over(&exchange(rt.alloc(), None, &A, &B, &C)));
 }
+
+// Whether the second breaks off, and these are heard.
+fn breaks_off(all: &Exchanged, wanted: &[Option<Reading>]) -> bool {
+    all.first.is_ok()
+        && broke_off(&all.second)
+        && all.third.is_ok()
+        && are_heard(&all.answers, wanted)
+}
+
+// After how many bytes the line fails once, and what is heard.
+type Row = (usize, &'static [Option<Reading>]);
+
+const BROKEN: [Row; 3] = [
+    (5, &[Some(A), Some(C)]),
+    (7, &[Some(A), None, Some(C)]),
+    (8, &[Some(A), Some(B), Some(C)]),
+];
 
 #[test]
 fn the_second_breaks_off(rt: HostRuntime) {
-    let none = exchange(rt.alloc(), Some(5), &A, &B, &C);
-    let broken = Err(SendError::Line);
-    check(&rt, &none, broken, &[Answer::Value(A), Answer::Value(C)]);
-    let inside = exchange(rt.alloc(), Some(7), &A, &B, &C);
-    let damaged = [Answer::Value(A), Answer::Damaged, Answer::Value(C)];
-    check(&rt, &inside, broken, &damaged);
-    let behind = exchange(rt.alloc(), Some(8), &A, &B, &C);
-    let values = [Answer::Value(A), Answer::Value(B), Answer::Value(C)];
-    check(&rt, &behind, broken, &values);
+    for (before, wanted) in BROKEN {
+        let all = exchange(rt.alloc(), Some(before), &A, &B, &C);
+        check(&rt, breaks_off(&all, wanted));
+    }
 }
 
-// Ends a test where the first send didn't break off, or the second did, or these weren't heard.
-fn check_again(rt: &impl Abort, all: &SentAgain, answers: &[Answer<Reading>]) {
-    assert!(rt; all.first == Err(SendError::Line) && all.second == Ok(()));
-    assert!(rt; *all.answers.as_slice() == *answers);
+// Whether the first send breaks off and the second doesn't, and these are heard.
+fn goes_over_again(all: &SentAgain, wanted: &[Option<Reading>]) -> bool {
+    broke_off(&all.first) && all.second.is_ok() && are_heard(&all.answers, wanted)
 }
+
+const AGAIN: [Row; 3] = [
+    (1, &[Some(A)]),
+    (3, &[None, Some(A)]),
+    (4, &[Some(A), Some(A)]),
+];
 
 #[test]
 fn one_is_sent_again(rt: HostRuntime) {
-    let none = send_again(rt.alloc(), 1, &A);
-    check_again(&rt, &none, &[Answer::Value(A)]);
-    let inside = send_again(rt.alloc(), 3, &A);
-    check_again(&rt, &inside, &[Answer::Damaged, Answer::Value(A)]);
-    let whole = send_again(rt.alloc(), 4, &A);
-    check_again(&rt, &whole, &[Answer::Value(A), Answer::Value(A)]);
+    for (before, wanted) in AGAIN {
+        let all = send_again(rt.alloc(), before, &A);
+        check(&rt, goes_over_again(&all, wanted));
+    }
 }

@@ -41,7 +41,7 @@ framed-line n sentinel room new text line u l b p =
     let fits : n < length (new ++ drop 1024 room) = omega (arith, length-append new (drop 1024 room), length-drop 1024 room) in
     let f : IsFramed IsTree 1024 (text_of text) = record { taken = p.0; within = omega (arith, p.1.0) } in (
       fits,
-      (refl, (u.1, (rw u.0 at f))),
+      (refl, u.1, (rw u.0 at f)),
       take_more_set (new ++ drop 1024 room) n sentinel fits ∙ (ap (λ x. x ++ sentinel ∷ []) (take-append-le n new (drop 1024 room) within) ∙ (rw (← u.0) (ap (λ x. x ++ sentinel ∷ []) p.1.1))),
     )
 

@@ -8,7 +8,7 @@ use Rattle.framed_lib.specs.declared.stop.Stop.TheVariants as stop
 use Rattle.line_io.specs.Transfers.{Fate, whole, broken, Reach}
 use Rattle.framed_lib.specs.Program.{Program, RunsToItsEnd, LacksMemory, SayingFails, FailsByDevice, read_failed, write_failed, no_memory}
 use Rattle.framed_lib.specs.Working.{Before, Worked, Reports}
-use Rattle.framed_lib.proofs.WorkLemmas.{ReadFails-map, WriteFails-map, LacksMemory-map}
+use Rattle.framed_lib.proofs.WorkLemmas.{CarriesOut-map}
 
 low : (b : Bool) (status : ℕ) → status ≡ (if b then 0 else 1) → status < 3
 low true status e = omega arith
@@ -36,11 +36,11 @@ ends-failed mode hex sentinel status r w t e fails =
 module _ {D : Type 0} (mid new : D) (mode : Mode) (hex : Bool) (sentinel : ℕ) (r : Reach → List ℕ → Type 0) (w : Fate → List ℕ → Type 0) (t : D → Fate → List ℕ → Type 0) (u : Fate → List ℕ → Type 0)
     (ww : (a b : List ℕ) → t mid whole a → u whole b → t new whole (a ++ b)) (wb : (a b : List ℕ) → t mid whole a → u broken b → t new broken (a ++ b)) where
   -- a last line that was said, and one that wasn't
-  told : (line : List ℕ) → u whole line → (bytes : List ℕ) → Before line (t mid whole) bytes → t new whole bytes
-  told line p bytes h = rw h.1 (ww h.0 line h.2 p)
+  told : (line : List ℕ) → u whole line → (said : List ℕ) → Before line (t mid whole) (said ++ line) → t new whole (said ++ line)
+  told line p said h = rw h.1 (ww h.0 line h.2 p)
 
-  untold : (line : List ℕ) → u broken line → (bytes : List ℕ) → Before line (t mid whole) bytes → t new broken bytes
-  untold line p bytes h = rw h.1 (wb h.0 line h.2 p)
+  untold : (line : List ℕ) → u broken line → (said : List ℕ) → Before line (t mid whole) (said ++ line) → t new broken (said ++ line)
+  untold line p said h = rw h.1 (wb h.0 line h.2 p)
 
   same : (reach : Reach) (text : List ℕ) → r reach text → r reach text
   same reach text x = x
@@ -55,13 +55,13 @@ module _ {D : Type 0} (mid new : D) (mode : Mode) (hex : Bool) (sentinel : ℕ) 
       let P : D → Type 0 = λ d. RunsToItsEnd mode hex sentinel planned r w (t d) in
       let done : RunsToItsEnd mode hex sentinel status r w (t new) = rw p.0 (subst P (sym p.1) h) in
       record { finished = λ l. done; failed = λ e. absurd (omega arith); memory = λ e. absurd (omega arith); range = omega arith }
-  ends (Err stop.ReadFault) status h (inl p) = fails status p.0 (inl (ReadFails-map same (told read_failed p.1) h))
-  ends (Err stop.ReadFault) status h (inr p) = fails status p.0 (inr (inr (inr (inl (ReadFails-map same (untold read_failed p.1) h)))))
-  ends (Err stop.WriteFault) status h (inl p) = fails status p.0 (inr (inl (WriteFails-map same (told write_failed p.1) h)))
-  ends (Err stop.WriteFault) status h (inr p) = fails status p.0 (inr (inr (inr (inr (inl (WriteFails-map same (untold write_failed p.1) h))))))
+  ends (Err stop.ReadFault) status h (inl p) = fails status p.0 (inl (CarriesOut-map same (told read_failed p.1) h))
+  ends (Err stop.ReadFault) status h (inr p) = fails status p.0 (inr (inr (inr (inl (CarriesOut-map same (untold read_failed p.1) h)))))
+  ends (Err stop.WriteFault) status h (inl p) = fails status p.0 (inr (inl (h.0, CarriesOut-map same (told write_failed p.1) h.1)))
+  ends (Err stop.WriteFault) status h (inr p) = fails status p.0 (inr (inr (inr (inr (inl (h.0, CarriesOut-map same (untold write_failed p.1) h.1))))))
   ends (Err stop.SayingFault) status h p =
       let P : D → Type 0 = λ d. SayingFails mode hex sentinel r w (t d broken) in fails status p.0 (inr (inr (subst P (sym p.1) h)))
   ends (Err stop.NoMemory) status h (inl p) =
       let said = p.0 in
-      record { finished = λ l. absurd (omega arith); failed = λ e. absurd (omega arith); memory = λ e. LacksMemory-map same (told no_memory p.1) h; range = omega arith }
-  ends (Err stop.NoMemory) status h (inr p) = fails status p.0 (inr (inr (inr (inr (inr (LacksMemory-map same (untold no_memory p.1) h))))))
+      record { finished = λ l. absurd (omega arith); failed = λ e. absurd (omega arith); memory = λ e. (h.0, CarriesOut-map same (told no_memory p.1) h.1); range = omega arith }
+  ends (Err stop.NoMemory) status h (inr p) = fails status p.0 (inr (inr (inr (inr (inr (h.0, CarriesOut-map same (untold no_memory p.1) h.1))))))

@@ -2,13 +2,14 @@
 use Rattle.std.proofs.Common.{◌≡◌, ℕ, ◌+◌, ◌<◌, ◌==◌, inl, inr, Bool, ◌&&◌, ◌||◌, true, false, List, [], ◌∷◌, ◌++◌, length, refl, sym, ap, ◌∙◌, arith, append_assoc}
 use Rattle.std.proofs.Math.Bool.{or-true, or-false}
 use Rattle.std.proofs.lemmas.List.{append-nil}
+use Rattle.std.specs.List.{list_all}
 use Rattle.std.proofs.lemmas.List.Folds.{list_all-append}
 use Rattle.std.proofs.lemmas.List.Splits.{slice_split_at, slice_split_none, length-slice_split}
 use Rattle.link.specs.Run.{Send, completed, refused, broken, written, clean_after, session_line}
 use Rattle.link.specs.Fates.{clean_after_all}
 use Rattle.framed_lib.specs.Pieces.{LacksMark, pieces}
 use Rattle.framed_lib.specs.Program.{SaysFirst}
-use Rattle.framed_lib.specs.Sending.{filled, lines_in, IsSendOfLine, AreSendsOf, is_whole, all_sent, said_of, refusals, Sent}
+use Rattle.framed_lib.specs.Sending.{filled, lines_in, IsSendOfLine, AreSendsOf, is_whole, said_of, refusals, Sent}
 
 pieces-some : (bytes : List ℕ) → 0 < length (pieces 10 bytes)
 pieces-some bytes = omega (arith, length-slice_split (λ b. b == 10) bytes)
@@ -114,8 +115,8 @@ and-true : (a : Bool) → a && true ≡ a
 and-true true = refl
 and-true false = refl
 
-pub all-more : (good sent : Bool) (done : List Send) (x : Send) → good ≡ all_sent done → sent ≡ is_whole x → good && sent ≡ all_sent (done ++ x ∷ [])
-all-more good sent done x g s = rw (g, s) (ap (λ b. all_sent done && b) (sym (and-true (is_whole x))) ∙ sym (list_all-append is_whole done (x ∷ [])))
+pub all-more : (good sent : Bool) (done : List Send) (x : Send) → good ≡ list_all is_whole done → sent ≡ is_whole x → good && sent ≡ list_all is_whole (done ++ x ∷ [])
+all-more good sent done x g s = rw (g, s) (ap (λ b. list_all is_whole done && b) (sym (and-true (is_whole x))) ∙ sym (list_all-append is_whole done (x ∷ [])))
 
 module _ (text rest line : List ℕ) (later : List (List ℕ)) (number : ℕ) (done : List Send) (p : Sent text rest done) (next : lines_in rest ≡ line ∷ later)
     (n : number ≡ length done + 1) (breaks untold : List ℕ → Type 0)
@@ -132,10 +133,10 @@ module _ (text rest line : List ℕ) (later : List (List ℕ)) (number : ℕ) (d
 
 one-send : (line : List ℕ) (x y : Send) → IsSendOfLine line x → IsSendOfLine line y → x ≡ y
 one-send line (completed t) (completed u) p q = ap completed (p.0 ∙ sym q.0)
-one-send line (completed t) refused p (inl f) = absurd (f p.1.0)
-one-send line (completed t) refused p (inr f) = absurd (f p.1.1)
-one-send line refused (completed u) (inl f) q = absurd (f q.1.0)
-one-send line refused (completed u) (inr f) q = absurd (f q.1.1)
+one-send line (completed t) refused p (inl f) = absurd (f p.1)
+one-send line (completed t) refused p (inr f) = absurd (f p.2)
+one-send line refused (completed u) (inl f) q = absurd (f q.1)
+one-send line refused (completed u) (inr f) q = absurd (f q.2)
 one-send line refused refused p q = refl
 one-send line (broken t k) y p q = absurd p
 one-send line x (broken t k) p q = absurd q

@@ -20,46 +20,34 @@ use Rattle.line_io.specs.Transfers.{Fate, whole, broken, Reach, ended, stopped, 
 use Rattle.link.specs.Run.{Send, session_line}
 use Rattle.link.specs.Stream.{Verdict}
 use Rattle.framed_lib.specs.Lines.{AreAnswers, holds_text, reads_text, lines_of, is_value, answer_lines, has_value}
-use Rattle.framed_lib.specs.Sending.{lines_in, AreSendsOf, refusals, all_sent}
-use Rattle.framed_lib.specs.Program.{Packs, Unpacks, Program, GivesLines, WritesGiven, LacksLines, RunsOutOfMemory, IsToWrite, SaysBeforehand, StandsFor, IsNotHex, WritesFirst, framed_text, bad_hex, RunsToItsEnd, ReadFails, WriteFails, LacksMemory, SayingFails, read_failed, write_failed, no_memory}
+use Rattle.framed_lib.specs.Sending.{lines_in, AreSendsOf, refusals, is_whole}
+use Rattle.framed_lib.specs.Program.{Packs, Unpacks, Program, WritesLines, WritesGiven, LacksLines, RunsOutOfMemory, IsToWrite, SaysBeforehand, StandsFor, IsNotHex, WritesFirst, framed_text, bad_hex, CarriesOut, RunsToItsEnd, ReadFails, WriteFails, LacksMemory, SayingFails, read_failed, write_failed, no_memory}
 use Rattle.framed_lib.specs.Working.{IsWhole, unpacking, says_nothing, Before, Worked, AnswersStream, outcome_of, without_fault_of, unless_fault}
 
 -- the same end of a run, as another reading saw it, or what was said of it otherwise
-module _ {mode : Mode} {hex : Bool} {sentinel : ℕ} {r s : Reach → List ℕ → Type 0} {w : Fate → List ℕ → Type 0} (f : (reach : Reach) (text : List ℕ) → r reach text → s reach text) where
-  pub Finishes-map : {status : ℕ} {v t : Fate → List ℕ → Type 0} → ((bytes : List ℕ) → v whole bytes → t whole bytes)
-      → RunsToItsEnd mode hex sentinel status r w v → RunsToItsEnd mode hex sentinel status s w t
-  Finishes-map k h = record { text = h.text; out = h.out; said = h.said; is = h.is; read = f ended _ h.read; wrote = h.wrote; told = k _ h.told }
+module _ {r s : Reach → List ℕ → Type 0} {w : Fate → List ℕ → Type 0} (f : (reach : Reach) (text : List ℕ) → r reach text → s reach text) where
+  pub CarriesOut-map : {due : List ℕ → List ℕ → List ℕ → Type 0} {reach : Reach} {fate : Fate} {v t : List ℕ → Type 0} → ((bytes : List ℕ) → v bytes → t bytes)
+      → CarriesOut due reach fate r w v → CarriesOut due reach fate s w t
+  CarriesOut-map {reach = reach} k h = record { text = h.text; out = h.out; said = h.said; is = h.is; read = f reach _ h.read; wrote = h.wrote; told = k _ h.told }
 
-  module _ {v t : List ℕ → Type 0} (k : (bytes : List ℕ) → v bytes → t bytes) where
-    pub ReadFails-map : ReadFails mode hex sentinel r w v → ReadFails mode hex sentinel s w t
-    ReadFails-map h = record { text = h.text; out = h.out; is = h.is; read = f failed _ h.read; wrote = h.wrote; told = k _ h.told }
-
-    pub WriteFails-map : WriteFails mode hex sentinel r w v → WriteFails mode hex sentinel s w t
-    WriteFails-map h =
-        record { reach = h.reach; text = h.text; out = h.out; said = h.said; is = h.is; read = f h.reach _ h.read; wrote = h.wrote; told = k _ h.told }
-
-    pub LacksMemory-map : LacksMemory mode hex sentinel r w v → LacksMemory mode hex sentinel s w t
-    LacksMemory-map h =
-        record { reach = h.reach; text = h.text; out = h.out; said = h.said; is = h.is; read = f h.reach _ h.read; wrote = h.wrote; told = k _ h.told }
-
-    pub SayingFails-map : SayingFails mode hex sentinel r w v → SayingFails mode hex sentinel s w t
-    SayingFails-map (inl h) = inl (record { text = h.text; said = h.said; is = h.is; read = f ended _ h.read; wrote = h.wrote; told = k _ h.told })
-    SayingFails-map (inr (inl h)) = inr (inl (ReadFails-map h))
-    SayingFails-map (inr (inr (inl h))) = inr (inr (inl (WriteFails-map h)))
-    SayingFails-map (inr (inr (inr h))) = inr (inr (inr (LacksMemory-map h)))
+  pub SayingFails-map : (mode : Mode) (hex : Bool) (sentinel : ℕ) {v t : List ℕ → Type 0} → ((bytes : List ℕ) → v bytes → t bytes) → SayingFails mode hex sentinel r w v → SayingFails mode hex sentinel s w t
+  SayingFails-map mode hex sentinel k (inl h) = inl (CarriesOut-map k h)
+  SayingFails-map mode hex sentinel k (inr (inl h)) = inr (inl (CarriesOut-map (λ bytes. k (bytes ++ read_failed)) h))
+  SayingFails-map mode hex sentinel k (inr (inr (inl h))) = inr (inr (inl (h.0, CarriesOut-map (λ bytes. k (bytes ++ write_failed)) h.1)))
+  SayingFails-map mode hex sentinel k (inr (inr (inr h))) = inr (inr (inr (h.0, CarriesOut-map (λ bytes. k (bytes ++ no_memory)) h.1)))
 
 -- what is said before a line, said otherwise
-pub Before-map : {v t : List ℕ → Type 0} (line : List ℕ) → ((bytes : List ℕ) → v bytes → t bytes) → (bytes : List ℕ) → Before line v bytes → Before line t bytes
-Before-map line k bytes h = (h.0, h.1, k h.0 h.2)
+pub Before-map : {v t : List ℕ → Type 0} (line : List ℕ) → ((bytes : List ℕ) → v bytes → t bytes) → (said : List ℕ) → Before line v (said ++ line) → Before line t (said ++ line)
+Before-map line k said h = (h.0, h.1, k h.0 h.2)
 
 -- the same work, as another reading saw it
 pub Worked-read : (mode : Mode) (hex : Bool) (sentinel : ℕ) (r s : Reach → List ℕ → Type 0) (w t : Fate → List ℕ → Type 0) (result : Result ℕ Stop)
     → ((reach : Reach) (text : List ℕ) → r reach text → s reach text) → Worked mode hex sentinel r w t result → Worked mode hex sentinel s w t result
-Worked-read mode hex sentinel r s w t (Ok status) f h = Finishes-map f (λ bytes x. x) h
-Worked-read mode hex sentinel r s w t (Err stop.ReadFault) f h = ReadFails-map f (λ bytes x. x) h
-Worked-read mode hex sentinel r s w t (Err stop.WriteFault) f h = WriteFails-map f (λ bytes x. x) h
-Worked-read mode hex sentinel r s w t (Err stop.SayingFault) f h = SayingFails-map f (λ bytes x. x) h
-Worked-read mode hex sentinel r s w t (Err stop.NoMemory) f h = LacksMemory-map f (λ bytes x. x) h
+Worked-read mode hex sentinel r s w t (Ok status) f h = CarriesOut-map f (λ bytes x. x) h
+Worked-read mode hex sentinel r s w t (Err stop.ReadFault) f h = CarriesOut-map f (λ bytes x. x) h
+Worked-read mode hex sentinel r s w t (Err stop.WriteFault) f h = (h.0, CarriesOut-map f (λ bytes x. x) h.1)
+Worked-read mode hex sentinel r s w t (Err stop.SayingFault) f h = SayingFails-map f mode hex sentinel (λ bytes x. x) h
+Worked-read mode hex sentinel r s w t (Err stop.NoMemory) f h = (h.0, CarriesOut-map f (λ bytes x. x) h.1)
 
 -- a text that was read to its end, as the reading saw it
 pub whole-read : (bytes : List ℕ) (s : Reach → List ℕ → Type 0) → s ended bytes → (reach : Reach) (text : List ℕ) → IsWhole bytes reach text → s reach text
@@ -70,14 +58,14 @@ whole-read bytes s h failed text e = absurd e
 -- nothing said is nothing written
 pub Worked-quiet : (mode : Mode) (hex : Bool) (sentinel : ℕ) (r : Reach → List ℕ → Type 0) (w t : Fate → List ℕ → Type 0) (result : Result ℕ Stop)
     → t whole [] → Worked mode hex sentinel r w says_nothing result → Worked mode hex sentinel r w t result
-Worked-quiet mode hex sentinel r w t (Ok status) quiet h = Finishes-map (λ reach text x. x) (λ bytes e. rw e quiet) h
+Worked-quiet mode hex sentinel r w t (Ok status) quiet h = CarriesOut-map (λ reach text x. x) (λ bytes e. rw e quiet) h
 Worked-quiet mode hex sentinel r w t (Err stop.ReadFault) quiet h =
-    ReadFails-map (λ reach text x. x) (Before-map {v = says_nothing whole} {t = t whole} _ (λ bytes e. rw e quiet)) h
+    CarriesOut-map (λ reach text x. x) (Before-map {v = says_nothing whole} {t = t whole} read_failed (λ bytes e. rw e quiet)) h
 Worked-quiet mode hex sentinel r w t (Err stop.WriteFault) quiet h =
-    WriteFails-map (λ reach text x. x) (Before-map {v = says_nothing whole} {t = t whole} _ (λ bytes e. rw e quiet)) h
-Worked-quiet mode hex sentinel r w t (Err stop.SayingFault) quiet h = SayingFails-map (λ reach text x. x) (λ bytes e. absurd e) h
+    (h.0, CarriesOut-map (λ reach text x. x) (Before-map {v = says_nothing whole} {t = t whole} write_failed (λ bytes e. rw e quiet)) h.1)
+Worked-quiet mode hex sentinel r w t (Err stop.SayingFault) quiet h = SayingFails-map (λ reach text x. x) mode hex sentinel (λ bytes e. absurd e) h
 Worked-quiet mode hex sentinel r w t (Err stop.NoMemory) quiet h =
-    LacksMemory-map (λ reach text x. x) (Before-map {v = says_nothing whole} {t = t whole} _ (λ bytes e. rw e quiet)) h
+    (h.0, CarriesOut-map (λ reach text x. x) (Before-map {v = says_nothing whole} {t = t whole} no_memory (λ bytes e. rw e quiet)) h.1)
 
 -- the line alone is said
 before-line : (line : List ℕ) → Before line (says_nothing whole) line
@@ -93,7 +81,7 @@ program-refuses : (strict : Bool) (sentinel : ℕ) (text : List ℕ) → IsNotHe
 program-refuses false sentinel text h = inr (record { not_hex = h; out_is = refl; said_is = refl; status_is = refl })
 program-refuses true sentinel text h = inr (record { not_hex = h; out_is = refl; said_is = refl; status_is = refl })
 
-gives : (strict : Bool) (sentinel : ℕ) (text out : List ℕ) → GivesLines strict sentinel text out → WritesGiven (unpacking strict) false sentinel text out
+gives : (strict : Bool) (sentinel : ℕ) (text out : List ℕ) → WritesLines strict sentinel failed text out → WritesGiven (unpacking strict) false sentinel text out
 gives false sentinel text out h = h
 gives true sentinel text out h = h
 
@@ -120,37 +108,39 @@ module _ (strict : Bool) (sentinel : ℕ) (verdicts : List Verdict) (text : List
   -- a read failed behind them
   pub bytes-unread : AreAnswers strict sentinel failed text verdicts → r failed text → w whole (lines_of verdicts) → ReadFails (unpacking strict) false sentinel r w (Before read_failed (says_nothing whole))
   bytes-unread a h o =
-      record { text = text; out = lines_of verdicts; is = gives strict sentinel text (lines_of verdicts) (verdicts, a, refl); read = h; wrote = o; told = before-line read_failed }
+      record { text = text; out = lines_of verdicts; said = []; is = (gives strict sentinel text (lines_of verdicts) (verdicts, a, refl), refl); read = h; wrote = o; told = before-line read_failed }
 
   -- no memory was found behind them
   pub bytes-lack : AreAnswers strict sentinel stopped text verdicts → r stopped text → w whole (lines_of verdicts) → LacksMemory (unpacking strict) false sentinel r w (Before no_memory (says_nothing whole))
-  bytes-lack a h o = record {
-    reach = stopped;
-    text = text;
-    out = lines_of verdicts;
-    said = [];
-    is = lacks strict false sentinel stopped text _ _ (refl, verdicts, a, refl);
-    read = h;
-    wrote = o;
-    told = before-line no_memory;
-  }
+  bytes-lack a h o = (
+    stopped,
+    record {
+      text = text;
+      out = lines_of verdicts;
+      said = [];
+      is = lacks strict false sentinel stopped text _ _ (refl, (verdicts, a, refl));
+      read = h;
+      wrote = o;
+      told = before-line no_memory;
+    },
+  )
 
   to-write : (reach : Reach) → AreAnswers strict sentinel reach text verdicts → IsToWrite (unpacking strict) false sentinel reach text (lines_of verdicts) []
   to-write ended a = inl (_, unpacked false text refl a)
-  to-write stopped a = inl (lacks strict false sentinel stopped text _ _ (refl, verdicts, a, refl))
+  to-write stopped a = inl (lacks strict false sentinel stopped text _ _ (refl, (verdicts, a, refl)))
   to-write failed a = (gives strict sentinel text (lines_of verdicts) (verdicts, a, refl), refl)
 
   -- the writer failed on the way
   pub bytes-unwritten : (reach : Reach) → AreAnswers strict sentinel reach text verdicts → r reach text → w broken (lines_of verdicts)
       → WriteFails (unpacking strict) false sentinel r w (Before write_failed (says_nothing whole))
   bytes-unwritten reach a h o =
-      record { reach = reach; text = text; out = lines_of verdicts; said = []; is = to-write reach a; read = h; wrote = o; told = before-line write_failed }
+      (reach, record { text = text; out = lines_of verdicts; said = []; is = to-write reach a; read = h; wrote = o; told = before-line write_failed })
 
   -- the writer failed, and then nothing more was read
   pub bytes-stopped : AreAnswers strict sentinel failed text verdicts → r stopped text → w broken (lines_of verdicts)
       → WriteFails (unpacking strict) false sentinel r w (Before write_failed (says_nothing whole))
   bytes-stopped a h o =
-      record { reach = stopped; text = text; out = lines_of verdicts; said = []; is = inr (gives strict sentinel text (lines_of verdicts) (verdicts, a, refl), refl); read = h; wrote = o; told = before-line write_failed }
+      (stopped, record { text = text; out = lines_of verdicts; said = []; is = inr (gives strict sentinel text (lines_of verdicts) (verdicts, a, refl), refl); read = h; wrote = o; told = before-line write_failed })
 
 abbrev pub reach_now : Option End → Reach
 reach_now None = stopped
@@ -196,7 +186,7 @@ module _ {A : Type 0} (strict : Bool) (sentinel : ℕ) (answers : List (Answer (
   writes-first : (verdicts : List Verdict) → Gave (Some stream) new f g bytes → g ≡ f → AreAnswers strict sentinel stopped bytes verdicts → WritesFirst strict sentinel stream (lines_of verdicts)
   writes-first verdicts h e a =
       let rest = gave-front stream bytes new f g h e in
-      record { front = bytes; rest = rest.0; stream_is = rest.1; verdicts = verdicts; first = a; out_is = refl }
+      record { front = bytes; rest = rest.0; stream_is = rest.1; first = (verdicts, a, refl) }
 
   -- the same of a stream in memory
   pub stream-worked : (e : End) (written : Result (Unit {0}) WriteFault) (good : Bool) → HasRead (Some stream) new f g calls e bytes
@@ -224,7 +214,7 @@ module _ {A : Type 0} (strict : Bool) (sentinel : ℕ) (answers : List (Answer (
       let v = received strict sentinel NoMemory answers bytes h in (lines_of v.0, inr (writes-first v.0 q.0 q.1 v.1), rw (lines-same answers v.0 v.2) at b)
 
 digits-to-write : (strict : Bool) (sentinel : ℕ) (text stream out : List ℕ) → StandsFor true text stream
-    → ((verdicts : List Verdict) × AreAnswers strict sentinel ended stream verdicts × (out ≡ lines_of verdicts)) ⊎ WritesFirst strict sentinel stream out
+    → WritesLines strict sentinel ended stream out ⊎ WritesFirst strict sentinel stream out
     → IsToWrite (unpacking strict) true sentinel ended text out []
 digits-to-write strict sentinel text stream out h (inl b) =
     inl (
@@ -251,27 +241,11 @@ digits-worked strict sentinel text stream w t (Ok status) h q a = record {
   told = q;
 }
 digits-worked strict sentinel text stream w t (Err stop.ReadFault) h q a = absurd a
-digits-worked strict sentinel text stream w t (Err stop.WriteFault) h q a = record {
-  reach = ended;
-  text = text;
-  out = a.0;
-  said = [];
-  is = digits-to-write strict sentinel text stream a.0 h a.1;
-  read = refl;
-  wrote = a.2;
-  told = ([], refl, q);
-}
+digits-worked strict sentinel text stream w t (Err stop.WriteFault) h q a =
+    (ended, record { text = text; out = a.0; said = []; is = digits-to-write strict sentinel text stream a.0 h a.1; read = refl; wrote = a.2; told = ([], refl, q) })
 digits-worked strict sentinel text stream w t (Err stop.SayingFault) h q a = absurd a
-digits-worked strict sentinel text stream w t (Err stop.NoMemory) h q a = record {
-  reach = ended;
-  text = text;
-  out = a.0;
-  said = [];
-  is = lacks strict true sentinel ended text _ _ (refl, digits-first text stream a.0 strict sentinel h a.1);
-  read = refl;
-  wrote = a.2;
-  told = ([], refl, q);
-}
+digits-worked strict sentinel text stream w t (Err stop.NoMemory) h q a =
+    (ended, record { text = text; out = a.0; said = []; is = lacks strict true sentinel ended text _ _ (refl, digits-first text stream a.0 strict sentinel h a.1); read = refl; wrote = a.2; told = ([], refl, q) })
 
 -- a text that isn't hexadecimal
 pub bad-said : (strict : Bool) (sentinel : ℕ) (text : List ℕ) (w t : Fate → List ℕ → Type 0) → IsNotHex true text → w whole [] → t whole bad_hex → RunsToItsEnd (unpacking strict) true sentinel 2 (IsWhole text) w t
@@ -280,7 +254,7 @@ bad-said strict sentinel text w t h o s =
 
 pub bad-unsaid : (strict : Bool) (sentinel : ℕ) (text : List ℕ) (w t : Fate → List ℕ → Type 0) → IsNotHex true text → w whole [] → t broken bad_hex
     → SayingFails (unpacking strict) true sentinel (IsWhole text) w (t broken)
-bad-unsaid strict sentinel text w t h o s = inl (record { text = text; said = bad_hex; is = says-bad strict text h; read = refl; wrote = o; told = s })
+bad-unsaid strict sentinel text w t h o s = inl (record { text = text; out = []; said = bad_hex; is = (refl, says-bad strict text h); read = refl; wrote = o; told = s })
 
 -- A text that isn't read to its end, where it is to be
 
@@ -288,26 +262,18 @@ bad-unsaid strict sentinel text w t h o s = inl (record { text = text; said = ba
 pub unheld : (mode : Mode) (hex : Bool) (sentinel : ℕ) (text : List ℕ) (r : Reach → List ℕ → Type 0) (w t : Fate → List ℕ → Type 0) → RunsOutOfMemory mode hex sentinel stopped text [] [] → r stopped text
     → w whole [] → t whole [] → LacksMemory mode hex sentinel r w (Before no_memory (t whole))
 unheld mode hex sentinel text r w t l h o q =
-    record { reach = stopped; text = text; out = []; said = []; is = l; read = h; wrote = o; told = ([], refl, q) }
+    (stopped, record { text = text; out = []; said = []; is = l; read = h; wrote = o; told = ([], refl, q) })
 
 -- The mode that sends lines
 
 module _ (hex : Bool) (sentinel : ℕ) (text : List ℕ) (sends : List Send) (h : AreSendsOf (lines_in text) sends) (w t : Fate → List ℕ → Type 0) (s : t whole (refusals 1 sends)) where
-  packs : Packs hex sentinel text (framed_text hex (session_line sentinel false sends)) (refusals 1 sends) (if all_sent sends then 0 else 1)
+  packs : Packs hex sentinel text (framed_text hex (session_line sentinel false sends)) (refusals 1 sends) (if list_all is_whole sends then 0 else 1)
   packs = record { sends = sends; are = h; out_is = refl; said_is = refl; status_is = refl }
 
   -- the writer failed
   pub unwritten : w broken (framed_text hex (session_line sentinel false sends)) → WriteFails Pack hex sentinel (IsWhole text) w (Before write_failed (t whole))
-  unwritten o = record {
-    reach = ended;
-    text = text;
-    out = framed_text hex (session_line sentinel false sends);
-    said = refusals 1 sends;
-    is = inl (_, packs);
-    read = refl;
-    wrote = o;
-    told = (refusals 1 sends, refl, s);
-  }
+  unwritten o =
+      (ended, record { text = text; out = framed_text hex (session_line sentinel false sends); said = refusals 1 sends; is = inl (_, packs); read = refl; wrote = o; told = (refusals 1 sends, refl, s) })
 
 -- what was read into an empty vector
 pub read-whole : {old new : List ℕ} {P : List ℕ → Type 0} → old ≡ [] → ((text : List ℕ) × (new ≡ old ++ text) × P text) → P new

@@ -62,9 +62,7 @@ lines_of verdicts = flat_map line_of verdicts
 -- whether an answer is a value
 abbrev pub is_value : Verdict → Bool
 is_value (value t) = true
-is_value damaged = false
-is_value too_long = false
-is_value cut = false
+is_value _ = false
 
 -- the same of an answer that carries a text
 abbrev pub answer_line : {A : Type 0} → Answer (String A) → List ℕ
@@ -80,6 +78,4 @@ answer_lines answers = flat_map answer_line answers
 -- whether such an answer is a value
 abbrev pub has_value : {A : Type 0} → Answer (String A) → Bool
 has_value (Value text) = true
-has_value Damaged = false
-has_value TooLong = false
-has_value Cut = false
+has_value _ = false

@@ -8,7 +8,7 @@ use Rattle.link.specs.Run.{Send, session_line}
 use Rattle.framed_lib.specs.declared.arguments.Mode.{Mode}
 use Rattle.framed_lib.specs.declared.arguments.Mode.TheVariants.{Pack, Unpack, Strict}
 use Rattle.framed_lib.specs.Lines.{AreAnswers, lines_of, is_value}
-use Rattle.framed_lib.specs.Sending.{lines_in, AreSendsOf, refusals, all_sent}
+use Rattle.framed_lib.specs.Sending.{lines_in, AreSendsOf, refusals, is_whole}
 
 -- the text without the line feed at its end, where it has one
 abbrev pub DropsLineFeed : List ℕ → List ℕ → Type 0
@@ -64,7 +64,7 @@ pub record Packs (hex : Bool) (sentinel : ℕ) (text out said : List ℕ) (statu
   pub are : AreSendsOf (lines_in text) sends
   pub out_is : out ≡ framed_text hex (session_line sentinel false sends)
   pub said_is : said ≡ refusals 1 sends
-  pub status_is : status ≡ (if all_sent sends then 0 else 1)
+  pub status_is : status ≡ (if list_all is_whole sends then 0 else 1)
 
 -- The lines of the stream's answers are written, and nothing is said.
 pub record Unpacks (strict hex : Bool) (sentinel : ℕ)
@@ -92,18 +92,17 @@ Program Unpack hex sentinel text out said status =
 Program Strict hex sentinel text out said status =
     Unpacks true hex sentinel text out said status ⊎ RefusesHex hex text out said status
 
--- what is written for the text that was read before a read or a write failed: the lines of what it gives
-abbrev pub GivesLines : Bool → ℕ → List ℕ → List ℕ → Type 0
-GivesLines strict sentinel text out = (verdicts : List Verdict)
-    × AreAnswers strict sentinel failed text verdicts × (out ≡ lines_of verdicts)
+-- what is written for a stream that was read so far: the lines of its answers
+abbrev pub WritesLines : Bool → ℕ → Reach → List ℕ → List ℕ → Type 0
+WritesLines strict sentinel reach stream out = (verdicts : List Verdict)
+    × AreAnswers strict sentinel reach stream verdicts × (out ≡ lines_of verdicts)
 
--- The same, but nothing while lines are sent, or where a text is to be hexadecimal.
+-- What is written for the text that was read before a read or a write failed: nothing while lines are sent, or where a text is to
+-- be hexadecimal.
 abbrev pub WritesGiven : Mode → Bool → ℕ → List ℕ → List ℕ → Type 0
-WritesGiven Pack hex sentinel text out = out ≡ []
-WritesGiven Unpack true sentinel text out = out ≡ []
-WritesGiven Unpack false sentinel text out = GivesLines false sentinel text out
-WritesGiven Strict true sentinel text out = out ≡ []
-WritesGiven Strict false sentinel text out = GivesLines true sentinel text out
+WritesGiven Unpack false sentinel text out = WritesLines false sentinel failed text out
+WritesGiven Strict false sentinel text out = WritesLines true sentinel failed text out
+WritesGiven _ _ sentinel text out = out ≡ []
 
 -- The refusals of the text's first lines, as many as were looked at.
 pub record SaysFirst (text said : List ℕ) : Type 0 where
@@ -119,53 +118,45 @@ pub record WritesFirst (strict : Bool) (sentinel : ℕ) (stream out : List ℕ) 
   pub front : List ℕ
   pub rest : List ℕ
   pub stream_is : stream ≡ front ++ rest
-  pub verdicts : List Verdict
-  pub first : AreAnswers strict sentinel stopped front verdicts
-  pub out_is : out ≡ lines_of verdicts
+  pub first : WritesLines strict sentinel stopped front out
 
 -- What is written and said for a text before 'no memory' is said, by how far it was read: to its end, or to where no
 -- memory was found for more. While lines are sent nothing is written, and of a text that wasn't read to its end nothing is
 -- said. Nothing is written of a text that is to be hexadecimal before all of it was read and its bytes were found memory.
 abbrev pub LacksLines : Bool → Bool → ℕ → Reach → List ℕ → List ℕ → List ℕ → Type 0
 LacksLines strict false sentinel stopped text out said =
-    (said ≡ [])
-    × (verdicts : List Verdict) × AreAnswers strict sentinel stopped text verdicts
-    × (out ≡ lines_of verdicts)
+    (said ≡ []) × WritesLines strict sentinel stopped text out
 LacksLines strict true sentinel stopped text out said = (said ≡ []) × (out ≡ [])
-LacksLines strict false sentinel ended text out said = ⊥
 LacksLines strict true sentinel ended text out said =
     (said ≡ []) × ((out ≡ [])
     ⊎ ((stream : List ℕ) × StandsFor true text stream × WritesFirst strict sentinel stream out))
-LacksLines strict hex sentinel failed text out said = ⊥
+LacksLines strict _ sentinel _ text out said = ⊥
 
 -- The same by the mode: `pack` writes and says nothing before all its text is there.
 abbrev pub RunsOutOfMemory : Mode → Bool → ℕ → Reach → List ℕ → List ℕ → List ℕ → Type 0
-RunsOutOfMemory Pack hex sentinel ended text out said = ⊥
 RunsOutOfMemory Pack hex sentinel stopped text out said = (out ≡ []) × (said ≡ [])
-RunsOutOfMemory Pack hex sentinel failed text out said = ⊥
+RunsOutOfMemory Pack hex sentinel _ text out said = ⊥
 RunsOutOfMemory Unpack hex sentinel reach text out said = LacksLines false hex sentinel reach text out said
 RunsOutOfMemory Strict hex sentinel reach text out said = LacksLines true hex sentinel reach text out said
 
--- Status 0, 1 and 2: the text was read to its end, and the program's text went out. No device failed.
-pub record RunsToItsEnd (mode : Mode) (hex : Bool) (sentinel : ℕ) (status : ℕ)
-    (reading : Reach → List ℕ → Type 0) (writing saying : Fate → List ℕ → Type 0) : Type 0 where
+-- A text was read so far, this was due for it, and so it went out.
+pub record CarriesOut (due : List ℕ → List ℕ → List ℕ → Type 0) (reach : Reach) (fate : Fate)
+    (reading : Reach → List ℕ → Type 0) (writing : Fate → List ℕ → Type 0)
+    (says : List ℕ → Type 0) : Type 0 where
   pub text : List ℕ
   pub out : List ℕ
   pub said : List ℕ
-  pub is : Program mode hex sentinel text out said status
-  pub read : reading ended text
-  pub wrote : writing whole out
-  pub told : saying whole said
+  pub is : due text out said
+  pub read : reading reach text
+  pub wrote : writing fate out
+  pub told : says said
 
--- A read failed: what the text so far gives was written, and 'read failed' was said.
-pub record ReadFails (mode : Mode) (hex : Bool) (sentinel : ℕ) (reading : Reach → List ℕ → Type 0)
-    (writing : Fate → List ℕ → Type 0) (says : List ℕ → Type 0) : Type 0 where
-  pub text : List ℕ
-  pub out : List ℕ
-  pub is : WritesGiven mode hex sentinel text out
-  pub read : reading failed text
-  pub wrote : writing whole out
-  pub told : says read_failed
+-- Status 0, 1 and 2: the text was read to its end, and the program's text went out. No device failed.
+abbrev pub RunsToItsEnd : Mode → Bool → ℕ → ℕ → (Reach → List ℕ → Type 0)
+    → (writing saying : Fate → List ℕ → Type 0) → Type 0
+RunsToItsEnd mode hex sentinel status reading writing saying =
+    CarriesOut (λ text out said. Program mode hex sentinel text out said status) ended whole
+    reading writing (saying whole)
 
 -- What is to be written and said for a text, by how far it was read, where the writer may fail. Reading may stop there, with the
 -- lines of what was read by then to be written.
@@ -178,45 +169,38 @@ IsToWrite mode hex sentinel stopped text out said = RunsOutOfMemory mode hex sen
 IsToWrite mode hex sentinel failed text out said =
     WritesGiven mode hex sentinel text out × (said ≡ [])
 
+-- A read failed: what the text so far gives was written, and 'read failed' was said.
+abbrev pub ReadFails : Mode → Bool → ℕ → (Reach → List ℕ → Type 0)
+    → (Fate → List ℕ → Type 0) → (List ℕ → Type 0) → Type 0
+ReadFails mode hex sentinel reading writing says =
+    CarriesOut (IsToWrite mode hex sentinel failed) failed whole
+    reading writing (λ said. says (said ++ read_failed))
+
 -- A write failed: the writer has a beginning, and 'write failed' was said after what was said before.
-pub record WriteFails (mode : Mode) (hex : Bool) (sentinel : ℕ) (reading : Reach → List ℕ → Type 0)
-    (writing : Fate → List ℕ → Type 0) (says : List ℕ → Type 0) : Type 0 where
-  pub reach : Reach
-  pub text : List ℕ
-  pub out : List ℕ
-  pub said : List ℕ
-  pub is : IsToWrite mode hex sentinel reach text out said
-  pub read : reading reach text
-  pub wrote : writing broken out
-  pub told : says (said ++ write_failed)
+abbrev pub WriteFails : Mode → Bool → ℕ → (Reach → List ℕ → Type 0)
+    → (Fate → List ℕ → Type 0) → (List ℕ → Type 0) → Type 0
+WriteFails mode hex sentinel reading writing says =
+    (reach : Reach) × CarriesOut (IsToWrite mode hex sentinel reach) reach broken
+    reading writing (λ said. says (said ++ write_failed))
 
 -- Memory ran out: what was answered by then went out, and 'no memory' was said after what was said before.
-pub record LacksMemory (mode : Mode) (hex : Bool) (sentinel : ℕ) (reading : Reach → List ℕ → Type 0)
-    (writing : Fate → List ℕ → Type 0) (says : List ℕ → Type 0) : Type 0 where
-  pub reach : Reach
-  pub text : List ℕ
-  pub out : List ℕ
-  pub said : List ℕ
-  pub is : RunsOutOfMemory mode hex sentinel reach text out said
-  pub read : reading reach text
-  pub wrote : writing whole out
-  pub told : says (said ++ no_memory)
+abbrev pub LacksMemory : Mode → Bool → ℕ → (Reach → List ℕ → Type 0)
+    → (Fate → List ℕ → Type 0) → (List ℕ → Type 0) → Type 0
+LacksMemory mode hex sentinel reading writing says =
+    (reach : Reach) × CarriesOut (RunsOutOfMemory mode hex sentinel reach) reach whole
+    reading writing (λ said. says (said ++ no_memory))
 
 -- what is said of a text before anything is written
 abbrev pub SaysBeforehand : Mode → Bool → List ℕ → List ℕ → Type 0
 SaysBeforehand Pack hex text said = SaysFirst text said
-SaysBeforehand Unpack hex text said = IsNotHex hex text × (said ≡ bad_hex)
-SaysBeforehand Strict hex text said = IsNotHex hex text × (said ≡ bad_hex)
+SaysBeforehand _ hex text said = IsNotHex hex text × (said ≡ bad_hex)
 
 -- Standard error failed while the refusals or 'bad hex' were said: nothing was written.
-pub record SaysInVain (mode : Mode) (hex : Bool) (reading : Reach → List ℕ → Type 0)
-    (writing : Fate → List ℕ → Type 0) (says : List ℕ → Type 0) : Type 0 where
-  pub text : List ℕ
-  pub said : List ℕ
-  pub is : SaysBeforehand mode hex text said
-  pub read : reading ended text
-  pub wrote : writing whole []
-  pub told : says said
+abbrev pub SaysInVain : Mode → Bool → (Reach → List ℕ → Type 0)
+    → (Fate → List ℕ → Type 0) → (List ℕ → Type 0) → Type 0
+SaysInVain mode hex reading writing says =
+    CarriesOut (λ text out said. (out ≡ []) × SaysBeforehand mode hex text said) ended whole
+    reading writing says
 
 -- Standard error failed, there or while the last line was said: it has a beginning of what was to be said.
 abbrev pub SayingFails : Mode → Bool → ℕ → (Reach → List ℕ → Type 0)

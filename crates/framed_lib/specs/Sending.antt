@@ -1,6 +1,6 @@
 -- The sends of a text's lines, and what is said of lines that are refused.
 use Rattle.std.specs.Prelude.{◌≡◌, ℕ, ◌+◌, Bool, true, false, List, [], ◌∷◌, ◌++◌, codes, decimal, IsUtf8, ◌⊎◌}
-use Rattle.std.specs.List.{AllZip, list_all}
+use Rattle.std.specs.List.{AllZip}
 use Rattle.postcard_tree.specs.Tree.{IsTree, text_of}
 use Rattle.link.specs.Run.{Send, completed, refused, broken, IsFramed}
 use Rattle.framed_lib.specs.Pieces.{pieces}
@@ -16,13 +16,10 @@ filled (piece ∷ next ∷ pieces) = piece ∷ filled (next ∷ pieces)
 abbrev pub lines_in : List ℕ → List (List ℕ)
 lines_in text = filled (pieces 10 text)
 
--- the line is text, and its frame is of at most 1024 bytes
-abbrev pub IsSendable : List ℕ → Type 0
-IsSendable line = IsUtf8 line × IsFramed IsTree 1024 (text_of line)
-
--- What comes of a line: it is sent as a text; or it is refused, where it isn't text or its frame is longer than 1024 bytes.
+-- What comes of a line: it is sent as a text, where it is text and its frame is of at most 1024 bytes; else it is refused.
 abbrev pub IsSendOfLine : List ℕ → Send → Type 0
-IsSendOfLine line (completed t) = (t ≡ text_of line) × IsSendable line
+IsSendOfLine line (completed t) =
+    (t ≡ text_of line) × IsUtf8 line × IsFramed IsTree 1024 (text_of line)
 IsSendOfLine line refused = (IsUtf8 line → ⊥) ⊎ (IsFramed IsTree 1024 (text_of line) → ⊥)
 IsSendOfLine line (broken t k) = ⊥
 
@@ -33,12 +30,7 @@ AreSendsOf = AllZip IsSendOfLine
 -- whether a send went out whole
 abbrev pub is_whole : Send → Bool
 is_whole (completed t) = true
-is_whole refused = false
-is_whole (broken t k) = false
-
--- whether no line is refused
-abbrev pub all_sent : List Send → Bool
-all_sent sends = list_all is_whole sends
+is_whole _ = false
 
 -- what is said of a refused line, by its number
 abbrev pub refusal : ℕ → List ℕ
@@ -46,9 +38,8 @@ refusal number = codes "line " ++ (decimal number ++ (codes ": refused" ++ 10 �
 
 -- what is said of the send of the line with this number
 abbrev pub said_of : ℕ → Send → List ℕ
-said_of number (completed t) = []
 said_of number refused = refusal number
-said_of number (broken t k) = []
+said_of number _ = []
 
 -- what is said of the sends of lines, the first of which has this number
 abbrev pub refusals : ℕ → List Send → List ℕ

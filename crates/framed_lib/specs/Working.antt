@@ -5,19 +5,18 @@ use Rattle.framed_lib.specs.declared.arguments.Mode.{Mode}
 use Rattle.framed_lib.specs.declared.arguments.Mode.TheVariants.{Unpack, Strict}
 use Rattle.framed_lib.specs.declared.stop.Stop.{Stop}
 use Rattle.framed_lib.specs.declared.stop.Stop.TheVariants as stop
-use Rattle.line_io.specs.Transfers.{Fate, whole, broken, Reach, ended, stopped, failed}
+use Rattle.line_io.specs.Transfers.{Fate, whole, broken, Reach, ended}
 use Rattle.link.specs.Stream.{Verdict}
 use Rattle.link.specs.declared.listening.End.{End}
 use Rattle.link.specs.declared.listening.End.TheVariants.{Ended, ReadFault, NoMemory}
 use Rattle.line_io.specs.declared.transfers.WriteFault.{WriteFault}
 use Rattle.framed_lib.specs.Lines.{AreAnswers, lines_of, is_value}
-use Rattle.framed_lib.specs.Program.{RunsToItsEnd, ReadFails, WriteFails, LacksMemory, SayingFails, WritesFirst, read_failed, write_failed, no_memory}
+use Rattle.framed_lib.specs.Program.{RunsToItsEnd, ReadFails, WriteFails, LacksMemory, SayingFails, WritesLines, WritesFirst, read_failed, write_failed, no_memory}
 
 -- the text was read to its end
 abbrev pub IsWhole : List ℕ → Reach → List ℕ → Type 0
 IsWhole bytes ended text = text ≡ bytes
-IsWhole bytes stopped text = ⊥
-IsWhole bytes failed text = ⊥
+IsWhole bytes _ text = ⊥
 
 -- the mode that reads frames, strictly or not
 abbrev pub unpacking : Bool → Mode
@@ -72,14 +71,12 @@ outcome_of None (Ok u) good = Err stop.WriteFault
 -- the end of a reception from memory, and its answers, where a fault is taken as out of memory
 abbrev pub without_fault_of : End → End
 without_fault_of Ended = Ended
-without_fault_of ReadFault = NoMemory
-without_fault_of NoMemory = NoMemory
+without_fault_of _ = NoMemory
 
 -- the answers, and none where the reception ended by a fault
 abbrev pub unless_fault : {X : Type 0} → End → List X → List X
-unless_fault Ended answers = answers
 unless_fault ReadFault answers = []
-unless_fault NoMemory answers = answers
+unless_fault _ answers = answers
 
 -- What comes of a stream in memory: how the work ends, and what is written.
 abbrev pub AnswersStream : Bool → ℕ → List ℕ → (Fate → List ℕ → Type 0) → Result ℕ Stop → Type 0
@@ -87,11 +84,9 @@ AnswersStream strict sentinel stream writing (Ok status) =
     (verdicts : List Verdict) × AreAnswers strict sentinel ended stream verdicts
     × (status ≡ (if list_all is_value verdicts then 0 else 1)) × writing whole (lines_of verdicts)
 AnswersStream strict sentinel stream writing (Err stop.WriteFault) =
-    (out : List ℕ) × (((verdicts : List Verdict) × AreAnswers strict sentinel ended stream verdicts
-    × (out ≡ lines_of verdicts))
+    (out : List ℕ) × (WritesLines strict sentinel ended stream out
     ⊎ WritesFirst strict sentinel stream out)
     × writing broken out
 AnswersStream strict sentinel stream writing (Err stop.NoMemory) =
     (out : List ℕ) × ((out ≡ []) ⊎ WritesFirst strict sentinel stream out) × writing whole out
-AnswersStream strict sentinel stream writing (Err stop.ReadFault) = ⊥
-AnswersStream strict sentinel stream writing (Err stop.SayingFault) = ⊥
+AnswersStream strict sentinel stream writing (Err _) = ⊥

@@ -2,8 +2,9 @@ ghost use Rattle.std.specs.Prelude.{◌≡◌, ℕ, ◌<◌, List, [], ◌++◌,
 ghost use Rattle.line_io.specs.Transfers.{Writing, whole, broken};
 ghost use Rattle.framed_lib.specs.Output.{Puts};
 ghost use Rattle.link.specs.Run.{Send};
+ghost use Rattle.std.specs.List.{list_all};
 ghost use Rattle.framed_lib.specs.Program.{SaysFirst};
-ghost use Rattle.framed_lib.specs.Sending.{lines_in, IsSendOfLine, AreSendsOf, is_whole, all_sent, refusal, refusals, said_of};
+ghost use Rattle.framed_lib.specs.Sending.{lines_in, IsSendOfLine, AreSendsOf, is_whole, refusal, refusals, said_of};
 
 use crate::framing::is_sendable;
 use crate::output::{Held, put};
@@ -50,7 +51,7 @@ fn judge_line<E: Outlet>(
 fn judge_lines<E: Outlet>(text: &[u8], faults: &mut E, held: &mut Held) -> Result<bool, WriteFault>
     requires held { held.old.items ≡ [] }
     ensures ok { IfOk result (λ good. (sends : List Send) × AreSendsOf (lines_in text.now) sends
-        × (good ≡ all_sent sends)
+        × (good ≡ list_all is_whole sends)
         × Puts E.written E.faults faults.old faults.new [] held.new.items (refusals 1 sends)) }
     ensures err { OnErr result ((said : List ℕ) × SaysFirst text.now said
         × Writing E.written E.faults E.calls_left faults.old faults.new broken said) }
@@ -70,7 +71,7 @@ fn judge_lines<E: Outlet>(text: &[u8], faults: &mut E, held: &mut Held) -> Resul
 /// Says which lines of the text are refused, before any is sent. Answers whether none is.
 pub fn say_refusals<E: Outlet>(text: &[u8], faults: &mut E) -> Result<bool, WriteFault>
     ensures ok { IfOk result (λ good. (sends : List Send) × AreSendsOf (lines_in text.now) sends
-        × (good ≡ all_sent sends)
+        × (good ≡ list_all is_whole sends)
         × Writing E.written E.faults E.calls_left faults.old faults.new whole (refusals 1 sends)) }
     ensures err { OnErr result ((said : List ℕ) × SaysFirst text.now said
         × Writing E.written E.faults E.calls_left faults.old faults.new broken said) }

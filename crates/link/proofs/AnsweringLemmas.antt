@@ -36,9 +36,9 @@ some_each limit ((b ∷ p) ∷ ps) =
 some_given : (limit s : ℕ) (stream : List ℕ) → (answers : List Verdict) × Given Nothing limit s stream answers
 some_given limit s stream =
     let r = has_stretches s stream in
-    let h = some_each limit r.before in
-    let answers = h.0 ++ begun_answers limit r.rest in
-    (answers, (heard_stepwise (IsAnswer Nothing limit) (begun_answers limit) s stream answers).0 (record { before = r.before; rest = r.rest; stretches = r.stretches; front = h.0; each = h.1; whole = refl }))
+    let h = some_each limit r.0 in
+    let answers = h.0 ++ begun_answers limit r.1 in
+    (answers, (heard_stepwise (IsAnswer Nothing limit) (begun_answers limit) s stream answers).0 (record { before = r.0; rest = r.1; stretches = r.2; front = h.0; each = h.1; whole = refl }))
 
 -- so what is begun afterwards doesn't wait for them
 pub leads : (limit s : ℕ) (b c : Begun) (x : List ℕ) (answers : List Verdict) → Feeds Nothing limit s b x answers c → (stream : List ℕ) → IsBegun limit s stream b → IsBegun limit s (stream ++ x) c
@@ -69,7 +69,7 @@ kept_within limit s stream p i = let k = is_short limit (unfinished s stream) p 
 none_behind : (limit s : ℕ) (stream : List ℕ) → IsBegun limit s (stream ++ (s ∷ [])) (kept [])
 none_behind limit s stream =
     let r = has_stretches s stream in
-    sym (ap (begun_of limit) (unfinished_is s (stream ++ (s ∷ [])) (r.before ++ (r.rest ∷ [])) [] (ends s stream r.before r.rest r.stretches)) ∙ short_begun limit [] (omega arith))
+    sym (ap (begun_of limit) (unfinished_is s (stream ++ (s ∷ [])) (r.0 ++ (r.1 ∷ [])) [] (ends s stream r.0 r.1 r.2)) ∙ short_begun limit [] (omega arith))
 
 module _ (holds : List ℕ → Tree → Type 0) (limit s : ℕ) (b : Begun) (piece stream : List ℕ) (i : IsBegun limit s stream b) where
   is_least : IsLeast holds limit s stream piece (course_of limit s b piece).used

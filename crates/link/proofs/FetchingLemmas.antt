@@ -212,4 +212,4 @@ module _ {V : Type 0} (takes : Tree → Type 0) (reads : Tree → V → Type 0) 
   pub by_loop : (values : List V) (end : End) → AreLooped takes reads growing room s bytes values end → AreThoseFor takes reads growing room s bytes values end
   by_loop values Ended g = those values g
   by_loop values ReadFault g = those values g
-  by_loop values NoMemory g = record { lost = g.0; those = first_of true (values ++ g.0 ∷ []) g.1 }
+  by_loop values NoMemory g = (g.0, first_of true (values ++ g.0 ∷ []) g.1)

@@ -10,7 +10,6 @@ use Rattle.line_io.specs.Transfers.{Failed}
 use Rattle.link.specs.declared.listening.End.{End}
 use Rattle.link.specs.declared.listening.End.TheVariants.{Ended, ReadFault, NoMemory as NoneLeft}
 use Rattle.link.specs.declared.reception.Reception.{Reception}
-use Rattle.std.specs.Prelude.{IsOk, IsErr}
 use Rattle.link.specs.Each.{Handed, HearerLaws, UsesFew, MayLackMemory, HadMemory, StandsNow, last_call}
 use Rattle.link.specs.declared.receiver.Answer.{Answer}
 use Rattle.link.specs.declared.receiver.NoMemory.{NoMemory}

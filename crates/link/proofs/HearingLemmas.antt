@@ -1,14 +1,12 @@
 -- How answers are kept, push by push.
 use Rattle.line_io.specs.Device.{Gave, read_faults}
 use Rattle.line_io.specs.Transfers.{Failed}
-use Rattle.std.proofs.Common.{◌≡◌, ℕ, zero, suc, ◌+◌, ◌-◌, ◌<◌, arith, true, false, List, [], ◌∷◌, ◌++◌, take, drop, Option, Some, None, Result, Ok, Err, refl, sym, ap, ◌∙◌, subst, inl, inr, append_assoc}
+use Rattle.std.proofs.Common.{◌≡◌, ℕ, zero, suc, ◌+◌, ◌-◌, arith, true, false, List, [], ◌++◌, take, drop, Option, Some, None, Result, Ok, Err, refl, sym, ap, ◌∙◌, subst, inl, inr, append_assoc}
 use Rattle.std.specs.Prelude.{is_err, OnOk, OnErr}
-use Rattle.std.specs.List.{AllZip}
-use Rattle.std.proofs.lemmas.List.{append-nil, take-append-drop}
+use Rattle.std.proofs.lemmas.List.{take-append-drop}
 use Rattle.postcard_tree.specs.Tree.{Tree}
-use Rattle.link.specs.Stream.{Verdict}
-use Rattle.link.specs.Pushes.{listed, IsPush, Matches, Answered}
-use Rattle.link.specs.Listening.{HasGiven, IsDue, Stopped, KeepsAnswer}
+use Rattle.link.specs.Pushes.{IsPush, Answered}
+use Rattle.link.specs.Listening.{HasGiven, IsDue, Stopped}
 use Rattle.link.specs.declared.receiver.Answer.{Answer}
 use Rattle.link.specs.declared.receiver.NoMemory.{NoMemory}
 

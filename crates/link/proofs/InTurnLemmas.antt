@@ -11,7 +11,8 @@ use Rattle.postcard_tree.specs.Tree.{Tree}
 use Rattle.postcard.specs.Frames.{Holds}
 use Rattle.link.specs.Stream.{Verdict, value, damaged, cut, IsContent}
 use Rattle.link.specs.Pushes.{Matches}
-use Rattle.link.specs.InPlace.{AnswersEnded, ReadsNext}
+use Rattle.link.specs.Finds.{AnswersEnded}
+use Rattle.link.specs.InPlace.{ReadsNext}
 use Rattle.link.specs.Roads.{ReadsInPlace, nothing, skipped, answered, unanswered}
 use Rattle.link.specs.Laws.{IsReadInTurn}
 use Rattle.link.specs.declared.receiver.Answer.{Answer}
@@ -55,7 +56,7 @@ module _ (holds : List ℕ → Tree → Type 0) (s : ℕ) where
 
 module _ {V : Type 0} (takes : Tree → Type 0) (reads : Tree → V → Type 0) (s : ℕ) where
   -- the verdict on an ended stretch
-  content : (p : List ℕ) (answer : Answer V) → AnswersEnded takes reads p (Ok answer) → (verdict : Verdict) × Matches reads answer verdict × IsContent (Holds takes) p verdict
+  content : (p : List ℕ) (answer : Answer V) → AnswersEnded (Holds takes) reads p (Ok answer) → (verdict : Verdict) × Matches reads answer verdict × IsContent (Holds takes) p verdict
   content p (answers.Value v) h = (value h.0, (h.0, h.2, refl), h.1)
   content p answers.Damaged h = (damaged, refl, h)
   content p answers.TooLong h = absurd h

@@ -14,13 +14,15 @@ use Rattle.postcard_tree.specs.Tree.{Tree}
 use Rattle.cobs.specs.InPlace.{stretch}
 use Rattle.cobs.specs.Sentinel.{masked}
 use Rattle.cobs.specs.Whole.{unpadded}
-use Rattle.link.specs.InPlace.{AnswersEnded, IsCutBehind, IsNext, AnswersNext, KeptUnlessEnded, lent_by, lent_unless_cut}
+use Rattle.postcard.specs.Frames.{Holds}
+use Rattle.link.specs.Finds.{AnswersEnded}
+use Rattle.link.specs.InPlace.{IsCutBehind, IsNext, AnswersNext, KeptUnlessEnded, lent_by, lent_unless_cut}
 use Rattle.link.specs.declared.receiver.Answer.{Answer}
 use Rattle.link.specs.declared.receiver.Answer.TheVariants.{Value, Damaged, TooLong, Cut}
 use Rattle.link.specs.declared.receiver.NoMemory.{NoMemory}
 
 module _ {V : Type 0} (takes : Tree → Type 0) (reads : Tree → V → Type 0) (grows : Bool) (name : GName) where
-  not_cut : (p : List ℕ) (answer : Result (Answer V) NoMemory) → AnswersEnded takes reads p answer → lent_unless_cut name answer ≡ maybe.some name
+  not_cut : (p : List ℕ) (answer : Result (Answer V) NoMemory) → AnswersEnded (Holds takes) reads p answer → lent_unless_cut name answer ≡ maybe.some name
   not_cut p (Ok (Value v)) h = refl
   not_cut p (Ok Damaged) h = refl
   not_cut p (Ok TooLong) h = refl

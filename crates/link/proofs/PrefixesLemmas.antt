@@ -118,7 +118,7 @@ module _ (holds : List ℕ → Tree → Type 0) (limit s : ℕ) (one : (p : List
   given_front x y us all g a =
       let h = has_stretches s x in
       let k = has_stretches s y in
-      front_by x y us all h.before h.rest h.stretches k.before k.rest k.stretches g a
+      front_by x y us all h.0 h.1 h.2 k.0 k.1 k.2 g a
 
   one_first : (p : List ℕ) (qs : List (List ℕ)) (tail : List Verdict) → 0 < length p → AllZip (IsAnswer holds limit) (filled (p ∷ qs)) tail → (w : Verdict) × (more : List Verdict) × (tail ≡ w ∷ more)
   one_first [] qs tail l h = absurd (omega arith)
@@ -131,12 +131,12 @@ module _ (holds : List ℕ → Tree → Type 0) (limit s : ℕ) (one : (p : List
   given_ended x z us all l n g a =
       let h = has_stretches s x in
       let k = has_stretches s z in
-      let u = h.rest in
-      let same = unfinished_is s x h.before u h.stretches in
-      let j = meets s x (s ∷ z) h.before u [] k.before k.rest h.stretches (z, tt, refl, k.stretches) in
-      let r = split_front (IsAnswer holds limit) one (filled h.before) (filled ((u ++ []) ∷ k.before)) g.done a.done (subst (λ b. AllZip (IsAnswer holds limit) b g.done) (ended_is s x h.before u h.stretches) g.each)
-      (subst (λ b. AllZip (IsAnswer holds limit) b a.done) (ended_is s (x ++ (s ∷ z)) (h.before ++ ((u ++ []) ∷ k.before)) k.rest j ∙ filled_joined h.before ((u ++ []) ∷ k.before)) a.each) in
-      let f = one_first (u ++ []) k.before r.tail (omega (arith, ap length same, length-append u [])) r.each in
+      let u = h.1 in
+      let same = unfinished_is s x h.0 u h.2 in
+      let j = meets s x (s ∷ z) h.0 u [] k.0 k.1 h.2 (z, tt, refl, k.2) in
+      let r = split_front (IsAnswer holds limit) one (filled h.0) (filled ((u ++ []) ∷ k.0)) g.done a.done (subst (λ b. AllZip (IsAnswer holds limit) b g.done) (ended_is s x h.0 u h.2) g.each)
+      (subst (λ b. AllZip (IsAnswer holds limit) b a.done) (ended_is s (x ++ (s ∷ z)) (h.0 ++ ((u ++ []) ∷ k.0)) k.1 j ∙ filled_joined h.0 ((u ++ []) ∷ k.0)) a.each) in
+      let f = one_first (u ++ []) k.0 r.tail (omega (arith, ap length same, length-append u [])) r.each in
       let said = begun_answers limit (unfinished s (x ++ (s ∷ z))) ++ cut_answers limit (unfinished s (x ++ (s ∷ z))) in
       let none : us ≡ g.done = g.whole ∙ ap (λ b. g.done ++ b) (short_said limit (unfinished s x) n) ∙ append-nil g.done in (
         f.0,

@@ -8,7 +8,7 @@ use Rattle.line_io.specs.Calls.{moved_no_fault}
 use Rattle.cobs.specs.Sentinel.{frame_for}
 use Rattle.postcard.specs.Written.{WrittenWhole}
 use Rattle.link.specs.Run.{IsFramed, sent}
-use Rattle.link.specs.Writings.{lead, framed}
+use Rattle.link.specs.Run.{lead, framed}
 use Rattle.postcard_tree.specs.Tree.{Tree, IsTree}
 use Rattle.postcard_tree.specs.Spelling.{short}
 use Rattle.cobs.specs.Frames.{shortest_frame}

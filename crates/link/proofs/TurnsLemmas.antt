@@ -1,20 +1,16 @@
 -- Sends one after another.
-use Rattle.std.proofs.Common.{◌≡◌, ℕ, ◌+◌, ◌≤◌, Bool, List, [], ◌∷◌, ◌++◌, Option, refl, sym, ap, ◌∙◌, subst, inl, inr, arith, append_assoc}
-use Rattle.std.proofs.lemmas.List.{append-nil}
+use Rattle.std.proofs.Common.{◌≡◌, ℕ, ◌+◌, ◌≤◌, Bool, List, [], ◌∷◌, ◌++◌, map, Option, refl, sym, ap, ◌∙◌, subst, inl, inr, arith, append_assoc}
+use Rattle.std.proofs.lemmas.List.{append-nil, map-append}
 use Rattle.line_io.specs.Calls.{Wrote-none, Wrote-then}
 use Rattle.postcard_tree.specs.Tree.{Tree, IsTree}
 use Rattle.link.specs.Run.{Send, written, clean_after, session_line, IsSend, IsSession}
-use Rattle.link.specs.Fates.{IsSendOf, fate_of, fates_of, broke, brokens, clean_after_all, Did, FewBroke, SendsOne, SendsAll}
+use Rattle.link.specs.Fates.{IsSendOf, fate_of, broke, brokens, clean_after_all, Did, FewBroke, SendsOne, SendsAll}
 use Rattle.link.specs.declared.session.Fate.{Fate}
 use Rattle.link.specs.Givens.{zip_one}
 
 clean_more : (clean : Bool) (xs : List Send) (x : Send) → clean_after_all clean (xs ++ x ∷ []) ≡ clean_after (clean_after_all clean xs) x
 clean_more clean [] x = refl
 clean_more clean (y ∷ xs) x = clean_more (clean_after clean y) xs x
-
-fates_more : (xs : List Send) (x : Send) → fates_of (xs ++ x ∷ []) ≡ fates_of xs ++ fate_of x ∷ []
-fates_more [] x = refl
-fates_more (y ∷ xs) x = ap (λ fs. fate_of y ∷ fs) (fates_more xs x)
 
 brokens_more : (xs : List Send) (x : Send) → brokens (xs ++ x ∷ []) ≡ brokens xs + broke x
 brokens_more [] x = omega arith
@@ -56,7 +52,7 @@ one_sent limit s writes valid clean now later u v w f g h c d e values value fat
       sends = xs ++ x ∷ [];
       are = session_more IsTree limit s clean xs x p.are (subst (λ z. IsSend IsTree limit s z x) p.then q.is);
       of = zip_one (λ v' x'. IsSendOf limit (writes v') (valid v') x') values xs value x p.of q.of;
-      fated = ap (λ fs. fs ++ fate ∷ []) p.fated ∙ ap (λ y. fates_of xs ++ y ∷ []) q.fated ∙ sym (fates_more xs x);
+      fated = ap (λ fs. fs ++ fate ∷ []) p.fated ∙ ap (λ y. map fate_of xs ++ y ∷ []) q.fated ∙ sym (map-append fate_of xs (x ∷ []));
       did = subst (λ n. Did u w f h c e (session_line s clean (xs ++ x ∷ [])) n) (sym (brokens_more xs x))
           (subst (λ b. Did u w f h c e b (brokens xs + broke x)) (sym line) (did_more u v w f g h c d e (session_line s clean xs) (written s now x) (brokens xs) (broke x) p.did q.did));
       then = q.then ∙ ap (λ z. clean_after z x) p.then ∙ sym (clean_more clean xs x);

@@ -1,5 +1,5 @@
 -- What becomes of the sends of one sender.
-use Rattle.std.specs.Prelude.{◌≡◌, ℕ, ◌+◌, ◌<◌, ◌≤◌, ◌⊎◌, Bool, List, [], ◌∷◌, length, Option, Some}
+use Rattle.std.specs.Prelude.{◌≡◌, ℕ, ◌+◌, ◌<◌, ◌≤◌, ◌⊎◌, Bool, List, [], ◌∷◌, length, map, Option, Some}
 use Rattle.std.specs.List.{AllZip}
 use Rattle.std.specs.Borrow.{RattleType}
 use Rattle.std.specs.Mem.{FitsInMemory}
@@ -22,16 +22,10 @@ fate_of (completed t) = Done
 fate_of refused = Refused
 fate_of (broken t k) = Broken
 
--- what became of each
-abbrev pub fates_of : List Send → List Fate
-fates_of [] = []
-fates_of (x ∷ xs) = fate_of x ∷ fates_of xs
-
 -- how many broke off
 abbrev pub broke : Send → ℕ
-broke (completed t) = 0
-broke refused = 0
 broke (broken t k) = 1
+broke _ = 0
 
 -- how many of these broke off
 abbrev pub brokens : List Send → ℕ
@@ -80,7 +74,7 @@ pub record SendsAll {V : Type 0} (limit s : ℕ) (writes : V → Option Tree) (v
   pub sends : List Send
   pub are : IsSession IsTree limit s clean sends
   pub of : AllZip (λ v x. IsSendOf limit (writes v) (valid v) x) values sends
-  pub fated : fates ≡ fates_of sends
+  pub fated : fates ≡ map fate_of sends
   pub did : Did old new before after calls_before calls_after
       (session_line s clean sends) (brokens sends)
   pub then : later ≡ clean_after_all clean sends

@@ -62,9 +62,7 @@ pub record BringsAbout {M : Type 0} (limit s : ℕ) (b : Begun) (bytes : List �
 -- the one where nothing is found, else the other
 abbrev pub WhereNothing : {M : Type 0} → Found M → Type 0 → Type 0 → Type 0
 WhereNothing Nothing P Q = P
-WhereNothing Damaged P Q = Q
-WhereNothing TooLong P Q = Q
-WhereNothing (Whole m) P Q = Q
+WhereNothing _ P Q = Q
 
 -- what the first bytes bring about
 abbrev pub Brings : {M : Type 0} → ℕ → ℕ → Begun → List ℕ → (M → List ℕ) → Taken M
@@ -73,18 +71,19 @@ Brings limit s b bytes message taken At =
     WhereNothing taken.found (BringsNothing limit s b bytes taken.used At)
     (BringsAbout limit s b bytes message taken At)
 
--- the answer to a stretch that a sentinel ended, within the limit, by which trees a stretch holds
-abbrev pub AnswersStretch : {V : Type 0} → (List ℕ → Tree → Type 0) → (Tree → V → Type 0) → List ℕ
-    → Result (Option (Answer V)) NoMemory → Type 0
-AnswersStretch holds reads p (Ok None) = ⊥
-AnswersStretch holds reads p (Ok (Some (answer.Value v))) = (t : Tree) × holds p t × reads t v
-AnswersStretch holds reads p (Ok (Some answer.Damaged)) = (t : Tree) → holds p t → ⊥
-AnswersStretch holds reads p (Ok (Some _)) = ⊥
-AnswersStretch holds reads p (Err e) = (m : List ℕ) × Frame p m
+-- the answer to an ended stretch, without a limit, by which trees it holds
+abbrev pub AnswersEnded : {V : Type 0} → (List ℕ → Tree → Type 0) → (Tree → V → Type 0)
+    → List ℕ → Result (Answer V) NoMemory → Type 0
+AnswersEnded holds reads p (Ok (answer.Value v)) = (t : Tree) × holds p t × reads t v
+AnswersEnded holds reads p (Ok answer.Damaged) = (t : Tree) → holds p t → ⊥
+AnswersEnded holds reads p (Ok _) = ⊥
+AnswersEnded holds reads p (Err e) = (m : List ℕ) × Frame p m
 
 -- the answer to an event
 abbrev pub Replies : {V : Type 0} → (List ℕ → Tree → Type 0) → (Tree → V → Type 0) → Event
     → Result (Option (Answer V)) NoMemory → Type 0
 Replies holds reads quiet r = r ≡ Ok None
 Replies holds reads passed r = r ≡ Ok (Some answer.TooLong)
-Replies holds reads (ended p) r = AnswersStretch holds reads p r
+Replies holds reads (ended p) (Ok None) = ⊥
+Replies holds reads (ended p) (Ok (Some a)) = AnswersEnded holds reads p (Ok a)
+Replies holds reads (ended p) (Err e) = AnswersEnded holds reads p (Err e)

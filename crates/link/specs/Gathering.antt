@@ -9,7 +9,7 @@ use Rattle.postcard.specs.Frames.{Holds}
 use Rattle.link.specs.Stream.{Verdict, Answers}
 use Rattle.link.specs.Roads.{Loops, joined, AllFit, AreValues, AreFirst, values_of, IsSameByAccumulator}
 use Rattle.link.specs.declared.listening.End.{End}
-use Rattle.link.specs.declared.listening.End.TheVariants.{Ended, ReadFault, NoMemory}
+use Rattle.link.specs.declared.listening.End.TheVariants.{NoMemory}
 
 -- an accumulator of such a room can be held
 abbrev pub AccumulatorFitsInMemory : RattleType → Type 0
@@ -53,13 +53,11 @@ pub record GathersOnLine {V : Type 0} (takes : Tree → Type 0) (reads : Tree �
 -- what was gathered, by how the reading ended
 abbrev pub HasGathered : {V : Type 0} → (Tree → Type 0) → (Tree → V → Type 0) → Bool → ℕ → ℕ → List ℕ
     → List ℕ → List ℕ → List V → List V → End → Type 0
-HasGathered takes reads growing room s held bytes kept old new Ended =
-    GathersOnLine takes reads growing room s held bytes kept [] old new
-HasGathered takes reads growing room s held bytes kept old new ReadFault =
-    GathersOnLine takes reads growing room s held bytes kept [] old new
 HasGathered {V} takes reads growing room s held bytes kept old new NoMemory =
     (lost : V) × (now : List ℕ) × (rest : List (List ℕ))
     × GathersOnLine takes reads growing room s held bytes now rest old (new ++ lost ∷ [])
+HasGathered takes reads growing room s held bytes kept old new _ =
+    GathersOnLine takes reads growing room s held bytes kept [] old new
 
 -- Where the stretches of the bytes fit, the values are those of the answers.
 abbrev pub AreThose : {V : Type 0} → (Tree → Type 0) → (Tree → V → Type 0)
@@ -68,23 +66,16 @@ AreThose takes reads growing room s bytes values =
     (answers : List Verdict) → AllFit room s bytes → Answers (Holds takes) room s bytes answers
     → AreValues reads growing (values_of answers) values
 
--- The same of these values and one more, which had no place in the list, and of the first of the answers.
-pub record AreBefore {V : Type 0} (takes : Tree → Type 0) (reads : Tree → V → Type 0)
-    (growing : Bool) (room s : ℕ) (bytes : List ℕ) (values : List V) : Type 0 where
-  pub lost : V
-  pub those : (answers : List Verdict) → AllFit room s bytes
-      → Answers (Holds takes) room s bytes answers
-      → AreFirst reads growing true (values_of answers) (values ++ lost ∷ [])
-
--- by how the reading ended
+-- by how the reading ended: when out of memory the same of these values and one more, which had no place in the list, and of the
+-- first of the answers
 abbrev pub AreThoseFor : {V : Type 0} → (Tree → Type 0) → (Tree → V → Type 0)
     → Bool → ℕ → ℕ → List ℕ → List V → End → Type 0
-AreThoseFor takes reads growing room s bytes values Ended =
+AreThoseFor {V} takes reads growing room s bytes values NoMemory =
+    (lost : V) × ((answers : List Verdict) → AllFit room s bytes
+    → Answers (Holds takes) room s bytes answers
+    → AreFirst reads growing true (values_of answers) (values ++ lost ∷ []))
+AreThoseFor takes reads growing room s bytes values _ =
     AreThose takes reads growing room s bytes values
-AreThoseFor takes reads growing room s bytes values ReadFault =
-    AreThose takes reads growing room s bytes values
-AreThoseFor takes reads growing room s bytes values NoMemory =
-    AreBefore takes reads growing room s bytes values
 
 -- The documented loop over pieces of these bytes gives these values, whether or not their stretches fit.
 pub record LoopsOver {V : Type 0} (takes : Tree → Type 0) (reads : Tree → V → Type 0)
@@ -96,9 +87,7 @@ pub record LoopsOver {V : Type 0} (takes : Tree → Type 0) (reads : Tree → V 
 -- by how the reading ended: when out of memory one more value had no place in the list
 abbrev pub AreLooped : {V : Type 0} → (Tree → Type 0) → (Tree → V → Type 0)
     → Bool → ℕ → ℕ → List ℕ → List V → End → Type 0
-AreLooped takes reads growing room s bytes values Ended =
-    LoopsOver takes reads growing false room s bytes values
-AreLooped takes reads growing room s bytes values ReadFault =
-    LoopsOver takes reads growing false room s bytes values
 AreLooped {V} takes reads growing room s bytes values NoMemory =
     (lost : V) × LoopsOver takes reads growing true room s bytes (values ++ lost ∷ [])
+AreLooped takes reads growing room s bytes values _ =
+    LoopsOver takes reads growing false room s bytes values

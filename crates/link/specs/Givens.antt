@@ -1,11 +1,11 @@
 -- What a push adds to the answers of a stream.
-use Rattle.std.proofs.Common.{◌≡◌, ℕ, List, [], ◌∷◌, ◌++◌, take, Option, Some, None, Result, Ok, Err, refl, sym, subst}
+use Rattle.std.proofs.Common.{◌≡◌, ℕ, List, [], ◌∷◌, ◌++◌, take, Option, Some, None, Result, Ok, Err, sym, subst}
 use Rattle.std.specs.List.{AllZip}
 use Rattle.std.proofs.lemmas.List.{append-nil}
 use Rattle.postcard_tree.specs.Tree.{Tree}
 use Rattle.link.specs.Decoding.{Inside}
 use Rattle.link.specs.Stream.{Verdict}
-use Rattle.link.specs.Pushes.{listed, IsPush, Matches, Answered}
+use Rattle.link.specs.Pushes.{listed, Matches, Answered}
 use Rattle.link.specs.Receivers.{IsBehind}
 use Rattle.link.specs.Listening.{HasGiven, Hears, KeepsAnswer}
 use Rattle.link.specs.declared.reception.Reception.{Reception}

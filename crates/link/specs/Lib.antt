@@ -11,7 +11,6 @@ pub mod Framing
 pub mod Framed
 pub mod Run
 pub mod Senders
-pub mod Writings
 pub mod Listening
 pub mod Each
 pub mod Firsts

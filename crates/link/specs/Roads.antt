@@ -6,15 +6,13 @@ use Rattle.postcard.specs.Frames.{Holds, HoldsValue}
 use Rattle.postcard.specs.Feeds.{Feeds}
 use Rattle.cobs.specs.Frames.{NoZero}
 use Rattle.cobs.specs.Sentinel.{masked}
-use Rattle.link.specs.Stream.{Verdict, value, damaged, too_long, cut, IsContent, ended, Answers}
+use Rattle.link.specs.Stream.{Verdict, value, cut, IsContent, ended, Answers}
 
 -- the trees of the values among answers
 abbrev pub values_of : List Verdict → List Tree
 values_of [] = []
 values_of (value t ∷ answers) = t ∷ values_of answers
-values_of (damaged ∷ answers) = values_of answers
-values_of (too_long ∷ answers) = values_of answers
-values_of (cut ∷ answers) = values_of answers
+values_of (_ ∷ answers) = values_of answers
 
 -- each ended stretch has with its sentinel at most so many bytes
 abbrev pub AllFit : ℕ → ℕ → List ℕ → Type 0

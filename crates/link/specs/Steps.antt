@@ -34,8 +34,7 @@ pub record Course : Type 0 where
 -- the course behind one byte, by its event
 abbrev pub course_on : Event → Begun → Course → Course
 course_on quiet b later = record { used = later.used + 1; event = later.event; begun = later.begun }
-course_on (ended p) b later = record { used = 1; event = ended p; begun = b }
-course_on passed b later = record { used = 1; event = passed; begun = b }
+course_on e b later = record { used = 1; event = e; begun = b }
 
 -- the course of a piece, byte by byte
 abbrev pub course_of : ℕ → ℕ → Begun → List ℕ → Course

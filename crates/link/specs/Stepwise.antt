@@ -2,7 +2,7 @@
 use Rattle.std.proofs.Common.{◌≡◌, ℕ, List, [], ◌∷◌, ◌++◌, refl, sym, ap, ◌∙◌, subst}
 use Rattle.std.specs.List.{AllZip}
 use Rattle.link.specs.Stream.{Verdict, ended, unfinished}
-use Rattle.link.specs.Relational.{Stretches, AnswerEach, IsHeardStepwise, HasStretches, IsUnfinishedPart}
+use Rattle.link.specs.Relational.{Stretches, AnswerEach, IsHeardStepwise, IsUnfinishedPart}
 use Rattle.link.specs.Pieces.{Parted, alone, more, parted, ended_skip, ended_at, unfinished_at, ended_alone, unfinished_alone}
 
 -- those that aren't empty
@@ -24,12 +24,14 @@ module _ (s : ℕ) where
   unfinished_is stream [] u (z, e) = ap (unfinished s) e ∙ unfinished_alone s u z
   unfinished_is stream (p ∷ ps) u (after, z, e, h) = ap (unfinished s) e ∙ unfinished_at s p after z ∙ unfinished_is after ps u h
 
-  has_from : {x : List ℕ} → Parted s x → HasStretches s x
-  has_from {x} (alone p z e) = record { before = []; rest = p; stretches = (z, e) }
-  has_from {x} (more p rest z e k) = let h = has_from k in record { before = p ∷ h.before; rest = h.rest; stretches = (rest, z, e, h.stretches) }
+  has_from : {x : List ℕ} → Parted s x
+      → (before : List (List ℕ)) × (rest : List ℕ) × Stretches s x before rest
+  has_from {x} (alone p z e) = ([], p, (z, e))
+  has_from {x} (more p rest z e k) = let h = has_from k in (p ∷ h.0, h.1, (rest, z, e, h.2))
 
   -- each stream has such stretches
-  pub has_stretches : (x : List ℕ) → HasStretches s x
+  pub has_stretches : (x : List ℕ)
+      → (before : List (List ℕ)) × (rest : List ℕ) × Stretches s x before rest
   has_stretches x = has_from (parted s x)
 
   pub unfinished_part : IsUnfinishedPart s
@@ -58,11 +60,11 @@ module _ (R : List ℕ → Verdict → Type 0) where
       whole = h.whole ∙ ap (λ p. h.front ++ said p) (sym (unfinished_is s stream h.before h.rest h.stretches));
     },
     λ h. (let k = has_stretches s stream in record {
-      before = k.before;
-      rest = k.rest;
-      stretches = k.stretches;
+      before = k.0;
+      rest = k.1;
+      stretches = k.2;
       front = h.done;
-      each = from_zip k.before h.done (subst (λ ps. AllZip R ps h.done) (ended_is s stream k.before k.rest k.stretches) h.each);
-      whole = h.whole ∙ ap (λ p. h.done ++ said p) (unfinished_is s stream k.before k.rest k.stretches);
+      each = from_zip k.0 h.done (subst (λ ps. AllZip R ps h.done) (ended_is s stream k.0 k.1 k.2) h.each);
+      whole = h.whole ∙ ap (λ p. h.done ++ said p) (unfinished_is s stream k.0 k.1 k.2);
     }),
   )

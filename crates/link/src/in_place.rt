@@ -4,7 +4,9 @@ ghost use Rattle.std.specs.Borrow.{sem, LendsBothIf, Array, u8};
 ghost use Rattle.cobs.specs.InPlace.{stretch};
 ghost use Rattle.cobs.specs.Sentinel.{masked};
 ghost use Rattle.cobs.specs.Whole.{unpadded};
-ghost use Rattle.link.specs.InPlace.{AnswersEnded, ReadsNext, IsEnd, IsNext, AnswersNext, KeptUnlessEnded};
+ghost use Rattle.postcard.specs.Frames.{Holds};
+ghost use Rattle.link.specs.Finds.{AnswersEnded};
+ghost use Rattle.link.specs.InPlace.{ReadsNext, IsEnd, IsNext, AnswersNext, KeptUnlessEnded};
 
 use crate::judging::had_memory;
 use crate::receiver::{Answer, NoMemory};
@@ -31,7 +33,7 @@ fn read_stretch<'a, T: Deserialize<&'a [u8]>>(
     sentinel: u8,
 ) -> Result<Answer<T>, NoMemory>
     requires { stretch (masked sentinel bytes.now) ≡ [] → ⊥ }
-    ensures answer { AnswersEnded T.takes T.reads
+    ensures answer { AnswersEnded (Holds T.takes) T.reads
         (stretch (masked sentinel bytes.entry.now)) result }
     ensures memory { OnErr result (T.growing ≡ true) }
 {

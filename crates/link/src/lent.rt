@@ -5,8 +5,8 @@ ghost use Rattle.cobs.specs.Frames.{Frame};
 ghost use Rattle.postcard.specs.Frames.{Holds};
 ghost use Rattle.link.specs.Stream.{HoldsExactly};
 ghost use Rattle.link.specs.Lending.{ReadsLent};
-ghost use Rattle.link.specs.Steps.{Course};
-ghost use Rattle.link.specs.Finds.{IsTaken, Replies, AnswersStretch, lent_message};
+ghost use Rattle.link.specs.Steps.{Course, Event};
+ghost use Rattle.link.specs.Finds.{IsTaken, Replies, lent_message};
 
 use crate::decoding::Decoding;
 use crate::judging::{had_memory, is_sent, judged};
@@ -55,7 +55,7 @@ pub(crate) fn read_message<'de, T: Deserialize<&'de [u8]>>(
     message: &'de [u8],
 ) -> Result<Option<Answer<T>>, NoMemory>
     ensures stretch { (p : List ℕ) → Frame p message.now
-        → AnswersStretch (Holds T.takes) T.reads p result }
+        → Replies (Holds T.takes) T.reads (Event.ended p) result }
     ensures memory { OnErr result (T.growing ≡ true) }
 {
     cobs::laws::message_of_a_frame();
@@ -75,7 +75,7 @@ pub(crate) fn read_exact_message<'de, T: Deserialize<&'de [u8]> + Exact>(
     stretch: usize,
 ) -> Result<Option<Answer<T>>, NoMemory>
     ensures stretch { (p : List ℕ) → Frame p message.now → stretch ≡ length p
-        → AnswersStretch (HoldsExactly T.takes) T.reads p result }
+        → Replies (HoldsExactly T.takes) T.reads (Event.ended p) result }
     ensures memory { OnErr result (T.growing ≡ true) }
 {
     cobs::laws::message_of_a_frame();

@@ -5,9 +5,9 @@ ghost use Rattle.cobs.specs.Frames.{Frame};
 ghost use Rattle.postcard_tree.specs.Tree.{Tree};
 ghost use Rattle.postcard_tree.specs.Reading.{TakesText};
 ghost use Rattle.postcard.specs.Frames.{Holds};
-ghost use Rattle.link.specs.Steps.{Course};
+ghost use Rattle.link.specs.Steps.{Course, Event};
 ghost use Rattle.link.specs.Stream.{HoldsExactly};
-ghost use Rattle.link.specs.Finds.{IsTaken, lent_message, Replies, AnswersStretch};
+ghost use Rattle.link.specs.Finds.{IsTaken, lent_message, Replies};
 ghost use Rattle.link.specs.Judged.{IsJudged};
 ghost use Rattle.link.specs.Receivers.{SameTerms};
 ghost use Rattle.link.specs.Listening.{Hears, ReceiverFitsInMemory};
@@ -63,7 +63,7 @@ pub(crate) trait JudgingText {
         stretch: usize,
     ) -> Result<Option<Answer<&'de str>>, NoMemory>
         ensures stretch { (p : List ℕ) → Frame p message.now → stretch ≡ length p
-            → AnswersStretch holds reads_lent p result }
+            → Replies holds reads_lent (Event.ended p) result }
         ensures memory { IsOk result };
 
     // A stretch holds one text at most, and is a frame then.

@@ -1,6 +1,6 @@
 //! Values as the bytes of sends.
 ghost use Rattle.std.specs.Prelude.{◌≡◌, ◌<◌, ◌^◌, ◌++◌, false, length, OnOk, OnErr};
-ghost use Rattle.link.specs.Writings.{framed};
+ghost use Rattle.link.specs.Run.{framed};
 
 use crate::error::EncodeError;
 use bytes::BytesMut;

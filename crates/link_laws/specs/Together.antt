@@ -1,5 +1,5 @@
 -- What two senders in turn leave on a line, and what is heard of the line of a run of values.
-use Rattle.std.proofs.Common.{◌≡◌, ◌≤◌, ℕ, List, [], ◌∷◌, Option, Some, Result, ap, ◌∙◌, subst}
+use Rattle.std.proofs.Common.{◌≡◌, ◌≤◌, ℕ, List, [], ◌∷◌, map, Option, Some, Result, ap, ◌∙◌, subst}
 use Rattle.std.specs.List.{AllZip, zip}
 use Rattle.line_io.specs.Device.{Wrote}
 use Rattle.postcard_tree.specs.Tree.{Tree}
@@ -7,7 +7,7 @@ use Rattle.link.specs.Run.{Send, IsRun, line}
 use Rattle.link.specs.Senders.{IsSent}
 use Rattle.link_laws.specs.Values.{runs_of, AreSends}
 use Rattle.link_laws.specs.Sessions.{LeavesRun, HeardOfRun, all_written}
-use Rattle.link.specs.Fates.{IsSendOf, fates_of}
+use Rattle.link.specs.Fates.{IsSendOf, fate_of}
 use Rattle.link.specs.declared.session.Fate.{Fate}
 use Rattle.link.specs.declared.receiver.Answer.{Answer}
 use Rattle.link.specs.declared.sender.SendError.{SendError}
@@ -33,8 +33,8 @@ pub record LeavesSessions {V : Type 0} (takes : Tree → Type 0) (writes : V →
   pub other : List Send
   pub first_of : AllZip (λ v x. IsSendOf limit (writes v) (valid v) x) firsts one
   pub second_of : AllZip (λ v x. IsSendOf limit (writes v) (valid v) x) seconds other
-  pub first_fated : first_fates ≡ fates_of one
-  pub second_fated : second_fates ≡ fates_of other
+  pub first_fated : first_fates ≡ map fate_of one
+  pub second_fated : second_fates ≡ map fate_of other
   pub run : LeavesRun takes writes valid limit s old new before after
       (zip firsts one ∷ zip seconds other ∷ [])
 

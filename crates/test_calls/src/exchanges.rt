@@ -1,12 +1,13 @@
 //! Calls and replies, each by itself.
 
+use crate::checks::{are_equal, check, is_end, is_number, is_read, is_reply, letter};
 use crate::served::{Adder, Line, line, service};
 use calls::{
-    CallError, Client, Served, Server, Waiting, serve, serve_owned, serve_owned_strict,
+    CallError, Client, Server, Service, Waiting, serve, serve_owned, serve_owned_strict,
     serve_strict, serve_with_sentinel, wait, wait_strict, wait_with,
 };
 use line_io::memory::{Fault, In, Out};
-use link::{Answer, End, OfType, Ordinary, OwnedReceiver, Receiver, SendError};
+use link::{Answer, End, NoMemory, OfType, Ordinary, OwnedReceiver, Receiver};
 use std::alloc::Global;
 
 // A client of adders, whose first call has the number 5.
@@ -23,39 +24,52 @@ fn asked(alloc: Global, sentinel: u8, requests: &[u32]) -> Vec<u8> {
     client.into_inner().into_inner()
 }
 
+// What a service writes to the requests that it reads; and whether it read to their end and executed so many.
+fn replies(alloc: Global, reader: &mut In<'_>, executed: u32) -> (bool, Vec<u8>) {
+    let mut service = service(alloc, 0);
+    let end = serve::<u32, u32, Adder, In<'_>, Line, 16, 8>(alloc, reader, &mut service);
+    let is_right = is_end(end) && service.application.executed == executed;
+    (is_right, service.server.into_inner().into_inner())
+}
+
+// A client that waits for the reply to its call of 7, of the number 5; and whether it called so.
+fn calling(alloc: Global) -> (bool, Waiting<Line, u32, u32, 16>) {
+    let mut client = client(alloc, 0);
+    let is_right = client.call(7).is_ok() && is_number(client.pending(), 5);
+    (is_right, Waiting { client, said: None })
+}
+
+// Whether 7 was heard, and no call is pending.
+fn has_heard(waiting: &mut Waiting<Line, u32, u32, 16>) -> bool {
+    is_reply(waiting.said, 7)
+        && waiting.client.pending().is_none()
+        && matches!(waiting.client.again(), Err(CallError::Idle))
+}
+
 #[test]
 fn a_call_is_replied(rt: HostRuntime) {
-    let mut waiting: Waiting<Line, u32, u32, 16> = Waiting {
-        client: client(rt.alloc(), 0),
-        said: None,
-    };
-    assert!(rt; waiting.client.call(7).is_ok());
-    assert!(rt; waiting.client.pending() == Some(5));
+    let (is_called, mut waiting) = calling(rt.alloc());
+    check(&rt, is_called);
     let requests = waiting.client.replace_inner(line(rt.alloc())).into_inner();
     // 5 and 7 between zeros: a frame of two bytes
-    assert!(rt; requests.as_slice() == [0u8, 3, 5, 7, 0].as_slice());
-    let mut service = service(rt.alloc(), 0);
+    check(&rt, are_equal(&requests, &[0, 3, 5, 7, 0]));
     let mut reader = In::new(requests.as_slice(), 1, None);
-    let end = serve::<u32, u32, Adder, In<'_>, Line, 16, 8>(rt.alloc(), &mut reader, &mut service);
-    assert!(rt; end == End::Ended);
-    assert!(rt; service.application.executed == 1);
-    let replies = service.server.into_inner().into_inner();
+    let (is_served, replies) = replies(rt.alloc(), &mut reader, 1);
+    check(&rt, is_served);
     let mut reader = In::new(replies.as_slice(), 1, None);
     let mut receiver = Receiver::<8>::new();
     let end = wait(rt.alloc(), &mut receiver, &mut reader, &mut waiting);
-    assert!(rt; end.is_none());
-    assert!(rt; waiting.said == Some(7));
-    assert!(rt; waiting.client.pending().is_none());
-    assert!(rt; waiting.client.again() == Err(CallError::Idle));
+    check(&rt, end.is_none());
+    check(&rt, has_heard(&mut waiting));
 }
 
 #[test]
 fn one_sent_again_is_executed_once(rt: HostRuntime) {
     let mut client = client(rt.alloc(), 0);
-    assert!(rt; client.call(7).is_ok());
-    assert!(rt; client.again().is_ok());
+    check(&rt, client.call(7).is_ok());
+    check(&rt, client.again().is_ok());
     let requests = client.into_inner().into_inner();
-    assert!(rt; requests.as_slice() == [0u8, 3, 5, 7, 0, 3, 5, 7, 0].as_slice());
+    check(&rt, are_equal(&requests, &[0, 3, 5, 7, 0, 3, 5, 7, 0]));
     let mut service = service(rt.alloc(), 0);
     let mut reader = In::new(requests.as_slice(), 100, None);
     let _ = serve_strict::<u32, u32, Adder, In<'_>, Line, 16, 8>(
@@ -63,22 +77,30 @@ fn one_sent_again_is_executed_once(rt: HostRuntime) {
         &mut reader,
         &mut service,
     );
-    assert!(rt; service.application.executed == 1);
+    check(&rt, service.application.executed == 1);
     let replies = service.server.into_inner().into_inner();
-    assert!(rt; replies.as_slice() == [0u8, 3, 5, 7, 0, 3, 5, 7, 0].as_slice());
+    check(&rt, are_equal(&replies, &[0, 3, 5, 7, 0, 3, 5, 7, 0]));
+}
+
+// Whether requests of four numbers are answered so, and two of them executed.
+fn are_told_apart(server: &mut Server<Line, u32, 16>) -> bool {
+    let mut adder = Adder::new();
+    letter(server.answer(&mut adder, 9, 4u32)) == 'E'
+        && letter(server.answer(&mut adder, 8, 4u32)) == 'P'
+        && letter(server.answer(&mut adder, 9, 70u32)) == 'A'
+        && letter(server.answer(&mut adder, 10, 1u32)) == 'E'
+        && adder.executed == 2
 }
 
 #[test]
 fn an_old_number_is_passed_over(rt: HostRuntime) {
-    let mut adder = Adder::new();
     let mut server = Server::<Line, u32, 16>::new(line(rt.alloc()));
-    assert!(rt; server.answer(&mut adder, 9, 4u32) == Served::Executed(Ok(())));
-    assert!(rt; server.answer(&mut adder, 8, 4u32) == Served::Passed);
-    assert!(rt; server.answer(&mut adder, 9, 70u32) == Served::Again(Ok(())));
-    assert!(rt; server.answer(&mut adder, 10, 1u32) == Served::Executed(Ok(())));
-    assert!(rt; adder.executed == 2);
+    check(&rt, are_told_apart(&mut server));
     let replies = server.into_inner().into_inner();
-    assert!(rt; replies.as_slice() == [0u8, 3, 9, 4, 0, 3, 9, 4, 0, 3, 10, 5, 0].as_slice());
+    check(
+        &rt,
+        are_equal(&replies, &[0, 3, 9, 4, 0, 3, 9, 4, 0, 3, 10, 5, 0]),
+    );
 }
 
 // The first reply finds a line that fails after two bytes; it is kept, and sent again to the same number.
@@ -88,50 +110,104 @@ fn a_lost_reply_is_kept(rt: HostRuntime) {
     let mut adder = Adder::new();
     let failing = Out::new(&mut room, 1, Some((2, Fault::Fail)));
     let mut server = Server::<Out<'_>, u32, 16>::new(failing);
-    assert!(rt; server.answer(&mut adder, 1, 4u32) == Served::Executed(Err(SendError::Line)));
-    assert!(rt; server.answer(&mut adder, 1, 4u32) == Served::Again(Ok(())));
-    assert!(rt; adder.executed == 1);
-    let count = server.into_inner().moved();
-    assert!(rt; room.get(..count) == Some([0u8, 3, 0, 3, 1, 4, 0].as_slice()));
+    check(&rt, letter(server.answer(&mut adder, 1, 4u32)) == 'e');
+    check(&rt, letter(server.answer(&mut adder, 1, 4u32)) == 'A');
+    check(&rt, adder.executed == 1);
+    check(&rt, server.into_inner().moved() == 7);
+    check(&rt, are_equal(&room[..7], &[0, 3, 0, 3, 1, 4, 0]));
+}
+
+// Whether no number was left for a call.
+fn is_full(sent: Result<(), CallError>) -> bool {
+    matches!(sent, Err(CallError::Full))
 }
 
 #[test]
 fn the_last_number_is_not_given(rt: HostRuntime) {
     let mut client = Client::<Line, u32, 16>::new(line(rt.alloc()), u64::MAX - 1);
-    assert!(rt; client.call(1).is_ok());
-    assert!(rt; client.call(2) == Err(CallError::Full));
+    check(&rt, client.call(1).is_ok());
+    check(&rt, is_full(client.call(2)));
     // the earlier call is pending still
-    assert!(rt; client.pending() == Some(u64::MAX - 1));
-    assert!(rt; client.hear(Answer::Value((u64::MAX - 1, 3u32))) == Some(3));
+    check(&rt, is_number(client.pending(), u64::MAX - 1));
+    check(
+        &rt,
+        is_reply(client.hear(Answer::Value((u64::MAX - 1, 3u32))), 3),
+    );
+}
+
+// Whether of what is heard only the reply by the number 5 is taken, and once.
+fn takes_the_reply(client: &mut Client<Line, u32, 16>) -> bool {
+    client.hear::<u32>(Answer::Damaged).is_none()
+        && client.hear(Answer::Value((4, 3u32))).is_none()
+        && client.hear(Answer::Value((6, 3u32))).is_none()
+        && is_reply(client.hear(Answer::Value((5, 3u32))), 3)
+        && client.hear(Answer::Value((5, 3u32))).is_none()
 }
 
 #[test]
 fn only_the_reply_is_taken(rt: HostRuntime) {
     let mut client = client(rt.alloc(), 0);
-    assert!(rt; client.call(1).is_ok());
-    assert!(rt; client.hear::<u32>(Answer::Damaged).is_none());
-    assert!(rt; client.hear(Answer::Value((4, 3u32))).is_none());
-    assert!(rt; client.hear(Answer::Value((6, 3u32))).is_none());
-    assert!(rt; client.hear(Answer::Value((5, 3u32))) == Some(3));
-    assert!(rt; client.hear(Answer::Value((5, 3u32))).is_none());
-    assert!(rt; client.call(1).is_ok());
+    check(&rt, client.call(1).is_ok());
+    check(&rt, takes_the_reply(&mut client));
+    check(&rt, client.call(1).is_ok());
     client.give_up();
-    assert!(rt; client.hear(Answer::Value((6, 3u32))).is_none());
+    check(&rt, client.hear(Answer::Value((6, 3u32))).is_none());
 }
 
 // Noise before, between and behind, and a request that is cut.
+const NOISY: [u8; 27] = [
+    9, 9, 0, 3, 5, 7, 0, 1, 1, 1, 1, 1, 1, 1, 1, 1, 1, 0, 2, 2, 0, 3, 6, 1, 0, 3, 7,
+];
+
 #[test]
 fn noise_is_passed_over(rt: HostRuntime) {
-    let noisy = [
-        9u8, 9, 0, 3, 5, 7, 0, 1, 1, 1, 1, 1, 1, 1, 1, 1, 1, 0, 2, 2, 0, 3, 6, 1, 0, 3, 7,
-    ];
-    let mut service = service(rt.alloc(), 0);
-    let mut reader = In::new(&noisy, 5, None);
-    let end = serve::<u32, u32, Adder, In<'_>, Line, 16, 8>(rt.alloc(), &mut reader, &mut service);
-    assert!(rt; end == End::Ended);
-    assert!(rt; service.application.executed == 2);
-    let replies = service.server.into_inner().into_inner();
-    assert!(rt; replies.as_slice() == [0u8, 3, 5, 7, 0, 3, 6, 8, 0].as_slice());
+    let mut reader = In::new(&NOISY, 5, None);
+    let (is_served, replies) = replies(rt.alloc(), &mut reader, 2);
+    check(&rt, is_served);
+    check(&rt, are_equal(&replies, &[0, 3, 5, 7, 0, 3, 6, 8, 0]));
+}
+
+// Whether a service read to the end, and has executed both requests.
+fn has_served(end: Result<End, NoMemory>, service: &Service<Adder, Line, u32, 16>) -> bool {
+    matches!(end, Ok(End::Ended)) && service.application.sum == 3
+}
+
+fn serves_by_a_sentinel(alloc: Global, requests: &[u8]) -> bool {
+    let mut service = service(alloc, 0xA5);
+    let mut reader = In::new(requests, 3, None);
+    let _ = serve_with_sentinel::<u32, u32, Adder, In<'_>, Line, 16, 8>(
+        alloc,
+        &mut reader,
+        &mut service,
+        0xA5,
+    );
+    service.application.sum == 3
+}
+
+fn serves_owned(alloc: Global, requests: &[u8]) -> bool {
+    let mut service = service(alloc, 0);
+    let mut reader = In::new(requests, 3, None);
+    let end = serve_owned::<u32, u32, Adder, In<'_>, Line, 16>(
+        alloc,
+        &mut reader,
+        &mut service,
+        8,
+        0,
+    );
+    has_served(end, &service)
+}
+
+fn serves_owned_strict(alloc: Global, requests: &[u8]) -> bool {
+    let mut service = service(alloc, 0xA5);
+    let mut reader = In::new(requests, 3, None);
+    let end = serve_owned_strict::<u32, u32, Adder, In<'_>, Line, 16>(
+        alloc,
+        &mut reader,
+        &mut service,
+        8,
+        0xA5,
+    );
+    has_served(end, &service)
 }
 
 // Each way of serving executes both requests; with a sentinel other than zero too.
@@ -139,59 +215,30 @@ fn noise_is_passed_over(rt: HostRuntime) {
 fn every_way_of_serving(rt: HostRuntime) {
     let plain = asked(rt.alloc(), 0, &[1, 2]);
     let other = asked(rt.alloc(), 0xA5, &[1, 2]);
-    let mut first = service(rt.alloc(), 0xA5);
-    let mut reader = In::new(other.as_slice(), 3, None);
-    let _ = serve_with_sentinel::<u32, u32, Adder, In<'_>, Line, 16, 8>(
-        rt.alloc(),
-        &mut reader,
-        &mut first,
-        0xA5,
-    );
-    assert!(rt; first.application.sum == 3);
-    let mut second = service(rt.alloc(), 0);
-    let mut reader = In::new(plain.as_slice(), 3, None);
-    let end = serve_owned::<u32, u32, Adder, In<'_>, Line, 16>(
-        rt.alloc(),
-        &mut reader,
-        &mut second,
-        8,
-        0,
-    );
-    assert!(rt; end == Ok(End::Ended));
-    assert!(rt; second.application.sum == 3);
-    let mut third = service(rt.alloc(), 0xA5);
-    let mut reader = In::new(other.as_slice(), 3, None);
-    let end = serve_owned_strict::<u32, u32, Adder, In<'_>, Line, 16>(
-        rt.alloc(),
-        &mut reader,
-        &mut third,
-        8,
-        0xA5,
-    );
-    assert!(rt; end == Ok(End::Ended));
-    assert!(rt; third.application.sum == 3);
+    check(&rt, serves_by_a_sentinel(rt.alloc(), &other));
+    check(&rt, serves_owned(rt.alloc(), &plain));
+    check(&rt, serves_owned_strict(rt.alloc(), &other));
 }
 
-// A reply with a byte behind it is taken ordinarily, and not strictly; how the reading ended is said, and the call is pending then.
+// A reply with a byte behind it.
+const LONGER: [u8; 6] = [0, 4, 5, 7, 9, 0];
+
+// It is taken ordinarily, and not strictly; how the reading ended is said, and the call is pending then.
 #[test]
 fn a_longer_reply(rt: HostRuntime) {
-    let longer = [0u8, 4, 5, 7, 9, 0];
-    let mut waiting: Waiting<Line, u32, u32, 16> = Waiting {
-        client: client(rt.alloc(), 0),
-        said: None,
-    };
-    assert!(rt; waiting.client.call(7).is_ok());
+    let (is_called, mut waiting) = calling(rt.alloc());
+    check(&rt, is_called);
     let Ok(mut receiver) = OwnedReceiver::new(rt.alloc(), 8, 0) else {
         return;
     };
-    let mut reader = In::new(&longer, 2, None);
+    let mut reader = In::new(&LONGER, 2, None);
     let end = wait_strict(rt.alloc(), &mut receiver, &mut reader, &mut waiting);
-    assert!(rt; end == Some(End::Ended));
-    assert!(rt; waiting.client.pending() == Some(5));
-    let mut reader = In::new(&longer, 2, None);
+    check(&rt, is_read(end));
+    check(&rt, is_number(waiting.client.pending(), 5));
+    let mut reader = In::new(&LONGER, 2, None);
     let end = wait(rt.alloc(), &mut receiver, &mut reader, &mut waiting);
-    assert!(rt; end.is_none());
-    assert!(rt; waiting.said == Some(7));
+    check(&rt, end.is_none());
+    check(&rt, is_reply(waiting.said, 7));
 }
 
 // Two replies through a room of one byte, which both calls share.
@@ -206,7 +253,7 @@ fn waiting_in_a_room(rt: HostRuntime) {
     let mut reader = In::new(&replies, 100, None);
     let mut room = [0u8; 1];
     for said in [7u32, 9] {
-        assert!(rt; waiting.client.call(said).is_ok());
+        check(&rt, waiting.client.call(said).is_ok());
         let end = wait_with(
             rt.alloc(),
             &mut receiver,
@@ -215,7 +262,7 @@ fn waiting_in_a_room(rt: HostRuntime) {
             &mut waiting,
             &mut room,
         );
-        assert!(rt; end.is_none());
-        assert!(rt; waiting.said.take() == Some(said));
+        check(&rt, end.is_none());
+        check(&rt, is_reply(waiting.said.take(), said));
     }
 }

@@ -2,6 +2,7 @@
 //! frame that still reads as a message isn't taken for one that was sent.
 ghost use Rattle.std.specs.Prelude.{⊤};
 
+use crate::checks::check;
 use crate::served::{Line, line};
 use calls::{Application, Checked, Client, Numbered, Server, Service, Waiting};
 use line_io::memory::In;
@@ -84,14 +85,18 @@ struct Sides {
 }
 
 impl Sides {
-    // Brings what the client wrote to the server, and what that wrote to the client.
-    fn exchange(&mut self, alloc: Global) {
+    // Brings what the client wrote to the server.
+    fn ask(&mut self, alloc: Global) {
         let asked = self.console.hearer.client.replace_inner(line(alloc));
         let came = self.noise.spoil(alloc, asked.into_inner().as_slice());
         let mut reader = In::new(came.as_slice(), 1024, None);
         let _ = self
             .to_device
             .listen::<(u64, Numbered<u32>), In<'_>, Device>(alloc, &mut reader, &mut self.device);
+    }
+
+    // Brings what the server wrote to the client.
+    fn tell(&mut self, alloc: Global) {
         let told = self.device.hearer.server.replace_inner(line(alloc));
         let came = self.noise.spoil(alloc, told.into_inner().as_slice());
         let mut reader = In::new(came.as_slice(), 1024, None);
@@ -105,7 +110,8 @@ impl Sides {
         let number = self.console.hearer.client.next();
         let _ = self.console.hearer.client.call(Sealed((number, value)));
         for _ in 0..8 {
-            self.exchange(alloc);
+            self.ask(alloc);
+            self.tell(alloc);
             if let Some(Sealed(said)) = self.console.hearer.said.take() {
                 return Some(said);
             }
@@ -159,18 +165,21 @@ fn calls_over_noisy_lines(rt: HostRuntime) {
     for value in 0..CALLS {
         if let Some((number, said)) = both.call(rt.alloc(), value) {
             // the right reply, and it was executed
-            assert!(rt; number == u64::from(value) + 1 && said == value.wrapping_mul(3));
-            assert!(rt; count_of(&both, value) == 1);
+            check(
+                &rt,
+                number == u64::from(value) + 1 && said == value.wrapping_mul(3),
+            );
+            check(&rt, count_of(&both, value) == 1);
             taken = taken.saturating_add(1);
         }
     }
     // most are heard in eight tries, and not all
-    assert!(rt; taken > 9_000 && taken < CALLS);
+    check(&rt, taken > 9_000 && taken < CALLS);
     let mut most = 0u8;
     for value in 0..CALLS {
         most = most.max(count_of(&both, value));
     }
-    assert!(rt; most == 1);
+    check(&rt, most == 1);
     // nothing was executed that wasn't called
-    assert!(rt; both.device.hearer.application.strangers == 0);
+    check(&rt, both.device.hearer.application.strangers == 0);
 }

@@ -1,5 +1,6 @@
 //! Calls whose messages are sealed with their numbers, as bytes.
 
+use crate::checks::{are_equal, check, is_number, is_read};
 use crate::served::{Adder, Line, line};
 use calls::{Checked, Client, Numbered, Numbering, Server, Service, Waiting, listen_until};
 use line_io::memory::In;
@@ -31,31 +32,55 @@ fn heard(alloc: Global, bytes: &[u8]) -> Device {
     device
 }
 
+type Asker = Client<Line, Numbered<u32>, 16>;
+
+type Console = Checked<Waiting<Line, Numbered<u32>, Numbered<u32>, 16>>;
+
+// What a client wrote that called 7 by this number; and whether it was sent.
+fn ask(alloc: Global, client: &mut Asker, number: u64) -> (bool, Vec<u8>) {
+    let is_sent = client.call(Sealed((number, 7))).is_ok();
+    (is_sent, client.replace_inner(line(alloc)).into_inner())
+}
+
+// Waits for a reply; how the reading ended, where none was heard.
+fn wait_for(alloc: Global, reader: &mut In<'_>, waiting: &mut Console) -> Option<End> {
+    let mut receiver = Receiver::<16>::new();
+    listen_until::<(u64, Numbered<u32>), _, _, _>(alloc, &mut receiver, reader, waiting)
+}
+
+// Whether a device executed so many calls.
+fn has_executed(device: &Device, calls: u32) -> bool {
+    device.hearer.application.application.executed == calls
+}
+
+// What a device told.
+fn told(device: Device) -> Vec<u8> {
+    device.hearer.server.into_inner().into_inner()
+}
+
+// Whether the reply was 7, by the number 5.
+fn is_said(said: Option<Numbered<u32>>) -> bool {
+    matches!(said, Some(Sealed((5, 7))))
+}
+
 #[test]
 fn a_sealed_call_is_replied(rt: HostRuntime) {
-    let mut client = Client::<Line, Numbered<u32>, 16>::new(line(rt.alloc()), 5);
-    assert!(rt; client.call(Sealed((5, 7))).is_ok());
-    let asked = client.replace_inner(line(rt.alloc())).into_inner();
-    assert!(rt; asked.as_slice() == CALL.as_slice());
-    let service = heard(rt.alloc(), asked.as_slice()).hearer;
-    assert!(rt; service.application.application.executed == 1);
+    let mut client = Asker::new(line(rt.alloc()), 5);
+    let (is_sent, asked) = ask(rt.alloc(), &mut client, 5);
+    check(&rt, is_sent);
+    check(&rt, are_equal(&asked, &CALL));
+    let device = heard(rt.alloc(), &asked);
+    check(&rt, has_executed(&device, 1));
     // the first sum of an adder is what it was asked to add
-    let told = service.server.into_inner().into_inner();
-    assert!(rt; told.as_slice() == CALL.as_slice());
+    let told = told(device);
+    check(&rt, are_equal(&told, &CALL));
     let mut waiting = Checked {
         hearer: Waiting { client, said: None },
     };
-    let mut receiver = Receiver::<16>::new();
     let mut reader = In::new(told.as_slice(), 1, None);
-    let end = listen_until::<(u64, Numbered<u32>), _, _, _>(
-        rt.alloc(),
-        &mut receiver,
-        &mut reader,
-        &mut waiting,
-    );
-    assert!(rt; end.is_none());
-    let said = waiting.hearer.said.take();
-    assert!(rt; matches!(said, Some(Sealed((5, 7)))));
+    let end = wait_for(rt.alloc(), &mut reader, &mut waiting);
+    check(&rt, end.is_none());
+    check(&rt, is_said(waiting.hearer.said.take()));
 }
 
 #[test]
@@ -64,33 +89,27 @@ fn a_changed_call_is_not_executed(rt: HostRuntime) {
         for bit in 0..8u32 {
             let mut changed = CALL;
             changed[place] ^= 1u8 << bit;
-            let service = heard(rt.alloc(), &changed).hearer;
-            assert!(rt; service.application.application.executed == 0);
-            let told = service.server.into_inner().into_inner();
-            assert!(rt; told.is_empty());
+            let device = heard(rt.alloc(), &changed);
+            check(&rt, has_executed(&device, 0));
+            check(&rt, told(device).is_empty());
         }
     }
 }
 
+// By the number 6 outside, and 5 inside.
+const OTHER: [u8; 10] = [0, 8, 6, 5, 7, 0x19, 0x73, 0xCA, 0xA2, 0];
+
 // Of two numbers that are whole the one inside is compared, and a reply by another number isn't taken.
 #[test]
 fn another_number_outside_is_damage(rt: HostRuntime) {
-    let other = [0, 8, 6, 5, 7, 0x19, 0x73, 0xCA, 0xA2, 0];
-    let service = heard(rt.alloc(), &other).hearer;
-    assert!(rt; service.application.application.executed == 0);
-    let mut client = Client::<Line, Numbered<u32>, 16>::new(line(rt.alloc()), 6);
-    assert!(rt; client.call(Sealed((6, 7))).is_ok());
+    check(&rt, has_executed(&heard(rt.alloc(), &OTHER), 0));
+    let mut client = Asker::new(line(rt.alloc()), 6);
+    check(&rt, client.call(Sealed((6, 7))).is_ok());
     let mut waiting = Checked {
         hearer: Waiting { client, said: None },
     };
-    let mut receiver = Receiver::<16>::new();
-    let mut reader = In::new(&other, 16, None);
-    let end = listen_until::<(u64, Numbered<u32>), _, _, _>(
-        rt.alloc(),
-        &mut receiver,
-        &mut reader,
-        &mut waiting,
-    );
-    assert!(rt; end == Some(End::Ended));
-    assert!(rt; waiting.hearer.client.pending() == Some(6));
+    let mut reader = In::new(&OTHER, 16, None);
+    let end = wait_for(rt.alloc(), &mut reader, &mut waiting);
+    check(&rt, is_read(end));
+    check(&rt, is_number(waiting.hearer.client.pending(), 6));
 }

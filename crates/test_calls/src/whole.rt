@@ -2,6 +2,7 @@
 //!
 //! The call 5 of 7 is 00 03 05 07 00 on its line. Its reply, of the first sum, is the same message by another sentinel, as long.
 
+use crate::checks::{check, is_reply};
 use crate::served::Adder;
 use calls_laws::exchange::{Called, Way, call_once, call_once_strict};
 use line_io::memory::{Fault, OwnedOut};
@@ -37,11 +38,21 @@ fn called(
     call_once::<u32, u32, Adder, OwnedOut, 16, 8>(alloc, there, back, Adder::new(), 5, 7, again)
 }
 
+// Whether the reply was heard, and so many calls executed.
+fn is_said(called: &Called<Adder, u32>, executed: u32) -> bool {
+    is_reply(called.said, 7) && called.application.executed == executed
+}
+
+// Whether none was heard, and so many calls executed.
+fn is_unsaid(called: &Called<Adder, u32>, executed: u32) -> bool {
+    called.said.is_none() && called.application.executed == executed
+}
+
 #[test]
 fn a_whole_call(rt: HostRuntime) {
     let all = called(rt.alloc(), [None, None], [None, None], 0);
-    assert!(rt; all.said == Some(7));
-    assert!(rt; all.application.sum == 7 && all.application.executed == 1);
+    check(&rt, is_said(&all, 1));
+    check(&rt, all.application.sum == 7);
 }
 
 #[test]
@@ -49,10 +60,10 @@ fn a_call_that_breaks_off(rt: HostRuntime) {
     for before in 0..5usize {
         // alone it isn't heard: its last zero never goes out
         let alone = called(rt.alloc(), [Some(before), None], [None, None], 0);
-        assert!(rt; alone.said.is_none() && alone.application.executed == 0);
+        check(&rt, is_unsaid(&alone, 0));
         // sent again it is, and once
         let again = called(rt.alloc(), [Some(before), None], [None, None], 1);
-        assert!(rt; again.said == Some(7) && again.application.executed == 1);
+        check(&rt, is_said(&again, 1));
     }
 }
 
@@ -60,21 +71,21 @@ fn a_call_that_breaks_off(rt: HostRuntime) {
 fn a_reply_that_breaks_off(rt: HostRuntime) {
     for before in 0..5usize {
         let alone = called(rt.alloc(), [None, Some(before)], [None, None], 0);
-        assert!(rt; alone.said.is_none() && alone.application.executed == 1);
+        check(&rt, is_unsaid(&alone, 1));
         let again = called(rt.alloc(), [None, Some(before)], [None, None], 1);
-        assert!(rt; again.said == Some(7) && again.application.executed == 1);
+        check(&rt, is_said(&again, 1));
     }
 }
 
 #[test]
 fn a_reading_that_stops(rt: HostRuntime) {
     let server = called(rt.alloc(), [None, None], [Some(4), None], 0);
-    assert!(rt; server.said.is_none() && server.application.executed == 0);
+    check(&rt, is_unsaid(&server, 0));
     let client = called(rt.alloc(), [None, None], [None, Some(4)], 0);
-    assert!(rt; client.said.is_none() && client.application.executed == 1);
+    check(&rt, is_unsaid(&client, 1));
     // a front with the whole reply is enough
     let whole = called(rt.alloc(), [None, None], [Some(5), Some(5)], 2);
-    assert!(rt; whole.said == Some(7) && whole.application.executed == 1);
+    check(&rt, is_said(&whole, 1));
 }
 
 #[test]
@@ -100,5 +111,5 @@ fn a_strict_call(rt: HostRuntime) {
         7,
         3,
     );
-    assert!(rt; all.said == Some(7) && all.application.executed == 1);
+    check(&rt, is_said(&all, 1));
 }

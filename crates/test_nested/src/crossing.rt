@@ -37,7 +37,7 @@ fn send<T: Serialize>(value: &T, line: &mut [u8; 80], sentinel: u8) -> Option<us
 }
 
 /// Whether a value of these bytes is heard alone on a line, read seven bytes at a time.
-fn hears<T: Serialize + DeserializeOwned + Drop>(
+fn hears<T: Serialize + DeserializeOwned>(
     alloc: Global,
     line: &[u8],
     sentinel: u8,
@@ -51,7 +51,7 @@ fn hears<T: Serialize + DeserializeOwned + Drop>(
 }
 
 /// Whether a value is heard as these bytes where it was sent at a sentinel.
-fn crosses_at<T: Serialize + DeserializeOwned + Drop>(
+fn crosses_at<T: Serialize + DeserializeOwned>(
     alloc: Global,
     value: &T,
     bytes: &[u8],
@@ -65,17 +65,27 @@ fn crosses_at<T: Serialize + DeserializeOwned + Drop>(
     }
 }
 
-/// Whether the value of these bytes is written as they are, and crosses a line at each sentinel.
-fn crosses<T: Serialize + DeserializeOwned + Drop>(alloc: Global, bytes: &[u8]) -> bool {
-    let Ok(value) = from_bytes_owned::<T>(alloc, bytes) else {
-        return false;
-    };
+/// Whether a value is written as these bytes, and crosses a line at each sentinel.
+fn crosses_as<T: Serialize + DeserializeOwned>(alloc: Global, value: &T, bytes: &[u8]) -> bool {
     for sentinel in SENTINELS {
-        if !crosses_at(alloc, &value, bytes, sentinel) {
+        if !crosses_at(alloc, value, bytes, sentinel) {
             return false;
         }
     }
-    writes(&value, bytes)
+    writes(value, bytes)
+}
+
+/// The value of these bytes, if it is written as they are, and crosses a line at each sentinel.
+fn crossed<T: Serialize + DeserializeOwned>(alloc: Global, bytes: &[u8]) -> Option<T> {
+    match from_bytes_owned::<T>(alloc, bytes) {
+        Ok(value) if crosses_as(alloc, &value, bytes) => Some(value),
+        _ => None,
+    }
+}
+
+/// Whether the value of these bytes crosses.
+fn crosses<T: Serialize + DeserializeOwned>(alloc: Global, bytes: &[u8]) -> bool {
+    crossed::<T>(alloc, bytes).is_some()
 }
 
 const TEXT: &[u8] = &[2, 72, 105, 7];
@@ -93,7 +103,6 @@ fn growing(rt: HostRuntime) {
     let alloc = rt.alloc();
     check(&rt, crosses::<Text>(alloc, TEXT));
     check(&rt, crosses::<Outer>(alloc, OUTER));
-    check(&rt, crosses::<Third>(alloc, THIRD));
     check(&rt, crosses::<Lists>(alloc, LISTS));
 }
 
@@ -108,7 +117,6 @@ fn plain(rt: HostRuntime) {
     let alloc = rt.alloc();
     check(&rt, crosses::<Point>(alloc, &[255, 1]));
     check(&rt, crosses::<Triangle>(alloc, TRIANGLE));
-    check(&rt, crosses::<Widths>(alloc, WIDTHS));
 }
 
 const PAIR: &[u8] = &[2, 72, 105, 7, 0];
@@ -162,7 +170,7 @@ fn variants(rt: HostRuntime) {
 }
 
 /// Whether what lies in a frame is lent as these bytes.
-fn is_lent<'a, T: Serialize + Deserialize<&'a [u8]> + Drop>(
+fn is_lent<'a, T: Serialize + Deserialize<&'a [u8]>>(
     alloc: Global,
     frame: &'a mut [u8],
     sentinel: u8,
@@ -174,12 +182,8 @@ fn is_lent<'a, T: Serialize + Deserialize<&'a [u8]> + Drop>(
     }
 }
 
-const LENT: &[u8] = &[2, 72, 105, 2, 0, 10];
-
-const BORROWER: &[u8] = &[2, 72, 105, 2, 0, 10, 1, 0, 0, 2, 72, 105, 7];
-
 /// Whether the value of these bytes is sent at a sentinel.
-fn is_sent<'a, T: Serialize + Deserialize<&'a [u8]> + Drop>(
+fn is_sent<'a, T: Serialize + Deserialize<&'a [u8]>>(
     alloc: Global,
     bytes: &'a [u8],
     line: &mut [u8; 80],
@@ -191,18 +195,30 @@ fn is_sent<'a, T: Serialize + Deserialize<&'a [u8]> + Drop>(
     }
 }
 
+/// Whether the value of these bytes crosses over this line, and lies there then.
+fn crosses_over<'a, T: Serialize + Deserialize<&'a [u8]>>(
+    alloc: Global,
+    bytes: &'a [u8],
+    line: &'a mut [u8; 80],
+    sentinel: u8,
+) -> bool {
+    is_sent::<T>(alloc, bytes, line, sentinel) && is_lent::<T>(alloc, line, sentinel, bytes)
+}
+
+const LENT: &[u8] = &[2, 72, 105, 2, 0, 10];
+
+const BORROWER: &[u8] = &[2, 72, 105, 2, 0, 10, 1, 0, 0, 2, 72, 105, 7];
+
 /// Whether what is lent crosses at a sentinel.
 fn lent_crosses(alloc: Global, sentinel: u8) -> bool {
     let mut line = [0u8; 80];
-    is_sent::<Lent<'_>>(alloc, LENT, &mut line, sentinel)
-        && is_lent::<Lent<'_>>(alloc, &mut line, sentinel, LENT)
+    crosses_over::<Lent<'_>>(alloc, LENT, &mut line, sentinel)
 }
 
 /// Whether what holds it does.
 fn borrower_crosses(alloc: Global, sentinel: u8) -> bool {
     let mut line = [0u8; 80];
-    is_sent::<Borrower<'_>>(alloc, BORROWER, &mut line, sentinel)
-        && is_lent::<Borrower<'_>>(alloc, &mut line, sentinel, BORROWER)
+    crosses_over::<Borrower<'_>>(alloc, BORROWER, &mut line, sentinel)
 }
 
 #[test]
@@ -232,12 +248,26 @@ const THE_WIDTHS: Widths = Widths {
     long: LE(1),
 };
 
+/// Whether the third crosses, and is what its bytes say.
+fn third_crosses(alloc: Global) -> bool {
+    match crossed::<Third>(alloc, THIRD) {
+        Some(third) => is_the_third(&third),
+        None => false,
+    }
+}
+
+/// Whether the widths cross, and are what their bytes say.
+fn widths_cross(alloc: Global) -> bool {
+    match crossed::<Widths>(alloc, WIDTHS) {
+        Some(widths) => widths == THE_WIDTHS,
+        None => false,
+    }
+}
+
 #[test]
 fn contents(rt: HostRuntime) {
-    let third = from_bytes_owned::<Third>(rt.alloc(), THIRD);
-    let widths = from_bytes_owned::<Widths>(rt.alloc(), WIDTHS);
-    check(&rt, matches!(&third, Ok(it) if is_the_third(it)));
-    check(&rt, widths == Ok(THE_WIDTHS));
+    check(&rt, third_crosses(rt.alloc()));
+    check(&rt, widths_cross(rt.alloc()));
 }
 
 #[test]

@@ -1,10 +1,10 @@
 //! Each call once, tables that are bad, and counts without elements.
-use crate::checks::{check, check_row};
+use crate::checks::{are_equal, check, check_row, is_end};
 use crate::saying::{say_read, say_refused};
 use crate::table::{CHAIN, ENUM, ITSELF, LIST, NESTED, NEVER, NOWHERE, OPTION, TEXT, U64, table};
 use postcard_de::Deserializer;
 use postcard_de::de_flavors::io::IOReader;
-use postcard_tree::{Error, Result};
+use postcard_tree::Result;
 use schemas::{Node, Value, from_bytes, read_value, take_from_bytes};
 use std::alloc::{AllocError, Global};
 use std::process::Abort;
@@ -37,7 +37,7 @@ fn the_rest_is_handed_back(rt: HostRuntime) {
     let alloc = rt.alloc();
     let nodes = table(alloc).expect(&rt, "a table");
     let is_right = match take_from_bytes(alloc, &nodes, OPTION, 2, &[1, 0xEF, 0xC8, 7]) {
-        Ok((_, rest)) => rest == [0xC8, 7].as_slice(),
+        Ok((_, rest)) => are_equal(rest, &[0xC8, 7]),
         Err(_) => false,
     };
     check(&rt, is_right);
@@ -110,14 +110,6 @@ fn places_without_a_node(rt: HostRuntime) {
 
 // As many as can be counted, and none of them.
 const MOST: [u8; 10] = [0xFF, 0xFF, 0xFF, 0xFF, 0xFF, 0xFF, 0xFF, 0xFF, 0xFF, 1];
-
-// Whether an answer is that the bytes ended.
-fn is_end(answer: Result<Value>) -> bool {
-    match answer {
-        Ok(_) => false,
-        Err(cause) => cause == Error::DeserializeUnexpectedEnd,
-    }
-}
 
 // Room for so many is never found: an answer other than the end would show that it was asked for.
 #[test]

@@ -1,8 +1,7 @@
 //! Out of memory: in a run in which a growth is refused, each call answers so or gives its whole answer.
-use crate::checks::check;
+use crate::checks::{are_equal, check, is_out_of_memory};
 use crate::table::{DEPTH, NESTED, TEXT, table};
 use postcard::{to_slice, to_stdvec};
-use postcard_tree::Error;
 use schemas::{Node, Value, take_from_bytes};
 use std::alloc::Global;
 
@@ -15,15 +14,15 @@ const BYTES: [u8; 12] = [
 fn is_spelled(value: &Value, bytes: &[u8]) -> bool {
     let mut room = [0u8; 16];
     match to_slice(value, &mut room) {
-        Ok(written) => *written == *bytes,
+        Ok(written) => are_equal(written, bytes),
         Err(_) => false,
     }
 }
 
 fn is_written_or_wants(alloc: Global, value: &Value, bytes: &[u8]) -> bool {
     match to_stdvec(alloc, value) {
-        Ok(written) => written.as_slice() == bytes,
-        Err(cause) => cause == Error::OutOfMemory,
+        Ok(written) => are_equal(&written, bytes),
+        Err(cause) => is_out_of_memory(cause),
     }
 }
 
@@ -34,7 +33,7 @@ fn is_whole_or_wants(alloc: Global, nodes: &[Node], place: usize, bytes: &[u8]) 
                 && is_spelled(&value, bytes)
                 && is_written_or_wants(alloc, &value, bytes)
         }
-        Err(cause) => cause == Error::OutOfMemory,
+        Err(cause) => is_out_of_memory(cause),
     }
 }
 

@@ -1,5 +1,5 @@
 //! Lines of the vectors: what is read, what is written again, and what is refused.
-use crate::checks::check_row;
+use crate::checks::{are_equal, check_row};
 use crate::saying::{say_read, say_refused};
 use crate::table::{
     ARRAY, BE_I64, BE_U16, BOOL, BYTES, CHAR, DEPTH, ENUM, I8, I16, I32, I64, I128, LE_I32, LE_U16,
@@ -22,11 +22,8 @@ fn answer(alloc: Global, nodes: &[Node], place: usize, digits: &str) -> Result<S
     }
 }
 
-fn is_answered(alloc: Global, place: usize, digits: &str, wanted: &str) -> bool {
-    let Ok(nodes) = table(alloc) else {
-        return false;
-    };
-    match answer(alloc, &nodes, place, digits) {
+fn is_answered(alloc: Global, nodes: &[Node], place: usize, digits: &str, wanted: &str) -> bool {
+    match answer(alloc, nodes, place, digits) {
         Ok(line) => line.as_str() == wanted,
         Err(_) => false,
     }
@@ -34,22 +31,21 @@ fn is_answered(alloc: Global, place: usize, digits: &str, wanted: &str) -> bool 
 
 fn is_written_as(alloc: Global, value: &Value, wanted: &[u8]) -> bool {
     match to_stdvec(alloc, value) {
-        Ok(written) => written.as_slice() == wanted,
+        Ok(written) => are_equal(&written, wanted),
         Err(_) => false,
     }
 }
 
 // Whether what these bytes are read as is written as those.
-fn is_written_again(alloc: Global, place: usize, digits: &str, wanted: &str) -> bool {
-    let (Ok(nodes), Ok(bytes), Ok(wanted)) = (
-        table(alloc),
-        hex::decode(alloc, digits),
-        hex::decode(alloc, wanted),
-    ) else {
-        return false;
-    };
-    match take_from_bytes(alloc, &nodes, place, DEPTH, &bytes) {
-        Ok((value, _)) => is_written_as(alloc, &value, &wanted),
+fn is_written_again(
+    alloc: Global,
+    nodes: &[Node],
+    place: usize,
+    bytes: &[u8],
+    wanted: &[u8],
+) -> bool {
+    match take_from_bytes(alloc, nodes, place, DEPTH, bytes) {
+        Ok((value, _)) => is_written_as(alloc, &value, wanted),
         Err(_) => false,
     }
 }
@@ -58,14 +54,26 @@ fn is_written_again(alloc: Global, place: usize, digits: &str, wanted: &str) -> 
 type Row = (usize, &'static str, &'static str);
 
 fn check_answers(rt: &impl Abort, alloc: Global, rows: &[Row]) {
+    let nodes = table(alloc).expect(rt, "a table");
     for (place, digits, wanted) in rows {
-        check_row(rt, digits, is_answered(alloc, *place, digits, wanted));
+        check_row(
+            rt,
+            digits,
+            is_answered(alloc, &nodes, *place, digits, wanted),
+        );
     }
 }
 
 fn check_written(rt: &impl Abort, alloc: Global, rows: &[Row]) {
+    let nodes = table(alloc).expect(rt, "a table");
     for (place, digits, wanted) in rows {
-        check_row(rt, digits, is_written_again(alloc, *place, digits, wanted));
+        let bytes = hex::decode(alloc, digits).expect(rt, "bytes");
+        let wanted = hex::decode(alloc, wanted).expect(rt, "bytes");
+        check_row(
+            rt,
+            digits,
+            is_written_again(alloc, &nodes, *place, &bytes, &wanted),
+        );
     }
 }
 

@@ -175,13 +175,18 @@ fn add_bounded(nodes: &mut Vec<Node>) -> Result<(), AllocError> {
     Ok(())
 }
 
+// The types behind those of no parts.
+fn add_others(alloc: Global, nodes: &mut Vec<Node>) -> Result<(), AllocError> {
+    add_simple(alloc, nodes)?;
+    add_messages(alloc, nodes)?;
+    add_nested(alloc, nodes)?;
+    add_bad_types(alloc, nodes)?;
+    add_bounded(nodes)
+}
+
 /// The table.
 pub(crate) fn table(alloc: Global) -> Result<Vec<Node>, AllocError> {
     let mut nodes = leaves(alloc)?;
-    add_simple(alloc, &mut nodes)?;
-    add_messages(alloc, &mut nodes)?;
-    add_nested(alloc, &mut nodes)?;
-    add_bad_types(alloc, &mut nodes)?;
-    add_bounded(&mut nodes)?;
+    add_others(alloc, &mut nodes)?;
     Ok(nodes)
 }

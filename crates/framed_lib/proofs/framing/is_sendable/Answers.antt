@@ -10,4 +10,4 @@ returns-then-line-ge-LIMIT c = (refused, inr (long-unframed c.lengths.ensures.wi
 pub returns-in-Ok : goal.returns-in-Ok
 returns-in-Ok c =
     let text = c.in-Ok.ensures.cases in
-    (completed (text_of c.args.line.now), (refl, (text.1, short-framed c.lengths.ensures.within c.args.line.now (omega arith))), refl)
+    (completed (text_of c.args.line.now), (refl, text.1, short-framed c.lengths.ensures.within c.args.line.now (omega arith)), refl)

@@ -1,7 +1,8 @@
 use Rattle.std.proofs.Common.{◌≡◌, ◌≤◌, ◌+◌, List, [], length}
 use Rattle.link.specs.Run.{Send}
 use Rattle.framed_lib.specs.Output.{Puts}
-use Rattle.framed_lib.specs.Sending.{refusals, all_sent, Sent}
+use Rattle.std.specs.List.{list_all}
+use Rattle.framed_lib.specs.Sending.{refusals, is_whole, Sent}
 use Rattle.framed_lib.proofs.refusals.judge_lines.Given as goal
 
 -- what came of the lines that were read, each of which is a byte at least
@@ -9,7 +10,7 @@ abbrev pub invariant-loop-line : goal.invariant-loop-line
 invariant-loop-line g l =
     (done : List Send) × Sent l.text l.rest done
     × Puts g.E.Outlet.written g.E.Outlet.faults l.fn.faults l.faults [] l.held.items (refusals 1 done)
-    × (l.lines ≡ length done) × (l.good ≡ all_sent done) × (length done + length l.rest ≤ length l.text)
+    × (l.lines ≡ length done) × (l.good ≡ list_all is_whole done) × (length done + length l.rest ≤ length l.text)
 
 abbrev pub decreases-loop-line : goal.decreases-loop-line
 decreases-loop-line g l = length l.rest

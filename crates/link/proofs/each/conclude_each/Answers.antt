@@ -1,7 +1,7 @@
 use Rattle.std.proofs.Common.{[], ◌∷◌, ◌++◌, Ok, refl, sym, ◌∙◌, subst}
 use Rattle.std.proofs.lemmas.List.{append-nil}
 use Rattle.link.specs.Stream.{begun}
-use Rattle.link.specs.Listening.{KeepsAnswer, HasGiven, Stopped}
+use Rattle.link.specs.Listening.{KeepsAnswer, Stopped}
 use Rattle.link.proofs.EndingLemmas.{ended_by}
 use Rattle.link.proofs.HandingLemmas.{handed_none, handed_one, handed_paused}
 use Rattle.link.proofs.each.conclude_each.Goals as goal

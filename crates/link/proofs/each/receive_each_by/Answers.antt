@@ -1,4 +1,4 @@
-use Rattle.std.proofs.Common.{◌≡◌, Some, [], refl, ap, ◌∙◌}
+use Rattle.std.proofs.Common.{◌≡◌, Some, [], refl}
 use Rattle.link.proofs.EndingLemmas.{none_given}
 use Rattle.link.proofs.PrefixesLemmas.{received}
 use Rattle.link.proofs.HandingLemmas.{handed_as, handed_next, stands_by}

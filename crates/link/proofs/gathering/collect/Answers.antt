@@ -1,9 +1,7 @@
-use Rattle.std.proofs.Common.{[], ◌++◌, take, refl, sym, ◌∙◌, ap, subst, arith, Some}
-use Rattle.std.proofs.lemmas.List.{append-nil}
+use Rattle.std.proofs.Common.{[], ◌++◌, take, refl, sym, ◌∙◌}
 use Rattle.line_io.specs.Calls.{Gave-then}
-use Rattle.postcard.specs.Gathers.{held_of, sentinel_of}
-use Rattle.link.specs.Gathering.{GathersOnLine}
-use Rattle.link.proofs.HearingLemmas.{on_ok, on_err, gave_none, read_failed, read_quiet, nothing_taken}
+use Rattle.postcard.specs.Gathers.{sentinel_of}
+use Rattle.link.proofs.HearingLemmas.{on_ok, on_err, gave_none, read_quiet}
 use Rattle.link.proofs.HandingLemmas.{uses_none, uses_then, uses_read, uses_last, taken_some}
 use Rattle.link.proofs.FetchingLemmas.{gathers_no_bytes, gathers_more}
 use Rattle.link.proofs.gathering.collect.Goals as goal

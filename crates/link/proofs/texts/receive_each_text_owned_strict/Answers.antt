@@ -1,4 +1,4 @@
-use Rattle.link.proofs.HandingLemmas.{had_memory, handed_first}
+use Rattle.link.proofs.HandingLemmas.{handed_first}
 use Rattle.link.proofs.texts.receive_each_text_owned_strict.Goals as goal
 
 pub returns-clause-received : goal.returns-clause-received

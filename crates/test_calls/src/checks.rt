@@ -1,0 +1,56 @@
+//! What ends a test, and what the tests compare: a call is cheaper to prove than the comparison itself.
+use calls::Served;
+use link::{End, SendError};
+use std::process::Abort;
+
+/// Ends a test that isn't right.
+pub fn check(rt: &impl Abort, is_right: bool) {
+    assert!(rt; is_right);
+}
+
+/// Whether these bytes are those.
+pub fn are_equal(found: &[u8], wanted: &[u8]) -> bool {
+    *found == *wanted
+}
+
+/// Whether it is this number of a call.
+pub fn is_number(found: Option<u64>, wanted: u64) -> bool {
+    match found {
+        Some(found) => found == wanted,
+        None => false,
+    }
+}
+
+/// Whether it is this reply.
+pub fn is_reply(found: Option<u32>, wanted: u32) -> bool {
+    match found {
+        Some(found) => found == wanted,
+        None => false,
+    }
+}
+
+/// Whether the reader told its end.
+pub fn is_end(end: End) -> bool {
+    matches!(end, End::Ended)
+}
+
+/// Whether the reader told its end before a reply was heard.
+pub fn is_read(end: Option<End>) -> bool {
+    matches!(end, Some(End::Ended))
+}
+
+/// What a server did, as a letter: executed E, again A, passed over P; e where the line failed at the first reply, and else ?.
+pub fn letter(served: Served) -> char {
+    match served {
+        Served::Executed(sent) => match sent {
+            Ok(()) => 'E',
+            Err(SendError::Line) => 'e',
+            Err(_) => '?',
+        },
+        Served::Again(sent) => match sent {
+            Ok(()) => 'A',
+            Err(_) => '?',
+        },
+        Served::Passed => 'P',
+    }
+}
