@@ -1,6 +1,7 @@
 use Rattle.std.proofs.Common.{◌≡◌, ◌-◌, ◌++◌, ℕ, length, take, drop, get_or, length-drop, refl, sym, ◌∙◌, ap, arith}
 use Rattle.std.proofs.lemmas.List.{take_all}
 use Rattle.std.specs.Prelude.{bit_xor}
+use Rattle.std.proofs.lemmas.Grind.{common_steps}
 use Rattle.cobs.specs.Sentinel.{masked}
 use Rattle.cobs.specs.declared.dec.state.DecoderState.TheVariants.{GrabChain}
 use Rattle.cobs.proofs.MaskingLemmas.{masked_length}
@@ -27,3 +28,6 @@ returns-then-code-clause-stands c = (full (goal.at.returns-then-code-clause-stan
 
 pub returns-then-code-clause-dest : goal.returns-then-code-clause-dest
 returns-then-code-clause-dest c = (full (goal.at.returns-then-code-clause-dest c).After-copy_at_once _ refl).holds
+
+pub decode_at_once-state-requires-clause-nonzero : goal.decode_at_once-state-requires-clause-nonzero
+decode_at_once-state-requires-clause-nonzero c = grind (arith, common_steps)
