@@ -14,3 +14,15 @@ returns-then-is_err-clause-memory g c h =
       same ∙ i.are,
       (Gave-then _ _ _ _ _ _ _ _ i.gave c.in-Some.ensures.bytes, quiet ∙ (let e = i.quiet in omega arith)),
     )
+
+pub returns-in-None-clause-ended : goal.returns-in-None-clause-ended
+returns-in-None-clause-ended g c = grind (arith, common_steps)
+
+pub returns-in-None-clause-failed : goal.returns-in-None-clause-failed
+returns-in-None-clause-failed g c = grind (arith, common_steps)
+
+pub returns-in-None-clause-few : goal.returns-in-None-clause-few
+returns-in-None-clause-few g c = grind (arith, common_steps)
+
+pub returns-then-is_err-clause-few : goal.returns-then-is_err-clause-few
+returns-then-is_err-clause-few g c = grind (arith, common_steps)

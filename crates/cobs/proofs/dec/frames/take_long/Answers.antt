@@ -1,5 +1,6 @@
 use Rattle.std.proofs.Common.{◌≡◌, ◌≢◌, ◌+◌, ◌-◌, ◌<◌, ℕ, List, length, take, drop, get_or, arith, sym, ap, ◌∙◌, subst, length-drop}
 use Rattle.std.proofs.lemmas.List.{take_all, length-take-le, get_or-drop}
+use Rattle.std.proofs.lemmas.Grind.{common_steps}
 use Rattle.cobs.specs.Frames.{NoZero}
 use Rattle.cobs.specs.Sentinel.{masked}
 use Rattle.cobs.specs.Taking.{TakesFront}
@@ -69,3 +70,9 @@ loop-read-preserved c =
       entering_byte (masked s frame) c.args.dest.now c.take_clear-taken.new.buffer read c.take_clear-taken.new.self (here e (omega (arith, c.if-taken-gt0.false)))
           c.take_in-in-loop-read.new.self c.take_in-in-loop-read.new.buffer _ (omega (arith, masked_length s frame, c.loop-read-test.true)) (masked_get s frame read c.loop-read-test.true) (entering_positive s frame read c.requires.clear c.loop-read-test.true) c.take_in-in-loop-read.ensures.stands c.take_in-in-loop-read.ensures.buffer,
     )
+
+pub returns-clause-stands : goal.returns-clause-stands
+returns-clause-stands c = grind (arith, common_steps)
+
+pub returns-clause-dest : goal.returns-clause-dest
+returns-clause-dest c = grind (arith, common_steps)

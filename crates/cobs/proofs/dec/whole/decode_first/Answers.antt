@@ -1,5 +1,6 @@
 use Rattle.std.proofs.Common.{◌≡◌, ◌≤◌, List, ℕ, length, sym, ◌∙◌, ap, arith, subst}
 use Rattle.std.proofs.lemmas.List.{length-take-le}
+use Rattle.std.proofs.lemmas.Grind.{common_steps}
 use Rattle.cobs.specs.Feeding.{at_zero}
 use Rattle.cobs.specs.Frames.{NoZero, part}
 use Rattle.cobs.specs.InPlace.{stretch, overwritten}
@@ -65,3 +66,9 @@ returns-in-Err-clause-answer c =
 
 pub returns-in-Err-clause-dest : goal.returns-in-Err-clause-dest
 returns-in-Err-clause-dest c = over (goal.at.returns-in-Err-clause-dest c).After-decode_whole
+
+pub returns-then-is_empty-clause-answer : goal.returns-then-is_empty-clause-answer
+returns-then-is_empty-clause-answer c = grind (arith, common_steps)
+
+pub returns-then-is_empty-clause-dest : goal.returns-then-is_empty-clause-dest
+returns-then-is_empty-clause-dest c = grind (arith, common_steps)
