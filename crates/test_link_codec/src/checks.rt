@@ -14,6 +14,19 @@ pub fn check(rt: &impl Abort, is_right: bool) {
     assert!(rt; is_right);
 }
 
+/// Whether these bytes are those.
+pub fn are_equal(found: &[u8], wanted: &[u8]) -> bool {
+    *found == *wanted
+}
+
+/// Whether the first bytes, so many, are these.
+pub fn is_front(bytes: &[u8], count: usize, wanted: &[u8]) -> bool {
+    match bytes.get(..count) {
+        Some(front) => are_equal(front, wanted),
+        None => false,
+    }
+}
+
 /// One poll.
 pub fn next<S: Stream>(task: &MockTask, items: &mut S) -> Poll<Option<S::Item>>
     requires { S.can_poll items.old }
@@ -97,6 +110,6 @@ impl Heard {
 
     /// Whether these are the letters.
     pub fn is(&self, wanted: &[u8]) -> bool {
-        self.letters.get(..self.count) == Some(wanted)
+        is_front(&self.letters, self.count, wanted)
     }
 }

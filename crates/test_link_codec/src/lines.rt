@@ -1,6 +1,7 @@
 //! A reader and a writer over memory.
 ghost use Rattle.std.specs.Prelude.{⊤};
 
+use crate::checks::is_front;
 use futures::task::{Context, Poll};
 use std::io;
 use tokio::io::{AsyncRead, AsyncWrite};
@@ -138,7 +139,7 @@ impl Paper {
 
     /// Whether it was given these bytes.
     pub fn shows(&self, wanted: &[u8]) -> bool {
-        self.bytes.get(..self.count) == Some(wanted)
+        is_front(&self.bytes, self.count, wanted)
     }
 
     fn put(&mut self, byte: u8) {

@@ -24,9 +24,9 @@ const MARKED: [u8; 25] = [
 
 type Short = LinkDecoder<String, 4>;
 
-/// What is heard up to the second end, with a + where a poll that waits leaves bytes in the buffer; nothing where no memory was found
-/// for the reader.
-pub fn hear<R, D>(rt: &R, line: Line, decoder: D) -> Heard
+// What is heard up to the second end, with a + where a poll that waits leaves bytes in the buffer; nothing where no memory was found
+// for the reader.
+fn hear<R, D>(rt: &R, line: Line, decoder: D) -> Heard
 where
     R: RandomSource + AllocGlobal,
     D: Decoder<Item = Answer<String>, Error = DecodeError> + Drop,
@@ -51,14 +51,28 @@ where
     heard
 }
 
+/// What is heard with a limit of four bytes.
+pub fn hear_short<R: RandomSource + AllocGlobal>(rt: &R, line: Line) -> Heard {
+    hear(rt, line, Short::new())
+}
+
+/// What is heard strictly, under a limit that is a value; nothing where no memory was found for the decoder.
+pub fn hear_strictly<R: RandomSource + AllocGlobal>(
+    rt: &R,
+    line: Line,
+    limit: usize,
+    sentinel: u8,
+) -> Option<Heard> {
+    match StrictOwnedLinkDecoder::new(rt.alloc(), limit, sentinel) {
+        Ok(decoder) => Some(hear(rt, line, decoder)),
+        Err(_) => None,
+    }
+}
+
 #[test]
 fn in_pieces(rt: HostRuntime) {
     for seed in 0..24u8 {
-        let heard = hear(
-            &rt,
-            Line::new(&LINE, Pieces::up_to(seed, seed)),
-            Short::new(),
-        );
+        let heard = hear_short(&rt, Line::new(&LINE, Pieces::up_to(seed, seed)));
         check(&rt, heard.is(b"ac?>b-..") && heard.waits == 0);
     }
 }
@@ -82,7 +96,7 @@ fn behind(calls: usize) -> &'static [u8] {
 fn byte_by_byte_and_on_behind_a_fault(rt: HostRuntime) {
     for calls in 0..28 {
         let pieces = Pieces::of_one().waiting().failing_behind(calls);
-        let heard = hear(&rt, Line::new(&LINE, pieces), Short::new());
+        let heard = hear_short(&rt, Line::new(&LINE, pieces));
         // one before each byte, one before the end, and one before the fault or the second end
         check(&rt, heard.is(behind(calls)) && heard.waits == 27);
     }
@@ -95,9 +109,10 @@ fn is_strictly<R: RandomSource + AllocGlobal>(
     seed: u8,
     wanted: &[u8],
 ) -> bool {
-    match StrictOwnedLinkDecoder::new(rt.alloc(), limit, 0x0A) {
-        Ok(decoder) => hear(rt, Line::new(&MARKED, Pieces::up_to(seed, seed)), decoder).is(wanted),
-        Err(_) => false,
+    let line = Line::new(&MARKED, Pieces::up_to(seed, seed));
+    match hear_strictly(rt, line, limit, 0x0A) {
+        Some(heard) => heard.is(wanted),
+        None => false,
     }
 }
 

@@ -4,10 +4,10 @@
 //! Each of these tests also passes where the first growth is refused, or the second, and so on. In the gate none is refused.
 use crate::checks::{Heard, check};
 use crate::lines::{Line, Pieces};
-use crate::reading::hear;
+use crate::reading::{hear_short, hear_strictly};
 use crate::writing::Letters;
 use bytes::BytesMut;
-use link_codec::{EncodeError, LinkDecoder, StrictOwnedLinkDecoder};
+use link_codec::EncodeError;
 use std::alloc::Global;
 use tokio_util::codec::Encoder;
 
@@ -37,16 +37,10 @@ fn pieces(most: u8) -> Pieces {
 fn said_by_readers(rt: HostRuntime) {
     for most in [1, 4, 11] {
         let line = Line::new(&LINE, pieces(most));
-        check(
-            &rt,
-            is_one(&hear(&rt, line, LinkDecoder::<String, 4>::new())),
-        );
+        check(&rt, is_one(&hear_short(&rt, line)));
     }
-    if let Ok(decoder) = StrictOwnedLinkDecoder::new(rt.alloc(), 4, 0) {
-        check(
-            &rt,
-            is_one(&hear(&rt, Line::new(&LINE, pieces(4)), decoder)),
-        );
+    if let Some(heard) = hear_strictly(&rt, Line::new(&LINE, pieces(4)), 4, 0) {
+        check(&rt, is_one(&heard));
     }
 }
 

@@ -1,5 +1,5 @@
 //! Framed writers: what they write, in pieces of any length, behind a fault, and of values that are refused.
-use crate::checks::check;
+use crate::checks::{are_equal, check};
 use crate::lines::{Paper, Pieces};
 use bytes::BytesMut;
 use futures::Sink;
@@ -104,7 +104,7 @@ fn leaves_nothing(encoder: &mut Letters, line: &mut BytesMut, wanted: &[u8]) -> 
         && encoder.encode("a", line).is_ok()
         && refuses(encoder, line, true)
         && encoder.encode(&"b", line).is_ok()
-        && line.as_slice() == wanted
+        && are_equal(line.as_slice(), wanted)
 }
 
 #[test]

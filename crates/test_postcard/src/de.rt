@@ -375,25 +375,23 @@ fn reads_parts<F: Flavor>(d: &mut Deserializer<F>) -> bool {
     }
 }
 
-// How many parts are foretold, where parts are answered at all.
-fn foretold<F: Flavor>(parts: Result<SeqAccess<'_, F>>) -> Option<Option<usize>> {
+// Whether parts are answered, and so many foretold.
+fn foretells<F: Flavor>(parts: Result<SeqAccess<'_, F>>, count: Option<usize>) -> bool {
     match parts {
-        Ok(parts) => Some(parts.size_hint()),
-        Err(_) => None,
+        Ok(parts) => parts.size_hint() == count,
+        Err(_) => false,
     }
 }
 
 // Whether counts are foretold that the bytes have room for, and no others.
 fn foretells_counts<F: Flavor>(d: &mut Deserializer<F>) -> bool {
-    let counts = [
-        foretold(d.deserialize_tuple(1)),
-        foretold(d.deserialize_tuple_struct(9)),
-        foretold(d.deserialize_struct(1)),
-        foretold(d.tuple_variant(1)),
-        foretold(d.struct_variant(1)),
-    ];
-    let one = Some(Some(1));
-    counts == [one, Some(None), one, one, one]
+    all_true([
+        foretells(d.deserialize_tuple(1), Some(1)),
+        foretells(d.deserialize_tuple_struct(9), None),
+        foretells(d.deserialize_struct(1), Some(1)),
+        foretells(d.tuple_variant(1), Some(1)),
+        foretells(d.struct_variant(1), Some(1)),
+    ])
 }
 
 #[test]

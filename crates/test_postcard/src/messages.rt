@@ -81,17 +81,19 @@ fn structs(rt: HostRuntime) {
 /// A variant without a payload is its index; an index of none is refused.
 #[test]
 fn variants_without_payload(rt: HostRuntime) {
-    check_all(
+    for (value, index) in [
+        (BasicEnum::Bib, 0),
+        (BasicEnum::Bim, 1),
+        (BasicEnum::Bap, 2),
+    ] {
+        check(&rt, is_spelled(rt.alloc(), &value, &[index]));
+    }
+    check(
         &rt,
-        [
-            is_spelled(rt.alloc(), &BasicEnum::Bib, &[0]),
-            is_spelled(rt.alloc(), &BasicEnum::Bim, &[1]),
-            is_spelled(rt.alloc(), &BasicEnum::Bap, &[2]),
-            fails(
-                from_bytes::<BasicEnum>(rt.alloc(), &[3]),
-                Error::SerdeDeCustom,
-            ),
-        ],
+        fails(
+            from_bytes::<BasicEnum>(rt.alloc(), &[3]),
+            Error::SerdeDeCustom,
+        ),
     );
 }
 

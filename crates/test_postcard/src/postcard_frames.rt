@@ -28,13 +28,13 @@ fn long_values_and_exact_room(rt: HostRuntime) {
 
 // Whether an accumulator answered so, in short: C, O, D or S, how many bytes are left, and the value.
 pub(crate) fn tells(answer: FeedResult<'_, u8>, wanted: (char, usize, u8)) -> bool {
-    let told = match answer {
+    let (letter, left, value) = match answer {
         FeedResult::Consumed => ('C', 0, 0),
         FeedResult::OverFull(rest) => ('O', rest.len(), 0),
         FeedResult::DeserError(rest) => ('D', rest.len(), 0),
         FeedResult::Success { value, remaining } => ('S', remaining.len(), value),
     };
-    told == wanted
+    letter == wanted.0 && left == wanted.1 && value == wanted.2
 }
 
 #[test]

@@ -116,34 +116,28 @@ fn flavors(rt: HostRuntime) {
 // 19 times 2^58 bytes at most.
 type Long = [u128; 288230376151711744];
 
-const GREATEST_SIZES: [Option<usize>; 10] = [
-    Some(5),
-    Some(4),
-    Some(6),
-    Some(6),
-    Some(3),
-    Some(5),
-    Some(15),
-    Some(5),
-    Some(16429131440647569408),
-    None,
-];
+// Whether this is the greatest size of a type.
+fn is_greatest<T: MaxSize>(size: Option<usize>) -> bool {
+    T::postcard_max_size() == size
+}
 
 #[test]
 fn greatest_sizes(rt: HostRuntime) {
-    let sizes = [
-        <(u16, Option<u8>)>::postcard_max_size(),
-        Result::<u16, u8>::postcard_max_size(),
-        Range::<u16>::postcard_max_size(),
-        RangeInclusive::<u16>::postcard_max_size(),
-        RangeTo::<NonZeroU16>::postcard_max_size(),
-        Box::<Rc<Wrapping<char>>>::postcard_max_size(),
-        <(Duration, PhantomData<u8>)>::postcard_max_size(),
-        ArrayString::<4>::postcard_max_size(),
-        <(&Long, &Long, &Long)>::postcard_max_size(),
-        <(&Long, &Long, &Long, &Long)>::postcard_max_size(),
-    ];
-    check(&rt, sizes == GREATEST_SIZES);
+    check_all(
+        &rt,
+        [
+            is_greatest::<(u16, Option<u8>)>(Some(5)),
+            is_greatest::<Result<u16, u8>>(Some(4)),
+            is_greatest::<Range<u16>>(Some(6)),
+            is_greatest::<RangeInclusive<u16>>(Some(6)),
+            is_greatest::<RangeTo<NonZeroU16>>(Some(3)),
+            is_greatest::<Box<Rc<Wrapping<char>>>>(Some(5)),
+            is_greatest::<(Duration, PhantomData<u8>)>(Some(15)),
+            is_greatest::<ArrayString<4>>(Some(5)),
+            is_greatest::<(&Long, &Long, &Long)>(Some(16429131440647569408)),
+            is_greatest::<(&Long, &Long, &Long, &Long)>(None),
+        ],
+    );
 }
 
 // Whether a value of a type with this greatest size takes it, and fits a vector of it.
