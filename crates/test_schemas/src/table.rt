@@ -78,14 +78,18 @@ pub(crate) const SHORT_LIST: usize = 44;
 /// `ArrayString<3>`
 pub(crate) const SHORT_TEXT: usize = 45;
 
+fn add(nodes: &mut Vec<Node>, node: Node) -> Result<(), AllocError> {
+    nodes.push(node)?;
+    Ok(())
+}
+
 fn add_struct<const N: usize>(
     alloc: Global,
     nodes: &mut Vec<Node>,
     fields: [usize; N],
 ) -> Result<(), AllocError> {
     let fields = Vec::from_array(alloc, fields)?;
-    nodes.push(Node::Struct(fields))?;
-    Ok(())
+    add(nodes, Node::Struct(fields))
 }
 
 fn add_enum<const N: usize>(
@@ -94,8 +98,7 @@ fn add_enum<const N: usize>(
     payloads: [usize; N],
 ) -> Result<(), AllocError> {
     let payloads = Vec::from_array(alloc, payloads)?;
-    nodes.push(Node::Enum(payloads))?;
-    Ok(())
+    add(nodes, Node::Enum(payloads))
 }
 
 // The types of no parts.
@@ -124,18 +127,18 @@ fn leaves(alloc: Global) -> Result<Vec<Node>, AllocError> {
 
 // The types at 14 to 19.
 fn add_simple(alloc: Global, nodes: &mut Vec<Node>) -> Result<(), AllocError> {
-    nodes.push(Node::Option(U8))?;
-    nodes.push(Node::Option(16))?;
-    nodes.push(Node::Option(BOOL))?;
-    nodes.push(Node::List(BOOL))?;
-    nodes.push(Node::Array(2, OPTION))?;
+    add(nodes, Node::Option(U8))?;
+    add(nodes, Node::Option(16))?;
+    add(nodes, Node::Option(BOOL))?;
+    add(nodes, Node::List(BOOL))?;
+    add(nodes, Node::Array(2, OPTION))?;
     add_struct(alloc, nodes, [])
 }
 
 // The types at 20 to 26.
 fn add_messages(alloc: Global, nodes: &mut Vec<Node>) -> Result<(), AllocError> {
     add_struct(alloc, nodes, [U8, U16])?;
-    nodes.push(Node::List(20))?;
+    add(nodes, Node::List(20))?;
     add_struct(alloc, nodes, [BOOL, I16, CHAR, U64])?;
     add_enum(alloc, nodes, [NOTHING, TEXT])?;
     add_enum(alloc, nodes, [U16, U64, U8, 20, 25, 26])?;
@@ -146,11 +149,11 @@ fn add_messages(alloc: Global, nodes: &mut Vec<Node>) -> Result<(), AllocError> 
 // The types at 27 to 33.
 fn add_nested(alloc: Global, nodes: &mut Vec<Node>) -> Result<(), AllocError> {
     add_struct(alloc, nodes, [U8, TEXT])?;
-    nodes.push(Node::Array(2, U16))?;
+    add(nodes, Node::Array(2, U16))?;
     add_enum(alloc, nodes, [27, 28])?;
-    nodes.push(Node::List(29))?;
-    nodes.push(Node::Option(30))?;
-    nodes.push(Node::List(33))?;
+    add(nodes, Node::List(29))?;
+    add(nodes, Node::Option(30))?;
+    add(nodes, Node::List(33))?;
     add_struct(alloc, nodes, [U16, TEXT])
 }
 
@@ -159,20 +162,19 @@ fn add_bad_types(alloc: Global, nodes: &mut Vec<Node>) -> Result<(), AllocError>
     add_enum(alloc, nodes, [NOTHING, 35])?;
     add_struct(alloc, nodes, [U8, CHAIN])?;
     add_struct(alloc, nodes, [ITSELF])?;
-    nodes.push(Node::Option(usize::MAX))?;
+    add(nodes, Node::Option(usize::MAX))?;
     add_enum(alloc, nodes, [])
 }
 
 // The types at 39 to 45.
 fn add_bounded(nodes: &mut Vec<Node>) -> Result<(), AllocError> {
-    nodes.push(Node::LE(IntegerType::U16))?;
-    nodes.push(Node::BE(IntegerType::U16))?;
-    nodes.push(Node::LE(IntegerType::I32))?;
-    nodes.push(Node::BE(IntegerType::I64))?;
-    nodes.push(Node::LE(IntegerType::U128))?;
-    nodes.push(Node::ListUpTo(2, BOOL))?;
-    nodes.push(Node::TextUpTo(3))?;
-    Ok(())
+    add(nodes, Node::LE(IntegerType::U16))?;
+    add(nodes, Node::BE(IntegerType::U16))?;
+    add(nodes, Node::LE(IntegerType::I32))?;
+    add(nodes, Node::BE(IntegerType::I64))?;
+    add(nodes, Node::LE(IntegerType::U128))?;
+    add(nodes, Node::ListUpTo(2, BOOL))?;
+    add(nodes, Node::TextUpTo(3))
 }
 
 // The types behind those of no parts.
