@@ -5,6 +5,7 @@ pub mod OutputLemmas
 pub mod PairsLemmas
 pub mod RunLemmas
 pub mod SendingLemmas
+pub mod TextsLemmas
 pub mod WordsLemmas
 pub mod WorkLemmas
 pub mod FramingLemmas

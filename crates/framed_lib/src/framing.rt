@@ -1,5 +1,5 @@
 //! Frames of lines.
-ghost use Rattle.std.specs.Prelude.{◌≡◌, ◌≤◌, length, take, nat_lt, true};
+ghost use Rattle.std.specs.Prelude.{◌≡◌, ◌≤◌, length, take, nat_lt, true, IsTrue, IsUtf8, MatchOption};
 ghost use Rattle.link.specs.Run.{Send, written};
 ghost use Rattle.framed_lib.specs.Sending.{IsSendOfLine, is_whole};
 
@@ -14,8 +14,25 @@ const SHORT: usize = 1017;
 /// Room for a frame between its sentinels.
 pub const ROOM: usize = LIMIT + 2;
 
+/// The text of a line, if it is UTF-8. It is looked at only where that isn't known of it.
+fn text_in(line: &[u8], is_text: bool) -> Option<&str>
+    requires { IsTrue is_text → IsUtf8 line.now }
+    ensures { MatchOption result (IsUtf8 line.now → ⊥)
+        (λ text. (text.now ≡ line.now) × IsUtf8 line.now) }
+{
+    if is_text {
+        // SAFETY: the caller owes that the line is UTF-8.
+        return Some(unsafe { std::str::from_utf8_unchecked(line) });
+    }
+    match std::str::from_utf8(line) {
+        Ok(text) => Some(text),
+        Err(_) => None,
+    }
+}
+
 /// Whether the line can be sent, or else is refused. Only a line of the few lengths between these two is framed for it.
-pub fn is_sendable(line: &[u8]) -> bool
+pub fn is_sendable(line: &[u8], is_text: bool) -> bool
+    requires { IsTrue is_text → IsUtf8 line.now }
     ensures { (x : Send) × IsSendOfLine line.now x × (result ≡ is_whole x) }
 {
     cobs::laws::lengths();
@@ -23,23 +40,24 @@ pub fn is_sendable(line: &[u8]) -> bool
         return false;
     }
     if line.len() > SHORT {
-        return frame_clean(line, 0, &mut [0; LIMIT + 1]) > 0;
+        return frame_clean(line, is_text, 0, &mut [0; LIMIT + 1]) > 0;
     }
-    match std::str::from_utf8(line) {
-        Ok(_) => true,
-        Err(_) => false,
+    match text_in(line, is_text) {
+        Some(_) => true,
+        None => false,
     }
 }
 
 /// Puts what a clean sender writes for a line at the front of the room: the frame of its text, and a sentinel. Says how many
 /// bytes these are: none where the line is refused.
-fn frame_clean(line: &[u8], sentinel: u8, room: &mut [u8]) -> usize
-    requires { 1025 ≤ length room.old }
+fn frame_clean(line: &[u8], is_text: bool, sentinel: u8, room: &mut [u8]) -> usize
+    requires text { IsTrue is_text → IsUtf8 line.now }
+    requires room { 1025 ≤ length room.old }
     ensures sent { (x : Send) × IsSendOfLine line.now x
         × (take result room.new ≡ written sentinel true x) × (is_whole x ≡ nat_lt 0 result) }
     ensures within { result ≤ length room.new }
 {
-    let Ok(text) = std::str::from_utf8(line) else {
+    let Some(text) = text_in(line, is_text) else {
         return 0;
     };
     let front = &mut room[..LIMIT];
@@ -53,17 +71,18 @@ fn frame_clean(line: &[u8], sentinel: u8, room: &mut [u8]) -> usize
 }
 
 /// The same of a sender that is clean or isn't: then a sentinel comes first.
-pub fn frame_line(line: &[u8], clean: bool, sentinel: u8, room: &mut [u8]) -> usize
-    requires { length room.old ≡ 1026 }
+pub fn frame_line(line: &[u8], is_text: bool, clean: bool, sentinel: u8, room: &mut [u8]) -> usize
+    requires text { IsTrue is_text → IsUtf8 line.now }
+    requires room { length room.old ≡ 1026 }
     ensures sent { (x : Send) × IsSendOfLine line.now x
         × (take result room.new ≡ written sentinel clean x) × (is_whole x ≡ nat_lt 0 result) }
     ensures within { result ≤ length room.new }
 {
     if clean {
-        return frame_clean(line, sentinel, room);
+        return frame_clean(line, is_text, sentinel, room);
     }
     room[0] = sentinel;
-    match frame_clean(line, sentinel, &mut room[1..]) {
+    match frame_clean(line, is_text, sentinel, &mut room[1..]) {
         0 => 0,
         count => count + 1,
     }

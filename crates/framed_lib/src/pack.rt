@@ -1,4 +1,4 @@
-ghost use Rattle.std.specs.Prelude.{ℕ, false, List, OnOk, OnErr};
+ghost use Rattle.std.specs.Prelude.{ℕ, false, List, OnOk, OnErr, IsTrue, IsUtf8};
 ghost use Rattle.line_io.specs.Transfers.{Writing, Reading, whole, broken};
 ghost use Rattle.link.specs.Run.{Send, session_line};
 ghost use Rattle.framed_lib.specs.Program.{framed_text};
@@ -14,6 +14,7 @@ use crate::refusals::say_refusals;
 use crate::stop::{Stop, status_of};
 use arrayvec::ArrayVec;
 use line_io::{End, Inlet, Outlet, WriteFault, read_to_end, write_all};
+use simdutf8::basic;
 use std::alloc::Global;
 
 /// Writes what one sender writes for all lines of the text.
@@ -21,8 +22,10 @@ fn write_frames<W: Outlet>(
     hex: bool,
     sentinel: u8,
     text: &[u8],
+    is_text: bool,
     writer: &mut W,
 ) -> Result<(), WriteFault>
+    requires { IsTrue is_text → IsUtf8 text.now }
     ensures ok { OnOk result ((sends : List Send) → AreSendsOf (lines_in text.now) sends
         → Writing W.written W.faults W.calls_left writer.old writer.new whole
         (framed_text hex (session_line sentinel false sends))) }
@@ -36,7 +39,7 @@ fn write_frames<W: Outlet>(
     let mut clean = false;
     let mut rest = text;
     while let Some((line, after)) = next_line(rest) {
-        let count = frame_line(line, clean, sentinel, &mut frame);
+        let count = frame_line(line, is_text, clean, sentinel, &mut frame);
         put_part(writer, &mut held, hex, &frame[..count], &mut digits)?;
         clean = clean | (count > 0);
         rest = after;
@@ -45,7 +48,8 @@ fn write_frames<W: Outlet>(
     write_all(writer, held.as_slice())
 }
 
-/// Says which lines of the text are refused, and then sends the others.
+/// Says which lines of the text are refused, and then sends the others. A text that is UTF-8 as a whole has no line that isn't, so
+/// that none is looked at again.
 fn pack_text<W: Outlet, E: Outlet>(
     hex: bool,
     sentinel: u8,
@@ -57,11 +61,12 @@ fn pack_text<W: Outlet, E: Outlet>(
         (IsWhole text.now) (Writing W.written W.faults W.calls_left writer.old writer.new)
         (Writing E.written E.faults E.calls_left faults.old faults.new) result }
 {
-    let good = match say_refusals(text, faults) {
+    let is_text = basic::from_utf8(text).is_ok();
+    let good = match say_refusals(text, is_text, faults) {
         Ok(good) => good,
         Err(_) => return Err(Stop::SayingFault),
     };
-    let Ok(()) = write_frames(hex, sentinel, text, writer) else {
+    let Ok(()) = write_frames(hex, sentinel, text, is_text, writer) else {
         return Err(Stop::WriteFault);
     };
     Ok(status_of(good))

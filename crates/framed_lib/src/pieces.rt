@@ -1,4 +1,4 @@
-ghost use Rattle.std.specs.Prelude.{◌≡◌, ◌<◌, [], length, ◌++◌, ◌∷◌, MatchOption};
+ghost use Rattle.std.specs.Prelude.{◌≡◌, ◌<◌, [], length, ◌++◌, ◌∷◌, MatchOption, IfSome, IsUtf8};
 ghost use Rattle.framed_lib.specs.Pieces.{LacksMark};
 ghost use Rattle.framed_lib.specs.Sending.{lines_in};
 
@@ -15,10 +15,11 @@ pub fn split_at_mark(bytes: &[u8], mark: u8) -> Option<(&[u8], &[u8])>
     }
 }
 
-/// The first line of a text, and the text behind it.
+/// The first line of a text, and the text behind it. If the whole is UTF-8, so is each of the two.
 pub fn next_line(text: &[u8]) -> Option<(&[u8], &[u8])>
-    ensures { MatchOption result (text.now ≡ []) (λ p.
+    ensures line { MatchOption result (text.now ≡ []) (λ p.
         (lines_in text.now ≡ p.0.now ∷ lines_in p.1.now) × (length p.1.now < length text.now)) }
+    ensures utf8 { IsUtf8 text.now → IfSome result (λ p. IsUtf8 p.0.now × IsUtf8 p.1.now) }
 {
     if text.is_empty() {
         return None;

@@ -1,4 +1,4 @@
-ghost use Rattle.std.specs.Prelude.{◌≡◌, ℕ, ◌<◌, List, [], ◌++◌, IfOk, OnOk, OnErr};
+ghost use Rattle.std.specs.Prelude.{◌≡◌, ℕ, ◌<◌, List, [], ◌++◌, IfOk, OnOk, OnErr, IsTrue, IsUtf8};
 ghost use Rattle.line_io.specs.Transfers.{Writing, whole, broken};
 ghost use Rattle.framed_lib.specs.Output.{Puts};
 ghost use Rattle.link.specs.Run.{Send};
@@ -28,10 +28,12 @@ fn refuse<E: Outlet>(faults: &mut E, held: &mut Held, number: usize) -> Result<(
 /// Says that the line with this number is refused, where it is. Answers whether it isn't.
 fn judge_line<E: Outlet>(
     line: &[u8],
+    is_text: bool,
     number: usize,
     faults: &mut E,
     held: &mut Held,
 ) -> Result<bool, WriteFault>
+    requires { IsTrue is_text → IsUtf8 line.now }
     ensures ok { IfOk result (λ sendable. (x : Send) × IsSendOfLine line.now x
         × (sendable ≡ is_whole x)
         × Puts E.written E.faults faults.old faults.new held.old.items held.new.items
@@ -40,7 +42,7 @@ fn judge_line<E: Outlet>(
         × Writing E.written E.faults E.calls_left faults.old faults.new broken
         (held.old.items ++ said_of number x)) }
 {
-    if is_sendable(line) {
+    if is_sendable(line, is_text) {
         return Ok(true);
     }
     refuse(faults, held, number)?;
@@ -48,7 +50,13 @@ fn judge_line<E: Outlet>(
 }
 
 /// Says which lines of the text are refused. Answers whether none is.
-fn judge_lines<E: Outlet>(text: &[u8], faults: &mut E, held: &mut Held) -> Result<bool, WriteFault>
+fn judge_lines<E: Outlet>(
+    text: &[u8],
+    is_text: bool,
+    faults: &mut E,
+    held: &mut Held,
+) -> Result<bool, WriteFault>
+    requires text { IsTrue is_text → IsUtf8 text.now }
     requires held { held.old.items ≡ [] }
     ensures ok { IfOk result (λ good. (sends : List Send) × AreSendsOf (lines_in text.now) sends
         × (good ≡ list_all is_whole sends)
@@ -60,7 +68,7 @@ fn judge_lines<E: Outlet>(text: &[u8], faults: &mut E, held: &mut Held) -> Resul
     let mut lines = 0;
     let mut good = true;
     while let Some((line, after)) = next_line(rest) {
-        let sendable = judge_line(line, lines + 1, faults, held)?;
+        let sendable = judge_line(line, is_text, lines + 1, faults, held)?;
         good = good & sendable;
         lines += 1;
         rest = after;
@@ -68,8 +76,14 @@ fn judge_lines<E: Outlet>(text: &[u8], faults: &mut E, held: &mut Held) -> Resul
     Ok(good)
 }
 
-/// Says which lines of the text are refused, before any is sent. Answers whether none is.
-pub fn say_refusals<E: Outlet>(text: &[u8], faults: &mut E) -> Result<bool, WriteFault>
+/// Says which lines of the text are refused, before any is sent. Answers whether none is. The caller may know that the whole is
+/// UTF-8.
+pub fn say_refusals<E: Outlet>(
+    text: &[u8],
+    is_text: bool,
+    faults: &mut E,
+) -> Result<bool, WriteFault>
+    requires { IsTrue is_text → IsUtf8 text.now }
     ensures ok { IfOk result (λ good. (sends : List Send) × AreSendsOf (lines_in text.now) sends
         × (good ≡ list_all is_whole sends)
         × Writing E.written E.faults E.calls_left faults.old faults.new whole (refusals 1 sends)) }
@@ -77,7 +91,7 @@ pub fn say_refusals<E: Outlet>(text: &[u8], faults: &mut E) -> Result<bool, Writ
         × Writing E.written E.faults E.calls_left faults.old faults.new broken said) }
 {
     let mut held: Held = ArrayVec::new();
-    let good = judge_lines(text, faults, &mut held)?;
+    let good = judge_lines(text, is_text, faults, &mut held)?;
     write_all(faults, held.as_slice())?;
     Ok(good)
 }

@@ -1,4 +1,5 @@
 use Rattle.std.proofs.Common.{◌≡◌, false, List, [], length}
+use Rattle.std.specs.Prelude.{IsTrue, IsUtf8}
 use Rattle.link.specs.Run.{Send}
 use Rattle.link.specs.Fates.{clean_after_all}
 use Rattle.framed_lib.specs.Output.{Puts}
@@ -11,6 +12,7 @@ abbrev pub invariant-loop-line : goal.invariant-loop-line
 invariant-loop-line g l =
     (done : List Send) × Sent l.text l.rest done × (l.clean ≡ clean_after_all false done)
     × Puts g.W.Outlet.written g.W.Outlet.faults l.fn.writer l.writer [] l.held.items (shown_of l.hex l.sentinel done)
+    × (IsTrue l.is_text → IsUtf8 l.rest)
 
 abbrev pub decreases-loop-line : goal.decreases-loop-line
 decreases-loop-line g l = length l.rest

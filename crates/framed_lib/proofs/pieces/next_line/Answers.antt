@@ -1,16 +1,20 @@
 use Rattle.std.proofs.Common.{◌≡◌, ◌<◌, ◌+◌, ◌∷◌, length, ap, ◌∙◌, arith, length-append}
 use Rattle.framed_lib.proofs.SendingLemmas.{next-line, lines-last}
+use Rattle.framed_lib.proofs.TextsLemmas.{utf8-line}
 use Rattle.framed_lib.proofs.pieces.next_line.Goals as goal
 
-pub returns-in-Some : goal.returns-in-Some
-returns-in-Some c =
+pub returns-in-Some-clause-line : goal.returns-in-Some-clause-line
+returns-in-Some-clause-line c =
     let cut = c.in-Some.ensures in
     let longer : length c.args.text.now ≡ length c.in-Some.line.now + length (10 ∷ c.in-Some.after.now) =
     ap length cut.0 ∙ length-append c.in-Some.line.now (10 ∷ c.in-Some.after.now) in
     let fewer : length c.in-Some.after.now < length c.args.text.now = omega arith in
     (next-line _ _ _ cut.0 cut.1, fewer)
 
-pub returns-in-None : goal.returns-in-None
-returns-in-None c =
+pub returns-in-None-clause-line : goal.returns-in-None-clause-line
+returns-in-None-clause-line c =
     let some : 0 < length c.args.text.now = grind arith in
     (lines-last _ c.in-None.ensures some, some)
+
+pub returns-in-Some-clause-utf8 : goal.returns-in-Some-clause-utf8
+returns-in-Some-clause-utf8 c = λ u. utf8-line _ _ _ c.in-Some.ensures.0 u
