@@ -89,6 +89,21 @@ fn before_far(bytes: &[u8], sentinel: u8) -> usize
     256 + memchr(sentinel, rest).unwrap_or(rest.len())
 }
 
+// The same of 8 bytes and more, by what is quicker.
+#[inline(always)]
+fn before_many(bytes: &[u8], sentinel: u8) -> usize
+    requires { 8 ≤ length bytes.now }
+    ensures within { result ≤ length bytes.now }
+    ensures none { (k : ℕ) → k < result → slice_index bytes.now k ≢ sentinel }
+    ensures end { result < length bytes.now → slice_index bytes.now result ≡ sentinel }
+{
+    if bytes.len() <= 256 {
+        before_by_64(bytes, sentinel)
+    } else {
+        before_far(bytes, sentinel)
+    }
+}
+
 /// How many bytes come before the first one that is the sentinel; all where none is.
 ///
 /// ```
@@ -103,10 +118,10 @@ pub fn before_sentinel(bytes: &[u8], sentinel: u8) -> usize
 {
     if bytes.len() < 8 {
         before_near(bytes, sentinel)
-    } else if bytes.len() <= 256 {
-        before_by_64(bytes, sentinel)
+    } else if bytes.len() <= 64 {
+        before_of_64(bytes, sentinel)
     } else {
-        before_far(bytes, sentinel)
+        before_many(bytes, sentinel)
     }
 }
 
@@ -118,5 +133,9 @@ pub(crate) fn end_in(bytes: &[u8], sentinel: u8) -> usize
     ensures end { result < length bytes.now → slice_index bytes.now result ≡ sentinel }
     ensures bytes { (k : ℕ) → slice_index bytes.now k < 256 }
 {
-    before_sentinel(bytes, sentinel)
+    if bytes.len() < 8 {
+        before_near(bytes, sentinel)
+    } else {
+        before_many(bytes, sentinel)
+    }
 }

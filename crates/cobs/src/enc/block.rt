@@ -16,7 +16,7 @@ pub(crate) struct Place {
 // Copies a piece into the open block, which has place for it, and writes a code at each of its zeros. Whatever is written here
 // is XORed with the sentinel, so the contracts speak of the buffer as it is without that: masked once more.
 #[inline(always)]
-fn put_run(dest: &mut [u8], at: Place, piece: &[u8], sentinel: u8) -> Place
+pub(crate) fn put_run(dest: &mut [u8], at: Place, piece: &[u8], sentinel: u8) -> Place
     requires laid { Laid (masked sentinel dest.old) at.code_at at.len }
     requires room { at.len + length piece.now ≤ length dest.old }
     requires short { at.len + length piece.now ≤ at.code_at + 255 }
@@ -32,7 +32,7 @@ fn put_run(dest: &mut [u8], at: Place, piece: &[u8], sentinel: u8) -> Place
 
 // The same in one pass: for a few bytes a call that copies a slice takes longer than they do.
 #[inline(always)]
-fn put_few(dest: &mut [u8], at: Place, piece: &[u8], sentinel: u8) -> Place
+pub(crate) fn put_few(dest: &mut [u8], at: Place, piece: &[u8], sentinel: u8) -> Place
     requires laid { Laid (masked sentinel dest.old) at.code_at at.len }
     requires room { at.len + length piece.now ≤ length dest.old }
     requires short { at.len + length piece.now ≤ at.code_at + 255 }

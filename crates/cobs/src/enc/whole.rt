@@ -4,6 +4,7 @@ ghost use Rattle.cobs.specs.Frames.{NoZero, shortest_frame, most_length};
 ghost use Rattle.cobs.specs.Sentinel.{between_zeros, frame_for};
 
 use super::DestBufTooSmallError;
+use super::block::{Place, put_few, put_run};
 use super::encoder::CobsEncoder;
 use crate::max_encoding_length;
 use memchr::memrchr;
@@ -43,6 +44,48 @@ pub fn encode_including_sentinels(source: &[u8], dest: &mut [u8]) -> usize
     n + 2
 }
 
+// As `encode_with_sentinel`, of few bytes: they are copied by a loop, and no call is made.
+#[inline(always)]
+fn encode_few(source: &[u8], dest: &mut [u8], sentinel: u8) -> usize
+    requires few { length source.now ≤ 254 }
+    requires room { length source.now < length dest.old }
+    ensures length { result ≡ length (shortest_frame source.now) }
+    ensures frame { take result dest.new ≡ frame_for sentinel source.now }
+{
+    dest[0] = sentinel ^ 1;
+    if source.is_empty() {
+        return 1;
+    }
+    put_few(dest, Place { code_at: 0, len: 1 }, source, sentinel).len
+}
+
+// The same of bytes that are of one block: they go in by one step, and what keeps pieces apart isn't asked.
+#[inline(never)]
+fn encode_block(source: &[u8], dest: &mut [u8], sentinel: u8) -> usize
+    requires some { 0 < length source.now }
+    requires few { length source.now ≤ 254 }
+    requires room { length source.now < length dest.old }
+    ensures length { result ≡ length (shortest_frame source.now) }
+    ensures frame { take result dest.new ≡ frame_for sentinel source.now }
+{
+    dest[0] = sentinel ^ 1;
+    put_run(dest, Place { code_at: 0, len: 1 }, source, sentinel).len
+}
+
+// The same of any bytes: they are pushed.
+#[inline(never)]
+fn encode_pushed(source: &[u8], dest: &mut [u8], sentinel: u8) -> usize
+    requires some { 0 < length dest.old }
+    requires room { length (shortest_frame source.now) ≤ length dest.old }
+    ensures length { result ≡ length (shortest_frame source.now) }
+    ensures frame { take result dest.new ≡ frame_for sentinel source.now }
+{
+    let mut encoder = CobsEncoder::new_with_sentinel(dest, sentinel);
+    let pushed = encoder.push(source);
+    prove!(pushed.is_ok());
+    encoder.finalize()
+}
+
 /// As `encode`, with every byte of the frame XORed with `sentinel`, so that no byte of it is the sentinel.
 ///
 /// ```
@@ -55,10 +98,13 @@ pub fn encode_with_sentinel(source: &[u8], dest: &mut [u8], sentinel: u8) -> usi
     ensures length { result ≡ length (shortest_frame source.now) }
     ensures frame { take result dest.new ≡ frame_for sentinel source.now }
 {
-    let mut encoder = CobsEncoder::new_with_sentinel(dest, sentinel);
-    let pushed = encoder.push(source);
-    prove!(pushed.is_ok());
-    encoder.finalize()
+    if source.len() < 8 {
+        encode_few(source, dest, sentinel)
+    } else if source.len() <= 254 {
+        encode_block(source, dest, sentinel)
+    } else {
+        encode_pushed(source, dest, sentinel)
+    }
 }
 
 /// The length of the frame of `source`: what `encode` needs, and no more. A message of n bytes has n + 1 at least, and

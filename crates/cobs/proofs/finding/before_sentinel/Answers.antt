@@ -13,8 +13,8 @@ counted s bytes n w none end =
 pub returns-then-bytes-lt8-clause-before : goal.returns-then-bytes-lt8-clause-before
 returns-then-bytes-lt8-clause-before c = counted c.args.sentinel c.args.bytes.now c.before_near.result c.before_near.ensures.within c.before_near.ensures.none c.before_near.ensures.end
 
-pub returns-then-bytes-le256-clause-before : goal.returns-then-bytes-le256-clause-before
-returns-then-bytes-le256-clause-before c = counted c.args.sentinel c.args.bytes.now c.before_by_64.result c.before_by_64.ensures.within c.before_by_64.ensures.none c.before_by_64.ensures.end
+pub returns-then-bytes-le64-clause-before : goal.returns-then-bytes-le64-clause-before
+returns-then-bytes-le64-clause-before c = counted c.args.sentinel c.args.bytes.now c.before_of_64.result c.before_of_64.ensures.within c.before_of_64.ensures.none c.before_of_64.ensures.end
 
-pub returns-else-bytes-le256-clause-before : goal.returns-else-bytes-le256-clause-before
-returns-else-bytes-le256-clause-before c = counted c.args.sentinel c.args.bytes.now c.before_far.result c.before_far.ensures.within c.before_far.ensures.none c.before_far.ensures.end
+pub returns-else-bytes-le64-clause-before : goal.returns-else-bytes-le64-clause-before
+returns-else-bytes-le64-clause-before c = counted c.args.sentinel c.args.bytes.now c.before_many.result c.before_many.ensures.within c.before_many.ensures.none c.before_many.ensures.end
