@@ -1,9 +1,11 @@
 -- How a receiver takes a piece, front by front.
-use Rattle.std.proofs.Common.{◌≡◌, ℕ, List, drop, refl}
+use Rattle.std.proofs.Common.{◌≡◌, ℕ, ◌+◌, ◌≤◌, List, [], length, drop, refl, sym, ap, ◌∙◌, subst, arith}
+use Rattle.std.proofs.lemmas.List.{drop_all}
 use Rattle.link.specs.Stream.{Begun}
 use Rattle.link.specs.Steps.{Event, quiet, ended, passed, Course, course_on, course_of, ahead}
-use Rattle.link.specs.Finds.{Finds}
+use Rattle.link.specs.Finds.{Finds, IsTaken}
 use Rattle.link.specs.declared.reception.Found.{Found}
+use Rattle.link.specs.declared.reception.Taken.{Taken}
 use Rattle.link.specs.declared.reception.Found.TheVariants.{Nothing, Damaged, TooLong, Whole}
 
 -- The first i bytes of the piece brought nothing about, and this is begun now.
@@ -11,6 +13,18 @@ pub record Turn (limit s : ℕ) (b : Begun) (piece : List ℕ) (i : ℕ) (At : B
   pub now : Begun
   pub at : At now
   pub rest : course_of limit s b piece ≡ ahead i (course_of limit s now (drop i piece))
+
+module _ (limit s : ℕ) (b : Begun) (piece : List ℕ) (i : ℕ) (At : Begun → Type 0) (h : length piece ≤ i) (t : Turn limit s b piece i At) where
+  all_quiet : course_of limit s b piece ≡ record { used = i + 0; event = quiet; begun = t.now }
+  all_quiet = t.rest ∙ ap (λ x. ahead i (course_of limit s t.now x)) (drop_all i piece h)
+
+  -- where these are the whole piece, it stands behind the piece
+  pub at_whole : At (course_of limit s b piece).begun
+  at_whole = subst (λ k. At k.begun) (sym all_quiet) t.at
+
+  -- and nothing was found
+  pub taken_whole : {M : Type 0} (message : M → List ℕ) → i ≤ length piece → IsTaken limit (course_of limit s b piece) message record { used = length piece; stretch = 0; found = Nothing }
+  taken_whole message l = subst (λ k. IsTaken limit k message record { used = length piece; stretch = 0; found = Nothing }) (sym all_quiet) record { used = omega arith; finds = refl; span = refl }
 
 -- what is found tells whether anything came about
 pub nothing_found : {M : Type 0} (message : M → List ℕ) (e : Event) (found : Found M) → Finds message e found → found ≡ Nothing → e ≡ quiet

@@ -22,6 +22,9 @@ returns-then-is_sent-clause-value g c =
     let lengths = by_lengths (g.F.FrontReader.takes r) facts c.frames_of_a_message.ensures.other c.short_is_the_shortest.ensures in
     sent_value (g.F.FrontReader.takes r) (g.F.FrontReader.reads r) g.V.Serialize.writes facts lengths laws.taken (g.met.F.ExactReader.writes_back r) c.args.message.now _ c.in-Ok.value c.args.stretch c.in-Ok.ensures.value.1 _ c.is_sent.ensures c.if-is_sent.true
 
+pub returns-then-is_sent-clause-memory : goal.returns-then-is_sent-clause-memory
+returns-then-is_sent-clause-memory g c = tt
+
 pub returns-else-is_sent-clause-value : goal.returns-else-is_sent-clause-value
 returns-else-is_sent-clause-value g c =
     let r = c.args.self.now.0 in

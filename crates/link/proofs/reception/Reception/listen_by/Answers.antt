@@ -10,6 +10,9 @@ returns-in-None-clause-heard g c limit s stream given h = (
   handed_none g.E.Effect.hears g.E.Effect.laws _ _ (nothing_more g.D.Decoding.inside (g.E.Effect.holds c.args.effect.now) (g.E.Effect.reads c.args.effect.now) limit s c.args.self.now given stream [] refl h),
 )
 
+pub returns-in-None-clause-spent : goal.returns-in-None-clause-spent
+returns-in-None-clause-spent g c e = refl
+
 pub returns-in-Some-eq0-clause-heard : goal.returns-in-Some-eq0-clause-heard
 returns-in-Some-eq0-clause-heard g c limit s stream given h =
     let none = nothing_taken c.in-Some-eq0.field-0 c.read.new.room c.in-Some-eq0.field-0-test in (
