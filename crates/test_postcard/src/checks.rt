@@ -23,6 +23,16 @@ pub(crate) fn check_at(rt: &impl Abort, row: usize, is_right: bool) {
     assert!(rt; is_right, "at {row}");
 }
 
+/// Whether each of these calls succeeded.
+pub(crate) fn succeed<const N: usize>(answers: [Result<()>; N]) -> bool {
+    answers == [Ok(()); N]
+}
+
+/// Whether a call was refused for want of room.
+pub(crate) fn is_full(answer: Result<()>) -> bool {
+    answer == Err(Error::SerializeBufferFull)
+}
+
 /// Whether a call gave this value.
 pub(crate) fn gives<T: PartialEq + Drop>(answer: Result<T>, wanted: T) -> bool {
     match answer {
