@@ -24,6 +24,14 @@ pub fn are_fates(fates: &[Fate], wanted: &[Fate]) -> bool {
     *fates == *wanted
 }
 
+/// Whether a call refuses so.
+pub fn fails_by<T: Drop>(answer: postcard::Result<T>, cause: Error) -> bool {
+    match answer {
+        Ok(_) => false,
+        Err(found) => found == cause,
+    }
+}
+
 /// Whether a send broke off.
 pub fn is_broken(sent: Result<(), SendError>) -> bool {
     sent == Err(SendError::Line)

@@ -7,10 +7,10 @@ use crate::checks::check;
 use crate::message_readers::Chosen;
 use line_io::memory::In;
 use link::{
-    Answer, End, Hearer, OwnedReceiver, Pushed, Receiver, TextHearer, receive_each,
-    receive_each_owned, receive_each_owned_strict, receive_each_strict,
-    receive_each_strict_with_sentinel, receive_each_text, receive_each_text_owned,
-    receive_each_text_owned_strict, receive_each_text_strict, receive_each_with_sentinel,
+    Answer, End, Hearer, OwnedReceiver, Receiver, TextHearer, receive_each, receive_each_owned,
+    receive_each_owned_strict, receive_each_strict, receive_each_strict_with_sentinel,
+    receive_each_text, receive_each_text_owned, receive_each_text_owned_strict,
+    receive_each_text_strict, receive_each_with_sentinel,
 };
 use std::alloc::Global;
 
@@ -50,6 +50,14 @@ impl<'a, T> Wanted<'a, T> {
     /// Whether so many answers were heard, and they are right.
     fn has_heard(&self, count: usize) -> bool {
         self.are_right && self.heard == count
+    }
+
+    /// Whether all that is wanted was heard, and then the end.
+    fn is_whole(&self, end: Option<End>) -> bool {
+        match end {
+            Some(End::Ended) => self.has_heard(self.answers.len()),
+            _ => false,
+        }
     }
 }
 
@@ -156,11 +164,11 @@ fn each_at_its_byte(rt: HostRuntime) {
     let mut wanted = Wanted::new(&HEARD);
     let mut reader = In::new(&LINE, 1, None);
     let end = receive_each::<u32, _, _, 4>(rt.alloc(), &mut reader, &mut wanted);
-    check(&rt, end == Some(End::Ended) && wanted.has_heard(7));
+    check(&rt, wanted.is_whole(end));
     let mut wanted = Wanted::new(&HEARD_STRICTLY);
     let mut reader = In::new(&LINE, 1, None);
     let end = receive_each_strict::<u32, _, _, 4>(rt.alloc(), &mut reader, &mut wanted);
-    check(&rt, end == Some(End::Ended) && wanted.has_heard(7));
+    check(&rt, wanted.is_whole(end));
 }
 
 #[test]
@@ -169,7 +177,7 @@ fn each_by_a_sentinel(rt: HostRuntime) {
     let mut wanted = Wanted::new(&HEARD);
     let mut reader = In::new(&MARKED, 1, None);
     let end = receive_each_with_sentinel::<u32, _, _, 4>(alloc, &mut reader, &mut wanted, 10);
-    check(&rt, end == Some(End::Ended) && wanted.has_heard(7));
+    check(&rt, wanted.is_whole(end));
     let mut wanted = Wanted::new(&HEARD_STRICTLY);
     let mut reader = In::new(&MARKED, 1, None);
     let end = receive_each_strict_with_sentinel::<u32, _, _, 4>(
@@ -178,7 +186,7 @@ fn each_by_a_sentinel(rt: HostRuntime) {
         &mut wanted,
         10,
     );
-    check(&rt, end == Some(End::Ended) && wanted.has_heard(7));
+    check(&rt, wanted.is_whole(end));
 }
 
 #[test]
@@ -187,11 +195,11 @@ fn each_by_a_limit(rt: HostRuntime) {
     let mut wanted = Wanted::new(&HEARD);
     let mut reader = In::new(&MARKED, 1, None);
     let end = receive_each_owned::<u32, _, _>(alloc, &mut reader, &mut wanted, 4, 10);
-    check(&rt, end == Ok(Some(End::Ended)) && wanted.has_heard(7));
+    check(&rt, matches!(end, Ok(end) if wanted.is_whole(end)));
     let mut wanted = Wanted::new(&HEARD_STRICTLY);
     let mut reader = In::new(&LINE, 1, None);
     let end = receive_each_owned_strict::<u32, _, _>(alloc, &mut reader, &mut wanted, 4, 0);
-    check(&rt, end == Ok(Some(End::Ended)) && wanted.has_heard(7));
+    check(&rt, matches!(end, Ok(end) if wanted.is_whole(end)));
 }
 
 /// By a reader of messages that was told when the program ran how to read.
@@ -207,7 +215,7 @@ fn each_by_a_reader(rt: HostRuntime) {
         &mut reader,
         &mut wanted,
     );
-    check(&rt, end == Some(End::Ended) && wanted.has_heard(7));
+    check(&rt, wanted.is_whole(end));
     let mut wanted = Wanted::new(&HEARD_STRICTLY);
     let mut reader = In::new(&LINE, 28, None);
     let mut receiver = Receiver::<4>::new();
@@ -329,11 +337,11 @@ fn texts_where_they_lie(rt: HostRuntime) {
     let mut wanted = Wanted::new(&TEXTS_HEARD);
     let mut reader = In::new(&TEXTS, 1, None);
     let end = receive_each_text::<_, _, 8>(rt.alloc(), &mut reader, &mut wanted, 0);
-    check(&rt, end == Some(End::Ended) && wanted.has_heard(4));
+    check(&rt, wanted.is_whole(end));
     let mut wanted = Wanted::new(&TEXTS_HEARD_STRICTLY);
     let mut reader = In::new(&TEXTS, 1, None);
     let end = receive_each_text_strict::<_, _, 8>(rt.alloc(), &mut reader, &mut wanted, 0);
-    check(&rt, end == Some(End::Ended) && wanted.has_heard(4));
+    check(&rt, wanted.is_whole(end));
 }
 
 /// The same by a receiver with a limit that is a value.
@@ -343,41 +351,43 @@ fn texts_by_a_limit(rt: HostRuntime) {
     let mut wanted = Wanted::new(&TEXTS_HEARD);
     let mut reader = In::new(&TEXTS, 1, None);
     let end = receive_each_text_owned(alloc, &mut reader, &mut wanted, 8, 0);
-    check(&rt, end == Ok(Some(End::Ended)) && wanted.has_heard(4));
+    check(&rt, matches!(end, Ok(end) if wanted.is_whole(end)));
     let mut wanted = Wanted::new(&TEXTS_HEARD_STRICTLY);
     let mut reader = In::new(&TEXTS, 1, None);
     let end = receive_each_text_owned_strict(alloc, &mut reader, &mut wanted, 8, 0);
-    check(&rt, end == Ok(Some(End::Ended)) && wanted.has_heard(4));
+    check(&rt, matches!(end, Ok(end) if wanted.is_whole(end)));
 }
 
+// From which byte to which a piece of the line goes, how many bytes are used for the first answer in it, and how long the
+// stretch is that was answered.
+const SPANS: [(usize, usize, usize, usize); 8] = [
+    (0, 28, 3, 2),
+    (3, 5, 2, 0),
+    (5, 28, 2, 3),
+    (7, 28, 3, 2),
+    // a zero, and five bytes, of which the last is past the limit
+    (10, 28, 6, 4),
+    // the rest of that stretch, and the next one
+    (16, 28, 6, 3),
+    (22, 28, 5, 4),
+    (27, 28, 1, 0),
+];
+
 // Whether the first answer in a piece is about so many bytes before the last that was used.
-fn spans(
-    alloc: Global,
-    receiver: &mut Receiver<4>,
-    piece: &[u8],
-    used: usize,
-    stretch: usize,
-) -> bool {
-    let Pushed {
-        used: found,
-        stretch: length,
-        answer: _,
-    } = receiver.push::<u32>(alloc, piece);
-    found == used && length == stretch
+fn spans(alloc: Global, receiver: &mut Receiver<4>, row: (usize, usize, usize, usize)) -> bool {
+    let (from, to, used, stretch) = row;
+    let Some(piece) = LINE.get(from..to) else {
+        return false;
+    };
+    let pushed = receiver.push::<u32>(alloc, piece);
+    pushed.used == used && pushed.stretch == stretch
 }
 
 /// How long the answered stretch was, also where earlier pushes took its beginning.
 #[test]
 fn lengths_of_stretches(rt: HostRuntime) {
     let mut receiver = Receiver::<4>::new();
-    check(&rt, spans(rt.alloc(), &mut receiver, &LINE, 3, 2));
-    check(&rt, spans(rt.alloc(), &mut receiver, &LINE[3..5], 2, 0));
-    check(&rt, spans(rt.alloc(), &mut receiver, &LINE[5..], 2, 3));
-    check(&rt, spans(rt.alloc(), &mut receiver, &LINE[7..], 3, 2));
-    // a zero, and five bytes, of which the last is past the limit
-    check(&rt, spans(rt.alloc(), &mut receiver, &LINE[10..], 6, 4));
-    // the rest of that stretch, and the next one
-    check(&rt, spans(rt.alloc(), &mut receiver, &LINE[16..], 6, 3));
-    check(&rt, spans(rt.alloc(), &mut receiver, &LINE[22..], 5, 4));
-    check(&rt, spans(rt.alloc(), &mut receiver, &LINE[27..], 1, 0));
+    for row in &SPANS {
+        check(&rt, spans(rt.alloc(), &mut receiver, *row));
+    }
 }

@@ -1,6 +1,6 @@
 //! `link`, from senders to a receiver: the headline, in which a send breaks off. Lines of `replay_link` say what is heard of
 //! other sends that break off, ordinarily and strictly.
-use crate::checks::{are_bytes, are_fates, check, is_broken};
+use crate::checks::{are_fates, check, holds, is_broken};
 use line_io::memory::{Fault, In, Out};
 use link::{Answer, Fate, Received};
 use link_laws::headline;
@@ -29,7 +29,7 @@ fn sends_in_turn(rt: HostRuntime) {
     );
     let passed = is_sent_again(&all);
     drop(all);
-    check(&rt, passed && are_bytes(&room[..7], &LINE));
+    check(&rt, passed && holds(&room, 7, &LINE));
 }
 
 #[test]
@@ -44,9 +44,8 @@ fn sends_each_in_turn(rt: HostRuntime) {
         &[7],
         &mut second,
     );
-    check(&rt, writer.moved() == 8);
-    drop(writer);
-    check(&rt, are_bytes(&room[..8], &[0, 2, 5, 0, 0, 2, 7, 0]));
+    let count = writer.moved();
+    check(&rt, holds(&room, count, &[0, 2, 5, 0, 0, 2, 7, 0]));
     check(&rt, are_fates(&first, &[Fate::Done, Fate::Broken]));
     check(&rt, are_fates(&second, &[Fate::Done]));
 }

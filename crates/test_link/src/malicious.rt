@@ -1,6 +1,6 @@
 //! Bytes that are made to hurt: counts without end, and fronts. Padded numbers and stretches that are too long are lines of
 //! `replay_link`.
-use crate::checks::{check, is_answer};
+use crate::checks::{check, fails_by, is_answer};
 use link::{Answer, Receiver};
 use postcard::{Error, from_bytes, from_bytes_owned, take_from_bytes};
 use std::alloc::Global;
@@ -9,14 +9,6 @@ use std::alloc::Global;
 const GREATEST: [u8; 10] = [0xFF, 0xFF, 0xFF, 0xFF, 0xFF, 0xFF, 0xFF, 0xFF, 0xFF, 1];
 
 const TOO_GREAT: [u8; 10] = [0xFF, 0xFF, 0xFF, 0xFF, 0xFF, 0xFF, 0xFF, 0xFF, 0xFF, 2];
-
-// Whether a call refuses so.
-fn fails_by<T: Drop>(read: postcard::Result<T>, cause: Error) -> bool {
-    match read {
-        Ok(_) => false,
-        Err(found) => found == cause,
-    }
-}
 
 // Whether each call refuses bytes so, for types that ask for memory and for one that lends.
 fn is_refused(alloc: Global, bytes: &[u8], cause: Error) -> bool {

@@ -23,6 +23,16 @@ pub(crate) fn check_at(rt: &impl Abort, row: usize, is_right: bool) {
     assert!(rt; is_right, "at {row}");
 }
 
+/// Whether each of these calls succeeded.
+pub(crate) fn succeed<const N: usize>(answers: [Result<()>; N]) -> bool {
+    answers == [Ok(()); N]
+}
+
+/// Whether a call was refused for want of room.
+pub(crate) fn is_full(answer: Result<()>) -> bool {
+    answer == Err(Error::SerializeBufferFull)
+}
+
 /// Whether a call gave this value.
 pub(crate) fn gives<T: PartialEq + Drop>(answer: Result<T>, wanted: T) -> bool {
     match answer {
@@ -44,9 +54,30 @@ pub(crate) fn are_equal(found: &[u8], wanted: &[u8]) -> bool {
     *found == *wanted
 }
 
+/// Whether these bytes begin with those.
+pub(crate) fn begin_with(found: &[u8], wanted: &[u8]) -> bool {
+    found.starts_with(wanted)
+}
+
 /// Whether a text is this one.
 pub(crate) fn is_text(found: &str, wanted: &str) -> bool {
     found == wanted
+}
+
+/// Whether a text was given, and is this one.
+pub(crate) fn is_string(given: Result<String>, wanted: &str) -> bool {
+    match given {
+        Ok(held) => held.as_str() == wanted,
+        Err(_) => false,
+    }
+}
+
+/// Whether a front of so many bytes was filled.
+pub(crate) fn has_length(written: Result<&mut [u8]>, length: usize) -> bool {
+    match written {
+        Ok(front) => front.len() == length,
+        Err(_) => false,
+    }
 }
 
 /// Whether the front of a slice was filled, and holds these bytes.

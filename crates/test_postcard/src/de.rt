@@ -1,6 +1,6 @@
 //! `postcard_de`: published bytes by each call, readers that fail, and refusals.
 use crate::checks::{
-    all_true, are_equal, check, check_all, check_at, fails, gives, is_text, is_vector,
+    all_true, are_equal, check, check_all, check_at, fails, gives, is_string, is_text, is_vector,
 };
 use arrayvec::{ArrayString, ArrayVec};
 use postcard_de::de_flavors::io::IOReader;
@@ -207,8 +207,8 @@ fn the_rest_after_a_tuple(rt: HostRuntime) {
     );
 }
 
-// Whether each call for an unsigned number reads the next of these.
-fn reads_unsigned_numbers<F: Flavor>(d: &mut Deserializer<F>) -> bool {
+// Whether each call for a number reads the next of these, also in an option and inside others.
+fn reads_numbers<F: Flavor>(d: &mut Deserializer<F>) -> bool {
     all_true([
         gives(d.deserialize_bool(), true),
         gives(d.deserialize_u8(), 7),
@@ -217,83 +217,26 @@ fn reads_unsigned_numbers<F: Flavor>(d: &mut Deserializer<F>) -> bool {
         gives(d.deserialize_u64(), 128),
         gives(d.deserialize_u128(), 129),
         gives(d.deserialize_enum(), 5),
-    ])
-}
-
-// Whether each call for a signed number reads the next of these.
-fn reads_signed_numbers<F: Flavor>(d: &mut Deserializer<F>) -> bool {
-    all_true([
         gives(d.deserialize_i8(), -1),
         gives(d.deserialize_i16(), 32767),
         gives(d.deserialize_i32(), -2),
         gives(d.deserialize_i64(), -1),
         gives(d.deserialize_i128(), 1),
-    ])
-}
-
-// Whether the calls that read nothing answer, where there is nothing to read.
-fn reads_nothing<F: Flavor>(d: &mut Deserializer<F>) -> bool {
-    all_true([
-        !d.is_human_readable(),
-        d.unit_variant().is_ok(),
-        d.deserialize_unit().is_ok(),
-        d.deserialize_unit_struct().is_ok(),
-        fails(d.deserialize_u16(), Error::DeserializeUnexpectedEnd),
-    ])
-}
-
-// Whether a character and a text to keep are the next to be read.
-fn reads_texts_to_keep<F: Flavor>(d: &mut Deserializer<F>) -> bool {
-    gives(d.deserialize_char(), 'z')
-        && matches!(&d.deserialize_string(), Ok(text) if is_text(text, "c"))
-}
-
-// Whether bytes to keep are the next to be read.
-fn reads_bytes_to_keep<F: Flavor>(d: &mut Deserializer<F>) -> bool {
-    is_vector(d.deserialize_byte_buf(), &[7])
-}
-
-#[test]
-fn each_call_for_a_text_or_bytes(rt: HostRuntime) {
-    let bytes = [1, 0x7A, 1, 0x63, 2, 0x61, 0x62, 1, 7, 2, 9, 8];
-    let mut d = Deserializer::from_bytes(rt.alloc(), &bytes);
-    check_all(
-        &rt,
-        [
-            reads_texts_to_keep(&mut d),
-            gives_bytes(d.deserialize_str(), &[0x61, 0x62]),
-            reads_bytes_to_keep(&mut d),
-            gives_bytes(d.deserialize_bytes(), &[9, 8]),
-        ],
-    );
-}
-
-// Whether an option and two numbers inside others are the next to be read.
-fn reads_wrapped_numbers<F: Flavor>(d: &mut Deserializer<F>) -> bool {
-    all_true([
         gives(d.deserialize_option(), true),
         gives(d.deserialize_newtype_struct::<u8>(), 6),
         gives(d.newtype_variant::<u8>(), 5),
     ])
 }
 
-// What those three calls read, one after another.
-const NUMBERS: [u8; 25] = [
-    1, 7, 0xC7, 0xCB, 0x02, 0x92, 0xE8, 0xAC, 0xED, 0x0C, 0x80, 0x01, 0x81, 0x01, 5, 0xFF, 0xFE,
-    0xFF, 0x03, 0x03, 0x01, 0x02, 1, 6, 5,
-];
-
-#[test]
-fn each_call_for_a_number(rt: HostRuntime) {
-    let mut d = Deserializer::from_bytes(rt.alloc(), &NUMBERS);
-    check_all(
-        &rt,
-        [
-            reads_unsigned_numbers(&mut d),
-            reads_signed_numbers(&mut d),
-            reads_wrapped_numbers(&mut d),
-        ],
-    );
+// Whether each call for a text or bytes reads the next of these, lent or to keep.
+fn reads_texts_and_bytes<'a, F: Flavor<Taken = &'a [u8]>>(d: &mut Deserializer<F>) -> bool {
+    all_true([
+        gives(d.deserialize_char(), 'z'),
+        is_string(d.deserialize_string(), "c"),
+        gives_bytes(d.deserialize_str(), &[0x61, 0x62]),
+        is_vector(d.deserialize_byte_buf(), &[7]),
+        gives_bytes(d.deserialize_bytes(), &[9, 8]),
+    ])
 }
 
 // 5000 elements behind their count.
@@ -345,32 +288,32 @@ fn counts_alone(rt: HostRuntime) {
     );
 }
 
-// Whether the calls that never answer leave the next byte to be read.
-fn never_answers<F: Flavor>(d: &mut Deserializer<F>) -> bool {
+// Whether the calls that never answer leave the next byte to be read, and those that read nothing answer behind it, where
+// there is nothing to read.
+fn reads_nothing<F: Flavor>(d: &mut Deserializer<F>) -> bool {
     all_true([
         fails(d.deserialize_any(), Error::WontImplement),
         fails(d.deserialize_identifier(), Error::WontImplement),
         fails(d.deserialize_ignored_any(), Error::WontImplement),
         gives(d.deserialize_u8(), 3),
+        !d.is_human_readable(),
+        d.unit_variant().is_ok(),
+        d.deserialize_unit().is_ok(),
+        d.deserialize_unit_struct().is_ok(),
+        fails(d.deserialize_u16(), Error::DeserializeUnexpectedEnd),
     ])
-}
-
-#[test]
-fn calls_that_read_nothing(rt: HostRuntime) {
-    let mut d = Deserializer::from_bytes(rt.alloc(), &[3]);
-    check(&rt, never_answers(&mut d) && reads_nothing(&mut d));
 }
 
 // Whether three parts are foretold, of which the last one is refused, and nothing is answered behind them.
 fn reads_parts<F: Flavor>(d: &mut Deserializer<F>) -> bool {
     match d.deserialize_seq() {
-        Ok(mut parts) => {
-            parts.size_hint() == Some(3)
-                && gives(parts.next_element::<u8>(), Some(1))
-                && gives(parts.next_element_owned::<u8>(), Some(2))
-                && fails(parts.next_element::<bool>(), Error::DeserializeBadBool)
-                && gives(parts.next_element::<u8>(), None)
-        }
+        Ok(mut parts) => all_true([
+            parts.size_hint() == Some(3),
+            gives(parts.next_element::<u8>(), Some(1)),
+            gives(parts.next_element_owned::<u8>(), Some(2)),
+            fails(parts.next_element::<bool>(), Error::DeserializeBadBool),
+            gives(parts.next_element::<u8>(), None),
+        ]),
         Err(_) => false,
     }
 }
@@ -403,22 +346,48 @@ fn counts_of_parts(rt: HostRuntime) {
 // Whether two entries are foretold and read, by both kinds of calls, and nothing is answered behind them.
 fn reads_entries<F: Flavor>(d: &mut Deserializer<F>) -> bool {
     match d.deserialize_map() {
-        Ok(mut map) => {
-            map.size_hint() == Some(2)
-                && gives(map.next_key::<u8>(), Some(5))
-                && gives(map.next_value::<u8>(), 6)
-                && gives(map.next_key_owned::<u8>(), Some(1))
-                && gives(map.next_value_owned::<u8>(), 7)
-                && gives(map.next_key::<u8>(), None)
-        }
+        Ok(mut map) => all_true([
+            map.size_hint() == Some(2),
+            gives(map.next_key::<u8>(), Some(5)),
+            gives(map.next_value::<u8>(), 6),
+            gives(map.next_key_owned::<u8>(), Some(1)),
+            gives(map.next_value_owned::<u8>(), 7),
+            gives(map.next_key::<u8>(), None),
+        ]),
         Err(_) => false,
     }
 }
 
+// What each call reads, one after another.
+const SENT: [u8; 47] = [
+    // numbers
+    1, 7, 0xC7, 0xCB, 0x02, 0x92, 0xE8, 0xAC, 0xED, 0x0C, 0x80, 0x01, 0x81, 0x01, 5, 0xFF, 0xFE,
+    0xFF, 0x03, 0x03, 0x01, 0x02, 1, 6, 5,
+    // texts and bytes
+    1, 0x7A, 1, 0x63, 2, 0x61, 0x62, 1, 7, 2, 9, 8,
+    // parts
+    3, 1, 2, 2,
+    // entries
+    2, 5, 6, 1, 7,
+    // what is behind the calls that never answer
+    3,
+];
+
+// Whether each call reads what it is to.
+fn reads_all<'a, F: Flavor<Taken = &'a [u8]>>(d: &mut Deserializer<F>) -> bool {
+    all_true([
+        reads_numbers(d),
+        reads_texts_and_bytes(d),
+        reads_parts(d),
+        reads_entries(d),
+        reads_nothing(d),
+    ])
+}
+
 #[test]
-fn parts_and_entries_one_at_a_time(rt: HostRuntime) {
-    let mut d = Deserializer::from_bytes(rt.alloc(), &[3, 1, 2, 2, 2, 5, 6, 1, 7]);
-    check(&rt, reads_parts(&mut d) && reads_entries(&mut d));
+fn each_call(rt: HostRuntime) {
+    let mut d = Deserializer::from_bytes(rt.alloc(), &SENT);
+    check(&rt, reads_all(&mut d));
 }
 
 #[test]

@@ -1,5 +1,6 @@
-//! Tests of `postcard_de`, `postcard` and `samples`, by their public calls alone: outside vectors and worked rows, each
-//! call once on its happy path, each generic one at a concrete type, writers and readers that fail.
+//! Tests of `postcard_tree`, `postcard_ser`, `postcard_de`, `postcard` and `samples`, by their public calls alone: outside
+//! vectors and worked rows, each call once on its happy path, each generic one at a concrete type, writers, readers and
+//! memory that fail, and the texts of these crates' and `cobs`' errors.
 //!
 //! They stand in a crate of their own because a crate with tests is proved twice, once with and once without them.
 #![tactic(auto)]
@@ -21,4 +22,16 @@ mod postcard_reading;
 #[cfg(test)]
 mod postcard_writing;
 #[cfg(test)]
+mod ser_calls;
+#[cfg(test)]
+mod ser_flavors;
+#[cfg(test)]
 mod ser_frames;
+#[cfg(test)]
+mod ser_span;
+#[cfg(test)]
+mod ser_texts;
+#[cfg(test)]
+mod texts;
+#[cfg(test)]
+mod tree;

@@ -78,15 +78,18 @@ fn structs(rt: HostRuntime) {
     );
 }
 
+// The variants without a payload, and their bytes.
+const VARIANTS: [(BasicEnum, &[u8]); 3] = [
+    (BasicEnum::Bib, &[0]),
+    (BasicEnum::Bim, &[1]),
+    (BasicEnum::Bap, &[2]),
+];
+
 /// A variant without a payload is its index; an index of none is refused.
 #[test]
 fn variants_without_payload(rt: HostRuntime) {
-    for (value, index) in [
-        (BasicEnum::Bib, 0),
-        (BasicEnum::Bim, 1),
-        (BasicEnum::Bap, 2),
-    ] {
-        check(&rt, is_spelled(rt.alloc(), &value, &[index]));
+    for (value, bytes) in &VARIANTS {
+        check(&rt, is_spelled(rt.alloc(), value, bytes));
     }
     check(
         &rt,

@@ -1,5 +1,5 @@
 //! `postcard`, frames: a long value, exact room, and an accumulator that is fed by itself.
-use crate::checks::{are_equal, check, check_all, check_at, gives};
+use crate::checks::{are_equal, begin_with, check, check_all, check_at, gives, has_length};
 use postcard::accumulator::{CobsAccumulator, FeedResult};
 use postcard::{from_bytes_cobs, to_allocvec_cobs, to_slice_cobs, to_stdvec_cobs, to_vec_cobs};
 use std::alloc::Global;
@@ -108,9 +108,11 @@ fn whole_frames_that_are_refused(rt: HostRuntime) {
 #[test]
 fn the_front_of_the_room(rt: HostRuntime) {
     let mut room = [0xEEu8; 8];
-    check(
+    check_all(
         &rt,
-        matches!(&to_slice_cobs(&"Hi!", &mut room), Ok(front) if front.len() == 6)
-            && are_equal(&room[..6], &[5, 3, 0x48, 0x69, 0x21, 0]),
+        [
+            has_length(to_slice_cobs(&"Hi!", &mut room), 6),
+            begin_with(&room, &[5, 3, 0x48, 0x69, 0x21, 0]),
+        ],
     );
 }

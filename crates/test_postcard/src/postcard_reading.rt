@@ -2,7 +2,8 @@
 use crate::checks::{are_equal, check, check_all, fails, gives, is_text};
 use postcard::fixint::{BE, LE, be, le};
 use postcard::laws::round_trip;
-use postcard::{Deserializer, Error, from_bytes, from_bytes_owned, from_io};
+use postcard::{Deserializer, Error, Result as Answer, from_bytes, from_bytes_owned, from_io};
+use std::alloc::Global;
 
 #[test]
 fn variants(rt: HostRuntime) {
@@ -38,27 +39,29 @@ fn fixed(rt: HostRuntime) {
 // Two texts, "ab" and "cd".
 const TEXTS: [u8; 6] = [2, 0x61, 0x62, 2, 0x63, 0x64];
 
-#[test]
-fn by_reader(rt: HostRuntime) {
-    let mut buffer = [0u8; 4];
-    let is_read = match from_io::<(&str, &str), _>(rt.alloc(), (&TEXTS[..], &mut buffer)) {
-        Ok(((a, b), (_, rest))) => is_text(a, "ab") && is_text(b, "cd") && rest.is_empty(),
-        Err(_) => false,
-    };
-    let mut small = [0u8; 3];
-    let cut = from_io::<(&str, &str), _>(rt.alloc(), (&TEXTS[..], &mut small));
-    check_all(&rt, [is_read, fails(cut, Error::DeserializeUnexpectedEnd)]);
+// Whether both texts are read by a reader, and these bytes of the buffer are left.
+fn reads_texts(alloc: Global, buffer: &mut [u8], left: &[u8]) -> Answer<bool> {
+    match from_io::<(&str, &str), _>(alloc, (&TEXTS[..], buffer)) {
+        Ok(((a, b), (_, rest))) => Ok(
+            is_text(a, "ab") && is_text(b, "cd") && are_equal(rest, left),
+        ),
+        Err(cause) => Err(cause),
+    }
 }
 
 // What a value borrows is kept at the front of the buffer, and the rest of it stays.
 #[test]
-fn the_rest_of_a_buffer(rt: HostRuntime) {
-    let mut buffer = [9u8; 6];
-    let is_left = match from_io::<(&str, &str), _>(rt.alloc(), (&TEXTS[..], &mut buffer)) {
-        Ok((_, (_, rest))) => are_equal(rest, &[9, 9]),
-        Err(_) => false,
-    };
-    check(&rt, is_left);
+fn by_reader(rt: HostRuntime) {
+    let alloc = rt.alloc();
+    let cut = reads_texts(alloc, &mut [0; 3], &[]);
+    check_all(
+        &rt,
+        [
+            gives(reads_texts(alloc, &mut [0; 4], &[]), true),
+            gives(reads_texts(alloc, &mut [9; 6], &[9, 9]), true),
+            fails(cut, Error::DeserializeUnexpectedEnd),
+        ],
+    );
 }
 
 #[test]
@@ -73,12 +76,16 @@ fn owned_by_reader(rt: HostRuntime) {
     check(&rt, is_read);
 }
 
+// Whether a number and a text are those that are written below.
+fn are_written(read: (u16, Option<&str>)) -> bool {
+    read.0 == 42439 && matches!(read.1, Some(text) if is_text(text, "Hi!"))
+}
+
 #[test]
 fn written_and_read(rt: HostRuntime) {
     let mut room = [0u8; 12];
-    let value = (42439u16, Some("Hi!"));
-    let is_same = match round_trip(rt.alloc(), &value, &[7], &mut room) {
-        Ok((read, rest)) => read == value && are_equal(rest, &[7]),
+    let is_same = match round_trip(rt.alloc(), &(42439u16, Some("Hi!")), &[7], &mut room) {
+        Ok((read, rest)) => are_written(read) && are_equal(rest, &[7]),
         Err(_) => false,
     };
     let mut small = [0u8; 3];

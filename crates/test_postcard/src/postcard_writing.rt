@@ -1,5 +1,8 @@
 //! `postcard`, writing: published bytes, writers that refuse, and greatest sizes.
-use crate::checks::{are_equal, check, check_all, fails, gives, is_array, is_slice, is_vector};
+use crate::checks::{
+    are_equal, begin_with, check, check_all, fails, gives, has_length, is_array, is_slice,
+    is_vector,
+};
 use arrayvec::{ArrayString, ArrayVec};
 use postcard::experimental::max_size::{MaxSize, MaxWritten};
 use postcard::experimental::serialized_size;
@@ -166,10 +169,12 @@ fn greatest_values(rt: HostRuntime) {
 #[test]
 fn the_front_of_the_room(rt: HostRuntime) {
     let mut room = [0xEEu8; 8];
-    check(
+    check_all(
         &rt,
-        matches!(&to_slice(&300u16, &mut room), Ok(front) if front.len() == 2)
-            && are_equal(&room[..2], &[0xAC, 0x02]),
+        [
+            has_length(to_slice(&300u16, &mut room), 2),
+            begin_with(&room, &[0xAC, 0x02]),
+        ],
     );
 }
 
@@ -183,7 +188,7 @@ fn the_front_of_a_slice(rt: HostRuntime) {
             slice.try_extend(&[1, 2]).is_ok(),
             slice.try_push(3).is_ok(),
             is_slice(slice.finalize(), &[1, 2, 3]),
-            are_equal(&room[..3], &[1, 2, 3]),
+            begin_with(&room, &[1, 2, 3]),
         ],
     );
 }

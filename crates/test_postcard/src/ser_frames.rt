@@ -1,5 +1,6 @@
 //! `postcard`: the flavor that makes a frame.
 use crate::checks::{check, check_all, fails, is_array, is_slice};
+use arrayvec::ArrayVec;
 use postcard::ser_flavors::{AllocVec, Cobs, Flavor, HVec, Slice};
 use postcard::{Error, Result as Answer, Serialize, Serializer};
 
@@ -26,21 +27,19 @@ fn rows(rt: HostRuntime) {
     );
 }
 
+/// The frame of a 5 and a zero in an array of so many bytes.
+fn framed_in<const N: usize>() -> Answer<ArrayVec<u8, N>> {
+    framed(&(5u8, 0u8), Cobs::try_new(HVec::<N>::new()))
+}
+
 #[test]
 fn arrays_with_and_without_room(rt: HostRuntime) {
-    let value = (5u8, 0u8);
     let mut none = [0u8; 0];
     check_all(
         &rt,
         [
-            is_array(
-                framed(&value, Cobs::try_new(HVec::<4>::new())),
-                &[2, 5, 1, 0],
-            ),
-            fails(
-                framed(&value, Cobs::try_new(HVec::<3>::new())),
-                Error::SerializeBufferFull,
-            ),
+            is_array(framed_in::<4>(), &[2, 5, 1, 0]),
+            fails(framed_in::<3>(), Error::SerializeBufferFull),
             fails(Cobs::try_new(HVec::<0>::new()), Error::SerializeBufferFull),
             fails(
                 Cobs::try_new(Slice::new(&mut none)),

@@ -1,20 +1,24 @@
 //! The texts of the libraries' errors.
-use crate::checks::check;
+use crate::checks::{check, check_all};
 use cobs::{DecodeError, DecodeVecError, DecoderState, DestBufTooSmallError};
 use postcard_tree::Error;
+use std::alloc::Global;
 use std::fmt::{Debug, Display};
-use std::process::Abort;
 
-// A value is shown as this text.
-fn shows<R: AllocGlobal + Abort>(rt: &R, value: &impl Display, text: &str) {
-    let shown = format!(in rt.alloc(); "{value}");
-    check(rt, matches!(&shown, Ok(shown) if shown.as_str() == text));
+// Whether a value is shown as this text.
+fn shows(alloc: Global, value: &impl Display, text: &str) -> bool {
+    match format!(in alloc; "{value}") {
+        Ok(shown) => shown.as_str() == text,
+        Err(_) => false,
+    }
 }
 
-// A value is shown so to a maintainer.
-fn names<R: AllocGlobal + Abort>(rt: &R, value: &impl Debug, text: &str) {
-    let shown = format!(in rt.alloc(); "{value:?}");
-    check(rt, matches!(&shown, Ok(shown) if shown.as_str() == text));
+// Whether a value is shown so to a maintainer.
+fn names(alloc: Global, value: &impl Debug, text: &str) -> bool {
+    match format!(in alloc; "{value:?}") {
+        Ok(shown) => shown.as_str() == text,
+        Err(_) => false,
+    }
 }
 
 const DECODE_ERRORS: [(DecodeError, &str); 3] = [
@@ -26,22 +30,37 @@ const DECODE_ERRORS: [(DecodeError, &str); 3] = [
     (DecodeError::TargetBufTooSmall, "target buffer too small"),
 ];
 
+// Whether an error that stops a decoder is shown so, by itself and as one of those that a vector brings.
+fn is_shown_twice(alloc: Global, error: DecodeError, text: &str) -> bool {
+    shows(alloc, &error, text) && shows(alloc, &DecodeVecError::Decode(error), text)
+}
+
 #[test]
 fn of_cobs(rt: HostRuntime) {
+    let alloc = rt.alloc();
     for (error, text) in &DECODE_ERRORS {
-        shows(&rt, error, text);
-        shows(&rt, &DecodeVecError::Decode(*error), text);
+        check(&rt, is_shown_twice(alloc, *error, text));
     }
-    shows(&rt, &DecodeVecError::OutOfMemory, "no memory");
-    shows(&rt, &DestBufTooSmallError, "destination buffer too small");
+    check_all(
+        &rt,
+        [
+            shows(alloc, &DecodeVecError::OutOfMemory, "no memory"),
+            shows(alloc, &DestBufTooSmallError, "destination buffer too small"),
+        ],
+    );
 }
 
 #[test]
 fn by_debug(rt: HostRuntime) {
     let broken = DecodeError::InvalidFrame { decoded_bytes: 12 };
-    names(&rt, &broken, "InvalidFrame { decoded_bytes: 12 }");
-    names(&rt, &DecoderState::GrabChain(3), "GrabChain(3)");
-    names(&rt, &Error::OutOfMemory, "OutOfMemory");
+    check_all(
+        &rt,
+        [
+            names(rt.alloc(), &broken, "InvalidFrame { decoded_bytes: 12 }"),
+            names(rt.alloc(), &DecoderState::GrabChain(3), "GrabChain(3)"),
+            names(rt.alloc(), &Error::OutOfMemory, "OutOfMemory"),
+        ],
+    );
 }
 
 const ERRORS: [(Error, &str); 17] = [
@@ -94,6 +113,6 @@ const ERRORS: [(Error, &str); 17] = [
 #[test]
 fn of_postcard(rt: HostRuntime) {
     for (error, text) in &ERRORS {
-        shows(&rt, error, text);
+        check(&rt, shows(rt.alloc(), error, text));
     }
 }
