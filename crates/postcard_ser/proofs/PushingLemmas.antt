@@ -4,6 +4,7 @@ use Rattle.std.proofs.lemmas.Result.{err_from_is_err_and}
 use Rattle.std.proofs.lemmas.List.{take_more, take-append-drop}
 use Rattle.postcard_tree.specs.declared.error.Error.{Error}
 use Rattle.std.specs.Char.{encode_utf8}
+use Rattle.std.specs.Prelude.{OnOk}
 use Rattle.postcard_tree.specs.Tree.{Tree, Trees, number, character, IsTree, parts, group_of, text_of}
 use Rattle.postcard_tree.specs.Texts.{short_text}
 use Rattle.postcard_tree.specs.Spelling.{short, short_all, varint}
@@ -119,3 +120,8 @@ pub char_exit : {S T U : Type 0} {took : S → List ℕ → S → Type 0} {refus
 char_exit {U = U} {took = took} {refused = refused} laws {s = s} {t = t} c bs i v {e = e} r f q =
     let a = err_from_is_err_and r f in rw (a.1, a.2)
     (pushes_tree {T = U} {tree = character c} i (subst (λ x. Pushes {T = U} took refused s (varint (length x) ++ x) (Err e) t) v (pushes_stop {T = U} laws bs q.err)))
+
+-- a part that holds stands before what an Ok says of the others
+pub also_valid : {T P : Type 0} (Q : Type 0) (r : Result T Error) → P → OnOk r Q → OnOk r (P × Q)
+also_valid Q (Ok x) p q = (p, q)
+also_valid Q (Err e) p q = tt
