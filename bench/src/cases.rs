@@ -201,7 +201,7 @@ fn print_grid(report: &mut Report, call: &str, grid: &Grid) {
             let wider = named(timed, Side::Wider, call)
                 .map_or(String::new(), |time| format!("; v3 {:.2}", time / best_peer(timed).median));
             cells.push(format!("{ratio}, {}{wider}", duration(ours)));
-            if len == LARGE {
+            if len == LARGE || kind == 0 {
                 report.change(&what, timed, call);
             }
         }
