@@ -5,8 +5,8 @@ use Rattle.std.specs.Prelude.{bit_xor}
 use Rattle.std.specs.Int.Bits.{xor_assoc, xor_self, xor_zero_r}
 use Rattle.std.specs.List.{AllByRecursion}
 use borrow.Rule.Slice.PartMut.{put_mid}
-use Rattle.cobs.specs.Frames.{NoZero}
-use Rattle.cobs.specs.Held.{pushed, Laid, GoesOnFromBlock, HoldsFrame}
+use Rattle.cobs.specs.Frames.{NoZero, shortest_frame}
+use Rattle.cobs.specs.Held.{pushed, Laid, GoesOnFromBlock, GoesOnBy, HoldsFrame}
 use Rattle.cobs.specs.Sentinel.{masked, frame_for}
 use Rattle.cobs.proofs.HoldingLemmas.{holds_new, opens_next}
 
@@ -93,6 +93,17 @@ opens_masked s bytes code_at len l r o g = rw (masked_put s bytes len 1) (opens_
 -- the buffer's front is the frame for the sentinel
 pub front_masked : (sentinel : ℕ) (bytes : List ℕ) (code_at len : ℕ) → HoldsFrame (masked sentinel bytes) code_at len → take len bytes ≡ frame_for sentinel (pushed (masked sentinel bytes) len)
 front_masked s bytes code_at len h = sym (ap (masked s) (h.is ∙ masked_take s len bytes) ∙ masked_twice s (take len bytes))
+
+-- a piece put behind the begun frame of nothing: the buffer's front is the frame of the piece, of this length
+pub framed_by : (sentinel : ℕ) (bytes piece buffer : List ℕ) (code_at len : ℕ) → 0 < length bytes
+    → GoesOnBy (masked sentinel (set bytes 0 (bit_xor sentinel 1))) 0 1 piece (masked sentinel buffer) code_at len
+    → (len ≡ length (shortest_frame piece)) × (take len buffer ≡ frame_for sentinel piece)
+framed_by s bytes piece buffer code_at len some put =
+    let begun = begins_masked s bytes some in
+    let held = put _ begun.0.goes_on in
+    let message = held.1 ∙ ap (λ m. m ++ piece) begun.1 in
+    let long = sym (length-take-le len (masked s buffer) held.0.laid.within) ∙ ap length (sym held.0.is) in
+    (long ∙ ap (λ m. length (shortest_frame m)) message, front_masked s buffer code_at len held.0 ∙ ap (frame_for s) message)
 
 -- only zero becomes the sentinel
 becomes_sentinel : (sentinel byte : ℕ) → bit_xor sentinel byte ≡ sentinel → byte ≡ 0
