@@ -15,7 +15,7 @@ const SHORT: usize = 1017;
 pub const ROOM: usize = LIMIT + 2;
 
 /// The text of a line, if it is UTF-8. It is looked at only where that isn't known of it.
-fn text_in(line: &[u8], is_text: bool) -> Option<&str>
+fn as_text(line: &[u8], is_text: bool) -> Option<&str>
     requires { IsTrue is_text → IsUtf8 line.now }
     ensures { MatchOption result (IsUtf8 line.now → ⊥)
         (λ text. (text.now ≡ line.now) × IsUtf8 line.now) }
@@ -42,7 +42,7 @@ pub fn is_sendable(line: &[u8], is_text: bool) -> bool
     if line.len() > SHORT {
         return frame_clean(line, is_text, 0, &mut [0; LIMIT + 1]) > 0;
     }
-    match text_in(line, is_text) {
+    match as_text(line, is_text) {
         Some(_) => true,
         None => false,
     }
@@ -57,7 +57,7 @@ fn frame_clean(line: &[u8], is_text: bool, sentinel: u8, room: &mut [u8]) -> usi
         × (take result room.new ≡ written sentinel true x) × (is_whole x ≡ nat_lt 0 result) }
     ensures within { result ≤ length room.new }
 {
-    let Some(text) = text_in(line, is_text) else {
+    let Some(text) = as_text(line, is_text) else {
         return 0;
     };
     let front = &mut room[..LIMIT];
