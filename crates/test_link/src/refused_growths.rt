@@ -5,7 +5,7 @@
 ghost use Rattle.std.specs.Prelude.{◌≡◌, ◌<◌, false, ⊤};
 ghost use Rattle.link.specs.Each.{HeardAnyhow, heard_anyhow};
 
-use crate::checks::{are_bytes, are_fates, check, is_answer, is_told};
+use crate::checks::{all_true, are_bytes, are_fates, check, is_answer, is_told};
 use cobs::{CobsDecoderOwned, DecodeVecError};
 use line_io::memory::{In, Out};
 use link::{
@@ -707,20 +707,15 @@ fn has_length(written: postcard::Result<&mut [u8]>, length: usize) -> bool {
 #[test]
 fn none_asked_by_writing(rt: HostRuntime) {
     let mut room = [0u8; 16];
-    check(&rt, has_length(to_slice(&"Hi!", &mut room), 4));
-    check(&rt, has_length(to_slice_cobs(&"Hi!", &mut room), 6));
-    let written = to_io(&"Hi!", &mut room[..]);
-    check(&rt, written.is_ok());
-    let size = serialized_size(&"Hi!");
-    check(&rt, matches!(&size, Ok(4)));
-}
-
-#[test]
-fn none_asked_by_arrays(rt: HostRuntime) {
-    let plain = to_vec::<_, 4>(&"Hi!");
-    check(&rt, matches!(&plain, Ok(it) if it.len() == 4));
-    let framed = to_vec_cobs::<_, 6>(&"Hi!");
-    check(&rt, matches!(&framed, Ok(it) if it.len() == 6));
+    let are_written = [
+        has_length(to_slice(&"Hi!", &mut room), 4),
+        has_length(to_slice_cobs(&"Hi!", &mut room), 6),
+        to_io(&"Hi!", &mut room[..]).is_ok(),
+        is_value(&serialized_size(&"Hi!"), &4),
+        matches!(&to_vec::<_, 4>(&"Hi!"), Ok(it) if it.len() == 4),
+        matches!(&to_vec_cobs::<_, 6>(&"Hi!"), Ok(it) if it.len() == 6),
+    ];
+    check(&rt, all_true(are_written));
 }
 
 // The message of "Hi!".
@@ -736,12 +731,13 @@ fn is_value<T: PartialEq>(read: &postcard::Result<T>, wanted: &T) -> bool {
 
 #[test]
 fn none_asked_by_reading(rt: HostRuntime) {
-    let text = from_bytes::<&str>(rt.alloc(), &HI);
-    check(&rt, is_value(&text, &"Hi!"));
-    let bytes = from_bytes_owned::<[u8; 4]>(rt.alloc(), &HI);
-    check(&rt, is_value(&bytes, &HI));
-    let taken = take_from_bytes::<u8>(rt.alloc(), &HI);
-    check(&rt, matches!(&taken, Ok((3, _))));
+    let alloc = rt.alloc();
+    let are_read = [
+        is_value(&from_bytes::<&str>(alloc, &HI), &"Hi!"),
+        is_value(&from_bytes_owned::<[u8; 4]>(alloc, &HI), &HI),
+        matches!(&take_from_bytes::<u8>(alloc, &HI), Ok((3, _))),
+    ];
+    check(&rt, all_true(are_read));
 }
 
 #[test]
@@ -759,14 +755,6 @@ fn brings_five(pushed: &Pushed<u32>) -> bool {
     is_answer(&pushed.answer, &Answer::Value(5))
 }
 
-#[test]
-fn none_asked_by_receiving(rt: HostRuntime) {
-    let mut receiver = Receiver::<8>::new();
-    check(&rt, brings_five(&receiver.push(rt.alloc(), &FIVES)));
-    check(&rt, brings_five(&receiver.push_strict(rt.alloc(), &FIVES)));
-    check(&rt, brings_five(&receiver.push_ref(rt.alloc(), &FIVES)));
-}
-
 // Whether an accumulator answered 5.
 fn is_five(answer: FeedResult<'_, u32>) -> bool {
     match answer {
@@ -776,33 +764,45 @@ fn is_five(answer: FeedResult<'_, u32>) -> bool {
 }
 
 #[test]
-fn none_asked_by_accumulators(rt: HostRuntime) {
+fn none_asked_by_receiving(rt: HostRuntime) {
+    let alloc = rt.alloc();
+    let mut receiver = Receiver::<8>::new();
     let mut accumulator: CobsAccumulator<8> = CobsAccumulator::new();
-    check(&rt, is_five(accumulator.feed(rt.alloc(), &FIVES)));
-    check(&rt, is_five(accumulator.feed_ref(rt.alloc(), &FIVES)));
+    let are_fives = [
+        brings_five(&receiver.push(alloc, &FIVES)),
+        brings_five(&receiver.push_strict(alloc, &FIVES)),
+        brings_five(&receiver.push_ref(alloc, &FIVES)),
+        is_five(accumulator.feed(alloc, &FIVES)),
+        is_five(accumulator.feed_ref(alloc, &FIVES)),
+    ];
+    check(&rt, all_true(are_fives));
+}
+
+fn is_five_framed(alloc: Global) -> bool {
+    let mut line = FIVES;
+    is_value(&from_bytes_cobs::<u32>(alloc, &mut line), &5)
+}
+
+fn is_five_taken(alloc: Global) -> bool {
+    let mut line = FIVES;
+    matches!(&take_from_bytes_cobs::<u32>(alloc, &mut line), Ok((5, _)))
+}
+
+fn is_five_in_place(alloc: Global) -> bool {
+    let mut line = FIVES;
+    match read_in_place::<u32>(alloc, &mut line) {
+        Some((answer, rest)) => is_told(&answer, &Answer::Value(5)) && rest.len() == 3,
+        None => false,
+    }
 }
 
 #[test]
 fn none_asked_by_frames(rt: HostRuntime) {
-    let mut line = FIVES;
-    let read = from_bytes_cobs::<u32>(rt.alloc(), &mut line);
-    check(&rt, is_value(&read, &5));
-}
-
-#[test]
-fn none_asked_by_frames_with_a_rest(rt: HostRuntime) {
-    let mut line = FIVES;
-    let taken = take_from_bytes_cobs::<u32>(rt.alloc(), &mut line);
-    check(&rt, matches!(&taken, Ok((5, _))));
-}
-
-#[test]
-fn none_asked_in_place(rt: HostRuntime) {
-    let mut line = FIVES;
-    match read_in_place::<u32>(rt.alloc(), &mut line) {
-        Some((answer, rest)) => {
-            check(&rt, is_told(&answer, &Answer::Value(5)) && rest.len() == 3);
-        }
-        None => check(&rt, false),
-    }
+    let alloc = rt.alloc();
+    let are_fives = [
+        is_five_framed(alloc),
+        is_five_taken(alloc),
+        is_five_in_place(alloc),
+    ];
+    check(&rt, all_true(are_fives));
 }

@@ -1,10 +1,10 @@
 //! `example_station`: each message type is written as these bytes, and read back.
-use crate::checks::check;
+use crate::checks::{all_true, check, writes};
 use example_station::messages::{
     Address, Command, Config, Event, Level, LogRecord, Packet, Ping, Report, SensorReading,
 };
 use postcard::experimental::max_size::MaxSize;
-use postcard::{Deserialize, Serialize, from_bytes, from_bytes_owned, to_slice};
+use postcard::{Deserialize, Serialize, from_bytes, from_bytes_owned};
 use std::alloc::Global;
 
 const READING: SensorReading = SensorReading {
@@ -13,15 +13,6 @@ const READING: SensorReading = SensorReading {
     celsius: -1,
     valid: true,
 };
-
-// Whether a value is written as these bytes.
-fn writes<T: Serialize>(value: &T, bytes: &[u8]) -> bool {
-    let mut room = [0u8; 64];
-    match to_slice(value, &mut room) {
-        Ok(written) => *written == *bytes,
-        Err(_) => false,
-    }
-}
 
 // The value of these bytes, if it is written as they are.
 fn reread<'a, T: Serialize + Deserialize<&'a [u8]>>(alloc: Global, bytes: &'a [u8]) -> Option<T> {
@@ -56,11 +47,6 @@ fn are_all<'a, T: Serialize + Deserialize<&'a [u8]> + PartialEq + Drop>(
 
 const READINGS: [(&[u8], SensorReading); 1] = [(&[0xAC, 2, 1, 1, 1], READING)];
 
-#[test]
-fn readings(rt: HostRuntime) {
-    check(&rt, are_all(rt.alloc(), &READINGS, &[0xAC, 2, 1, 1, 2]));
-}
-
 fn is_the_record(record: &LogRecord) -> bool {
     record.level == Level::Warning
         && record.at == 5
@@ -68,30 +54,29 @@ fn is_the_record(record: &LogRecord) -> bool {
         && record.source == Some(7)
 }
 
-#[test]
-fn records(rt: HostRuntime) {
-    let record = reread(rt.alloc(), &[1, 5, 1, 65, 1, 7]);
-    check(&rt, matches!(&record, Some(it) if is_the_record(it)));
+fn record_is_reread(alloc: Global) -> bool {
+    match reread(alloc, &[1, 5, 1, 65, 1, 7]) {
+        Some(record) => is_the_record(&record),
+        None => false,
+    }
 }
 
 const PINGS: [(&[u8], Ping); 1] = [(&[], Ping)];
 
-#[test]
-fn addresses(rt: HostRuntime) {
-    let read = from_bytes_owned::<Address>(rt.alloc(), &[0xAC, 2]);
-    check(&rt, writes(&Address(300), &[0xAC, 2]));
-    check(&rt, matches!(&read, Ok(Address(300))));
-    check(&rt, are_reread(rt.alloc(), &PINGS));
+fn address_is_reread(alloc: Global) -> bool {
+    let read = from_bytes_owned::<Address>(alloc, &[0xAC, 2]);
+    writes(&Address(300), &[0xAC, 2]) && matches!(&read, Ok(Address(300)))
 }
 
 fn is_the_packet(packet: &Packet<'_>) -> bool {
     packet.to == Address(7) && packet.text == "Hi" && packet.body == [9].as_slice()
 }
 
-#[test]
-fn packets(rt: HostRuntime) {
-    let packet = reread::<Packet>(rt.alloc(), &[7, 2, 72, 105, 1, 9]);
-    check(&rt, matches!(&packet, Some(it) if is_the_packet(it)));
+fn packet_is_reread(alloc: Global) -> bool {
+    match reread(alloc, &[7, 2, 72, 105, 1, 9]) {
+        Some(packet) => is_the_packet(&packet),
+        None => false,
+    }
 }
 
 const REPORT: [u8; 15] = [1, 2, 3, 4, 5, 6, 7, 8, 1, 1, 122, 1, 9, 10, 11];
@@ -100,18 +85,14 @@ fn is_the_report(it: &Report) -> bool {
     it.e == 5 && it.f == 3 && it.h == 4 && it.j == 'z' && it.k == Some(9) && it.l == (10, 11)
 }
 
-#[test]
-fn reports(rt: HostRuntime) {
-    let report = reread::<Report>(rt.alloc(), &REPORT);
-    check(&rt, matches!(&report, Some(it) if is_the_report(it)));
+fn report_is_reread(alloc: Global) -> bool {
+    match reread(alloc, &REPORT) {
+        Some(report) => is_the_report(&report),
+        None => false,
+    }
 }
 
 const LEVELS: [(&[u8], Level); 1] = [(&[2], Level::Info)];
-
-#[test]
-fn levels(rt: HostRuntime) {
-    check(&rt, are_all(rt.alloc(), &LEVELS, &[3]));
-}
 
 const EVENTS: [(&[u8], Event); 4] = [
     (&[3, 1, 2], Event::Moved { x: -1, y: 1 }),
@@ -121,8 +102,15 @@ const EVENTS: [(&[u8], Event); 4] = [
 ];
 
 #[test]
-fn events(rt: HostRuntime) {
-    check(&rt, are_all(rt.alloc(), &EVENTS, &[12]));
+fn rows(rt: HostRuntime) {
+    let alloc = rt.alloc();
+    let are_right = [
+        are_all(alloc, &READINGS, &[0xAC, 2, 1, 1, 2]),
+        are_reread(alloc, &PINGS),
+        are_all(alloc, &LEVELS, &[3]),
+        are_all(alloc, &EVENTS, &[12]),
+    ];
+    check(&rt, all_true(are_right));
 }
 
 // Whether a command is this text.
@@ -138,12 +126,16 @@ fn command_of(alloc: Global, bytes: &[u8]) -> Option<Command> {
     reread(alloc, bytes)
 }
 
-#[test]
-fn commands(rt: HostRuntime) {
-    let said = command_of(rt.alloc(), &[4, 2, 72, 105]);
-    check(&rt, matches!(&said, Some(it) if is_said(it, "Hi")));
-    let moved = command_of(rt.alloc(), &[2, 1, 2]);
-    check(&rt, matches!(&moved, Some(Command::Move { x: -1, y: 1 })));
+fn saying_is_reread(alloc: Global) -> bool {
+    match command_of(alloc, &[4, 2, 72, 105]) {
+        Some(said) => is_said(&said, "Hi"),
+        None => false,
+    }
+}
+
+fn moving_is_reread(alloc: Global) -> bool {
+    let moved = command_of(alloc, &[2, 1, 2]);
+    matches!(&moved, Some(Command::Move { x: -1, y: 1 }))
 }
 
 fn is_the_config(it: &Config) -> bool {
@@ -157,10 +149,26 @@ fn is_the_config(it: &Config) -> bool {
 
 const CONFIG: [u8; 18] = [1, 65, 1, 0xAC, 2, 1, 1, 1, 1, 2, 1, 2, 3, 4, 1, 9, 1, 66];
 
+fn config_is_reread(alloc: Global) -> bool {
+    match reread(alloc, &CONFIG) {
+        Some(config) => is_the_config(&config),
+        None => false,
+    }
+}
+
 #[test]
-fn configurations(rt: HostRuntime) {
-    let config = reread(rt.alloc(), &CONFIG);
-    check(&rt, matches!(&config, Some(it) if is_the_config(it)));
+fn values(rt: HostRuntime) {
+    let alloc = rt.alloc();
+    let are_reread = [
+        record_is_reread(alloc),
+        address_is_reread(alloc),
+        packet_is_reread(alloc),
+        report_is_reread(alloc),
+        saying_is_reread(alloc),
+        moving_is_reread(alloc),
+        config_is_reread(alloc),
+    ];
+    check(&rt, all_true(are_reread));
 }
 
 #[test]

@@ -1,6 +1,6 @@
 //! `postcard` for any sentinel: the calls with `_cobs`, and the accumulator.
 use crate::checks::{are_equal, check, check_all, fails, gives, is_array, is_slice, is_vector};
-use crate::postcard_frames::tells;
+use crate::postcard_frames::{is_consumed, is_refused, is_value};
 use postcard::accumulator::CobsAccumulator;
 use postcard::{
     Error, from_bytes_cobs_with_sentinel, take_from_bytes_cobs_with_sentinel,
@@ -64,12 +64,9 @@ fn accumulator(rt: HostRuntime) {
     check_all(
         &rt,
         [
-            tells(
-                accumulator.feed(rt.alloc(), &[0xFD, 0xFE, 0xFF]),
-                ('S', 0, 1),
-            ),
-            tells(accumulator.feed(rt.alloc(), &[0xFD]), ('C', 0, 0)),
-            tells(accumulator.feed_ref(rt.alloc(), &[0xFF, 0]), ('D', 1, 0)),
+            is_value(accumulator.feed(rt.alloc(), &[0xFD, 0xFE, 0xFF]), 1, 0),
+            is_consumed(accumulator.feed(rt.alloc(), &[0xFD])),
+            is_refused(accumulator.feed_ref(rt.alloc(), &[0xFF, 0]), 1),
         ],
     );
 }

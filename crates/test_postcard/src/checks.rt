@@ -15,7 +15,7 @@ pub(crate) fn all_true<const N: usize>(found: [bool; N]) -> bool {
 
 /// Ends a test that found one of these wrong.
 pub(crate) fn check_all<const N: usize>(rt: &impl Abort, are_right: [bool; N]) {
-    assert_eq!(rt; are_right, [true; N]);
+    assert!(rt; all_true(are_right));
 }
 
 /// Ends a test that found a row wrong.
@@ -65,9 +65,9 @@ pub(crate) fn is_text(found: &str, wanted: &str) -> bool {
 }
 
 /// Whether a text was given, and is this one.
-pub(crate) fn is_string(given: Result<String>, wanted: &str) -> bool {
+pub(crate) fn is_string<E: Drop>(given: std::result::Result<String, E>, wanted: &str) -> bool {
     match given {
-        Ok(held) => held.as_str() == wanted,
+        Ok(held) => is_text(held.as_str(), wanted),
         Err(_) => false,
     }
 }
@@ -83,17 +83,31 @@ pub(crate) fn has_length(written: Result<&mut [u8]>, length: usize) -> bool {
 /// Whether the front of a slice was filled, and holds these bytes.
 pub(crate) fn is_slice(written: Result<&mut [u8]>, bytes: &[u8]) -> bool {
     match written {
-        Ok(front) => *front == *bytes,
+        Ok(front) => are_equal(front, bytes),
         Err(_) => false,
     }
 }
 
 /// Whether an array was filled, and holds these bytes.
 pub(crate) fn is_array<const N: usize>(written: Result<ArrayVec<u8, N>>, bytes: &[u8]) -> bool {
-    matches!(&written, Ok(held) if held.as_slice() == bytes)
+    match written {
+        Ok(held) => are_equal(held.as_slice(), bytes),
+        Err(_) => false,
+    }
 }
 
 /// Whether a vector was filled, and holds these bytes.
 pub(crate) fn is_vector(written: Result<Vec<u8>>, bytes: &[u8]) -> bool {
-    matches!(&written, Ok(held) if held.as_slice() == bytes)
+    match written {
+        Ok(held) => are_equal(held.as_slice(), bytes),
+        Err(_) => false,
+    }
+}
+
+/// Whether bytes are given, and are these.
+pub(crate) fn gives_bytes(given: Result<&[u8]>, bytes: &[u8]) -> bool {
+    match given {
+        Ok(given) => are_equal(given, bytes),
+        Err(_) => false,
+    }
 }

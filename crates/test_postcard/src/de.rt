@@ -1,6 +1,7 @@
 //! `postcard_de`: published bytes by each call, readers that fail, and refusals.
 use crate::checks::{
-    all_true, are_equal, check, check_all, check_at, fails, gives, is_string, is_text, is_vector,
+    all_true, are_equal, check, check_all, check_at, fails, gives, gives_bytes, is_string, is_text,
+    is_vector,
 };
 use arrayvec::{ArrayString, ArrayVec};
 use postcard_de::de_flavors::io::IOReader;
@@ -59,14 +60,6 @@ impl Read for Broken<'_> {
     }
 }
 
-// Whether these bytes are given.
-fn gives_bytes(given: Result<&[u8]>, bytes: &[u8]) -> bool {
-    match given {
-        Ok(given) => *given == *bytes,
-        Err(_) => false,
-    }
-}
-
 #[test]
 fn a_slice_gives_its_bytes(rt: HostRuntime) {
     let mut slice = Slice::new(&[1, 2, 3, 4]);
@@ -116,12 +109,12 @@ fn bytes_by_a_reader_use_the_buffer(rt: HostRuntime) {
     let bytes = [0xAA, 0xBB, 0xCC, 0xDD, 0xEE];
     let mut buffer = [0u8; 8];
     let mut reader = IOReader::new(&bytes[..], &mut buffer);
-    check(&rt, takes_two_pairs(&mut reader));
+    let are_taken = takes_two_pairs(&mut reader);
     let is_shared = match reader.finalize() {
         Ok((_, rest)) => rest.len() == 2,
         Err(_) => false,
     };
-    check(&rt, is_shared);
+    check(&rt, are_taken && is_shared);
 }
 
 // Whether three bytes are refused by each call, and given by two others.
@@ -139,12 +132,12 @@ fn a_buffer_that_is_too_small_stays_whole(rt: HostRuntime) {
     let bytes = [1, 2, 3];
     let mut buffer = [0u8; 2];
     let mut reader = IOReader::new(&bytes[..], &mut buffer);
-    check(&rt, refuses_three_bytes(&mut reader));
+    let are_refused = refuses_three_bytes(&mut reader);
     let is_whole = match reader.finalize() {
         Ok((left, rest)) => left.is_empty() && rest.len() == 2,
         Err(_) => false,
     };
-    check(&rt, is_whole);
+    check(&rt, are_refused && is_whole);
 }
 
 // The tuple (1, 10, "Hello!").

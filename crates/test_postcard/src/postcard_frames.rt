@@ -26,15 +26,27 @@ fn long_values_and_exact_room(rt: HostRuntime) {
     );
 }
 
-// Whether an accumulator answered so, in short: C, O, D or S, how many bytes are left, and the value.
-pub(crate) fn tells(answer: FeedResult<'_, u8>, wanted: (char, usize, u8)) -> bool {
-    let (letter, left, value) = match answer {
-        FeedResult::Consumed => ('C', 0, 0),
-        FeedResult::OverFull(rest) => ('O', rest.len(), 0),
-        FeedResult::DeserError(rest) => ('D', rest.len(), 0),
-        FeedResult::Success { value, remaining } => ('S', remaining.len(), value),
-    };
-    letter == wanted.0 && left == wanted.1 && value == wanted.2
+// Whether an accumulator took all, and waits for more.
+pub(crate) fn is_consumed(answer: FeedResult<'_, u8>) -> bool {
+    matches!(answer, FeedResult::Consumed)
+}
+
+// Whether a frame was too long, with so many bytes left behind it.
+fn is_over_full(answer: FeedResult<'_, u8>, left: usize) -> bool {
+    matches!(answer, FeedResult::OverFull(rest) if rest.len() == left)
+}
+
+// Whether a frame was refused, with so many bytes left behind it.
+pub(crate) fn is_refused(answer: FeedResult<'_, u8>, left: usize) -> bool {
+    matches!(answer, FeedResult::DeserError(rest) if rest.len() == left)
+}
+
+// Whether a frame was of this value, with so many bytes left behind it.
+pub(crate) fn is_value(answer: FeedResult<'_, u8>, wanted: u8, left: usize) -> bool {
+    match answer {
+        FeedResult::Success { value, remaining } => value == wanted && remaining.len() == left,
+        _ => false,
+    }
 }
 
 #[test]
@@ -43,10 +55,10 @@ fn pieces(rt: HostRuntime) {
     check_all(
         &rt,
         [
-            tells(accumulator.feed(rt.alloc(), &[2]), ('C', 0, 0)),
-            tells(accumulator.feed(rt.alloc(), &[]), ('C', 0, 0)),
-            tells(accumulator.feed(rt.alloc(), &[7, 0, 1]), ('S', 1, 7)),
-            tells(accumulator.feed_ref(rt.alloc(), &[3, 1, 0, 9]), ('D', 1, 0)),
+            is_consumed(accumulator.feed(rt.alloc(), &[2])),
+            is_consumed(accumulator.feed(rt.alloc(), &[])),
+            is_value(accumulator.feed(rt.alloc(), &[7, 0, 1]), 7, 1),
+            is_refused(accumulator.feed_ref(rt.alloc(), &[3, 1, 0, 9]), 1),
         ],
     );
 }
@@ -97,11 +109,11 @@ fn a_frame_whole_and_in_two(rt: HostRuntime) {
 fn whole_frames_that_are_refused(rt: HostRuntime) {
     let mut accumulator: CobsAccumulator<10> = CobsAccumulator::new();
     let cut = accumulator.feed(rt.alloc(), &[11, 1, 1, 1, 1, 1, 1, 1, 1, 0, 5]);
-    let is_cut = tells(cut, ('D', 1, 0));
+    let is_cut = is_refused(cut, 1);
     let empty = accumulator.feed(rt.alloc(), &[0, 2, 7, 0, 1, 1, 1, 1, 1]);
-    let is_empty = tells(empty, ('D', 8, 0));
+    let is_empty = is_refused(empty, 8);
     let long = accumulator.feed(rt.alloc(), &[11, 1, 1, 1, 1, 1, 1, 1, 1, 1, 1, 0, 5]);
-    check_all(&rt, [is_cut, is_empty, tells(long, ('O', 1, 0))]);
+    check_all(&rt, [is_cut, is_empty, is_over_full(long, 1)]);
 }
 
 // What is answered is the front of the caller's own slice.

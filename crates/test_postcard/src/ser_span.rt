@@ -1,5 +1,5 @@
 //! `postcard_ser`: a buffer and a cursor in it, written and read, and parts of it that are taken for good.
-use crate::checks::{are_equal, check, check_all};
+use crate::checks::{all_true, are_equal, check, check_all};
 use postcard_ser::memory::Span;
 
 #[test]
@@ -9,14 +9,13 @@ fn bytes_are_written(rt: HostRuntime) {
     span.push(7);
     span.push_slice(&[1, 2]);
     span.set_byte(0, 9);
-    check_all(
-        &rt,
-        [span.byte(0) == 9, span.count() == 3, span.remaining() == 1],
-    );
-    check(
-        &rt,
-        are_equal(span.front(1), &[0]) && are_equal(span.into_behind(), &[9, 1, 2]),
-    );
+    let is_written = all_true([
+        span.byte(0) == 9,
+        span.count() == 3,
+        span.remaining() == 1,
+        are_equal(span.front(1), &[0]),
+    ]);
+    check(&rt, is_written && are_equal(span.into_behind(), &[9, 1, 2]));
 }
 
 #[test]
@@ -26,11 +25,8 @@ fn a_front_stays_while_the_rest_is_written(rt: HostRuntime) {
     rest.push(8);
     front[0] = 9;
     rest.push(7);
-    check(
-        &rt,
-        are_equal(front, &[9, 2]) && are_equal(rest.into_behind(), &[8, 7]),
-    );
-    check(&rt, are_equal(&buffer, &[9, 2, 8, 7]));
+    let are_right = are_equal(front, &[9, 2]) && are_equal(rest.into_behind(), &[8, 7]);
+    check(&rt, are_right && are_equal(&buffer, &[9, 2, 8, 7]));
 }
 
 #[test]
@@ -43,11 +39,12 @@ fn nothing_is_split(rt: HostRuntime) {
 fn bytes_are_read(rt: HostRuntime) {
     let buffer = [1u8, 2, 3, 4];
     let mut span = Span::over(&buffer);
-    check(&rt, span.next() == 1);
+    let is_first = span.next() == 1;
     let (taken, mut left) = span.split_front(2);
     check_all(
         &rt,
         [
+            is_first,
             left.next() == 4,
             left.remaining() == 0,
             are_equal(taken, &[2, 3]),

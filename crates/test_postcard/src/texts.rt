@@ -1,5 +1,5 @@
 //! The texts of the libraries' errors.
-use crate::checks::{check, check_all};
+use crate::checks::{check, check_all, is_string};
 use cobs::{DecodeError, DecodeVecError, DecoderState, DestBufTooSmallError};
 use postcard_tree::Error;
 use std::alloc::Global;
@@ -7,18 +7,12 @@ use std::fmt::{Debug, Display};
 
 // Whether a value is shown as this text.
 fn shows(alloc: Global, value: &impl Display, text: &str) -> bool {
-    match format!(in alloc; "{value}") {
-        Ok(shown) => shown.as_str() == text,
-        Err(_) => false,
-    }
+    is_string(format!(in alloc; "{value}"), text)
 }
 
 // Whether a value is shown so to a maintainer.
 fn names(alloc: Global, value: &impl Debug, text: &str) -> bool {
-    match format!(in alloc; "{value:?}") {
-        Ok(shown) => shown.as_str() == text,
-        Err(_) => false,
-    }
+    is_string(format!(in alloc; "{value:?}"), text)
 }
 
 const DECODE_ERRORS: [(DecodeError, &str); 3] = [

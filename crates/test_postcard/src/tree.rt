@@ -39,15 +39,6 @@ fn numbers_are_spelled_shortest(rt: HostRuntime) {
     );
 }
 
-#[test]
-fn numbers_are_spelled_in_front(rt: HostRuntime) {
-    let mut buffer = [0; 3];
-    check(
-        &rt,
-        varint_u16(200, &mut buffer).len() == 2 && are_equal(&buffer[..2], &[0xC8, 0x01]),
-    );
-}
-
 // Whether a number, and so its signed twin, takes so many bytes at most, of which the last one is at most this.
 fn has_limits<T: VarintInt, S: VarintInt>(max: usize, last: u8) -> bool {
     let maxima = (varint_max::<T>(), varint_max::<S>());
@@ -89,11 +80,17 @@ fn fixed_numbers_are_their_bytes(rt: HostRuntime) {
 }
 
 #[test]
-fn fixed_numbers_stand_in_front(rt: HostRuntime) {
-    let mut buffer = [0; 16];
-    check(
+fn numbers_stand_in_front(rt: HostRuntime) {
+    let mut buffer = [0; 3];
+    let mut fixed = [0; 16];
+    check_all(
         &rt,
-        BE(0xABCDu16).put(&mut buffer).len() == 2 && are_equal(&buffer[..2], &[0xAB, 0xCD]),
+        [
+            varint_u16(200, &mut buffer).len() == 2,
+            are_equal(&buffer[..2], &[0xC8, 0x01]),
+            BE(0xABCDu16).put(&mut fixed).len() == 2,
+            are_equal(&fixed[..2], &[0xAB, 0xCD]),
+        ],
     );
 }
 
@@ -132,18 +129,13 @@ fn grows<T: Readable>() -> bool {
 }
 
 #[test]
-fn types_that_ask_for_no_memory(rt: HostRuntime) {
-    let grow = [
+fn types_that_ask_for_memory(rt: HostRuntime) {
+    let plain = [
         grows::<(bool, u8, i8, u16, i128, usize)>(),
         grows::<(char, (), &[u8], &str, ArrayString<4>, LE<u32>)>(),
         grows::<[Option<ArrayVec<BE<u16>, 3>>; 2]>(),
     ];
-    check(&rt, grow == [false; 3]);
-}
-
-#[test]
-fn types_that_ask_for_memory(rt: HostRuntime) {
-    let grow = [
+    let growing = [
         grows::<String>(),
         grows::<Vec<u8>>(),
         grows::<Box<u8>>(),
@@ -151,5 +143,5 @@ fn types_that_ask_for_memory(rt: HostRuntime) {
         grows::<std::result::Result<u8, String>>(),
         grows::<(u8, [Option<Box<u8>>; 2])>(),
     ];
-    check(&rt, grow == [true; 6]);
+    check(&rt, plain == [false; 3] && growing == [true; 6]);
 }

@@ -1,31 +1,18 @@
-//! Each type goes over a line at three sentinels. The bytes are as postcard's format has them.
-use crate::messages::{
-    Borrower, Deep, Lent, Lists, Message, Outer, Pair, Pairs, Point, Text, Third, Triangle, Widths,
+//! The types of `example_nested`, which hold one another, go over a line at three sentinels, and a pair that is lent. The
+//! bytes are as postcard's format has them.
+use crate::checks::{all_true, check, writes};
+use example_nested::messages::{
+    Borrower, Deep, Drawing, Holders, Lent, Letter, Mail, Message, Pair, Point, Text, Widths,
 };
 use line_io::memory::{In, Out};
 use link::{Answer, Sender, read_in_place_with_sentinel, receive_with_sentinel};
 use postcard::experimental::max_size::MaxSize;
 use postcard::fixint::{BE, LE};
-use postcard::{Deserialize, DeserializeOwned, Serialize, from_bytes, from_bytes_owned, to_slice};
+use postcard::{Deserialize, DeserializeOwned, Serialize, from_bytes, from_bytes_owned};
 use std::alloc::Global;
-use std::process::Abort;
 
 /// The sentinels.
 const SENTINELS: [u8; 3] = [0, 0x0A, 0xFF];
-
-/// Ends a test that isn't right.
-fn check(rt: &impl Abort, is_right: bool) {
-    assert!(rt; is_right);
-}
-
-/// Whether a value is written as these bytes.
-fn writes<T: Serialize>(value: &T, bytes: &[u8]) -> bool {
-    let mut room = [0u8; 64];
-    match to_slice(value, &mut room) {
-        Ok(written) => *written == *bytes,
-        Err(_) => false,
-    }
-}
 
 /// How many bytes a value's frame has on a line, if it was sent.
 fn send<T: Serialize>(value: &T, line: &mut [u8; 80], sentinel: u8) -> Option<usize> {
@@ -90,64 +77,81 @@ fn crosses<T: Serialize + DeserializeOwned>(alloc: Global, bytes: &[u8]) -> bool
 
 const TEXT: &[u8] = &[2, 72, 105, 7];
 
-const OUTER: &[u8] = &[2, 72, 105, 7, 9];
+const LETTER: &[u8] = &[2, 72, 105, 7, 2, 1, 0];
 
-const THIRD: &[u8] = &[2, 72, 105, 7, 9, 2, 1, 0, 2, 1, 1, 97, 172, 2, 1, 98];
+const MAIL: &[u8] = &[2, 72, 105, 7, 2, 1, 0, 2, 1, 1, 97, 172, 2, 1, 98];
 
-const LISTS: &[u8] = &[
-    2, 2, 72, 105, 7, 0, 0, 1, 2, 72, 105, 7, 9, 1, 5, 1, 120, 1, 0, 0, 0,
+const HOLDERS: &[u8] = &[
+    2, 2, 72, 105, 7, 0, 0, 1, 2, 72, 105, 7, 1, 9, 1, 1, 0, 0, 216, 4, 1, 1, 5, 1, 120, 1, 0, 0, 0,
 ];
 
-#[test]
-fn growing(rt: HostRuntime) {
-    let alloc = rt.alloc();
-    check(&rt, crosses::<Text>(alloc, TEXT));
-    check(&rt, crosses::<Outer>(alloc, OUTER));
-    check(&rt, crosses::<Lists>(alloc, LISTS));
-}
-
-const TRIANGLE: &[u8] = &[1, 1, 0, 0, 255, 1];
+const POINT: &[u8] = &[216, 4, 1];
 
 const WIDTHS: &[u8] = &[
     205, 171, 1, 2, 3, 4, 172, 2, 1, 0, 0, 0, 0, 0, 0, 0, 0, 0, 0, 0, 0, 0, 0, 0,
 ];
 
-#[test]
-fn plain(rt: HostRuntime) {
-    let alloc = rt.alloc();
-    check(&rt, crosses::<Point>(alloc, &[255, 1]));
-    check(&rt, crosses::<Triangle>(alloc, TRIANGLE));
-}
+const DRAWING: &[u8] = &[
+    1, 1, 0, 0, 216, 4, 1, 1, 3, 0, 205, 171, 1, 2, 3, 4, 172, 2, 1, 0, 0, 0, 0, 0, 0, 0, 0, 0, 0,
+    0, 0, 0, 0, 0,
+];
 
 const PAIR: &[u8] = &[2, 72, 105, 7, 0];
 
-const PAIRS: &[u8] = &[2, 72, 105, 7, 0, 0, 1, 1, 2, 72, 105, 7, 9];
+const PAIRS: &[u8] = &[2, 72, 105, 7, 0, 0, 1, 1, 2, 72, 105, 7, 1, 9];
+
+type Pairs = (Pair<Text>, Pair<Vec<Letter>>);
 
 const DEEP: &[u8] = &[2, 72, 105, 7, 1, 2, 3, 4, 5, 6, 7, 8, 9, 10, 11, 12];
 
 #[test]
+fn growing(rt: HostRuntime) {
+    let alloc = rt.alloc();
+    let are_crossing = [
+        crosses::<Text>(alloc, TEXT),
+        crosses::<Letter>(alloc, LETTER),
+        crosses::<Holders>(alloc, HOLDERS),
+    ];
+    check(&rt, all_true(are_crossing));
+}
+
+#[test]
+fn plain(rt: HostRuntime) {
+    let alloc = rt.alloc();
+    let are_crossing = [
+        crosses::<Point>(alloc, POINT),
+        crosses::<Drawing>(alloc, DRAWING),
+    ];
+    check(&rt, all_true(are_crossing));
+}
+
+#[test]
 fn generic(rt: HostRuntime) {
     let alloc = rt.alloc();
-    check(&rt, crosses::<Pair<Text>>(alloc, PAIR));
-    check(&rt, crosses::<Pairs>(alloc, PAIRS));
-    check(&rt, crosses::<Deep>(alloc, DEEP));
+    let are_crossing = [
+        crosses::<Pair<Text>>(alloc, PAIR),
+        crosses::<Pairs>(alloc, PAIRS),
+        crosses::<Deep>(alloc, DEEP),
+    ];
+    check(&rt, all_true(are_crossing));
 }
 
 /// A message of each variant.
 const MESSAGES: [&[u8]; 8] = [
     &[0, 2, 72, 105, 7],
-    &[1, 2, 72, 105, 7, 9],
-    &[2, 2, 72, 105, 7, 9, 2, 1, 0, 2, 1, 1, 97, 172, 2, 1, 98],
+    &[1, 2, 72, 105, 7, 2, 1, 0],
+    &[2, 2, 72, 105, 7, 2, 1, 0, 2, 1, 1, 97, 172, 2, 1, 98],
     &[
-        3, 2, 2, 72, 105, 7, 0, 0, 1, 2, 72, 105, 7, 9, 1, 5, 1, 120, 1, 0, 0, 0,
-    ],
-    &[4, 1, 1, 0, 0, 255, 1],
-    &[
-        5, 205, 171, 1, 2, 3, 4, 172, 2, 1, 0, 0, 0, 0, 0, 0, 0, 0, 0, 0, 0, 0, 0, 0, 0,
+        3, 2, 2, 72, 105, 7, 0, 0, 1, 2, 72, 105, 7, 1, 9, 1, 1, 0, 0, 216, 4, 1, 1, 5, 1, 120, 1,
+        0, 0, 0,
     ],
     &[
-        6, 2, 72, 105, 7, 0, 0, 1, 1, 2, 72, 105, 7, 9, 2, 72, 105, 7, 1, 2, 3, 4, 5, 6, 7, 8, 9,
-        10, 11, 12,
+        4, 1, 1, 0, 0, 216, 4, 1, 1, 3, 0, 205, 171, 1, 2, 3, 4, 172, 2, 1, 0, 0, 0, 0, 0, 0, 0, 0,
+        0, 0, 0, 0, 0, 0, 0,
+    ],
+    &[5, 2, 72, 105, 7, 1, 1, 120, 1, 216, 4, 1],
+    &[
+        6, 205, 171, 1, 2, 3, 4, 172, 2, 1, 0, 0, 0, 0, 0, 0, 0, 0, 0, 0, 0, 0, 0, 0, 0,
     ],
     &[
         7, 1, 2, 3, 4, 10, 0, 0, 0, 0, 0, 0, 0, 0, 0, 0, 0, 0, 0, 0, 0, 128, 1,
@@ -205,9 +209,11 @@ fn crosses_over<'a, T: Serialize + Deserialize<&'a [u8]>>(
     is_sent::<T>(alloc, bytes, line, sentinel) && is_lent::<T>(alloc, line, sentinel, bytes)
 }
 
-const LENT: &[u8] = &[2, 72, 105, 2, 0, 10];
+const LENT: &[u8] = &[2, 72, 105, 7];
 
-const BORROWER: &[u8] = &[2, 72, 105, 2, 0, 10, 1, 0, 0, 2, 72, 105, 7];
+const BORROWER: &[u8] = &[2, 72, 105, 7, 2, 0, 0, 1, 121, 9, 1, 120, 1];
+
+const LENT_PAIR: &[u8] = &[2, 72, 105, 2, 0, 10];
 
 /// Whether what is lent crosses at a sentinel.
 fn lent_crosses(alloc: Global, sentinel: u8) -> bool {
@@ -221,23 +227,34 @@ fn borrower_crosses(alloc: Global, sentinel: u8) -> bool {
     crosses_over::<Borrower<'_>>(alloc, BORROWER, &mut line, sentinel)
 }
 
+/// Whether a text and bytes do.
+fn pair_crosses(alloc: Global, sentinel: u8) -> bool {
+    let mut line = [0u8; 80];
+    crosses_over::<(&str, &[u8])>(alloc, LENT_PAIR, &mut line, sentinel)
+}
+
 #[test]
 fn lent(rt: HostRuntime) {
+    let alloc = rt.alloc();
     for sentinel in SENTINELS {
-        check(&rt, lent_crosses(rt.alloc(), sentinel));
-        check(&rt, borrower_crosses(rt.alloc(), sentinel));
+        let are_crossing = [
+            lent_crosses(alloc, sentinel),
+            borrower_crosses(alloc, sentinel),
+            pair_crosses(alloc, sentinel),
+        ];
+        check(&rt, all_true(are_crossing));
     }
 }
 
 /// Whether it is what its bytes say.
-fn is_the_third(third: &Third) -> bool {
-    let named = match third.names.get(&300) {
+fn is_the_mail(mail: &Mail) -> bool {
+    let named = match mail.names.get(&300) {
         Some(name) => name.as_str() == "b",
         None => false,
     };
-    third.outer.text.text.as_str() == "Hi"
-        && third.outer.count == 9
-        && third.data.as_slice() == [1, 0].as_slice()
+    mail.letter.text.text.as_str() == "Hi"
+        && mail.letter.text.kind == 7
+        && mail.letter.data.as_slice() == [1, 0].as_slice()
         && named
 }
 
@@ -248,10 +265,10 @@ const THE_WIDTHS: Widths = Widths {
     long: LE(1),
 };
 
-/// Whether the third crosses, and is what its bytes say.
-fn third_crosses(alloc: Global) -> bool {
-    match crossed::<Third>(alloc, THIRD) {
-        Some(third) => is_the_third(&third),
+/// Whether the mail crosses, and is what its bytes say.
+fn mail_crosses(alloc: Global) -> bool {
+    match crossed::<Mail>(alloc, MAIL) {
+        Some(mail) => is_the_mail(&mail),
         None => false,
     }
 }
@@ -266,12 +283,8 @@ fn widths_cross(alloc: Global) -> bool {
 
 #[test]
 fn contents(rt: HostRuntime) {
-    check(&rt, third_crosses(rt.alloc()));
-    check(&rt, widths_cross(rt.alloc()));
-}
-
-#[test]
-fn greatest_sizes(rt: HostRuntime) {
-    check(&rt, Triangle::postcard_max_size() == Some(6));
-    check(&rt, Widths::postcard_max_size() == Some(2 + 4 + 19 + 16));
+    let alloc = rt.alloc();
+    check(&rt, mail_crosses(alloc) && widths_cross(alloc));
+    let sizes = (Drawing::postcard_max_size(), Widths::postcard_max_size());
+    check(&rt, sizes == (Some(12 + 5 + 41), Some(2 + 4 + 19 + 16)));
 }
