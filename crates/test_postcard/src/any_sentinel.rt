@@ -1,5 +1,5 @@
 //! `postcard` for any sentinel: the calls with `_cobs`, and the accumulator.
-use crate::checks::{are_equal, check, check_all, fails, gives, is_array, is_slice, is_vector};
+use crate::checks::{are_equal, check_all, fails, gives, is_array, is_slice, is_vector};
 use crate::postcard_frames::{is_consumed, is_refused, is_value};
 use postcard::accumulator::CobsAccumulator;
 use postcard::{
@@ -39,23 +39,21 @@ fn in_slices_arrays_and_vectors(rt: HostRuntime) {
 #[test]
 fn and_back(rt: HostRuntime) {
     let mut frame = FRAME;
-    check(
-        &rt,
-        gives(
-            from_bytes_cobs_with_sentinel::<u32>(rt.alloc(), &mut frame, 0x0A),
-            300,
-        ),
-    );
-}
-
-#[test]
-fn and_back_with_a_rest(rt: HostRuntime) {
     let mut line = [0x09, 0xA6, 0x08, 0x0A, 7, 8];
     let is_read = match take_from_bytes_cobs_with_sentinel::<u32>(rt.alloc(), &mut line, 0x0A) {
         Ok((value, rest)) => value == 300 && are_equal(rest, &[7, 8]),
         Err(_) => false,
     };
-    check(&rt, is_read);
+    check_all(
+        &rt,
+        [
+            is_read,
+            gives(
+                from_bytes_cobs_with_sentinel::<u32>(rt.alloc(), &mut frame, 0x0A),
+                300,
+            ),
+        ],
+    );
 }
 
 #[test]

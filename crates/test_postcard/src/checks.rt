@@ -1,5 +1,6 @@
 //! What ends a test, and comparisons that many tests make. A call of one is cheaper to prove than the comparison itself.
 use arrayvec::ArrayVec;
+use cobs::{DecodeError, DecodeReport};
 use postcard_tree::{Error, Result};
 use std::process::Abort;
 
@@ -34,7 +35,10 @@ pub(crate) fn is_full(answer: Result<()>) -> bool {
 }
 
 /// Whether a call gave this value.
-pub(crate) fn gives<T: PartialEq + Drop>(answer: Result<T>, wanted: T) -> bool {
+pub(crate) fn gives<T: PartialEq + Drop, E: Drop>(
+    answer: std::result::Result<T, E>,
+    wanted: T,
+) -> bool {
     match answer {
         Ok(value) => value == wanted,
         Err(_) => false,
@@ -42,7 +46,10 @@ pub(crate) fn gives<T: PartialEq + Drop>(answer: Result<T>, wanted: T) -> bool {
 }
 
 /// Whether a call failed for this cause.
-pub(crate) fn fails<T: Drop>(answer: Result<T>, cause: Error) -> bool {
+pub(crate) fn fails<T: Drop, E: PartialEq + Drop>(
+    answer: std::result::Result<T, E>,
+    cause: E,
+) -> bool {
     match answer {
         Ok(_) => false,
         Err(found) => found == cause,
@@ -109,5 +116,34 @@ pub(crate) fn gives_bytes(given: Result<&[u8]>, bytes: &[u8]) -> bool {
     match given {
         Ok(given) => are_equal(given, bytes),
         Err(_) => false,
+    }
+}
+
+/// Whether a decoder took all of its bytes in, and no frame ended.
+pub(crate) fn goes_on<T: Drop>(answer: std::result::Result<Option<T>, DecodeError>) -> bool {
+    matches!(&answer, Ok(None))
+}
+
+/// Whether a frame was decoded, from so many bytes to so many.
+pub(crate) fn decodes(
+    decoded: std::result::Result<DecodeReport, DecodeError>,
+    parsed: usize,
+    size: usize,
+) -> bool {
+    match decoded {
+        Ok(report) => report.parsed_size() == parsed && report.frame_size() == size,
+        Err(_) => false,
+    }
+}
+
+/// Whether a frame ended in what was pushed, and was decoded from so many bytes of it to so many.
+pub(crate) fn takes(
+    pushed: std::result::Result<Option<DecodeReport>, DecodeError>,
+    parsed: usize,
+    size: usize,
+) -> bool {
+    match pushed {
+        Ok(Some(report)) => decodes(Ok(report), parsed, size),
+        _ => false,
     }
 }

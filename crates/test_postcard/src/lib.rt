@@ -1,6 +1,6 @@
-//! Tests of `postcard_tree`, `postcard_ser`, `postcard_de`, `postcard` and `samples`, by their public calls alone: outside
-//! vectors and worked rows, each call once on its happy path, each generic one at a concrete type, writers, readers and
-//! memory that fail, and the texts of these crates' and `cobs`' errors.
+//! Tests of `cobs`, `postcard_tree`, `postcard_ser`, `postcard_de`, `postcard` and `samples`, by their public calls alone:
+//! outside vectors and worked rows, each call once on its happy path, each generic one at a concrete type, writers, readers
+//! and memory that fail, buffers that stay as they were, and the texts of these crates' errors.
 //!
 //! They stand in a crate of their own because a crate with tests is proved twice, once with and once without them.
 #![tactic(auto)]
@@ -9,6 +9,12 @@
 mod any_sentinel;
 #[cfg(test)]
 mod checks;
+#[cfg(test)]
+mod cobs_decoders;
+#[cfg(test)]
+mod cobs_decoding;
+#[cfg(test)]
+mod cobs_encoding;
 #[cfg(test)]
 mod de;
 #[cfg(test)]

@@ -52,15 +52,6 @@ fn is_borrowed(read: Result<(RefStruct, &[u8]), Error>) -> bool {
     }
 }
 
-/// A struct of four bytes and a text.
-#[test]
-fn struct_of_borrowed_parts(rt: HostRuntime) {
-    check(
-        &rt,
-        writes(&BORROWED, &SENT) && is_borrowed(take_from_bytes::<RefStruct>(rt.alloc(), &SENT)),
-    );
-}
-
 /// A newtype is its content, a tuple struct its parts, and a struct of fields is like a tuple of them.
 #[test]
 fn structs(rt: HostRuntime) {
@@ -74,6 +65,8 @@ fn structs(rt: HostRuntime) {
             is_spelled(rt.alloc(), &NewTypeStruct(5), &[5]),
             is_spelled(rt.alloc(), &TupleStruct(0xA0, 0x1234), &[0xA0, 0xB4, 0x24]),
             is_spelled(rt.alloc(), &named, &[0xF0, 0xAC, 0xD9, 0x02]),
+            writes(&BORROWED, &SENT),
+            is_borrowed(take_from_bytes::<RefStruct>(rt.alloc(), &SENT)),
         ],
     );
 }

@@ -1,13 +1,19 @@
 //! `postcard`, frames: a long value, exact room, and an accumulator that is fed by itself.
-use crate::checks::{are_equal, begin_with, check, check_all, check_at, gives, has_length};
+use crate::checks::{are_equal, check, check_all, check_at, fails, gives, is_array};
 use postcard::accumulator::{CobsAccumulator, FeedResult};
-use postcard::{from_bytes_cobs, to_allocvec_cobs, to_slice_cobs, to_stdvec_cobs, to_vec_cobs};
+use postcard::{Error, from_bytes_cobs, to_allocvec_cobs, to_stdvec_cobs, to_vec_cobs};
 use std::alloc::Global;
 
 // A number, many of them, and the greatest.
 type Long = (u32, [u32; 32], u64);
 
 const LONG: Long = (0xABCDEF00, [0x01234567; 32], u64::MAX);
+
+const TEN: [u8; 10] = [0xCC; 10];
+
+const FRAME_OF_TEN: [u8; 12] = [
+    11, 0xCC, 0xCC, 0xCC, 0xCC, 0xCC, 0xCC, 0xCC, 0xCC, 0xCC, 0xCC, 0,
+];
 
 #[test]
 fn long_values_and_exact_room(rt: HostRuntime) {
@@ -20,8 +26,8 @@ fn long_values_and_exact_room(rt: HostRuntime) {
         [
             is_back,
             matches!(&to_allocvec_cobs(rt.alloc(), &LONG), Ok(frame) if frame.len() == 145),
-            matches!(&to_vec_cobs::<_, 12>(&[0xCCu8; 10]), Ok(frame) if frame.len() == 12),
-            to_vec_cobs::<_, 11>(&[0xCCu8; 10]).is_err(),
+            is_array(to_vec_cobs::<_, 12>(&TEN), &FRAME_OF_TEN),
+            fails(to_vec_cobs::<_, 11>(&TEN), Error::SerializeBufferFull),
         ],
     );
 }
@@ -50,22 +56,8 @@ pub(crate) fn is_value(answer: FeedResult<'_, u8>, wanted: u8, left: usize) -> b
 }
 
 #[test]
-fn pieces(rt: HostRuntime) {
-    let mut accumulator: CobsAccumulator<4> = CobsAccumulator::default();
-    check_all(
-        &rt,
-        [
-            is_consumed(accumulator.feed(rt.alloc(), &[2])),
-            is_consumed(accumulator.feed(rt.alloc(), &[])),
-            is_value(accumulator.feed(rt.alloc(), &[7, 0, 1]), 7, 1),
-            is_refused(accumulator.feed_ref(rt.alloc(), &[3, 1, 0, 9]), 1),
-        ],
-    );
-}
-
-#[test]
 fn lent_bytes(rt: HostRuntime) {
-    let mut accumulator: CobsAccumulator<4> = CobsAccumulator::new();
+    let mut accumulator: CobsAccumulator<4> = CobsAccumulator::default();
     let is_lent = match accumulator.feed_ref::<&[u8]>(rt.alloc(), &[3, 1, 8, 0]) {
         FeedResult::Success { value, remaining } => are_equal(value, &[8]) && remaining.is_empty(),
         _ => false,
@@ -114,17 +106,4 @@ fn whole_frames_that_are_refused(rt: HostRuntime) {
     let is_empty = is_refused(empty, 8);
     let long = accumulator.feed(rt.alloc(), &[11, 1, 1, 1, 1, 1, 1, 1, 1, 1, 1, 0, 5]);
     check_all(&rt, [is_cut, is_empty, is_over_full(long, 1)]);
-}
-
-// What is answered is the front of the caller's own slice.
-#[test]
-fn the_front_of_the_room(rt: HostRuntime) {
-    let mut room = [0xEEu8; 8];
-    check_all(
-        &rt,
-        [
-            has_length(to_slice_cobs(&"Hi!", &mut room), 6),
-            begin_with(&room, &[5, 3, 0x48, 0x69, 0x21, 0]),
-        ],
-    );
 }

@@ -3,38 +3,25 @@ use crate::checks::{
     are_equal, begin_with, check, check_all, fails, gives, has_length, is_array, is_slice,
     is_vector,
 };
+use crate::ser_calls::{holds, serializer};
 use arrayvec::{ArrayString, ArrayVec};
 use postcard::experimental::max_size::{MaxSize, MaxWritten};
 use postcard::experimental::serialized_size;
 use postcard::fixint::{BE, LE, be, le};
 use postcard::laws::within_greatest;
-use postcard::ser_flavors::{AllocVec, Flavor, HVec, Slice};
+use postcard::ser_flavors::{AllocVec, Flavor, Slice};
 use postcard::{
-    Error, Serialize, Serializer, serialize_with_flavor, to_allocvec, to_extend, to_io, to_slice,
-    to_stdvec, to_vec,
+    Error, Serialize, serialize_with_flavor, to_extend, to_io, to_slice, to_slice_cobs, to_vec,
 };
-use std::alloc::{AllocError, Global};
-use std::collections::BTreeMap;
 use std::marker::PhantomData;
 use std::num::{NonZeroU16, Wrapping};
 use std::ops::{Range, RangeInclusive, RangeTo};
 use std::rc::Rc;
 use std::time::Duration;
 
-// A serializer over an array, and what it holds in the end.
-fn serializer() -> Serializer<HVec<16>> {
-    Serializer {
-        output: HVec::new(),
-    }
-}
-
-fn holds(serializer: Serializer<HVec<16>>, bytes: &[u8]) -> bool {
-    is_array(serializer.output.finalize(), bytes)
-}
-
 #[test]
 fn fixed_numbers(rt: HostRuntime) {
-    let mut serializer = serializer();
+    let mut serializer = serializer::<16>();
     check_all(
         &rt,
         [
@@ -50,24 +37,6 @@ fn fixed_numbers(rt: HostRuntime) {
     );
 }
 
-// Four entries, in no order.
-fn four(alloc: Global) -> Result<BTreeMap<u8, u8>, AllocError> {
-    let mut map: BTreeMap<u8, u8> = BTreeMap::new(alloc);
-    for (key, value) in [(3, 7), (1, 5), (4, 8), (2, 6)] {
-        map.insert(key, value)?;
-    }
-    Ok(map)
-}
-
-#[test]
-fn maps(rt: HostRuntime) {
-    let is_sorted = match four(rt.alloc()) {
-        Ok(map) => is_vector(to_allocvec(rt.alloc(), &map), &[4, 1, 5, 2, 6, 3, 7, 4, 8]),
-        Err(_) => false,
-    };
-    check(&rt, is_sorted);
-}
-
 #[test]
 fn vectors(rt: HostRuntime) {
     let is_extended = match to_extend(&true, Vec::new(rt.alloc())) {
@@ -80,7 +49,6 @@ fn vectors(rt: HostRuntime) {
         &rt,
         [
             is_extended,
-            is_vector(to_stdvec(rt.alloc(), &300u32), &[0xAC, 0x02]),
             is_array(to_vec::<_, 2>(&300u32), &[0xAC, 0x02]),
             fails(to_vec::<_, 1>(&300u32), Error::SerializeBufferFull),
             fails(to_extend(&true, full), Error::SerializeBufferFull),
@@ -89,26 +57,16 @@ fn vectors(rt: HostRuntime) {
 }
 
 #[test]
-fn writers(rt: HostRuntime) {
+fn writers_and_flavors(rt: HostRuntime) {
     let mut lent = Vec::new(rt.alloc());
     let mut room = [0u8; 1];
-    check_all(
-        &rt,
-        [
-            is_vector(to_io(&300u32, Vec::new(rt.alloc())), &[0xAC, 0x02]),
-            to_io(&300u32, &mut lent).is_ok(),
-            are_equal(&lent, &[0xAC, 0x02]),
-            fails(to_io(&300u32, &mut room[..]), Error::SerializeBufferFull),
-        ],
-    );
-}
-
-#[test]
-fn flavors(rt: HostRuntime) {
     let mut flavor = AllocVec::new(rt.alloc());
     check_all(
         &rt,
         [
+            to_io(&300u32, &mut lent).is_ok(),
+            are_equal(&lent, &[0xAC, 0x02]),
+            fails(to_io(&300u32, &mut room[..]), Error::SerializeBufferFull),
             serialize_with_flavor(&300u32, &mut flavor).is_ok(),
             serialize_with_flavor(&true, &mut flavor).is_ok(),
             is_vector(flavor.finalize(), &[0xAC, 0x02, 0x01]),
@@ -169,11 +127,14 @@ fn greatest_values(rt: HostRuntime) {
 #[test]
 fn the_front_of_the_room(rt: HostRuntime) {
     let mut room = [0xEEu8; 8];
+    let mut frame = [0xEEu8; 8];
     check_all(
         &rt,
         [
             has_length(to_slice(&300u16, &mut room), 2),
             begin_with(&room, &[0xAC, 0x02]),
+            has_length(to_slice_cobs(&"Hi!", &mut frame), 6),
+            begin_with(&frame, &[5, 3, 0x48, 0x69, 0x21, 0]),
         ],
     );
 }

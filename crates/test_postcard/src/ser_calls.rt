@@ -4,15 +4,15 @@ use postcard_ser::ser_flavors::{Flavor, HVec, IndexByte};
 use postcard_ser::{Serialize, Serializer};
 use postcard_tree::Error;
 
-// A serializer over an array.
-fn serializer<const N: usize>() -> Serializer<HVec<N>> {
+/// A serializer over an array.
+pub(crate) fn serializer<const N: usize>() -> Serializer<HVec<N>> {
     Serializer {
         output: HVec::new(),
     }
 }
 
-// Whether a serializer's array holds these bytes in the end.
-fn holds<const N: usize>(serializer: Serializer<HVec<N>>, bytes: &[u8]) -> bool {
+/// Whether a serializer's array holds these bytes in the end.
+pub(crate) fn holds<const N: usize>(serializer: Serializer<HVec<N>>, bytes: &[u8]) -> bool {
     is_array(serializer.output.finalize(), bytes)
 }
 
@@ -24,11 +24,6 @@ fn push_numbers<F: Flavor>(serializer: &mut Serializer<F>) -> bool {
         serializer.serialize_u32(3450549266),
         serializer.serialize_u64(300),
         serializer.serialize_u128(300),
-    ])
-}
-
-fn push_signed_numbers<F: Flavor>(serializer: &mut Serializer<F>) -> bool {
-    succeed([
         serializer.serialize_i8(-1),
         serializer.serialize_i16(-32768),
         serializer.serialize_i32(-1),
@@ -37,16 +32,11 @@ fn push_signed_numbers<F: Flavor>(serializer: &mut Serializer<F>) -> bool {
     ])
 }
 
-fn push_texts<F: Flavor>(serializer: &mut Serializer<F>) -> bool {
+fn push_texts_and_options<F: Flavor>(serializer: &mut Serializer<F>) -> bool {
     succeed([
         serializer.serialize_char('\u{A2}'),
         serializer.serialize_str("Hi!"),
         serializer.serialize_bytes(&[1, 0]),
-    ])
-}
-
-fn push_options<F: Flavor>(serializer: &mut Serializer<F>) -> bool {
-    succeed([
         serializer.serialize_none(),
         serializer.serialize_some(&5u8),
         serializer.serialize_unit(),
@@ -55,7 +45,7 @@ fn push_options<F: Flavor>(serializer: &mut Serializer<F>) -> bool {
     ])
 }
 
-fn push_structs<F: Flavor>(serializer: &mut Serializer<F>) -> bool {
+fn push_structs_and_variants<F: Flavor>(serializer: &mut Serializer<F>) -> bool {
     succeed([
         serializer.serialize_struct(1),
         serializer.serialize_field(&7u8),
@@ -64,11 +54,6 @@ fn push_structs<F: Flavor>(serializer: &mut Serializer<F>) -> bool {
         serializer.serialize_element(&8u8),
         serializer.serialize_tuple_struct(1),
         serializer.serialize_field(&9u8),
-    ])
-}
-
-fn push_variants<F: Flavor>(serializer: &mut Serializer<F>) -> bool {
-    succeed([
         serializer.serialize_unit_variant(300),
         serializer.serialize_newtype_variant(1, &u64::MAX),
         serializer.serialize_tuple_variant(5, 2),
@@ -119,11 +104,8 @@ fn each_call(rt: HostRuntime) {
         &rt,
         [
             push_numbers(&mut serializer),
-            push_signed_numbers(&mut serializer),
-            push_texts(&mut serializer),
-            push_options(&mut serializer),
-            push_structs(&mut serializer),
-            push_variants(&mut serializer),
+            push_texts_and_options(&mut serializer),
+            push_structs_and_variants(&mut serializer),
             push_counts(&mut serializer),
             holds(serializer, &PUSHED),
         ],

@@ -78,8 +78,11 @@ fn slices_that_are_given_back(rt: HostRuntime) {
 }
 
 #[test]
-fn fixed_vectors(rt: HostRuntime) {
+fn arrays(rt: HostRuntime) {
     let mut vec: HVec<2> = HVec::default();
+    let mut full: ArrayVec<u8, 2> = ArrayVec::new();
+    full.push(7);
+    let mut extended = ExtendFlavor::new(full);
     check_all(
         &rt,
         [
@@ -89,18 +92,6 @@ fn fixed_vectors(rt: HostRuntime) {
             is_patched(&mut vec),
             is_full(vec.try_push(3)),
             is_array(vec.finalize(), &[1, 9]),
-        ],
-    );
-}
-
-#[test]
-fn extended_arrays(rt: HostRuntime) {
-    let mut full: ArrayVec<u8, 2> = ArrayVec::new();
-    full.push(7);
-    let mut extended = ExtendFlavor::new(full);
-    check_all(
-        &rt,
-        [
             is_full(extended.try_extend(&[8, 9])),
             extended.try_push(8).is_ok(),
             is_array(extended.finalize(), &[7, 8]),
@@ -109,20 +100,8 @@ fn extended_arrays(rt: HostRuntime) {
 }
 
 #[test]
-fn growing_vectors(rt: HostRuntime) {
+fn vectors(rt: HostRuntime) {
     let mut vec: StdVec = AllocVec::new(rt.alloc());
-    check_all(
-        &rt,
-        [
-            vec.try_extend(&[1, 2]).is_ok(),
-            is_patched(&mut vec),
-            is_vector(vec.finalize(), &[1, 2, 9]),
-        ],
-    );
-}
-
-#[test]
-fn extended_vectors(rt: HostRuntime) {
     let mut begun = Vec::new(rt.alloc());
     let is_begun = begun.push(7).is_ok();
     let mut extended = ExtendFlavor::new(begun);
@@ -130,6 +109,9 @@ fn extended_vectors(rt: HostRuntime) {
         &rt,
         [
             is_begun,
+            vec.try_extend(&[1, 2]).is_ok(),
+            is_patched(&mut vec),
+            is_vector(vec.finalize(), &[1, 2, 9]),
             extended.try_push(8).is_ok(),
             is_vector(extended.finalize(), &[7, 8]),
         ],
@@ -216,36 +198,30 @@ fn writers(rt: HostRuntime) {
     );
 }
 
-#[test]
-fn writers_that_fail(rt: HostRuntime) {
-    let mut narrow = Narrow {
+// A writer that takes three bytes.
+fn writer_of_three(flushes: bool) -> Narrow {
+    Narrow {
         left: 3,
         taken: 0,
-        flushes: true,
-    };
+        flushes,
+    }
+}
+
+#[test]
+fn writers_that_fail(rt: HostRuntime) {
+    let mut open = writer_of_three(true);
     let mut serializer = Serializer {
-        output: WriteFlavor::new(&mut narrow),
+        output: WriteFlavor::new(&mut open),
     };
+    let mut stuck = WriteFlavor::new(writer_of_three(false));
     check_all(
         &rt,
         [
             serializer.serialize_u32(300).is_ok(),
             is_full(serializer.serialize_u32(300)),
-            matches!(&serializer.output.finalize(), Ok(narrow) if narrow.taken == 3),
+            matches!(&serializer.output.finalize(), Ok(open) if open.taken == 3),
+            stuck.try_push(5).is_ok(),
+            stuck.finalize().err() == Some(Error::SerializeBufferFull),
         ],
-    );
-}
-
-#[test]
-fn writers_that_do_not_flush(rt: HostRuntime) {
-    let stuck = Narrow {
-        left: 3,
-        taken: 0,
-        flushes: false,
-    };
-    let mut flavor = WriteFlavor::new(stuck);
-    check(
-        &rt,
-        flavor.try_push(5).is_ok() && flavor.finalize().err() == Some(Error::SerializeBufferFull),
     );
 }

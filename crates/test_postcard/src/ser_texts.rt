@@ -1,5 +1,5 @@
 //! `postcard_ser`: texts that are formatted.
-use crate::checks::{all_true, check, check_all, is_slice, is_vector};
+use crate::checks::{all_true, check_all, is_slice, is_vector};
 use postcard_ser::Serializer;
 use postcard_ser::ser_flavors::{AllocVec, Flavor, IndexByte, Size, Slice};
 use postcard_tree::{Error, Result as Answer};
@@ -24,18 +24,6 @@ fn counts<T: Display>(value: &T, answer: Answer<()>, size: usize) -> bool {
         output: Size::default(),
     };
     counter.collect_str(value) == answer && counter.output.finalize() == Ok(size)
-}
-
-#[test]
-fn vectors(rt: HostRuntime) {
-    let mut serializer = Serializer {
-        output: AllocVec::new(rt.alloc()),
-    };
-    check(
-        &rt,
-        serializer.collect_str(&300u32).is_ok()
-            && is_vector(serializer.output.finalize(), &[3, 0x33, 0x30, 0x30]),
-    );
 }
 
 /// A value that can't be formatted.
@@ -72,9 +60,17 @@ fn slices(rt: HostRuntime) {
 }
 
 #[test]
-fn sizes(rt: HostRuntime) {
-    check(
+fn vectors_and_sizes(rt: HostRuntime) {
+    let mut serializer = Serializer {
+        output: AllocVec::new(rt.alloc()),
+    };
+    check_all(
         &rt,
-        counts(&300u32, Ok(()), 4) && counts(&Faulty, Err(Error::CollectStrError), 0),
+        [
+            serializer.collect_str(&300u32).is_ok(),
+            is_vector(serializer.output.finalize(), &[3, 0x33, 0x30, 0x30]),
+            counts(&300u32, Ok(()), 4),
+            counts(&Faulty, Err(Error::CollectStrError), 0),
+        ],
     );
 }

@@ -24,16 +24,16 @@ const DECODE_ERRORS: [(DecodeError, &str); 3] = [
     (DecodeError::TargetBufTooSmall, "target buffer too small"),
 ];
 
-// Whether an error that stops a decoder is shown so, by itself and as one of those that a vector brings.
-fn is_shown_twice(alloc: Global, error: DecodeError, text: &str) -> bool {
-    shows(alloc, &error, text) && shows(alloc, &DecodeVecError::Decode(error), text)
-}
-
+// An error that stops a decoder is shown alike by itself and as one of those that a vector brings.
 #[test]
 fn of_cobs(rt: HostRuntime) {
     let alloc = rt.alloc();
     for (error, text) in &DECODE_ERRORS {
-        check(&rt, is_shown_twice(alloc, *error, text));
+        let of_vector = DecodeVecError::Decode(*error);
+        check(
+            &rt,
+            shows(alloc, error, text) && shows(alloc, &of_vector, text),
+        );
     }
     check_all(
         &rt,

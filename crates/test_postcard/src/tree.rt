@@ -1,5 +1,5 @@
 //! `postcard_tree`: published numbers, and the limits of each width.
-use crate::checks::{all_true, are_equal, check, check_all};
+use crate::checks::{all_true, are_equal, begin_with, check, check_all};
 use arrayvec::{ArrayString, ArrayVec};
 use postcard_tree::fixint::{BE, FixInt, LE};
 use postcard_tree::readable::Readable;
@@ -22,6 +22,7 @@ fn spells_long(value: u64, bytes: &[u8]) -> bool {
 #[test]
 fn numbers_are_spelled_shortest(rt: HostRuntime) {
     let greatest = [0xFF, 0xFF, 0xFF, 0xFF, 0xFF, 0xFF, 0xFF, 0xFF, 0xFF, 0x01];
+    let mut buffer = [0; 3];
     check_all(
         &rt,
         [
@@ -35,6 +36,8 @@ fn numbers_are_spelled_shortest(rt: HostRuntime) {
             ),
             are_equal(varint_usize(usize::MAX, &mut [0; 10]), &greatest),
             varint_u128(u128::MAX, &mut [0; 19]).len() == 19,
+            varint_u16(200, &mut buffer).len() == 2,
+            begin_with(&buffer, &[0xC8, 0x01]),
         ],
     );
 }
@@ -68,6 +71,7 @@ fn is_put<T: FixInt>(value: T, little: &[u8], big: &[u8]) -> bool {
 
 #[test]
 fn fixed_numbers_are_their_bytes(rt: HostRuntime) {
+    let mut fixed = [0; 16];
     check_all(
         &rt,
         [
@@ -75,21 +79,8 @@ fn fixed_numbers_are_their_bytes(rt: HostRuntime) {
             is_put(-2i16, &[0xFE, 0xFF], &[0xFF, 0xFE]),
             LE::<i16>::from_bytes(&[0xFE, 0xFF]).0 == -2,
             BE::<u16>::from_bytes(&[0xAB, 0xCD]).0 == 0xABCD,
-        ],
-    );
-}
-
-#[test]
-fn numbers_stand_in_front(rt: HostRuntime) {
-    let mut buffer = [0; 3];
-    let mut fixed = [0; 16];
-    check_all(
-        &rt,
-        [
-            varint_u16(200, &mut buffer).len() == 2,
-            are_equal(&buffer[..2], &[0xC8, 0x01]),
             BE(0xABCDu16).put(&mut fixed).len() == 2,
-            are_equal(&fixed[..2], &[0xAB, 0xCD]),
+            begin_with(&fixed, &[0xAB, 0xCD]),
         ],
     );
 }

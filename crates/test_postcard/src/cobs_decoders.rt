@@ -1,0 +1,232 @@
+//! `cobs`: decoders over a lent buffer, an array and a vector, also for any sentinel.
+use crate::checks::{all_true, are_equal, check, check_all, fails, gives, goes_on, takes};
+use arrayvec::ArrayVec;
+use cobs::{CobsDecoder, CobsDecoderHeapless, CobsDecoderOwned, DecodeError};
+
+// 10, 11, 0, 12 as a frame for the sentinel 10
+const FRAME: [u8; 5] = [9, 0, 1, 8, 6];
+
+// A decoder goes on behind a byte of its room that is changed in mid-frame.
+#[test]
+fn lent_buffer(rt: HostRuntime) {
+    let mut buffer = [0u8; 4];
+    let mut decoder = CobsDecoder::new(&mut buffer);
+    let begun = goes_on(decoder.push(&[5, 1, 2]));
+    if let [first, ..] = decoder.dest_mut() {
+        *first = 9;
+    }
+    check_all(
+        &rt,
+        [
+            begun,
+            takes(decoder.push(&[3, 4, 0, 7]), 3, 4),
+            are_equal(decoder.dest(), &[9, 2, 3, 4]),
+        ],
+    );
+}
+
+// A frame of two bytes is refused, and its end once more.
+#[test]
+fn refused_twice(rt: HostRuntime) {
+    let mut buffer = [0u8; 1];
+    let mut decoder = CobsDecoder::new(&mut buffer);
+    let small = DecodeError::TargetBufTooSmall;
+    check_all(
+        &rt,
+        [
+            fails(decoder.push(&[3, 10, 11, 0]), small),
+            fails(decoder.push(&[0]), small),
+            are_equal(decoder.dest(), &[10]),
+        ],
+    );
+}
+
+// 254 ones and a 7 as a frame for the sentinel 1.
+#[test]
+fn full_block_of_another_sentinel(rt: HostRuntime) {
+    let mut frame = [0u8; 257];
+    frame[0] = 254;
+    frame[255] = 3;
+    frame[256] = 6;
+    let mut message = [1u8; 255];
+    message[254] = 7;
+    let mut room = [0u8; 255];
+    let mut decoder = CobsDecoder::new_with_sentinel(&mut room, 1);
+    check_all(
+        &rt,
+        [
+            goes_on(decoder.push(&frame)),
+            gives(decoder.feed(1), Some(255)),
+            are_equal(decoder.dest(), &message),
+        ],
+    );
+}
+
+#[test]
+fn array_that_is_given(rt: HostRuntime) {
+    let mut vec: ArrayVec<u8, 4> = ArrayVec::new();
+    vec.push(7);
+    let mut decoder = CobsDecoderHeapless::new_with_vec(vec);
+    let begun = are_equal(decoder.dest(), &[7, 0, 0, 0]) && goes_on(decoder.feed(3));
+    decoder.reset();
+    check_all(
+        &rt,
+        [
+            begun,
+            takes(decoder.push(&[2, 6, 0]), 3, 1),
+            are_equal(decoder.dest(), &[6, 0, 0, 0]),
+        ],
+    );
+}
+
+#[test]
+fn array_that_is_changed(rt: HostRuntime) {
+    let mut decoder: CobsDecoderHeapless<4> = CobsDecoderHeapless::new();
+    let dest = decoder.dest_mut();
+    let length = dest.len();
+    dest[3] = 8;
+    let empty: CobsDecoderHeapless<0> = CobsDecoderHeapless::new();
+    check_all(
+        &rt,
+        [
+            length == 4,
+            are_equal(decoder.dest(), &[0, 0, 0, 8]),
+            empty.dest().len() == 0,
+        ],
+    );
+}
+
+#[test]
+fn array_of_its_own(rt: HostRuntime) {
+    let mut decoder: CobsDecoderHeapless<1> = CobsDecoderHeapless::default();
+    check_all(
+        &rt,
+        [
+            are_equal(decoder.dest(), &[0]),
+            goes_on(decoder.feed(1)),
+            gives(decoder.feed(0), Some(0)),
+        ],
+    );
+}
+
+// A frame that lies whole is decoded at once, whatever was taken in before it; and one behind a reset.
+#[test]
+fn array_of_another_sentinel(rt: HostRuntime) {
+    let mut decoder = CobsDecoderHeapless::<4>::new_with_sentinel(10);
+    let at_once = all_true([
+        decoder.sentinel() == 10,
+        goes_on(decoder.feed(9)),
+        gives(decoder.decode_whole(&[8, 8, 8, 15]), 3),
+        are_equal(decoder.dest(), &[2, 0, 5, 0]),
+        goes_on(decoder.feed(10)),
+        goes_on(decoder.push(&FRAME[..3])),
+    ]);
+    decoder.reset();
+    check_all(
+        &rt,
+        [
+            at_once,
+            goes_on(decoder.push(&FRAME)),
+            gives(decoder.feed(10), Some(4)),
+            are_equal(decoder.dest(), &[10, 11, 0, 12]),
+        ],
+    );
+}
+
+// Whether a decoder that is reset in a frame takes the next one whole.
+fn begins_again(decoder: &mut CobsDecoderOwned) -> bool {
+    let cut = goes_on(decoder.push(&FRAME[..3]));
+    decoder.reset();
+    all_true([
+        cut,
+        goes_on(decoder.push(&FRAME)),
+        gives(decoder.feed(10), Some(4)),
+        are_equal(decoder.dest(), &[10, 11, 0, 12]),
+    ])
+}
+
+#[test]
+fn vector_of_another_sentinel(rt: HostRuntime) {
+    let is_right = match CobsDecoderOwned::new_with_sentinel(rt.alloc(), 4, 10) {
+        Ok(mut decoder) => begins_again(&mut decoder),
+        Err(_) => false,
+    };
+    check(&rt, is_right);
+}
+
+// Whether the room of a decoder of three bytes is there to be changed, also in a frame that is then given up.
+fn is_changed(decoder: &mut CobsDecoderOwned) -> bool {
+    let begun = goes_on(decoder.feed(2));
+    decoder.reset();
+    let taken = takes(decoder.push(&[2, 6, 2, 5, 0, 1]), 5, 3);
+    let is_held = are_equal(decoder.dest(), &[6, 0, 5]);
+    if let [_, second, _] = decoder.dest_mut() {
+        *second = 4;
+    }
+    all_true([begun, taken, is_held, are_equal(decoder.dest(), &[6, 4, 5])])
+}
+
+// Whether a decoder answers so to each change of its size, and then holds these bytes.
+fn changes_size(decoder: &mut CobsDecoderOwned, sizes: &[(usize, bool, &[u8])]) -> bool {
+    for (size, is_found, held) in sizes {
+        if !decoder.is_idle() || decoder.resize(*size).is_ok() != *is_found {
+            return false;
+        }
+        if !are_equal(decoder.dest(), held) {
+            return false;
+        }
+    }
+    true
+}
+
+// A frame that two bytes don't hold, refused once at the byte that is too many and once at its end.
+const THREE: [u8; 5] = [4, 1, 2, 3, 0];
+
+fn is_refused(decoder: &mut CobsDecoderOwned) -> bool {
+    all_true([
+        decoder.is_idle(),
+        fails(decoder.push(&THREE), DecodeError::TargetBufTooSmall),
+        !decoder.is_idle(),
+        fails(decoder.feed(0), DecodeError::TargetBufTooSmall),
+    ])
+}
+
+// The front of a room stays through each change of size.
+const LESS: [(usize, bool, &[u8]); 1] = [(2, true, &[6, 4])];
+
+const MORE: [(usize, bool, &[u8]); 1] = [(4, true, &[1, 2, 0, 0])];
+
+const OTHERS: [(usize, bool, &[u8]); 3] = [
+    (usize::MAX, false, &[1, 2, 3, 0]),
+    (1, true, &[1]),
+    (3, true, &[1, 0, 0]),
+];
+
+#[test]
+fn vector_of_its_own(rt: HostRuntime) {
+    let is_right = match CobsDecoderOwned::new(rt.alloc(), 3) {
+        Ok(mut decoder) => all_true([
+            are_equal(decoder.dest(), &[0, 0, 0]),
+            decoder.sentinel() == 0,
+            goes_on(decoder.feed(3)),
+            gives(decoder.decode_whole(&[2, 7]), 1),
+            are_equal(decoder.dest(), &[7, 0, 0]),
+            goes_on(decoder.feed(0)),
+            takes_all(&mut decoder),
+        ]),
+        Err(_) => false,
+    };
+    check(&rt, is_right);
+}
+
+// Whether a decoder of three bytes takes its frames in through each change of its room.
+fn takes_all(decoder: &mut CobsDecoderOwned) -> bool {
+    all_true([
+        is_changed(decoder),
+        changes_size(decoder, &LESS),
+        is_refused(decoder),
+        changes_size(decoder, &MORE),
+        takes(decoder.push(&THREE), 5, 3),
+        changes_size(decoder, &OTHERS),
+    ])
+}
