@@ -80,31 +80,22 @@ fn array_that_is_given(rt: HostRuntime) {
 }
 
 #[test]
-fn array_that_is_changed(rt: HostRuntime) {
+fn arrays_of_their_own(rt: HostRuntime) {
     let mut decoder: CobsDecoderHeapless<4> = CobsDecoderHeapless::new();
     let dest = decoder.dest_mut();
     let length = dest.len();
     dest[3] = 8;
     let empty: CobsDecoderHeapless<0> = CobsDecoderHeapless::new();
+    let mut short: CobsDecoderHeapless<1> = CobsDecoderHeapless::default();
     check_all(
         &rt,
         [
             length == 4,
             are_equal(decoder.dest(), &[0, 0, 0, 8]),
             empty.dest().len() == 0,
-        ],
-    );
-}
-
-#[test]
-fn array_of_its_own(rt: HostRuntime) {
-    let mut decoder: CobsDecoderHeapless<1> = CobsDecoderHeapless::default();
-    check_all(
-        &rt,
-        [
-            are_equal(decoder.dest(), &[0]),
-            goes_on(decoder.feed(1)),
-            gives(decoder.feed(0), Some(0)),
+            are_equal(short.dest(), &[0]),
+            goes_on(short.feed(1)),
+            gives(short.feed(0), Some(0)),
         ],
     );
 }

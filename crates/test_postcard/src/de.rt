@@ -5,7 +5,7 @@ use crate::checks::{
 };
 use arrayvec::{ArrayString, ArrayVec};
 use postcard_de::de_flavors::io::IOReader;
-use postcard_de::de_flavors::{Bytes, Flavor, Slice};
+use postcard_de::de_flavors::{Flavor, Slice};
 use postcard_de::{Deserialize, DeserializeOwned, Deserializer, SeqAccess};
 use postcard_tree::{Error, Result};
 use std::alloc::Global;
@@ -170,23 +170,23 @@ fn read_broken(alloc: Global, count: usize, interrupted: bool) -> Result<bool> {
 }
 
 #[test]
-fn a_reader_that_fails_after_each_byte(rt: HostRuntime) {
+fn a_reader_that_fails_or_is_interrupted_after_each_byte(rt: HostRuntime) {
     for count in 0..9 {
         let failed = read_broken(rt.alloc(), count, false);
-        check_at(&rt, count, fails(failed, Error::DeserializeUnexpectedEnd));
-    }
-    check(&rt, gives(read_broken(rt.alloc(), 9, false), true));
-}
-
-#[test]
-fn a_reader_that_is_interrupted_after_each_byte(rt: HostRuntime) {
-    for count in 0..10 {
+        let interrupted = read_broken(rt.alloc(), count, true);
         check_at(
             &rt,
             count,
-            gives(read_broken(rt.alloc(), count, true), true),
+            fails(failed, Error::DeserializeUnexpectedEnd) && gives(interrupted, true),
         );
     }
+    check_all(
+        &rt,
+        [
+            gives(read_broken(rt.alloc(), 9, false), true),
+            gives(read_broken(rt.alloc(), 9, true), true),
+        ],
+    );
 }
 
 #[test]

@@ -3,7 +3,7 @@ use crate::checks::{check, check_all, fails, is_vector};
 use postcard::ser_flavors::Flavor;
 use postcard::{
     DeserializeOwned, Deserializer, Error, Serialize, Serializer, from_bytes_owned, from_io,
-    serialize_with_flavor, to_slice, to_slice_cobs, to_stdvec, to_vec,
+    to_slice, to_slice_cobs, to_stdvec, to_vec,
 };
 use std::alloc::{AllocError, Global};
 use std::collections::BTreeMap;

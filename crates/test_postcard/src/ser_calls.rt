@@ -1,5 +1,5 @@
 //! `postcard_ser`: what the serializer's calls push.
-use crate::checks::{check, check_all, is_array, is_full, succeed};
+use crate::checks::{check_all, is_array, is_full, succeed};
 use postcard_ser::ser_flavors::{Flavor, HVec, IndexByte};
 use postcard_ser::{Serialize, Serializer};
 use postcard_tree::Error;
@@ -112,28 +112,22 @@ fn each_call(rt: HostRuntime) {
     );
 }
 
-// Nothing of a number stays where it doesn't fit.
+// Nothing of a number stays where it doesn't fit; of a tuple the parts before it do.
 #[test]
 fn numbers_are_refused_whole(rt: HostRuntime) {
-    let mut serializer = serializer::<2>();
+    let mut numbers = serializer::<2>();
+    let mut parts = serializer::<2>();
     check_all(
         &rt,
         [
-            is_full(serializer.serialize_u16(16384)),
-            serializer.output.held() == 0,
-            is_full(serializer.serialize_u64(u64::MAX)),
-            serializer.output.held() == 0,
-            serializer.serialize_u16(16383).is_ok(),
-            holds(serializer, &[0xFF, 0x7F]),
+            is_full(numbers.serialize_u16(16384)),
+            numbers.output.held() == 0,
+            is_full(numbers.serialize_u64(u64::MAX)),
+            numbers.output.held() == 0,
+            numbers.serialize_u16(16383).is_ok(),
+            holds(numbers, &[0xFF, 0x7F]),
+            is_full((1u8, 300u16).serialize(&mut parts)),
+            parts.output.held() == 1,
         ],
-    );
-}
-
-#[test]
-fn refusals(rt: HostRuntime) {
-    let mut serializer = serializer::<2>();
-    check(
-        &rt,
-        is_full((1u8, 300u16).serialize(&mut serializer)) && serializer.output.held() == 1,
     );
 }

@@ -62,18 +62,15 @@ fn fills<B: IndexByte>(slice: &mut B) -> bool {
 fn slices(rt: HostRuntime) {
     let mut room = [0u8; 4];
     let mut slice = Slice::new(&mut room);
-    check(
+    let mut given = [9, 2, 3, 4];
+    check_all(
         &rt,
-        fills(&mut slice) && is_slice(slice.finalize(), &[9, 2, 3, 4]),
-    );
-}
-
-#[test]
-fn slices_that_are_given_back(rt: HostRuntime) {
-    let mut room = [9, 2, 3, 4];
-    check(
-        &rt,
-        fill(300, &mut room) == Ok(2) && are_equal(&room, &[0xAC, 0x02, 3, 4]),
+        [
+            fills(&mut slice),
+            is_slice(slice.finalize(), &[9, 2, 3, 4]),
+            fill(300, &mut given) == Ok(2),
+            are_equal(&given, &[0xAC, 0x02, 3, 4]),
+        ],
     );
 }
 

@@ -30,17 +30,12 @@ fn a_front_stays_while_the_rest_is_written(rt: HostRuntime) {
 }
 
 #[test]
-fn nothing_is_split(rt: HostRuntime) {
-    let (none, nothing) = Span::new(&mut []).split_front(0);
-    check(&rt, none.is_empty() && nothing.into_ahead().is_empty());
-}
-
-#[test]
 fn bytes_are_read(rt: HostRuntime) {
     let buffer = [1u8, 2, 3, 4];
     let mut span = Span::over(&buffer);
     let is_first = span.next() == 1;
     let (taken, mut left) = span.split_front(2);
+    let (none, nothing) = Span::new(&mut []).split_front(0);
     check_all(
         &rt,
         [
@@ -49,6 +44,8 @@ fn bytes_are_read(rt: HostRuntime) {
             left.remaining() == 0,
             are_equal(taken, &[2, 3]),
             left.into_ahead().is_empty(),
+            none.is_empty(),
+            nothing.into_ahead().is_empty(),
         ],
     );
 }

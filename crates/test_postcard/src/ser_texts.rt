@@ -47,7 +47,10 @@ impl Display for Careless {
 }
 
 #[test]
-fn slices(rt: HostRuntime) {
+fn slices_vectors_and_sizes(rt: HostRuntime) {
+    let mut serializer = Serializer {
+        output: AllocVec::new(rt.alloc()),
+    };
     check_all(
         &rt,
         [
@@ -55,18 +58,6 @@ fn slices(rt: HostRuntime) {
             formats(&300u32, &mut [0; 1], Err(Error::CollectStrError), &[3]),
             formats(&300u32, &mut [], Err(Error::SerializeBufferFull), &[]),
             formats(&Careless, &mut [0; 3], Err(Error::CollectStrError), &[4]),
-        ],
-    );
-}
-
-#[test]
-fn vectors_and_sizes(rt: HostRuntime) {
-    let mut serializer = Serializer {
-        output: AllocVec::new(rt.alloc()),
-    };
-    check_all(
-        &rt,
-        [
             serializer.collect_str(&300u32).is_ok(),
             is_vector(serializer.output.finalize(), &[3, 0x33, 0x30, 0x30]),
             counts(&300u32, Ok(()), 4),

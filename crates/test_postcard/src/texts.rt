@@ -40,19 +40,12 @@ fn of_cobs(rt: HostRuntime) {
         [
             shows(alloc, &DecodeVecError::OutOfMemory, "no memory"),
             shows(alloc, &DestBufTooSmallError, "destination buffer too small"),
-        ],
-    );
-}
-
-#[test]
-fn by_debug(rt: HostRuntime) {
-    let broken = DecodeError::InvalidFrame { decoded_bytes: 12 };
-    check_all(
-        &rt,
-        [
-            names(rt.alloc(), &broken, "InvalidFrame { decoded_bytes: 12 }"),
-            names(rt.alloc(), &DecoderState::GrabChain(3), "GrabChain(3)"),
-            names(rt.alloc(), &Error::OutOfMemory, "OutOfMemory"),
+            names(
+                alloc,
+                &DECODE_ERRORS[1].0,
+                "InvalidFrame { decoded_bytes: 12 }",
+            ),
+            names(alloc, &DecoderState::GrabChain(3), "GrabChain(3)"),
         ],
     );
 }
@@ -109,4 +102,5 @@ fn of_postcard(rt: HostRuntime) {
     for (error, text) in &ERRORS {
         check(&rt, shows(rt.alloc(), error, text));
     }
+    check(&rt, names(rt.alloc(), &Error::OutOfMemory, "OutOfMemory"));
 }
