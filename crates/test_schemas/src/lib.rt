@@ -1,4 +1,5 @@
-//! Tests of `schemas`, by its public calls alone: outside vectors of every kind of node, and refusals.
+//! Tests of `schemas`, `declarations` and `wire_lib`, by their public calls alone: outside vectors of every kind of node, tables of
+//! declarations, values as JSON and back, and refusals.
 #![tactic(auto)]
 
 #[cfg(test)]
@@ -6,12 +7,18 @@ mod calls;
 #[cfg(test)]
 mod checks;
 #[cfg(test)]
+mod looks;
+#[cfg(test)]
 mod messages;
+#[cfg(test)]
+mod receiving;
 #[cfg(test)]
 mod refused_growths;
 #[cfg(test)]
 mod rows;
 #[cfg(test)]
 mod saying;
+#[cfg(test)]
+mod schemas_of;
 #[cfg(test)]
 mod table;

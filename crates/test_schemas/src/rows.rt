@@ -1,13 +1,12 @@
 //! Lines of the vectors: what is read, what is written again, and what is refused.
-use crate::checks::{are_equal, check_row};
+use crate::checks::{check_row, is_written_as};
 use crate::saying::{say_read, say_refused};
 use crate::table::{
     ARRAY, BE_I64, BE_U16, BOOL, BYTES, CHAR, DEPTH, ENUM, I8, I16, I32, I64, I128, LE_I32, LE_U16,
     LE_U128, LIST, MAP, NESTED, OPTION, OPTION_TWICE, PAIRS, RESULT, SHORT_LIST, SHORT_TEXT, TEXT,
     TUPLE, U8, U16, U32, U64, U128, table,
 };
-use postcard::to_stdvec;
-use schemas::{Node, Value, take_from_bytes};
+use schemas::{Node, take_from_bytes};
 use std::alloc::{AllocError, Global};
 use std::process::Abort;
 
@@ -25,13 +24,6 @@ fn answer(alloc: Global, nodes: &[Node], place: usize, digits: &str) -> Result<S
 fn is_answered(alloc: Global, nodes: &[Node], place: usize, digits: &str, wanted: &str) -> bool {
     match answer(alloc, nodes, place, digits) {
         Ok(line) => line.as_str() == wanted,
-        Err(_) => false,
-    }
-}
-
-fn is_written_as(alloc: Global, value: &Value, wanted: &[u8]) -> bool {
-    match to_stdvec(alloc, value) {
-        Ok(written) => are_equal(&written, wanted),
         Err(_) => false,
     }
 }
