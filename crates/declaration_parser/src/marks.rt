@@ -4,6 +4,9 @@ use crate::tokens::is_of_word;
 /// What marks a declaration.
 const MESSAGE: &str = "message";
 
+/// The same from its end.
+const BACKWARDS: &[u8] = b"egassem";
+
 /// How many letters a word has in common with `message`, from the front and from the back, that seems meant for it.
 const COMMON: usize = 5;
 
@@ -37,32 +40,33 @@ fn first_word(text: &str) -> (&str, &str) {
 
 /// Whether a word is `message` but for a letter or two.
 fn is_like_message(word: &str) -> bool {
-    let front = common_front(word);
-    front > 0 && word.len() <= LONGEST && front.saturating_add(common_back(word)) >= COMMON
+    let letters = word.as_bytes();
+    let front = common_front(letters);
+    front > 0 && letters.len() <= LONGEST && front.saturating_add(common_back(letters)) >= COMMON
 }
 
 /// How many letters a word begins with as `message` does.
-fn common_front(word: &str) -> usize {
-    let mut count: usize = 0;
-    for (letter, wanted) in word.chars().zip(MESSAGE.chars()) {
-        if !letter.eq_ignore_ascii_case(&wanted) {
-            break;
+fn common_front(letters: &[u8]) -> usize {
+    let mut rest = letters;
+    for (place, wanted) in MESSAGE.as_bytes().iter().enumerate() {
+        match rest {
+            [first, behind @ ..] if first.eq_ignore_ascii_case(wanted) => rest = behind,
+            _ => return place,
         }
-        count = count.saturating_add(1);
     }
-    count
+    MESSAGE.len()
 }
 
 /// How many letters a word ends with as `message` does.
-fn common_back(word: &str) -> usize {
-    let mut count: usize = 0;
-    for (letter, wanted) in word.chars().rev().zip(MESSAGE.chars().rev()) {
-        if !letter.eq_ignore_ascii_case(&wanted) {
-            break;
+fn common_back(letters: &[u8]) -> usize {
+    let mut rest = letters;
+    for (place, wanted) in BACKWARDS.iter().enumerate() {
+        match rest {
+            [before @ .., last] if last.eq_ignore_ascii_case(wanted) => rest = before,
+            _ => return place,
         }
-        count = count.saturating_add(1);
     }
-    count
+    BACKWARDS.len()
 }
 
 /// Whether what stands behind a word like `message` is as behind a mark.

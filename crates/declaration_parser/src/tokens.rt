@@ -38,6 +38,15 @@ pub struct Tokens {
     failed: bool,
 }
 
+/// The tokens of a text.
+pub fn tokens_of(alloc: Global, text: &str) -> Result<Read, AllocError> {
+    let mut tokens = Tokens::new(alloc);
+    for line in text.lines() {
+        tokens.read_line(line);
+    }
+    tokens.finished()
+}
+
 /// Whether a character can stand in a word, a lifetime or a number.
 pub fn is_of_word(character: char) -> bool {
     character.is_alphanumeric() || character == '_' || character == '\''

@@ -1,21 +1,21 @@
 //! From declared types to the nodes of a table.
-ghost use Rattle.std.specs.Prelude.{◌≤◌, length, IfOk};
+ghost use Rattle.std.specs.Prelude.{◌≡◌, ◌≤◌, length, IfOk};
 
-use crate::Names;
+use crate::{Error, Names};
 use declaration_parser::declaration::{Body, Declaration, Fields, Form, VariantOf};
 use declaration_parser::faults::Faults;
 use declaration_parser::tokens::{Token, is_lifetime};
 use schemas::{IntegerType, Node};
-use std::alloc::{AllocError, Global};
+use std::alloc::Global;
 
 /// How deep the words of one type may nest, as `Vec<Option<u8>>` nests three deep.
 const DEEPEST: u32 = 64;
 
 /// A node, and what its values are called by.
 #[derive(Drop)]
-pub struct Entry {
-    pub node: Node,
-    pub names: Names,
+struct Entry {
+    node: Node,
+    names: Names,
 }
 
 /// Makes nodes of the words of types. What is wrong is noted and hides the words behind it in the same field.
@@ -26,8 +26,9 @@ struct Builder<'a> {
     /// The words of a type that aren't read yet, and the line of the last one that was.
     rest: &'a [Token],
     line: usize,
-    /// The nodes of types without a name. They stand behind those of the declared ones.
-    unnamed: Vec<Entry>,
+    /// The table: behind the nodes of the declared types those of types without a name.
+    nodes: Vec<Node>,
+    names: Vec<Names>,
     faults: Faults,
     /// Whether something is wrong in the field that is read.
     is_wrong: bool,
@@ -35,18 +36,15 @@ struct Builder<'a> {
 
 /// The node of a type that holds no other, by its word.
 fn plain_node(word: &str) -> Option<Node> {
+    if let Some(of) = integer_type(word) {
+        return Some(integer_node(of));
+    }
     Some(match word {
         "bool" => Node::Bool,
         "u8" => Node::U8,
         "i8" => Node::I8,
-        "u16" => Node::U16,
-        "u32" => Node::U32,
-        "u64" | "usize" => Node::U64,
-        "u128" => Node::U128,
-        "i16" => Node::I16,
-        "i32" => Node::I32,
-        "i64" | "isize" => Node::I64,
-        "i128" => Node::I128,
+        "usize" => Node::U64,
+        "isize" => Node::I64,
         "char" => Node::Char,
         "str" | "String" => Node::Text,
         "ByteBuf" => Node::Bytes,
@@ -54,19 +52,40 @@ fn plain_node(word: &str) -> Option<Node> {
     })
 }
 
+/// The integer types that may stand as their bytes, by their words.
+const INTEGERS: [(&str, IntegerType); 8] = [
+    ("u16", IntegerType::U16),
+    ("u32", IntegerType::U32),
+    ("u64", IntegerType::U64),
+    ("u128", IntegerType::U128),
+    ("i16", IntegerType::I16),
+    ("i32", IntegerType::I32),
+    ("i64", IntegerType::I64),
+    ("i128", IntegerType::I128),
+];
+
 /// An integer type that may stand as its bytes, by its word.
 fn integer_type(word: &str) -> Option<IntegerType> {
-    Some(match word {
-        "u16" => IntegerType::U16,
-        "u32" => IntegerType::U32,
-        "u64" => IntegerType::U64,
-        "u128" => IntegerType::U128,
-        "i16" => IntegerType::I16,
-        "i32" => IntegerType::I32,
-        "i64" => IntegerType::I64,
-        "i128" => IntegerType::I128,
-        _ => return None,
-    })
+    for (known, of) in &INTEGERS {
+        if *known == word {
+            return Some(*of);
+        }
+    }
+    None
+}
+
+/// The node of such a type.
+fn integer_node(of: IntegerType) -> Node {
+    match of {
+        IntegerType::U16 => Node::U16,
+        IntegerType::U32 => Node::U32,
+        IntegerType::U64 => Node::U64,
+        IntegerType::U128 => Node::U128,
+        IntegerType::I16 => Node::I16,
+        IntegerType::I32 => Node::I32,
+        IntegerType::I64 => Node::I64,
+        IntegerType::I128 => Node::I128,
+    }
 }
 
 /// The node of a list of a type; of bytes it is a buffer.
@@ -79,7 +98,22 @@ fn list_node(is_byte: bool, element: usize) -> Node {
 
 /// The place of the declared type of this name.
 fn declared_place(declared: &[Declaration<'_>], name: &str) -> Option<usize> {
-    declared.iter().position(|it| it.name == name)
+    for (place, it) in declared.iter().enumerate() {
+        if it.name == name {
+            return Some(place);
+        }
+    }
+    None
+}
+
+/// Whether a declaration has other parameters than lifetimes.
+fn has_type_parameters(it: &Declaration<'_>) -> bool {
+    for parameter in &it.parameters {
+        if !is_lifetime(parameter) {
+            return true;
+        }
+    }
+    false
 }
 
 impl<'a> Builder<'a> {
@@ -132,10 +166,12 @@ impl<'a> Builder<'a> {
         }
     }
 
-    /// Appends a node of a type without a name, and gives its place.
+    /// Appends a node, and gives its place.
     fn add(&mut self, node: Node, names: Names) -> usize {
-        let place = self.declared.len().saturating_add(self.unnamed.len());
-        let failed = self.unnamed.push(Entry { node, names }).is_err();
+        let place = self.nodes.len();
+        let failed = self.nodes.push(node).is_err();
+        self.faults.note(failed);
+        let failed = self.names.push(names).is_err();
         self.faults.note(failed);
         place
     }
@@ -430,10 +466,11 @@ impl<'a> Builder<'a> {
     fn check(&mut self, it: &Declaration<'a>, place: usize) {
         self.is_wrong = false;
         self.line = it.line;
-        if declared_place(self.declared, it.name) != Some(place) {
+        let before = self.declared.get(..place).unwrap_or(&[]);
+        if declared_place(before, it.name).is_some() {
             self.wrong(&["`", it.name, "` is declared twice"]);
         }
-        if !it.parameters.iter().all(|parameter| is_lifetime(parameter)) {
+        if has_type_parameters(it) {
             self.wrong(&[
                 "`",
                 it.name,
@@ -449,38 +486,69 @@ impl<'a> Builder<'a> {
             Body::Enum(variants) => self.choice(variants),
         }
     }
+
+    /// Puts an entry at a place that the table has.
+    fn put(&mut self, place: usize, entry: Entry) {
+        let Entry { node, names } = entry;
+        if let Some(old) = self.nodes.get_mut(place) {
+            *old = node;
+        }
+        if let Some(old) = self.names.get_mut(place) {
+            *old = names;
+        }
+    }
+
+    /// Keeps the first places for the declared types.
+    fn keep_places(&mut self) {
+        for _ in self.declared {
+            self.add(Node::Bool, Names::Nothing);
+        }
+    }
+
+    /// Makes the nodes of the declared types, in their order.
+    fn declarations(&mut self) {
+        for (place, it) in self.declared.iter().enumerate() {
+            self.check(it, place);
+            let entry = self.declaration(it);
+            self.put(place, entry);
+        }
+    }
 }
 
-/// The nodes of declared types, in their order, and behind them those of the types in them that have no name; and what is
-/// wrong, a line each.
-pub fn entries<'a>(
+/// The nodes of declared types, in their order, and behind them those of the types in them that have no name; and what their
+/// values are called by.
+pub fn table<'a>(
     alloc: Global,
     declared: &'a [Declaration<'a>],
-) -> Result<(Vec<Entry>, String), AllocError>
-    ensures { IfOk result (λ p. length declared.now ≤ length p.0.items) }
+) -> Result<(Vec<Node>, Vec<Names>), Error>
+    ensures named { IfOk result (λ t. length t.1.items ≡ length t.0.items) }
+    ensures declared { IfOk result (λ t. length declared.now ≤ length t.0.items) }
 {
     let mut builder = Builder {
         alloc,
         declared,
         rest: &[],
         line: 0,
-        unnamed: Vec::new(alloc),
+        nodes: Vec::new(alloc),
+        names: Vec::new(alloc),
         faults: Faults::new(alloc),
         is_wrong: false,
     };
-    let mut all = Vec::new(alloc);
-    for (place, it) in declared.iter().enumerate() {
-        builder.check(it, place);
-        let entry = builder.declaration(it);
-        all.push(entry)?;
-    }
+    builder.keep_places();
+    builder.declarations();
     let Builder {
-        unnamed,
+        nodes,
+        names,
         faults,
         ..
     } = builder;
-    for entry in unnamed {
-        all.push(entry)?;
+    let faults = faults.finished()?;
+    if !faults.is_empty() {
+        return Err(Error::Wrong(faults));
     }
-    Ok((all, faults.finished()?))
+    // Each has a node and names, unless memory ran out.
+    if names.len() != nodes.len() || nodes.len() < declared.len() {
+        return Err(Error::OutOfMemory);
+    }
+    Ok((nodes, names))
 }

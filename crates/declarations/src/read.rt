@@ -1,11 +1,11 @@
 //! From a text of declarations to a table.
 ghost use Rattle.std.specs.Prelude.{◌≡◌, ◌≤◌, length, IfOk};
 
-use crate::builder::{Entry, entries};
+use crate::builder::table;
 use crate::{Named, Schema};
 use declaration_parser::declaration::Declaration;
 use declaration_parser::parser::{Purpose, declarations};
-use declaration_parser::tokens::{Read, Tokens};
+use declaration_parser::tokens::{Read, tokens_of};
 use std::alloc::{AllocError, Global};
 
 /// Why declarations have no schema.
@@ -38,21 +38,13 @@ fn named(alloc: Global, declared: &[Declaration<'_>]) -> Result<Vec<Named>, Allo
     Ok(types)
 }
 
-/// The table of these entries.
-fn table(alloc: Global, types: Vec<Named>, entries: Vec<Entry>) -> Result<Schema, AllocError>
-    ensures types { IfOk result (λ schema. schema.types ≡ types) }
-    ensures nodes { IfOk result (λ schema. length schema.nodes.items ≡ length entries.items) }
-    ensures names { IfOk result (λ schema. length schema.names.items ≡ length entries.items) }
+/// The table of declared types.
+fn table_of(alloc: Global, declared: &[Declaration<'_>]) -> Result<Schema, Error>
+    ensures named { IfOk result (λ s. length s.names.items ≡ length s.nodes.items) }
+    ensures declared { IfOk result (λ s. length s.types.items ≤ length s.nodes.items) }
 {
-    let mut nodes = Vec::new(alloc);
-    let mut names = Vec::new(alloc);
-    for Entry {
-        node,
-        names: called,
-    } in entries {
-        nodes.push(node)?;
-        names.push(called)?;
-    }
+    let types = named(alloc, declared)?;
+    let (nodes, names) = table(alloc, declared)?;
     Ok(Schema {
         types,
         nodes,
@@ -60,30 +52,14 @@ fn table(alloc: Global, types: Vec<Named>, entries: Vec<Entry>) -> Result<Schema
     })
 }
 
-/// The table of declared types.
-fn table_of(alloc: Global, declared: &[Declaration<'_>]) -> Result<Schema, Error>
+/// The table of the declarations that these tokens are.
+fn read_tokens(alloc: Global, read: &Read) -> Result<Schema, Error>
     ensures named { IfOk result (λ s. length s.names.items ≡ length s.nodes.items) }
     ensures declared { IfOk result (λ s. length s.types.items ≤ length s.nodes.items) }
 {
-    let (found, faults) = entries(alloc, declared)?;
-    without_faults(faults)?;
-    let types = named(alloc, declared)?;
-    Ok(table(alloc, types, found)?)
-}
-
-/// The tokens of a text.
-fn tokens_of(alloc: Global, text: &str) -> Result<Read, AllocError> {
-    let mut tokens = Tokens::new(alloc);
-    for line in text.lines() {
-        tokens.read_line(line);
-    }
-    tokens.finished()
-}
-
-/// An error of these lines, if there are any.
-fn without_faults(faults: String) -> Result<(), Error> {
+    let (declared, faults) = declarations(alloc, Purpose::Schemas, read)?;
     if faults.is_empty() {
-        return Ok(());
+        return table_of(alloc, &declared);
     }
     Err(Error::Wrong(faults))
 }
@@ -99,7 +75,5 @@ pub fn read_schema(alloc: Global, text: &str) -> Result<Schema, Error>
     ensures declared { IfOk result (λ s. length s.types.items ≤ length s.nodes.items) }
 {
     let read = tokens_of(alloc, text)?;
-    let (declared, faults) = declarations(alloc, Purpose::Schemas, &read)?;
-    without_faults(faults)?;
-    table_of(alloc, &declared)
+    read_tokens(alloc, &read)
 }

@@ -232,8 +232,10 @@ impl Text {
     }
 
     /// Writes what ghost text brings in.
-    fn enum_uses(&mut self, name: &str, variants: &[VariantOf], path: &str) {
-        self.put_all(&["    ghost use Rattle.", path, ".", name, ".TheVariants.{"]);
+    fn enum_uses(&mut self, name: &str, variants: &[VariantOf], path: &Text) {
+        self.put("    ghost use Rattle.");
+        self.put_text(path);
+        self.put_all(&[".", name, ".TheVariants.{"]);
         self.put_brought_in(variants);
         self.put("};\n");
         if variants.len() > 4 {
@@ -252,7 +254,7 @@ impl Text {
     }
 
     /// Writes what the shape is.
-    pub fn enum_shape(&mut self, it: &Declaration, variants: &[VariantOf], path: &str) {
+    pub fn enum_shape(&mut self, it: &Declaration, variants: &[VariantOf], path: &Text) {
         self.alias(it, variants);
         self.fill(it, "\nimpl%% Shaped for %Name% {\n");
         self.enum_uses(it.name, variants, path);

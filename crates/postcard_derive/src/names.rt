@@ -1,5 +1,5 @@
 //! The names that the implementations bring in.
-use declaration_parser::declaration::{Body, Declaration, Fields, Marks};
+use declaration_parser::declaration::{Body, Declaration, Fields};
 use declaration_parser::tokens::{Token, first_letter, is_among};
 use std::alloc::{AllocError, Global};
 
@@ -18,6 +18,53 @@ impl Module {
         match self {
             Module::Above => "super",
             Module::Postcard => "postcard",
+        }
+    }
+}
+
+/// Which declarations use a name of `postcard`.
+#[derive(Clone, Copy)]
+enum User {
+    Each,
+    Read,
+    Written,
+    Enum,
+    /// An enum of more than four variants.
+    OfFours,
+    /// An enum of a variant that stands neither in a four nor last.
+    OfOnes,
+}
+
+/// The names of `postcard`, and what uses them.
+const OF_POSTCARD: [(User, &str); 12] = [
+    (User::Each, "AsShape"),
+    (User::Each, "Formed"),
+    (User::Each, "ShapeOf"),
+    (User::Each, "Shaped"),
+    (User::Read, "Readable"),
+    (User::Read, "ReadableShape"),
+    (User::Written, "Serialize"),
+    (User::Written, "SerializeShape"),
+    (User::Written, "Serializer"),
+    (User::Enum, "Last"),
+    (User::OfFours, "Variants4"),
+    (User::OfOnes, "Variant"),
+];
+
+impl User {
+    /// Whether this declaration is one of them.
+    fn is(self, it: &Declaration) -> bool {
+        let count = match &it.body {
+            Body::Struct(_) => 0,
+            Body::Enum(variants) => variants.len(),
+        };
+        match self {
+            User::Each => true,
+            User::Read => it.marks.read,
+            User::Written => it.marks.written,
+            User::Enum => count > 0,
+            User::OfFours => count > 4,
+            User::OfOnes => count > 0 && count % 4 != 1,
         }
     }
 }
@@ -99,36 +146,13 @@ impl<'a> Names<'a> {
         }
     }
 
-    /// Puts those of these names that are used.
-    fn put_used(&mut self, names: &[(bool, &'static str)]) {
-        for (is_used, name) in names {
-            if *is_used {
+    /// Puts the names that a declaration uses of `postcard`.
+    fn put_of_postcard(&mut self, it: &Declaration) {
+        for (user, name) in &OF_POSTCARD {
+            if user.is(it) {
                 self.put(name);
             }
         }
-    }
-
-    /// Puts the names that a declaration uses of `postcard`.
-    fn put_of_postcard(&mut self, it: &Declaration) {
-        let Marks { written, read } = it.marks;
-        let (is_enum, count) = match &it.body {
-            Body::Struct(_) => (false, 1),
-            Body::Enum(variants) => (true, variants.len()),
-        };
-        self.put_used(&[
-            (true, "AsShape"),
-            (true, "Formed"),
-            (true, "ShapeOf"),
-            (true, "Shaped"),
-            (read, "Readable"),
-            (read, "ReadableShape"),
-            (written, "Serialize"),
-            (written, "SerializeShape"),
-            (written, "Serializer"),
-            (is_enum, "Last"),
-            (count > 4, "Variants4"),
-            (count % 4 != 1, "Variant"),
-        ]);
     }
 
     /// Puts the names that a declaration uses of a module.

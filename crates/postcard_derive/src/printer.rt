@@ -149,12 +149,14 @@ impl Text {
     /// Appends a text in which a word between two `%` stands for a part of a declaration: `Name` for its name and `NameShape`
     /// for that of its shape, both with the type parameters, and another for the type parameters, each with that behind it.
     pub fn fill(&mut self, it: &Declaration, text: &str) {
-        for (place, piece) in text.split('%').enumerate() {
-            if place % 2 == 0 {
-                self.put(piece);
-            } else {
+        let mut is_part = false;
+        for piece in text.split('%') {
+            if is_part {
                 self.put_part_of(it, piece);
+            } else {
+                self.put(piece);
             }
+            is_part = !is_part;
         }
     }
 
@@ -287,14 +289,16 @@ impl Text {
     /// Writes which names are used of a module, unless none are.
     fn uses(&mut self, all: &[Declaration], module: Module) {
         match names_used(self.alloc, all, module) {
-            Ok(names) if names.is_empty() => {}
             Ok(names) => self.uses_names(module, &names),
             Err(_) => self.note(true),
         }
     }
 
-    /// Writes that these names are used of a module.
+    /// Writes that these names are used of a module, unless there are none.
     fn uses_names(&mut self, module: Module, names: &[&str]) {
+        if names.is_empty() {
+            return;
+        }
         self.put_all(&["use ", module.path(), "::"]);
         let mut text = Text::new(self.alloc);
         text.put_used(names);
@@ -368,35 +372,26 @@ impl Text {
     }
 
     /// Writes the implementations of a declaration.
-    fn put_declaration(&mut self, it: &Declaration, path: &str) {
+    fn put_declaration(&mut self, it: &Declaration, path: &Text) {
         match &it.body {
             Body::Struct(fields) => self.struct_shape(it, fields),
             Body::Enum(variants) => self.enum_shape(it, variants, path),
         }
         self.fill(it, FORMED);
         if it.marks.read {
-            self.fill(it, READ);
-            self.put(if it.parameters.is_empty() {
-                " {"
-            } else {
-                GROWS
-            });
-            self.fill(it, READ_AS_SHAPE);
+            self.promised(it, READ, GROWS, READ_AS_SHAPE);
         }
         if it.marks.written {
             self.written(it);
         }
     }
 
-    /// Writes how a declaration is put into a table.
-    fn schema(&mut self, it: &Declaration) {
-        self.fill(it, SCHEMA);
-        self.put(if it.parameters.is_empty() {
-            " {"
-        } else {
-            IS_SCHEMA
-        });
-        self.put(OF_SHAPE);
+    /// Writes an implementation around what a function of its trait promises, which is written again for a type with parameters.
+    fn promised(&mut self, it: &Declaration, before: &str, promise: &str, behind: &str) {
+        self.fill(it, before);
+        let has_parameters = !it.parameters.is_empty();
+        self.put(if has_parameters { promise } else { " {" });
+        self.fill(it, behind);
     }
 
     /// Writes how the values of a declaration are written.
@@ -441,7 +436,7 @@ fn uses_of(all: &[Declaration], with_schemas: bool) -> Uses {
 /// definitions of the module in which they stand.
 pub fn write_all(
     alloc: Global,
-    path: &str,
+    path: &Text,
     with_schemas: bool,
     all: &[Declaration],
 ) -> Result<String, AllocError> {
@@ -450,7 +445,7 @@ pub fn write_all(
     for it in all {
         text.put_declaration(it, path);
         if it.marks.read && with_schemas {
-            text.schema(it);
+            text.promised(it, SCHEMA, IS_SCHEMA, OF_SHAPE);
         }
     }
     text.finished()

@@ -24,7 +24,7 @@ const USAGE: &str =
 const ROOM: usize = 65536;
 
 /// Why a run ends before its work is done.
-#[derive(Debug, Drop)]
+#[derive(Drop)]
 enum Stop {
     /// The words are wrong, or what they name; lines that say why.
     Wrong(String),
@@ -156,11 +156,12 @@ fn read(rt: &HostRuntime, schema: &Schema, place: usize, options: Options) -> Ra
     };
     let mut receiver = Receiver::new(reading, options.from)?;
     let mut lines = Vec::new(rt.alloc());
-    if options.hex {
-        receive_digits(rt, &mut receiver, &mut lines)?;
+    let received = if options.hex {
+        receive_digits(rt, &mut receiver, &mut lines)
     } else {
-        receive_bytes(rt, &mut receiver, &mut lines)?;
-    }
+        receive_bytes(rt, &mut receiver, &mut lines)
+    };
+    received?;
     let is_good = receiver.finish(&mut lines)?;
     say(rt, &lines)?;
     Ok(is_good)
@@ -187,39 +188,60 @@ fn send(
     Ok(())
 }
 
-/// Makes a frame of each line, and says whether all were values. The first has a sentinel before it. The frames of each read are
-/// written at its end.
-fn write(rt: &HostRuntime, schema: &Schema, place: usize, options: Options) -> Ran {
-    let alloc = rt.alloc();
-    let sentinel = options.sentinel;
-    let mut sender = Sender::new(Sending {
-        alloc,
-        schema,
-        place,
-        sentinel,
-    });
-    let mut wrongs = String::new(alloc);
-    let mut frames = Vec::new(alloc);
-    frames.extend_from_slice(&[sentinel])?;
-    send(rt, options.hex, &mut frames, &mut wrongs)?;
+/// Makes frames of lines as they come. Those of each read are written at its end.
+fn send_reads(
+    rt: &HostRuntime,
+    sender: &mut Sender<'_>,
+    hex: bool,
+    frames: &mut Vec<u8>,
+    wrongs: &mut String,
+) -> Result<(), Stop> {
     let mut room = [0u8; ROOM];
     for _ in 0..u64::MAX {
         let count = read_some(rt, &mut room)?;
         if count == 0 {
             break;
         }
-        let piece = room.get(..count).unwrap_or(&[]);
-        let pushed = sender.push(piece, &mut frames, &mut wrongs);
-        send(rt, options.hex, &mut frames, &mut wrongs)?;
+        let pushed = sender.push(room.get(..count).unwrap_or(&[]), frames, wrongs);
+        send(rt, hex, frames, wrongs)?;
         pushed?;
     }
-    let finished = sender.finish(&mut frames, &mut wrongs);
-    send(rt, options.hex, &mut frames, &mut wrongs)?;
+    Ok(())
+}
+
+/// Makes a frame of each line, behind what is in `frames`, and says whether all were values.
+fn send_all(
+    rt: &HostRuntime,
+    sending: Sending<'_>,
+    hex: bool,
+    frames: &mut Vec<u8>,
+    wrongs: &mut String,
+) -> Ran {
+    send(rt, hex, frames, wrongs)?;
+    let mut sender = Sender::new(sending);
+    send_reads(rt, &mut sender, hex, frames, wrongs)?;
+    let finished = sender.finish(frames, wrongs);
+    send(rt, hex, frames, wrongs)?;
     let is_good = finished?;
-    if options.hex {
+    if hex {
         say(rt, b"\n")?;
     }
     Ok(is_good)
+}
+
+/// Makes a frame of each line, and says whether all were values. The first has a sentinel before it.
+fn write(rt: &HostRuntime, schema: &Schema, place: usize, options: Options) -> Ran {
+    let alloc = rt.alloc();
+    let sentinel = options.sentinel;
+    let sending = Sending {
+        alloc,
+        schema,
+        place,
+        sentinel,
+    };
+    let mut frames = Vec::from_elem(alloc, sentinel, 1)?;
+    let mut wrongs = String::new(alloc);
+    send_all(rt, sending, options.hex, &mut frames, &mut wrongs)
 }
 
 /// Lists the types with their greatest sizes.
@@ -276,9 +298,12 @@ fn run(rt: &HostRuntime, words: &[String]) -> Ran {
 
 /// The words behind the program's name.
 fn words_of(rt: &HostRuntime) -> Option<Vec<String>> {
+    let args = env::args(rt).ok()?;
     let mut words: Vec<String> = Vec::new(rt.alloc());
-    for word in env::args(rt).ok()?.skip(1) {
-        words.push(word).ok()?;
+    for word in args.skip(1) {
+        if words.push(word).is_err() {
+            return None;
+        }
     }
     Some(words)
 }

@@ -116,35 +116,56 @@ fn bytes(alloc: Global, json: &Json<'_>) -> Parsed {
 
 /// An integer of the type, if it is in its range.
 fn integer_of(of: IntegerType, text: &str) -> Option<Integer> {
-    match of {
-        IntegerType::U16 => Some(Integer::U16(text.parse().ok()?)),
-        IntegerType::U32 => Some(Integer::U32(text.parse().ok()?)),
-        IntegerType::U64 => Some(Integer::U64(text.parse().ok()?)),
-        IntegerType::U128 => Some(Integer::U128(text.parse().ok()?)),
-        IntegerType::I16 => Some(Integer::I16(text.parse().ok()?)),
-        IntegerType::I32 => Some(Integer::I32(text.parse().ok()?)),
-        IntegerType::I64 => Some(Integer::I64(text.parse().ok()?)),
-        IntegerType::I128 => Some(Integer::I128(text.parse().ok()?)),
+    Some(match of {
+        IntegerType::U16 => Integer::U16(text.parse().ok()?),
+        IntegerType::U32 => Integer::U32(text.parse().ok()?),
+        IntegerType::U64 => Integer::U64(text.parse().ok()?),
+        IntegerType::U128 => Integer::U128(text.parse().ok()?),
+        IntegerType::I16 => Integer::I16(text.parse().ok()?),
+        IntegerType::I32 => Integer::I32(text.parse().ok()?),
+        IntegerType::I64 => Integer::I64(text.parse().ok()?),
+        IntegerType::I128 => Integer::I128(text.parse().ok()?),
+    })
+}
+
+/// The type of a node's values, if they are integers of 16 bits or more as varints.
+fn integer_type(node: &Node) -> Option<IntegerType> {
+    Some(match node {
+        Node::U16 => IntegerType::U16,
+        Node::U32 => IntegerType::U32,
+        Node::U64 => IntegerType::U64,
+        Node::U128 => IntegerType::U128,
+        Node::I16 => IntegerType::I16,
+        Node::I32 => IntegerType::I32,
+        Node::I64 => IntegerType::I64,
+        Node::I128 => IntegerType::I128,
+        _ => return None,
+    })
+}
+
+/// The value of such an integer.
+fn value_of(n: Integer) -> Value {
+    match n {
+        Integer::U16(n) => Value::U16(n),
+        Integer::U32(n) => Value::U32(n),
+        Integer::U64(n) => Value::U64(n),
+        Integer::U128(n) => Value::U128(n),
+        Integer::I16(n) => Value::I16(n),
+        Integer::I32(n) => Value::I32(n),
+        Integer::I64(n) => Value::I64(n),
+        Integer::I128(n) => Value::I128(n),
     }
 }
 
 /// A number of the type, if it is in its range.
 fn number_of(node: &Node, text: &str) -> Option<Value> {
-    match node {
-        Node::U8 => Some(Value::U8(text.parse().ok()?)),
-        Node::I8 => Some(Value::I8(text.parse().ok()?)),
-        Node::U16 => Some(Value::U16(text.parse().ok()?)),
-        Node::I16 => Some(Value::I16(text.parse().ok()?)),
-        Node::U32 => Some(Value::U32(text.parse().ok()?)),
-        Node::I32 => Some(Value::I32(text.parse().ok()?)),
-        Node::U64 => Some(Value::U64(text.parse().ok()?)),
-        Node::I64 => Some(Value::I64(text.parse().ok()?)),
-        Node::U128 => Some(Value::U128(text.parse().ok()?)),
-        Node::I128 => Some(Value::I128(text.parse().ok()?)),
-        Node::LE(of) => Some(Value::LE(integer_of(*of, text)?)),
-        Node::BE(of) => Some(Value::BE(integer_of(*of, text)?)),
-        _ => None,
-    }
+    Some(match node {
+        Node::U8 => Value::U8(text.parse().ok()?),
+        Node::I8 => Value::I8(text.parse().ok()?),
+        Node::LE(of) => Value::LE(integer_of(*of, text)?),
+        Node::BE(of) => Value::BE(integer_of(*of, text)?),
+        _ => value_of(integer_of(integer_type(node)?, text)?),
+    })
 }
 
 fn number(node: &Node, json: &Json<'_>) -> Parsed {
@@ -229,9 +250,9 @@ fn pair(
     };
     let key = key_of(alloc, schema, *first, depth, key)?;
     let held = value(alloc, schema, *second, depth, json)?;
-    let mut parts = Vec::new(alloc);
-    parts.push(key)?;
-    parts.push(held)?;
+    let Ok(parts) = Vec::from_array(alloc, [key, held]) else {
+        return Err(ParseError::OutOfMemory);
+    };
     Ok(Value::Group(parts))
 }
 

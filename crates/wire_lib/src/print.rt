@@ -53,25 +53,42 @@ fn put_i128(out: &mut Writer, n: i128) -> Printed {
     put_digits(out, buffer.format(n))
 }
 
+/// Appends a number of up to 64 bits.
+fn put_u64(out: &mut Writer, n: u64) -> Printed {
+    Ok(out.u64(n)?)
+}
+
+/// Appends a number of up to 64 bits that may be negative.
+fn put_i64(out: &mut Writer, n: i64) -> Printed {
+    Ok(out.i64(n)?)
+}
+
 /// Appends an integer whose bytes stand as they are.
 fn put_integer(out: &mut Writer, n: Integer) -> Printed {
     match n {
-        Integer::U16(n) => Ok(out.u64(u64::from(n))?),
-        Integer::U32(n) => Ok(out.u64(u64::from(n))?),
-        Integer::U64(n) => Ok(out.u64(n)?),
+        Integer::U16(n) => put_u64(out, u64::from(n)),
+        Integer::U32(n) => put_u64(out, u64::from(n)),
+        Integer::U64(n) => put_u64(out, n),
         Integer::U128(n) => put_u128(out, n),
-        Integer::I16(n) => Ok(out.i64(i64::from(n))?),
-        Integer::I32(n) => Ok(out.i64(i64::from(n))?),
-        Integer::I64(n) => Ok(out.i64(n)?),
+        Integer::I16(n) => put_i64(out, i64::from(n)),
+        Integer::I32(n) => put_i64(out, i64::from(n)),
+        Integer::I64(n) => put_i64(out, n),
         Integer::I128(n) => put_i128(out, n),
     }
+}
+
+/// Appends a text.
+fn put_text(out: &mut Writer, text: &str) -> Printed {
+    Ok(out.string(text)?)
 }
 
 /// Appends a character as a text.
 fn put_char(out: &mut Writer, alloc: Global, c: char) -> Printed {
     let mut text = String::new(alloc);
-    text.push(c)?;
-    Ok(out.string(text.as_str())?)
+    if text.push(c).is_err() {
+        return Err(PrintError::OutOfMemory);
+    }
+    put_text(out, text.as_str())
 }
 
 /// Appends bytes as an array of numbers.
@@ -89,26 +106,26 @@ fn put_bytes(out: &mut Writer, style: Style<'_>, bytes: &[u8]) -> Printed {
         return put_numbers(out, bytes);
     }
     let digits = hex::encode(style.alloc, bytes)?;
-    Ok(out.string(digits.as_str())?)
+    put_text(out, digits.as_str())
 }
 
 /// Appends what looks the same whatever holds it.
 fn put_plain(out: &mut Writer, style: Style<'_>, value: &Value) -> Printed {
     match value {
         Value::Bool(b) => Ok(out.boolean(*b)?),
-        Value::U8(n) => Ok(out.u64(u64::from(*n))?),
-        Value::U16(n) => Ok(out.u64(u64::from(*n))?),
-        Value::U32(n) => Ok(out.u64(u64::from(*n))?),
-        Value::U64(n) => Ok(out.u64(*n)?),
+        Value::U8(n) => put_u64(out, u64::from(*n)),
+        Value::U16(n) => put_u64(out, u64::from(*n)),
+        Value::U32(n) => put_u64(out, u64::from(*n)),
+        Value::U64(n) => put_u64(out, *n),
         Value::U128(n) => put_u128(out, *n),
-        Value::I8(n) => Ok(out.i64(i64::from(*n))?),
-        Value::I16(n) => Ok(out.i64(i64::from(*n))?),
-        Value::I32(n) => Ok(out.i64(i64::from(*n))?),
-        Value::I64(n) => Ok(out.i64(*n)?),
+        Value::I8(n) => put_i64(out, i64::from(*n)),
+        Value::I16(n) => put_i64(out, i64::from(*n)),
+        Value::I32(n) => put_i64(out, i64::from(*n)),
+        Value::I64(n) => put_i64(out, *n),
         Value::I128(n) => put_i128(out, *n),
         Value::LE(n) | Value::BE(n) => put_integer(out, *n),
         Value::Char(c) => put_char(out, style.alloc, *c),
-        Value::Text(text) => Ok(out.string(text.as_str())?),
+        Value::Text(text) => put_text(out, text.as_str()),
         Value::Bytes(bytes) => put_bytes(out, style, bytes),
         _ => Err(PrintError::NotOfType),
     }
@@ -144,12 +161,24 @@ fn put(out: &mut Writer, style: Style<'_>, place: usize, value: &Value) -> Print
 /// Appends a value that may be absent and isn't.
 #[cycle(print)]
 fn put_present(out: &mut Writer, style: Style<'_>, inner: usize, held: &Value) -> Printed {
-    if !may_be_null(style.schema, inner) {
-        return put(out, style, inner, held);
+    if may_be_null(style.schema, inner) {
+        return put_under(out, style, PRESENT, inner, held);
     }
+    put(out, style, inner, held)
+}
+
+/// Appends a value as the one member of an object.
+#[cycle(print)]
+fn put_under(
+    out: &mut Writer,
+    style: Style<'_>,
+    name: &str,
+    place: usize,
+    value: &Value,
+) -> Printed {
     out.begin_object()?;
-    out.key(PRESENT)?;
-    put(out, style, inner, held)?;
+    out.key(name)?;
+    put(out, style, place, value)?;
     Ok(out.end_object()?)
 }
 
@@ -279,12 +308,9 @@ fn put_variant(
         return Err(PrintError::NotOfType);
     };
     if is_empty(style.schema, *payload) {
-        return Ok(out.string(name.as_str())?);
+        return put_text(out, name.as_str());
     }
-    out.begin_object()?;
-    out.key(name.as_str())?;
-    put(out, style, *payload, held)?;
-    Ok(out.end_object()?)
+    put_under(out, style, name.as_str(), *payload, held)
 }
 
 /// Appends a value of the type at that place of the schema. With `hex` bytes are hexadecimal texts in lower case, else arrays

@@ -83,13 +83,13 @@ impl<'a> Receiver<'a> {
         let from = last.saturating_sub(stretch as u64);
         match answer {
             Answer::Value(value) => put_value_line(self.reading, value, lines),
-            Answer::Damaged => put_stretch_line(self.reading, "damaged", (from, last), lines),
+            Answer::Damaged => put_stretch_line(self.reading.alloc, "damaged", (from, last), lines),
             Answer::TooLong => {
                 let more = before_sentinel(left, self.reading.sentinel);
                 let so_far = self.at.saturating_add(more as u64);
-                put_stretch_line(self.reading, "too_long", (from, so_far), lines)
+                put_stretch_line(self.reading.alloc, "too_long", (from, so_far), lines)
             }
-            Answer::Cut => put_stretch_line(self.reading, "cut", (from, last), lines),
+            Answer::Cut => put_stretch_line(self.reading.alloc, "cut", (from, last), lines),
         }
     }
 
@@ -176,7 +176,7 @@ impl<'a> Receiver<'a> {
         let begun = self.receiver.begun_bytes() as u64;
         let place = (self.at.saturating_sub(begun), self.at);
         if self.receiver.finish::<Value>().is_some() {
-            put_stretch_line(self.reading, "cut", place, lines)?;
+            put_stretch_line(self.reading.alloc, "cut", place, lines)?;
             return Ok(false);
         }
         Ok(self.is_good)
@@ -231,16 +231,13 @@ fn put_value_line(
 
 /// Appends the line of a stretch that is no value: what it is, and which bytes of the stream it has.
 fn put_stretch_line(
-    reading: Reading<'_>,
+    alloc: Global,
     what: &str,
     (from, to): (u64, u64),
     lines: &mut Vec<u8>,
 ) -> Result<(), AllocError> {
-    let mut out = Writer::new(mem::replace(lines, Vec::new(reading.alloc)));
-    let said = put_place(&mut out, what, from, to);
-    *lines = out.into_inner();
-    said?;
-    lines.extend_from_slice(b"\n")
+    let line = format!(in alloc; "{{\"{what}\":{{\"from\":{from},\"to\":{to}}}}}\n")?;
+    lines.extend_from_slice(line.as_bytes())
 }
 
 /// Appends the answer of a value, without a line feed.
@@ -260,18 +257,5 @@ fn put_value(out: &mut Writer, reading: Reading<'_>, value: &Value) -> Result<()
         Err(PrintError::NotOfType) => out.null()?,
         Err(PrintError::OutOfMemory) => return Err(AllocError),
     }
-    out.end_object()
-}
-
-/// Appends what a stretch that is no value is, and the bytes of the stream that it has, without a line feed.
-fn put_place(out: &mut Writer, what: &str, from: u64, to: u64) -> Result<(), AllocError> {
-    out.begin_object()?;
-    out.key(what)?;
-    out.begin_object()?;
-    out.key("from")?;
-    out.u64(from)?;
-    out.key("to")?;
-    out.u64(to)?;
-    out.end_object()?;
     out.end_object()
 }

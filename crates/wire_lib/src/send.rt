@@ -37,6 +37,11 @@ impl From<AllocError> for SendError {
 
 type Sent = Result<(), SendError>;
 
+/// Appends bytes.
+fn append(to: &mut Vec<u8>, bytes: &[u8]) -> Sent {
+    Ok(to.extend_from_slice(bytes)?)
+}
+
 /// The frame of the value of the type at that place which a line of JSON is, with the sentinel that ends it.
 ///
 /// An error is that of [`parse`], or out of memory.
@@ -77,16 +82,19 @@ impl<'a> Sender<'a> {
             return Err(SendError::NotText);
         }
         match frame_of(self.sending, line) {
-            Ok(frame) => Ok(frames.extend_from_slice(&frame)?),
-            Err(ParseError::Wrong(why)) => {
-                self.is_good = false;
-                let number = self.number;
-                match writeln!(wrongs, "line {number}: {why}") {
-                    Ok(()) => Ok(()),
-                    Err(_) => Err(SendError::OutOfMemory),
-                }
-            }
+            Ok(frame) => append(frames, &frame),
+            Err(ParseError::Wrong(why)) => self.refuse(why, wrongs),
             Err(ParseError::OutOfMemory) => Err(SendError::OutOfMemory),
+        }
+    }
+
+    /// Says why a line isn't sent.
+    fn refuse(&mut self, why: &str, wrongs: &mut String) -> Sent {
+        self.is_good = false;
+        let number = self.number;
+        match writeln!(wrongs, "line {number}: {why}") {
+            Ok(()) => Ok(()),
+            Err(_) => Err(SendError::OutOfMemory),
         }
     }
 
@@ -95,7 +103,7 @@ impl<'a> Sender<'a> {
         if self.line.is_empty() {
             return self.send(without_return(part), frames, wrongs);
         }
-        self.line.extend_from_slice(part)?;
+        append(&mut self.line, part)?;
         let mut line = mem::replace(&mut self.line, Vec::new(self.sending.alloc));
         let sent = self.send(without_return(&line), frames, wrongs);
         line.clear();
@@ -112,7 +120,7 @@ impl<'a> Sender<'a> {
         for _ in 0..piece.len() {
             let (part, behind) = rest.split_at(before_sentinel(rest, b'\n'));
             let [_, after @ ..] = behind else {
-                return Ok(self.line.extend_from_slice(part)?);
+                return append(&mut self.line, part);
             };
             self.end(part, frames, wrongs)?;
             rest = after;

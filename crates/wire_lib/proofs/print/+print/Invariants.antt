@@ -5,7 +5,10 @@ abbrev pub decreases-put : goal.decreases-put
 decreases-put l = 4 * l.style.depth
 
 abbrev pub decreases-put_present : goal.decreases-put_present
-decreases-put_present l = 4 * l.style.depth + 1
+decreases-put_present l = 4 * l.style.depth + 2
+
+abbrev pub decreases-put_under : goal.decreases-put_under
+decreases-put_under l = 4 * l.style.depth + 1
 
 abbrev pub decreases-put_list : goal.decreases-put_list
 decreases-put_list l = 4 * l.style.depth + 3
@@ -29,4 +32,4 @@ abbrev pub decreases-put_members : goal.decreases-put_members
 decreases-put_members l = 4 * l.style.depth + 1
 
 abbrev pub decreases-put_variant : goal.decreases-put_variant
-decreases-put_variant l = 4 * l.style.depth + 1
+decreases-put_variant l = 4 * l.style.depth + 2
