@@ -20,9 +20,9 @@ struct Entry {
 
 /// Makes nodes of the words of types. What is wrong is noted and hides the words behind it in the same field.
 #[derive(Drop)]
-struct Builder<'a> {
+struct Builder<'a, 'b> {
     alloc: Global,
-    declared: &'a [Declaration<'a>],
+    declared: &'b [Declaration<'a>],
     /// The words of a type that aren't read yet, and the line of the last one that was.
     rest: &'a [Token],
     line: usize,
@@ -116,7 +116,7 @@ fn has_type_parameters(it: &Declaration<'_>) -> bool {
     false
 }
 
-impl<'a> Builder<'a> {
+impl<'a> Builder<'a, '_> {
     /// The next word, which stays; nothing at the end.
     fn peek(&self) -> &'a str {
         match self.rest {
@@ -517,9 +517,9 @@ impl<'a> Builder<'a> {
 
 /// The nodes of declared types, in their order, and behind them those of the types in them that have no name; and what their
 /// values are called by.
-pub fn table<'a>(
+pub fn table(
     alloc: Global,
-    declared: &'a [Declaration<'a>],
+    declared: &[Declaration<'_>],
 ) -> Result<(Vec<Node>, Vec<Names>), Error>
     ensures named { IfOk result (λ t. length t.1.items ≡ length t.0.items) }
     ensures declared { IfOk result (λ t. length declared.now ≤ length t.0.items) }

@@ -43,8 +43,8 @@ fn table_of(alloc: Global, declared: &[Declaration<'_>]) -> Result<Schema, Error
     ensures named { IfOk result (λ s. length s.names.items ≡ length s.nodes.items) }
     ensures declared { IfOk result (λ s. length s.types.items ≤ length s.nodes.items) }
 {
-    let types = named(alloc, declared)?;
     let (nodes, names) = table(alloc, declared)?;
+    let types = named(alloc, declared)?;
     Ok(Schema {
         types,
         nodes,
