@@ -517,10 +517,7 @@ impl<'a> Builder<'a, '_> {
 
 /// The nodes of declared types, in their order, and behind them those of the types in them that have no name; and what their
 /// values are called by.
-pub fn table(
-    alloc: Global,
-    declared: &[Declaration<'_>],
-) -> Result<(Vec<Node>, Vec<Names>), Error>
+pub fn table(alloc: Global, declared: &[Declaration<'_>]) -> Result<(Vec<Node>, Vec<Names>), Error>
     ensures named { IfOk result (λ t. length t.1.items ≡ length t.0.items) }
     ensures declared { IfOk result (λ t. length declared.now ≤ length t.0.items) }
 {

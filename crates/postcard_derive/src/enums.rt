@@ -232,10 +232,8 @@ impl Text {
     }
 
     /// Writes what ghost text brings in.
-    fn enum_uses(&mut self, name: &str, variants: &[VariantOf], path: &Text) {
-        self.put("    ghost use Rattle.");
-        self.put_text(path);
-        self.put_all(&[".", name, ".TheVariants.{"]);
+    fn enum_uses(&mut self, name: &str, variants: &[VariantOf], path: &str) {
+        self.put_all(&["    ghost use Rattle.", path, ".", name, ".TheVariants.{"]);
         self.put_brought_in(variants);
         self.put("};\n");
         if variants.len() > 4 {
@@ -254,7 +252,7 @@ impl Text {
     }
 
     /// Writes what the shape is.
-    pub fn enum_shape(&mut self, it: &Declaration, variants: &[VariantOf], path: &Text) {
+    pub fn enum_shape(&mut self, it: &Declaration, variants: &[VariantOf], path: &str) {
         self.alias(it, variants);
         self.fill(it, "\nimpl%% Shaped for %Name% {\n");
         self.enum_uses(it.name, variants, path);

@@ -18,7 +18,6 @@ mod text;
 
 use crate::printer::write_all;
 use crate::text::Text;
-use declaration_parser::declaration::Declaration;
 use declaration_parser::parser::{Purpose, declarations};
 use declaration_parser::tokens::{Read, tokens_of};
 use std::process::ExitCode;
@@ -28,46 +27,30 @@ use std::{env, io};
 #[derive(Drop)]
 struct Asked {
     /// The path of the definitions of a module: the crate, and the modules in it.
-    path: Text,
+    path: String,
     /// Whether what is read has a schema.
     with_schemas: bool,
 }
 
-impl Asked {
-    /// Takes a word, and says whether it can stand behind those before it.
-    fn take(&mut self, word: &str) -> bool {
-        if self.with_schemas {
-            return false;
-        }
-        if word.starts_with('-') {
-            self.with_schemas = word == "--schemas" && !self.path.is_empty();
-            return self.with_schemas;
-        }
-        let (before, behind) = if self.path.is_empty() {
-            ("", ".specs.declared")
-        } else {
-            (".", "")
-        };
-        self.path.put_all(&[before, word, behind]);
-        true
-    }
-}
-
 /// What is asked for, where the words are right.
 fn read_words(rt: &HostRuntime) -> io::Result<Option<Asked>> {
-    let words = env::args(rt)?;
-    let mut asked = Asked {
-        path: Text::new(rt.alloc()),
-        with_schemas: false,
-    };
-    let mut is_right = true;
-    for word in words.skip(1) {
-        is_right = is_right && asked.take(word.as_str());
+    let mut path = Text::new(rt.alloc());
+    let mut with_schemas = false;
+    let mut words = env::args(rt)?;
+    words.next();
+    for word in words {
+        match word.as_str() {
+            "--schemas" if !with_schemas && !path.is_empty() => with_schemas = true,
+            name if with_schemas || name.starts_with('-') => return Ok(None),
+            name if path.is_empty() => path.put_all(&[name, ".specs.declared"]),
+            name => path.put_all(&[".", name]),
+        }
     }
-    if is_right && !asked.path.is_empty() {
-        return Ok(Some(asked));
+    if path.is_empty() {
+        return Ok(None);
     }
-    Ok(None)
+    let path = path.finished()?;
+    Ok(Some(Asked { path, with_schemas }))
 }
 
 /// The tokens of standard input.
@@ -76,22 +59,17 @@ fn read_tokens(rt: &HostRuntime) -> io::Result<Read> {
     Ok(tokens_of(rt.alloc(), text.as_str())?)
 }
 
-/// Writes the implementations of these declarations.
-fn write(rt: &HostRuntime, asked: &Asked, all: &[Declaration]) -> io::Result<()> {
-    let text = write_all(rt.alloc(), &asked.path, asked.with_schemas, all)?;
-    print!(rt; "{text}")
-}
-
-/// Writes the implementations for those declarations that are marked, or what is wrong to standard error; and says whether
-/// nothing is.
-fn run(rt: &HostRuntime, asked: &Asked, read: &Read) -> io::Result<bool> {
-    let (all, faults) = declarations(rt.alloc(), Purpose::Implementations, read)?;
-    if faults.is_empty() {
-        write(rt, asked, &all)?;
-        return Ok(true);
+/// Writes the implementations, or what is wrong to standard error; and says whether nothing is.
+fn run(rt: &HostRuntime, asked: &Asked) -> io::Result<bool> {
+    let read = read_tokens(rt)?;
+    let (all, faults) = declarations(rt.alloc(), Purpose::Implementations, &read)?;
+    if !faults.is_empty() {
+        eprint!(rt; "{faults}")?;
+        return Ok(false);
     }
-    eprint!(rt; "{faults}")?;
-    Ok(false)
+    let text = write_all(rt.alloc(), asked.path.as_str(), asked.with_schemas, &all)?;
+    print!(rt; "{text}")?;
+    Ok(true)
 }
 
 fn main(rt: HostRuntime) -> io::Result<ExitCode> {
@@ -99,7 +77,6 @@ fn main(rt: HostRuntime) -> io::Result<ExitCode> {
         eprintln!(rt; "usage: postcard_derive CRATE [MODULE].. [--schemas]")?;
         return Ok(ExitCode::from(2));
     };
-    let read = read_tokens(&rt)?;
-    let is_written = run(&rt, &asked, &read)?;
+    let is_written = run(&rt, &asked)?;
     Ok(ExitCode::from(if is_written { 0 } else { 1 }))
 }

@@ -6,9 +6,6 @@ use declaration_parser::tokens::{Token, is_among, is_lifetime};
 /// How many parts a tuple has at most; more stand in rows.
 pub const ROW: usize = 6;
 
-/// The marks that close parts of a type.
-const CLOSING: &[&str] = &[")", ">", "]"];
-
 /// How fields are spelled.
 #[derive(Clone, Copy, Drop)]
 pub enum Spelling<'a> {
@@ -55,26 +52,17 @@ fn closes_behind(words: &[Token], place: usize) -> bool {
     }
 }
 
-/// Within how many marks the words before this one stand, from the back.
-fn depth_before(word: &str, depth: usize) -> usize {
-    if is_among(word, CLOSING) {
-        return depth.saturating_add(1);
-    }
-    if is_among(word, &["(", "<", "["]) {
-        return depth.saturating_sub(1);
-    }
-    depth
-}
-
 /// Whether a comma stands before this place in the same parentheses.
 fn has_comma_before(words: &[Token], place: usize) -> bool {
     let mut depth: usize = 0;
     for token in words.get(..place).unwrap_or(&[]).iter().rev() {
-        let word = token.text.as_str();
-        if depth == 0 && is_among(word, &["(", "<", "[", ","]) {
-            return word == ",";
+        match token.text.as_str() {
+            "," if depth == 0 => return true,
+            ")" | ">" | "]" => depth = depth.saturating_add(1),
+            "(" | "<" | "[" if depth == 0 => return false,
+            "(" | "<" | "[" => depth = depth.saturating_sub(1),
+            _ => {}
         }
-        depth = depth_before(word, depth);
     }
     false
 }

@@ -372,7 +372,7 @@ impl Text {
     }
 
     /// Writes the implementations of a declaration.
-    fn put_declaration(&mut self, it: &Declaration, path: &Text) {
+    fn put_declaration(&mut self, it: &Declaration, path: &str) {
         match &it.body {
             Body::Struct(fields) => self.struct_shape(it, fields),
             Body::Enum(variants) => self.enum_shape(it, variants, path),
@@ -436,7 +436,7 @@ fn uses_of(all: &[Declaration], with_schemas: bool) -> Uses {
 /// definitions of the module in which they stand.
 pub fn write_all(
     alloc: Global,
-    path: &Text,
+    path: &str,
     with_schemas: bool,
     all: &[Declaration],
 ) -> Result<String, AllocError> {

@@ -111,6 +111,16 @@ fn places_without_a_node(rt: HostRuntime) {
 // As many as can be counted, and none of them.
 const MOST: [u8; 10] = [0xFF, 0xFF, 0xFF, 0xFF, 0xFF, 0xFF, 0xFF, 0xFF, 0xFF, 1];
 
+// A type, how deep, and a count alone.
+const COUNTS: [(usize, u32, &[u8]); 6] = [
+    (0, 2, &MOST),
+    (2, 2, &[0x80]),
+    (3, 1, &MOST),
+    (4, 1, &MOST),
+    (5, 2, &MOST),
+    (6, 1, &MOST),
+];
+
 // Room for so many is never found: an answer other than the end would show that it was asked for.
 #[test]
 fn a_count_alone_asks_for_nothing(rt: HostRuntime) {
@@ -124,12 +134,9 @@ fn a_count_alone_asks_for_nothing(rt: HostRuntime) {
         Node::ListUpTo(u64::MAX, 1),
         Node::TextUpTo(u64::MAX),
     ];
-    check(&rt, is_end(from_bytes(alloc, &nodes, 0, 2, &MOST)));
-    check(&rt, is_end(from_bytes(alloc, &nodes, 2, 2, &[0x80])));
-    check(&rt, is_end(from_bytes(alloc, &nodes, 3, 1, &MOST)));
-    check(&rt, is_end(from_bytes(alloc, &nodes, 4, 1, &MOST)));
-    check(&rt, is_end(from_bytes(alloc, &nodes, 5, 2, &MOST)));
-    check(&rt, is_end(from_bytes(alloc, &nodes, 6, 1, &MOST)));
+    for (place, depth, bytes) in COUNTS {
+        check(&rt, is_end(from_bytes(alloc, &nodes, place, depth, bytes)));
+    }
 }
 
 fn is_list_of(value: &Value, count: usize) -> bool {

@@ -78,117 +78,127 @@ pub(crate) const SHORT_LIST: usize = 44;
 /// `ArrayString<3>`
 pub(crate) const SHORT_TEXT: usize = 45;
 
-fn add(nodes: &mut Vec<Node>, node: Node) -> Result<(), AllocError> {
-    nodes.push(node)?;
-    Ok(())
-}
-
-fn add_struct<const N: usize>(
+// The nodes of the table that is made. Where memory runs out the other calls go on, and the table isn't given at the end.
+#[derive(Drop)]
+struct Nodes {
     alloc: Global,
-    nodes: &mut Vec<Node>,
-    fields: [usize; N],
-) -> Result<(), AllocError> {
-    let fields = Vec::from_array(alloc, fields)?;
-    add(nodes, Node::Struct(fields))
+    nodes: Vec<Node>,
+    failed: bool,
 }
 
-fn add_enum<const N: usize>(
-    alloc: Global,
-    nodes: &mut Vec<Node>,
-    payloads: [usize; N],
-) -> Result<(), AllocError> {
-    let payloads = Vec::from_array(alloc, payloads)?;
-    add(nodes, Node::Enum(payloads))
-}
+impl Nodes {
+    fn note(&mut self, failed: bool) {
+        self.failed = self.failed || failed;
+    }
 
-// The types of no parts.
-fn leaves(alloc: Global) -> Result<Vec<Node>, AllocError> {
-    let nodes = Vec::from_array(
-        alloc,
-        [
-            Node::Bool,
-            Node::U8,
-            Node::I8,
-            Node::U16,
-            Node::U32,
-            Node::U64,
-            Node::U128,
-            Node::I16,
-            Node::I32,
-            Node::I64,
-            Node::I128,
-            Node::Char,
-            Node::Text,
-            Node::Bytes,
-        ],
-    )?;
-    Ok(nodes)
-}
+    fn add(&mut self, node: Node) {
+        let failed = self.nodes.push(node).is_err();
+        self.note(failed);
+    }
 
-// The types at 14 to 19.
-fn add_simple(alloc: Global, nodes: &mut Vec<Node>) -> Result<(), AllocError> {
-    add(nodes, Node::Option(U8))?;
-    add(nodes, Node::Option(16))?;
-    add(nodes, Node::Option(BOOL))?;
-    add(nodes, Node::List(BOOL))?;
-    add(nodes, Node::Array(2, OPTION))?;
-    add_struct(alloc, nodes, [])
-}
+    fn places(&mut self, places: &[usize]) -> Vec<usize> {
+        let mut list = Vec::new(self.alloc);
+        let failed = list.extend_from_slice(places).is_err();
+        self.note(failed);
+        list
+    }
 
-// The types at 20 to 26.
-fn add_messages(alloc: Global, nodes: &mut Vec<Node>) -> Result<(), AllocError> {
-    add_struct(alloc, nodes, [U8, U16])?;
-    add(nodes, Node::List(20))?;
-    add_struct(alloc, nodes, [BOOL, I16, CHAR, U64])?;
-    add_enum(alloc, nodes, [NOTHING, TEXT])?;
-    add_enum(alloc, nodes, [U16, U64, U8, 20, 25, 26])?;
-    add_struct(alloc, nodes, [U8, U32])?;
-    add_struct(alloc, nodes, [U16, U8])
-}
+    fn add_struct(&mut self, fields: &[usize]) {
+        let fields = self.places(fields);
+        self.add(Node::Struct(fields));
+    }
 
-// The types at 27 to 33.
-fn add_nested(alloc: Global, nodes: &mut Vec<Node>) -> Result<(), AllocError> {
-    add_struct(alloc, nodes, [U8, TEXT])?;
-    add(nodes, Node::Array(2, U16))?;
-    add_enum(alloc, nodes, [27, 28])?;
-    add(nodes, Node::List(29))?;
-    add(nodes, Node::Option(30))?;
-    add(nodes, Node::List(33))?;
-    add_struct(alloc, nodes, [U16, TEXT])
-}
+    fn add_enum(&mut self, payloads: &[usize]) {
+        let payloads = self.places(payloads);
+        self.add(Node::Enum(payloads));
+    }
 
-// The types that hold themselves or what isn't there.
-fn add_bad_types(alloc: Global, nodes: &mut Vec<Node>) -> Result<(), AllocError> {
-    add_enum(alloc, nodes, [NOTHING, 35])?;
-    add_struct(alloc, nodes, [U8, CHAIN])?;
-    add_struct(alloc, nodes, [ITSELF])?;
-    add(nodes, Node::Option(usize::MAX))?;
-    add_enum(alloc, nodes, [])
-}
+    // The types of no parts.
+    fn add_leaves(&mut self) {
+        self.add(Node::Bool);
+        self.add(Node::U8);
+        self.add(Node::I8);
+        self.add(Node::U16);
+        self.add(Node::U32);
+        self.add(Node::U64);
+        self.add(Node::U128);
+        self.add(Node::I16);
+        self.add(Node::I32);
+        self.add(Node::I64);
+        self.add(Node::I128);
+        self.add(Node::Char);
+        self.add(Node::Text);
+        self.add(Node::Bytes);
+    }
 
-// The types at 39 to 45.
-fn add_bounded(nodes: &mut Vec<Node>) -> Result<(), AllocError> {
-    add(nodes, Node::LE(IntegerType::U16))?;
-    add(nodes, Node::BE(IntegerType::U16))?;
-    add(nodes, Node::LE(IntegerType::I32))?;
-    add(nodes, Node::BE(IntegerType::I64))?;
-    add(nodes, Node::LE(IntegerType::U128))?;
-    add(nodes, Node::ListUpTo(2, BOOL))?;
-    add(nodes, Node::TextUpTo(3))
-}
+    // The types at 14 to 19.
+    fn add_simple(&mut self) {
+        self.add(Node::Option(U8));
+        self.add(Node::Option(16));
+        self.add(Node::Option(BOOL));
+        self.add(Node::List(BOOL));
+        self.add(Node::Array(2, OPTION));
+        self.add_struct(&[]);
+    }
 
-// The types behind those of no parts.
-fn add_others(alloc: Global, nodes: &mut Vec<Node>) -> Result<(), AllocError> {
-    add_simple(alloc, nodes)?;
-    add_messages(alloc, nodes)?;
-    add_nested(alloc, nodes)?;
-    add_bad_types(alloc, nodes)?;
-    add_bounded(nodes)
+    // The types at 20 to 26.
+    fn add_messages(&mut self) {
+        self.add_struct(&[U8, U16]);
+        self.add(Node::List(20));
+        self.add_struct(&[BOOL, I16, CHAR, U64]);
+        self.add_enum(&[NOTHING, TEXT]);
+        self.add_enum(&[U16, U64, U8, 20, 25, 26]);
+        self.add_struct(&[U8, U32]);
+        self.add_struct(&[U16, U8]);
+    }
+
+    // The types at 27 to 33.
+    fn add_nested(&mut self) {
+        self.add_struct(&[U8, TEXT]);
+        self.add(Node::Array(2, U16));
+        self.add_enum(&[27, 28]);
+        self.add(Node::List(29));
+        self.add(Node::Option(30));
+        self.add(Node::List(33));
+        self.add_struct(&[U16, TEXT]);
+    }
+
+    // The types that hold themselves or what isn't there.
+    fn add_bad_types(&mut self) {
+        self.add_enum(&[NOTHING, 35]);
+        self.add_struct(&[U8, CHAIN]);
+        self.add_struct(&[ITSELF]);
+        self.add(Node::Option(usize::MAX));
+        self.add_enum(&[]);
+    }
+
+    // The types at 39 to 45.
+    fn add_bounded(&mut self) {
+        self.add(Node::LE(IntegerType::U16));
+        self.add(Node::BE(IntegerType::U16));
+        self.add(Node::LE(IntegerType::I32));
+        self.add(Node::BE(IntegerType::I64));
+        self.add(Node::LE(IntegerType::U128));
+        self.add(Node::ListUpTo(2, BOOL));
+        self.add(Node::TextUpTo(3));
+    }
 }
 
 /// The table.
 pub(crate) fn table(alloc: Global) -> Result<Vec<Node>, AllocError> {
-    let mut nodes = leaves(alloc)?;
-    add_others(alloc, &mut nodes)?;
-    Ok(nodes)
+    let mut made = Nodes {
+        alloc,
+        nodes: Vec::new(alloc),
+        failed: false,
+    };
+    made.add_leaves();
+    made.add_simple();
+    made.add_messages();
+    made.add_nested();
+    made.add_bad_types();
+    made.add_bounded();
+    if made.failed {
+        return Err(AllocError);
+    }
+    Ok(made.nodes)
 }
