@@ -14,7 +14,7 @@ use Rattle.schemas.specs.declared.node.Node.{Node}
 use Rattle.schemas.specs.declared.node.Node.TheVariants as node
 use Rattle.schemas.specs.Integers.{width_of}
 use Rattle.schemas.specs.Schemas.{TakesNode, RefusesNode, TakesPlace, RefusesPlace, TakesPayload, RefusesPayload, SchemaTakes, SchemaRefuses}
-use Rattle.schemas.specs.TypeSchemas.{BeginsWith, TakeTheSame, IsSchemaOf, AreSchemasOf, ArePayloadsOf, PayloadsAdded, IsAdded, IsLeaf, LeafTakes, LeafRefuses}
+use Rattle.schemas.specs.TypeSchemas.{BeginsWith, TakeTheSame, IsSchemaOf, AreSchemasOf, ArePayloadsOf, PayloadsAdded, IsAdded, IsStructOf, IsStructAdded, IsLeaf, LeafTakes, LeafRefuses}
 use Rattle.schemas.proofs.MapsLemmas.{same_option, same_sequence, same_up_to, same_array, same_parts, same_group, same_variant, same_itself}
 
 -- Fronts
@@ -136,6 +136,21 @@ pub struct_schema : {PS : Trees → Type 0} {FS : List ℕ → Error → Type 0}
 struct_schema {PS} {FS} v {is} {old} e s h =
     let k : AreSchemasOf PS FS old v.items = subst (λ z. AreSchemasOf PS FS old z) (sym e) s in
     node_schema (node.Struct v) h (λ depth table m w. same_group (k.same depth table m w))
+
+-- by whatever the place of the struct is, if it was put
+pub struct_added : (r : Result ℕ AllocError) (v : Vec ℕ Global) (is : List ℕ) (old new : List Node) → v.items ≡ is
+    → IfOk r (λ place. IsAdded (node.Struct v) old new place) → IfOk r (λ place. IsStructAdded is old new place)
+struct_added (Ok place) v is old new e h = record { put = node.Struct v; of_fields = e; added = h }
+struct_added (Err e) v is old new q h = h
+
+struct_of : {PS : Trees → Type 0} {FS : List ℕ → Error → Type 0} {is : List ℕ} {old new : List Node} {place : ℕ} (n : Node) → IsStructOf is n → AreSchemasOf PS FS old is → IsAdded n old new place → IsSchemaOf (GroupOf PS) FS new place
+struct_of (node.Struct v) e s h = struct_schema v e s h
+struct_of _ e s h = absurd e
+
+pub fields_added : {PS : Trees → Type 0} {FS : List ℕ → Error → Type 0} {is : List ℕ} {old : List Node} (r : Result ℕ AllocError) (new : List Node) → AreSchemasOf PS FS old is
+    → IfOk r (λ place. IsStructAdded is old new place) → IfOk r (λ place. IsSchemaOf (GroupOf PS) FS new place)
+fields_added (Ok place) new s h = struct_of h.put h.of_fields s h.added
+fields_added (Err e) new s h = h
 
 -- Variants
 

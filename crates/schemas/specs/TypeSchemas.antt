@@ -65,6 +65,17 @@ pub record IsAdded (n : Node) (old new : List Node) (place : ℕ) : Type 0 where
   pub behind : new ≡ old ++ n ∷ []
   pub there : place ≡ length old
 
+-- a struct of these fields
+abbrev pub IsStructOf : List ℕ → Node → Type 0
+IsStructOf fields (node.Struct held) = held.items ≡ fields
+IsStructOf fields _ = ⊥
+
+-- the struct of these fields was put last, and place is where
+pub record IsStructAdded (fields : List ℕ) (old new : List Node) (place : ℕ) : Type 0 where
+  pub put : Node
+  pub of_fields : IsStructOf fields put
+  pub added : IsAdded put old new place
+
 -- a node that names no place
 abbrev pub IsLeaf : Node → Type 0
 IsLeaf (node.Option i) = ⊥

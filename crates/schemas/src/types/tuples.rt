@@ -1,13 +1,29 @@
 //! Tuples of one to six parts.
+ghost use Rattle.std.specs.Prelude.{IfOk};
+ghost use Rattle.schemas.specs.TypeSchemas.{BeginsWith, IsStructAdded};
+
 use super::{HasSchema, add_node};
 use crate::Node;
 use std::alloc::{AllocError, Global};
 
+// Puts the struct of these fields behind the nodes of a table, and answers its place.
+fn add_struct<const N: usize>(
+    alloc: Global,
+    nodes: &mut Vec<Node>,
+    fields: [usize; N],
+) -> Result<usize, AllocError>
+    ensures kept { BeginsWith nodes.old.items nodes.new.items }
+    ensures added { IfOk result (λ place.
+        IsStructAdded fields.entry nodes.old.items nodes.new.items place) }
+{
+    let held = Vec::from_array(alloc, fields)?;
+    add_node(nodes, Node::Struct(held))
+}
+
 impl<A: HasSchema> HasSchema for (A,) {
     fn add_schema(alloc: Global, nodes: &mut Vec<Node>) -> Result<usize, AllocError> {
         let first = A::add_schema(alloc, nodes)?;
-        let fields = Vec::from_array(alloc, [first])?;
-        add_node(nodes, Node::Struct(fields))
+        add_struct(alloc, nodes, [first])
     }
 }
 
@@ -15,8 +31,7 @@ impl<A: HasSchema, B: HasSchema> HasSchema for (A, B) {
     fn add_schema(alloc: Global, nodes: &mut Vec<Node>) -> Result<usize, AllocError> {
         let first = A::add_schema(alloc, nodes)?;
         let second = B::add_schema(alloc, nodes)?;
-        let fields = Vec::from_array(alloc, [first, second])?;
-        add_node(nodes, Node::Struct(fields))
+        add_struct(alloc, nodes, [first, second])
     }
 }
 
@@ -25,8 +40,7 @@ impl<A: HasSchema, B: HasSchema, C: HasSchema> HasSchema for (A, B, C) {
         let first = A::add_schema(alloc, nodes)?;
         let second = B::add_schema(alloc, nodes)?;
         let third = C::add_schema(alloc, nodes)?;
-        let fields = Vec::from_array(alloc, [first, second, third])?;
-        add_node(nodes, Node::Struct(fields))
+        add_struct(alloc, nodes, [first, second, third])
     }
 }
 
@@ -36,8 +50,7 @@ impl<A: HasSchema, B: HasSchema, C: HasSchema, D: HasSchema> HasSchema for (A, B
         let second = B::add_schema(alloc, nodes)?;
         let third = C::add_schema(alloc, nodes)?;
         let fourth = D::add_schema(alloc, nodes)?;
-        let fields = Vec::from_array(alloc, [first, second, third, fourth])?;
-        add_node(nodes, Node::Struct(fields))
+        add_struct(alloc, nodes, [first, second, third, fourth])
     }
 }
 
@@ -49,8 +62,7 @@ impl<A: HasSchema, B: HasSchema, C: HasSchema, D: HasSchema, E: HasSchema> HasSc
         let third = C::add_schema(alloc, nodes)?;
         let fourth = D::add_schema(alloc, nodes)?;
         let fifth = E::add_schema(alloc, nodes)?;
-        let fields = Vec::from_array(alloc, [first, second, third, fourth, fifth])?;
-        add_node(nodes, Node::Struct(fields))
+        add_struct(alloc, nodes, [first, second, third, fourth, fifth])
     }
 }
 
@@ -63,7 +75,6 @@ impl<A: HasSchema, B: HasSchema, C: HasSchema, D: HasSchema, E: HasSchema, F: Ha
         let fourth = D::add_schema(alloc, nodes)?;
         let fifth = E::add_schema(alloc, nodes)?;
         let sixth = F::add_schema(alloc, nodes)?;
-        let fields = Vec::from_array(alloc, [first, second, third, fourth, fifth, sixth])?;
-        add_node(nodes, Node::Struct(fields))
+        add_struct(alloc, nodes, [first, second, third, fourth, fifth, sixth])
     }
 }

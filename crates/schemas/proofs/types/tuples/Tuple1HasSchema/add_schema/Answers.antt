@@ -1,8 +1,10 @@
-use Rattle.schemas.specs.declared.node.Node.TheVariants.{Struct}
-use Rattle.schemas.proofs.TablesLemmas.{added_as, field_then, no_fields, struct_schema}
+use Rattle.schemas.proofs.TablesLemmas.{begins_more, field_then, fields_added, no_fields}
 use Rattle.schemas.proofs.types.tuples.Tuple1HasSchema.add_schema.Goals as goal
+
+pub returns-clause-kept : goal.returns-clause-kept
+returns-clause-kept g c = begins_more c.in_ok-first.ensures.kept c.add_struct.ensures.kept
 
 pub returns-clause-is_schema : goal.returns-clause-is_schema
 returns-clause-is_schema g c =
     let all = field_then c.in_ok-first.ensures.is_schema no_fields in
-    added_as c.add_node.result (Struct c.in_ok-fields.fields) c.add_schema.new.nodes.items c.add_node.new.nodes.items (λ place h. struct_schema c.in_ok-fields.fields c.in_ok-fields.ensures.items all h) c.add_node.ensures.added
+    fields_added c.add_struct.result c.add_struct.new.nodes.items all c.add_struct.ensures.added

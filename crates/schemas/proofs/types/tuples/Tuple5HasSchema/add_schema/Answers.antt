@@ -1,5 +1,4 @@
-use Rattle.schemas.specs.declared.node.Node.TheVariants.{Struct}
-use Rattle.schemas.proofs.TablesLemmas.{added_as, begins_more, later, field_then, no_fields, struct_schema}
+use Rattle.schemas.proofs.TablesLemmas.{begins_more, field_then, fields_added, later, no_fields}
 use Rattle.schemas.proofs.types.tuples.Tuple5HasSchema.add_schema.Goals as goal
 
 pub returns-in_err-second-clause-kept : goal.returns-in_err-second-clause-kept
@@ -14,11 +13,8 @@ returns-in_err-fourth-clause-kept g c = begins_more (begins_more (begins_more c.
 pub returns-in_err-fifth-clause-kept : goal.returns-in_err-fifth-clause-kept
 returns-in_err-fifth-clause-kept g c = begins_more (begins_more (begins_more (begins_more c.in_ok-first.ensures.kept c.in_ok-second.ensures.kept) c.in_ok-third.ensures.kept) c.in_ok-fourth.ensures.kept) c.in_err-fifth.ensures.kept
 
-pub returns-in_err-fields-clause-kept : goal.returns-in_err-fields-clause-kept
-returns-in_err-fields-clause-kept g c = begins_more (begins_more (begins_more (begins_more c.in_ok-first.ensures.kept c.in_ok-second.ensures.kept) c.in_ok-third.ensures.kept) c.in_ok-fourth.ensures.kept) c.in_ok-fifth.ensures.kept
-
 pub returns-clause-kept : goal.returns-clause-kept
-returns-clause-kept g c = begins_more (begins_more (begins_more (begins_more (begins_more c.in_ok-first.ensures.kept c.in_ok-second.ensures.kept) c.in_ok-third.ensures.kept) c.in_ok-fourth.ensures.kept) c.in_ok-fifth.ensures.kept) c.add_node.ensures.kept
+returns-clause-kept g c = begins_more (begins_more (begins_more (begins_more (begins_more c.in_ok-first.ensures.kept c.in_ok-second.ensures.kept) c.in_ok-third.ensures.kept) c.in_ok-fourth.ensures.kept) c.in_ok-fifth.ensures.kept) c.add_struct.ensures.kept
 
 pub returns-clause-is_schema : goal.returns-clause-is_schema
 returns-clause-is_schema g c =
@@ -27,4 +23,4 @@ returns-clause-is_schema g c =
     let kept-second = begins_more c.in_ok-third.ensures.kept kept-third in
     let kept-first = begins_more c.in_ok-second.ensures.kept kept-second in
     let all = field_then (later kept-first c.in_ok-first.ensures.is_schema) (field_then (later kept-second c.in_ok-second.ensures.is_schema) (field_then (later kept-third c.in_ok-third.ensures.is_schema) (field_then (later kept-fourth c.in_ok-fourth.ensures.is_schema) (field_then c.in_ok-fifth.ensures.is_schema no_fields)))) in
-    added_as c.add_node.result (Struct c.in_ok-fields.fields) c.add_schema-5.new.nodes.items c.add_node.new.nodes.items (λ place h. struct_schema c.in_ok-fields.fields c.in_ok-fields.ensures.items all h) c.add_node.ensures.added
+    fields_added c.add_struct.result c.add_struct.new.nodes.items all c.add_struct.ensures.added
