@@ -33,8 +33,10 @@ pub(crate) fn replay_accumulate(
 ) -> Result<(), Trouble> {
     let size = words.number()?;
     let name = words.next()?;
-    let pieces = pieces_of(alloc, words.next()?)?;
-    compare_answers(alloc, size, name, &pieces, words, findings)
+    let pieces = words.next()?;
+    let wanted = words.answer()?;
+    let pieces = pieces_of(alloc, pieces)?;
+    compare_answers(alloc, size, name, &pieces, wanted, findings)
 }
 
 /// Compares the answers by each call.
@@ -43,10 +45,9 @@ fn compare_answers(
     size: usize,
     name: &str,
     pieces: &[Vec<u8>],
-    words: &mut Words<'_>,
+    wanted: &str,
     findings: &mut Findings,
 ) -> Result<(), Trouble> {
-    let wanted = words.answer()?;
     let call = Call::Feed;
     let feeding = Feeding { alloc, call, name };
     findings.check("feed", feed_new(size, feeding, pieces), wanted)?;
