@@ -4,20 +4,21 @@ use crate::linked::Line;
 use crate::receiving::{From, reader_of};
 use link::{Gathered, receive_by_accumulator_with_sentinel};
 use postcard::DeserializeOwned;
-use replay::{Findings, Trouble, pieces_of};
+use replay::{Findings, Trouble};
 use replay_values::Shown;
 use std::alloc::Global;
 
 /// Compares the values of a stream that comes at once, and of one that comes byte by byte.
 pub(crate) fn compare_gathered<T: DeserializeOwned + Shown>(
     line: Line<'_>,
+    pieces: &[Vec<u8>],
     findings: &mut Findings,
 ) -> Result<(), Trouble> {
-    let pieces = pieces_of(line.alloc, line.given)?;
-    let answer = gather::<T>(line, reader_of(&pieces, usize::MAX));
-    findings.check("receive_by_accumulator", answer, line.wanted)?;
-    let answer = gather::<T>(line, reader_of(&pieces, 1));
-    findings.check("receive_by_accumulator", answer, line.wanted)
+    for each in [usize::MAX, 1] {
+        let answer = gather::<T>(line, reader_of(pieces, each));
+        findings.check("receive_by_accumulator", answer, line.wanted)?;
+    }
+    Ok(())
 }
 
 /// The values that an accumulator of so many bytes gives.
@@ -30,29 +31,15 @@ fn gather<T: DeserializeOwned + Shown>(
         sentinel: s,
         ..
     } = line;
-    match line.limit {
-        8 => show(
-            alloc,
-            receive_by_accumulator_with_sentinel::<T, _, 8>(alloc, reader, s),
-        ),
-        16 => show(
-            alloc,
-            receive_by_accumulator_with_sentinel::<T, _, 16>(alloc, reader, s),
-        ),
-        64 => show(
-            alloc,
-            receive_by_accumulator_with_sentinel::<T, _, 64>(alloc, reader, s),
-        ),
-        512 => show(
-            alloc,
-            receive_by_accumulator_with_sentinel::<T, _, 512>(alloc, reader, s),
-        ),
-        1025 => show(
-            alloc,
-            receive_by_accumulator_with_sentinel::<T, _, 1025>(alloc, reader, s),
-        ),
-        _ => Err(Trouble::Unreadable),
-    }
+    let gathered = match line.limit {
+        8 => receive_by_accumulator_with_sentinel::<T, _, 8>(alloc, reader, s),
+        16 => receive_by_accumulator_with_sentinel::<T, _, 16>(alloc, reader, s),
+        64 => receive_by_accumulator_with_sentinel::<T, _, 64>(alloc, reader, s),
+        512 => receive_by_accumulator_with_sentinel::<T, _, 512>(alloc, reader, s),
+        1025 => receive_by_accumulator_with_sentinel::<T, _, 1025>(alloc, reader, s),
+        _ => return Err(Trouble::Unreadable),
+    };
+    show(alloc, gathered)
 }
 
 /// The values that were gathered, in the words of a line.

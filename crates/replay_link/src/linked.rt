@@ -1,9 +1,10 @@
 //! Lines that speak of a link.
+use crate::answers::without_places;
 use crate::gathering::compare_gathered;
 use crate::in_place::compare_in_place;
 use crate::named::{Asks, ask_named};
 use crate::pushing::{compare_parts, compare_pushes};
-use crate::receiving::{compare_received, compare_received_strictly};
+use crate::receiving::{Stream, compare_received, compare_received_strictly};
 use crate::sending::compare_sent;
 use postcard::{Deserialize, DeserializeOwned, Exact, Serialize};
 use replay::{Findings, Trouble, Words, bytes_of, pieces_of};
@@ -12,11 +13,12 @@ use std::alloc::Global;
 
 /// What a line asks of a type.
 #[derive(Clone, Copy, Drop)]
-enum Task {
-    Receive,
-    ReceiveStrictly,
+enum Task<'a> {
+    Receive(Stream<'a>),
+    ReceiveStrictly(Stream<'a>),
     ReadInPlace,
-    Gather,
+    /// Of what comes in these pieces.
+    Gather(&'a [Vec<u8>]),
     Send,
 }
 
@@ -44,15 +46,40 @@ pub(crate) fn replay_stream(
 ) -> Result<(), Trouble> {
     let sentinel = words.byte(alloc)?;
     let limit = words.number()?;
-    let (task, is_strict) = match words.next()? {
-        "any" => (Task::Receive, false),
-        "strict" => (Task::ReceiveStrictly, true),
-        _ => return Err(Trouble::Unreadable),
-    };
+    let is_strict = is_strict(words.next()?)?;
     let line = read_line(alloc, sentinel, limit, words)?;
     let pieces = pieces_of(alloc, line.given)?;
-    compare_pushes(line, &pieces, is_strict, findings)?;
+    compare_stream(line, &pieces, is_strict, findings)
+}
+
+/// Compares what receivers answer to the pieces, and to the whole stream.
+fn compare_stream(
+    line: Line<'_>,
+    pieces: &[Vec<u8>],
+    is_strict: bool,
+    findings: &mut Findings,
+) -> Result<(), Trouble> {
+    compare_pushes(line, pieces, is_strict, findings)?;
+    let wanted = without_places(line.alloc, line.wanted)?;
+    let stream = Stream {
+        pieces,
+        wanted: wanted.as_str(),
+    };
+    let task = if is_strict {
+        Task::ReceiveStrictly(stream)
+    } else {
+        Task::Receive(stream)
+    };
     ask(line, task, &mut [], findings)
+}
+
+/// Whether a line is of strict reception.
+fn is_strict(word: &str) -> Result<bool, Trouble> {
+    match word {
+        "any" => Ok(false),
+        "strict" => Ok(true),
+        _ => Err(Trouble::Unreadable),
+    }
 }
 
 /// `S any|strict TYPE LIMIT:PIECE,../LIMIT:PIECE,.. -> A|A/A|..|END`: what a receiver answers whose limit is set before
@@ -63,11 +90,7 @@ pub(crate) fn replay_owned(
     findings: &mut Findings,
 ) -> Result<(), Trouble> {
     let sentinel = words.byte(alloc)?;
-    let is_strict = match words.next()? {
-        "any" => false,
-        "strict" => true,
-        _ => return Err(Trouble::Unreadable),
-    };
+    let is_strict = is_strict(words.next()?)?;
     let line = read_line(alloc, sentinel, 0, words)?;
     compare_parts(line, is_strict, findings)
 }
@@ -93,7 +116,8 @@ pub(crate) fn replay_gathered(
     let sentinel = words.byte(alloc)?;
     let limit = words.number()?;
     let line = read_line(alloc, sentinel, limit, words)?;
-    ask(line, Task::Gather, &mut [], findings)
+    let pieces = pieces_of(alloc, line.given)?;
+    ask(line, Task::Gather(&pieces), &mut [], findings)
 }
 
 /// `S N TYPE SESSION/SESSION/.. -> LINE FATES/FATES/.. A;A;..`: what senders of so many bytes write, what becomes of
@@ -133,7 +157,7 @@ fn read_line<'a>(
 #[derive(Drop)]
 struct Question<'a> {
     line: Line<'a>,
-    task: Task,
+    task: Task<'a>,
     findings: &'a mut Findings,
 }
 
@@ -150,20 +174,22 @@ impl<'r, 'a> Asks<&'r [u8], &'r mut [u8]> for Question<'a> {
             findings,
         } = self;
         match task {
-            Task::Receive => compare_received::<T>(line, findings),
-            Task::ReceiveStrictly => Err(Trouble::Unreadable),
+            Task::Receive(stream) => compare_received::<T>(line, stream, findings),
+            Task::ReceiveStrictly(_) => Err(Trouble::Unreadable),
             Task::ReadInPlace => compare_in_place::<T>(line, room, findings),
-            Task::Gather => compare_gathered::<T>(line, findings),
+            Task::Gather(pieces) => compare_gathered::<T>(line, pieces, findings),
             Task::Send => compare_sent::<T>(line, findings),
         }
     }
 
-    fn ask_exact<T: Serialize + Deserialize<&'r [u8]> + DeserializeOwned + Exact + Shown>(
+    fn ask_exact<T: Exact + Deserialize<&'r [u8]> + DeserializeOwned + Shown>(
         self,
         room: &'r mut [u8],
     ) -> Result<(), Trouble> {
         match self.task {
-            Task::ReceiveStrictly => compare_received_strictly::<T>(self.line, self.findings),
+            Task::ReceiveStrictly(stream) => {
+                compare_received_strictly::<T>(self.line, stream, self.findings)
+            }
             _ => self.ask::<T>(room),
         }
     }
@@ -176,7 +202,7 @@ impl<'r, 'a> Asks<&'r [u8], &'r mut [u8]> for Question<'a> {
 /// Does what a line asks of the type that it names.
 fn ask(
     line: Line<'_>,
-    task: Task,
+    task: Task<'_>,
     room: &mut [u8],
     findings: &mut Findings,
 ) -> Result<(), Trouble> {

@@ -17,7 +17,7 @@ pub(crate) trait Asks<B: Bytes, R>: Drop {
     fn ask<T: Serialize + Deserialize<B> + DeserializeOwned + Shown>(self, room: R) -> Self::Answer;
 
     /// Asks a type whose values write the tree that they were read from.
-    fn ask_exact<T: Serialize + Deserialize<B> + DeserializeOwned + Exact + Shown>(
+    fn ask_exact<T: Exact + Deserialize<B> + DeserializeOwned + Shown>(
         self,
         room: R,
     ) -> Self::Answer;

@@ -1,12 +1,12 @@
 //! Streams that are pushed to a receiver.
 ghost use Rattle.std.specs.Mem.{FitsInMemory};
-ghost use Rattle.replay_link.specs.contracts.pushing.Listener.{the_row};
+ghost use Rattle.link.specs.contracts.reception.Reception.{the_row};
 
 use crate::answers::show_answer;
 use crate::linked::Line;
 use crate::named::{Asks, ask_named};
 use crate::rows::compare_rows;
-use link::{Answer, OwnedReceiver, Pushed, Receiver};
+use link::{Answer, Decoding, OwnedReceiver, Pushed, Receiver, Reception};
 use postcard::{Deserialize, DeserializeOwned, Exact, Serialize};
 use replay::{Findings, Trouble, number_of, pieces_of};
 use replay_values::Shown;
@@ -27,13 +27,6 @@ fn name_of(call: Call) -> &'static str {
         Call::PushRef => "push_ref",
         Call::PushStrict => "push_strict",
     }
-}
-
-/// A receiver, of a limit that its type has or of one that is a value.
-#[derive(Drop)]
-enum Listener<const N: usize> {
-    Fixed(Receiver<N>),
-    Owned(OwnedReceiver),
 }
 
 /// Compares what new receivers answer to the pieces, and to each rest again, by each call.
@@ -58,19 +51,24 @@ fn compare_call(
     pieces: &[Vec<u8>],
     findings: &mut Findings,
 ) -> Result<(), Trouble> {
-    let Line {
-        limit,
-        sentinel: s,
-        ..
-    } = line;
-    let Ok(receiver) = OwnedReceiver::new(line.alloc, limit, s) else {
+    let Ok(receiver) = OwnedReceiver::new(line.alloc, line.limit, line.sentinel) else {
         return Err(Trouble::NoMemory);
     };
-    let answer = push_to(line, call, Listener::<0>::Owned(receiver), pieces);
+    let answer = push_to(line, call, receiver, pieces);
     findings.check(name_of(call), answer, line.wanted)?;
-    let answer = match limit {
-        3 => push_to(line, call, fixed::<3>(s), pieces),
-        64 => push_to(line, call, fixed::<64>(s), pieces),
+    let answer = match line.limit {
+        3 => push_to(
+            line,
+            call,
+            Receiver::<3>::new_with_sentinel(line.sentinel),
+            pieces,
+        ),
+        64 => push_to(
+            line,
+            call,
+            Receiver::<64>::new_with_sentinel(line.sentinel),
+            pieces,
+        ),
         _ => match call {
             Call::Push => return compare_rows(line, false, pieces, findings),
             Call::PushStrict => return compare_rows(line, true, pieces, findings),
@@ -80,51 +78,35 @@ fn compare_call(
     findings.check(name_of(call), answer, line.wanted)
 }
 
-/// A new receiver of so many bytes.
-fn fixed<const N: usize>(sentinel: u8) -> Listener<N>
-    requires { FitsInMemory (the_row N.row) }
-{
-    Listener::Fixed(Receiver::new_with_sentinel(sentinel))
-}
-
 /// What a receiver answers to the pieces and to the end.
-fn push_to<const N: usize>(
+fn push_to<D: Decoding + Drop>(
     line: Line<'_>,
     call: Call,
-    listener: Listener<N>,
+    receiver: Reception<D>,
     pieces: &[Vec<u8>],
 ) -> Result<String, Trouble>
-    requires { FitsInMemory (the_row N.row) }
+    requires { FitsInMemory (the_row D.row) }
 {
-    let mut listener = listener;
-    let mut text = push_pieces(line, call, &mut listener, pieces)?;
-    finish(listener, &mut text)?;
+    let mut receiver = receiver;
+    let mut text = push_pieces(line, call, &mut receiver, pieces)?;
+    text.push_str(name_of_end(receiver.finish::<()>()))?;
     Ok(text)
 }
 
 /// What a receiver answers to the pieces, each with a bar behind it.
-fn push_pieces<const N: usize>(
+fn push_pieces<D: Decoding>(
     line: Line<'_>,
     call: Call,
-    listener: &mut Listener<N>,
+    receiver: &mut Reception<D>,
     pieces: &[Vec<u8>],
 ) -> Result<String, Trouble> {
     let mut text = String::new(line.alloc);
     for piece in pieces {
-        let answers = push_piece(line, call, listener, piece)?;
+        let answers = push_piece(line, call, receiver, piece)?;
         text.push_str(answers.as_str())?;
         text.push('|')?;
     }
     Ok(text)
-}
-
-/// Adds what a receiver answers to the end.
-fn finish<const N: usize>(listener: Listener<N>, text: &mut String) -> Result<(), AllocError> {
-    let answer = match listener {
-        Listener::Fixed(receiver) => receiver.finish::<()>(),
-        Listener::Owned(receiver) => receiver.finish::<()>(),
-    };
-    text.push_str(name_of_end(answer))
 }
 
 /// The word for what is answered at the end.
@@ -155,10 +137,9 @@ pub(crate) fn compare_parts(
 
 /// `LIMIT:PIECE,../LIMIT:PIECE,..`: what one receiver answers to all parts.
 fn push_parts(line: Line<'_>, call: Call) -> Result<String, Trouble> {
-    let Ok(receiver) = OwnedReceiver::new(line.alloc, 0, line.sentinel) else {
+    let Ok(mut receiver) = OwnedReceiver::new(line.alloc, 0, line.sentinel) else {
         return Err(Trouble::NoMemory);
     };
-    let mut listener = Listener::<0>::Owned(receiver);
     let mut text = String::new(line.alloc);
     for part in line.given.split('/') {
         if !text.is_empty() {
@@ -166,10 +147,10 @@ fn push_parts(line: Line<'_>, call: Call) -> Result<String, Trouble> {
             text.pop();
             text.push('/')?;
         }
-        let answers = push_part(line, call, &mut listener, part)?;
+        let answers = push_part(line, call, &mut receiver, part)?;
         text.push_str(answers.as_str())?;
     }
-    finish(listener, &mut text)?;
+    text.push_str(name_of_end(receiver.finish::<()>()))?;
     Ok(text)
 }
 
@@ -177,15 +158,13 @@ fn push_parts(line: Line<'_>, call: Call) -> Result<String, Trouble> {
 fn push_part(
     line: Line<'_>,
     call: Call,
-    listener: &mut Listener<0>,
+    receiver: &mut OwnedReceiver,
     part: &str,
 ) -> Result<String, Trouble> {
     let (limit, pieces) = part.split_once(':').ok_or(Trouble::Unreadable)?;
-    if let Listener::Owned(receiver) = listener {
-        set_limit(receiver, number_of(limit)?)?;
-    }
+    set_limit(receiver, number_of(limit)?)?;
     let pieces = pieces_of(line.alloc, pieces)?;
-    push_pieces(line, call, listener, &pieces)
+    push_pieces(line, call, receiver, &pieces)
 }
 
 /// Sets a receiver's limit between stretches.
@@ -200,10 +179,10 @@ fn set_limit(receiver: &mut OwnedReceiver, limit: usize) -> Result<(), Trouble> 
 }
 
 /// What a receiver answers to a piece, and to each rest until none is left.
-fn push_piece<const N: usize>(
+fn push_piece<D: Decoding>(
     line: Line<'_>,
     call: Call,
-    listener: &mut Listener<N>,
+    receiver: &mut Reception<D>,
     piece: &[u8],
 ) -> Result<String, Trouble> {
     let mut text = String::new(line.alloc);
@@ -219,7 +198,7 @@ fn push_piece<const N: usize>(
             piece: rest,
             text: &mut answer,
         };
-        let used = ask_named(line.name, push, listener)?;
+        let used = ask_named(line.name, push, receiver)?;
         rest = rest.get(used..).unwrap_or(&[]);
         if !answer.is_empty() {
             let at = piece.len().saturating_sub(rest.len()).saturating_sub(1);
@@ -251,12 +230,12 @@ struct Push<'a> {
 }
 
 /// Says how many bytes were used.
-impl<'r, 'a, const N: usize> Asks<&'r [u8], &'r mut Listener<N>> for Push<'a> {
+impl<'r, 'a, D: Decoding> Asks<&'r [u8], &'r mut Reception<D>> for Push<'a> {
     type Answer = Result<usize, Trouble>;
 
     fn ask<T: Serialize + Deserialize<&'r [u8]> + DeserializeOwned + Shown>(
         self,
-        listener: &'r mut Listener<N>,
+        receiver: &'r mut Reception<D>,
     ) -> Result<usize, Trouble> {
         let Push {
             alloc,
@@ -265,47 +244,24 @@ impl<'r, 'a, const N: usize> Asks<&'r [u8], &'r mut Listener<N>> for Push<'a> {
             text,
         } = self;
         match call {
-            Call::Push => match listener {
-                Listener::Fixed(receiver) => show(receiver.push::<T>(alloc, piece), text),
-                Listener::Owned(receiver) => show(receiver.push::<T>(alloc, piece), text),
-            },
-            Call::PushRef => match listener {
-                Listener::Fixed(receiver) => show(receiver.push_ref::<T>(alloc, piece), text),
-                Listener::Owned(receiver) => show(receiver.push_ref::<T>(alloc, piece), text),
-            },
+            Call::Push => show(receiver.push::<T>(alloc, piece), text),
+            Call::PushRef => show(receiver.push_ref::<T>(alloc, piece), text),
             Call::PushStrict => Err(Trouble::Unreadable),
         }
     }
 
-    fn ask_exact<T: Serialize + Deserialize<&'r [u8]> + DeserializeOwned + Exact + Shown>(
+    fn ask_exact<T: Exact + Deserialize<&'r [u8]> + DeserializeOwned + Shown>(
         self,
-        listener: &'r mut Listener<N>,
+        receiver: &'r mut Reception<D>,
     ) -> Result<usize, Trouble> {
         match self.call {
-            Call::PushStrict => push_strict::<T, N>(self, listener),
-            _ => self.ask::<T>(listener),
+            Call::PushStrict => show(receiver.push_strict::<T>(self.alloc, self.piece), self.text),
+            _ => self.ask::<T>(receiver),
         }
     }
 
-    fn ask_other(self, _: &str, _: &'r mut Listener<N>) -> Result<usize, Trouble> {
+    fn ask_other(self, _: &str, _: &'r mut Reception<D>) -> Result<usize, Trouble> {
         Err(Trouble::Unreadable)
-    }
-}
-
-/// Pushes a piece by strict reception.
-fn push_strict<T: DeserializeOwned + Exact + Shown, const N: usize>(
-    push: Push<'_>,
-    listener: &mut Listener<N>,
-) -> Result<usize, Trouble> {
-    let Push {
-        alloc,
-        piece,
-        text,
-        ..
-    } = push;
-    match listener {
-        Listener::Fixed(receiver) => show(receiver.push_strict::<T>(alloc, piece), text),
-        Listener::Owned(receiver) => show(receiver.push_strict::<T>(alloc, piece), text),
     }
 }
 

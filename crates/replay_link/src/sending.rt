@@ -3,7 +3,7 @@ ghost use Rattle.std.specs.Prelude.{◌≡◌, length};
 ghost use Rattle.link.specs.Fates.{SenderFitsInMemory};
 
 use crate::linked::Line;
-use crate::receiving::{reader_of, receive_all};
+use crate::receiving::{HEARD, reader_of, receive_all};
 use line_io::Outlet;
 use line_io::memory::{Fault, Out};
 use link::{Fate, SendError, Sender, send_each_with_sentinel};
@@ -11,9 +11,6 @@ use postcard::{DeserializeOwned, Error, Serialize};
 use replay::{Findings, Trouble, bytes_of, digits, number_of};
 use replay_values::{Shown, in_words};
 use std::alloc::Global;
-
-/// How many bytes a stretch of the line has at most, where it is received.
-const HEARD: usize = 1025;
 
 /// How many bytes the writer takes at most in a call.
 const EACH: usize = 7;
