@@ -10,6 +10,7 @@ use std::alloc::{AllocError, Global};
 pub struct Findings {
     alloc: Global,
     text: String,
+    trouble: Option<Trouble>,
 }
 
 impl Findings {
@@ -20,6 +21,7 @@ impl Findings {
         Findings {
             alloc,
             text: String::new(alloc),
+            trouble: None,
         }
     }
 
@@ -119,5 +121,61 @@ impl Findings {
             Err(trouble) => return Err(trouble),
         }
         Ok(())
+    }
+
+    /// As [`compare_bytes`](Findings::compare_bytes), of so many bytes at the front of a room that a call has just
+    /// filled, or refused to. A trouble is noted.
+    pub fn see_front(
+        &mut self,
+        call: &str,
+        count: Result<usize, Trouble>,
+        room: &[u8],
+        wanted: &[u8],
+    ) {
+        let noted = match count {
+            Ok(count) => self.compare_bytes(call, room.get(..count).unwrap_or(room), wanted),
+            Err(Trouble::Refused) => self.add(call, "refused"),
+            Err(trouble) => return self.give_up(trouble),
+        };
+        self.keep(noted);
+    }
+
+    /// As [`see_front`](Findings::see_front), of bytes that were just made, or refused.
+    pub fn see_bytes(&mut self, call: &str, answer: Result<Vec<u8>, Trouble>, wanted: &[u8]) {
+        match answer {
+            Ok(bytes) => self.see_front(call, Ok(bytes.len()), &bytes, wanted),
+            Err(trouble) => self.see_front(call, Err(trouble), &[], wanted),
+        }
+    }
+
+    /// As [`compare`](Findings::compare), of an answer in the line's words that was just made. A trouble is noted.
+    pub fn see(&mut self, call: &str, answer: Result<String, AllocError>, wanted: &str) {
+        let noted = match answer {
+            Ok(answer) => self.compare(call, answer.as_str(), wanted),
+            Err(error) => Err(error),
+        };
+        self.keep(noted);
+    }
+
+    /// Notes that no memory was found, where something couldn't be noted or made for that.
+    pub fn keep(&mut self, noted: Result<(), AllocError>) {
+        if noted.is_err() {
+            self.give_up(Trouble::NoMemory);
+        }
+    }
+
+    /// Notes why the line isn't replayed to its end. What was noted first stays.
+    pub fn give_up(&mut self, trouble: Trouble) {
+        if self.trouble.is_none() {
+            self.trouble = Some(trouble);
+        }
+    }
+
+    /// What was noted of why the line isn't replayed to its end, or else how it ended.
+    pub(crate) fn end(&self, answer: Result<(), Trouble>) -> Result<(), Trouble> {
+        match self.trouble {
+            Some(trouble) => Err(trouble),
+            None => answer,
+        }
     }
 }

@@ -81,7 +81,7 @@ fn passes<L: Replays, W: Write>(
 ) -> io::Result<bool> {
     let mut findings = Findings::new(alloc);
     let answer = answer(lines, alloc, line, &mut findings);
-    report(line, answer, &findings, out)
+    report(line, findings.end(answer), &findings, out)
 }
 
 /// Prints a line that was not answered as it should be, and says whether it was.

@@ -10,43 +10,41 @@ pub(crate) fn replay_decode(
     findings: &mut Findings,
 ) -> Result<(), Trouble> {
     let source = words.bytes(alloc)?;
-    compare_decode(alloc, &source, words, findings)
+    let capacity = words.number()?;
+    let wanted = words.answer()?;
+    compare_decode(alloc, &source, capacity, wanted, findings);
+    if wanted != "!TargetBufTooSmall" {
+        compare_decode_vec(alloc, &source, message_of(wanted), findings);
+    }
+    Ok(())
 }
 
-/// Compares what a source is decoded to, by each call.
+/// Compares what `decode` answers, into so much room.
 fn compare_decode(
     alloc: Global,
     source: &[u8],
-    words: &mut Words<'_>,
+    capacity: usize,
+    wanted: &str,
     findings: &mut Findings,
-) -> Result<(), Trouble> {
-    let capacity = words.number()?;
-    let wanted = words.answer()?;
-    findings.check("decode", decoded(alloc, source, capacity), wanted)?;
-    if wanted == "!TargetBufTooSmall" {
-        return Ok(());
-    }
-    findings.check("decode_vec", decoded_vec(alloc, source), message_of(wanted))
-}
-
-/// The answer of `decode` into so much room.
-fn decoded(alloc: Global, source: &[u8], capacity: usize) -> Result<String, Trouble> {
-    let mut room = vec![in alloc; 0; capacity]?;
+) {
+    let Ok(mut room) = vec![in alloc; 0; capacity] else {
+        return findings.give_up(Trouble::NoMemory);
+    };
     let text = match cobs::decode(source, room.as_mut_slice()) {
         Ok(report) => report_text(alloc, &report, &room),
         Err(error) => error_text(alloc, error),
     };
-    Ok(text?)
+    findings.see("decode", text, wanted);
 }
 
-/// The answer of `decode_vec`.
-fn decoded_vec(alloc: Global, source: &[u8]) -> Result<String, Trouble> {
+/// Compares what `decode_vec` answers.
+fn compare_decode_vec(alloc: Global, source: &[u8], wanted: &str, findings: &mut Findings) {
     let text = match cobs::decode_vec(alloc, source) {
         Ok(message) => digits(alloc, &message),
         Err(DecodeVecError::Decode(error)) => error_text(alloc, error),
-        Err(DecodeVecError::OutOfMemory) => return Err(Trouble::NoMemory),
+        Err(DecodeVecError::OutOfMemory) => Err(AllocError),
     };
-    Ok(text?)
+    findings.see("decode_vec", text, wanted);
 }
 
 /// `SOURCE -> PARSED MESSAGE` or `SOURCE -> !InvalidFrame`: a frame that is decoded over its own bytes.
@@ -56,43 +54,34 @@ pub(crate) fn replay_in_place(
     findings: &mut Findings,
 ) -> Result<(), Trouble> {
     let source = words.bytes(alloc)?;
-    compare_in_place(alloc, &source, words, findings)
-}
-
-/// Compares what a source is decoded to over its own bytes, by each call.
-fn compare_in_place(
-    alloc: Global,
-    source: &[u8],
-    words: &mut Words<'_>,
-    findings: &mut Findings,
-) -> Result<(), Trouble> {
     let wanted = words.answer()?;
-    findings.check("decode_in_place_report", reported(alloc, source), wanted)?;
-    findings.check(
-        "decode_in_place",
-        replaced(alloc, source),
-        message_of(wanted),
-    )
+    compare_report(alloc, &source, wanted, findings);
+    compare_in_place(alloc, &source, message_of(wanted), findings);
+    Ok(())
 }
 
-/// The answer of `decode_in_place_report`.
-fn reported(alloc: Global, source: &[u8]) -> Result<String, Trouble> {
-    let mut buffer = source.to_vec(alloc)?;
+/// Compares what `decode_in_place_report` answers.
+fn compare_report(alloc: Global, source: &[u8], wanted: &str, findings: &mut Findings) {
+    let Ok(mut buffer) = source.to_vec(alloc) else {
+        return findings.give_up(Trouble::NoMemory);
+    };
     let text = match cobs::decode_in_place_report(buffer.as_mut_slice()) {
         Ok(report) => report_text(alloc, &report, &buffer),
         Err(_) => String::from_str(alloc, "!InvalidFrame"),
     };
-    Ok(text?)
+    findings.see("decode_in_place_report", text, wanted);
 }
 
-/// The answer of `decode_in_place`.
-fn replaced(alloc: Global, source: &[u8]) -> Result<String, Trouble> {
-    let mut buffer = source.to_vec(alloc)?;
+/// Compares what `decode_in_place` answers.
+fn compare_in_place(alloc: Global, source: &[u8], wanted: &str, findings: &mut Findings) {
+    let Ok(mut buffer) = source.to_vec(alloc) else {
+        return findings.give_up(Trouble::NoMemory);
+    };
     let text = match cobs::decode_in_place(buffer.as_mut_slice()) {
         Ok(n) => digits(alloc, buffer.get(..n).unwrap_or(&[])),
         Err(_) => String::from_str(alloc, "!InvalidFrame"),
     };
-    Ok(text?)
+    findings.see("decode_in_place", text, wanted);
 }
 
 /// The message of an answer, or its refusal.

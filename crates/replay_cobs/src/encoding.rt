@@ -1,6 +1,7 @@
 //! Frames of messages.
 ghost use Rattle.std.specs.Prelude.{◌<◌};
 
+use crate::lent::{Call, Case, compare_lent};
 use cobs::{CobsEncoder, EncoderState, PushResult};
 use replay::{Findings, Trouble, Words};
 use std::alloc::Global;
@@ -32,150 +33,61 @@ fn compare_encode(
 ) -> Result<(), Trouble> {
     let more = words.next()?;
     words.end()?;
-    encode_whole(alloc, message, frame, findings)?;
-    encode_between_zeros(alloc, message, frame, findings)?;
-    encode_pieces(alloc, "CobsEncoder", message, frame, 0, findings)?;
-    refuse(alloc, message, frame.len().saturating_sub(1), findings)?;
-    let longest = longest(alloc, frame, more)?;
-    findings.check_bytes("EncoderState", keep_buffer(alloc, message), &longest)
-}
-
-/// The longest frame, by the shortest and what the line says of another one.
-fn longest(alloc: Global, frame: &[u8], more: &str) -> Result<Vec<u8>, Trouble> {
-    let mut longest = frame.to_vec(alloc)?;
-    match more {
-        "=" => {}
-        "+01" => longest.push(1)?,
-        _ => return Err(Trouble::Unreadable),
-    }
-    Ok(longest)
-}
-
-/// The calls that frame a whole message.
-fn encode_whole(
-    alloc: Global,
-    message: &[u8],
-    frame: &[u8],
-    findings: &mut Findings,
-) -> Result<(), Trouble> {
-    let length = cobs::encoded_length(message);
-    findings.compare_number("encoded_length", length, frame.len())?;
-    findings.check_bytes("encode", encode(alloc, message), frame)?;
-    findings.check_bytes("encode_vec", encode_vec(alloc, message), frame)?;
-    let made = try_encode(alloc, message, frame.len());
-    findings.check_bytes("try_encode", made, frame)
-}
-
-/// The frame that `encode` makes.
-fn encode(alloc: Global, message: &[u8]) -> Result<Vec<u8>, Trouble> {
-    let mut room = vec![in alloc; 0; cobs::encoded_length(message)]?;
-    let n = cobs::encode(message, room.as_mut_slice());
-    room.truncate(n);
-    Ok(room)
-}
-
-/// The frame that `encode_vec` makes.
-fn encode_vec(alloc: Global, message: &[u8]) -> Result<Vec<u8>, Trouble> {
-    Ok(cobs::encode_vec(alloc, message)?)
-}
-
-/// The frame that `try_encode` makes in so much room.
-fn try_encode(alloc: Global, message: &[u8], length: usize) -> Result<Vec<u8>, Trouble> {
-    let mut room = vec![in alloc; 0; length]?;
-    match cobs::try_encode(message, room.as_mut_slice()) {
-        Ok(n) => room.truncate(n),
-        Err(_) => return Err(Trouble::Refused),
-    }
-    Ok(room)
-}
-
-/// The calls that put a zero on each side of the frame.
-fn encode_between_zeros(
-    alloc: Global,
-    message: &[u8],
-    frame: &[u8],
-    findings: &mut Findings,
-) -> Result<(), Trouble> {
-    let mut wanted = Vec::new(alloc);
-    wanted.push(0)?;
-    wanted.extend_from_slice(frame)?;
-    wanted.push(0)?;
-    compare_between_zeros(alloc, message, &wanted, findings)
-}
-
-/// Compares what the calls make that put a zero on each side.
-fn compare_between_zeros(
-    alloc: Global,
-    message: &[u8],
-    wanted: &[u8],
-    findings: &mut Findings,
-) -> Result<(), Trouble> {
-    let made = encode_including_sentinels(alloc, message);
-    findings.check_bytes("encode_including_sentinels", made, wanted)?;
-    let made = encode_vec_including_sentinels(alloc, message);
-    findings.check_bytes("encode_vec_including_sentinels", made, wanted)?;
-    let made = try_encode_including_sentinels(alloc, message, wanted.len());
-    findings.check_bytes("try_encode_including_sentinels", made, wanted)
-}
-
-/// What `encode_including_sentinels` makes.
-fn encode_including_sentinels(alloc: Global, message: &[u8]) -> Result<Vec<u8>, Trouble> {
-    let mut room = vec![in alloc; 0; cobs::encoded_length(message)]?;
-    room.extend_from_slice(&[0, 0])?;
-    let n = cobs::encode_including_sentinels(message, room.as_mut_slice());
-    room.truncate(n);
-    Ok(room)
-}
-
-/// What `encode_vec_including_sentinels` makes.
-fn encode_vec_including_sentinels(alloc: Global, message: &[u8]) -> Result<Vec<u8>, Trouble> {
-    Ok(cobs::encode_vec_including_sentinels(alloc, message)?)
-}
-
-/// What `try_encode_including_sentinels` makes in so much room.
-fn try_encode_including_sentinels(
-    alloc: Global,
-    message: &[u8],
-    length: usize,
-) -> Result<Vec<u8>, Trouble> {
-    let mut room = vec![in alloc; 0; length]?;
-    match cobs::try_encode_including_sentinels(message, room.as_mut_slice()) {
-        Ok(n) => room.truncate(n),
-        Err(_) => return Err(Trouble::Refused),
-    }
-    Ok(room)
-}
-
-/// An encoder that a message is pushed to in pieces.
-pub(crate) fn encode_pieces(
-    alloc: Global,
-    call: &str,
-    message: &[u8],
-    frame: &[u8],
-    sentinel: u8,
-    findings: &mut Findings,
-) -> Result<(), Trouble> {
-    for piece in [1, PIECE, usize::MAX] {
-        let made = push_pieces(alloc, message, frame.len(), piece, sentinel);
-        findings.check_bytes(call, made, frame)?;
-    }
+    let case = Case {
+        alloc,
+        source: message,
+        wanted: frame,
+    };
+    compare_alone(&case, findings);
+    compare_between_zeros(&case, findings);
+    encode_pieces(&case, "CobsEncoder", 0, findings);
+    refuse(&case, findings);
+    compare_longest(&case, more, findings);
     Ok(())
 }
 
-/// The frame of a message that is pushed in pieces of so many bytes.
-fn push_pieces(
-    alloc: Global,
-    message: &[u8],
-    length: usize,
-    piece: usize,
-    sentinel: u8,
-) -> Result<Vec<u8>, Trouble>
-    requires { 0 < piece }
-{
-    let mut room = vec![in alloc; 0; length]?;
-    let n = push_into(room.as_mut_slice(), message, piece, sentinel)?;
-    room.truncate(n);
-    Ok(room)
+/// Compares the frame alone.
+fn compare_alone(case: &Case<'_>, findings: &mut Findings) {
+    let length = cobs::encoded_length(case.source);
+    let noted = findings.compare_number("encoded_length", length, case.wanted.len());
+    findings.keep(noted);
+    compare_lent(case, "encode", Call::Encode, length, findings);
+    let made = cobs::encode_vec(case.alloc, case.source).or(Err(Trouble::NoMemory));
+    findings.see_bytes("encode_vec", made, case.wanted);
+    let length = case.wanted.len();
+    compare_lent(case, "try_encode", Call::TryEncode, length, findings);
+}
+
+/// Compares the frame with a zero on each side.
+fn compare_between_zeros(case: &Case<'_>, findings: &mut Findings) {
+    let Ok(wanted) = [&[0], case.wanted, &[0]].concat(case.alloc) else {
+        return findings.give_up(Trouble::NoMemory);
+    };
+    let zeros = Case {
+        wanted: &wanted,
+        ..*case
+    };
+    let length = cobs::encoded_length(case.source) + 2;
+    let (name, call) = ("encode_including_sentinels", Call::EncodeIncludingSentinels);
+    compare_lent(&zeros, name, call, length, findings);
+    let made = cobs::encode_vec_including_sentinels(case.alloc, case.source);
+    let made = made.or(Err(Trouble::NoMemory));
+    findings.see_bytes("encode_vec_including_sentinels", made, &wanted);
+    let name = "try_encode_including_sentinels";
+    let call = Call::TryEncodeIncludingSentinels;
+    compare_lent(&zeros, name, call, wanted.len(), findings);
+}
+
+/// Compares the frames of an encoder that a message is pushed to in pieces.
+pub(crate) fn encode_pieces(case: &Case<'_>, name: &str, sentinel: u8, findings: &mut Findings) {
+    let Ok(mut room) = vec![in case.alloc; 0; case.wanted.len()] else {
+        return findings.give_up(Trouble::NoMemory);
+    };
+    for piece in [1, PIECE, usize::MAX] {
+        room.as_mut_slice().fill(0);
+        let count = push_into(room.as_mut_slice(), case.source, piece, sentinel);
+        findings.see_front(name, count, &room, case.wanted);
+    }
 }
 
 /// How long the frame is of a message that is pushed in pieces, with nothing pushed between them.
@@ -200,18 +112,17 @@ fn push_into(room: &mut [u8], message: &[u8], piece: usize, sentinel: u8) -> Res
 }
 
 /// The calls that refuse a message whose frame has one byte less of room.
-fn refuse(
-    alloc: Global,
-    message: &[u8],
-    less: usize,
-    findings: &mut Findings,
-) -> Result<(), Trouble> {
-    let mut room = vec![in alloc; UNTOUCHED; less]?;
-    let answer = refused(message, room.as_mut_slice());
-    findings.compare("try_encode with a byte less", answer, "refused")?;
-    let answer = spent(message, room.as_mut_slice());
-    findings.compare("CobsEncoder with a byte less", answer, "refused")?;
-    Ok(())
+fn refuse(case: &Case<'_>, findings: &mut Findings) {
+    let less = case.wanted.len().saturating_sub(1);
+    let Ok(mut room) = vec![in case.alloc; UNTOUCHED; less] else {
+        return findings.give_up(Trouble::NoMemory);
+    };
+    let answer = refused(case.source, room.as_mut_slice());
+    let noted = findings.compare("try_encode with a byte less", answer, "refused");
+    findings.keep(noted);
+    let answer = spent(case.source, room.as_mut_slice());
+    let noted = findings.compare("CobsEncoder with a byte less", answer, "refused");
+    findings.keep(noted);
 }
 
 /// What becomes of a message that `try_encode` has to refuse, and of the room, which it has to leave alone.
@@ -245,6 +156,20 @@ fn spent(message: &[u8], room: &mut [u8]) -> &'static str {
     "refused"
 }
 
+/// Compares the longest frame, by the shortest and what the line says of another one.
+fn compare_longest(case: &Case<'_>, more: &str, findings: &mut Findings) {
+    let behind: &[u8] = match more {
+        "=" => &[],
+        "+01" => &[1],
+        _ => return findings.give_up(Trouble::Unreadable),
+    };
+    let Ok(longest) = [case.wanted, behind].concat(case.alloc) else {
+        return findings.give_up(Trouble::NoMemory);
+    };
+    let made = keep_buffer(case.alloc, case.source);
+    findings.see_bytes("EncoderState", made, &longest);
+}
+
 /// The buffer that is kept as an `EncoderState` says.
 fn keep_buffer(alloc: Global, message: &[u8]) -> Result<Vec<u8>, Trouble> {
     let mut buffer = vec![in alloc; 0]?;
@@ -267,20 +192,18 @@ fn fill_buffer(buffer: &mut Vec<u8>, message: &[u8]) -> Result<(), Trouble> {
 
 /// Does to the buffer what the state answers to a byte.
 fn add_pushed(buffer: &mut Vec<u8>, pushed: PushResult) -> Result<(), Trouble> {
-    let last = match pushed {
-        PushResult::AddSingle(b) => b,
+    let added = match pushed {
+        PushResult::AddSingle(b) => buffer.extend_from_slice(&[b]),
         PushResult::ModifyFromStartAndSkip((i, code)) => {
             set(buffer.as_mut_slice(), i, code)?;
-            0
+            buffer.extend_from_slice(&[0])
         }
         PushResult::ModifyFromStartAndPushAndSkip((i, code, b)) => {
             set(buffer.as_mut_slice(), i, code)?;
-            buffer.push(b)?;
-            0
+            buffer.extend_from_slice(&[b, 0])
         }
     };
-    buffer.push(last)?;
-    Ok(())
+    Ok(added?)
 }
 
 /// Puts a code in its place.

@@ -4,6 +4,7 @@
 
 mod decoding;
 mod encoding;
+mod lent;
 mod sentinels;
 mod streams;
 

@@ -1,7 +1,8 @@
 //! Frames for a sentinel.
 use crate::encoding::encode_pieces;
+use crate::lent::{Call, Case, compare_lent, push_line};
 use crate::streams::Streaming;
-use cobs::{CobsDecoder, CobsDecoderHeapless, CobsDecoderOwned};
+use cobs::{CobsDecoderHeapless, CobsDecoderOwned};
 use replay::{Findings, Trouble, Words};
 use std::alloc::Global;
 
@@ -16,8 +17,7 @@ pub(crate) fn replay_sentinel(
 ) -> Result<(), Trouble> {
     let sentinel = words.byte(alloc)?;
     let message = words.bytes(alloc)?;
-    let frame = words.bytes(alloc)?;
-    compare_sentinel(alloc, sentinel, &message, &frame, words, findings)
+    compare_sentinel(alloc, sentinel, &message, words, findings)
 }
 
 /// Compares what the calls make of a message, and of its frame.
@@ -25,191 +25,97 @@ fn compare_sentinel(
     alloc: Global,
     sentinel: u8,
     message: &[u8],
-    frame: &[u8],
     words: &mut Words<'_>,
     findings: &mut Findings,
 ) -> Result<(), Trouble> {
+    let frame = words.bytes(alloc)?;
     words.end()?;
-    encode_sentinel(alloc, message, frame, sentinel, findings)?;
-    decode_sentinel(alloc, message, frame, sentinel, findings)
+    compare_frame(alloc, sentinel, message, &frame, findings);
+    compare_message(alloc, sentinel, message, &frame, findings);
+    Ok(())
 }
 
 /// The calls that make the frame.
-fn encode_sentinel(
+fn compare_frame(
     alloc: Global,
+    sentinel: u8,
     message: &[u8],
     frame: &[u8],
-    sentinel: u8,
     findings: &mut Findings,
-) -> Result<(), Trouble> {
-    let made = encode_with_sentinel(alloc, message, sentinel);
-    findings.check_bytes("encode_with_sentinel", made, frame)?;
-    let made = encode_vec_with_sentinel(alloc, message, sentinel);
-    findings.check_bytes("encode_vec_with_sentinel", made, frame)?;
-    let call = "CobsEncoder with a sentinel";
-    encode_pieces(alloc, call, message, frame, sentinel, findings)
-}
-
-/// The frame that `encode_with_sentinel` makes.
-fn encode_with_sentinel(alloc: Global, message: &[u8], sentinel: u8) -> Result<Vec<u8>, Trouble> {
-    let mut room = vec![in alloc; 0; cobs::encoded_length(message)]?;
-    let n = cobs::encode_with_sentinel(message, room.as_mut_slice(), sentinel);
-    room.truncate(n);
-    Ok(room)
-}
-
-/// The frame that `encode_vec_with_sentinel` makes.
-fn encode_vec_with_sentinel(
-    alloc: Global,
-    message: &[u8],
-    sentinel: u8,
-) -> Result<Vec<u8>, Trouble> {
-    Ok(cobs::encode_vec_with_sentinel(alloc, message, sentinel)?)
+) {
+    let case = Case {
+        alloc,
+        source: message,
+        wanted: frame,
+    };
+    let length = cobs::encoded_length(message);
+    let call = Call::EncodeWithSentinel(sentinel);
+    compare_lent(&case, "encode_with_sentinel", call, length, findings);
+    let made = cobs::encode_vec_with_sentinel(alloc, message, sentinel);
+    let made = made.or(Err(Trouble::NoMemory));
+    findings.see_bytes("encode_vec_with_sentinel", made, frame);
+    encode_pieces(&case, "CobsEncoder with a sentinel", sentinel, findings);
 }
 
 /// The calls that take the message back.
-fn decode_sentinel(
+fn compare_message(
     alloc: Global,
+    sentinel: u8,
     message: &[u8],
     frame: &[u8],
-    sentinel: u8,
     findings: &mut Findings,
-) -> Result<(), Trouble> {
-    let made = decode_with_sentinel(alloc, message.len(), frame, sentinel);
-    findings.check_bytes("decode_with_sentinel", made, message)?;
-    let made = decode_vec_with_sentinel(alloc, frame, sentinel);
-    findings.check_bytes("decode_vec_with_sentinel", made, message)?;
-    let made = decode_in_place_with_sentinel(alloc, frame, sentinel);
-    findings.check_bytes("decode_in_place_with_sentinel", made, message)?;
-    decode_stream(alloc, message, frame, sentinel, findings)
-}
-
-/// The message that `decode_with_sentinel` gives in so much room.
-fn decode_with_sentinel(
-    alloc: Global,
-    length: usize,
-    frame: &[u8],
-    sentinel: u8,
-) -> Result<Vec<u8>, Trouble> {
-    let mut room = vec![in alloc; 0; length]?;
-    match cobs::decode_with_sentinel(frame, room.as_mut_slice(), sentinel) {
-        Ok(n) => room.truncate(n),
-        Err(_) => return Err(Trouble::Refused),
-    }
-    Ok(room)
-}
-
-/// The message that `decode_vec_with_sentinel` gives.
-fn decode_vec_with_sentinel(alloc: Global, frame: &[u8], sentinel: u8) -> Result<Vec<u8>, Trouble> {
-    cobs::decode_vec_with_sentinel(alloc, frame, sentinel).or(Err(Trouble::Refused))
-}
-
-/// The message that `decode_in_place_with_sentinel` gives.
-fn decode_in_place_with_sentinel(
-    alloc: Global,
-    frame: &[u8],
-    sentinel: u8,
-) -> Result<Vec<u8>, Trouble> {
-    let mut room = frame.to_vec(alloc)?;
-    match cobs::decode_in_place_with_sentinel(room.as_mut_slice(), sentinel) {
-        Ok(n) => room.truncate(n),
-        Err(_) => return Err(Trouble::Refused),
-    }
-    Ok(room)
+) {
+    let case = Case {
+        alloc,
+        source: frame,
+        wanted: message,
+    };
+    let call = Call::DecodeWithSentinel(sentinel);
+    compare_lent(&case, "decode_with_sentinel", call, message.len(), findings);
+    let made = cobs::decode_vec_with_sentinel(alloc, frame, sentinel);
+    let made = made.or(Err(Trouble::Refused));
+    findings.see_bytes("decode_vec_with_sentinel", made, message);
+    let call = Call::DecodeInPlaceWithSentinel(sentinel);
+    let name = "decode_in_place_with_sentinel";
+    compare_lent(&case, name, call, frame.len(), findings);
+    let Ok(line) = [frame, &[sentinel]].concat(alloc) else {
+        return findings.give_up(Trouble::NoMemory);
+    };
+    let case = Case {
+        alloc,
+        source: &line,
+        wanted: message,
+    };
+    compare_line(&case, sentinel, findings);
 }
 
 /// The calls that take the message back of a frame with its sentinel.
-fn decode_stream(
-    alloc: Global,
-    message: &[u8],
-    frame: &[u8],
-    sentinel: u8,
-    findings: &mut Findings,
-) -> Result<(), Trouble> {
-    let mut line = frame.to_vec(alloc)?;
-    line.push(sentinel)?;
-    decode_line(alloc, message, &line, sentinel, findings)
-}
-
-/// Compares the messages that the calls take back.
-fn decode_line(
-    alloc: Global,
-    message: &[u8],
-    line: &[u8],
-    sentinel: u8,
-    findings: &mut Findings,
-) -> Result<(), Trouble> {
-    let made = decode_report(alloc, line, sentinel);
-    findings.check_bytes("decode_in_place_report_with_sentinel", made, message)?;
-    let made = decode_lent(alloc, message.len(), line, sentinel);
-    findings.check_bytes("CobsDecoder with a sentinel", made, message)?;
-    let made = decode_owned(alloc, message.len(), line, sentinel);
-    findings.check_bytes("CobsDecoderOwned with a sentinel", made, message)?;
-    if message.len() > ROOM {
-        return Ok(());
-    }
-    let made = decode_heapless(alloc, line, sentinel);
-    findings.check_bytes("CobsDecoderHeapless with a sentinel", made, message)
-}
-
-/// The message that a `CobsDecoder` gives that is lent so much room.
-fn decode_lent(
-    alloc: Global,
-    length: usize,
-    line: &[u8],
-    sentinel: u8,
-) -> Result<Vec<u8>, Trouble> {
-    let mut room = vec![in alloc; 0; length]?;
-    let mut decoder = CobsDecoder::new_with_sentinel(room.as_mut_slice(), sentinel);
-    push_line(alloc, &mut decoder, line)
-}
-
-/// The message that a `CobsDecoderOwned` of so much room gives.
-fn decode_owned(
-    alloc: Global,
-    length: usize,
-    line: &[u8],
-    sentinel: u8,
-) -> Result<Vec<u8>, Trouble> {
-    let mut decoder = CobsDecoderOwned::new_with_sentinel(alloc, length, sentinel)?;
-    push_line(alloc, &mut decoder, line)
-}
-
-/// The message that a `CobsDecoderHeapless` gives.
-fn decode_heapless(alloc: Global, line: &[u8], sentinel: u8) -> Result<Vec<u8>, Trouble> {
-    let mut decoder = CobsDecoderHeapless::<ROOM>::new_with_sentinel(sentinel);
-    push_line(alloc, &mut decoder, line)
-}
-
-/// The message that a decoder gives of a frame with its sentinel.
-fn push_line<D: Streaming>(
-    alloc: Global,
-    decoder: &mut D,
-    line: &[u8],
-) -> Result<Vec<u8>, Trouble> {
-    let size = match decoder.push_piece(line) {
-        Ok(Some(report)) if report.parsed_size() == line.len() => report.frame_size(),
-        _ => return Err(Trouble::Refused),
+fn compare_line(case: &Case<'_>, sentinel: u8, findings: &mut Findings) {
+    let length = case.wanted.len();
+    let call = Call::DecodeInPlaceReportWithSentinel(sentinel);
+    let name = "decode_in_place_report_with_sentinel";
+    compare_lent(case, name, call, case.source.len(), findings);
+    let name = "CobsDecoder with a sentinel";
+    compare_lent(case, name, Call::Decoder(sentinel), length, findings);
+    let Ok(mut decoder) = CobsDecoderOwned::new_with_sentinel(case.alloc, length, sentinel) else {
+        return findings.give_up(Trouble::NoMemory);
     };
-    match decoder.buffer().get(..size) {
-        Some(message) => Ok(message.to_vec(alloc)?),
-        None => Err(Trouble::Refused),
+    let name = "CobsDecoderOwned with a sentinel";
+    compare_pushed(case, name, &mut decoder, findings);
+    if length <= ROOM {
+        let mut decoder = CobsDecoderHeapless::<ROOM>::new_with_sentinel(sentinel);
+        let name = "CobsDecoderHeapless with a sentinel";
+        compare_pushed(case, name, &mut decoder, findings);
     }
 }
 
-/// The message that `decode_in_place_report_with_sentinel` gives, which has to leave the sentinel where it is.
-fn decode_report(alloc: Global, line: &[u8], sentinel: u8) -> Result<Vec<u8>, Trouble> {
-    let mut room = line.to_vec(alloc)?;
-    match cobs::decode_in_place_report_with_sentinel(room.as_mut_slice(), sentinel) {
-        Ok(report) if is_last(&room, report.parsed_size(), sentinel) => {
-            room.truncate(report.frame_size());
-        }
-        _ => return Err(Trouble::Refused),
-    }
-    Ok(room)
-}
-
-/// Whether a byte stands at a place and none behind it.
-fn is_last(bytes: &[u8], at: usize, byte: u8) -> bool {
-    at < bytes.len() && bytes.len() - at == 1 && bytes[at] == byte
+/// Compares the message that a new decoder gives.
+fn compare_pushed<D: Streaming>(
+    case: &Case<'_>,
+    name: &str,
+    decoder: &mut D,
+    findings: &mut Findings,
+) {
+    let count = push_line(decoder, case.source);
+    findings.see_front(name, count, decoder.buffer(), case.wanted);
 }
