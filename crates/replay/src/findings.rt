@@ -103,9 +103,11 @@ impl Findings {
         answer: Result<String, Trouble>,
         wanted: &str,
     ) -> Result<(), Trouble> {
-        let answer = answer?;
-        self.compare(call, answer.as_str(), wanted)?;
-        Ok(())
+        let noted = match answer {
+            Ok(answer) => self.compare(call, answer.as_str(), wanted),
+            Err(trouble) => return Err(trouble),
+        };
+        Ok(noted?)
     }
 
     /// As [`compare_bytes`](Findings::compare_bytes), of bytes that were just made, or refused.
@@ -115,12 +117,12 @@ impl Findings {
         answer: Result<Vec<u8>, Trouble>,
         wanted: &[u8],
     ) -> Result<(), Trouble> {
-        match answer {
-            Ok(bytes) => self.compare_bytes(call, &bytes, wanted)?,
-            Err(Trouble::Refused) => self.add(call, "refused")?,
+        let noted = match answer {
+            Ok(bytes) => self.compare_bytes(call, &bytes, wanted),
+            Err(Trouble::Refused) => self.add(call, "refused"),
             Err(trouble) => return Err(trouble),
-        }
-        Ok(())
+        };
+        Ok(noted?)
     }
 
     /// As [`compare_bytes`](Findings::compare_bytes), of so many bytes at the front of a room that a call has just

@@ -30,18 +30,16 @@ pub fn replay_all<L: Replays, R: Read + Drop, W: Write + Drop>(
 ) -> io::Result<ExitCode> {
     let input = BufReader::new(alloc, input)?;
     let mut out = BufWriter::new(alloc, output)?;
-    let failed = replay_lines(lines, alloc, input, &mut out)?;
-    out.flush()?;
-    Ok(ExitCode::from(if failed == 0 { 0 } else { 1 }))
+    replay_lines(lines, alloc, input, &mut out)
 }
 
-/// Answers each line, prints those that differ and the counts, and says how many failed.
+/// Answers each line, prints those that differ and the counts, and says how it ended.
 fn replay_lines<L: Replays, R: BufRead + Drop, W: Write>(
     lines: &L,
     alloc: Global,
     input: R,
     out: &mut W,
-) -> io::Result<u64> {
+) -> io::Result<ExitCode> {
     let mut passed: u64 = 0;
     let mut failed: u64 = 0;
     for line in input.lines(alloc) {
@@ -51,8 +49,14 @@ fn replay_lines<L: Replays, R: BufRead + Drop, W: Write>(
             failed = failed.saturating_add(1);
         }
     }
+    end(passed, failed, out)
+}
+
+/// Prints the counts, and says how it ended.
+fn end<W: Write>(passed: u64, failed: u64, out: &mut W) -> io::Result<ExitCode> {
     writeln!(out, "{passed} passed, {failed} failed")?;
-    Ok(failed)
+    out.flush()?;
+    Ok(ExitCode::from(if failed == 0 { 0 } else { 1 }))
 }
 
 /// Replays a line as it was read, prints it where it differs, and says whether it passed.
@@ -64,12 +68,17 @@ fn replay_line<L: Replays, W: Write>(
 ) -> io::Result<bool> {
     match line {
         Ok(line) => passes(lines, alloc, line.as_str(), out),
-        Err(error) if error.kind() == ErrorKind::InvalidData => {
-            writeln!(out, "a line that isn't text | unreadable")?;
-            Ok(false)
-        }
-        Err(error) => Err(error),
+        Err(error) => unread(error, out),
     }
+}
+
+/// Prints that a line isn't text, where it was not read for that.
+fn unread<W: Write>(error: io::Error, out: &mut W) -> io::Result<bool> {
+    if error.kind() != ErrorKind::InvalidData {
+        return Err(error);
+    }
+    writeln!(out, "a line that isn't text | unreadable")?;
+    Ok(false)
 }
 
 /// Replays a line of text, prints it where it differs, and says whether it passed.

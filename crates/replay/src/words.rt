@@ -118,8 +118,6 @@ pub fn digits(alloc: Global, bytes: &[u8]) -> Result<String, AllocError> {
 
 /// The digits of bytes behind a text.
 pub fn digits_behind(alloc: Global, front: &str, bytes: &[u8]) -> Result<String, AllocError> {
-    let mut text = String::from_str(alloc, front)?;
     let digits = digits(alloc, bytes)?;
-    text.push_str(digits.as_str())?;
-    Ok(text)
+    [front, digits.as_str()].concat(alloc)
 }

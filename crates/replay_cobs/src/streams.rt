@@ -72,8 +72,9 @@ pub(crate) fn replay_stream(
     findings: &mut Findings,
 ) -> Result<(), Trouble> {
     let capacity = words.number()?;
-    let pieces = pieces_of(alloc, words.next()?)?;
+    let pieces = words.next()?;
     let wanted = words.answer()?;
+    let pieces = pieces_of(alloc, pieces)?;
     let case = Case {
         alloc,
         pieces: &pieces,
