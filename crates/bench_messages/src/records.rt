@@ -1,23 +1,14 @@
-//! The calls of `postcard` for one record as C functions, for the benchmark in `bench/`.
+//! The calls of `postcard` for one record as C functions.
 //!
 //! The record is a `u32`, a `u64`, a text, perhaps a `u16`, and a list of `u16`.
-#![tactic(auto)]
-
 ghost use Rattle.std.specs.Prelude.{◌≤◌, length};
 
+use crate::answers::{Answer, Found};
 use postcard::accumulator::{CobsAccumulator, FeedResult};
 use std::alloc::Global;
 
 /// The record as it is read from a frame.
 type Owned = (u32, u64, String, Option<u16>, Vec<u16>);
-
-/// What a call answers: whether it was done, and how many bytes it gave; 0 where it wasn't.
-#[repr(C)]
-#[derive(Clone, Copy)]
-pub struct Answer {
-    pub done: bool,
-    pub count: usize,
-}
 
 /// What a record holds, its text and its list by their lengths and the list's sum.
 #[repr(C)]
@@ -97,15 +88,6 @@ pub extern "C" fn postcard_c_read(alloc: Global, source: &[u8], parts: &mut Part
     }
 }
 
-/// What was found in a stream: how many records, how many refusals, and a sum over the records.
-#[repr(C)]
-#[derive(Clone, Copy)]
-pub struct Found {
-    pub values: u64,
-    pub refused: u64,
-    pub sum: u64,
-}
-
 /// Counts a record: its number, its text's length and the sum of its list.
 fn count_record(record: Owned, found: &mut Found) {
     let (number, _, text, _, list) = record;
@@ -141,8 +123,8 @@ fn feed_piece(
     }
 }
 
-/// Hands a stream in pieces of `piece` bytes to a `CobsAccumulator<512>`, and counts what it answers. Nothing is found
-/// where `piece` is 0.
+/// Hands a stream in pieces of `piece` bytes to a `CobsAccumulator<512>`, and counts what it answers, its sum being over
+/// the records. Nothing is found where `piece` is 0.
 #[unsafe(no_mangle)]
 pub extern "C" fn postcard_c_stream(alloc: Global, stream: &[u8], piece: usize, found: &mut Found) {
     let mut accumulator: CobsAccumulator<512> = CobsAccumulator::new();

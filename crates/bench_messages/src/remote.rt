@@ -1,8 +1,6 @@
-//! Both sides of remote calls over memory as C functions, for the benchmark in `bench/`.
+//! Both sides of remote calls over memory as C functions.
 //!
 //! A request is a `u16` and a `u32`, a reply a `bool` and a `u64`.
-#![tactic(auto)]
-
 ghost use Rattle.std.specs.Prelude.{⊤};
 
 use calls::{Application, Client, Server, Service, Waiting, serve, wait_with};
