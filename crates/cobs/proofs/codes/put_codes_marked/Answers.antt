@@ -1,3 +1,4 @@
+use Rattle.std.proofs.lemmas.Grind.{common_steps}
 use Rattle.std.proofs.Common.{◌≡◌, length, take, drop, ◌∙◌, arith, length-drop}
 use Rattle.std.proofs.lemmas.List.{length-take-le}
 use Rattle.cobs.specs.Sentinel.{masked}
@@ -20,3 +21,9 @@ returns c =
       later = going.later;
       coding = going_end _ _ _ _ _ _ _ c.loop-zeros-test.false going;
     }
+
+pub overflow_cast-dest : goal.overflow_cast-dest
+overflow_cast-dest c = grind (arith, common_steps)
+
+pub bounds-dest-code : goal.bounds-dest-code
+bounds-dest-code c = grind (arith, common_steps)

@@ -1,3 +1,4 @@
+use Rattle.std.proofs.lemmas.Grind.{common_steps}
 use Rattle.std.proofs.Common.{◌≢◌, ◌+◌, ◌-◌, ◌<◌, ◌≤◌, ℕ, List, length, take, drop, get_or, length-take, ap, ◌∙◌, inl, inr, arith}
 use Rattle.std.proofs.lemmas.Bool.{cases_lt}
 use Rattle.std.proofs.lemmas.List.{get_or-take, get_or-drop}
@@ -31,3 +32,9 @@ returns-clause-none c = λ k l.
     let bytes = c.args.bytes.now in
     let few : c.before_of_64.result ≤ length bytes - from = omega (arith, c.before_of_64.ensures.within, length-take (length bytes - from) (drop from bytes)) in
     none_on c.args.sentinel from c.loop-at.at c.before_of_64.result (length bytes - from) bytes (omega arith) c.loop-at.invariant.none few c.before_of_64.ensures.none k l
+
+pub returns-then-n-lt64-clause-end : goal.returns-then-n-lt64-clause-end
+returns-then-n-lt64-clause-end c = grind (arith, common_steps)
+
+pub returns-clause-end : goal.returns-clause-end
+returns-clause-end c = grind (arith, common_steps)

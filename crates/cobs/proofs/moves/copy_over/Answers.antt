@@ -1,3 +1,4 @@
+use Rattle.std.proofs.lemmas.Grind.{common_steps}
 use Rattle.std.proofs.Common.{◌≡◌, ◌+◌, ◌≤◌, ℕ, List, [], ◌++◌, length, take, drop, ap, sym, ◌∙◌, append_assoc, length-append, refl, arith}
 use Rattle.std.proofs.lemmas.List.{take-append-drop, append-nil}
 use Rattle.cobs.specs.InPlace.{written_over}
@@ -37,3 +38,12 @@ returns c =
     let all : c.args.bytes.now ≡ done.0 ++ (rest ++ []) = done.1 ∙ ap (λ b. done.0 ++ b) (sym (append-nil rest)) in
     more c.args.sentinel c.args.place c.loop-rest.at c.args.bytes.now done.0 rest [] c.args.buffer.now c.loop-rest.buffer c.copy_few.new.buffer all done.2 done.3 c.requires.room c.copy_few.ensures
     ∙ ap (λ b. written_over c.args.place (masked c.args.sentinel b) c.args.buffer.now) (sym done.1)
+
+pub copy_64-requires-clause-room : goal.copy_64-requires-clause-room
+copy_64-requires-clause-room c = grind (arith, common_steps)
+
+pub overflow_add-at : goal.overflow_add-at
+overflow_add-at c = grind (arith, common_steps)
+
+pub copy_few-requires-clause-room : goal.copy_few-requires-clause-room
+copy_few-requires-clause-room c = grind (arith, common_steps)

@@ -1,3 +1,4 @@
+use Rattle.std.proofs.lemmas.Grind.{common_steps}
 use Rattle.std.proofs.Common.{◌∙◌, ◌+◌, ◌-◌, ap, drop, take, arith}
 use Rattle.cobs.specs.InPlace.{written_over}
 use Rattle.cobs.specs.Sentinel.{masked}
@@ -23,3 +24,6 @@ returns c =
     ∙ moved_on c.args.sentinel c.args.from c.args.place n (c.args.n - n) (c.args.place + n) (c.args.from + n) c.args.buffer.now c.loop-moved.buffer c.loop-moved.invariant.moved
     c.requires.down (omega (arith, c.requires.within, c.loop-moved.invariant.within)) (omega arith) (omega arith)
     ∙ ap (λ j. written_over c.args.place (masked c.args.sentinel (take j (drop c.args.from c.args.buffer.now))) c.args.buffer.now) (omega (arith, c.loop-moved.invariant.within))
+
+pub loop-moved-init : goal.loop-moved-init
+loop-moved-init c = grind (arith, common_steps)

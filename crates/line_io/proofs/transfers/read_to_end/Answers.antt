@@ -26,3 +26,9 @@ returns-in-None-clause-few g c = grind (arith, common_steps)
 
 pub returns-then-is_err-clause-few : goal.returns-then-is_err-clause-few
 returns-then-is_err-clause-few g c = grind (arith, common_steps)
+
+pub returns-in-Some-eq0-clause-few : goal.returns-in-Some-eq0-clause-few
+returns-in-Some-eq0-clause-few g c = grind (arith, common_steps)
+
+pub loop-n-preserved : goal.loop-n-preserved
+loop-n-preserved g c = grind (arith, common_steps)

@@ -1,3 +1,4 @@
+use Rattle.std.proofs.lemmas.Grind.{common_steps}
 use Rattle.std.proofs.Common.{◌≡◌, ◌<◌, ◌++◌, length, sym, ◌∙◌, arith, rules, append_assoc, length-append}
 use Rattle.std.specs.Prelude.{unwrap_or}
 use Rattle.line_io.specs.Device.{moved_front}
@@ -20,3 +21,12 @@ loop-rest-preserved g c =
       calls = omega (arith, c.write.ensures.calls, i.calls);
       few = omega (arith, c.write.ensures.calls, i.few, length-append i.sent front, filled);
     }
+
+pub returns-then-taken-eq0-clause-few : goal.returns-then-taken-eq0-clause-few
+returns-then-taken-eq0-clause-few g c = grind (arith, common_steps)
+
+pub returns-clause-ok : goal.returns-clause-ok
+returns-clause-ok g c = grind (arith, common_steps)
+
+pub returns-clause-few : goal.returns-clause-few
+returns-clause-few g c = grind (arith, common_steps)

@@ -1,3 +1,4 @@
+use Rattle.std.proofs.lemmas.Grind.{common_steps}
 use Rattle.std.proofs.Common.{◌≡◌, ◌+◌, ◌<◌, ℕ, length, get_or, arith, sym, ap, ◌∙◌, subst}
 use Rattle.std.proofs.lemmas.Nat.{xor_of_8}
 use Rattle.std.specs.Prelude.{bit_xor}
@@ -105,3 +106,12 @@ returns-in-Ok-clause-rest c = reading_rest _ _ _ _ _ c.loop-read.invariant.readi
 
 pub returns-in-Err-clause-rest : goal.returns-in-Err-clause-rest
 returns-in-Err-clause-rest c = reading_rest _ _ _ _ _ c.loop-read.invariant.reading (ends (goal.at.returns-in-Err-clause-rest c).After-feed)
+
+pub returns-then-end-eq0-clause-answer : goal.returns-then-end-eq0-clause-answer
+returns-then-end-eq0-clause-answer c = grind (arith, common_steps)
+
+pub returns-then-end-eq0-clause-frame : goal.returns-then-end-eq0-clause-frame
+returns-then-end-eq0-clause-frame c = grind (arith, common_steps)
+
+pub returns-then-end-eq0-clause-buffer : goal.returns-then-end-eq0-clause-buffer
+returns-then-end-eq0-clause-buffer c = grind (arith, common_steps)

@@ -1,4 +1,5 @@
-use Rattle.std.proofs.Common.{◌≡◌, [], length, sym, ◌∙◌, ap, Ok, Some, None}
+use Rattle.std.proofs.lemmas.Grind.{common_steps}
+use Rattle.std.proofs.Common.{◌≡◌, [], length, sym, ◌∙◌, ap, Ok, Some, None, arith}
 use Rattle.cobs.specs.Feeding.{at_zero}
 use Rattle.cobs.specs.InPlace.{overwritten}
 use Rattle.cobs.specs.Frames.{part}
@@ -67,3 +68,6 @@ returns-in-Some-2-clause-answer c =
 
 pub returns-in-Some-2-clause-dest : goal.returns-in-Some-2-clause-dest
 returns-in-Some-2-clause-dest c = over (goal.at.returns-in-Some-2-clause-dest c).After-push
+
+pub overflow_add-result : goal.overflow_add-result
+overflow_add-result c = grind (arith, common_steps)

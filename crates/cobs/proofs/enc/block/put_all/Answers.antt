@@ -1,3 +1,4 @@
+use Rattle.std.proofs.lemmas.Grind.{common_steps}
 use Rattle.std.proofs.Common.{◌≡◌, ℕ, List, [], ◌∷◌, ◌++◌, length, refl, sym, arith, rules}
 use Rattle.std.proofs.lemmas.List.{append-nil}
 use Rattle.cobs.specs.Held.{pushed}
@@ -22,3 +23,6 @@ returns-then-is_empty-clause-pushed c =
 
 pub returns-then-end-at-clause-holds : goal.returns-then-end-at-clause-holds
 returns-then-end-at-clause-holds c = (c.put_few.ensures.holds (pushed (masked c.args.sentinel c.args.dest.now) c.args.at.len) c.requires.goes_on).0
+
+pub overflow_add-end : goal.overflow_add-end
+overflow_add-end c = grind (arith, common_steps)

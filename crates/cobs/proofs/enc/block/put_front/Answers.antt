@@ -1,3 +1,4 @@
+use Rattle.std.proofs.lemmas.Grind.{common_steps}
 use Rattle.std.proofs.Common.{bit_xor, arith}
 use Rattle.std.proofs.lemmas.List.{length-take, length-set}
 use Rattle.cobs.specs.Held.{pushed}
@@ -39,3 +40,12 @@ put_run-requires-clause-room c = omega (arith, length-take c.min-n.result c.args
 
 pub put_run-requires-clause-short : goal.put_run-requires-clause-short
 put_run-requires-clause-short c = omega (arith, length-take c.min-n.result c.args.bytes.now)
+
+pub overflow_add-at : goal.overflow_add-at
+overflow_add-at c = grind (arith, common_steps)
+
+pub overflow_sub-dest : goal.overflow_sub-dest
+overflow_sub-dest c = grind (arith, common_steps)
+
+pub overflow_sub-dest-else-at : goal.overflow_sub-dest-else-at
+overflow_sub-dest-else-at c = grind (arith, common_steps)

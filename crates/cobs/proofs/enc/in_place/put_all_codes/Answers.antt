@@ -1,3 +1,4 @@
+use Rattle.std.proofs.lemmas.Grind.{common_steps}
 use Rattle.std.proofs.Common.{◌≡◌, length, take, drop, arith, length-drop}
 use Rattle.std.proofs.lemmas.List.{length-take-le}
 use Rattle.cobs.specs.Sentinel.{masked}
@@ -21,3 +22,6 @@ loop-done-preserved c =
       within = omega (arith, step.within, c.loop-done-test.true);
       coding = standing_on c.args.sentinel c.loop-done.buffer _ m c.loop-done.code_at c.loop-done.done c.put_front_codes-next.result.1 _ (omega (arith, long, step.within, c.loop-done-test.true)) c.loop-done.invariant.coding step.coded;
     }
+
+pub returns : goal.returns
+returns c = grind (arith, common_steps)

@@ -1,3 +1,4 @@
+use Rattle.std.proofs.lemmas.Grind.{common_steps}
 use Rattle.std.proofs.Common.{◌≡◌, length, sym, ap, ◌∙◌, arith, rules}
 use Rattle.std.proofs.lemmas.List.{nil_from_length}
 use Rattle.cobs.specs.Sentinel.{frame_for}
@@ -18,3 +19,6 @@ returns-clause-length c = (framed_by c.args.sentinel c.args.dest.now c.args.sour
 
 pub returns-clause-frame : goal.returns-clause-frame
 returns-clause-frame c = (framed_by c.args.sentinel c.args.dest.now c.args.source.now c.put_few.new.dest _ _ (omega (arith, c.requires.room)) c.put_few.ensures.holds).1
+
+pub returns-then-is_empty-clause-length : goal.returns-then-is_empty-clause-length
+returns-then-is_empty-clause-length c = grind (arith, common_steps)

@@ -1,3 +1,4 @@
+use Rattle.std.proofs.lemmas.Grind.{common_steps}
 use Rattle.std.proofs.Common.{◌≡◌, ℕ, ◌+◌, ◌-◌, ◌^◌, min, List, [], ◌∷◌, ◌++◌, sym, ◌∙◌, ap, arith, Some, None}
 use Rattle.cobs.specs.Feeding.{told_by, fed}
 use Rattle.cobs.specs.Streaming.{HasStreamed}
@@ -34,3 +35,6 @@ returns-else-place-buffer-clause-stands c p s = counted (goal.at.returns-else-pl
 pub returns-else-place-buffer-clause-answer : goal.returns-else-place-buffer-clause-answer
 returns-else-place-buffer-clause-answer c p s =
     (runs_over c.args.buffer.now c.args.self.now p c.args.byte c.requires (omega (arith, c.ranges.byte.fits)) s c.in-Some.told (something (goal.at.returns-else-place-buffer-clause-answer c).In-Some) c.if-place-buffer.false).0
+
+pub returns-else-place-buffer-clause-buffer : goal.returns-else-place-buffer-clause-buffer
+returns-else-place-buffer-clause-buffer c = grind (arith, common_steps)

@@ -1,3 +1,4 @@
+use Rattle.std.proofs.lemmas.Grind.{common_steps}
 use Rattle.std.proofs.Common.{arith}
 use Rattle.cobs.proofs.KeepingLemmas.{kept_zero, kept_full}
 use Rattle.cobs.proofs.enc.state.EncoderState.push.Goals as goal
@@ -7,3 +8,6 @@ returns-then-byte-eq0-clause-keeps c = λ p buffer message k. rw c.if-byte-eq0.t
 
 pub returns-then-code-clause-keeps : goal.returns-then-code-clause-keeps
 returns-then-code-clause-keeps c = λ p buffer message k. kept_full p c.args.self.now.code_at c.args.byte buffer message (omega arith) (rw c.if-code.true at k)
+
+pub returns-clause-keeps : goal.returns-clause-keeps
+returns-clause-keeps c = grind (arith, common_steps)
