@@ -14,3 +14,9 @@ returns-clause-ok c =
     let turned : c.truncate.new.self.items ≡ take (length digits / 2) c.decode_first.new.text = grind (arith, common_steps) in
     λ e. even-hex c.args.text.now.items digits c.shrink_to_fit.new.self.items drops even
     ((rw front at made) ∙ ap Ok (sym (c.shrink_to_fit.ensures.items ∙ turned)))
+
+pub decode_first-requires-clause-within : goal.decode_first-requires-clause-within
+decode_first-requires-clause-within c = grind (arith, common_steps)
+
+pub returns-then-not-decode_first-clause-bad : goal.returns-then-not-decode_first-clause-bad
+returns-then-not-decode_first-clause-bad c = grind (arith, common_steps)

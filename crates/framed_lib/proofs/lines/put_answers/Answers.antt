@@ -1,4 +1,5 @@
-use Rattle.std.proofs.Common.{◌++◌, refl, sym, ap, ◌∙◌, append_assoc}
+use Rattle.std.proofs.lemmas.Grind.{common_steps}
+use Rattle.std.proofs.Common.{◌++◌, refl, sym, ap, ◌∙◌, append_assoc, arith}
 use Rattle.framed_lib.specs.Lines.{answer_line, answer_lines}
 use Rattle.framed_lib.proofs.OutputLemmas.{on_err, put-done, put-breaks}
 use Rattle.framed_lib.proofs.lines.put_answers.Goals as goal
@@ -18,3 +19,6 @@ loop-answer-preserved g c =
           ∙ sym (append_assoc i.0 (answer_line c.in-Some.answer.now) (answer_lines c.in-Some.after.now)),
       put-done _ refl i.2 c.in_ok-put_answer.ensures.ok,
     )
+
+pub returns-clause-ok : goal.returns-clause-ok
+returns-clause-ok g c = grind (arith, common_steps)

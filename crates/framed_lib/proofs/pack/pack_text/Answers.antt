@@ -1,3 +1,4 @@
+use Rattle.std.proofs.Common.{rules}
 use Rattle.line_io.specs.Transfers.{Writing}
 use Rattle.framed_lib.proofs.WorkLemmas.{unwritten}
 use Rattle.framed_lib.proofs.pack.pack_text.Goals as goal
@@ -8,3 +9,9 @@ returns-in_default g c =
     unwritten c.args.hex c.args.sentinel c.args.text.now sent.0 sent.1 _
     (Writing g.E.Outlet.written g.E.Outlet.faults g.E.Outlet.calls_left c.args.faults.now c.say_refusals.new.faults)
     sent.3 (c.in_default.ensures.err sent.0 sent.1)
+
+pub returns-in-Err : goal.returns-in-Err
+returns-in-Err g c = search rules
+
+pub returns : goal.returns
+returns g c = search rules

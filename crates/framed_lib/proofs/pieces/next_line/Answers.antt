@@ -1,3 +1,4 @@
+use Rattle.std.proofs.lemmas.Grind.{common_steps}
 use Rattle.std.proofs.Common.{◌≡◌, ◌<◌, ◌+◌, ◌∷◌, length, ap, ◌∙◌, arith, length-append}
 use Rattle.framed_lib.proofs.SendingLemmas.{next-line, lines-last}
 use Rattle.framed_lib.proofs.TextsLemmas.{utf8-line}
@@ -18,3 +19,6 @@ returns-in-None-clause-line c =
 
 pub returns-in-Some-clause-utf8 : goal.returns-in-Some-clause-utf8
 returns-in-Some-clause-utf8 c = λ u. utf8-line _ _ _ c.in-Some.ensures.0 u
+
+pub returns-then-is_empty-clause-line : goal.returns-then-is_empty-clause-line
+returns-then-is_empty-clause-line c = grind (arith, common_steps)

@@ -26,6 +26,3 @@ returns-clause-at_most c = omega (arith, counted_all c.args.source.now _ _ (omeg
 
 pub returns-clause-without_zero : goal.returns-clause-without_zero
 returns-clause-without_zero c = λ h. counted_all c.args.source.now _ _ (omega arith) c.loop-rest.invariant ∙ frame_reaches c.args.source.now h
-
-pub overflow_add-result-2 : goal.overflow_add-result-2
-overflow_add-result-2 c = omega (arith, counted_few _ _ _ c.loop-rest.invariant, frame_at_most c.args.source.now)
