@@ -3,13 +3,31 @@ ghost use Rattle.std.specs.Prelude.{◌==◌, ⊤, OnOk};
 
 use crate::entries::{Entry, MOST, open_file, read_input, status_of};
 use journal::Halt;
-use journal_scan::{CheckError, Judge, RepairError, Report, Stretch, Watcher};
+use journal_scan::{CheckError, Gap, Judge, RepairError, Report, Stretch, Tally, Watcher};
 use line_io::{Writes, write_all};
 use link::Answer;
 use sealed::Sealed;
 use std::alloc::Global;
 use std::io;
 use stores::{Memory, Store, Stored};
+
+// What is held against a stretch, where something is.
+fn held_against(answer: &Answer<(u64, Entry)>, again: bool) -> Option<&'static str> {
+    match answer {
+        Answer::Value((number, Sealed((sealed, _)))) if *number == *sealed => {
+            if again { Some("a number again") } else { None }
+        }
+        Answer::TooLong => Some("too long"),
+        _ => Some("damaged"),
+    }
+}
+
+fn print_stretch(rt: &HostRuntime, from: u64, to: u64, what: &str) -> Result<(), Halt> {
+    match println!(rt; "bytes {from}..{to}: {what}") {
+        Ok(()) => Ok(()),
+        Err(_) => Err(Halt),
+    }
+}
 
 // Prints what a log has against it, as it is told, or nothing; and keeps whether it was told of something.
 #[derive(Drop)]
@@ -35,24 +53,13 @@ impl Watcher<Entry> for Printer<'_> {
     fn tell(&mut self, stretch: Stretch<Entry>, again: bool) -> Result<(), Halt>
         ensures { OnOk result ⊤ }
     {
-        let what = match &stretch.answer {
-            Answer::Value((number, Sealed((sealed, _)))) if *number == *sealed => {
-                if !again {
-                    return Ok(());
-                }
-                "a number again"
-            }
-            Answer::TooLong => "too long",
-            _ => "damaged",
-        };
-        self.sound = false;
-        let Some(rt) = self.rt else {
+        let Some(what) = held_against(&stretch.answer, again) else {
             return Ok(());
         };
-        let (from, to) = (stretch.from, stretch.to);
-        match println!(rt; "bytes {from}..{to}: {what}") {
-            Ok(()) => Ok(()),
-            Err(_) => Err(Halt),
+        self.sound = false;
+        match self.rt {
+            Some(rt) => print_stretch(rt, stretch.from, stretch.to, what),
+            None => Ok(()),
         }
     }
 }
@@ -77,25 +84,33 @@ pub fn next_number<S: Store>(alloc: Global, store: &mut S) -> Result<u64, u8> {
     }
 }
 
-// Prints what a log has against it as a whole, and what it holds; whether it is sound so far.
-fn sum_up(rt: &HostRuntime, report: &Report<Entry>) -> io::Result<bool> {
-    let mut sound = true;
+fn print_missing(rt: &HostRuntime, gaps: &[Gap]) -> io::Result<()> {
+    for gap in gaps {
+        let (first, last) = (gap.first, gap.last);
+        println!(rt; "records {first}..{last}: missing")?;
+    }
+    Ok(())
+}
+
+fn print_counted(rt: &HostRuntime, tally: &Tally) -> io::Result<()> {
+    let records = tally.counted();
+    match tally.next().checked_sub(1) {
+        Some(last) => println!(rt; "{records} records, 0..{last}"),
+        None => println!(rt; "no records"),
+    }
+}
+
+// Prints what a log has against it as a whole, and what it holds; its status, where its stretches are sound or aren't.
+fn sum_up(rt: &HostRuntime, report: &Report<Entry>, sound: bool) -> io::Result<u8> {
     if let Some(last) = &report.unfinished {
         let from = last.from;
         println!(rt; "bytes {from}..: cut")?;
-        sound = false;
     }
-    for gap in report.tally.missing() {
-        let (first, last) = (gap.first, gap.last);
-        println!(rt; "records {first}..{last}: missing")?;
-        sound = false;
-    }
-    let records = report.tally.counted();
-    match report.tally.next().checked_sub(1) {
-        Some(last) => println!(rt; "{records} records, 0..{last}")?,
-        None => println!(rt; "no records")?,
-    }
-    Ok(sound)
+    let missing = report.tally.missing();
+    print_missing(rt, missing)?;
+    print_counted(rt, &report.tally)?;
+    let whole = report.unfinished.is_none() && missing.is_empty();
+    if whole && sound { Ok(0) } else { Ok(1) }
 }
 
 fn check_in<S: Store>(rt: &HostRuntime, store: &mut S) -> io::Result<u8> {
@@ -104,10 +119,7 @@ fn check_in<S: Store>(rt: &HostRuntime, store: &mut S) -> io::Result<u8> {
         sound: true,
     };
     match journal_scan::check::<Entry, S, Printer<'_>>(rt.alloc(), MOST, store, &mut printer) {
-        Ok(report) => {
-            let sound = sum_up(rt, &report)?;
-            if sound && printer.sound { Ok(0) } else { Ok(1) }
-        }
+        Ok(report) => sum_up(rt, &report, printer.sound),
         Err(e) => Ok(status_at(e)),
     }
 }
@@ -123,14 +135,9 @@ pub fn check(rt: &HostRuntime, path: Option<&str>) -> io::Result<u8> {
     }
 }
 
-/// Repairs the log on standard input to standard output. Nothing is written unless all of it was read.
-pub fn mend(rt: &HostRuntime) -> io::Result<u8> {
-    let mut from = match read_input(rt) {
-        Ok(store) => store,
-        Err(status) => return Ok(status),
-    };
-    let mut to = Memory::new(Vec::new(rt.alloc()));
-    match journal_scan::repair::<Entry, Memory, Memory>(rt.alloc(), MOST, &mut from, &mut to) {
+// Repairs a log to an empty one, and prints that.
+fn mend_to(rt: &HostRuntime, from: &mut Memory, to: &mut Memory) -> io::Result<u8> {
+    match journal_scan::repair::<Entry, Memory, Memory>(rt.alloc(), MOST, from, to) {
         Ok(repaired) => {
             if write_all(&mut Writes::new(rt.stdout()), to.bytes()).is_err() {
                 return Ok(3);
@@ -142,5 +149,13 @@ pub fn mend(rt: &HostRuntime) -> io::Result<u8> {
         Err(RepairError::Read(e)) => Ok(status_of(e)),
         // the store in memory found none for what it got
         Err(_) => Ok(4),
+    }
+}
+
+/// Repairs the log on standard input to standard output. Nothing is written unless all of it was read.
+pub fn mend(rt: &HostRuntime) -> io::Result<u8> {
+    match read_input(rt) {
+        Ok(mut from) => mend_to(rt, &mut from, &mut Memory::new(Vec::new(rt.alloc()))),
+        Err(status) => Ok(status),
     }
 }

@@ -51,16 +51,9 @@ fn show_by(rt: &HostRuntime, words: &[&str], following: bool) -> io::Result<u8> 
     }
 }
 
-fn run(rt: &HostRuntime) -> io::Result<u8> {
-    let mut words: Vec<String> = Vec::new(rt.alloc());
-    for word in env::args(rt)?.skip(1) {
-        words.push(word)?;
-    }
-    let mut parts: Vec<&str> = Vec::new(rt.alloc());
-    for word in &words {
-        parts.push(word.as_str())?;
-    }
-    match parts.as_slice() {
+// Does what the words say.
+fn run_by(rt: &HostRuntime, words: &[&str]) -> io::Result<u8> {
+    match words {
         ["append", path] => append(rt, path),
         ["show", words @ ..] => show_by(rt, words, false),
         ["follow", words @ ..] => show_by(rt, words, true),
@@ -69,6 +62,23 @@ fn run(rt: &HostRuntime) -> io::Result<u8> {
         ["repair"] => mend(rt),
         _ => usage(rt),
     }
+}
+
+// The same, of the program's words as they are held.
+fn run_on(rt: &HostRuntime, held: &[String]) -> io::Result<u8> {
+    let mut words: Vec<&str> = Vec::new(rt.alloc());
+    for word in held {
+        words.push(word.as_str())?;
+    }
+    run_by(rt, &words)
+}
+
+fn run(rt: &HostRuntime) -> io::Result<u8> {
+    let mut words: Vec<String> = Vec::new(rt.alloc());
+    for word in env::args(rt)?.skip(1) {
+        words.push(word)?;
+    }
+    run_on(rt, &words)
 }
 
 fn main(rt: HostRuntime) -> ExitCode {

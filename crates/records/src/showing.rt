@@ -9,29 +9,6 @@ use std::alloc::Global;
 use std::io::{self, BufWriter, Write};
 use stores::{Store, Stored};
 
-// The next record that is numbered `first` and on, and is sealed with its own number; or the status where it can't be had.
-fn next_record<S: Store>(
-    alloc: Global,
-    scan: &mut Scan,
-    store: &mut S,
-    first: u64,
-) -> Result<Option<(u64, String)>, u8> {
-    for _ in 0..u64::MAX {
-        match scan.next_ended::<Entry, S>(alloc, store) {
-            Ok(Some(stretch)) => {
-                if let Answer::Value((number, Sealed((sealed, text)))) = stretch.answer {
-                    if number == sealed && first <= number {
-                        return Ok(Some((number, text)));
-                    }
-                }
-            }
-            Ok(None) => return Ok(None),
-            Err(e) => return Err(status_of(e)),
-        }
-    }
-    Err(3)
-}
-
 // Writes a record as a line of text, or of JSON.
 fn write_record<W: Write>(
     alloc: Global,
@@ -53,6 +30,27 @@ fn write_record<W: Write>(
     }
 }
 
+// Writes what is a record that is wanted, and is sealed with its own number, unless it is one of the first so many, which are passed.
+fn write_wanted<W: Write>(
+    alloc: Global,
+    to: &mut W,
+    answer: &Answer<(u64, Entry)>,
+    wanted: Wanted<'_>,
+    passed: &mut u64,
+) -> io::Result<u8> {
+    let Answer::Value((number, Sealed((sealed, text)))) = answer else {
+        return Ok(0);
+    };
+    if *number != *sealed || *number < wanted.first {
+        return Ok(0);
+    }
+    if *passed > 0 {
+        *passed -= 1;
+        return Ok(0);
+    }
+    write_record(alloc, to, *number, text, wanted.json)
+}
+
 // Writes what is wanted of the records that the scan still comes to, without the first `passed` of them.
 fn write_rest<S: Store, W: Write>(
     alloc: Global,
@@ -60,23 +58,17 @@ fn write_rest<S: Store, W: Write>(
     store: &mut S,
     to: &mut W,
     wanted: Wanted<'_>,
-    passed: u64,
+    passed: &mut u64,
 ) -> io::Result<u8> {
-    let mut left = passed;
     for _ in 0..u64::MAX {
-        match next_record(alloc, scan, store, wanted.first) {
-            Ok(Some((number, text))) => {
-                if left > 0 {
-                    left -= 1;
-                } else {
-                    let status = write_record(alloc, to, number, &text, wanted.json)?;
-                    if status != 0 {
-                        return Ok(status);
-                    }
-                }
-            }
+        let written = match scan.next_ended::<Entry, S>(alloc, store) {
+            Ok(Some(stretch)) => write_wanted(alloc, to, &stretch.answer, wanted, passed),
             Ok(None) => return Ok(0),
-            Err(status) => return Ok(status),
+            Err(e) => Ok(status_of(e)),
+        };
+        match written {
+            Ok(0) => {}
+            failed => return failed,
         }
     }
     Ok(3)
@@ -88,7 +80,7 @@ fn show_rest<S: Store>(
     scan: &mut Scan,
     store: &mut S,
     wanted: Wanted<'_>,
-    passed: u64,
+    passed: &mut u64,
 ) -> io::Result<u8> {
     let Ok(mut printed) = BufWriter::new(rt.alloc(), io::writer(rt)) else {
         return Ok(4);
@@ -98,35 +90,31 @@ fn show_rest<S: Store>(
     shown
 }
 
-// How many records are numbered `first` and on.
-fn count<S: Store>(alloc: Global, store: &mut S, first: u64) -> Result<u64, u8> {
-    let mut scan = match Scan::new(alloc, MOST, 0) {
-        Ok(scan) => scan,
-        Err(e) => return Err(status_of(e)),
-    };
-    let mut count = 0u64;
-    for _ in 0..u64::MAX {
-        match next_record(alloc, &mut scan, store, first)? {
-            Some(_) => count = count.saturating_add(1),
-            None => return Ok(count),
-        }
-    }
-    Err(3)
-}
-
-// Shows a log: goes over it twice where only the last ones are wanted, so that none is kept.
-fn show_in<S: Store>(rt: &HostRuntime, store: &mut S, wanted: Wanted<'_>) -> io::Result<u8> {
-    let passed = match wanted.last {
-        None => 0,
-        Some(last) => match count(rt.alloc(), store, wanted.first) {
-            Ok(all) => all.saturating_sub(last),
-            Err(status) => return Ok(status),
-        },
-    };
+// Prints what is wanted of a log, without the first `passed` of it.
+fn show_from<S: Store>(
+    rt: &HostRuntime,
+    store: &mut S,
+    wanted: Wanted<'_>,
+    passed: &mut u64,
+) -> io::Result<u8> {
     match Scan::new(rt.alloc(), MOST, 0) {
         Ok(mut scan) => show_rest(rt, &mut scan, store, wanted, passed),
         Err(e) => Ok(status_of(e)),
     }
+}
+
+// Shows a log: goes over it twice where only the last ones are wanted, so that none is kept.
+fn show_in<S: Store>(rt: &HostRuntime, store: &mut S, wanted: Wanted<'_>) -> io::Result<u8> {
+    let mut passed = 0u64;
+    if let Some(last) = wanted.last {
+        // all of them are passed, and none is printed
+        let mut left = u64::MAX;
+        match show_from(rt, store, wanted, &mut left) {
+            Ok(0) => passed = u64::MAX.saturating_sub(left).saturating_sub(last),
+            failed => return failed,
+        }
+    }
+    show_from(rt, store, wanted, &mut passed)
 }
 
 /// Shows a log.
@@ -140,23 +128,32 @@ pub fn show(rt: &HostRuntime, wanted: Wanted<'_>) -> io::Result<u8> {
     }
 }
 
-/// Shows a log, and what was appended since at each line of standard input.
-pub fn follow(rt: &HostRuntime, path: &str, wanted: Wanted<'_>) -> io::Result<u8> {
-    let mut store = Stored::new(open_file(rt, path, false)?);
-    let mut scan = match Scan::new(rt.alloc(), MOST, 0) {
-        Ok(scan) => scan,
-        Err(e) => return Ok(status_of(e)),
-    };
-    let status = show_rest(rt, &mut scan, &mut store, wanted, 0)?;
-    if status != 0 {
-        return Ok(status);
+// Shows what the scan still comes to, and again at each line of standard input.
+fn follow_on<S: Store>(
+    rt: &HostRuntime,
+    scan: &mut Scan,
+    store: &mut S,
+    wanted: Wanted<'_>,
+) -> io::Result<u8> {
+    match show_rest(rt, scan, store, wanted, &mut 0) {
+        Ok(0) => {}
+        failed => return failed,
     }
     for line in rt.lines(rt.alloc()) {
-        let _line = line?;
-        let status = show_rest(rt, &mut scan, &mut store, wanted, 0)?;
-        if status != 0 {
-            return Ok(status);
+        line?;
+        match show_rest(rt, scan, store, wanted, &mut 0) {
+            Ok(0) => {}
+            failed => return failed,
         }
     }
     Ok(0)
+}
+
+/// Shows a log, and what was appended since at each line of standard input.
+pub fn follow(rt: &HostRuntime, path: &str, wanted: Wanted<'_>) -> io::Result<u8> {
+    let mut store = Stored::new(open_file(rt, path, false)?);
+    match Scan::new(rt.alloc(), MOST, 0) {
+        Ok(mut scan) => follow_on(rt, &mut scan, &mut store, wanted),
+        Err(e) => Ok(status_of(e)),
+    }
 }

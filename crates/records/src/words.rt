@@ -13,49 +13,10 @@ pub struct Wanted<'a> {
     pub json: bool,
 }
 
-// What is wanted where a word comes on top; nothing where it can't.
-fn with_word<'a>(wanted: Wanted<'a>, word: &'a str) -> Option<Wanted<'a>> {
-    let Wanted {
-        path,
-        first,
-        last,
-        json,
-    } = wanted;
-    if word == "json" {
-        return Some(Wanted {
-            path,
-            first,
-            last,
-            json: true,
-        });
-    }
-    if let Some(number) = word.strip_prefix("from=") {
-        let first = number.parse::<u64>().ok()?;
-        return Some(Wanted {
-            path,
-            first,
-            last,
-            json,
-        });
-    }
-    if let Some(number) = word.strip_prefix("last=") {
-        let last = Some(number.parse::<u64>().ok()?);
-        return Some(Wanted {
-            path,
-            first,
-            last,
-            json,
-        });
-    }
-    if path.is_some() {
-        return None;
-    }
-    Some(Wanted {
-        path: Some(word),
-        first,
-        last,
-        json,
-    })
+// The number behind a word's beginning, where the word begins so; nothing in it where that is no number.
+fn number_behind(word: &str, beginning: &str) -> Option<Option<u64>> {
+    let number = word.strip_prefix(beginning)?;
+    Some(number.parse::<u64>().ok())
 }
 
 /// What these words want, in any order: a file at most, `from=N`, `last=K` and `json`. Nothing where they are wrong.
@@ -67,7 +28,17 @@ pub fn wanted_by<'a>(words: &[&'a str]) -> Option<Wanted<'a>> {
         json: false,
     };
     for word in words {
-        wanted = with_word(wanted, word)?;
+        if *word == "json" {
+            wanted.json = true;
+        } else if let Some(number) = number_behind(word, "from=") {
+            wanted.first = number?;
+        } else if let Some(number) = number_behind(word, "last=") {
+            wanted.last = Some(number?);
+        } else if wanted.path.is_none() {
+            wanted.path = Some(*word);
+        } else {
+            return None;
+        }
     }
     Some(wanted)
 }
