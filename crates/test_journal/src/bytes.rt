@@ -1,6 +1,8 @@
-//! What the tests share: a check, bytes that are compared and changed, and stores that hold them. A comparison that is called costs
-//! a test's proof less than one that is written in it.
+//! What the tests share: a check, bytes that are compared and changed, stores that hold them, and places of stretches. A comparison
+//! that is called costs a test's proof less than one that is written in it.
 
+use journal_scan::Stretch;
+use link::Answer;
 use std::alloc::Global;
 use std::process::Abort;
 use stores::Memory;
@@ -39,5 +41,29 @@ pub fn holding(alloc: Global, bytes: &[u8]) -> Option<Memory> {
     match joined(alloc, [bytes, &[], &[]]) {
         Some(held) => Some(Memory::new(held)),
         None => None,
+    }
+}
+
+/// From, to, and the name of what stands there: `v` a value, `d` damaged, `l` too long, `c` cut.
+pub type Place = (u64, u64, char);
+
+/// Whether a stretch stands there, and is that.
+pub fn is_place(stretch: &Stretch<u32>, place: Place) -> bool {
+    let (from, to, what) = place;
+    let name = match &stretch.answer {
+        Answer::Value(_) => 'v',
+        Answer::Damaged => 'd',
+        Answer::TooLong => 'l',
+        Answer::Cut => 'c',
+    };
+    stretch.from == from && stretch.to == to && name == what
+}
+
+/// Whether the stretch that no zero ends is this one; or there is none, where none is wanted.
+pub fn is_last(last: &Option<Stretch<u32>>, wanted: Option<Place>) -> bool {
+    match (last, wanted) {
+        (Some(last), Some(place)) => is_place(last, place),
+        (None, None) => true,
+        _ => false,
     }
 }

@@ -1,11 +1,10 @@
 //! Logs that are checked: what is told, and which numbers are missing.
 ghost use Rattle.std.specs.Prelude.{true, ⊤, OnOk};
 
-use crate::bytes::{check, holding};
+use crate::bytes::{Place, check, holding, is_last, is_place};
 use crate::tallies::are_gaps;
 use journal::Halt;
-use journal_scan::{CheckError, Judge, Report, Stretch, Watcher};
-use link::Answer;
+use journal_scan::{CheckError, Judge, Report, Stretch, Tally, Watcher};
 use std::alloc::Global;
 use stores::Memory;
 
@@ -15,34 +14,48 @@ const BYTES: [u8; 47] = [
     255, 255, 255, 255, 255, 255, 255, 255, 255, 1, 9, 0, 0, 3, 4, 1,
 ];
 
-// From, to, the name of what stands there, and whether its number was there before.
-type Place = (u64, u64, char, bool);
-
-const PLACES: [Place; 6] = [
-    (1, 4, 'v', false),
-    (5, 7, 'd', false),
-    (8, 11, 'v', false),
-    (12, 25, 'l', false),
-    (26, 29, 'v', true),
-    (30, 42, 'v', false),
+// What is told of it: a stretch, and whether its number was there before.
+const TOLD: [(Place, bool); 6] = [
+    ((1, 4, 'v'), false),
+    ((5, 7, 'd'), false),
+    ((8, 11, 'v'), false),
+    ((12, 25, 'l'), false),
+    ((26, 29, 'v'), true),
+    ((30, 42, 'v'), false),
 ];
 
 const MISSING: [(u64, u64); 3] = [(0, 0), (2, 2), (4, 18446744073709551614)];
 
-// What was told, so many stretches at most.
+// Compares what it is told, so many stretches at most.
 #[derive(Drop)]
 struct Told {
-    most: u64,
-    stretches: Vec<Place>,
+    wanted: &'static [(Place, bool)],
+    most: usize,
+    count: usize,
+    is_right: bool,
 }
 
-// The name of what stands somewhere.
-fn name<T>(answer: &Answer<T>) -> char {
-    match answer {
-        Answer::Value(_) => 'v',
-        Answer::Damaged => 'd',
-        Answer::TooLong => 'l',
-        Answer::Cut => 'c',
+impl Told {
+    fn new(wanted: &'static [(Place, bool)], most: usize) -> Told {
+        Told {
+            wanted,
+            most,
+            count: 0,
+            is_right: true,
+        }
+    }
+
+    // Whether it was told what is wanted, so many stretches.
+    fn is(&self, count: usize) -> bool {
+        self.is_right && self.count == count
+    }
+
+    fn compare(&mut self, stretch: &Stretch<u32>, again: bool) {
+        match self.wanted.get(self.count) {
+            Some((place, before)) if is_place(stretch, *place) && again == *before => {}
+            _ => self.is_right = false,
+        }
+        self.count = self.count.saturating_add(1);
     }
 }
 
@@ -62,22 +75,11 @@ impl Watcher<u32> for Told {
     fn tell(&mut self, stretch: Stretch<u32>, again: bool) -> Result<(), Halt>
         ensures { OnOk result ⊤ }
     {
-        if self.stretches.len() as u64 >= self.most {
+        if self.count >= self.most {
             return Err(Halt);
         }
-        let place = (stretch.from, stretch.to, name(&stretch.answer), again);
-        match self.stretches.push(place) {
-            Ok(()) => Ok(()),
-            Err(_) => Err(Halt),
-        }
-    }
-}
-
-// A watcher that takes so many stretches.
-fn watcher(alloc: Global, most: u64) -> Told {
-    Told {
-        most,
-        stretches: Vec::new(alloc),
+        self.compare(&stretch, again);
+        Ok(())
     }
 }
 
@@ -95,28 +97,66 @@ fn checked(
     }
 }
 
-// Whether the last stretch is one that no zero ends, and is this.
-fn is_unfinished(report: &Report<u32>, from: u64, to: u64, what: char) -> bool {
-    match &report.unfinished {
-        Some(last) => last.from == from && last.to == to && name(&last.answer) == what,
-        None => false,
-    }
+// A log, and what is found of it.
+struct Log {
+    bytes: &'static [u8],
+    told: &'static [(Place, bool)],
+    counted: u64,
+    next: u64,
+    missing: &'static [(u64, u64)],
+    unfinished: Option<Place>,
 }
+
+// The log above; and of logs without a record: nothing is there, or one zero, or one stretch that no zero ends and is too long.
+const LOGS: [Log; 4] = [
+    Log {
+        bytes: &BYTES,
+        told: &TOLD,
+        counted: 4,
+        next: 18446744073709551615,
+        missing: &MISSING,
+        unfinished: Some((44, 47, 'c')),
+    },
+    Log {
+        bytes: &[],
+        told: &[],
+        counted: 0,
+        next: 0,
+        missing: &[],
+        unfinished: None,
+    },
+    Log {
+        bytes: &[0],
+        told: &[],
+        counted: 0,
+        next: 0,
+        missing: &[],
+        unfinished: None,
+    },
+    Log {
+        bytes: &[7; 13],
+        told: &[],
+        counted: 0,
+        next: 0,
+        missing: &[],
+        unfinished: Some((0, 13, 'l')),
+    },
+];
 
 // Whether so many records were counted, and these numbers are missing.
-fn counts(report: &Report<u32>, count: u64, next: u64, missing: &[(u64, u64)]) -> bool {
-    report.tally.counted() == count
-        && report.tally.next() == next
-        && are_gaps(report.tally.missing(), missing)
+fn counts(tally: &Tally, log: &Log) -> bool {
+    tally.counted() == log.counted
+        && tally.next() == log.next
+        && are_gaps(tally.missing(), log.missing)
 }
 
-fn tells_all(alloc: Global) -> bool {
-    let mut told = watcher(alloc, 9);
-    match checked(alloc, &BYTES, &mut told) {
+fn is_found(alloc: Global, log: &Log) -> bool {
+    let mut told = Told::new(log.told, 9);
+    match checked(alloc, log.bytes, &mut told) {
         Some(Ok(report)) => {
-            told.stretches.as_slice() == PLACES.as_slice()
-                && counts(&report, 4, 18446744073709551615, &MISSING)
-                && is_unfinished(&report, 44, 47, 'c')
+            told.is(log.told.len())
+                && counts(&report.tally, log)
+                && is_last(&report.unfinished, log.unfinished)
         }
         _ => false,
     }
@@ -124,46 +164,15 @@ fn tells_all(alloc: Global) -> bool {
 
 #[test]
 fn what_a_log_has(rt: HostRuntime) {
-    check(&rt, tells_all(rt.alloc()));
-}
-
-// Whether nothing is told of these bytes, and no record is counted; and what stands behind the last zero, where something does.
-fn tells_nothing(alloc: Global, bytes: &[u8]) -> Option<Option<(u64, u64, char)>> {
-    let mut told = watcher(alloc, 9);
-    match checked(alloc, bytes, &mut told) {
-        Some(Ok(report)) if told.stretches.is_empty() && counts(&report, 0, 0, &[]) => {
-            match &report.unfinished {
-                Some(last) => Some(Some((last.from, last.to, name(&last.answer)))),
-                None => Some(None),
-            }
-        }
-        _ => None,
-    }
-}
-
-// Nothing is there; or one zero; or one stretch that no zero ends and is too long.
-const WITHOUT_A_RECORD: [(&[u8], Option<(u64, u64, char)>); 3] = [
-    (&[], None),
-    (&[0], None),
-    (&[7; 13], Some((0, 13, 'l'))),
-];
-
-#[test]
-fn logs_without_a_record(rt: HostRuntime) {
-    for (bytes, unfinished) in WITHOUT_A_RECORD {
-        check(&rt, tells_nothing(rt.alloc(), bytes) == Some(unfinished));
-    }
-}
-
-fn halts(alloc: Global) -> bool {
-    let mut told = watcher(alloc, 2);
-    match checked(alloc, &BYTES, &mut told) {
-        Some(Err(CheckError::Halted)) => told.stretches.len() == 2,
-        _ => false,
+    for log in &LOGS {
+        check(&rt, is_found(rt.alloc(), log));
     }
 }
 
 #[test]
 fn watcher_halts(rt: HostRuntime) {
-    check(&rt, halts(rt.alloc()));
+    let mut told = Told::new(&TOLD, 2);
+    let found = checked(rt.alloc(), &BYTES, &mut told);
+    check(&rt, matches!(found, Some(Err(CheckError::Halted))));
+    check(&rt, told.is(2));
 }

@@ -1,50 +1,29 @@
 //! Logs that were damaged at one byte.
 
 use crate::bytes::{check, with};
-use journal::{Journal, Listed, read_all};
+use crate::logs::{N, write};
+use journal::{Listed, read_all};
 use link::Answer;
 use sealed::Sealed;
 use std::alloc::Global;
 use stores::Memory;
 
-const N: usize = 24;
-
-const VALUES: [u32; 6] = [300, 5, 0, 70000, 1, 255];
-
 // A value with its record's number, and both sealed.
 type Entry = Sealed<(u64, u32)>;
 
-// The values, appended one by one.
-fn append_all(journal: &mut Journal<Memory, N>) -> bool {
-    for value in VALUES {
-        let number = journal.next();
-        if journal.append(&Sealed((number, value))).is_err() {
-            return false;
-        }
-    }
-    true
-}
-
-// A log of the values.
-fn log(alloc: Global) -> Option<Memory> {
-    let mut list = Listed::<Entry>::new(alloc);
-    let store = Memory::new(Vec::new(alloc));
-    match Journal::<Memory, N>::open::<Entry, Listed<Entry>>(alloc, store, 0, &mut list) {
-        Ok(mut journal) => {
-            if append_all(&mut journal) {
-                Some(journal.into_store())
-            } else {
-                None
-            }
-        }
-        Err(_) => None,
-    }
-}
+const ENTRIES: [Entry; 6] = [
+    Sealed((0, 300)),
+    Sealed((1, 5)),
+    Sealed((2, 0)),
+    Sealed((3, 70000)),
+    Sealed((4, 1)),
+    Sealed((5, 255)),
+];
 
 // Whether the sealed value was appended as this number.
 fn is_appended(number: u64, value: u32) -> bool {
-    match VALUES.get(number as usize) {
-        Some(appended) => number < VALUES.len() as u64 && *appended == value,
+    match ENTRIES.get(number as usize) {
+        Some(Sealed((_, appended))) => *appended == value,
         None => false,
     }
 }
@@ -126,8 +105,6 @@ fn bears_all(alloc: Global, bytes: &[u8]) -> bool {
 
 #[test]
 fn damaged_at_every_byte(rt: HostRuntime) {
-    match log(rt.alloc()) {
-        Some(log) => check(&rt, bears_all(rt.alloc(), log.bytes())),
-        None => check(&rt, false),
-    }
+    let (done, log) = write(rt.alloc(), Memory::new(Vec::new(rt.alloc())), &ENTRIES);
+    check(&rt, done == 6 && bears_all(rt.alloc(), log.bytes()));
 }

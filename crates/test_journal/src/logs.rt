@@ -1,12 +1,14 @@
 //! Logs whose store fails or crashes.
 
 use crate::bytes::{are_bytes, check};
-use journal::{Journal, Listed};
+use journal::{Journal, Listed, Unheard};
 use link::Answer;
+use postcard::{DeserializeOwned, Exact, Serialize};
 use std::alloc::Global;
 use stores::{Memory, Store, put};
 
-const N: usize = 24;
+/// The most bytes that a record takes.
+pub const N: usize = 24;
 
 const VALUES: [u32; 5] = [300, 5, 0, 70000, 1];
 
@@ -18,7 +20,7 @@ type Log = Journal<Memory, N>;
 type List = Listed<u32>;
 
 // How many of the values were appended before one wasn't.
-fn append_all(journal: &mut Log, values: &[u32]) -> usize {
+fn append_all<T: Serialize>(journal: &mut Log, values: &[T]) -> usize {
     for (done, value) in values.iter().enumerate() {
         if journal.append(value).is_err() {
             return done;
@@ -27,10 +29,13 @@ fn append_all(journal: &mut Log, values: &[u32]) -> usize {
     values.len()
 }
 
-// A log in memory of the values, opened once; how many appends were Ok.
-fn write(alloc: Global, store: Memory, values: &[u32]) -> (usize, Memory) {
-    let mut list = List::new(alloc);
-    match Log::open::<u32, List>(alloc, store, 0, &mut list) {
+/// A log in memory of the values, opened once; how many appends were Ok.
+pub fn write<T: DeserializeOwned + Exact>(
+    alloc: Global,
+    store: Memory,
+    values: &[T],
+) -> (usize, Memory) {
+    match Log::open::<T, Unheard>(alloc, store, 0, &mut Unheard) {
         Ok(mut journal) => {
             let done = append_all(&mut journal, values);
             (done, journal.into_store())
@@ -72,7 +77,7 @@ fn count(alloc: Global, store: Memory) -> Option<usize> {
 
 #[test]
 fn bytes_of_a_log(rt: HostRuntime) {
-    let (done, store) = write(rt.alloc(), Memory::new(Vec::new(rt.alloc())), &[300, 5]);
+    let (done, store) = write(rt.alloc(), Memory::new(Vec::new(rt.alloc())), &[300u32, 5]);
     check(
         &rt,
         done == 2 && are_bytes(store.bytes(), &[0, 1, 3, 172, 2, 0, 3, 1, 5, 0]),
@@ -85,7 +90,7 @@ fn survives_fault(alloc: Global, at: usize) -> bool {
     let mut store = Memory::new(Vec::new(alloc));
     store.fail_after(at);
     let (done, store) = write(alloc, store, &VALUES);
-    let (_, store) = write(alloc, store, &[]);
+    let (_, store) = write::<u32>(alloc, store, &[]);
     match count(alloc, store) {
         Some(count) => count == done || count == done.saturating_add(1),
         None => false,
@@ -101,7 +106,10 @@ fn torn_at_every_byte(rt: HostRuntime) {
 
 // Whether a log that has so many records gets one more, and is synced.
 fn goes_on(journal: &mut Log, count: usize) -> bool {
-    journal.append(&value_at(count)) == Ok(count as u64) && journal.sync().is_ok()
+    match journal.append(&value_at(count)) {
+        Ok(number) => number == count as u64 && journal.sync().is_ok(),
+        Err(_) => false,
+    }
 }
 
 // How many records a log has that is opened and gets one more, synced; and what it is then.
@@ -135,7 +143,10 @@ fn survives_crash(alloc: Global, left: usize, zeros: usize) -> bool {
     if store.settled() != store.bytes().len() {
         return false;
     }
-    count(alloc, store) == Some(before.saturating_add(1))
+    match count(alloc, store) {
+        Some(count) => count == before.saturating_add(1),
+        None => false,
+    }
 }
 
 #[test]
@@ -149,7 +160,7 @@ fn crashed_at_every_byte(rt: HostRuntime) {
 
 fn is_read(store: &mut Memory, from: u64, wanted: &[u8; 3]) -> bool {
     let mut room = [0u8; 3];
-    store.read_at(from, &mut room) == Some(3) && room == *wanted
+    matches!(store.read_at(from, &mut room), Some(3)) && are_bytes(&room, wanted)
 }
 
 // Bytes that go in by parts, and are read at an offset.

@@ -1,7 +1,7 @@
 //! Where the stretches of a log stand.
 
-use crate::bytes::{check, holding};
-use journal_scan::{Scan, Stretch};
+use crate::bytes::{Place, check, holding, is_last, is_place};
+use journal_scan::Scan;
 use link::Answer;
 use std::alloc::Global;
 use stores::{Memory, put};
@@ -11,61 +11,49 @@ const BYTES: [u8; 23] = [
     0, 0, 1, 3, 172, 2, 0, 9, 9, 0, 3, 1, 5, 0, 7, 7, 7, 7, 7, 7, 0, 2, 1,
 ];
 
-// From, to, and what stands there: a record's number, and letters for what isn't one.
-type Place = (u64, u64, char, u64);
-
-const PLACES: [Place; 4] = [
-    (2, 6, 'v', 0),
-    (7, 9, 'd', 0),
-    (10, 13, 'v', 1),
-    (14, 20, 'l', 0),
+// Where each stands that a zero ends, and a record's number.
+const PLACES: [(Place, Option<u64>); 4] = [
+    ((2, 6, 'v'), Some(0)),
+    ((7, 9, 'd'), None),
+    ((10, 13, 'v'), Some(1)),
+    ((14, 20, 'l'), None),
 ];
 
-// The name of what stands somewhere, and its number.
-fn name(answer: &Answer<(u64, u32)>) -> (char, u64) {
-    match answer {
-        Answer::Value((number, _)) => ('v', *number),
-        Answer::Damaged => ('d', 0),
-        Answer::TooLong => ('l', 0),
-        Answer::Cut => ('c', 0),
+// Whether an answer is a record of this number; or none, where none is wanted.
+fn is_number(answer: &Answer<(u64, u32)>, wanted: Option<u64>) -> bool {
+    match (answer, wanted) {
+        (Answer::Value((number, _)), Some(wanted)) => *number == wanted,
+        (Answer::Value(_), None) => false,
+        (_, wanted) => wanted.is_none(),
     }
 }
 
-fn is(stretch: &Stretch<u32>, place: Place) -> bool {
-    let (from, to, what, number) = place;
-    stretch.from == from && stretch.to == to && name(&stretch.answer) == (what, number)
-}
-
 // Whether the next stretch that a zero ends is this one.
-fn comes(alloc: Global, scan: &mut Scan, store: &mut Memory, place: Place) -> bool {
+fn comes(
+    alloc: Global,
+    scan: &mut Scan,
+    store: &mut Memory,
+    place: Place,
+    number: Option<u64>,
+) -> bool {
     match scan.next_ended::<u32, Memory>(alloc, store) {
-        Ok(Some(stretch)) => is(&stretch, place),
+        Ok(Some(stretch)) => is_place(&stretch, place) && is_number(&stretch.answer, number),
         _ => false,
     }
 }
 
-// Whether no other comes, and the cut one stands at the end.
-fn ends(alloc: Global, scan: &mut Scan, store: &mut Memory) -> bool {
-    if !matches!(scan.next_ended::<u32, Memory>(alloc, store), Ok(None)) {
-        return false;
-    }
-    match scan.unfinished::<u32>() {
-        Some(last) => is(&last, (21, 23, 'c', 0)),
-        None => false,
-    }
-}
-
 fn finds_all(alloc: Global, scan: &mut Scan, store: &mut Memory) -> bool {
-    for place in PLACES {
-        if !comes(alloc, scan, store, place) {
+    for (place, number) in PLACES {
+        if !comes(alloc, scan, store, place, number) {
             return false;
         }
     }
-    // what was appended since ends the last one
-    ends(alloc, scan, store)
+    // no other comes, and the cut one stands at the end; what was appended since ends it
+    matches!(scan.next_ended::<u32, Memory>(alloc, store), Ok(None))
+        && is_last(&scan.unfinished::<u32>(), Some((21, 23, 'c')))
         && put(store, &[0]) == 1
-        && comes(alloc, scan, store, (21, 23, 'd', 0))
-        && scan.unfinished::<u32>().is_none()
+        && comes(alloc, scan, store, (21, 23, 'd'), None)
+        && is_last(&scan.unfinished::<u32>(), None)
         && scan.at() == 24
 }
 

@@ -11,21 +11,22 @@ const LIMIT: usize = 12;
 // Records 0, 1 and 3: the values 300, 5 and 70000.
 const LOG: [u8; 16] = [0, 1, 3, 172, 2, 0, 3, 1, 5, 0, 5, 3, 240, 162, 4, 0];
 
-// What repairing these bytes answers and writes, to a store that takes so many bytes.
-fn repaired(
-    alloc: Global,
-    bytes: &[u8],
-    room: usize,
-) -> Option<(Result<Repaired, RepairError>, Memory)> {
-    let mut to = Memory::new(Vec::new(alloc));
-    to.fail_after(room);
+// An empty store that takes so many bytes.
+fn room_for(alloc: Global, room: usize) -> Memory {
+    let mut store = Memory::new(Vec::new(alloc));
+    store.fail_after(room);
+    store
+}
+
+// What repairing these bytes to a store answers.
+fn repaired(alloc: Global, bytes: &[u8], to: &mut Memory) -> Option<Result<Repaired, RepairError>> {
     let Some(mut from) = holding(alloc, bytes) else {
         return None;
     };
-    let result = repair::<u32, Memory, Memory>(alloc, LIMIT, &mut from, &mut to);
+    let result = repair::<u32, Memory, Memory>(alloc, LIMIT, &mut from, to);
     // the log is as it was
     if are_bytes(from.bytes(), bytes) {
-        Some((result, to))
+        Some(result)
     } else {
         None
     }
@@ -33,8 +34,9 @@ fn repaired(
 
 // Whether so many records are repaired, the next one behind them has this number, and these bytes are all that is written.
 fn writes(alloc: Global, bytes: &[u8], records: u64, next: u64, wanted: &[u8]) -> bool {
-    match repaired(alloc, bytes, 99) {
-        Some((Ok(found), to)) => {
+    let mut to = room_for(alloc, 99);
+    match repaired(alloc, bytes, &mut to) {
+        Some(Ok(found)) => {
             found.records == records
                 && found.next == next
                 && are_bytes(to.bytes(), wanted)
@@ -81,28 +83,36 @@ fn add_next(alloc: Global, scan: &mut Scan, from: &mut Memory, all: &mut Vec<u8>
     }
 }
 
-// The records of these bytes, one by one, each as postcard frames that pair, behind a zero.
-fn expected(alloc: Global, bytes: &[u8]) -> Option<Vec<u8>> {
-    let mut all = Vec::new(alloc);
-    let (Some(mut from), Ok(mut scan)) = (holding(alloc, bytes), Scan::new(alloc, LIMIT, 0)) else {
-        return None;
+// Appends the records of these bytes, one by one, each as postcard frames that pair, behind a zero.
+fn add_all(alloc: Global, scan: &mut Scan, bytes: &[u8], all: &mut Vec<u8>) -> bool {
+    let Some(mut from) = holding(alloc, bytes) else {
+        return false;
     };
-    if all.push(0u8).is_err() {
-        return None;
-    }
     for _ in bytes {
-        if !add_next(alloc, &mut scan, &mut from, &mut all) {
-            return None;
+        if !add_next(alloc, scan, &mut from, all) {
+            return false;
         }
     }
-    Some(all)
+    true
+}
+
+// Appends what repairing these bytes is to write.
+fn expect(alloc: Global, bytes: &[u8], all: &mut Vec<u8>) -> bool {
+    match Scan::new(alloc, LIMIT, 0) {
+        Ok(mut scan) => all.push(0u8).is_ok() && add_all(alloc, &mut scan, bytes, all),
+        Err(_) => false,
+    }
 }
 
 // Repairing gives the records that are read, and repairing that the same bytes and answer.
 fn repairs(alloc: Global, bytes: &[u8]) -> bool {
-    match (repaired(alloc, bytes, 99), expected(alloc, bytes)) {
-        (Some((Ok(found), to)), Some(all)) => {
-            are_bytes(to.bytes(), &all) && writes(alloc, &all, found.records, found.next, &all)
+    let mut all = Vec::new(alloc);
+    let mut to = room_for(alloc, 99);
+    match repaired(alloc, bytes, &mut to) {
+        Some(Ok(found)) => {
+            expect(alloc, bytes, &mut all)
+                && are_bytes(to.bytes(), &all)
+                && writes(alloc, &all, found.records, found.next, &all)
         }
         _ => false,
     }
@@ -135,8 +145,9 @@ fn repaired_after_damage(rt: HostRuntime) {
 
 // Whether a destination that fails behind so many bytes has these, and they are those of the whole.
 fn breaks_off(alloc: Global, room: usize) -> bool {
-    match repaired(alloc, &LOG, room) {
-        Some((Err(RepairError::Line), to)) => LOG.get(..room) == Some(to.bytes()),
+    let mut to = room_for(alloc, room);
+    match (repaired(alloc, &LOG, &mut to), LOG.get(..room)) {
+        (Some(Err(RepairError::Line)), Some(front)) => are_bytes(to.bytes(), front),
         _ => false,
     }
 }
