@@ -29,11 +29,6 @@ pub fn is_reply(found: Option<u32>, wanted: u32) -> bool {
     }
 }
 
-/// Whether the reader told its end.
-pub fn is_end(end: End) -> bool {
-    matches!(end, End::Ended)
-}
-
 /// Whether the reader told its end before a reply was heard.
 pub fn is_read(end: Option<End>) -> bool {
     matches!(end, Some(End::Ended))

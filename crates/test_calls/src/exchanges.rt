@@ -1,13 +1,13 @@
 //! Calls and replies, each by itself.
 
-use crate::checks::{are_equal, check, is_end, is_number, is_read, is_reply, letter};
+use crate::checks::{are_equal, check, is_number, is_read, is_reply, letter};
 use crate::served::{Adder, Line, line, service};
 use calls::{
     CallError, Client, Server, Service, Waiting, serve, serve_owned, serve_owned_strict,
     serve_strict, serve_with_sentinel, wait, wait_strict, wait_with,
 };
 use line_io::memory::{Fault, In, Out};
-use link::{Answer, End, NoMemory, OfType, Ordinary, OwnedReceiver, Receiver};
+use link::{Answer, End, OfType, Ordinary, OwnedReceiver, Receiver};
 use std::alloc::Global;
 
 // A client of adders, whose first call has the number 5.
@@ -24,11 +24,52 @@ fn asked(alloc: Global, sentinel: u8, requests: &[u32]) -> Vec<u8> {
     client.into_inner().into_inner()
 }
 
-// What a service writes to the requests that it reads; and whether it read to their end and executed so many.
-fn replies(alloc: Global, reader: &mut In<'_>, executed: u32) -> (bool, Vec<u8>) {
-    let mut service = service(alloc, 0);
-    let end = serve::<u32, u32, Adder, In<'_>, Line, 16, 8>(alloc, reader, &mut service);
-    let is_right = is_end(end) && service.application.executed == executed;
+// The ways of serving.
+#[derive(Clone, Copy)]
+enum Way {
+    Plain,
+    Strict,
+    BySentinel(u8),
+    Owned,
+    OwnedStrictBySentinel(u8),
+}
+
+type Adding = Service<Adder, Line, u32, 16>;
+
+// Serves all that the reader gives; whether it was read to its end.
+fn serve_by(alloc: Global, way: Way, reader: &mut In<'_>, service: &mut Adding) -> bool {
+    let end = match way {
+        Way::Plain => Ok(serve::<u32, u32, Adder, In<'_>, Line, 16, 8>(alloc, reader, service)),
+        Way::Strict => Ok(serve_strict::<u32, u32, Adder, In<'_>, Line, 16, 8>(
+            alloc, reader, service,
+        )),
+        Way::BySentinel(sentinel) => Ok(serve_with_sentinel::<u32, u32, Adder, In<'_>, Line, 16, 8>(
+            alloc, reader, service, sentinel,
+        )),
+        Way::Owned => serve_owned::<u32, u32, Adder, In<'_>, Line, 16>(
+            alloc, reader, service, 8, 0,
+        ),
+        Way::OwnedStrictBySentinel(sentinel) => {
+            serve_owned_strict::<u32, u32, Adder, In<'_>, Line, 16>(
+                alloc, reader, service, 8, sentinel,
+            )
+        }
+    };
+    matches!(end, Ok(End::Ended))
+}
+
+// Whether all that the reader gives is read to its end, and so many requests executed, to this sum; and what is replied.
+fn replies(alloc: Global, way: Way, reader: &mut In<'_>, wanted: (u32, u32)) -> (bool, Vec<u8>) {
+    let sentinel = match way {
+        Way::BySentinel(sentinel) | Way::OwnedStrictBySentinel(sentinel) => sentinel,
+        _ => 0,
+    };
+    let mut service = service(alloc, sentinel);
+    let is_read = serve_by(alloc, way, reader, &mut service);
+    let (executed, sum) = wanted;
+    let is_right = is_read
+        && service.application.executed == executed
+        && service.application.sum == sum;
     (is_right, service.server.into_inner().into_inner())
 }
 
@@ -54,7 +95,7 @@ fn a_call_is_replied(rt: HostRuntime) {
     // 5 and 7 between zeros: a frame of two bytes
     check(&rt, are_equal(&requests, &[0, 3, 5, 7, 0]));
     let mut reader = In::new(requests.as_slice(), 1, None);
-    let (is_served, replies) = replies(rt.alloc(), &mut reader, 1);
+    let (is_served, replies) = replies(rt.alloc(), Way::Plain, &mut reader, (1, 7));
     check(&rt, is_served);
     let mut reader = In::new(replies.as_slice(), 1, None);
     let mut receiver = Receiver::<8>::new();
@@ -70,15 +111,9 @@ fn one_sent_again_is_executed_once(rt: HostRuntime) {
     check(&rt, client.again().is_ok());
     let requests = client.into_inner().into_inner();
     check(&rt, are_equal(&requests, &[0, 3, 5, 7, 0, 3, 5, 7, 0]));
-    let mut service = service(rt.alloc(), 0);
     let mut reader = In::new(requests.as_slice(), 100, None);
-    let _ = serve_strict::<u32, u32, Adder, In<'_>, Line, 16, 8>(
-        rt.alloc(),
-        &mut reader,
-        &mut service,
-    );
-    check(&rt, service.application.executed == 1);
-    let replies = service.server.into_inner().into_inner();
+    let (is_served, replies) = replies(rt.alloc(), Way::Strict, &mut reader, (1, 7));
+    check(&rt, is_served);
     check(&rt, are_equal(&replies, &[0, 3, 5, 7, 0, 3, 5, 7, 0]));
 }
 
@@ -162,62 +197,27 @@ const NOISY: [u8; 27] = [
 #[test]
 fn noise_is_passed_over(rt: HostRuntime) {
     let mut reader = In::new(&NOISY, 5, None);
-    let (is_served, replies) = replies(rt.alloc(), &mut reader, 2);
+    let (is_served, replies) = replies(rt.alloc(), Way::Plain, &mut reader, (2, 8));
     check(&rt, is_served);
     check(&rt, are_equal(&replies, &[0, 3, 5, 7, 0, 3, 6, 8, 0]));
 }
 
-// Whether a service read to the end, and has executed both requests.
-fn has_served(end: Result<End, NoMemory>, service: &Service<Adder, Line, u32, 16>) -> bool {
-    matches!(end, Ok(End::Ended)) && service.application.sum == 3
-}
-
-fn serves_by_a_sentinel(alloc: Global, requests: &[u8]) -> bool {
-    let mut service = service(alloc, 0xA5);
-    let mut reader = In::new(requests, 3, None);
-    let _ = serve_with_sentinel::<u32, u32, Adder, In<'_>, Line, 16, 8>(
-        alloc,
-        &mut reader,
-        &mut service,
-        0xA5,
-    );
-    service.application.sum == 3
-}
-
-fn serves_owned(alloc: Global, requests: &[u8]) -> bool {
-    let mut service = service(alloc, 0);
-    let mut reader = In::new(requests, 3, None);
-    let end = serve_owned::<u32, u32, Adder, In<'_>, Line, 16>(
-        alloc,
-        &mut reader,
-        &mut service,
-        8,
-        0,
-    );
-    has_served(end, &service)
-}
-
-fn serves_owned_strict(alloc: Global, requests: &[u8]) -> bool {
-    let mut service = service(alloc, 0xA5);
-    let mut reader = In::new(requests, 3, None);
-    let end = serve_owned_strict::<u32, u32, Adder, In<'_>, Line, 16>(
-        alloc,
-        &mut reader,
-        &mut service,
-        8,
-        0xA5,
-    );
-    has_served(end, &service)
+// Whether the requests 1 and 2 are executed in this way.
+fn serves(alloc: Global, way: Way, sentinel: u8) -> bool {
+    let requests = asked(alloc, sentinel, &[1, 2]);
+    let (is_served, _) = replies(alloc, way, &mut In::new(&requests, 3, None), (2, 3));
+    is_served
 }
 
 // Each way of serving executes both requests; with a sentinel other than zero too.
 #[test]
 fn every_way_of_serving(rt: HostRuntime) {
-    let plain = asked(rt.alloc(), 0, &[1, 2]);
-    let other = asked(rt.alloc(), 0xA5, &[1, 2]);
-    check(&rt, serves_by_a_sentinel(rt.alloc(), &other));
-    check(&rt, serves_owned(rt.alloc(), &plain));
-    check(&rt, serves_owned_strict(rt.alloc(), &other));
+    check(&rt, serves(rt.alloc(), Way::BySentinel(0xA5), 0xA5));
+    check(&rt, serves(rt.alloc(), Way::Owned, 0));
+    check(
+        &rt,
+        serves(rt.alloc(), Way::OwnedStrictBySentinel(0xA5), 0xA5),
+    );
 }
 
 // A reply with a byte behind it.

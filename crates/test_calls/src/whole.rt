@@ -2,7 +2,7 @@
 //!
 //! The call 5 of 7 is 00 03 05 07 00 on its line. Its reply, of the first sum, is the same message by another sentinel, as long.
 
-use crate::checks::{check, is_reply};
+use crate::checks::check;
 use crate::served::Adder;
 use calls_laws::exchange::{Called, Way, call_once, call_once_strict};
 use line_io::memory::{Fault, OwnedOut};
@@ -38,54 +38,104 @@ fn called(
     call_once::<u32, u32, Adder, OwnedOut, 16, 8>(alloc, there, back, Adder::new(), 5, 7, again)
 }
 
-// Whether the reply was heard, and so many calls executed.
-fn is_said(called: &Called<Adder, u32>, executed: u32) -> bool {
-    is_reply(called.said, 7) && called.application.executed == executed
+// Where the sends of a call and of its reply break off and their readings stop, and how often the call is sent again; then whether the
+// reply is heard, and how many calls are executed.
+#[derive(Clone, Copy)]
+struct Exchange {
+    breaks: [Option<usize>; 2],
+    stops: [Option<usize>; 2],
+    again: usize,
+    is_said: bool,
+    executed: u32,
 }
 
-// Whether none was heard, and so many calls executed.
-fn is_unsaid(called: &Called<Adder, u32>, executed: u32) -> bool {
-    called.said.is_none() && called.application.executed == executed
-}
+impl Exchange {
+    // Whether so many of 7 were executed, and the reply was heard, or none was.
+    fn is(&self, called: &Called<Adder, u32>) -> bool {
+        let is_said = match called.said {
+            Some(said) => self.is_said && said == 7,
+            None => !self.is_said,
+        };
+        is_said
+            && called.application.executed == self.executed
+            && called.application.sum == self.executed.saturating_mul(7)
+    }
 
-#[test]
-fn a_whole_call(rt: HostRuntime) {
-    let all = called(rt.alloc(), [None, None], [None, None], 0);
-    check(&rt, is_said(&all, 1));
-    check(&rt, all.application.sum == 7);
-}
-
-#[test]
-fn a_call_that_breaks_off(rt: HostRuntime) {
-    for before in 0..5usize {
-        // alone it isn't heard: its last zero never goes out
-        let alone = called(rt.alloc(), [Some(before), None], [None, None], 0);
-        check(&rt, is_unsaid(&alone, 0));
-        // sent again it is, and once
-        let again = called(rt.alloc(), [Some(before), None], [None, None], 1);
-        check(&rt, is_said(&again, 1));
+    fn comes_out(&self, alloc: Global) -> bool {
+        self.is(&called(alloc, self.breaks, self.stops, self.again))
     }
 }
 
-#[test]
-fn a_reply_that_breaks_off(rt: HostRuntime) {
-    for before in 0..5usize {
-        let alone = called(rt.alloc(), [None, Some(before)], [None, None], 0);
-        check(&rt, is_unsaid(&alone, 1));
-        let again = called(rt.alloc(), [None, Some(before)], [None, None], 1);
-        check(&rt, is_said(&again, 1));
-    }
-}
+// What reads and sends everything.
+const WHOLE: Exchange = Exchange {
+    breaks: [None, None],
+    stops: [None, None],
+    again: 0,
+    is_said: true,
+    executed: 1,
+};
+
+// Whole; the server's reading stops, and the client's; and a front with the whole call, and one with the whole reply, are enough.
+const READINGS: [Exchange; 4] = [
+    WHOLE,
+    Exchange {
+        stops: [Some(4), None],
+        is_said: false,
+        executed: 0,
+        ..WHOLE
+    },
+    Exchange {
+        stops: [None, Some(4)],
+        is_said: false,
+        ..WHOLE
+    },
+    Exchange {
+        stops: [Some(5), Some(5)],
+        again: 2,
+        ..WHOLE
+    },
+];
 
 #[test]
 fn a_reading_that_stops(rt: HostRuntime) {
-    let server = called(rt.alloc(), [None, None], [Some(4), None], 0);
-    check(&rt, is_unsaid(&server, 0));
-    let client = called(rt.alloc(), [None, None], [None, Some(4)], 0);
-    check(&rt, is_unsaid(&client, 1));
-    // a front with the whole reply is enough
-    let whole = called(rt.alloc(), [None, None], [Some(5), Some(5)], 2);
-    check(&rt, is_said(&whole, 1));
+    for exchange in &READINGS {
+        check(&rt, exchange.comes_out(rt.alloc()));
+    }
+}
+
+// A send that breaks off behind so many bytes, that of the call or that of the reply: alone the call isn't replied, since a last zero
+// never goes out; sent again it is, and executed once.
+fn broken_behind(before: usize) -> [Exchange; 4] {
+    let call = Exchange {
+        breaks: [Some(before), None],
+        ..WHOLE
+    };
+    let reply = Exchange {
+        breaks: [None, Some(before)],
+        ..WHOLE
+    };
+    [
+        Exchange {
+            is_said: false,
+            executed: 0,
+            ..call
+        },
+        Exchange { again: 1, ..call },
+        Exchange {
+            is_said: false,
+            ..reply
+        },
+        Exchange { again: 1, ..reply },
+    ]
+}
+
+#[test]
+fn a_send_that_breaks_off(rt: HostRuntime) {
+    for before in 0..5usize {
+        for exchange in broken_behind(before) {
+            check(&rt, exchange.comes_out(rt.alloc()));
+        }
+    }
 }
 
 #[test]
@@ -111,5 +161,5 @@ fn a_strict_call(rt: HostRuntime) {
         7,
         3,
     );
-    check(&rt, is_said(&all, 1));
+    check(&rt, WHOLE.is(&all));
 }
