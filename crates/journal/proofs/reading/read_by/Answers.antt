@@ -1,4 +1,4 @@
-use Rattle.std.proofs.Common.{◌≡◌, ℕ, ◌+◌, ◌<◌, Some, List, [], ◌++◌, length, take, refl, sym, ap, subst, ◌∙◌, arith, rules}
+use Rattle.std.proofs.Common.{◌≡◌, ℕ, ◌+◌, ◌-◌, ◌<◌, zero, suc, Option, None, Some, List, [], ◌++◌, length, take, refl, sym, ap, subst, ◌∙◌, arith, rules}
 use Rattle.std.specs.Prelude.{IfSome}
 use Rattle.std.proofs.lemmas.List.{length-take}
 use Rattle.journal.specs.Reading.{HearsMore, IsHanded, numbering_of}
@@ -48,3 +48,11 @@ returns-in-Some-eq0-clause-read g c =
     let nothing : Some c.in-Some-eq0.field-0 ≡ Some 0 = cc in
     reads_all (g.S.Store.held c.args.store.now) c.loop-n.count.heard P Q (rw c.loop-n.invariant.held at (c.in-Some-eq0.ensures.end nothing room)) c.loop-n.invariant.heard
     (λ stream h. record { answers = h.more; handed = h.handed; read = read_whole g.J.Judging.holds g.T.Readable.reads g.row.N c.args.first h.more (numbering_of c.loop-n.count) stream h.hears.read })
+
+-- a call that was answered is one fewer
+fewer : (before after n : ℕ) (answer : Option ℕ) → after ≡ before - 1 → (before ≡ 0 → answer ≡ None) → answer ≡ Some n → after < before
+fewer zero after n answer down spent some = let never = sym (spent refl) ∙ some in cc
+fewer (suc before) after n answer down spent some = omega (arith, down)
+
+pub loop-n-smaller : goal.loop-n-smaller
+loop-n-smaller g c = fewer _ _ _ _ c.read_at.ensures.calls c.read_at.ensures.spent c.in-Some.is
