@@ -1,4 +1,5 @@
-use Rattle.std.proofs.Common.{◌≡◌, ◌∷◌, [], List, ℕ, Some, refl, ◌∙◌, subst, inl, arith}
+use Rattle.std.proofs.Common.{◌≡◌, ◌<◌, ◌∷◌, [], List, ℕ, Some, refl, ◌∙◌, subst, inl, arith}
+use Rattle.std.specs.Prelude.{IfSome}
 use Rattle.line_io.specs.Calls.{Wrote-none}
 use Rattle.journal_scan.specs.Scanning.{IsScanning, FoundAll, offset_of}
 use Rattle.journal_scan.proofs.AnewLemmas.{if_stopped, none_appended, none_went, on_any, if_passed, wrote_zero, repair_begins, repair_ends, repair_stops, repair_goes, repair_breaks, repair_fits}
@@ -118,3 +119,13 @@ returns-in-Ok-None-clause-unsynced g c =
 pub returns-in_err-repaired-clause-unsynced : goal.returns-in_err-repaired-clause-unsynced
 returns-in_err-repaired-clause-unsynced g c =
     if_passed c.from_residual-in_err-repaired.result c.in_err-repaired.field-0.0 _ c.from_residual-in_err-repaired.ensures.1 (if_stopped g.T.Serialize.writes _ c.in-Ok-Some.stretch.answer _ _ _ _ c.in_err-repaired.field-0.0 _ c.in_err-repaired.ensures.stops)
+
+pub loop-stretch-smaller : goal.loop-stretch-smaller
+loop-stretch-smaller g c =
+    let on : offset_of c.loop-stretch.scan < offset_of c.next_ended.new.self = subst (λ o. IfSome o (λ _. offset_of c.loop-stretch.scan < offset_of c.next_ended.new.self)) c.in-Ok-Some.field-0-is c.in-Ok-Some.ensures.on in
+    omega (arith, on, c.next_ended.new.self.fits)
+
+pub loop-stretch-smaller-in_ok-repaired : goal.loop-stretch-smaller-in_ok-repaired
+loop-stretch-smaller-in_ok-repaired g c =
+    let on : offset_of c.loop-stretch.scan < offset_of c.next_ended.new.self = subst (λ o. IfSome o (λ _. offset_of c.loop-stretch.scan < offset_of c.next_ended.new.self)) c.in-Ok-Some.field-0-is c.in-Ok-Some.ensures.on in
+    omega (arith, on, c.next_ended.new.self.fits)
