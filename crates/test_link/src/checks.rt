@@ -9,6 +9,11 @@ pub fn check(rt: &impl Abort, is_right: bool) {
     assert!(rt; is_right);
 }
 
+/// Ends a test that isn't right in this row, or at this byte.
+pub fn check_at(rt: &impl Abort, at: usize, is_right: bool) {
+    assert!(rt; is_right, "at {at}");
+}
+
 /// Whether each of these holds.
 pub fn all_true<const N: usize>(found: [bool; N]) -> bool {
     found == [true; N]

@@ -1,5 +1,6 @@
-//! Tests of what stands on `link`, by its public calls alone: `link` itself, whatever a stranger may send, memory that isn't
-//! found in every call that asks for it, and the message types of `example_station` and `example_nested`.
+//! Tests of lines, by public calls alone: the devices of `line_io`, `link`, whatever a stranger may send, memory that isn't
+//! found in every call that asks for it, the message types of `example_station` and `example_nested`, and the runs of
+//! `framed`.
 //!
 //! They stand in a crate of their own because a crate with tests is proved twice, once with and once without them, and
 //! beside `test_postcard` because one process proves a crate's tests as a whole.
@@ -11,6 +12,18 @@ mod any_sentinel;
 mod checks;
 #[cfg(test)]
 mod crossing;
+#[cfg(test)]
+mod framed_runs;
+#[cfg(test)]
+mod framed_words;
+#[cfg(test)]
+mod line_memory;
+#[cfg(test)]
+mod line_moves;
+#[cfg(test)]
+mod line_streams;
+#[cfg(test)]
+mod line_transfers;
 #[cfg(test)]
 mod link_faults;
 #[cfg(test)]

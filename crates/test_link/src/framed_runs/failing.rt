@@ -1,7 +1,8 @@
 //! Devices that fail, and memory that isn't found.
-use crate::tests::{
+use crate::checks::{check_at, holds};
+use crate::framed_runs::{
     FRAMED, FRAMED_HEX, PACK, PACK_HEX, ROOM, Row, STRETCH, STRICT_HEX, UNPACK, UNPACK_HEX, UNREAD,
-    VALUES, begin_alike, check_at, expect, holds, is_right, run_short,
+    VALUES, begins, expect, is_right, run_over,
 };
 use framed_lib::arguments::Mode;
 use line_io::Fault;
@@ -62,33 +63,20 @@ fn reader_fails(rt: HostRuntime) {
     expect(&rt, &UNREAD_ROWS);
 }
 
-/// Another kind of fault after as many bytes: nothing is taken.
-fn nothing_after(fault: Option<(usize, Fault)>) -> Option<(usize, Fault)> {
-    match fault {
-        Some((before, _)) => Some((before, Fault::Nothing)),
-        None => None,
-    }
-}
-
-/// The same, and nothing is taken in place of a fault.
-fn taking_nothing(row: Row<'_>) -> Row<'_> {
-    Row {
-        write_fault: nothing_after(row.write_fault),
-        saying_fault: nothing_after(row.saying_fault),
-        ..row
-    }
-}
-
 /// Expects it of each row, and of the same where nothing is taken in place of a fault.
 fn expect_at_each_fault<R: AllocGlobal + Abort>(rt: &R, rows: &[Row<'_>]) {
     for (at, row) in rows.iter().enumerate() {
-        check_at(rt, at, is_right(rt.alloc(), *row));
-        check_at(rt, at, is_right(rt.alloc(), taking_nothing(*row)));
+        check_at(rt, at, is_right(rt.alloc(), row));
+        let taking_nothing = Row {
+            fault: Fault::Nothing,
+            ..*row
+        };
+        check_at(rt, at, is_right(rt.alloc(), &taking_nothing));
     }
 }
 
 const UNWRITTEN: Row<'static> = Row {
-    write_fault: Some((2, Fault::Fail)),
+    write_fault: Some(2),
     said: b"write failed\n",
     status: 3,
     ..PACK
@@ -126,7 +114,7 @@ fn writer_fails(rt: HostRuntime) {
 }
 
 const UNSAID: Row<'static> = Row {
-    saying_fault: Some((0, Fault::Fail)),
+    saying_fault: Some(0),
     status: 3,
     ..PACK
 };
@@ -142,7 +130,7 @@ const UNSAID_ROWS: [Row<'static>; 5] = [
     },
     Row {
         text: b"\xff\nb",
-        saying_fault: Some((4, Fault::Fail)),
+        saying_fault: Some(4),
         said: b"line",
         ..UNSAID
     },
@@ -150,7 +138,7 @@ const UNSAID_ROWS: [Row<'static>; 5] = [
         mode: Mode::Unpack,
         hex: true,
         text: b"0g",
-        saying_fault: Some((3, Fault::Fail)),
+        saying_fault: Some(3),
         said: b"bad",
         ..UNSAID
     },
@@ -158,7 +146,7 @@ const UNSAID_ROWS: [Row<'static>; 5] = [
         mode: Mode::Unpack,
         text: b"\x04\x02hi\x00",
         read_fault: Some(5),
-        saying_fault: Some((4, Fault::Fail)),
+        saying_fault: Some(4),
         out: b"value hi\n",
         said: b"read",
         ..UNSAID
@@ -172,24 +160,17 @@ fn standard_error_fails(rt: HostRuntime) {
 
 /// Whether a run writes what the row has and nothing is said, or a growth was refused: then it says so, and writes a
 /// beginning.
-fn is_right_or_lacks_memory(alloc: Global, row: Row<'_>) -> bool {
+fn is_right_or_lacks_memory(alloc: Global, row: &Row<'_>) -> bool {
     let mut written = [0u8; ROOM];
     let mut told = [0u8; ROOM];
-    let left = run_short(alloc, row, &mut written, &mut told);
+    let left = run_over(alloc, row, 3, 5, 2, &mut written, &mut told);
     if left.status != 4 {
         return left.status == 0 && holds(&written, left.written, row.out) && left.said == 0;
     }
-    begin_alike(&written, row.out, left.written) && holds(&told, left.said, b"no memory\n")
+    begins(&written, left.written, row.out) && holds(&told, left.said, b"no memory\n")
 }
 
-/// Expects it of each row.
-fn expect_or_no_memory<R: AllocGlobal + Abort>(rt: &R, rows: &[Row<'_>]) {
-    for (at, row) in rows.iter().enumerate() {
-        check_at(rt, at, is_right_or_lacks_memory(rt.alloc(), *row));
-    }
-}
-
-const SHORT_RUNS: [Row<'static>; 3] = [
+const SHORT_RUNS: [Row<'static>; 5] = [
     Row {
         text: b"hi\n\nA",
         out: FRAMED_HEX,
@@ -205,15 +186,6 @@ const SHORT_RUNS: [Row<'static>; 3] = [
         out: VALUES,
         ..UNPACK
     },
-];
-
-/// To be run with each growth refused in turn: `rt try --test --fail-alloc N`. The other tests ask for the whole.
-#[test]
-fn memory_runs_out(rt: HostRuntime) {
-    expect_or_no_memory(&rt, &SHORT_RUNS);
-}
-
-const SHORT_RUNS_BY_SENTINEL: [Row<'static>; 2] = [
     Row {
         sentinel: 0x0a,
         text: b"hi",
@@ -228,8 +200,10 @@ const SHORT_RUNS_BY_SENTINEL: [Row<'static>; 2] = [
     },
 ];
 
-/// To be run so too.
+/// To be run with each growth refused in turn, as `.ci/refusals` does. The other tests of runs ask for the whole.
 #[test]
-fn memory_runs_out_with_sentinel(rt: HostRuntime) {
-    expect_or_no_memory(&rt, &SHORT_RUNS_BY_SENTINEL);
+fn memory_runs_out(rt: HostRuntime) {
+    for (at, row) in SHORT_RUNS.iter().enumerate() {
+        check_at(&rt, at, is_right_or_lacks_memory(rt.alloc(), row));
+    }
 }

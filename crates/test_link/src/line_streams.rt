@@ -1,6 +1,6 @@
-//! Devices over writers and readers of std: they fail and end only where those do.
-use crate::checks::{are_equal, check, check_after};
-use crate::moves::{fails_once, takes};
+//! Devices of `line_io` over writers and readers of std: they fail and end only where those do.
+use crate::checks::{are_bytes, check, check_at};
+use crate::line_moves::{fails_once, takes};
 use line_io::{Outlet, Reads, Writes};
 use std::io;
 use std::io::{Read, Write};
@@ -31,11 +31,8 @@ impl Read for Failing {
 fn a_failed_read_is_a_fault(rt: HostRuntime) {
     for before in 0..4 {
         let mut line = Reads::new(Failing { given: 0, before });
-        check_after(
-            &rt,
-            before,
-            fails_once(&mut line, before) && line.into_inner().given == 3,
-        );
+        let failed = fails_once(&mut line, before);
+        check_at(&rt, before, failed && line.into_inner().given == 3);
     }
 }
 
@@ -77,7 +74,7 @@ fn is_interrupted_once(before: usize) -> bool {
 #[test]
 fn an_interrupted_write_is_a_fault(rt: HostRuntime) {
     for before in 0..4 {
-        check_after(&rt, before, is_interrupted_once(before));
+        check_at(&rt, before, is_interrupted_once(before));
     }
 }
 
@@ -89,12 +86,15 @@ const TAKEN: [(&[u8], Option<usize>); 4] = [
     (b"", Some(0)),
 ];
 
+/// Whether a writer over three bytes takes these calls so, and has no room left.
+fn is_filled(room: &mut [u8; 3]) -> bool {
+    let mut line = Writes::new(room.as_mut_slice());
+    takes(&mut line, &TAKEN) && line.into_inner().len() == 0
+}
+
 #[test]
 fn a_full_writer_takes_nothing(rt: HostRuntime) {
     let mut room = [0u8; 3];
-    let mut line = Writes::new(room.as_mut_slice());
-    check(
-        &rt,
-        takes(&mut line, &TAKEN) && line.into_inner().len() == 0 && are_equal(&room, b"abc"),
-    );
+    let filled = is_filled(&mut room);
+    check(&rt, filled && are_bytes(&room, b"abc"));
 }

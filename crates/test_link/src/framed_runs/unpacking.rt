@@ -1,10 +1,9 @@
 //! Frames and hexadecimal text, read.
-use crate::tests::{
+use crate::framed_runs::{
     BAD_HEX, FRAMED, FRAMED_HEX, PACK, PACK_HEX, Row, STRICT, STRICT_HEX, UNPACK, UNPACK_HEX,
-    VALUES, check, expect, is_right,
+    VALUES, expect,
 };
 use framed_lib::arguments::Mode;
-use std::alloc::Global;
 
 const UNPACKED_HEX: [Row<'static>; 5] = [
     Row {
@@ -143,26 +142,22 @@ fn unpacks_damage_with_sentinel(rt: HostRuntime) {
     expect(&rt, &DAMAGED_BY_SENTINEL);
 }
 
-/// Whether a stream, of which something is damaged, is said to hold this.
-fn is_unpacked<'a>(alloc: Global, text: &'a [u8], out: &'a [u8]) -> bool {
-    let row = Row {
-        text,
-        out,
-        status: 1,
-        ..UNPACK
-    };
-    is_right(alloc, row)
-}
-
-const DAMAGED: &[u8] = b"\x00\x04\x02hi\x00\x03\x01\x00\x02\xff\x00\x03\x01A";
-
-const DAMAGE: &[u8] = b"value hi\ndamaged\ndamaged\ncut\n";
+const DAMAGED: Row<'static> = Row {
+    text: b"\x00\x04\x02hi\x00\x03\x01\x00\x02\xff\x00\x03\x01A",
+    out: b"value hi\ndamaged\ndamaged\ncut\n",
+    status: 1,
+    ..UNPACK
+};
 
 /// Stretches that hold no text, one that is too long, and one that nothing ends.
 #[test]
 fn unpacks_damage(rt: HostRuntime) {
     let mut stream = [1u8; 1027];
     stream[1025] = 0;
-    check(&rt, is_unpacked(rt.alloc(), DAMAGED, DAMAGE));
-    check(&rt, is_unpacked(rt.alloc(), &stream, b"too long\ncut\n"));
+    let too_long = Row {
+        text: &stream,
+        out: b"too long\ncut\n",
+        ..DAMAGED
+    };
+    expect(&rt, &[DAMAGED, too_long]);
 }

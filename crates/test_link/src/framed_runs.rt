@@ -1,4 +1,4 @@
-//! Runs of the whole program over memory: what a run is given and what comes of it, as rows of tables.
+//! Runs of the program `framed` over memory: what a run is given and what comes of it, as rows of tables.
 mod failing;
 mod long_runs;
 mod packing;
@@ -6,6 +6,7 @@ mod unpacking;
 
 ghost use Rattle.std.specs.Prelude.{◌<◌};
 
+use crate::checks::{check_at, holds};
 use framed_lib::arguments::Mode;
 use framed_lib::run::run;
 use line_io::Fault;
@@ -26,9 +27,11 @@ struct Row<'a> {
     /// After how many bytes the reader fails.
     read_fault: Option<usize>,
     /// After how many bytes the writer fails.
-    write_fault: Option<(usize, Fault)>,
+    write_fault: Option<usize>,
     /// After how many bytes standard error fails.
-    saying_fault: Option<(usize, Fault)>,
+    saying_fault: Option<usize>,
+    /// How they fail.
+    fault: Fault,
     /// What is written.
     out: &'a [u8],
     /// What is said on standard error.
@@ -44,6 +47,7 @@ const PACK: Row<'static> = Row {
     read_fault: None,
     write_fault: None,
     saying_fault: None,
+    fault: Fault::Fail,
     out: b"",
     said: b"",
     status: 0,
@@ -79,10 +83,18 @@ struct Left {
     said: usize,
 }
 
+/// The fault of this kind that a device meets after so many bytes.
+fn fault_after(before: Option<usize>, kind: Fault) -> Option<(usize, Fault)> {
+    match before {
+        Some(before) => Some((before, kind)),
+        None => None,
+    }
+}
+
 /// Runs over memory, so many bytes a call.
 fn run_over(
     alloc: Global,
-    row: Row<'_>,
+    row: &Row<'_>,
     reads: usize,
     writes: usize,
     says: usize,
@@ -99,8 +111,8 @@ fn run_over(
         row.hex,
         row.sentinel,
         In::new(row.text, reads, row.read_fault),
-        Out::new(written, writes, row.write_fault),
-        Out::new(told, says, row.saying_fault),
+        Out::new(written, writes, fault_after(row.write_fault, row.fault)),
+        Out::new(told, says, fault_after(row.saying_fault, row.fault)),
     );
     Left {
         status: ran.status,
@@ -109,44 +121,28 @@ fn run_over(
     }
 }
 
-/// Runs a few bytes a call.
-fn run_short(alloc: Global, row: Row<'_>, written: &mut [u8], told: &mut [u8]) -> Left {
-    run_over(alloc, row, 3, 5, 2, written, told)
-}
-
-/// Whether both have so many bytes, the same.
-fn begin_alike(one: &[u8], other: &[u8], count: usize) -> bool {
-    count <= one.len() && count <= other.len() && one[..count] == other[..count]
-}
-
-/// Whether so many bytes are all that is wanted, and the room begins with them.
-fn holds(room: &[u8], count: usize, wanted: &[u8]) -> bool {
-    count == wanted.len() && begin_alike(room, wanted, count)
+/// Whether so many bytes of a room are the first of these.
+fn begins(room: &[u8], count: usize, all: &[u8]) -> bool {
+    match all.get(..count) {
+        Some(wanted) => holds(room, count, wanted),
+        None => false,
+    }
 }
 
 /// Whether a run writes and says what the row has, and ends with its status.
-fn is_right(alloc: Global, row: Row<'_>) -> bool {
+fn is_right(alloc: Global, row: &Row<'_>) -> bool {
     let mut written = [0u8; ROOM];
     let mut told = [0u8; ROOM];
-    let left = run_short(alloc, row, &mut written, &mut told);
+    let left = run_over(alloc, row, 3, 5, 2, &mut written, &mut told);
     left.status == row.status
         && holds(&written, left.written, row.out)
         && holds(&told, left.said, row.said)
 }
 
-/// Ends a test that isn't right.
-pub fn check(rt: &impl Abort, is_right: bool) {
-    assert!(rt; is_right);
-}
-
-/// Ends a test that isn't right in this row, or at this byte.
-fn check_at(rt: &impl Abort, at: usize, is_right: bool) {
-    assert!(rt; is_right, "at {at}");
-}
-
+/// Ends a test in which a row isn't right.
 fn expect<R: AllocGlobal + Abort>(rt: &R, rows: &[Row<'_>]) {
     for (at, row) in rows.iter().enumerate() {
-        check_at(rt, at, is_right(rt.alloc(), *row));
+        check_at(rt, at, is_right(rt.alloc(), row));
     }
 }
 
@@ -167,16 +163,6 @@ const UNREAD: Row<'static> = Row {
     status: 3,
     ..PACK
 };
-
-/// The same, and the writer fails after so many bytes.
-fn unwritten(row: Row<'_>, before: usize, fault: Fault) -> Row<'_> {
-    Row {
-        write_fault: Some((before, fault)),
-        said: b"write failed\n",
-        status: 3,
-        ..row
-    }
-}
 
 /// A stretch that is longer than any frame may be.
 const STRETCH: [u8; 1025] = [1; 1025];

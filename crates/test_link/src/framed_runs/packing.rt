@@ -1,6 +1,6 @@
 //! Lines of text, sent.
-use crate::tests::{FRAMED, FRAMED_HEX, PACK, PACK_HEX, Row, check, expect, is_right};
-use std::alloc::Global;
+use crate::framed_runs::{FRAMED, FRAMED_HEX, PACK, PACK_HEX, Row, expect};
+use std::process::Abort;
 
 const PACKED: [Row<'static>; 6] = [
     Row {
@@ -51,20 +51,27 @@ const ZEROS: [u8; 1021] = [0; 1021];
 
 const MORE_ZEROS: [u8; 1022] = [0; 1022];
 
-/// Whether a text is written as these frames.
-fn is_packed<'a>(alloc: Global, text: &'a [u8], out: &'a [u8]) -> bool {
-    is_right(alloc, Row { text, out, ..PACK })
-}
+const TOO_LONG: Row<'static> = Row {
+    said: b"line 1: refused\n",
+    status: 1,
+    ..PACK
+};
 
-/// Whether a line is refused.
-fn is_too_long(alloc: Global, text: &[u8]) -> bool {
-    let row = Row {
-        text,
-        said: b"line 1: refused\n",
-        status: 1,
-        ..PACK
-    };
-    is_right(alloc, row)
+/// Expects that a text is written as these frames, and that another one is too long.
+fn expect_limit<'a, R: AllocGlobal + Abort>(
+    rt: &R,
+    text: &'a [u8],
+    out: &'a [u8],
+    longer: &'a [u8],
+) {
+    let rows = [
+        Row { text, out, ..PACK },
+        Row {
+            text: longer,
+            ..TOO_LONG
+        },
+    ];
+    expect(rt, &rows);
 }
 
 /// A line without zeros takes 1017 bytes at most, each 254 bytes of its frame a byte more.
@@ -77,8 +84,7 @@ fn packs_up_to_the_limit(rt: HostRuntime) {
     framed[766] = 255;
     framed[1021] = 4;
     framed[1025] = 0;
-    check(&rt, is_packed(rt.alloc(), &LETTERS, &framed));
-    check(&rt, is_too_long(rt.alloc(), &MORE_LETTERS));
+    expect_limit(&rt, &LETTERS, &framed, &MORE_LETTERS);
 }
 
 /// A zero takes one byte of a frame, wherever it stands: 1021 zeros have a frame of 1024 bytes, and 1022 one of 1025.
@@ -87,6 +93,5 @@ fn packs_zeros_up_to_the_limit(rt: HostRuntime) {
     let mut framed = [1u8; 1026];
     framed[..4].copy_from_slice(b"\x00\x03\xfd\x07");
     framed[1025] = 0;
-    check(&rt, is_packed(rt.alloc(), &ZEROS, &framed));
-    check(&rt, is_too_long(rt.alloc(), &MORE_ZEROS));
+    expect_limit(&rt, &ZEROS, &framed, &MORE_ZEROS);
 }
