@@ -3,7 +3,7 @@
 ghost use Rattle.std.specs.Prelude.{◌≡◌, ⊤};
 ghost use Rattle.link.specs.Each.{HeardAnyhow, heard_anyhow};
 
-use crate::checks::check;
+use crate::checks::{check, check_at};
 use crate::message_readers::Chosen;
 use line_io::memory::In;
 use link::{
@@ -159,71 +159,81 @@ const MARKED: [u8; 28] = [
     0x0B, 0x0A, 0x09, 0xA6, 0x08, 0x0A, 0x0E, 0x0F, 0x0B, 0x0B, 0x0A, 0x08,
 ];
 
+/// A call that hands each answer on, until the end.
+#[derive(Clone, Copy, Drop)]
+enum Call {
+    Plain,
+    Strict,
+    Marked,
+    MarkedStrict,
+    /// With a limit that is a value.
+    Limited,
+    LimitedStrict,
+    /// By a reader of messages that was told when the program ran how to read.
+    Chosen,
+}
+
+fn hand_on(
+    alloc: Global,
+    call: Call,
+    reader: &mut In<'_>,
+    wanted: &mut Wanted<'_, u32>,
+) -> Option<End> {
+    let lacking = Some(End::NoMemory);
+    match call {
+        Call::Plain => receive_each::<u32, _, _, 4>(alloc, reader, wanted),
+        Call::Strict => receive_each_strict::<u32, _, _, 4>(alloc, reader, wanted),
+        Call::Marked => receive_each_with_sentinel::<u32, _, _, 4>(alloc, reader, wanted, 10),
+        Call::MarkedStrict => {
+            receive_each_strict_with_sentinel::<u32, _, _, 4>(alloc, reader, wanted, 10)
+        }
+        Call::Limited => {
+            receive_each_owned::<u32, _, _>(alloc, reader, wanted, 4, 10).unwrap_or(lacking)
+        }
+        Call::LimitedStrict => {
+            receive_each_owned_strict::<u32, _, _>(alloc, reader, wanted, 4, 0).unwrap_or(lacking)
+        }
+        Call::Chosen => {
+            let ordinary = Chosen { strict: false };
+            Receiver::<4>::new().receive_each_with(alloc, &ordinary, reader, wanted)
+        }
+    }
+}
+
+const CALLS: [(Call, &[u8], &[(usize, Answer<u32>)]); 7] = [
+    (Call::Plain, &LINE, &HEARD),
+    (Call::Strict, &LINE, &HEARD_STRICTLY),
+    (Call::Marked, &MARKED, &HEARD),
+    (Call::MarkedStrict, &MARKED, &HEARD_STRICTLY),
+    (Call::Limited, &MARKED, &HEARD),
+    (Call::LimitedStrict, &LINE, &HEARD_STRICTLY),
+    (Call::Chosen, &LINE, &HEARD),
+];
+
+/// Whether a call hands on what is wanted, each answer at its byte.
+fn hands_on(alloc: Global, call: Call, line: &[u8], answers: &[(usize, Answer<u32>)]) -> bool {
+    let mut wanted = Wanted::new(answers);
+    let end = hand_on(alloc, call, &mut In::new(line, 1, None), &mut wanted);
+    wanted.is_whole(end)
+}
+
 #[test]
 fn each_at_its_byte(rt: HostRuntime) {
-    let mut wanted = Wanted::new(&HEARD);
-    let mut reader = In::new(&LINE, 1, None);
-    let end = receive_each::<u32, _, _, 4>(rt.alloc(), &mut reader, &mut wanted);
-    check(&rt, wanted.is_whole(end));
-    let mut wanted = Wanted::new(&HEARD_STRICTLY);
-    let mut reader = In::new(&LINE, 1, None);
-    let end = receive_each_strict::<u32, _, _, 4>(rt.alloc(), &mut reader, &mut wanted);
-    check(&rt, wanted.is_whole(end));
+    for (at, (call, line, answers)) in CALLS.iter().enumerate() {
+        check_at(&rt, at, hands_on(rt.alloc(), *call, line, answers));
+    }
 }
 
-#[test]
-fn each_by_a_sentinel(rt: HostRuntime) {
-    let alloc = rt.alloc();
-    let mut wanted = Wanted::new(&HEARD);
-    let mut reader = In::new(&MARKED, 1, None);
-    let end = receive_each_with_sentinel::<u32, _, _, 4>(alloc, &mut reader, &mut wanted, 10);
-    check(&rt, wanted.is_whole(end));
-    let mut wanted = Wanted::new(&HEARD_STRICTLY);
-    let mut reader = In::new(&MARKED, 1, None);
-    let end = receive_each_strict_with_sentinel::<u32, _, _, 4>(
-        alloc,
-        &mut reader,
-        &mut wanted,
-        10,
-    );
-    check(&rt, wanted.is_whole(end));
-}
-
-#[test]
-fn each_by_a_limit(rt: HostRuntime) {
-    let alloc = rt.alloc();
-    let mut wanted = Wanted::new(&HEARD);
-    let mut reader = In::new(&MARKED, 1, None);
-    let end = receive_each_owned::<u32, _, _>(alloc, &mut reader, &mut wanted, 4, 10);
-    check(&rt, matches!(end, Ok(end) if wanted.is_whole(end)));
-    let mut wanted = Wanted::new(&HEARD_STRICTLY);
-    let mut reader = In::new(&LINE, 1, None);
-    let end = receive_each_owned_strict::<u32, _, _>(alloc, &mut reader, &mut wanted, 4, 0);
-    check(&rt, matches!(end, Ok(end) if wanted.is_whole(end)));
-}
-
-/// By a reader of messages that was told when the program ran how to read.
+/// One read, which brings the whole line, by a reader of messages that is strict.
 #[test]
 fn each_by_a_reader(rt: HostRuntime) {
-    let alloc = rt.alloc();
-    let mut wanted = Wanted::new(&HEARD);
-    let mut reader = In::new(&LINE, 1, None);
-    let mut receiver = Receiver::<4>::new();
-    let end = receiver.receive_each_with(
-        alloc,
-        &Chosen { strict: false },
-        &mut reader,
-        &mut wanted,
-    );
-    check(&rt, wanted.is_whole(end));
     let mut wanted = Wanted::new(&HEARD_STRICTLY);
     let mut reader = In::new(&LINE, 28, None);
     let mut receiver = Receiver::<4>::new();
-    let end = receiver.listen_with(alloc, &Chosen { strict: true }, &mut reader, &mut wanted);
-    check(
-        &rt,
-        end.is_none() && wanted.heard == 6 && wanted.pauses == 1,
-    );
+    let strict = Chosen { strict: true };
+    let end = receiver.listen_with(rt.alloc(), &strict, &mut reader, &mut wanted);
+    let passed = end.is_none() && wanted.heard == 6;
+    check(&rt, passed && wanted.pauses == 1);
 }
 
 /// Into a room of the caller's: a read brings no more than it holds, and what an earlier one has left there isn't heard.
@@ -246,6 +256,16 @@ fn each_read_into_a_room(rt: HostRuntime) {
     check(&rt, wanted.heard == 6 && wanted.pauses == 2);
 }
 
+/// One read.
+fn listen(
+    alloc: Global,
+    receiver: &mut Receiver<4>,
+    reader: &mut In<'_>,
+    wanted: &mut Wanted<'_, u32>,
+) -> Option<End> {
+    receiver.listen::<u32, _, _>(alloc, reader, wanted)
+}
+
 /// One read a call, and nothing that it has brought about is left.
 #[test]
 fn each_read(rt: HostRuntime) {
@@ -253,10 +273,10 @@ fn each_read(rt: HostRuntime) {
     let mut wanted = Wanted::new(&HEARD);
     let mut reader = In::new(&LINE, 1, None);
     for count in 1..29 {
-        let end = receiver.listen::<u32, _, _>(rt.alloc(), &mut reader, &mut wanted);
+        let end = listen(rt.alloc(), &mut receiver, &mut reader, &mut wanted);
         check(&rt, end.is_none() && reader.moved() == count);
     }
-    let end = receiver.listen::<u32, _, _>(rt.alloc(), &mut reader, &mut wanted);
+    let end = listen(rt.alloc(), &mut receiver, &mut reader, &mut wanted);
     check(&rt, end == Some(End::Ended) && wanted.has_heard(6));
     check(&rt, receiver.finish::<u32>() == Some(Answer::Cut));
 }
@@ -285,7 +305,7 @@ fn behind_a_fault(rt: HostRuntime) {
     let mut reader = In::new(&LINE, 1, Some(5));
     let mut faults = 0usize;
     for _ in 0..29 {
-        match receiver.listen::<u32, _, _>(rt.alloc(), &mut reader, &mut wanted) {
+        match listen(rt.alloc(), &mut receiver, &mut reader, &mut wanted) {
             Some(end) => {
                 check(&rt, end == End::ReadFault && reader.moved() == 5);
                 faults = faults.saturating_add(1);
@@ -302,14 +322,12 @@ fn until_enough(rt: HostRuntime) {
     let mut wanted = Wanted::new(&HEARD);
     wanted.most = 2;
     let mut reader = In::new(&LINE, 1, None);
-    let end = receive_each::<u32, _, _, 4>(rt.alloc(), &mut reader, &mut wanted);
-    check(
-        &rt,
-        end.is_none() && wanted.has_heard(2) && reader.moved() == 7,
-    );
+    let end = hand_on(rt.alloc(), Call::Plain, &mut reader, &mut wanted);
+    let passed = end.is_none() && wanted.has_heard(2);
+    check(&rt, passed && reader.moved() == 7);
     let mut wanted = Wanted::new(&HEARD);
     let mut reader = In::new(&LINE, 1, Some(8));
-    let end = receive_each::<u32, _, _, 4>(rt.alloc(), &mut reader, &mut wanted);
+    let end = hand_on(rt.alloc(), Call::Plain, &mut reader, &mut wanted);
     check(&rt, end == Some(End::ReadFault) && wanted.has_heard(2));
 }
 
@@ -332,30 +350,49 @@ const TEXTS_HEARD_STRICTLY: [(usize, Answer<&str>); 4] = [
     (17, Answer::Cut),
 ];
 
-#[test]
-fn texts_where_they_lie(rt: HostRuntime) {
-    let mut wanted = Wanted::new(&TEXTS_HEARD);
-    let mut reader = In::new(&TEXTS, 1, None);
-    let end = receive_each_text::<_, _, 8>(rt.alloc(), &mut reader, &mut wanted, 0);
-    check(&rt, wanted.is_whole(end));
-    let mut wanted = Wanted::new(&TEXTS_HEARD_STRICTLY);
-    let mut reader = In::new(&TEXTS, 1, None);
-    let end = receive_each_text_strict::<_, _, 8>(rt.alloc(), &mut reader, &mut wanted, 0);
-    check(&rt, wanted.is_whole(end));
+/// A call that hands each text on where it lies, until the end.
+#[derive(Clone, Copy, Drop)]
+enum TextCall {
+    Plain,
+    Strict,
+    /// With a limit that is a value.
+    Limited,
+    LimitedStrict,
 }
 
-/// The same by a receiver with a limit that is a value.
+fn hand_texts_on(
+    alloc: Global,
+    call: TextCall,
+    wanted: &mut Wanted<'_, &'static str>,
+) -> Option<End> {
+    let reader = &mut In::new(&TEXTS, 1, None);
+    let lacking = Some(End::NoMemory);
+    match call {
+        TextCall::Plain => receive_each_text::<_, _, 8>(alloc, reader, wanted, 0),
+        TextCall::Strict => receive_each_text_strict::<_, _, 8>(alloc, reader, wanted, 0),
+        TextCall::Limited => {
+            receive_each_text_owned(alloc, reader, wanted, 8, 0).unwrap_or(lacking)
+        }
+        TextCall::LimitedStrict => {
+            receive_each_text_owned_strict(alloc, reader, wanted, 8, 0).unwrap_or(lacking)
+        }
+    }
+}
+
+const TEXT_CALLS: [(TextCall, &[(usize, Answer<&str>)]); 4] = [
+    (TextCall::Plain, &TEXTS_HEARD),
+    (TextCall::Strict, &TEXTS_HEARD_STRICTLY),
+    (TextCall::Limited, &TEXTS_HEARD),
+    (TextCall::LimitedStrict, &TEXTS_HEARD_STRICTLY),
+];
+
 #[test]
-fn texts_by_a_limit(rt: HostRuntime) {
-    let alloc = rt.alloc();
-    let mut wanted = Wanted::new(&TEXTS_HEARD);
-    let mut reader = In::new(&TEXTS, 1, None);
-    let end = receive_each_text_owned(alloc, &mut reader, &mut wanted, 8, 0);
-    check(&rt, matches!(end, Ok(end) if wanted.is_whole(end)));
-    let mut wanted = Wanted::new(&TEXTS_HEARD_STRICTLY);
-    let mut reader = In::new(&TEXTS, 1, None);
-    let end = receive_each_text_owned_strict(alloc, &mut reader, &mut wanted, 8, 0);
-    check(&rt, matches!(end, Ok(end) if wanted.is_whole(end)));
+fn texts_where_they_lie(rt: HostRuntime) {
+    for (at, (call, answers)) in TEXT_CALLS.iter().enumerate() {
+        let mut wanted = Wanted::new(answers);
+        let end = hand_texts_on(rt.alloc(), *call, &mut wanted);
+        check_at(&rt, at, wanted.is_whole(end));
+    }
 }
 
 // From which byte to which a piece of the line goes, how many bytes are used for the first answer in it, and how long the
