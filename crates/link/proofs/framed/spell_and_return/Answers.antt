@@ -1,3 +1,4 @@
+use Rattle.std.proofs.lemmas.Grind.{common_steps}
 use Rattle.std.proofs.Common.{◌≡◌, ◌≤◌, ◌++◌, ℕ, List, length, ap, arith, length-append}
 use Rattle.link.proofs.framed.spell_and_return.Goals as goal
 
@@ -10,3 +11,6 @@ returns-in-Ok-clause-within g c = front_within _ _ _ _ c.held-n.ensures c.into_i
 
 pub returns-in-Ok-clause-valid : goal.returns-in-Ok-clause-valid
 returns-in-Ok-clause-valid g c = λ _. c.in-Ok.ensures.valid
+
+pub returns-in-Ok-clause-spelled : goal.returns-in-Ok-clause-spelled
+returns-in-Ok-clause-spelled g c = grind (arith, common_steps)

@@ -1,3 +1,4 @@
+use Rattle.std.proofs.lemmas.Grind.{common_steps}
 use Rattle.std.proofs.Common.{◌∙◌, ap, sym, arith, ◌++◌, ◌∷◌, [], take, length, ◌<◌}
 use Rattle.std.proofs.lemmas.List.{take_more, take_more_set}
 use Rattle.link.proofs.TurnsLemmas.{one_sent}
@@ -15,3 +16,9 @@ loop-i-preserved g c =
           rw (take_more c.args.values.now i value c.loop-i-test.true ∙ ap (λ v. take i c.args.values.now ++ v ∷ []) (sym c.index-values-i.is), take_more_set c.loop-i.fates i c.send_one.result short)
           (one_sent _ _ _ _ _ _ _ _ _ _ _ _ _ _ _ _ _ _ _ _ c.loop-i.invariant.sent one);
     }
+
+pub loop-i-init : goal.loop-i-init
+loop-i-init g c = grind (arith, common_steps)
+
+pub returns : goal.returns
+returns g c = grind (arith, common_steps)

@@ -1,3 +1,4 @@
+use Rattle.std.proofs.lemmas.Grind.{common_steps}
 use Rattle.std.proofs.Common.{length, sym, ap, ◌∙◌, subst, arith}
 use Rattle.cobs.specs.Frames.{Frame}
 use Rattle.cobs.specs.Sentinel.{masked}
@@ -30,3 +31,6 @@ returns-in_default-clause-found g c limit s i some short =
           let far = t.no_frame m (subst (λ n. Frame (masked n c.args.stretch.now) m) (sym k.sentinel) f) in
           omega (arith, far, ap length (c.message_of_a_frame.ensures.one p m f), c.shorter.ensures p, masked_length s c.args.stretch.now, short, k.room),
     )
+
+pub returns-clause-found : goal.returns-clause-found
+returns-clause-found g c = grind (arith, common_steps)
