@@ -168,21 +168,28 @@ fn time_in_place(samples: usize, framed: &[u8]) -> Vec<Timed> {
 }
 
 /// What is aimed at: the ratio of a call on so many bytes of a kind to the best peer.
-fn goal(call: &str, len: usize, kind: usize) -> f64 {
+pub fn goal(call: &str, len: usize, kind: usize) -> f64 {
     match (call, len) {
+        ("push", 16) => 1.2,
         ("try_encode" | "push", 1024 | LARGE) => [1.3, 1.0, 0.6, 0.1][kind],
         ("try_encode" | "push", 4) => 1.2,
         ("try_encode" | "push", _) => 1.3,
-        ("decode", LARGE) => [1.4, 1.4, 0.7, 0.05][kind],
-        ("decode", 1024) => 1.5,
-        ("decode", 4) => 1.8,
-        ("decode", _) => 1.3,
-        (_, 4) => 1.8,
-        (_, _) if kind == 2 && len > 16 => 0.5,
-        (_, 1024 | LARGE) => 1.4,
-        _ => 1.5,
+        ("decode", LARGE) => [1.2, 1.2, 0.9, 0.8][kind],
+        ("decode", 1024) => 1.3,
+        (_, 4) => 1.4,
+        ("decode", _) => 1.2,
+        (_, _) if kind == 2 && len > 16 => 1.0,
+        _ => 1.2,
     }
 }
+
+/// The same for a decoder's `push` of pieces of so many bytes, and for an accumulator's `feed`.
+pub const PUSHING: [(usize, f64); 3] = [(1, 1.1), (64, 0.7), (4096, 0.5)];
+pub const FEEDING: [(usize, f64); 3] = [(1, 0.9), (64, 0.8), (4096, 0.7)];
+
+/// The same for a record, over the straight peer.
+pub const WRITING: f64 = 0.9;
+pub const READING: f64 = 0.95;
 
 /// The times of each length and kind of one call.
 type Grid = Vec<[Vec<Timed>; 4]>;
@@ -405,7 +412,7 @@ pub fn streams(samples: usize, report: &mut Report) {
         ("byte by byte", pieces::messages_by_bytes),
         ("by runs", pieces::messages_by_runs),
     ];
-    for (piece, goal) in [(1, 1.1), (64, 0.7), (4096, 0.5)] {
+    for (piece, goal) in PUSHING {
         let timed = time_stream(samples, &stream, piece, "push", Calls::messages, &taking);
         print_stream(report, "decoder's `push`", piece, &timed, goal);
     }
@@ -413,7 +420,7 @@ pub fn streams(samples: usize, report: &mut Report) {
         ("an accumulator", pieces::records_by_accumulator),
         ("by runs", pieces::records_by_runs),
     ];
-    for (piece, goal) in [(1, 1.0), (64, 0.9), (4096, 0.7)] {
+    for (piece, goal) in FEEDING {
         let timed = time_stream(samples, &stream, piece, "feed", Calls::records, &taking);
         print_stream(report, "accumulator's `feed`", piece, &timed, goal);
     }
@@ -555,9 +562,9 @@ pub fn records(samples: usize, report: &mut Report) {
         ],
     );
     let timed = time_writing(samples, &record, &spelling);
-    print_record(report, "to_slice", &timed, 1.0);
+    print_record(report, "to_slice", &timed, WRITING);
     let timed = time_reading(samples, &spelling, parts);
-    print_record(report, "from_bytes", &timed, 0.9);
+    print_record(report, "from_bytes", &timed, READING);
 }
 
 /// What 1000 bytes cost, in nanoseconds: by each of our calls with the best peer beside it, and by memcpy.

@@ -1,12 +1,12 @@
 //! Counts the instructions of calls, ours and the peers', by `valgrind --tool=callgrind`, and prints tables of them. No load of
 //! the machine changes them.
 use crate::calls::{Calls, Found, Parts, OURS};
-use crate::cases::{room, LENGTHS};
+use crate::cases::{goal, room, FEEDING, LENGTHS, PUSHING, READING, WRITING};
 use crate::data::{self, message, record, Record, KINDS};
 use crate::frames::{bytes, runs, wide, windows};
 use crate::peers::{records as by_hand, streams as pieces};
 use crate::remote;
-use crate::table::{head, row, size};
+use crate::table::{head, row, size, Report};
 use std::collections::BTreeMap;
 use std::hint::black_box;
 use std::path::Path;
@@ -256,66 +256,75 @@ impl Counts {
         self.0[&named(call, whose, len, kind)]
     }
 
-    /// Of a call on a message, and of each peer.
-    fn cell(&self, call: &str, peers: &[(&str, &str)], len: usize, kind: &str) -> String {
+    /// Of a call on a message, and of the peer with the fewest, with their ratio and what is aimed at.
+    fn cell(&self, report: &mut Report, call: &str, peers: &[(&str, &str)], len: usize, kind: usize) -> String {
+        let (of, kind) = (goal(call, len, kind), KINDS[kind]);
         let around = if call == "decode_in_place" { "within" } else { "into" };
         let around = self.of("nothing", around, len, kind);
         let ours = self.of(call, OURS_NAME, len, kind) - around;
         let counted = peers.iter().map(|(call, whose)| (self.of(call, whose, len, kind) - around, whose));
         let best = counted.min_by(|a, b| a.0.total_cmp(&b.0)).expect("a peer");
-        format!("{ours:.0} / {:.0} {}", best.0, &best.1)
+        let what = format!("`{call}`, {}, {kind}", size(len));
+        let ratio = report.figure(&what, ours / best.0, of);
+        format!("{ours:.0} / {:.0} {}: {ratio}", best.0, &best.1)
     }
 }
 
-fn print_grid(counts: &Counts, call: &str, peers: &[(&str, &str)]) {
-    let title = format!("Instructions: `{call}` / the peer with the fewest");
+fn print_grid(counts: &Counts, report: &mut Report, call: &str, peers: &[(&str, &str)]) {
+    let title = format!("Instructions: `{call}` / the peer with the fewest: ratio (goal)");
     head(&title, &["Bytes", KINDS[0], KINDS[1], KINDS[2], KINDS[3]]);
     for len in LENGTHS {
         let mut cells = vec![size(len)];
-        cells.extend(KINDS.map(|kind| counts.cell(call, peers, len, kind)));
+        cells.extend([0, 1, 2, 3].map(|kind| counts.cell(report, call, peers, len, kind)));
         row(&cells);
     }
 }
 
-fn print_sentinels(counts: &Counts) {
-    let title = "Instructions for another sentinel, over those for zero";
+fn print_sentinels(counts: &Counts, report: &mut Report) {
+    let title = "Instructions for another sentinel, over those for zero (goal)";
     head(title, &["Bytes", "Kind", "`push`", "`decode_with_sentinel`", "in place"]);
     for len in LENGTHS {
         for kind in [KINDS[0], KINDS[2]] {
-            let ratio = |call: &str| {
+            let mut ratio = |call: &str| {
                 let around = if call == "in_place_for" { "within" } else { "into" };
                 let around = counts.of("nothing", around, len, kind);
                 let of = |whose| counts.of(call, whose, len, kind) - around;
-                format!("{:.2}", of("another") / of("zero"))
+                let what = format!("another sentinel, `{call}`, {}, {kind}", size(len));
+                report.figure(&what, of("another") / of("zero"), 1.05)
             };
             let mut cells = vec![size(len), kind.to_owned()];
-            cells.extend(["push_for", "decode_for", "in_place_for"].map(ratio));
+            cells.extend(["push_for", "decode_for", "in_place_for"].map(&mut ratio));
             row(&cells);
         }
     }
 }
 
-fn print_streams(counts: &Counts, bytes: usize) {
+fn print_streams(counts: &Counts, report: &mut Report, bytes: usize) {
     let title = "Instructions for a byte of a stream";
-    head(title, &["Call", "Ours", "Peer", "Peer"]);
-    for (call, what) in [("push", "decoder's `push`"), ("feed", "accumulator's `feed`")] {
-        for piece in PIECES {
-            let ways = STREAMS.iter().filter(|way| way.0 == call);
-            let mut cells = vec![format!("{what}, pieces of {piece}")];
-            cells.extend(ways.map(|(_, whose, _)| {
-                let each = counts.of(call, whose, piece, "stream") / bytes as f64;
-                if *whose == OURS_NAME { format!("{each:.1}") } else { format!("{each:.1} ({whose})") }
-            }));
+    head(title, &["Call", "Ours", "Peer", "Peer", "Ours / the fewest (goal)"]);
+    for (call, what, goals) in [("push", "decoder's `push`", PUSHING), ("feed", "accumulator's `feed`", FEEDING)] {
+        for (piece, goal) in goals {
+            let what = format!("{what}, pieces of {piece}");
+            let each = |whose: &str| counts.of(call, whose, piece, "stream") / bytes as f64;
+            let peers = STREAMS.iter().filter(|way| way.0 == call && way.1 != OURS_NAME);
+            let fewest = peers.clone().map(|way| each(way.1)).fold(f64::INFINITY, f64::min);
+            let mut cells = vec![what.clone(), format!("{:.1}", each(OURS_NAME))];
+            cells.extend(peers.map(|way| format!("{:.1} ({})", each(way.1), way.1)));
+            cells.push(report.figure(&what, each(OURS_NAME) / fewest, goal));
             row(&cells);
         }
     }
 }
 
-fn print_record(counts: &Counts) {
-    head("Instructions for a record", &["Call", "Ours", "Straight", "As a crate does it"]);
-    for call in ["to_slice", "from_bytes"] {
+fn print_record(counts: &Counts, report: &mut Report) {
+    let title = "Instructions for a record";
+    head(title, &["Call", "Ours", "Straight", "As a crate does it", "Ours / straight (goal)"]);
+    for (call, goal) in [("to_slice", WRITING), ("from_bytes", READING)] {
+        let of = |whose| counts.of(call, whose, 0, "");
         let mut cells = vec![format!("`{call}`")];
-        cells.extend([OURS_NAME, "straight", "crate"].map(|w| format!("{:.0}", counts.of(call, w, 0, ""))));
+        cells.extend([OURS_NAME, "straight", "crate"].map(|w| format!("{:.0}", of(w))));
+        let ratio = of(OURS_NAME) / of("straight");
+        cells.push(report.figure(&format!("a record's `{call}`"), ratio, goal));
         row(&cells);
     }
 }
@@ -326,12 +335,14 @@ pub fn print(folder: &Path) {
     let encoders = ENCODERS[2..].iter().map(|way| (way.0, way.1)).collect::<Vec<_>>();
     let decoders = DECODERS[1..].iter().map(|way| (way.0, way.1)).collect::<Vec<_>>();
     let within = IN_PLACE[1..].iter().map(|way| (way.0, way.1)).collect::<Vec<_>>();
-    print_grid(&counts, "try_encode", &encoders);
-    print_grid(&counts, "push", &encoders);
-    print_grid(&counts, "decode", &decoders);
-    print_grid(&counts, "decode_in_place", &within);
-    print_sentinels(&counts);
-    print_streams(&counts, data::stream(STREAM).len());
-    print_record(&counts);
-    remote::print_calls(&counts);
+    let mut report = Report::new();
+    print_grid(&counts, &mut report, "try_encode", &encoders);
+    print_grid(&counts, &mut report, "push", &encoders);
+    print_grid(&counts, &mut report, "decode", &decoders);
+    print_grid(&counts, &mut report, "decode_in_place", &within);
+    print_sentinels(&counts, &mut report);
+    print_streams(&counts, &mut report, data::stream(STREAM).len());
+    print_record(&counts, &mut report);
+    remote::print_calls(&counts, &mut report);
+    report.print_goals();
 }

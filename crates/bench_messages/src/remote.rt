@@ -1,11 +1,11 @@
 //! Both sides of remote calls over memory as C functions.
 //!
 //! A request is a `u16` and a `u32`, a reply a `bool` and a `u64`.
-ghost use Rattle.std.specs.Prelude.{⊤};
+ghost use Rattle.std.specs.Prelude.{◌≡◌, ⊤, None};
 
-use calls::{Application, Client, Server, Service, Waiting, serve, wait_with};
+use calls::{Application, Client, Server, Service, Waiting, serve_with, wait_with};
 use line_io::memory::{In, Out};
-use link::{OfType, Ordinary, Receiver};
+use link::{OfType, Ordinary, Receiver, Sender};
 use std::alloc::Global;
 
 type Request = (u16, u32);
@@ -37,14 +37,23 @@ struct Scale {
 impl Application<Request, Reply> for Scale {
     ghost executes = { λ old asks says new. ⊤ };
 
-    fn execute(&mut self, request: Request) -> Reply
+    ghost passes = { λ number last. None };
+
+    fn execute(&mut self, request: &Request) -> Reply
         ensures { ⊤ }
     {
-        let (which, amount) = request;
+        let (which, amount) = *request;
         let said = u64::from(amount) * 1_048_576;
         self.executed = self.executed.wrapping_add(1);
         self.sum = self.sum.wrapping_add(said);
         (which % 2 == 0, said)
+    }
+
+    fn pass(number: u64, last: u64) -> Option<Reply>
+        ensures { result ≡ None }
+    {
+        let _ = (number, last);
+        None
     }
 }
 
@@ -62,10 +71,16 @@ pub extern "C" fn calls_c_serve(
             executed: 0,
             sum: 0,
         },
-        server: Server::<Out<'_>, Reply, FRAME>::new(Out::new(room, EACH, None)),
+        server: Server::<Out<'_>, Request, Reply, FRAME>::new(Sender::new(Out::new(
+            room, EACH, None,
+        ))),
+        unsent: false,
     };
-    let _end = serve::<Request, Reply, Scale, In<'_>, Out<'_>, FRAME, FRAME>(
+    let mut receiver = Receiver::<FRAME>::new();
+    let _end = serve_with(
         alloc,
+        &mut receiver,
+        &Ordinary(OfType),
         &mut reader,
         &mut service,
     );
@@ -94,7 +109,7 @@ pub extern "C" fn calls_c_call(
     let mut reader = In::new(replies, each, None);
     let mut receiver = Receiver::<FRAME>::new();
     let mut waiting: Waiting<Out<'_>, Request, Reply, FRAME> = Waiting {
-        client: Client::new(Out::new(room, EACH, None), first),
+        client: Client::new(Sender::new(Out::new(room, EACH, None)), first),
         said: None,
     };
     let mut line = [0u8; EACH];

@@ -1,6 +1,6 @@
 -- What a client asks.
-use Rattle.std.specs.Prelude.{◌≡◌, ℕ, ◌+◌, ◌<◌, ◌≤◌, List, [], ◌∷◌, ◌++◌, ◌^◌, Option, Some, None, IfSome, Result, Ok, Err}
-use Rattle.calls.specs.Calls.{OnePerNumber}
+use Rattle.std.specs.Prelude.{◌≡◌, ℕ, ◌+◌, ◌<◌, ◌≤◌, List, [], ◌∷◌, ◌++◌, Option, Some, None, IfSome, Result, Ok, Err}
+use Rattle.calls.specs.Calls.{no_call, OnePerNumber}
 use Rattle.link.specs.declared.sender.Sender.{Sender}
 use Rattle.link.specs.declared.sender.SendError.{SendError}
 use Rattle.calls.specs.declared.client.Client.{Client}
@@ -61,11 +61,11 @@ IsNumbered a = IfSome a.pending (λ p. p.0 < a.next)
 abbrev pub AsksOnePerNumber : (Q : Type 0) → Type 0
 AsksOnePerNumber Q = (a : Asker Q) (steps : List (Step Q)) → IsNumbered a → OnePerNumber (all_tried a steps)
 
--- what a call did, by its answer
+-- what a call did, by its answer: a number is left exactly where it isn't full
 abbrev pub IsCalled : {Q : Type 0} → Asker Q → Asker Q → Q → Result (Unit {0}) CallError → (same : Type 0) → (ℕ × Q → Result (Unit {0}) SendError → Type 0) → Type 0
-IsCalled old new q (Ok u) same sends = (new ≡ stepped old (calls q)) × sends (old.next, q) (Ok tt)
-IsCalled old new q (Err (Unsent e)) same sends = (new ≡ stepped old (calls q)) × sends (old.next, q) (Err e)
-IsCalled old new q (Err Full) same sends = (new ≡ old) × same × (2 ^ 64 ≤ old.next + 1)
+IsCalled old new q (Ok u) same sends = (new ≡ stepped old (calls q)) × sends (old.next, q) (Ok tt) × (old.next < no_call)
+IsCalled old new q (Err (Unsent e)) same sends = (new ≡ stepped old (calls q)) × sends (old.next, q) (Err e) × (old.next < no_call)
+IsCalled old new q (Err Full) same sends = (new ≡ old) × same × (no_call ≤ old.next)
 IsCalled old new q (Err Idle) same sends = ⊥
 
 -- what sending it again did

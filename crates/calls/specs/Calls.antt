@@ -1,5 +1,5 @@
 -- Calls by number: what a server executes and replies, what a client asks, and what lines that lose messages make of it.
-use Rattle.std.specs.Prelude.{◌≡◌, ◌⊎◌, ℕ, ◌+◌, ◌<◌, ◌≤◌, ◌==◌, if◌then◌else◌, List, [], ◌∷◌, ◌++◌, Option, Some, None}
+use Rattle.std.specs.Prelude.{◌≡◌, ◌⊎◌, ℕ, ◌+◌, ◌<◌, ◌≤◌, ◌==◌, Bool, true, if◌then◌else◌, List, [], ◌∷◌, ◌++◌, Option, Some, None}
 
 -- a call that was executed: its number, what it asked, and what was said to it
 pub record Execution (Q R : Type 0) : Type 0 where
@@ -7,28 +7,41 @@ pub record Execution (Q R : Type 0) : Type 0 where
   pub asks : Q
   pub says : R
 
--- A server keeps its last reply, with the number of its call: the highest that it executed. This is the least that it would
--- execute.
-abbrev pub next_of : {R : Type 0} → Option (ℕ × R) → ℕ
-next_of None = 0
-next_of (Some p) = p.0 + 1
+-- the execution of a request by this number, with this reply
+abbrev pub call : {Q R : Type 0} → ℕ → Q → R → Execution Q R
+call n q r = record { number = n; asks = q; says = r }
 
--- the last reply once more, where it is to this number
-abbrev pub again : {R : Type 0} → Option (ℕ × R) → ℕ → List (ℕ × R)
-again None n = []
-again (Some p) n = if p.0 == n then p ∷ [] else []
+-- A server keeps the last call that it executed: its number is the highest. This is the least that it would execute.
+abbrev pub next_of : {Q R : Type 0} → Option (Execution Q R) → ℕ
+next_of None = 0
+next_of (Some e) = e.number + 1
+
+-- the greatest number: no call has it, and what is said of a request that was passed over goes out by it
+abbrev pub no_call : ℕ
+no_call = 18446744073709551615
+
+-- what goes out of what is said of a request that was passed over, where anything is
+abbrev pub notices : {R : Type 0} → Option R → List (ℕ × R)
+notices None = []
+notices (Some said) = (no_call, said) ∷ []
+
+-- What is replied to a request that isn't executed. The last reply once more, where this is the same request by the same number: the
+-- test of the requests' type says so. Else what is said of it by its number and by that of the last call, which it isn't.
+abbrev pub again : {Q R : Type 0} → (Q → Q → Bool) → (ℕ → ℕ → Option R) → Option (Execution Q R) → ℕ → Q → List (ℕ × R)
+again equal passes None n q = []
+again equal passes (Some e) n q = if e.number == n then (if equal e.asks q then (e.number, e.says) ∷ [] else notices (passes n e.number)) else notices (passes n e.number)
 
 -- One request: what is executed for it, what is replied, and what is kept then. A number below the least is not executed.
-pub record Serves {Q R : Type 0} (kept : Option (ℕ × R)) (number : ℕ) (asks : Q) (log : List (Execution Q R)) (out : List (ℕ × R)) (later : Option (ℕ × R)) : Type 0 where
-  pub known : number < next_of kept → (log ≡ []) × (out ≡ again kept number) × (later ≡ kept)
-  pub fresh : next_of kept ≤ number → (says : R) × (log ≡ (let e : Execution Q R = record { number = number; asks = asks; says = says } in e) ∷ []) × (out ≡ (number, says) ∷ []) × (later ≡ Some (number, says))
+pub record Serves {Q R : Type 0} (equal : Q → Q → Bool) (passes : ℕ → ℕ → Option R) (kept : Option (Execution Q R)) (number : ℕ) (asks : Q) (log : List (Execution Q R)) (out : List (ℕ × R)) (later : Option (Execution Q R)) : Type 0 where
+  pub known : number < next_of kept → (log ≡ []) × (out ≡ again equal passes kept number asks) × (later ≡ kept)
+  pub fresh : next_of kept ≤ number → (says : R) × (log ≡ call number asks says ∷ []) × (out ≡ (number, says) ∷ []) × (later ≡ Some (call number asks says))
 
 -- requests one after another
-abbrev pub ServesAll : {Q R : Type 0} → Option (ℕ × R) → List (ℕ × Q) → List (Execution Q R) → List (ℕ × R) → Option (ℕ × R) → Type 0
-ServesAll kept [] log out later = (log ≡ []) × (out ≡ []) × (later ≡ kept)
-ServesAll {Q} {R} kept (q ∷ qs) log out later =
-    (first : List (Execution Q R)) × (others : List (Execution Q R)) × (says : List (ℕ × R)) × (more : List (ℕ × R)) × (mid : Option (ℕ × R))
-    × Serves kept q.0 q.1 first says mid × ServesAll mid qs others more later × (log ≡ first ++ others) × (out ≡ says ++ more)
+abbrev pub ServesAll : {Q R : Type 0} → (Q → Q → Bool) → (ℕ → ℕ → Option R) → Option (Execution Q R) → List (ℕ × Q) → List (Execution Q R) → List (ℕ × R) → Option (Execution Q R) → Type 0
+ServesAll equal passes kept [] log out later = (log ≡ []) × (out ≡ []) × (later ≡ kept)
+ServesAll {Q} {R} equal passes kept (q ∷ qs) log out later =
+    (first : List (Execution Q R)) × (others : List (Execution Q R)) × (says : List (ℕ × R)) × (more : List (ℕ × R)) × (mid : Option (Execution Q R))
+    × Serves equal passes kept q.0 q.1 first says mid × ServesAll equal passes mid qs others more later × (log ≡ first ++ others) × (out ≡ says ++ more)
 
 -- each number is at least this, and above the one before
 abbrev pub Rises : {Q R : Type 0} → ℕ → List (Execution Q R) → Type 0
@@ -37,7 +50,7 @@ Rises n (e ∷ es) = (n ≤ e.number) × Rises (e.number + 1) es
 
 -- Whatever requests are served, each number is executed once at most, and none that is below the least.
 abbrev pub ExecutesOnce : (Q R : Type 0) → Type 0
-ExecutesOnce Q R = (kept later : Option (ℕ × R)) (qs : List (ℕ × Q)) (log : List (Execution Q R)) (out : List (ℕ × R)) → ServesAll kept qs log out later
+ExecutesOnce Q R = (equal : Q → Q → Bool) (passes : ℕ → ℕ → Option R) (kept later : Option (Execution Q R)) (qs : List (ℕ × Q)) (log : List (Execution Q R)) (out : List (ℕ × R)) → ServesAll equal passes kept qs log out later
     → Rises (next_of kept) log × (next_of kept ≤ next_of later)
 
 -- the list has it
@@ -55,20 +68,34 @@ Among (x ∷ xs) (y ∷ ys) = ((x ≡ y) × Among xs ys) ⊎ Among (x ∷ xs) ys
 abbrev pub OnePerNumber : {Q : Type 0} → List (ℕ × Q) → Type 0
 OnePerNumber {Q} sent = (a b : ℕ × Q) → In a sent → In b sent → a.0 ≡ b.0 → a ≡ b
 
--- Whatever a new server hears: each reply is what it said when it executed a request that it heard, by that number.
-abbrev pub RepliesWereSaid : (Q R : Type 0) → Type 0
-RepliesWereSaid Q R = (heard : List (ℕ × Q)) (log : List (Execution Q R)) (out : List (ℕ × R)) (later : Option (ℕ × R)) (n : ℕ) (r : R)
-    → ServesAll None heard log out later → In (n, r) out
-    → (q : Q) × In (n, q) heard × In (let e : Execution Q R = record { number = n; asks = q; says = r } in e) log
+-- The kept call has this number and this reply, and asked what is the same by the test of the requests' type.
+abbrev pub KeptFor : {Q R : Type 0} → (Q → Q → Bool) → Option (Execution Q R) → ℕ → Q → R → Type 0
+KeptFor equal None n q r = ⊥
+KeptFor equal (Some e) n q r = (e.number ≡ n) × (equal e.asks q ≡ true) × (e.says ≡ r)
 
--- Some of what was sent is heard by a new server, and some of its replies come back: a reply to a call's number is what the
--- server said when it executed that call.
+-- Whatever a server hears, and whatever it served before: each reply is to a request that it heard by that number, and is what it said
+-- when it executed that one; or what it had kept, of a request that is the same. A new server had kept nothing.
+abbrev pub RepliesWereSaid : (Q R : Type 0) → Type 0
+RepliesWereSaid Q R = (equal : Q → Q → Bool) (passes : ℕ → ℕ → Option R) (kept : Option (Execution Q R)) (heard : List (ℕ × Q)) (log : List (Execution Q R)) (out : List (ℕ × R)) (later : Option (Execution Q R)) (n : ℕ) (r : R)
+    → n < no_call → ServesAll equal passes kept heard log out later → In (n, r) out
+    → (q : Q) × In (n, q) heard × (In (call n q r) log ⊎ KeptFor equal kept n q r)
+
+-- Whatever a new server heard before, in any order, and however often requests had the same number: what it replies to one has that
+-- one's number, and is what was said when this very request was executed by it, or one that is the same by the test of its type.
+abbrev pub RepliesToTheSame : (Q R : Type 0) → Type 0
+RepliesToTheSame Q R = (equal : Q → Q → Bool) (passes : ℕ → ℕ → Option R) (before : List (ℕ × Q)) (log now : List (Execution Q R)) (out said : List (ℕ × R)) (mid later : Option (Execution Q R)) (n m : ℕ) (q : Q) (r : R)
+    → m < no_call → ServesAll equal passes None before log out mid → Serves equal passes mid n q now said later → In (m, r) said
+    → (m ≡ n) × (executed : Q) × ((executed ≡ q) ⊎ (equal executed q ≡ true)) × In (call n executed r) (log ++ now)
+
+-- Some of what a client sent is heard by a server, whatever that has served before and whoever had asked it, and some of its replies
+-- come back: a reply to a call's number is what the server said when it executed that call; or what it had kept already, of a request
+-- that is the same by the test of its type. A new server had kept nothing.
 abbrev pub MatchesCalls : (Q R : Type 0) → Type 0
-MatchesCalls Q R = (sent heard : List (ℕ × Q)) (log : List (Execution Q R)) (out answered : List (ℕ × R)) (later : Option (ℕ × R)) (n : ℕ) (q : Q) (r : R)
-    → OnePerNumber sent → Among heard sent → ServesAll None heard log out later → Among answered out → In (n, q) sent → In (n, r) answered
-    → In (let e : Execution Q R = record { number = n; asks = q; says = r } in e) log
+MatchesCalls Q R = (equal : Q → Q → Bool) (passes : ℕ → ℕ → Option R) (sent heard : List (ℕ × Q)) (log : List (Execution Q R)) (out answered : List (ℕ × R)) (kept later : Option (Execution Q R)) (n : ℕ) (q : Q) (r : R)
+    → n < no_call → OnePerNumber sent → Among heard sent → ServesAll equal passes kept heard log out later → Among answered out → In (n, q) sent → In (n, r) answered
+    → In (call n q r) log ⊎ KeptFor equal kept n q r
 
 -- Where a number was replied to, no lower one, nor it, is executed later.
 abbrev pub SettlesCalls : (Q R : Type 0) → Type 0
-SettlesCalls Q R = (mid later : Option (ℕ × R)) (qs qs' : List (ℕ × Q)) (log log' : List (Execution Q R)) (out out' : List (ℕ × R)) (n : ℕ) (r : R)
-    → ServesAll None qs log out mid → ServesAll mid qs' log' out' later → In (n, r) out → (e : Execution Q R) → In e log' → n < e.number
+SettlesCalls Q R = (equal : Q → Q → Bool) (passes : ℕ → ℕ → Option R) (kept mid later : Option (Execution Q R)) (qs qs' : List (ℕ × Q)) (log log' : List (Execution Q R)) (out out' : List (ℕ × R)) (n : ℕ) (r : R)
+    → n < no_call → ServesAll equal passes kept qs log out mid → ServesAll equal passes mid qs' log' out' later → In (n, r) out → (e : Execution Q R) → In e log' → n < e.number

@@ -5,3 +5,4 @@ pub mod ServedLaws
 pub mod Asking
 pub mod Waits
 pub mod Sealing
+pub mod Notices

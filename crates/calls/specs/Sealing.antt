@@ -1,11 +1,12 @@
 -- Messages that carry their number twice, the second time under a sum.
-use Rattle.std.specs.Prelude.{◌≡◌, ℕ, ◌==◌, if◌then◌else◌, List, map}
+use Rattle.std.specs.Prelude.{◌≡◌, ℕ, ◌==◌, if◌then◌else◌, List, map, Option, Some, None}
 use Rattle.std.proofs.Common.{sym, subst}
 use Rattle.std.proofs.lemmas.List.{map-append}
 use Rattle.link.specs.Each.{HearerLaws}
 use Rattle.link.specs.declared.receiver.Answer.{Answer}
 use Rattle.link.specs.declared.receiver.Answer.TheVariants.{Value, Damaged, TooLong, Cut}
 use Rattle.sealed.specs.declared.value.Sealed.{Sealed}
+use Rattle.calls.specs.Calls.{no_call}
 use Rattle.calls.specs.declared.sealing.Checked.{Checked}
 use Rattle.calls.specs.declared.sealing.Numbering.{Numbering}
 
@@ -37,3 +38,8 @@ abbrev pub ExecutesNumbered : {A Q R : Type 0} → (A → Q → R → A → Type
     → Numbering A → Sealed (ℕ × Q) → Sealed (ℕ × R) → Numbering A → Type 0
 ExecutesNumbered executes old asks says new =
     (says.0.0 ≡ asks.0.0) × executes old.application asks.0.1 says.0.1 new.application
+
+-- what is said of a request that is passed over, with the greatest number inside too
+abbrev pub passes_numbered : {R : Type 0} → Option R → Option (Sealed (ℕ × R))
+passes_numbered None = None
+passes_numbered (Some said) = Some (record { 0 = (no_call, said) })

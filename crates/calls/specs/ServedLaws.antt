@@ -1,9 +1,10 @@
 -- What serving is, one request after another: laws of what a service owes as a hearer.
-use Rattle.std.proofs.Common.{◌≡◌, ℕ, length, ◌+◌, ◌<◌, ◌≤◌, Bool, true, cond, eqb, List, [], ◌∷◌, ◌++◌, map, Option, Some, None, Result, Ok, Err, refl, sym, ap, ◌∙◌, subst, inl, inr, arith, append_assoc}
+use Rattle.std.proofs.Common.{◌≡◌, ℕ, length, ◌+◌, ◌<◌, ◌≤◌, Bool, true, false, cond, eqb, List, [], ◌∷◌, ◌++◌, map, Option, Some, None, Result, Ok, Err, refl, sym, ap, ◌∙◌, subst, inl, inr, arith, append_assoc}
 use Rattle.std.specs.List.{FoldsTo, AllZip}
-use Rattle.std.proofs.lemmas.Bool.{cases_lt, eq-eqb}
+use Rattle.std.proofs.lemmas.Bool.{cases_lt, eq-eqb, eqb-true}
 use Rattle.std.proofs.lemmas.List.{append-nil, map-append}
 use Rattle.line_io.specs.Calls.{Wrote-none, Wrote-then}
+use Rattle.line_io.specs.Device.{LineState}
 use Rattle.postcard_tree.specs.Tree.{Tree, IsTree}
 use Rattle.link.specs.Run.{Send, completed, refused, broken, written, clean_after, session_line, IsSession}
 use Rattle.line_io.specs.Transfers.{Failed}
@@ -18,12 +19,14 @@ use Rattle.link.specs.declared.session.Fate.{Fate}
 use Rattle.link.specs.declared.receiver.Answer.{Answer}
 use Rattle.link.specs.declared.receiver.Answer.TheVariants.{Value, Damaged, TooLong, Cut}
 use Rattle.link.specs.Each.{HearerLaws}
-use Rattle.calls.specs.Calls.{Execution, next_of, again, ServesAll, Rises}
-use Rattle.calls.specs.Places.{SenderPlace, sender_place, HasSaid, SaysAll}
-use Rattle.calls.specs.Serving.{kept_of, sender_of, Runs, IsServed, IsReplied, Executes, TakesAnswer, ServiceHears, requests_of}
+use Rattle.calls.specs.Calls.{Execution, call, next_of, no_call, notices, again, ServesAll, Rises}
+use Rattle.link.specs.Senders.{SenderPlace, sender_place, HasSent}
+use Rattle.calls.specs.Places.{SaysAll}
+use Rattle.calls.specs.Serving.{kept_of, sender_of, Runs, IsStanding, IsServed, IsPassed, IsReplied, Executes, TakesAnswer, ServiceHears, requests_of, unsent_by_result, unsent_by, unsent_by_fate, unsent_of}
+use Rattle.calls.specs.declared.server.Standing.TheVariants.{Same, Changed}
 use Rattle.calls.specs.declared.service.Service.{Service}
 use Rattle.calls.specs.declared.server.Served.{Served}
-use Rattle.calls.specs.declared.server.Served.TheVariants.{Executed, Again, Passed}
+use Rattle.calls.specs.declared.server.Served.TheVariants.{Executed, Again, Other, Passed}
 
 -- Sessions of one sender, one behind the other, are a session.
 clean_then : (clean : Bool) (xs ys : List Send) → clean_after_all clean (xs ++ ys) ≡ clean_after_all (clean_after_all clean xs) ys
@@ -49,15 +52,15 @@ zip_then R [] (y ∷ ys) more others h k = absurd h
 zip_then R (x ∷ xs) [] more others h k = absurd h
 zip_then R (x ∷ xs) (y ∷ ys) more others h k = (h.0, zip_then R xs ys more others h.1 k)
 
-few_then : (f g h c d m n k : ℕ) → FewBroke f g c m → FewBroke g h d n → d ≤ c → g ≤ h → k ≡ m + n → FewBroke f h d k
-few_then f g h c d m n k (inl p) (inl q) l z e = inl (omega arith)
-few_then f g h c d m n k (inl p) (inr q) l z e = inr q
-few_then f g h c d m n k (inr p) q l z e = inr (omega arith)
+few_then : (u v w : LineState) (m n k : ℕ) → FewBroke u v m → FewBroke v w n → w.calls_left ≤ v.calls_left → v.faults ≤ w.faults → k ≡ m + n → FewBroke u w k
+few_then u v w m n k (inl p) (inl q) l z e = inl (omega arith)
+few_then u v w m n k (inl p) (inr q) l z e = inr q
+few_then u v w m n k (inr p) q l z e = inr (omega arith)
 
-did_then : (u v w : Option (List ℕ)) (f g h c d e : ℕ) (a b : List ℕ) (m n : ℕ) → Did u v f g c d a m → Did v w g h d e b n → Did u w f h c e (a ++ b) (m + n)
-did_then u v w f g h c d e a b m n p q = record {
-  wrote = Wrote-then u v w f g h a b p.wrote q.wrote;
-  few = few_then f g h d e m n (m + n) p.few q.few q.calls q.wrote.more refl;
+did_then : (u v w : LineState) (a b : List ℕ) (m n : ℕ) → Did u v a m → Did v w b n → Did u w (a ++ b) (m + n)
+did_then u v w a b m n p q = record {
+  wrote = Wrote-then u v w a b p.wrote q.wrote;
+  few = few_then u v w m n (m + n) p.few q.few q.calls q.wrote.more refl;
   once = omega (arith, p.once, q.once);
   calls = omega (arith, p.calls, q.calls);
 }
@@ -68,20 +71,20 @@ refusal limit None e k = tt
 refusal limit (Some t) e k = k.1
 
 -- A line that failed was a fault, or no call was left.
-one_failed : (before after calls_left : ℕ) → Failed before after calls_left → FewBroke before after calls_left 1
-one_failed before after calls_left (inl m) = inl (omega (arith, m))
-one_failed before after calls_left (inr z) = inr z
+one_failed : (old new : LineState) → Failed old new → FewBroke old new 1
+one_failed old new (inl m) = inl (omega (arith, m))
+one_failed old new (inr z) = inr z
 
 module _ {V : Type 0} (limit : ℕ) (writes : V → Option Tree) (valid : V → Type 0) where
   -- no message
   pub says_none : (old : SenderPlace) → SaysAll limit writes valid old old [] []
-  says_none old = record { sends = []; are = tt; of = tt; fated = refl; did = record { wrote = Wrote-none old.told old.faults; few = inl (omega arith); once = omega arith; calls = omega arith }; then = refl }
+  says_none old = record { sends = []; are = tt; of = tt; fated = refl; did = record { wrote = Wrote-none old.line; few = inl (omega arith); once = omega arith; calls = omega arith }; then = refl }
 
   -- messages, and then messages
   pub says_then : (old mid new : SenderPlace) (vs ws : List V) (fs gs : List Fate) → mid.sentinel ≡ old.sentinel → SaysAll limit writes valid old mid vs fs → SaysAll limit writes valid mid new ws gs → SaysAll limit writes valid old new (vs ++ ws) (fs ++ gs)
   says_then old mid new vs ws fs gs same p k =
       let s = old.sentinel in
-      let q = subst (λ z. SendsAll limit z writes valid mid.clean new.clean mid.told new.told mid.faults new.faults mid.calls_left new.calls_left ws gs) same k in
+      let q = subst (λ z. SendsAll limit z writes valid mid.clean new.clean mid.line new.line ws gs) same k in
       let xs = p.sends in
       let ys = q.sends in
       let line = line_then s old.clean xs ys ∙ ap (λ z. session_line s old.clean xs ++ session_line s z ys) (sym p.then) in
@@ -90,48 +93,67 @@ module _ {V : Type 0} (limit : ℕ) (writes : V → Option Tree) (valid : V → 
         are = session_then limit s old.clean xs ys p.are (subst (λ z. IsSession IsTree limit s z ys) p.then q.are);
         of = zip_then (λ v x. IsSendOf limit (writes v) (valid v) x) vs xs ws ys p.of q.of;
         fated = ap (λ l. l ++ gs) p.fated ∙ ap (λ l. map fate_of xs ++ l) q.fated ∙ sym (map-append fate_of xs ys);
-        did = subst (λ n. Did old.told new.told old.faults new.faults old.calls_left new.calls_left (session_line s old.clean (xs ++ ys)) n) (sym (brokens_then xs ys))
-            (subst (λ b. Did old.told new.told old.faults new.faults old.calls_left new.calls_left b (brokens xs + brokens ys)) (sym line)
-            (did_then _ _ _ _ _ _ _ _ _ (session_line s old.clean xs) (session_line s mid.clean ys) (brokens xs) (brokens ys) p.did q.did));
+        did = subst (λ n. Did old.line new.line (session_line s old.clean (xs ++ ys)) n) (sym (brokens_then xs ys))
+            (subst (λ b. Did old.line new.line b (brokens xs + brokens ys)) (sym line)
+            (did_then _ _ _ (session_line s old.clean xs) (session_line s mid.clean ys) (brokens xs) (brokens ys) p.did q.did));
         then = q.then ∙ ap (λ z. clean_after_all z ys) p.then ∙ sym (clean_then old.clean xs ys);
       }
 
   -- which send of a message it was
-  said_of : (v : V) (old new : SenderPlace) (r : Result (Unit {0}) SendError) (x : Send) → IsSent limit (writes v) r x → HasSaid limit (writes v) (valid v) old new r → old.faults ≤ new.faults
-      → IsSendOf limit (writes v) (valid v) x × FewBroke old.faults new.faults new.calls_left (broke x) × (new.faults ≤ old.faults + broke x)
-  said_of v old new (Ok u) (completed t) i h l = ((i.1, h.valid_is), inl (omega (arith, l)), omega (arith, h.done))
+  said_of : (v : V) (old new : SenderPlace) (r : Result (Unit {0}) SendError) (x : Send) → IsSent limit (writes v) r x → HasSent limit (writes v) (valid v) old new r → old.line.faults ≤ new.line.faults
+      → IsSendOf limit (writes v) (valid v) x × FewBroke old.line new.line (broke x) × (new.line.faults ≤ old.line.faults + broke x)
+  said_of v old new (Ok u) (completed t) i h l = ((i.1, h.valid), inl (omega (arith, l)), omega (arith, h.done))
   said_of v old new (Err e) (completed t) i h l = absurd (let no : ◌≡◌ {A = Result (Unit {0}) SendError} (Err e) (Ok tt) = i.0 in cc)
   said_of v old new (Ok u) refused i h l = absurd (let no : ◌≡◌ {A = Result (Unit {0}) SendError} (Ok u) (Err (Refused i.0)) = i.1 in cc)
   said_of v old new (Err Line) refused i h l = absurd (let no : ◌≡◌ {A = Result (Unit {0}) SendError} (Err Line) (Err (Refused i.0)) = i.1 in cc)
-  said_of v old new (Err (Refused e)) refused i h l = (refusal limit (writes v) i.0 i.2, inl (omega (arith, l)), omega (arith, h.unchanged))
+  said_of v old new (Err (Refused e)) refused i h l = (refusal limit (writes v) i.0 i.2, inl (omega (arith, l)), omega (arith, ap (λ z. z.faults) h.unchanged))
   said_of v old new (Ok u) (broken t k) i h l = absurd (let no : ◌≡◌ {A = Result (Unit {0}) SendError} (Ok u) (Err Line) = i.0 in cc)
-  said_of v old new (Err Line) (broken t k) i h l = ((i.1, h.valid_is), one_failed old.faults new.faults new.calls_left h.line, h.once)
+  said_of v old new (Err Line) (broken t k) i h l = ((i.1, h.valid), one_failed old.line new.line h.line, h.once)
   said_of v old new (Err (Refused e)) (broken t k) i h l = absurd (let no : ◌≡◌ {A = Result (Unit {0}) SendError} (Err (Refused e)) (Err Line) = i.0 in cc)
 
   -- one message
-  pub says_one : (v : V) (old new : SenderPlace) (r : Result (Unit {0}) SendError) → HasSaid limit (writes v) (valid v) old new r → (f : Fate) × SaysAll limit writes valid old new (v ∷ []) (f ∷ [])
+  pub says_one : (v : V) (old new : SenderPlace) (r : Result (Unit {0}) SendError) → HasSent limit (writes v) (valid v) old new r → (f : Fate) × SaysAll limit writes valid old new (v ∷ []) (f ∷ [])
   says_one v old new r h =
-      let x = h.sent.send in
-      let o = said_of v old new r x h.sent.answered h h.sent.wrote.more in
+      let x = h.send in
+      let o = said_of v old new r x h.answered h h.wrote.more in
       let line = sym (append-nil (written old.sentinel old.clean x)) in (
         fate_of x,
         record {
           sends = x ∷ [];
-          are = (h.sent.is, tt);
+          are = (h.is, tt);
           of = (o.0, tt);
           fated = refl;
-          did = subst (λ b. Did old.told new.told old.faults new.faults old.calls_left new.calls_left b (broke x + 0)) line (record {
-            wrote = h.sent.wrote;
-            few = subst (FewBroke old.faults new.faults new.calls_left) (plus_none (broke x)) o.1;
+          did = subst (λ b. Did old.line new.line b (broke x + 0)) line (record {
+            wrote = h.wrote;
+            few = subst (FewBroke old.line new.line) (plus_none (broke x)) o.1;
             once = omega (arith, o.2);
             calls = h.calls;
           });
-          then = h.sent.then;
+          then = h.then;
         },
       )
     where
       plus_none : (n : ℕ) → n ≡ n + 0
       plus_none n = omega arith
+
+  -- Whether it was sent whole is told alike by the answer and by what became of it.
+  told_alike : (v : V) (r : Result (Unit {0}) SendError) (x : Send) (unsent : Bool) → IsSent limit (writes v) r x → unsent_by_result unsent r ≡ unsent_by_fate unsent (fate_of x)
+  told_alike v (Ok u) (completed t) unsent i = refl
+  told_alike v (Err e) (completed t) unsent i = absurd (let no : ◌≡◌ {A = Result (Unit {0}) SendError} (Err e) (Ok tt) = i.0 in cc)
+  told_alike v (Ok u) refused unsent i = absurd (let no : ◌≡◌ {A = Result (Unit {0}) SendError} (Ok u) (Err (Refused i.0)) = i.1 in cc)
+  told_alike v (Err e) refused unsent i = refl
+  told_alike v (Ok u) (broken t k) unsent i = absurd (let no : ◌≡◌ {A = Result (Unit {0}) SendError} (Ok u) (Err Line) = i.0 in cc)
+  told_alike v (Err e) (broken t k) unsent i = refl
+
+  -- so that is how one message is told
+  pub told_of : (v : V) (old new : SenderPlace) (r : Result (Unit {0}) SendError) (h : HasSent limit (writes v) (valid v) old new r) (unsent : Bool) → unsent_by_result unsent r ≡ unsent_by_fate unsent (says_one v old new r h).0
+  unfolding says_one
+  told_of v old new r h unsent = told_alike v r h.send unsent h.answered
+
+-- What is told of replies, and then of others.
+unsent_then : (unsent : Bool) (fs gs : List Fate) → unsent_of unsent (fs ++ gs) ≡ unsent_of (unsent_of unsent fs) gs
+unsent_then unsent [] gs = refl
+unsent_then unsent (f ∷ fs) gs = unsent_then (unsent_by_fate unsent f) fs gs
 
 -- Things one after another, and then others.
 folds_then : {P A : Type 0} (R : P → A → P → Type 0) (p q r : P) (xs ys : List A) → FoldsTo R p xs q → FoldsTo R q ys r → FoldsTo R p (xs ++ ys) r
@@ -146,18 +168,12 @@ requests_then (Damaged ∷ xs) ys = requests_then xs ys
 requests_then (TooLong ∷ xs) ys = requests_then xs ys
 requests_then (Cut ∷ xs) ys = requests_then xs ys
 
-same_number : (n : ℕ) → eqb n n ≡ true
-same_number n = eq-eqb n n refl
-
 which : {A : Type 0} {x y : A} → Some x ≡ Some y → x ≡ y
 which e = cc
 
-module _ {Q R : Type 0} where
-  abbrev call : ℕ → Q → R → Execution Q R
-  call n q r = record { number = n; asks = q; says = r }
-
+module _ {Q R : Type 0} (equal : Q → Q → Bool) (passes : ℕ → ℕ → Option R) where
   -- Each number that is executed is above those before, and what is kept only rises.
-  pub rises : (kept later : Option (ℕ × R)) (qs : List (ℕ × Q)) (log : List (Execution Q R)) (out : List (ℕ × R)) → ServesAll kept qs log out later
+  pub rises : (kept later : Option (Execution Q R)) (qs : List (ℕ × Q)) (log : List (Execution Q R)) (out : List (ℕ × R)) → ServesAll equal passes kept qs log out later
       → Rises (next_of kept) log × (next_of kept ≤ next_of later)
   rises kept later [] log out h = (subst (Rises (next_of kept)) (sym h.0) tt, (let e : next_of later ≡ next_of kept = ap next_of h.2 in omega arith))
   rises kept later (q ∷ qs) log out (first, others, says, more, mid, one, rest, log_is, out_is) =
@@ -181,11 +197,11 @@ module _ {Q R : Type 0} where
       ]
 
   -- Requests, and then requests.
-  pub serves_then : (kept mid later : Option (ℕ × R)) (qs ps : List (ℕ × Q)) (log more : List (Execution Q R)) (out says : List (ℕ × R))
-      → ServesAll kept qs log out mid → ServesAll mid ps more says later → ServesAll kept (qs ++ ps) (log ++ more) (out ++ says) later
+  pub serves_then : (kept mid later : Option (Execution Q R)) (qs ps : List (ℕ × Q)) (log more : List (Execution Q R)) (out says : List (ℕ × R))
+      → ServesAll equal passes kept qs log out mid → ServesAll equal passes mid ps more says later → ServesAll equal passes kept (qs ++ ps) (log ++ more) (out ++ says) later
   serves_then kept mid later [] ps log more out says h k =
-      subst (λ x. ServesAll x ps (log ++ more) (out ++ says) later) h.2
-      (subst (λ l. ServesAll mid ps (l ++ more) (out ++ says) later) (sym h.0) (subst (λ o. ServesAll mid ps more (o ++ says) later) (sym h.1) k))
+      subst (λ x. ServesAll equal passes x ps (log ++ more) (out ++ says) later) h.2
+      (subst (λ l. ServesAll equal passes mid ps (l ++ more) (out ++ says) later) (sym h.0) (subst (λ o. ServesAll equal passes mid ps more (o ++ says) later) (sym h.1) k))
   serves_then kept mid later (q ∷ qs) ps log more out says (first, others, one_says, rest_says, next, one, rest, log_is, out_is) k = (
     first,
     others ++ more,
@@ -198,34 +214,98 @@ module _ {Q R : Type 0} where
     ap (λ o. o ++ says) out_is ∙ append_assoc one_says rest_says says,
   )
 
-module _ {A Q R : Type 0} (executes : A → Q → R → A → Type 0) (limit : ℕ) (writes : ℕ × R → Option Tree) (valid : ℕ × R → Type 0) where
+module _ {A Q R : Type 0} (executes : A → Q → R → A → Type 0) (equal : Q → Q → Bool) (passes : ℕ → ℕ → Option R) (limit : ℕ) (writes : ℕ × R → Option Tree) (valid : ℕ × R → Type 0) where
+  -- what such a service does
+  abbrev Makes : A → A → Option (Execution Q R) → Option (Execution Q R) → Bool → Bool → SenderPlace → SenderPlace → List (ℕ × Q) → Type 0
+  Makes = Executes executes equal passes limit writes valid
+
   -- no request
-  pub executes_none : (a : A) (kept : Option (ℕ × R)) (place : SenderPlace) → Executes executes limit writes valid a a kept kept place place []
-  executes_none a kept place = record { log = []; out = []; fates = []; served = (refl, refl, refl); rises = tt; ran = refl; replied = says_none limit writes valid place; sentinel = refl }
+  pub executes_none : (a : A) (kept : Option (Execution Q R)) (unsent : Bool) (place : SenderPlace) → Makes a a kept kept unsent unsent place place []
+  executes_none a kept unsent place = record { log = []; out = []; fates = []; served = (refl, refl, refl); rises = tt; ran = refl; replied = says_none limit writes valid place; sentinel = refl; told = refl }
 
   -- requests, and then requests
-  pub executes_then : (a b c : A) (kept mid later : Option (ℕ × R)) (here there end : SenderPlace) (qs ps : List (ℕ × Q))
-      → Executes executes limit writes valid a b kept mid here there qs → Executes executes limit writes valid b c mid later there end ps
-      → Executes executes limit writes valid a c kept later here end (qs ++ ps)
-  executes_then a b c kept mid later here there end qs ps p q =
-      let served = serves_then kept mid later qs ps p.log q.log p.out q.out p.served q.served in record {
+  pub executes_then : (a b c : A) (kept mid later : Option (Execution Q R)) (u v w : Bool) (here there end : SenderPlace) (qs ps : List (ℕ × Q))
+      → Makes a b kept mid u v here there qs → Makes b c mid later v w there end ps → Makes a c kept later u w here end (qs ++ ps)
+  executes_then a b c kept mid later u v w here there end qs ps p q =
+      let served = serves_then equal passes kept mid later qs ps p.log q.log p.out q.out p.served q.served in record {
         log = p.log ++ q.log;
         out = p.out ++ q.out;
         fates = p.fates ++ q.fates;
         served = served;
-        rises = (rises kept later (qs ++ ps) (p.log ++ q.log) (p.out ++ q.out) served).0;
+        rises = (rises equal passes kept later (qs ++ ps) (p.log ++ q.log) (p.out ++ q.out) served).0;
         ran = folds_then (Runs executes) a b c p.log q.log p.ran q.ran;
         replied = says_then limit writes valid here there end p.out q.out p.fates q.fates p.sentinel p.replied q.replied;
         sentinel = q.sentinel ∙ p.sentinel;
+        told = q.told ∙ ap (λ z. unsent_of z q.fates) p.told ∙ sym (unsent_then u p.fates q.fates);
+      }
+
+  -- the kept reply, as what is replied
+  abbrev replies : Execution Q R → List (ℕ × R)
+  replies k = (k.number, k.says) ∷ []
+
+  -- it is said again to what is the same
+  said_again : (k : Execution Q R) (n : ℕ) (q : Q) → k.number ≡ n → equal k.asks q ≡ true → again equal passes (Some k) n q ≡ replies k
+  said_again k n q e alike =
+      ap (λ b. cond b (cond (equal k.asks q) (replies k) (notices (passes n k.number))) (notices (passes n k.number))) (eq-eqb k.number n e)
+      ∙ ap (λ b. cond b (replies k) (notices (passes n k.number))) alike
+
+  -- to another request it isn't
+  not_again : (k : Execution Q R) (n : ℕ) (q : Q) → equal k.asks q ≡ false → again equal passes (Some k) n q ≡ notices (passes n k.number)
+  not_again k n q differs = by (eqb k.number n)
+    where
+      by : (b : Bool) → cond b (cond (equal k.asks q) (replies k) (notices (passes n k.number))) (notices (passes n k.number)) ≡ notices (passes n k.number)
+      by true = ap (λ b. cond b (replies k) (notices (passes n k.number))) differs
+      by false = refl
+
+  -- nor to a lower number
+  passed : (k : Execution Q R) (n : ℕ) (q : Q) → n < k.number → again equal passes (Some k) n q ≡ notices (passes n k.number)
+  passed k n q l = by (eqb k.number n) refl
+    where
+      by : (b : Bool) → eqb k.number n ≡ b → cond b (cond (equal k.asks q) (replies k) (notices (passes n k.number))) (notices (passes n k.number)) ≡ notices (passes n k.number)
+      by true e = absurd (let d = eqb-true k.number n e in omega (arith, d, l))
+      by false e = refl
+
+  -- a request for which nothing was done, and of which this was said
+  unserved : (old new : A) (kept later : Option (Execution Q R)) (u v : Bool) (here there : SenderPlace) (n : ℕ) (q : Q) (said : Option R) (same : Type 0) (r : Option (Result (Unit {0}) SendError))
+      → n < next_of kept → again equal passes kept n q ≡ notices said → later ≡ kept → new ≡ old → (same → there ≡ here)
+      → IsPassed said same (λ p x. HasSent limit (writes p) (valid p) here there x) r → v ≡ unsent_by u (Passed r)
+      → Makes old new kept later u v here there ((n, q) ∷ [])
+  unserved old new kept later u v here there n q None same None l is e stays unsaid z t =
+      let stands = unsaid z in record {
+        log = [];
+        out = [];
+        fates = [];
+        served = ([], [], [], [], later, record { known = λ m. (refl, sym is, e); fresh = λ m. absurd (omega (arith, l, m)) }, (refl, refl, refl), refl, refl);
+        rises = tt;
+        ran = sym stays;
+        replied = subst (λ z. SaysAll limit writes valid here z [] []) (sym stands) (says_none limit writes valid here);
+        sentinel = ap (λ z. z.sentinel) stands;
+        told = t;
+      }
+  unserved old new kept later u v here there n q None same (Some r) l is e stays unsaid z t = absurd z
+  unserved old new kept later u v here there n q (Some said) same None l is e stays unsaid z t = absurd z
+  unserved old new kept later u v here there n q (Some said) same (Some r) l is e stays unsaid z t =
+      let one = says_one limit writes valid (no_call, said) here there r z in
+      record {
+        log = [];
+        out = (no_call, said) ∷ [];
+        fates = one.0 ∷ [];
+        served = ([], [], (no_call, said) ∷ [], [], later, record { known = λ m. (refl, sym is, e); fresh = λ m. absurd (omega (arith, l, m)) }, (refl, refl, refl), refl, refl);
+        rises = tt;
+        ran = sym stays;
+        replied = one.1;
+        sentinel = z.sentinel;
+        told = t ∙ told_of limit writes valid (no_call, said) here there r z u;
       }
 
   -- what one request did
-  one_served : (old new : A) (kept later : Option (ℕ × R)) (here there : SenderPlace) (n : ℕ) (q : Q) (same : Type 0) (r : Served) → (same → there ≡ here)
-      → IsServed executes old new kept later n q r → IsReplied same (λ p x. HasSaid limit (writes p) (valid p) here there x) later r
-      → Executes executes limit writes valid old new kept later here there ((n, q) ∷ [])
-  one_served old new kept later here there n q same (Executed x) unsaid (l, says, ran, e) (p, f, said) =
-      let is : p ≡ (n, says) = which (sym f ∙ e) in
-      let one = says_one limit writes valid (n, says) here there x (subst (λ v. HasSaid limit (writes v) (valid v) here there x) is said) in
+  one_served : (old new : A) (kept later : Option (Execution Q R)) (u v : Bool) (here there : SenderPlace) (n : ℕ) (q : Q) (same : Type 0) (r : Served) → (same → there ≡ here)
+      → IsServed executes equal old new kept later n q r → IsReplied passes same (λ p x. HasSent limit (writes p) (valid p) here there x) later n r → v ≡ unsent_by u r
+      → Makes old new kept later u v here there ((n, q) ∷ [])
+  one_served old new kept later u v here there n q same (Executed x) unsaid (l, says, ran, e) (p, f, said) t =
+      let is : p ≡ call n q says = which (sym f ∙ e) in
+      let said_so = subst (λ (v : Execution Q R). HasSent limit (writes (v.number, v.says)) (valid (v.number, v.says)) here there x) is said in
+      let one = says_one limit writes valid (n, says) here there x said_so in
       record {
         log = call n q says ∷ [];
         out = (n, says) ∷ [];
@@ -235,56 +315,59 @@ module _ {A Q R : Type 0} (executes : A → Q → R → A → Type 0) (limit : �
         ran = (new, ran, refl);
         replied = one.1;
         sentinel = said.sentinel;
+        told = t ∙ told_of limit writes valid (n, says) here there x said_so u;
       }
-  one_served old new kept later here there n q same (Again x) unsaid (says, k, e, stays) (p, f, said) =
-      let is : p ≡ (n, says) = which (sym f ∙ e ∙ k) in
-      let one = says_one limit writes valid (n, says) here there x (subst (λ v. HasSaid limit (writes v) (valid v) here there x) is said) in
-      let repeated : again kept n ≡ (n, says) ∷ [] = ap (λ o. again o n) k ∙ ap (λ b. cond b ((n, says) ∷ []) []) (same_number n) in
+  one_served old new kept later u v here there n q same (Again x) unsaid ((k, is, numbered, alike), e, stays) (p, f, said) t =
+      let kept_is : p ≡ k = which (sym f ∙ e ∙ is) in
+      let said_so = subst (λ (v : Execution Q R). HasSent limit (writes (v.number, v.says)) (valid (v.number, v.says)) here there x) kept_is said in
+      let one = says_one limit writes valid (k.number, k.says) here there x said_so in
       record {
         log = [];
-        out = (n, says) ∷ [];
+        out = (k.number, k.says) ∷ [];
         fates = one.0 ∷ [];
-        served = ([], [], (n, says) ∷ [], [], later, record { known = λ m. (refl, sym repeated, e); fresh = λ m. absurd (let d : next_of kept ≡ n + 1 = ap next_of k in omega (arith, d, m)) }, (refl, refl, refl), refl, refl);
+        served = ([], [], (k.number, k.says) ∷ [], [], later, record { known = λ m. (refl, sym (ap (λ o. again equal passes o n q) is ∙ said_again k n q numbered alike), e); fresh = λ m. absurd (let d : next_of kept ≡ k.number + 1 = ap next_of is in omega (arith, d, m, numbered)) }, (refl, refl, refl), refl, refl);
         rises = tt;
         ran = sym stays;
         replied = one.1;
         sentinel = said.sentinel;
+        told = t ∙ told_of limit writes valid (k.number, k.says) here there x said_so u;
       }
-  one_served old new kept later here there n q same Passed unsaid (l, none, e, stays) k =
-      let stands = unsaid k in
-      record {
-        log = [];
-        out = [];
-        fates = [];
-        served = ([], [], [], [], later, record { known = λ m. (refl, sym none, e); fresh = λ m. absurd (omega (arith, l, m)) }, (refl, refl, refl), refl, refl);
-        rises = tt;
-        ran = sym stays;
-        replied = subst (λ z. SaysAll limit writes valid here z [] []) (sym stands) (says_none limit writes valid here);
-        sentinel = ap (λ z. z.sentinel) stands;
-      }
+  one_served old new kept later u v here there n q same (Other r) unsaid ((k, is, numbered, differs), e, stays) (p, f, z) t =
+      let kept_is : p ≡ k = which (sym f ∙ e ∙ is) in
+      unserved old new kept later u v here there n q (passes n k.number) same r (let d : next_of kept ≡ k.number + 1 = ap next_of is in omega (arith, d, numbered)) (ap (λ o. again equal passes o n q) is ∙ not_again k n q differs) e stays unsaid
+      (subst (λ (y : Execution Q R). IsPassed (passes n y.number) same (λ p x. HasSent limit (writes p) (valid p) here there x) r) kept_is z) (t ∙ either u r)
+    where
+      either : (u : Bool) (r : Option (Result (Unit {0}) SendError)) → unsent_by u (Other r) ≡ unsent_by u (Passed r)
+      either u None = refl
+      either u (Some x) = refl
+  one_served old new kept later u v here there n q same (Passed r) unsaid (k, is, l, e, stays) (p, f, z) t =
+      let kept_is : p ≡ k = which (sym f ∙ e ∙ is) in
+      unserved old new kept later u v here there n q (passes n k.number) same r (let d : next_of kept ≡ k.number + 1 = ap next_of is in omega (arith, d, l)) (ap (λ o. again equal passes o n q) is ∙ passed k n q l) e stays unsaid
+      (subst (λ (y : Execution Q R). IsPassed (passes n y.number) same (λ p x. HasSent limit (writes p) (valid p) here there x) r) kept_is z) t
 
   -- nothing was served
-  stays_as : (old new : A) (kept later : Option (ℕ × R)) (here there : SenderPlace) → new ≡ old → later ≡ kept → there ≡ here → Executes executes limit writes valid old new kept later here there []
-  stays_as old new kept later here there e f g =
-      subst (λ a. Executes executes limit writes valid old a kept later here there []) (sym e)
-      (subst (λ k. Executes executes limit writes valid old old kept k here there []) (sym f)
-      (subst (λ z. Executes executes limit writes valid old old kept kept here z []) (sym g) (executes_none old kept here)))
+  stays_as : (old new : A) (kept later : Option (Execution Q R)) (u v : Bool) (here there : SenderPlace) → new ≡ old → later ≡ kept → v ≡ u → there ≡ here → Makes old new kept later u v here there []
+  stays_as old new kept later u v here there e f t g =
+      subst (λ a. Makes old a kept later u v here there []) (sym e)
+      (subst (λ k. Makes old old kept k u v here there []) (sym f)
+      (subst (λ x. Makes old old kept kept u x here there []) (sym t)
+      (subst (λ z. Makes old old kept kept u u here z []) (sym g) (executes_none old kept u here))))
 
   -- one answer of a line
-  pub executes_one : (old new : A) (kept later : Option (ℕ × R)) (here there : SenderPlace) (same : Type 0) (answer : Answer (ℕ × Q)) → (same → there ≡ here)
-      → TakesAnswer executes old new kept later same (λ p x. HasSaid limit (writes p) (valid p) here there x) answer
-      → Executes executes limit writes valid old new kept later here there (requests_of (answer ∷ []))
-  executes_one old new kept later here there same (Value p) unsaid (r, served, replied) = one_served old new kept later here there p.0 p.1 same r unsaid served replied
-  executes_one old new kept later here there same Damaged unsaid (e, f, g) = stays_as old new kept later here there e f (unsaid g)
-  executes_one old new kept later here there same TooLong unsaid (e, f, g) = stays_as old new kept later here there e f (unsaid g)
-  executes_one old new kept later here there same Cut unsaid (e, f, g) = stays_as old new kept later here there e f (unsaid g)
+  pub executes_one : (old new : A) (kept later : Option (Execution Q R)) (u v : Bool) (here there : SenderPlace) (same : Type 0) (answer : Answer (ℕ × Q)) → (same → there ≡ here)
+      → TakesAnswer executes equal passes old new kept later u v same (λ p x. HasSent limit (writes p) (valid p) here there x) answer
+      → Makes old new kept later u v here there (requests_of (answer ∷ []))
+  executes_one old new kept later u v here there same (Value p) unsaid (r, served, replied, t) = one_served old new kept later u v here there p.0 p.1 same r unsaid served replied t
+  executes_one old new kept later u v here there same Damaged unsaid (e, f, g, t) = stays_as old new kept later u v here there e f t (unsaid g)
+  executes_one old new kept later u v here there same TooLong unsaid (e, f, g, t) = stays_as old new kept later u v here there e f t (unsaid g)
+  executes_one old new kept later u v here there same Cut unsaid (e, f, g, t) = stays_as old new kept later u v here there e f t (unsaid g)
 
 -- what a service owes as a hearer
-pub service_laws : {A W Q R : Type 0} {N : ℕ} (executes : A → Q → R → A → Type 0) (told : W → Option (List ℕ)) (faults calls_left : W → ℕ) (writes : ℕ × R → Option Tree) (valid : ℕ × R → Type 0)
-    → HearerLaws {H = Service A W R N} (ServiceHears executes told faults calls_left writes valid)
-service_laws {A} {W} {Q} {R} {N} executes told faults calls_left writes valid = record {
-  none = λ h. executes_none executes N writes valid h.application (kept_of h.server) (sender_place told faults calls_left (sender_of h.server));
+pub service_laws : {A W Q R : Type 0} {N : ℕ} (executes : A → Q → R → A → Type 0) (equal : Q → Q → Bool) (passes : ℕ → ℕ → Option R) (line : W → LineState) (writes : ℕ × R → Option Tree) (valid : ℕ × R → Type 0)
+    → HearerLaws {H = Service A W Q R N} (ServiceHears executes equal passes line writes valid)
+service_laws {A} {W} {Q} {R} {N} executes equal passes line writes valid = record {
+  none = λ h. executes_none executes equal passes N writes valid h.application (kept_of h.server) h.unsent (sender_place line (sender_of h.server));
   more = λ h k m a b p q.
-      subst (λ l. Executes executes N writes valid h.application m.application (kept_of h.server) (kept_of m.server) (sender_place told faults calls_left (sender_of h.server)) (sender_place told faults calls_left (sender_of m.server)) l)
-      (sym (requests_then a b)) (executes_then executes N writes valid _ _ _ _ _ _ _ _ _ (requests_of a) (requests_of b) p q);
+      subst (λ l. Executes executes equal passes N writes valid h.application m.application (kept_of h.server) (kept_of m.server) h.unsent m.unsent (sender_place line (sender_of h.server)) (sender_place line (sender_of m.server)) l)
+      (sym (requests_then a b)) (executes_then executes equal passes N writes valid _ _ _ _ _ _ _ _ _ _ _ _ (requests_of a) (requests_of b) p q);
 }

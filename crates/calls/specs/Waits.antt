@@ -37,9 +37,17 @@ abbrev pub after_answers : {Q R : Type 0} → Waiter Q R → List (Answer (ℕ �
 after_answers w [] = w
 after_answers w (a ∷ answers) = after_answers (after_answer w a) answers
 
+-- where a call is pending, what was said to an earlier one is let go
+abbrev pub anew : {Q R : Type 0} → Waiter Q R → Waiter Q R
+anew w = if is_over w.asker then w else record { asker = w.asker; said = None }
+
 -- what a client that waits makes of answers; it sends nothing
 abbrev pub WaitingHears : {W Q R : Type 0} {N : ℕ} → Waiting W Q R N → List (Answer (ℕ × R)) → Waiting W Q R N → Type 0
 WaitingHears old answers new = (waiter_of new ≡ after_answers (waiter_of old) answers) × (sender_of new.client ≡ sender_of old.client)
+
+-- what waiting makes of answers: what was said to an earlier call is let go first
+abbrev pub WaitsAnew : {W Q R : Type 0} {N : ℕ} → Waiting W Q R N → List (Answer (ℕ × R)) → Waiting W Q R N → Type 0
+WaitsAnew old answers new = (waiter_of new ≡ after_answers (anew (waiter_of old)) answers) × (sender_of new.client ≡ sender_of old.client)
 
 after_more : {Q R : Type 0} (w : Waiter Q R) (xs ys : List (Answer (ℕ × R))) → after_answers w (xs ++ ys) ≡ after_answers (after_answers w xs) ys
 after_more w [] ys = refl

@@ -1,39 +1,23 @@
 //! Calling, and calling again.
 ghost use Rattle.std.specs.Prelude.{◌≡◌, ◌↔◌, IsTrue, ℕ, ◌<◌, Some, None, false, MatchOption};
 ghost use Rattle.link.specs.declared.receiver.Answer.TheVariants.{Value};
-ghost use Rattle.link.specs.Senders.{writer_of, clean_of, sentinel_of};
-ghost use Rattle.calls.specs.Places.{sender_place, HasSaid};
+ghost use Rattle.link.specs.Senders.{writer_of, clean_of, sentinel_of, sender_place, HasSent};
 ghost use Rattle.calls.specs.Asking.{asker_of, sender_of, number_of, stepped, ends, IsCalled, IsRepeated};
 
 use crate::client::{CallError, Client};
-use crate::saying::say;
 use line_io::Outlet;
 use link::{Answer, Sender};
 use postcard::Serialize;
 
 impl<W: Outlet, Q: Serialize + Drop, const N: usize> Client<W, Q, N> {
-    /// A client whose first call has this number, which is to be above those of all clients before it. Its requests go out as frames
-    /// of at most N bytes between zeros. The caller owes that N is at least 1.
-    pub fn new(writer: W, first: u64) -> Client<W, Q, N>
-        requires { 0 < N }
+    /// A client whose first call has this number, which is to be above those of all clients before it, and whose requests this
+    /// sender sends.
+    pub fn new(sender: Sender<W, N>, first: u64) -> Client<W, Q, N>
         ensures asker { asker_of result ≡ record { next = first; pending = None } }
-        ensures writer { writer_of (sender_of result) ≡ writer }
-        ensures clean { clean_of (sender_of result) ≡ false }
-        ensures sentinel { sentinel_of (sender_of result) ≡ 0 }
-    {
-        Client::new_with_sentinel(writer, first, 0)
-    }
-
-    /// The same with a sentinel in place of zero.
-    pub fn new_with_sentinel(writer: W, first: u64, sentinel: u8) -> Client<W, Q, N>
-        requires { 0 < N }
-        ensures asker { asker_of result ≡ record { next = first; pending = None } }
-        ensures writer { writer_of (sender_of result) ≡ writer }
-        ensures clean { clean_of (sender_of result) ≡ false }
-        ensures sentinel { sentinel_of (sender_of result) ≡ sentinel }
+        ensures sender { sender_of result ≡ sender }
     {
         Client {
-            sender: Sender::new_with_sentinel(writer, sentinel),
+            sender,
             next: first,
             pending: None,
         }
@@ -63,16 +47,16 @@ impl<W: Outlet, Q: Serialize + Drop, const N: usize> Client<W, Q, N> {
     pub fn call(&mut self, request: Q) -> Result<(), CallError>
         ensures called { IsCalled (asker_of self.old) (asker_of self.new) request result
             (sender_of self.new ≡ sender_of self.old)
-            (λ p r. HasSaid N (⟦<(u64, Q) as Serialize>⟧.writes p)
+            (λ p r. HasSent N (⟦<(u64, Q) as Serialize>⟧.writes p)
             (⟦<(u64, Q) as Serialize>⟧.valid p)
-            (sender_place W.written W.faults W.calls_left (sender_of self.old))
-            (sender_place W.written W.faults W.calls_left (sender_of self.new)) r) }
+            (sender_place W.line (sender_of self.old))
+            (sender_place W.line (sender_of self.new)) r) }
     {
         if self.next == u64::MAX {
             return Err(CallError::Full);
         }
         let pending = (self.next, request);
-        let sent = say(&mut self.sender, &pending);
+        let sent = self.sender.send(&pending);
         self.next += 1;
         self.pending = Some(pending);
         match sent {
@@ -85,14 +69,14 @@ impl<W: Outlet, Q: Serialize + Drop, const N: usize> Client<W, Q, N> {
     pub fn again(&mut self) -> Result<(), CallError>
         ensures repeated { IsRepeated (asker_of self.old) (asker_of self.new) result
             (sender_of self.new ≡ sender_of self.old)
-            (λ p r. HasSaid N (⟦<(u64, Q) as Serialize>⟧.writes p)
+            (λ p r. HasSent N (⟦<(u64, Q) as Serialize>⟧.writes p)
             (⟦<(u64, Q) as Serialize>⟧.valid p)
-            (sender_place W.written W.faults W.calls_left (sender_of self.old))
-            (sender_place W.written W.faults W.calls_left (sender_of self.new)) r) }
+            (sender_place W.line (sender_of self.old))
+            (sender_place W.line (sender_of self.new)) r) }
     {
         match &self.pending {
             None => Err(CallError::Idle),
-            Some(pending) => match say(&mut self.sender, pending) {
+            Some(pending) => match self.sender.send(pending) {
                 Ok(()) => Ok(()),
                 Err(error) => Err(CallError::Unsent(error)),
             },

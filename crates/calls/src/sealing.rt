@@ -1,6 +1,6 @@
 //! Messages under a sum, so that one which was changed on the line isn't taken for another.
 ghost use Rattle.std.specs.Prelude.{◌≡◌, [], ◌∷◌};
-ghost use Rattle.calls.specs.Sealing.{compared, HearsCompared, compared_laws, ExecutesNumbered};
+ghost use Rattle.calls.specs.Sealing.{compared, HearsCompared, compared_laws, ExecutesNumbered, passes_numbered};
 
 use crate::server::Application;
 use link::{Answer, Hearer};
@@ -35,6 +35,8 @@ impl<T: Drop, H: Hearer<(u64, Numbered<T>)>> Hearer<(u64, Numbered<T>)> for Chec
 
     ghost enough = { λ c. H.enough c.hearer };
 
+    ghost settled = { λ c. H.settled c.hearer };
+
     fn hear(&mut self, answer: Answer<(u64, Numbered<T>)>)
         ensures { HearsCompared H.hears self.old (answer ∷ []) self.new }
     {
@@ -42,7 +44,8 @@ impl<T: Drop, H: Hearer<(u64, Numbered<T>)>> Hearer<(u64, Numbered<T>)> for Chec
     }
 
     fn pause(&mut self)
-        ensures { HearsCompared H.hears self.old [] self.new }
+        ensures heard { HearsCompared H.hears self.old [] self.new }
+        ensures settles { H.settled self.new.hearer }
     {
         self.hearer.pause();
     }
@@ -63,10 +66,21 @@ pub struct Numbering<A> {
 impl<Q, R, A: Application<Q, R>> Application<Numbered<Q>, Numbered<R>> for Numbering<A> {
     ghost executes = { ExecutesNumbered A.executes };
 
-    fn execute(&mut self, request: Numbered<Q>) -> Numbered<R>
-        ensures { ExecutesNumbered A.executes self.old request result self.new }
+    ghost passes = { λ number last. passes_numbered (A.passes number last) };
+
+    fn execute(&mut self, request: &Numbered<Q>) -> Numbered<R>
+        ensures { ExecutesNumbered A.executes self.old request.now result self.new }
     {
         let Sealed((number, asked)) = request;
-        Sealed((number, self.application.execute(asked)))
+        Sealed((*number, self.application.execute(asked)))
+    }
+
+    fn pass(number: u64, last: u64) -> Option<Numbered<R>>
+        ensures { result ≡ passes_numbered (A.passes number last) }
+    {
+        match A::pass(number, last) {
+            None => None,
+            Some(said) => Some(Sealed((u64::MAX, said))),
+        }
     }
 }

@@ -1,53 +1,90 @@
 //! A server as a hearer.
-ghost use Rattle.std.specs.Prelude.{◌≡◌, [], ◌∷◌, false};
-ghost use Rattle.calls.specs.Places.{sender_place, HasSaid};
-ghost use Rattle.calls.specs.Serving.{kept_of, sender_of, TakesAnswer, ServiceHears};
+ghost use Rattle.std.specs.Prelude.{◌≡◌, [], ◌∷◌, false, ⊤};
+ghost use Rattle.link.specs.Senders.{sender_place, HasSent};
+ghost use Rattle.calls.specs.Serving.{kept_of, sender_of, TakesAnswer, ServiceHears, unsent_by, unsent_by_result};
 ghost use Rattle.calls.specs.ServedLaws.{service_laws};
 
-use crate::server::{Application, Server};
+use crate::server::{Application, Served, Server};
 use line_io::Outlet;
-use link::{Answer, Hearer};
+use link::{Answer, Hearer, SendError};
 use postcard::Serialize;
 
 /// An application and the server that executes its requests.
 #[derive(Drop)]
-pub struct Service<A, W, R, const N: usize> {
+pub struct Service<A, W, Q, R, const N: usize> {
     pub application: A,
-    pub server: Server<W, R, N>,
+    pub server: Server<W, Q, R, N>,
+    /// Whether a reply wasn't sent whole, since the caller put `false` here.
+    pub unsent: bool,
 }
 
-impl<R: Serialize + Drop, A, W: Outlet, const N: usize> Service<A, W, R, N> {
-    // TakesAnswer one answer of the line.
-    fn take<Q: Drop>(&mut self, answer: Answer<(u64, Q)>)
+// Whether a reply wasn't sent whole, of this one too.
+fn after_sending(unsent: bool, sent: Result<(), SendError>) -> bool
+    ensures { result ≡ unsent_by_result unsent sent }
+{
+    match sent {
+        Ok(()) => unsent,
+        Err(_) => true,
+    }
+}
+
+// The same by what a server did.
+fn after_serving(unsent: bool, served: Served) -> bool
+    ensures { result ≡ unsent_by unsent served }
+{
+    match served {
+        Served::Executed(sent) | Served::Again(sent) => after_sending(unsent, sent),
+        Served::Other(Some(sent)) | Served::Passed(Some(sent)) => after_sending(unsent, sent),
+        Served::Other(None) | Served::Passed(None) => unsent,
+    }
+}
+
+impl<Q: PartialEq + Drop, R: Serialize + Drop, A, W: Outlet, const N: usize> Service<
+    A,
+    W,
+    Q,
+    R,
+    N,
+> {
+    // Takes one answer of the line.
+    fn take(&mut self, answer: Answer<(u64, Q)>)
     where
         A: Application<Q, R>,
-        ensures { TakesAnswer A.executes self.old.application self.new.application
-            (kept_of self.old.server) (kept_of self.new.server)
+        ensures { TakesAnswer A.executes Q.eq A.passes self.old.application self.new.application
+            (kept_of self.old.server) (kept_of self.new.server) self.old.unsent self.new.unsent
             (sender_of self.new.server ≡ sender_of self.old.server)
-            (λ p r. HasSaid N (⟦<(u64, R) as Serialize>⟧.writes p)
+            (λ p r. HasSent N (⟦<(u64, R) as Serialize>⟧.writes p)
             (⟦<(u64, R) as Serialize>⟧.valid p)
-            (sender_place W.written W.faults W.calls_left (sender_of self.old.server))
-            (sender_place W.written W.faults W.calls_left (sender_of self.new.server)) r)
+            (sender_place W.line (sender_of self.old.server))
+            (sender_place W.line (sender_of self.new.server)) r)
             answer }
     {
         if let Answer::Value((number, request)) = answer {
-            let _ = self.server.answer(&mut self.application, number, request);
+            let served = self.server.answer(&mut self.application, number, request);
+            self.unsent = after_serving(self.unsent, served);
         }
     }
 }
 
-impl<Q: Drop, R: Serialize + Drop, A: Application<Q, R>, W: Outlet, const N: usize> Hearer<(u64, Q)>
-    for Service<A, W, R, N> {
-    ghost hears = { λ old answers new. ServiceHears A.executes W.written W.faults W.calls_left
+impl<
+    Q: PartialEq + Drop,
+    R: Serialize + Drop,
+    A: Application<Q, R>,
+    W: Outlet,
+    const N: usize,
+> Hearer<(u64, Q)> for Service<A, W, Q, R, N> {
+    ghost hears = { λ old answers new. ServiceHears A.executes Q.eq A.passes W.line
         ⟦<(u64, R) as Serialize>⟧.writes ⟦<(u64, R) as Serialize>⟧.valid old answers new };
 
-    ghost laws = { service_laws A.executes W.written W.faults W.calls_left
+    ghost laws = { service_laws A.executes Q.eq A.passes W.line
         ⟦<(u64, R) as Serialize>⟧.writes ⟦<(u64, R) as Serialize>⟧.valid };
 
     ghost enough = { λ s. false };
 
+    ghost settled = { λ s. ⊤ };
+
     fn hear(&mut self, answer: Answer<(u64, Q)>)
-        ensures { ServiceHears A.executes W.written W.faults W.calls_left
+        ensures { ServiceHears A.executes Q.eq A.passes W.line
             ⟦<(u64, R) as Serialize>⟧.writes ⟦<(u64, R) as Serialize>⟧.valid self.old
             (answer ∷ []) self.new }
     {
@@ -55,8 +92,9 @@ impl<Q: Drop, R: Serialize + Drop, A: Application<Q, R>, W: Outlet, const N: usi
     }
 
     fn pause(&mut self)
-        ensures { ServiceHears {Q = Q} A.executes W.written W.faults W.calls_left
+        ensures heard { ServiceHears A.executes Q.eq A.passes W.line
             ⟦<(u64, R) as Serialize>⟧.writes ⟦<(u64, R) as Serialize>⟧.valid self.old [] self.new }
+        ensures settles { ⊤ }
     {}
 
     fn has_enough(&self) -> bool

@@ -15,8 +15,8 @@ use Rattle.link_laws.specs.Pieced.{AreOfTheWhole}
 use Rattle.link_laws.specs.Values.{sends_of, runs_of, AreSends, values_sent}
 use Rattle.link.specs.declared.receiver.Answer.{Answer}
 use Rattle.link.specs.declared.receiver.Answer.TheVariants.{Value, Damaged, TooLong, Cut}
-use Rattle.link.specs.declared.listening.End.{End}
-use Rattle.link.specs.declared.listening.End.TheVariants.{Ended, ReadFault, NoMemory}
+use Rattle.line_io.specs.declared.transfers.End.{End}
+use Rattle.line_io.specs.declared.transfers.End.TheVariants.{Ended, ReadFault, NoMemory}
 use Rattle.calls.specs.Calls.{In}
 use Rattle.calls.specs.Serving.{requests_of}
 

@@ -1,10 +1,9 @@
 -- What one call over two lines makes of the application.
-use Rattle.std.proofs.Common.{◌≡◌, ℕ, List, [], ◌∷◌, map, Option, Some, None, refl, sym, ap, ◌∙◌, subst, inl, inr, ◌⊎◌, arith}
+use Rattle.std.proofs.Common.{◌≡◌, ◌<◌, ℕ, Bool, List, [], ◌∷◌, map, Option, Some, None, refl, sym, ap, ◌∙◌, subst, inl, inr, ◌⊎◌, arith}
 use Rattle.std.specs.Prelude.{IfSome}
 use Rattle.std.specs.List.{AllByRecursion, AllZip, FoldsTo, zip}
 use Rattle.std.proofs.lemmas.Bool.{cases_lt}
 use Rattle.std.proofs.lemmas.List.{append-nil}
-use Rattle.line_io.specs.Device.{Wrote}
 use Rattle.postcard_tree.specs.Tree.{Tree}
 use Rattle.postcard_tree.specs.Alike.{AlikePairs}
 use Rattle.link.specs.Run.{Send, line}
@@ -12,7 +11,7 @@ use Rattle.link.specs.Fates.{IsSendOf}
 use Rattle.link.specs.declared.receiver.Answer.{Answer}
 use Rattle.link_laws.specs.Values.{runs_of, values_sent}
 use Rattle.link_laws.specs.Sessions.{all_sent, no_session, then_session, takes_run, all_written}
-use Rattle.calls.specs.Calls.{Execution, next_of, ServesAll, Rises, In, OnePerNumber, ExecutesOnce}
+use Rattle.calls.specs.Calls.{Execution, next_of, no_call, ServesAll, Rises, In, OnePerNumber, ExecutesOnce}
 use Rattle.calls.specs.Serving.{Runs, requests_of}
 use Rattle.calls_laws.specs.Heard.{HearsSent}
 use Rattle.calls_laws.specs.Headline.{WentOver, WasExecuted, RepliesAreRight}
@@ -33,7 +32,7 @@ module _ {V : Type 0} (takes : Tree → Type 0) (holds : List ℕ → Tree → T
       let calls = zip messages l.said.sends in
       let left = takes_run taken (then_session l.sentinel l.fresh (all_sent l.said) no_session) in
       let there = line s (runs_of (calls ∷ [])) in
-      let whole : bytes ≡ there = all_written l.start.told bytes there l.start.faults l.stop.faults l.empty (subst (λ z. Wrote l.start.told z l.start.faults l.stop.faults there) l.told left.wrote) in
+      let whole : bytes ≡ there = all_written l.start.line l.stop.line bytes there l.empty l.told left.wrote in
       record { is = left.is; of = left.of; front = h.front; rest = h.rest; parts = sym whole ∙ h.parts; end = h.end; received = h.received }
 
   pub sent_are : (messages : List V) (bytes : List ℕ) (l : LeftBy limit s writes valid messages bytes) → values_sent (zip messages l.said.sends ∷ []) ≡ messages
@@ -48,11 +47,11 @@ in_only x (z ∷ xs) h y (inr i) = in_only x xs h.1 y i
 
 module _ {Q R : Type 0} where
   -- what was executed was heard
-  was_heard : (kept later : Option (ℕ × R)) (qs : List (ℕ × Q)) (log : List (Execution Q R)) (out : List (ℕ × R)) → ServesAll kept qs log out later → (e : Execution Q R) → In e log → In (e.number, e.asks) qs
-  was_heard kept later [] log out h e i = absurd (subst (In e) h.0 i)
-  was_heard kept later (q ∷ qs) log out (first, others, says, more, mid, one, rest, log_is, out_is) e i =
+  was_heard : (equal : Q → Q → Bool) (passes : ℕ → ℕ → Option R) (kept later : Option (Execution Q R)) (qs : List (ℕ × Q)) (log : List (Execution Q R)) (out : List (ℕ × R)) → ServesAll equal passes kept qs log out later → (e : Execution Q R) → In e log → In (e.number, e.asks) qs
+  was_heard equal passes kept later [] log out h e i = absurd (subst (In e) h.0 i)
+  was_heard equal passes kept later (q ∷ qs) log out (first, others, says, more, mid, one, rest, log_is, out_is) e i =
       elim (in_parts e first others (subst (In e) log_is i)) [
-        | inr k ↦ inr (was_heard mid later qs others more rest e k)
+        | inr k ↦ inr (was_heard equal passes mid later qs others more rest e k)
         | inl k ↦ elim (cases_lt q.0 (next_of kept)) [
           | inl l ↦ absurd (subst (In e) (one.known l).0 k)
           | inr l ↦ inl (here e q ((one.fresh l).0) (subst (In e) (one.fresh l).1 k))
@@ -69,14 +68,14 @@ module _ {Q R : Type 0} where
   at_most_one n m (e ∷ []) h all = inr (e, refl)
   at_most_one n m (e ∷ f ∷ log) h all = absurd (let l = h.1.0 in let a = all e (inl refl) in let b = all f (inr (inl refl)) in omega (arith, l, a, b))
 
-module _ {A Q R : Type 0} (executes : A → Q → R → A → Type 0) (alike_asked : Q → Q → Type 0) (alike_said : R → R → Type 0)
+module _ {A Q R : Type 0} (executes : A → Q → R → A → Type 0) (equal : Q → Q → Bool) (passes : ℕ → ℕ → Option R) (alike_asked : Q → Q → Type 0) (alike_said : R → R → Type 0)
     {takes : Tree → Type 0} {holds : List ℕ → Tree → Type 0} {reads : Tree → ℕ × Q → Type 0} {writes : ℕ × Q → Option Tree} {valid : ℕ × Q → Type 0}
     {takes' : Tree → Type 0} {holds' : List ℕ → Tree → Type 0} {reads' : Tree → ℕ × R → Type 0} {writes' : ℕ × R → Option Tree} {valid' : ℕ × R → Type 0}
     (taken : (v : ℕ × Q) (t : Tree) → valid v → writes v ≡ Some t → takes t) (taken' : (v : ℕ × R) (t : Tree) → valid' v → writes' v ≡ Some t → takes' t)
     (hears : HearsSent takes holds reads (AlikePairs (λ m m'. m ≡ m') alike_asked) writes valid) (once : ExecutesOnce Q R)
     (right : RepliesAreRight alike_asked alike_said (WentOver takes holds reads writes valid) (WentOver takes' holds' reads' writes' valid'))
     {limit s limit' s' : ℕ} {old new : A} {x : ℕ × Q} {pending : Option (ℕ × Q)} {requests replies : List ℕ}
-    (asks : AsksOnly limit s writes valid x pending requests) (serves : ServesLine executes holds reads writes' valid' limit s limit' s' old new requests replies) where
+    (asks : AsksOnly limit s writes valid x pending requests) (serves : ServesLine executes equal passes holds reads writes' valid' limit s limit' s' old new requests replies) where
   -- each request that was heard has the number, and is alike the one that was asked
   heard_alike : (w : ℕ × Q) → In w (requests_of serves.heard) → (x.0 ≡ w.0) × alike_asked x.1 w.1
   heard_alike w i =
@@ -86,10 +85,10 @@ module _ {A Q R : Type 0} (executes : A → Q → R → A → Type 0) (alike_ask
       (sym (ap (λ p. p.0) same) ∙ v.2.0, subst (λ p. alike_asked p.1 w.1) same v.2.1)
 
   numbered : (e : Execution Q R) → In e serves.log → e.number ≡ x.0
-  numbered e i = sym (heard_alike (e.number, e.asks) (was_heard None serves.later (requests_of serves.heard) serves.log serves.out serves.served e i)).0
+  numbered e i = sym (heard_alike (e.number, e.asks) (was_heard equal passes None serves.later (requests_of serves.heard) serves.log serves.out serves.served e i)).0
 
   rising : Rises 0 serves.log
-  rising = (once None serves.later (requests_of serves.heard) serves.log serves.out serves.served).0
+  rising = (once equal passes None serves.later (requests_of serves.heard) serves.log serves.out serves.served).0
 
   -- the application ran one execution alone
   ran_one : (log : List (Execution Q R)) (e : Execution Q R) → log ≡ e ∷ [] → FoldsTo (Runs executes) old log new → executes old e.asks e.says new
@@ -106,7 +105,7 @@ module _ {A Q R : Type 0} (executes : A → Q → R → A → Type 0) (alike_ask
       asks = one.0.asks;
       says = one.0.says;
       executed = ran_one serves.log one.0 one.1 serves.ran;
-      asks_alike = (heard_alike (one.0.number, one.0.asks) (was_heard None serves.later (requests_of serves.heard) serves.log serves.out serves.served one.0 (subst (In one.0) (sym one.1) (inl refl)))).1;
+      asks_alike = (heard_alike (one.0.number, one.0.asks) (was_heard equal passes None serves.later (requests_of serves.heard) serves.log serves.out serves.served one.0 (subst (In one.0) (sym one.1) (inl refl)))).1;
       says_so = tt;
     })
   ]
@@ -115,19 +114,23 @@ module _ {A Q R : Type 0} (executes : A → Q → R → A → Type 0) (alike_ask
   one_number a b i j e = in_only x asks.messages asks.only a i ∙ sym (in_only x asks.messages asks.only b j)
 
   -- the reply that was taken, by the law of whole lines
-  taken_was_said : (r : R) → TakesReply holds' reads' limit' s' pending replies r → WasExecuted alike_asked alike_said serves.log x.0 x.1 r
+  taken_was_said : (r : R) → TakesReply holds' reads' limit' s' pending replies r → WasExecuted alike_asked alike_said 0 serves.log x.0 x.1 r
   taken_was_said r t =
       let sends = asks.left.said.sends in
       let is : (t.number, t.asked) ≡ x = (asks.sent (t.number, t.asked) t.is_pending).0 in
       let sent = sent_are takes holds reads writes valid taken limit s asks.messages requests asks.left in
-      right limit s limit' s' (zip asks.messages sends ∷ []) (zip serves.out serves.left.said.sends ∷ []) serves.heard t.heard serves.log serves.out serves.later x.0 x.1 r
+      elim (right limit s limit' s' (zip asks.messages sends ∷ []) (zip serves.out serves.left.said.sends ∷ []) serves.heard t.heard equal passes None serves.later serves.log serves.out x.0 x.1 r
+      (subst (λ (z : ℕ × Q). z.0 < no_call) is (asks.numbered (t.number, t.asked) t.is_pending))
       (went_over takes holds reads writes valid taken limit s asks.messages requests serves.heard asks.left serves.over)
       serves.served
       (went_over takes' holds' reads' writes' valid' taken' limit' s' serves.out replies t.heard serves.left t.over)
       (sent_are takes' holds' reads' writes' valid' taken' limit' s' serves.out replies serves.left)
       (subst OnePerNumber (sym sent) one_number)
       (subst (In x) (sym sent) (asks.sent (t.number, t.asked) t.is_pending).1)
-      (subst (λ p. In (p.0, r) (requests_of t.heard)) is t.said)
+      (subst (λ p. In (p.0, r) (requests_of t.heard)) is t.said)) [
+        | inl w ↦ w
+        | inr w ↦ absurd w.is_kept
+      ]
 
   pub reply_is_right : (r : R) → TakesReply holds' reads' limit' s' pending replies r → ExecutedOnce executes alike_asked old new x.1 (λ says. alike_said says r)
   reply_is_right r t =
@@ -146,7 +149,7 @@ module _ {A Q R : Type 0} (executes : A → Q → R → A → Type 0) (alike_ask
             )
       ]
 
-module _ {A Q R : Type 0} (executes : A → Q → R → A → Type 0) (alike_asked : Q → Q → Type 0) (alike_said : R → R → Type 0)
+module _ {A Q R : Type 0} (executes : A → Q → R → A → Type 0) (equal : Q → Q → Bool) (passes : ℕ → ℕ → Option R) (alike_asked : Q → Q → Type 0) (alike_said : R → R → Type 0)
     {takes : Tree → Type 0} {holds : List ℕ → Tree → Type 0} {reads : Tree → ℕ × Q → Type 0} {writes : ℕ × Q → Option Tree} {valid : ℕ × Q → Type 0}
     {takes' : Tree → Type 0} {holds' : List ℕ → Tree → Type 0} {reads' : Tree → ℕ × R → Type 0} {writes' : ℕ × R → Option Tree} {valid' : ℕ × R → Type 0}
     (taken : (v : ℕ × Q) (t : Tree) → valid v → writes v ≡ Some t → takes t) (taken' : (v : ℕ × R) (t : Tree) → valid' v → writes' v ≡ Some t → takes' t)
@@ -154,14 +157,14 @@ module _ {A Q R : Type 0} (executes : A → Q → R → A → Type 0) (alike_ask
     (right : RepliesAreRight alike_asked alike_said (WentOver takes holds reads writes valid) (WentOver takes' holds' reads' writes' valid'))
     {limit s limit' s' : ℕ} {old new : A} {x : ℕ × Q} {pending : Option (ℕ × Q)} {requests requests' replies replies' : List ℕ} where
   -- what came of a call: the reply, where one was taken, and what the application did
-  pub outcome : AsksOnly limit s writes valid x pending requests → ServesLine executes holds reads writes' valid' limit s limit' s' old new requests' replies → requests' ≡ requests → replies' ≡ replies
+  pub outcome : AsksOnly limit s writes valid x pending requests → ServesLine executes equal passes holds reads writes' valid' limit s limit' s' old new requests' replies → requests' ≡ requests → replies' ≡ replies
       → (said : Option R) → IfSome said (TakesReply holds' reads' limit' s' pending replies')
       → IfSome said (λ r. ExecutedOnce executes alike_asked old new x.1 (λ says. alike_said says r)) × ExecutedAtMostOnce {R = R} executes alike_asked old new x.1
   outcome asks serves e f said takes_it =
-      let there = subst (λ b. ServesLine executes holds reads writes' valid' limit s limit' s' old new b replies) e serves in
-      (of said takes_it there, executed_at_most_once executes alike_asked alike_said taken taken' hears once right asks there)
+      let there = subst (λ b. ServesLine executes equal passes holds reads writes' valid' limit s limit' s' old new b replies) e serves in
+      (of said takes_it there, executed_at_most_once executes equal passes alike_asked alike_said taken taken' hears once right asks there)
     where
-      of : (o : Option R) → IfSome o (TakesReply holds' reads' limit' s' pending replies') → ServesLine executes holds reads writes' valid' limit s limit' s' old new requests replies
+      of : (o : Option R) → IfSome o (TakesReply holds' reads' limit' s' pending replies') → ServesLine executes equal passes holds reads writes' valid' limit s limit' s' old new requests replies
           → IfSome o (λ r. ExecutedOnce executes alike_asked old new x.1 (λ says. alike_said says r))
       of None t there = tt
-      of (Some r) t there = reply_is_right executes alike_asked alike_said taken taken' hears once right asks there r (subst (λ b. TakesReply holds' reads' limit' s' pending b r) f t)
+      of (Some r) t there = reply_is_right executes equal passes alike_asked alike_said taken taken' hears once right asks there r (subst (λ b. TakesReply holds' reads' limit' s' pending b r) f t)

@@ -1,21 +1,20 @@
 -- What each side of an exchange does, by what the calls say.
-use Rattle.std.proofs.Common.{◌≡◌, ℕ, Bool, true, false, cond, eqb, List, [], ◌∷◌, ◌++◌, Option, Some, None, Result, Ok, Err, refl, sym, ap, ◌∙◌, subst, inl, inr, ◌⊎◌, arith, append_assoc}
+use Rattle.std.proofs.Common.{◌≡◌, ◌<◌, ℕ, Bool, true, false, cond, eqb, List, [], ◌∷◌, ◌++◌, Option, Some, None, Result, Ok, Err, refl, sym, ap, ◌∙◌, subst, inl, inr, ◌⊎◌, arith, append_assoc}
 use Rattle.std.specs.List.{AllByRecursion}
 use Rattle.std.specs.Prelude.{IfSome}
-use Rattle.std.proofs.lemmas.Bool.{eqb-true, le-ltb}
+use Rattle.std.proofs.lemmas.Bool.{eqb-true}
 use Rattle.postcard_tree.specs.Tree.{Tree}
-use Rattle.link.specs.Stream.{too_long}
-use Rattle.link.specs.Decoding.{Inside}
-use Rattle.link.specs.Listening.{HasRead, HasGiven, IsReceived, Stopped}
-use Rattle.link.specs.Each.{HasReadNow, IsHeardNow}
-use Rattle.link.specs.declared.reception.Reception.{Reception}
+use Rattle.line_io.specs.Device.{LineState}
+use Rattle.line_io.specs.Transfers.{HasRead}
+use Rattle.link.specs.Listening.{IsReceived}
+use Rattle.link.specs.Each.{HasReadNow, IsReceivedNow}
 use Rattle.link.specs.declared.sender.SendError.{SendError}
 use Rattle.link.specs.declared.receiver.Answer.{Answer}
 use Rattle.link.specs.declared.receiver.Answer.TheVariants.{Value, Damaged, TooLong, Cut}
-use Rattle.link.specs.declared.listening.End.{End}
-use Rattle.link.specs.declared.listening.End.TheVariants.{Ended, ReadFault, NoMemory}
-use Rattle.calls.specs.Calls.{In, ServesAll}
-use Rattle.calls.specs.Places.{SenderPlace, HasSaid}
+use Rattle.line_io.specs.declared.transfers.End.{End}
+use Rattle.line_io.specs.declared.transfers.End.TheVariants.{Ended, ReadFault, NoMemory}
+use Rattle.calls.specs.Calls.{Execution, no_call, In, ServesAll}
+use Rattle.link.specs.Senders.{SenderPlace, HasSent}
 use Rattle.calls.specs.Asking.{Asker, stepped, calls, ends, IsCalled, IsRepeated}
 use Rattle.calls.specs.Serving.{requests_of, Executes}
 use Rattle.calls.specs.ServedLaws.{says_none, says_one, says_then}
@@ -29,9 +28,9 @@ pub inside : {A : Type 0} {x y : A} → Some x ≡ Some y → x ≡ y
 inside e = cc
 
 module _ {Q : Type 0} (limit : ℕ) (writes : ℕ × Q → Option Tree) (valid : ℕ × Q → Type 0) where
-  one_sent : (old new : Asker Q) (q : Q) (P P' : SenderPlace) (r : Result (Unit {0}) SendError) → new ≡ stepped old (calls q) → HasSaid limit (writes (old.next, q)) (valid (old.next, q)) P P' r
+  one_sent : (old new : Asker Q) (q : Q) (P P' : SenderPlace) (r : Result (Unit {0}) SendError) → new ≡ stepped old (calls q) → old.next < no_call → HasSent limit (writes (old.next, q)) (valid (old.next, q)) P P' r
       → Repeats limit writes valid (old.next, q) new.pending P P'
-  one_sent old new q P P' r e h =
+  one_sent old new q P P' r e l h =
       let x = says_one limit writes valid (old.next, q) P P' r h in
       record {
         messages = (old.next, q) ∷ [];
@@ -40,12 +39,13 @@ module _ {Q : Type 0} (limit : ℕ) (writes : ℕ × Q → Option Tree) (valid :
         sentinel = h.sentinel;
         only = (refl, tt);
         sent = λ p f. (inside (sym f ∙ ap (λ (a : Asker Q). a.pending) e), inl refl);
+        numbered = λ p f. subst (λ (x : ℕ × Q). x.0 < no_call) (inside (sym (ap (λ (a : Asker Q). a.pending) e) ∙ f)) l;
       }
 
   pub called : (old new : Asker Q) (q : Q) (r : Result (Unit {0}) CallError) (P P' : SenderPlace) (same : Type 0) → (same → P' ≡ P) → old.pending ≡ None
-      → IsCalled old new q r same (λ p x. HasSaid limit (writes p) (valid p) P P' x) → Repeats limit writes valid (old.next, q) new.pending P P'
-  called old new q (Ok u) P P' same stays idle h = one_sent old new q P P' (Ok tt) h.0 h.1
-  called old new q (Err (Unsent e)) P P' same stays idle h = one_sent old new q P P' (Err e) h.0 h.1
+      → IsCalled old new q r same (λ p x. HasSent limit (writes p) (valid p) P P' x) → Repeats limit writes valid (old.next, q) new.pending P P'
+  called old new q (Ok u) P P' same stays idle h = one_sent old new q P P' (Ok tt) h.0 h.2 h.1
+  called old new q (Err (Unsent e)) P P' same stays idle h = one_sent old new q P P' (Err e) h.0 h.2 h.1
   called old new q (Err Full) P P' same stays idle h =
       subst (λ z. Repeats limit writes valid (old.next, q) new.pending P z) (sym (stays h.1)) (record {
         messages = [];
@@ -54,6 +54,7 @@ module _ {Q : Type 0} (limit : ℕ) (writes : ℕ × Q → Option Tree) (valid :
         sentinel = refl;
         only = tt;
         sent = λ p f. absurd (let no : ◌≡◌ {A = Option (ℕ × Q)} None (Some p) = sym idle ∙ sym (ap (λ (a : Asker Q). a.pending) h.0) ∙ f in cc);
+        numbered = λ p f. absurd (let no : ◌≡◌ {A = Option (ℕ × Q)} None (Some p) = sym idle ∙ sym (ap (λ (a : Asker Q). a.pending) h.0) ∙ f in cc);
       })
   called old new q (Err Idle) P P' same stays idle h = absurd h
 
@@ -62,7 +63,7 @@ module _ {Q : Type 0} (limit : ℕ) (writes : ℕ × Q → Option Tree) (valid :
   all_more x p (m ∷ ms) h e = (h.0, all_more x p ms h.1 e)
 
   one_more : (x p : ℕ × Q) (old new : Asker Q) (r : Result (Unit {0}) SendError) (P0 P P' : SenderPlace) → Repeats limit writes valid x old.pending P0 P → new ≡ old → old.pending ≡ Some p
-      → HasSaid limit (writes p) (valid p) P P' r → Repeats limit writes valid x new.pending P0 P'
+      → HasSent limit (writes p) (valid p) P P' r → Repeats limit writes valid x new.pending P0 P'
   one_more x p old new r P0 P P' k e is h =
       let one = says_one limit writes valid p P P' r h in
       record {
@@ -72,10 +73,11 @@ module _ {Q : Type 0} (limit : ℕ) (writes : ℕ × Q → Option Tree) (valid :
         sentinel = h.sentinel ∙ k.sentinel;
         only = all_more x p k.messages k.only (k.sent p is).0;
         sent = λ q f. let z = k.sent q (sym (ap (λ (a : Asker Q). a.pending) e) ∙ f) in (z.0, in_first x k.messages (p ∷ []) z.1);
+        numbered = λ q f. k.numbered q (sym (ap (λ (a : Asker Q). a.pending) e) ∙ f);
       }
 
   pub repeated : (x : ℕ × Q) (old new : Asker Q) (r : Result (Unit {0}) CallError) (P0 P P' : SenderPlace) (same : Type 0) → (same → P' ≡ P) → Repeats limit writes valid x old.pending P0 P
-      → IsRepeated old new r same (λ p z. HasSaid limit (writes p) (valid p) P P' z) → Repeats limit writes valid x new.pending P0 P'
+      → IsRepeated old new r same (λ p z. HasSent limit (writes p) (valid p) P P' z) → Repeats limit writes valid x new.pending P0 P'
   repeated x old new (Ok u) P0 P P' same stays k h = one_more x h.1 old new (Ok tt) P0 P P' k h.0 h.2 h.3
   repeated x old new (Err (Unsent e)) P0 P P' same stays k h = one_more x h.1 old new (Err e) P0 P P' k h.0 h.2 h.3
   repeated x old new (Err Full) P0 P P' same stays k h = absurd h
@@ -83,32 +85,23 @@ module _ {Q : Type 0} (limit : ℕ) (writes : ℕ × Q → Option Tree) (valid :
       subst (λ z. Repeats limit writes valid x new.pending P0 z) (sym (stays h.1))
       (subst (λ (a : Asker Q). Repeats limit writes valid x a.pending P0 P) (sym h.0) k)
 
--- a reader that tells what comes gave a front of that
-pub front_read : (end : End) (old new : List ℕ) (before after calls_left : ℕ) (bytes : List ℕ) → HasRead (Some old) (Some new) before after calls_left end bytes → old ≡ bytes ++ new
-front_read Ended old new before after calls_left bytes h = h.0.came
-front_read ReadFault old new before after calls_left bytes h = h.0.came
-front_read NoMemory old new before after calls_left bytes h = h.0.came
+-- where a reader stands that tells what comes
+abbrev pub telling : List ℕ → ℕ → ℕ → LineState
+telling bytes faults calls_left = record { told = Some bytes; faults = faults; calls_left = calls_left }
 
-module _ {V : Type 0} (holds : List ℕ → Tree → Type 0) (reads : Tree → V → Type 0) (limit s : ℕ) where
-  given_front : (all bytes rest : List ℕ) (answers : List (Answer V)) → all ≡ bytes ++ rest → HasGiven holds reads limit s answers bytes → HeardFront holds reads limit s all answers
-  given_front all bytes rest answers e h = record { front = bytes; rest = rest; parts = e; end = ReadFault; received = h }
+-- it gave a front of that
+pub front_read : (end : End) (old new : List ℕ) (f g c d : ℕ) (bytes : List ℕ) → HasRead (telling old f c) (telling new g d) end bytes → old ≡ bytes ++ new
+front_read Ended old new f g c d bytes h = h.0.came
+front_read ReadFault old new f g c d bytes h = h.0.came
+front_read NoMemory old new f g c d bytes h = h.0.came
 
-  stopped_front : (all bytes rest : List ℕ) (answers : List (Answer V)) → all ≡ bytes ++ rest → Stopped holds reads limit s answers bytes → HeardFront holds reads limit s all answers
-  stopped_front all bytes rest answers e h =
-      given_front all h.front (h.rest ++ rest) answers (e ∙ ap (λ x. x ++ rest) h.parts ∙ append_assoc h.front h.rest rest) h.given
-
-  -- what was heard by now, of a reader that tells what comes
-  heard_by_now : {D : Type 0} (inner : D → Inside) (result : Option End) (r : Reception D) (old new : List ℕ) (before after calls_left : ℕ) (bytes : List ℕ) (answers : List (Answer V))
-      → HasReadNow (Some old) (Some new) before after calls_left result bytes → IsHeardNow inner holds reads limit s result r answers bytes → HeardFront holds reads limit s old answers
-  heard_by_now inner None r old new before after calls_left bytes answers k h = given_front old bytes new answers k.0.came h.given
-  heard_by_now inner (Some Ended) r old new before after calls_left bytes answers k h = given_front old bytes new answers k.0.came h.given
-  heard_by_now inner (Some ReadFault) r old new before after calls_left bytes answers k h = given_front old bytes new answers k.0.came h.given
-  heard_by_now inner (Some NoMemory) r old new before after calls_left bytes answers k h = stopped_front old bytes new answers k.0.came h
-
-  pub heard_of : {D : Type 0} (inner : D → Inside) (result : Option End) (r : Reception D) (all old new : List ℕ) (before after calls_left : ℕ) (bytes : List ℕ) (answers : List (Answer V)) → old ≡ all
-      → HasReadNow (Some old) (Some new) before after calls_left result bytes → IsHeardNow inner holds reads limit s result r answers bytes → HeardFront holds reads limit s all answers
-  heard_of inner result r all old new before after calls_left bytes answers e k h =
-      subst (λ x. HeardFront holds reads limit s x answers) e (heard_by_now inner result r old new before after calls_left bytes answers k h)
+-- What was heard, of a reader that tells what comes.
+pub heard_of : {V : Type 0} (holds : List ℕ → Tree → Type 0) (reads : Tree → V → Type 0) (limit s : ℕ) (result : Option End) (all old new : List ℕ) (f g c d : ℕ) (bytes : List ℕ) (answers : List (Answer V)) → old ≡ all
+    → HasReadNow (telling old f c) (telling new g d) result bytes → IsReceivedNow holds reads limit s result answers bytes → HeardFront holds reads limit s all answers
+heard_of holds reads limit s None all old new f g c d bytes answers e k h =
+    record { front = bytes; rest = new; parts = sym e ∙ k.0.came; end = ReadFault; received = h }
+heard_of holds reads limit s (Some end) all old new f g c d bytes answers e k h =
+    record { front = bytes; rest = new; parts = sym e ∙ front_read end old new f g c d bytes k; end = end; received = h }
 
 module _ {Q R : Type 0} where
   -- a reply was said to a client that waits: before these answers, or by one of them to its pending call
@@ -134,17 +127,9 @@ module _ {Q R : Type 0} where
   said_to w (TooLong ∷ answers) r e = said_to w answers r e
   said_to w (Cut ∷ answers) r e = said_to w answers r e
 
--- nothing is given of nothing
-pub nothing_given : {V : Type 0} (holds : List ℕ → Tree → Type 0) (reads : Tree → V → Type 0) (limit s : ℕ) → HasGiven holds reads limit s [] []
-nothing_given holds reads limit s = record {
-  verdicts = [];
-  given = record { done = []; each = tt; whole = sym (ap (λ b. cond b (too_long ∷ []) []) (le-ltb limit 0 (omega arith))) };
-  matching = tt;
-}
-
 -- what a client left on an empty line that calls, and sends its call again
 pub asks_only : {Q : Type 0} (limit s : ℕ) (writes : ℕ × Q → Option Tree) (valid : ℕ × Q → Type 0) (n m : ℕ) (q : Q) (p p' : Option (ℕ × Q)) (start stop : SenderPlace) (bytes : List ℕ)
-    → Repeats limit writes valid (n, q) p start stop → n ≡ m → p' ≡ p → start.told ≡ Some [] → start.clean ≡ false → start.sentinel ≡ s → stop.told ≡ Some bytes
+    → Repeats limit writes valid (n, q) p start stop → n ≡ m → p' ≡ p → start.line.told ≡ Some [] → start.clean ≡ false → start.sentinel ≡ s → stop.line.told ≡ Some bytes
     → AsksOnly limit s writes valid (m, q) p' bytes
 asks_only limit s writes valid n m q p p' start stop bytes r e f empty fresh sentinel told =
     subst (λ z. AsksOnly limit s writes valid (z, q) p' bytes) e (record {
@@ -152,21 +137,22 @@ asks_only limit s writes valid n m q p p' start stop bytes r e f empty fresh sen
       left = record { start = start; stop = stop; fates = r.fates; said = r.said; empty = empty; fresh = fresh; sentinel = sentinel; told = told };
       only = r.only;
       sent = λ y k. r.sent y (sym f ∙ k);
+      numbered = λ y k. r.numbered y (sym f ∙ k);
     })
 
 -- what a new server did over an empty line, with the requests of a reader that tells what comes
-pub serves_line : {A Q R : Type 0} (executes : A → Q → R → A → Type 0) (holds : List ℕ → Tree → Type 0) (reads : Tree → ℕ × Q → Type 0) (writes : ℕ × R → Option Tree) (valid : ℕ × R → Type 0)
-    (limit s limit' s' : ℕ) (old new : A) (kept later : Option (ℕ × R)) (start stop : SenderPlace) (requests replies bytes rest : List ℕ) (end : End) (heard : List (Answer (ℕ × Q)))
-    → Executes executes limit' writes valid old new kept later start stop (requests_of heard) → IsReceived holds reads limit s end heard bytes → requests ≡ bytes ++ rest
-    → kept ≡ None → start.told ≡ Some [] → start.clean ≡ false → start.sentinel ≡ s' → stop.told ≡ Some replies
-    → ServesLine executes holds reads writes valid limit s limit' s' old new requests replies
-serves_line executes holds reads writes valid limit s limit' s' old new kept later start stop requests replies bytes rest end heard e received parts none empty fresh sentinel told = record {
+pub serves_line : {A Q R : Type 0} (executes : A → Q → R → A → Type 0) (equal : Q → Q → Bool) (passes : ℕ → ℕ → Option R) (holds : List ℕ → Tree → Type 0) (reads : Tree → ℕ × Q → Type 0) (writes : ℕ × R → Option Tree) (valid : ℕ × R → Type 0)
+    (limit s limit' s' : ℕ) (old new : A) (kept later : Option (Execution Q R)) (u v : Bool) (start stop : SenderPlace) (requests replies bytes rest : List ℕ) (end : End) (heard : List (Answer (ℕ × Q)))
+    → Executes executes equal passes limit' writes valid old new kept later u v start stop (requests_of heard) → IsReceived holds reads limit s end heard bytes → requests ≡ bytes ++ rest
+    → kept ≡ None → start.line.told ≡ Some [] → start.clean ≡ false → start.sentinel ≡ s' → stop.line.told ≡ Some replies
+    → ServesLine executes equal passes holds reads writes valid limit s limit' s' old new requests replies
+serves_line executes equal passes holds reads writes valid limit s limit' s' old new kept later u v start stop requests replies bytes rest end heard e received parts none empty fresh sentinel told = record {
   heard = heard;
   over = record { front = bytes; rest = rest; parts = parts; end = end; received = received };
   log = e.log;
   out = e.out;
   later = later;
-  served = subst (λ k. ServesAll k (requests_of heard) e.log e.out later) none e.served;
+  served = subst (λ k. ServesAll equal passes k (requests_of heard) e.log e.out later) none e.served;
   ran = e.ran;
   left = record { start = start; stop = stop; fates = e.fates; said = e.replied; empty = empty; fresh = fresh; sentinel = sentinel; told = told };
 }

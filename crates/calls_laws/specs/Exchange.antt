@@ -1,16 +1,17 @@
 -- One call over two lines: what each side did, and what it means to the application.
-use Rattle.std.specs.Prelude.{◌≡◌, ◌⊎◌, ℕ, List, [], ◌++◌, false, Option, Some, None}
+use Rattle.std.specs.Prelude.{◌≡◌, ◌⊎◌, ◌<◌, ℕ, Bool, List, [], ◌++◌, false, Option, Some, None}
 use Rattle.std.specs.Borrow.{RattleType}
 use Rattle.std.specs.List.{FoldsTo, AllByRecursion}
 use Rattle.std.specs.Mem.{FitsInMemory}
 use Rattle.postcard_tree.specs.Tree.{Tree}
 use Rattle.link.specs.Listening.{IsReceived, ReceiverFitsInMemory}
-use Rattle.calls.specs.Calls.{Execution, ServesAll, In}
-use Rattle.calls.specs.Places.{SenderPlace, SaysAll}
+use Rattle.calls.specs.Calls.{Execution, no_call, ServesAll, In}
+use Rattle.link.specs.Senders.{SenderPlace}
+use Rattle.calls.specs.Places.{SaysAll}
 use Rattle.calls.specs.Serving.{Runs, requests_of}
 use Rattle.link.specs.declared.session.Fate.{Fate}
 use Rattle.link.specs.declared.receiver.Answer.{Answer}
-use Rattle.link.specs.declared.listening.End.{End}
+use Rattle.line_io.specs.declared.transfers.End.{End}
 use Rattle.calls.specs.contracts.client.Client as client
 use Rattle.calls.specs.contracts.server.Server as server
 use Rattle.calls.specs.contracts.service.Service as service
@@ -35,10 +36,10 @@ pub record LeftBy {V : Type 0} (limit s : ℕ) (writes : V → Option Tree) (val
   pub stop : SenderPlace
   pub fates : List Fate
   pub said : SaysAll limit writes valid start stop messages fates
-  pub empty : start.told ≡ Some []
+  pub empty : start.line.told ≡ Some []
   pub fresh : start.clean ≡ false
   pub sentinel : start.sentinel ≡ s
-  pub told : stop.told ≡ Some bytes
+  pub told : stop.line.told ≡ Some bytes
 
 -- A new receiver was given a front of these bytes, and its reading ended anyhow: these were its answers.
 pub record HeardFront {V : Type 0} (holds : List ℕ → Tree → Type 0) (reads : Tree → V → Type 0) (limit s : ℕ) (bytes : List ℕ) (answers : List (Answer V)) : Type 0 where
@@ -56,6 +57,7 @@ pub record Repeats {Q : Type 0} (limit : ℕ) (writes : ℕ × Q → Option Tree
   pub sentinel : stop.sentinel ≡ start.sentinel
   pub only : AllByRecursion (λ m. m ≡ asked) messages
   pub sent : (p : ℕ × Q) → pending ≡ Some p → (p ≡ asked) × In asked messages
+  pub numbered : (p : ℕ × Q) → pending ≡ Some p → p.0 < no_call
 
 -- the same over an empty line, where it left these bytes
 pub record AsksOnly {Q : Type 0} (limit s : ℕ) (writes : ℕ × Q → Option Tree) (valid : ℕ × Q → Type 0) (asked : ℕ × Q) (pending : Option (ℕ × Q)) (bytes : List ℕ) : Type 0 where
@@ -63,16 +65,17 @@ pub record AsksOnly {Q : Type 0} (limit s : ℕ) (writes : ℕ × Q → Option T
   pub left : LeftBy limit s writes valid messages bytes
   pub only : AllByRecursion (λ m. m ≡ asked) messages
   pub sent : (p : ℕ × Q) → pending ≡ Some p → (p ≡ asked) × In asked messages
+  pub numbered : (p : ℕ × Q) → pending ≡ Some p → p.0 < no_call
 
 -- what a new server does with the requests of a line: it hears them, executes some, and replies
-pub record ServesLine {A Q R : Type 0} (executes : A → Q → R → A → Type 0) (holds : List ℕ → Tree → Type 0) (reads : Tree → ℕ × Q → Type 0) (writes : ℕ × R → Option Tree) (valid : ℕ × R → Type 0)
+pub record ServesLine {A Q R : Type 0} (executes : A → Q → R → A → Type 0) (equal : Q → Q → Bool) (passes : ℕ → ℕ → Option R) (holds : List ℕ → Tree → Type 0) (reads : Tree → ℕ × Q → Type 0) (writes : ℕ × R → Option Tree) (valid : ℕ × R → Type 0)
     (limit s limit' s' : ℕ) (old new : A) (requests replies : List ℕ) : Type 0 where
   pub heard : List (Answer (ℕ × Q))
   pub over : HeardFront holds reads limit s requests heard
   pub log : List (Execution Q R)
   pub out : List (ℕ × R)
-  pub later : Option (ℕ × R)
-  pub served : ServesAll None (requests_of heard) log out later
+  pub later : Option (Execution Q R)
+  pub served : ServesAll equal passes None (requests_of heard) log out later
   pub ran : FoldsTo (Runs executes) old log new
   pub left : LeftBy limit' s' writes valid out replies
 
@@ -90,12 +93,12 @@ abbrev pub ClientFitsInMemory : (W Q N : RattleType) → Type 0
 ClientFitsInMemory W Q N = FitsInMemory (client.the_row W Q N)
 
 -- a server can be held
-abbrev pub ServerFitsInMemory : (W R N : RattleType) → Type 0
-ServerFitsInMemory W R N = FitsInMemory (server.the_row W R N)
+abbrev pub ServerFitsInMemory : (W Q R N : RattleType) → Type 0
+ServerFitsInMemory W Q R N = FitsInMemory (server.the_row W Q R N)
 
 -- an application and its server can be held
-abbrev pub ServiceFitsInMemory : (A W R N : RattleType) → Type 0
-ServiceFitsInMemory A W R N = FitsInMemory (service.the_row A W R N)
+abbrev pub ServiceFitsInMemory : (A W Q R N : RattleType) → Type 0
+ServiceFitsInMemory A W Q R N = FitsInMemory (service.the_row A W Q R N)
 
 -- a client that waits can be held
 abbrev pub WaitingFitsInMemory : (W Q R N : RattleType) → Type 0
@@ -104,8 +107,8 @@ WaitingFitsInMemory W Q R N = FitsInMemory (waiting.the_row W Q R N)
 -- both sides of an exchange can be held
 pub record SidesFitInMemory (A W Q R N M : RattleType) : Type 0 where
   pub client : ClientFitsInMemory W Q N
-  pub server : ServerFitsInMemory W R M
-  pub service : ServiceFitsInMemory A W R M
+  pub server : ServerFitsInMemory W Q R M
+  pub service : ServiceFitsInMemory A W Q R M
   pub waiting : WaitingFitsInMemory W Q R N
   pub requests : ReceiverFitsInMemory N
   pub replies : ReceiverFitsInMemory M

@@ -1,13 +1,13 @@
 -- What a reply says that came over two lines.
-use Rattle.std.specs.Prelude.{◌≡◌, ℕ, List, ◌++◌, Option, None}
+use Rattle.std.specs.Prelude.{◌≡◌, ◌⊎◌, ◌<◌, ℕ, Bool, List, ◌++◌, Option}
 use Rattle.postcard_tree.specs.Tree.{Tree}
 use Rattle.link.specs.Run.{Send, IsRun, line}
 use Rattle.link.specs.Listening.{IsReceived}
 use Rattle.link_laws.specs.Values.{runs_of, AreSends, values_sent}
-use Rattle.calls.specs.Calls.{Execution, ServesAll, Rises, In, OnePerNumber}
+use Rattle.calls.specs.Calls.{Execution, next_of, no_call, ServesAll, KeptFor, Rises, In, OnePerNumber}
 use Rattle.calls.specs.Serving.{requests_of}
 use Rattle.link.specs.declared.receiver.Answer.{Answer}
-use Rattle.link.specs.declared.listening.End.{End}
+use Rattle.line_io.specs.declared.transfers.End.{End}
 
 -- Values of a type went over a line: senders left the line of this run of them, each send perhaps broken off at any byte, and these
 -- are the answers of a receiver that was given a front of that line, perhaps all of it, and whose reading ended anyhow.
@@ -21,20 +21,29 @@ pub record WentOver {V : Type 0} (takes : Tree → Type 0) (holds : List ℕ →
   pub received : IsReceived holds reads limit s end answers front
 
 -- By this number, one request was executed, once, alike the one that was called, and what was said then is alike the reply.
-pub record WasExecuted {Q R : Type 0} (alike_asked : Q → Q → Type 0) (alike_said : R → R → Type 0) (log : List (Execution Q R)) (n : ℕ) (asked : Q) (taken : R) : Type 0 where
+pub record WasExecuted {Q R : Type 0} (alike_asked : Q → Q → Type 0) (alike_said : R → R → Type 0) (least : ℕ) (log : List (Execution Q R)) (n : ℕ) (asked : Q) (taken : R) : Type 0 where
   pub call : Execution Q R
   pub executed : In call log
   pub numbered : call.number ≡ n
   pub asks_alike : alike_asked asked call.asks
   pub says_alike : alike_said call.says taken
-  pub once : Rises 0 log
+  pub once : Rises least log
 
--- Requests go over a line to a new server, and its replies over another one: a reply to a call's number is what was said when that
--- call was executed.
+-- The server had kept a call by this number already, which asked what is the same as a request alike the one that was called, and what
+-- was said then is alike the reply.
+pub record WasKept {Q R : Type 0} (alike_asked : Q → Q → Type 0) (alike_said : R → R → Type 0) (equal : Q → Q → Bool) (kept : Option (Execution Q R)) (n : ℕ) (asked : Q) (taken : R) : Type 0 where
+  pub heard : Q
+  pub says : R
+  pub asks_alike : alike_asked asked heard
+  pub is_kept : KeptFor equal kept n heard says
+  pub says_alike : alike_said says taken
+
+-- Requests go over a line to a server, whatever that has served before, and its replies over another one: a reply to a call's number is
+-- what was said when that call was executed; or what the server had kept, of a request that is the same. A new server had kept nothing.
 abbrev pub RepliesAreRight : {Q R : Type 0} → (Q → Q → Type 0) → (R → R → Type 0) → (ℕ → ℕ → List (List ((ℕ × Q) × Send)) → List (Answer (ℕ × Q)) → Type 0) → (ℕ → ℕ → List (List ((ℕ × R) × Send)) → List (Answer (ℕ × R)) → Type 0) → Type 0
 RepliesAreRight {Q} {R} alike_asked alike_said asked_over said_over =
     (limit s limit' s' : ℕ) (asked : List (List ((ℕ × Q) × Send))) (said : List (List ((ℕ × R) × Send))) (heard : List (Answer (ℕ × Q))) (answers : List (Answer (ℕ × R)))
-    (log : List (Execution Q R)) (out : List (ℕ × R)) (later : Option (ℕ × R)) (n : ℕ) (q : Q) (r : R)
-    → asked_over limit s asked heard → ServesAll None (requests_of heard) log out later → said_over limit' s' said answers → values_sent said ≡ out
+    (equal : Q → Q → Bool) (passes : ℕ → ℕ → Option R) (kept later : Option (Execution Q R)) (log : List (Execution Q R)) (out : List (ℕ × R)) (n : ℕ) (q : Q) (r : R)
+    → n < no_call → asked_over limit s asked heard → ServesAll equal passes kept (requests_of heard) log out later → said_over limit' s' said answers → values_sent said ≡ out
     → OnePerNumber (values_sent asked) → In (n, q) (values_sent asked) → In (n, r) (requests_of answers)
-    → WasExecuted alike_asked alike_said log n q r
+    → WasExecuted alike_asked alike_said (next_of kept) log n q r ⊎ WasKept alike_asked alike_said equal kept n q r

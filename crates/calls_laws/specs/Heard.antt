@@ -7,7 +7,7 @@ use Rattle.link_laws.specs.Values.{runs_of, AreSends, values_sent}
 use Rattle.calls.specs.Calls.{In}
 use Rattle.calls.specs.Serving.{requests_of}
 use Rattle.link.specs.declared.receiver.Answer.{Answer}
-use Rattle.link.specs.declared.listening.End.{End}
+use Rattle.line_io.specs.declared.transfers.End.{End}
 
 -- Of the line of a run of values a receiver was given a front, perhaps all of it, and its reading ended anyhow: each value that it
 -- heard is alike one that was sent.

@@ -6,12 +6,12 @@ ghost use Rattle.std.specs.Prelude.{◌≡◌, [], ◌<◌, Some, IfSome};
 ghost use Rattle.calls_laws.specs.Exchange.{ExecutedOnce, ExecutedAtMostOnce, SidesFitInMemory};
 
 use crate::headline;
-use crate::heard::heard_was_sent;
-use crate::sides::{ask_all, serve_all, serve_all_strict, take_reply, take_reply_strict};
+use crate::heard::SentReader;
+use crate::sides::{ask_all, serve_all, take_reply};
 use calls::Application;
 use line_io::Outlet;
 use line_io::memory::OwnedOut;
-use postcard::{DeserializeOwned, Exact, Lawful};
+use postcard::Lawful;
 use std::alloc::Global;
 
 /// A writer whose bytes can be had from it, whatever faults it met.
@@ -21,7 +21,7 @@ pub trait Kept: Outlet + Drop {
 
     /// All that it has taken.
     fn into_taken(self) -> Vec<u8>
-        ensures { Self.written self ≡ Some result.items };
+        ensures { (Self.line self).told ≡ Some result.items };
 }
 
 impl Kept for OwnedOut {
@@ -30,7 +30,7 @@ impl Kept for OwnedOut {
     }
 
     fn into_taken(self) -> Vec<u8>
-        ensures { ⟦<OwnedOut as Outlet>⟧.written self ≡ Some result.items }
+        ensures { (⟦<OwnedOut as Outlet>⟧.line self).told ≡ Some result.items }
     {
         self.into_bytes()
     }
@@ -66,14 +66,18 @@ pub struct Called<A, R> {
 ///
 /// The caller owes writers that have taken nothing, and reads of at least a byte.
 pub fn call_once<
-    Q: Lawful + DeserializeOwned,
-    R: Lawful + DeserializeOwned,
+    Q: Lawful + PartialEq + Drop,
+    R: Lawful + Drop,
     A: Application<Q, R>,
+    M: SentReader<(u64, Q)>,
+    K: SentReader<(u64, R)>,
     W: Kept,
     const N: usize,
-    const M: usize,
+    const L: usize,
 >(
     alloc: Global,
+    requests_by: &M,
+    replies_by: &K,
     there: Way<W>,
     back: Way<W>,
     application: A,
@@ -82,23 +86,23 @@ pub fn call_once<
     again: usize,
 ) -> Called<A, R>
     requires some_there { 0 < N }
-    requires some_back { 0 < M }
-    requires empty_there { W.written there.writer ≡ Some [] }
-    requires empty_back { W.written back.writer ≡ Some [] }
+    requires some_back { 0 < L }
+    requires empty_there { (W.line there.writer).told ≡ Some [] }
+    requires empty_back { (W.line back.writer).told ≡ Some [] }
     requires each_there { 0 < there.each }
     requires each_back { 0 < back.each }
-    requires memory { SidesFitInMemory A.row W.row Q.row R.row N.row M.row }
+    requires memory { SidesFitInMemory A.row W.row Q.row R.row N.row L.row }
     ensures replied { IfSome result.said (λ taken.
-        ExecutedOnce A.executes Q.alike application result.application request
-        (λ says. R.alike says taken)) }
-    ensures at_most_once { ExecutedAtMostOnce A.executes Q.alike application
+        ExecutedOnce A.executes Q.form.alike application result.application request
+        (λ says. R.form.alike says taken)) }
+    ensures at_most_once { ExecutedAtMostOnce A.executes Q.form.alike application
         result.application request }
 {
     link_laws::carries::<(u64, Q)>();
     link_laws::carries::<(u64, R)>();
-    heard_was_sent::<(u64, Q)>();
+    requests_by.show_sent();
     calls::laws::executes_once::<Q, R>();
-    headline::calls::<Q, R>();
+    headline::calls::<Q, R, M, K>(requests_by, replies_by);
     let (client, requests) = ask_all::<Q, W, N>(
         alloc,
         there.writer,
@@ -107,87 +111,19 @@ pub fn call_once<
         request,
         again,
     );
-    let (application, replies) = serve_all::<Q, R, A, W, N, M>(
+    let (sentinel, each, stops) = (back.sentinel, back.each, back.stops);
+    let (application, replies) = serve_all::<Q, R, A, M, W, N, L>(
         alloc,
         &requests,
+        requests_by,
         there.sentinel,
         there.each,
         there.stops,
-        back.writer,
-        back.sentinel,
+        back,
         application,
     );
-    let said = take_reply::<Q, R, W, N, M>(
-        alloc,
-        &replies,
-        back.sentinel,
-        back.each,
-        back.stops,
-        client,
-    );
-    Called { application, said }
-}
-
-/// As `call_once`, but a request and a reply are only what sending them makes.
-pub fn call_once_strict<
-    Q: Lawful + DeserializeOwned + Exact,
-    R: Lawful + DeserializeOwned + Exact,
-    A: Application<Q, R>,
-    W: Kept,
-    const N: usize,
-    const M: usize,
->(
-    alloc: Global,
-    there: Way<W>,
-    back: Way<W>,
-    application: A,
-    number: u64,
-    request: Q,
-    again: usize,
-) -> Called<A, R>
-    requires some_there { 0 < N }
-    requires some_back { 0 < M }
-    requires empty_there { W.written there.writer ≡ Some [] }
-    requires empty_back { W.written back.writer ≡ Some [] }
-    requires each_there { 0 < there.each }
-    requires each_back { 0 < back.each }
-    requires memory { SidesFitInMemory A.row W.row Q.row R.row N.row M.row }
-    ensures replied { IfSome result.said (λ taken.
-        ExecutedOnce A.executes Q.alike application result.application request
-        (λ says. R.alike says taken)) }
-    ensures at_most_once { ExecutedAtMostOnce A.executes Q.alike application
-        result.application request }
-{
-    link_laws::carries::<(u64, Q)>();
-    link_laws::carries::<(u64, R)>();
-    heard_was_sent::<(u64, Q)>();
-    calls::laws::executes_once::<Q, R>();
-    headline::calls::<Q, R>();
-    let (client, requests) = ask_all::<Q, W, N>(
-        alloc,
-        there.writer,
-        there.sentinel,
-        number,
-        request,
-        again,
-    );
-    let (application, replies) = serve_all_strict::<Q, R, A, W, N, M>(
-        alloc,
-        &requests,
-        there.sentinel,
-        there.each,
-        there.stops,
-        back.writer,
-        back.sentinel,
-        application,
-    );
-    let said = take_reply_strict::<Q, R, W, N, M>(
-        alloc,
-        &replies,
-        back.sentinel,
-        back.each,
-        back.stops,
-        client,
+    let said = take_reply::<Q, R, K, W, N, L>(
+        alloc, &replies, replies_by, sentinel, each, stops, client,
     );
     Called { application, said }
 }

@@ -3,16 +3,39 @@ ghost use Rattle.postcard.specs.Frames.{Holds};
 ghost use Rattle.link.specs.Stream.{HoldsExactly};
 ghost use Rattle.calls_laws.specs.Heard.{HearsSent};
 
-use postcard::Lawful;
+use link::{MessageReader, OfType, Ordinary, Strict};
+use postcard::{DeserializeOwned, Exact, Lawful};
 
 /// Whoever was given a front of a line, perhaps all of it, heard only values that are alike those sent, however the reading ended:
 /// at the reader's end, by a fault, or out of memory.
 pub fn heard_was_sent<T: Lawful>()
-    ensures ordinary { HearsSent T.takes (Holds T.takes) T.reads T.alike T.writes T.valid }
-    ensures strict { HearsSent T.takes (HoldsExactly T.takes) T.reads T.alike T.writes T.valid }
+    ensures ordinary { HearsSent T.form.takes (Holds T.form.takes) T.form.reads T.form.alike
+        T.writes T.valid }
+    ensures strict { HearsSent T.form.takes (HoldsExactly T.form.takes) T.form.reads T.form.alike
+        T.writes T.valid }
 {
     link_laws::told::<T>();
     link_laws::between::<T>();
     link_laws::left::<T>();
     link_laws::over_pieces::<T>();
+}
+
+/// A reader of messages by which whoever was given a front of a line heard only what was sent.
+pub trait SentReader<T: Lawful>: MessageReader<T> {
+    /// Shows it. It does nothing.
+    fn show_sent(&self)
+        ensures { HearsSent T.form.takes (Self.judging self.now).holds (Self.judging self.now).reads
+            T.form.alike T.writes T.valid };
+}
+
+impl<T: Lawful + DeserializeOwned> SentReader<T> for Ordinary<OfType> {
+    fn show_sent(&self) {
+        heard_was_sent::<T>();
+    }
+}
+
+impl<T: Lawful + DeserializeOwned + Exact> SentReader<T> for Strict<OfType> {
+    fn show_sent(&self) {
+        heard_was_sent::<T>();
+    }
 }

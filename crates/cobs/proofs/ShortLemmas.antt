@@ -1,7 +1,7 @@
 -- Frames that are decoded at once, since there is room for them.
-use Rattle.std.proofs.Common.{◌≡◌, ◌≢◌, ℕ, pred, ◌+◌, ◌-◌, ◌^◌, ◌<◌, ◌≤◌, nat_lt, Bool, true, false, List, [], ◌∷◌, ◌++◌, length, take, drop, get_or, length-drop, Result, Option, Some, Ok, Err, inl, inr, refl, ap, sym, subst, ◌∙◌, arith}
+use Rattle.std.proofs.Common.{◌≡◌, ◌≢◌, ℕ, pred, ◌+◌, ◌-◌, ◌^◌, ◌<◌, ◌≤◌, Bool, true, false, List, [], ◌∷◌, ◌++◌, length, take, drop, get_or, length-drop, Result, Option, Some, Ok, Err, inl, inr, refl, ap, sym, subst, ◌∙◌, arith}
 use Rattle.std.proofs.lemmas.List.{take_all, take_more, length-take-le}
-use Rattle.std.proofs.lemmas.Bool.{eq-eqb, ne_eqb, le-ltb, lt-ltb}
+use Rattle.std.proofs.lemmas.Bool.{cases_lt, eq-eqb, ne_eqb, le-ltb, lt-ltb}
 use Rattle.std.proofs.lemmas.Bool.Decides.{eqb_tells}
 use Rattle.std.specs.Prelude.{bit_xor}
 use Rattle.cobs.specs.Frames.{NoZero, part, part_from, after, missing}
@@ -14,7 +14,6 @@ use Rattle.cobs.specs.Whole.{decoded_into}
 use Rattle.cobs.specs.declared.dec.report.DecodeError.{DecodeError}
 use Rattle.cobs.specs.declared.dec.report.DecodeError.TheVariants.{InvalidFrame}
 use Rattle.cobs.specs.declared.dec.state.DecoderState.{DecoderState}
-use Rattle.cobs.specs.declared.dec.state.DecoderState.TheVariants.{GrabChain}
 use Rattle.cobs.specs.declared.dec.progress.Progress.{Progress}
 use Rattle.cobs.proofs.DecodingLemmas.{part_shorter}
 use Rattle.cobs.proofs.MaskingLemmas.{masked_length, masked_drop}
@@ -38,35 +37,6 @@ pub bytes_positive : (sentinel : ℕ) (frame : List ℕ) → 0 < length frame �
 bytes_positive s [] l h k q = absurd (omega arith)
 bytes_positive s (b ∷ frame) l h k q = clear_at (masked s frame) k h.1 (omega (arith, q, masked_length s frame))
 
--- What was taken in of a frame, whose code is first, stands in the front of a buffer.
-pub record Taken (frame old new : List ℕ) (d : Progress) : Type 0 where
-  pub stands : HasStreamed d frame
-  pub holds : new ≡ overwritten (part frame) old
-
-module _ (frame bytes out old new : List ℕ) (code n : ℕ) (state : DecoderState) (f : frame ≡ code ∷ bytes) (few : length bytes ≤ 254) (long : length out ≡ n) (same : length bytes ≡ n) (room : n ≤ length old)
-    (put : new ≡ out ++ drop n old) where
-  taken : out ≡ part frame → state ≡ standing frame → Taken frame old new (record { state = state; len = n })
-  taken o s = record {
-    stands = record { state = s; len = omega (arith, ap length o, long, same, few) };
-    holds = put ∙ ap (λ m. m ++ drop n old) o ∙ ap (λ j. part frame ++ drop j old) (omega (arith, ap length o, long)) ∙ sym (overwritten_short (part frame) old (omega (arith, ap length o, long, room)));
-  }
-
-  -- behind the code of a full block
-  pub taken_full : code ≡ 255 → out ≡ bytes → state ≡ GrabChain (254 - n) → Taken frame old new (record { state = state; len = n })
-  taken_full e o s =
-      let is : frame ≡ 255 ∷ bytes = f ∙ ap (λ c. c ∷ bytes) e in
-      taken (o ∙ sym (ap part is ∙ one_part 254 false bytes few))
-      (s ∙ ap (λ k. GrabChain (254 - k)) (sym same) ∙ sym (ap standing is ∙ ap stands_by (one_after 254 false bytes few)))
-
-  -- behind another one
-  pub taken_open : 0 < code → code < 255 → out ≡ part_from (code - 1) true bytes → state ≡ stands_by (after (code - 1) true bytes) → Taken frame old new (record { state = state; len = n })
-  taken_open p l o s =
-      let owed : nat_lt code 255 ≡ true = lt-ltb code 255 l in
-      let left : code - 1 ≡ pred code = omega arith in
-      taken
-      (o ∙ ap (λ k. part_from k true bytes) left ∙ sym (ap part f ∙ ap (λ t. part_from (pred code) t bytes) owed))
-      (s ∙ ap (λ k. stands_by (after k true bytes)) left ∙ sym (ap standing f ∙ ap (λ t. stands_by (after (pred code) t bytes)) owed))
-
 -- how many bytes are missing
 left_of : (a : ℕ × Bool) → left_in (stands_by a) ≡ a.0
 left_of (n, true) = refl
@@ -86,6 +56,47 @@ module _ (room : ℕ) (frame : List ℕ) (d : Progress) (s : HasStreamed d frame
 
   pub short_broken : left_in d.state ≢ 0 → Err (InvalidFrame d.len) ≡ decoded_into room frame
   short_broken z = rw (ne_eqb (missing frame) 0 (λ e. z (left_missing frame d.state s.state some ∙ e))) (ap (λ n. Err (InvalidFrame n)) len_is)
+
+-- A frame of one window, whose code is first: behind the code of a full block there is none that isn't its.
+module _ (frame bytes : List ℕ) (code : ℕ) (f : frame ≡ code ∷ bytes) (few : length bytes ≤ 254) (some : 0 < code) (byte : code < 256) where
+  pub window_part : part frame ≡ part_from (code - 1) true bytes
+  window_part = elim (cases_lt code 255) [
+    | inl l ↦ ap part f ∙ ap (λ t. part_from (pred code) t bytes) (lt-ltb code 255 l) ∙ ap (λ k. part_from k true bytes) (omega arith)
+    | inr l ↦
+        let full : code ≡ 255 = omega (arith, l) in
+        ap part (f ∙ ap (λ k. k ∷ bytes) full) ∙ one_part 254 false bytes few ∙ sym (one_part 254 true bytes few) ∙ ap (λ k. part_from k true bytes) (omega (arith, full))
+  ]
+
+  pub window_missing : missing frame ≡ (after (code - 1) true bytes).0
+  window_missing = elim (cases_lt code 255) [
+    | inl l ↦ ap missing f ∙ ap (λ t. (after (pred code) t bytes).0) (lt-ltb code 255 l) ∙ ap (λ k. (after k true bytes).0) (omega arith)
+    | inr l ↦
+        let full : code ≡ 255 = omega (arith, l) in
+        ap missing (f ∙ ap (λ k. k ∷ bytes) full) ∙ ap (λ a. a.0) (one_after 254 false bytes few) ∙ sym (ap (λ a. a.0) (one_after 254 true bytes few)) ∙ ap (λ k. (after k true bytes).0) (omega (arith, full))
+  ]
+
+  module _ (out old : List ℕ) (n : ℕ) (state : DecoderState) (long : length out ≡ n) (room : n ≤ length old) (o : out ≡ part_from (code - 1) true bytes) (s : state ≡ stands_by (after (code - 1) true bytes)) where
+    message : out ≡ part frame
+    message = o ∙ sym window_part
+
+    fits : length (part frame) ≤ length old
+    fits = omega (arith, ap length message, long, room)
+
+    left : left_in state ≡ missing frame
+    left = ap left_in s ∙ left_of (after (code - 1) true bytes) ∙ sym window_missing
+
+    count : length (part frame) ≡ n
+    count = sym (ap length message) ∙ long
+
+    pub window_whole : left_in state ≡ 0 → Ok n ≡ decoded_into (length old) frame
+    window_whole z = rw (eq-eqb (missing frame) 0 (sym left ∙ z), le-ltb (length old) (length (part frame)) fits) (ap (λ k. Ok k) (sym count))
+
+    pub window_broken : left_in state ≢ 0 → Err (InvalidFrame n) ≡ decoded_into (length old) frame
+    window_broken z = rw (ne_eqb (missing frame) 0 (λ e. z (left ∙ e))) (ap (λ k. Err (InvalidFrame k)) (sym count))
+
+    pub window_over : (new : List ℕ) → new ≡ out ++ drop n old → new ≡ overwritten (part frame) old
+    window_over new put =
+        put ∙ ap (λ m. m ++ drop n old) message ∙ ap (λ j. part frame ++ drop j old) (sym count) ∙ sym (overwritten_short (part frame) old fits)
 
 -- the same as a streaming decoder's answer to the zero behind it
 abbrev pub as_at_zero : Result ℕ DecodeError → Result (Option ℕ) DecodeError

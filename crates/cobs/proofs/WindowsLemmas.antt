@@ -61,6 +61,13 @@ pub record Walked (left : ℕ) (bytes : List ℕ) (at : ℕ) (out : List ℕ) : 
   pub long : length out ≡ length bytes
   pub high : at ≤ length bytes + 255
 
+-- The codes of a part have been passed, and the last one was that of a full block, which goes on behind.
+pub record WalkedOver (left : ℕ) (bytes : List ℕ) (at : ℕ) (out : List ℕ) : Type 0 where
+  pub decides : out ≡ part_from left true bytes
+  pub stands : GrabChain (at - length bytes) ≡ stands_by (after left true bytes)
+  pub over : length bytes ≤ at
+  pub high : at ≤ length bytes + 254
+
 pub walked_start : (left : ℕ) (bytes out : List ℕ) → out ≡ bytes → left ≤ 255 → Walked left bytes left out
 walked_start left bytes out e l = record {
   decides = open_part left true bytes ∙ ap (λ b. take left b ++ part_from (left - length bytes) true (drop left bytes)) (sym e);
@@ -111,6 +118,14 @@ module _ (left : ℕ) (bytes : List ℕ) (at : ℕ) (out : List ℕ) (w : Walked
           ap (λ n. GrabChain n) (omega (arith, left_over, l, s))
               ∙ sym (ap stands_by (stood ∙ ap (λ c. after (pred c) (nat_lt c 255) (drop (at + 1) bytes)) f ∙ one_after 254 false (drop (at + 1) bytes) few)),
         )
+
+    pub walked_over : length bytes ≤ 254 → get_or bytes at 0 ≡ 255 → WalkedOver left bytes (at + get_or bytes at 0) (set out at 0)
+    walked_over s f = record {
+      decides = (walked_full f s).0;
+      stands = ap (λ n. GrabChain n) (omega (arith, f)) ∙ (walked_full f s).1;
+      over = omega (arith, f, s);
+      high = omega (arith, f, l);
+    }
 
     -- behind another one comes its block
     pub walked_on : 0 < get_or bytes at 0 → get_or bytes at 0 < 255 → Walked left bytes (at + get_or bytes at 0) (set out at 0)

@@ -8,7 +8,9 @@ ghost use Rattle.std.specs.Int.{bit_at};
 ghost use Rattle.cobs.specs.Codes.{InBlock, Coded, Marks, Stepped};
 ghost use Rattle.cobs.specs.Sentinel.{masked};
 
-use crate::moves::{copy_64, copy_block, copy_few, is_clear, zeros_of, zeros_of_few};
+use crate::moves::{
+    copy_64, copy_block, copy_few, is_clear, least_of_64, lesser, zeros_of, zeros_of_few,
+};
 use std::simd::prelude::*;
 
 // Writes a code at each zero of bytes that stand in the open block, from a place on, and answers where the last code is to be.
@@ -251,11 +253,16 @@ fn is_full_block(bytes: &[u8]) -> bool
     if bytes.len() != 254 {
         return false;
     }
-    let first = is_clear(&bytes[..64], 0);
-    let second = is_clear(&bytes[64..128], 0);
-    let third = is_clear(&bytes[128..192], 0);
-    let last = is_clear(&bytes[190..254], 0);
-    first & second & third & last
+    let first = lesser(
+        least_of_64(&bytes[..64], 0),
+        least_of_64(&bytes[63..127], 0),
+    );
+    let second = lesser(
+        least_of_64(&bytes[127..191], 0),
+        least_of_64(&bytes[190..254], 0),
+    );
+    let least = lesser(first, second);
+    least.simd_eq(u8x16::splat(0)).to_bitmask() == 0
 }
 
 // The same as `put_bytes`, of the bytes of a block: those of a full one are copied at once.

@@ -4,7 +4,7 @@ ghost use Rattle.cobs.specs.InPlace.{stretch};
 ghost use Rattle.cobs.specs.Sentinel.{masked};
 
 use crate::codes::lowest;
-use crate::moves::{is_clear, zeros_of};
+use crate::moves::{is_clear, zeros_of, zeros_of_some};
 use memchr::memchr;
 
 // How many of 8 to 64 bytes come before the first sentinel.
@@ -55,7 +55,7 @@ fn before_near(bytes: &[u8], sentinel: u8) -> usize
 
 // The same of 8 bytes and more, in steps of 64: of the last ones some may be looked at twice.
 #[inline(always)]
-fn before_by_64(bytes: &[u8], sentinel: u8) -> usize
+pub(crate) fn before_by_64(bytes: &[u8], sentinel: u8) -> usize
     requires { 8 ≤ length bytes.now }
     ensures within { result ≤ length bytes.now }
     ensures none { (k : ℕ) → k < result → slice_index bytes.now k ≢ sentinel }
@@ -104,6 +104,24 @@ fn before_many(bytes: &[u8], sentinel: u8) -> usize
     }
 }
 
+// The same of at most 64 bytes.
+#[inline(always)]
+pub(crate) fn before_few(bytes: &[u8], sentinel: u8) -> usize
+    requires { length bytes.now ≤ 64 }
+    ensures within { result ≤ length bytes.now }
+    ensures none { (k : ℕ) → k < result → slice_index bytes.now k ≢ sentinel }
+    ensures end { result < length bytes.now → slice_index bytes.now result ≡ sentinel }
+{
+    if bytes.len() < 4 {
+        return before_near(bytes, sentinel);
+    }
+    let marks = zeros_of_some(bytes, sentinel);
+    if marks == 0 {
+        return bytes.len();
+    }
+    lowest(marks).0
+}
+
 /// How many bytes come before the first one that is the sentinel; all where none is.
 ///
 /// ```
@@ -116,10 +134,8 @@ pub fn before_sentinel(bytes: &[u8], sentinel: u8) -> usize
     ensures none { (k : ℕ) → k < result → slice_index bytes.now k ≢ sentinel }
     ensures end { result < length bytes.now → slice_index bytes.now result ≡ sentinel }
 {
-    if bytes.len() < 8 {
-        before_near(bytes, sentinel)
-    } else if bytes.len() <= 64 {
-        before_of_64(bytes, sentinel)
+    if bytes.len() <= 64 {
+        before_few(bytes, sentinel)
     } else {
         before_many(bytes, sentinel)
     }

@@ -1,7 +1,7 @@
 //! Bytes that are copied and moved by vectors, each XORed with the sentinel.
 //!
 //! Of as many bytes as one to two vectors have, one vector takes those in front and one those at the end.
-ghost use Rattle.std.specs.Prelude.{◌≡◌, ℕ, ◌+◌, ◌<◌, ◌≤◌, length, take, drop, slice_index, true, ◌^◌};
+ghost use Rattle.std.specs.Prelude.{◌≡◌, ℕ, ◌+◌, ◌<◌, ◌≤◌, length, take, drop, replicate, slice_index, true, ◌^◌};
 ghost use Rattle.cobs.specs.Codes.{Marks};
 ghost use Rattle.cobs.specs.InPlace.{written_over};
 ghost use Rattle.cobs.specs.Sentinel.{masked};
@@ -84,7 +84,31 @@ pub(crate) fn copy_64(bytes: &[u8], buffer: &mut [u8], place: usize, sentinel: u
     store::<64>(lanes, buffer, place, sentinel);
 }
 
-// The same of any number.
+// Puts 64 zeros over a buffer, from a place on.
+#[inline(always)]
+pub(crate) fn zero_64(buffer: &mut [u8], place: usize)
+    requires { place + 64 ≤ length buffer.old }
+    ensures { buffer.new ≡ written_over place (replicate 64 0) buffer.old }
+{
+    store::<64>(Simd::<u8, 64>::splat(0), buffer, place, 0);
+}
+
+// The same of n zeros: the last 64 may begin among those before them.
+#[inline(always)]
+pub(crate) fn zero_over(buffer: &mut [u8], place: usize, n: usize)
+    requires many { 64 ≤ n }
+    requires room { place + n ≤ length buffer.old }
+    ensures { buffer.new ≡ written_over place (replicate n 0) buffer.old }
+{
+    let mut at: usize = 0;
+    while 64 < n - at {
+        zero_64(buffer, place + at);
+        at += 64;
+    }
+    zero_64(buffer, place + (n - 64));
+}
+
+// Copies any number of bytes over a buffer, from a place on.
 #[inline(always)]
 pub(crate) fn copy_over(bytes: &[u8], buffer: &mut [u8], place: usize, sentinel: u8)
     requires room { place + length bytes.now ≤ length buffer.old }
@@ -116,7 +140,7 @@ pub(crate) fn copy_block(bytes: &[u8], buffer: &mut [u8], place: usize, sentinel
 
 // The lesser bytes of two vectors, lane by lane.
 #[inline(always)]
-fn lesser(a: u8x16, b: u8x16) -> u8x16
+pub(crate) fn lesser(a: u8x16, b: u8x16) -> u8x16
     requires { length a ≡ length b }
     ensures long { length result ≡ length a }
     ensures first { (k : ℕ) → k < length a → slice_index result k ≤ slice_index a k }
@@ -147,6 +171,46 @@ pub(crate) fn is_clear(bytes: &[u8], sentinel: u8) -> bool
     let second = lesser(
         load_masked(bytes, 32, sentinel),
         load_masked(bytes, 48, sentinel),
+    );
+    let least = lesser(first, second);
+    least.simd_eq(u8x16::splat(0)).to_bitmask() == 0
+}
+
+// Of 64 bytes, each XORed with the sentinel, the least in each of the 16 places of a vector.
+#[inline(always)]
+pub(crate) fn least_of_64(bytes: &[u8], sentinel: u8) -> u8x16
+    requires { length bytes.now ≡ 64 }
+    ensures long { length result ≡ 16 }
+    ensures lanes { (j : ℕ) → j < 16
+        → (slice_index result j ≤ slice_index (take 16 (drop 0 (masked sentinel bytes.now))) j)
+        × (slice_index result j ≤ slice_index (take 16 (drop 16 (masked sentinel bytes.now))) j)
+        × (slice_index result j ≤ slice_index (take 16 (drop 32 (masked sentinel bytes.now))) j)
+        × (slice_index result j ≤ slice_index (take 16 (drop 48 (masked sentinel bytes.now))) j) }
+{
+    let first = lesser(
+        load_masked(bytes, 0, sentinel),
+        load_masked(bytes, 16, sentinel),
+    );
+    let second = lesser(
+        load_masked(bytes, 32, sentinel),
+        load_masked(bytes, 48, sentinel),
+    );
+    lesser(first, second)
+}
+
+// Whether none of 255 bytes, a code and as many as a full block has, is the sentinel; it is only told where that is seen at once.
+#[inline(always)]
+pub(crate) fn is_clear_255(bytes: &[u8], sentinel: u8) -> bool
+    requires { length bytes.now ≡ 255 }
+    ensures { result ≡ true → (k : ℕ) → k < 255 → 0 < slice_index (masked sentinel bytes.now) k }
+{
+    let first = lesser(
+        least_of_64(&bytes[..64], sentinel),
+        least_of_64(&bytes[63..127], sentinel),
+    );
+    let second = lesser(
+        least_of_64(&bytes[127..191], sentinel),
+        least_of_64(&bytes[191..255], sentinel),
     );
     let least = lesser(first, second);
     least.simd_eq(u8x16::splat(0)).to_bitmask() == 0
@@ -220,6 +284,20 @@ pub(crate) fn zeros_of_few(bytes: &[u8], sentinel: u8) -> u64
     ensures { Marks result 0 (masked sentinel bytes.now) }
 {
     zeros_of_ends::<4>(bytes, sentinel)
+}
+
+// The same of 4 to 64 bytes.
+#[inline(always)]
+pub(crate) fn zeros_of_some(bytes: &[u8], sentinel: u8) -> u64
+    requires some { 4 ≤ length bytes.now }
+    requires few { length bytes.now ≤ 64 }
+    ensures { Marks result 0 (masked sentinel bytes.now) }
+{
+    if 8 <= bytes.len() {
+        zeros_of(bytes, sentinel)
+    } else {
+        zeros_of_few(bytes, sentinel)
+    }
 }
 
 // Moves n bytes towards the front, from a place on to another one: as many as one to two vectors have.

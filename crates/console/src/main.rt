@@ -2,51 +2,94 @@
 //! error. It is sent again, by the same number, where reading ends without a reply, as often as the caller allows.
 #![tactic(auto)]
 
+mod arguments;
 mod asking;
+mod numbers;
 
-use asking::ask;
-use shell::{Command, command_of};
+use arguments::{Arguments, Numbers, read_arguments};
+use asking::{Outcome, ask};
+use numbers::{skip_past, take_number};
+use std::fs::{File, OpenOptions};
+use std::io;
 use std::process::ExitCode;
-use std::{env, io};
 
-const USAGE: &str =
-    "usage: console NUMBER AGAIN show|on|off|reset|limit MILLILITRES|dose MILLILITRES";
+const USAGE: &str = "usage: console --numbers FILE|--number NUMBER [--again TIMES] \
+    show|on|off|reset|limit MILLILITRES|dose MILLILITRES";
 
-// What the words after the program's name say: the call's number, how often it may be sent again, and the command.
-fn read_arguments(rt: &HostRuntime) -> Option<(u64, u64, Command)> {
-    let mut words: Vec<String> = Vec::new(rt.alloc());
-    for word in env::args(rt).ok()?.skip(1) {
-        words.push(word).ok()?;
-    }
-    match words.as_slice() {
-        [number, again, command @ ..] => Some((
-            number.as_str().parse().ok()?,
-            again.as_str().parse().ok()?,
-            command_of(command)?,
-        )),
-        _ => None,
-    }
+// Opens the null device, so that no file that is opened later takes the place of a standard stream that is closed.
+fn hold_stream(rt: &HostRuntime) -> io::Result<File> {
+    OpenOptions::new()
+        .read(true)
+        .write(true)
+        .open(rt, "/dev/null")
 }
 
-// Calls, and says what came of it; the status of the program.
-fn run(rt: &HostRuntime) -> io::Result<u8> {
-    let Some((number, again, command)) = read_arguments(rt) else {
-        eprintln!(rt; "{USAGE}")?;
-        return Ok(2);
+// Says that the device passed the call over, and what came of it. The next number of the file, where there is one, is above the last
+// that the device heard.
+fn say_passed(
+    rt: &HostRuntime,
+    numbers: &Numbers,
+    number: u64,
+    last: u64,
+    again: u64,
+) -> io::Result<u8> {
+    let path = match numbers {
+        Numbers::In(path) => Some(path.as_str()),
+        Numbers::Number(_) => None,
     };
-    match ask(rt, number, again, command) {
-        Ok(Some(report)) => {
+    if last == number {
+        eprintln!(rt; "the device heard another call {number} last: this one is not done")?;
+    } else if again == 0 && path.is_some() {
+        // nobody else was given this number, and it went out once
+        eprintln!(rt; "the device heard call {last} last: call {number} is not done")?;
+    } else {
+        eprintln!(rt; "the device heard call {last} last: call {number} is not done now")?;
+    }
+    if let Some(path) = path {
+        if let Err(error) = skip_past(rt, path, last) {
+            eprintln!(rt; "console: {path}: {error}")?;
+        }
+    }
+    Ok(1)
+}
+
+// Calls by this number, and says what came of it; the status of the program.
+fn call(rt: &HostRuntime, arguments: &Arguments, number: u64) -> io::Result<u8> {
+    match ask(rt, number, arguments.again, arguments.command) {
+        Ok(Outcome::Replied(report)) => {
             eprintln!(rt; "{report}")?;
             Ok(0)
         }
-        Ok(None) => {
-            eprintln!(rt; "no reply: it was done once at most")?;
+        Ok(Outcome::Passed { last, again }) => {
+            say_passed(rt, &arguments.numbers, number, last, again)
+        }
+        Ok(Outcome::Unheard) => {
+            eprintln!(rt; "no reply to call {number}: it was done once at most")?;
             Ok(1)
         }
         Err(error) => {
-            eprintln!(rt; "{error}")?;
+            eprintln!(rt; "console: {error}")?;
             Ok(2)
         }
+    }
+}
+
+// Does what the words after the program's name say; the status of the program.
+fn run(rt: &HostRuntime) -> io::Result<u8> {
+    let _streams = (hold_stream(rt)?, hold_stream(rt)?, hold_stream(rt)?);
+    let Some(arguments) = read_arguments(rt) else {
+        eprintln!(rt; "{USAGE}")?;
+        return Ok(2);
+    };
+    match &arguments.numbers {
+        Numbers::Number(number) => call(rt, &arguments, *number),
+        Numbers::In(path) => match take_number(rt, path.as_str()) {
+            Ok(number) => call(rt, &arguments, number),
+            Err(error) => {
+                eprintln!(rt; "console: {path}: {error}")?;
+                Ok(3)
+            }
+        },
     }
 }
 

@@ -1,5 +1,20 @@
 //! The declarations of message types, which lend their words from the tokens that they were read from.
-use crate::tokens::Token;
+use crate::tokens::{Read, Token};
+
+/// How the bytes of a field stand.
+#[derive(Clone, Copy, PartialEq, Eq, Drop)]
+pub enum Layout {
+    /// As its type has it.
+    Own,
+    /// An integer's, the lowest first, all of them.
+    Little,
+    /// The highest first.
+    Big,
+    /// As a buffer's, behind their count.
+    Buffer,
+    /// As an array's.
+    Array,
+}
 
 /// A field.
 #[derive(Clone, Copy, Drop)]
@@ -10,6 +25,8 @@ pub struct Field<'a> {
     pub name: &'a str,
     /// The words of its type.
     pub of: &'a [Token],
+    /// How its bytes stand, where an attribute says it.
+    pub layout: Layout,
 }
 
 /// How fields are written.
@@ -27,7 +44,10 @@ pub enum Form {
 #[derive(Drop)]
 pub struct Fields<'a> {
     pub form: Form,
+    /// Those that are sent.
     pub items: Vec<Field<'a>>,
+    /// How many are declared.
+    pub count: usize,
 }
 
 /// A variant of an enum.
@@ -55,10 +75,14 @@ pub struct Marks {
 #[derive(Drop)]
 pub struct Declaration<'a> {
     pub name: &'a str,
+    /// The file that it stands in.
+    pub file: &'a Read,
     /// The line of its name.
     pub line: usize,
     /// Its lifetimes and type parameters.
     pub parameters: Vec<&'a str>,
+    /// Those of them that are lengths.
+    pub lengths: Vec<&'a str>,
     pub body: Body<'a>,
     pub marks: Marks,
 }

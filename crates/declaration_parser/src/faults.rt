@@ -5,18 +5,26 @@ use std::fmt::Write;
 /// Lines that are made piece by piece. Where memory runs out the other calls go on, and [`finished`](Faults::finished) says
 /// so at the end: so those who note a fault need not ask at each piece.
 #[derive(Drop)]
-pub struct Faults {
+pub struct Faults<'a> {
     whole: String,
+    /// The file of which something is noted; empty where it has no name.
+    file: &'a str,
     failed: bool,
 }
 
-impl Faults {
+impl<'a> Faults<'a> {
     /// Nothing is wrong.
-    pub fn new(alloc: Global) -> Faults {
+    pub fn new(alloc: Global) -> Faults<'a> {
         Faults {
             whole: String::new(alloc),
+            file: "",
             failed: false,
         }
+    }
+
+    /// What is noted from now on is of this file.
+    pub fn turn_to(&mut self, file: &'a str) {
+        self.file = file;
     }
 
     /// Appends a piece.
@@ -38,17 +46,15 @@ impl Faults {
         self.note(failed);
     }
 
-    /// Appends how what is said of a line begins.
+    /// Appends how what is said of a line begins: with its file, if that has a name.
     pub fn put_line_number(&mut self, line: usize) {
+        if !self.file.is_empty() {
+            self.put(self.file);
+            self.put(": ");
+        }
         self.put("line ");
         self.put_number(line);
         self.put(": ");
-    }
-
-    /// Appends those that were noted apart.
-    pub fn put_faults(&mut self, other: &Faults) {
-        self.put(other.whole.as_str());
-        self.note(other.failed);
     }
 
     /// Notes whether memory ran out for something.

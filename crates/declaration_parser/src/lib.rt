@@ -1,12 +1,14 @@
 //! Declarations of message types, read from Rust: those structs and enums that are marked, by a comment `// message` in a
 //! line before one, or by the names `Serialize` and `Deserialize` among its derives.
 //!
-//! [`Tokens`](tokens::Tokens) reads lines, [`declarations`](parser::declarations) what is declared; what can't be taken is
+//! [`tokens_of`](tokens::tokens_of) reads a text, [`declarations`](parser::declarations) what is declared; what can't be taken is
 //! said by its line.
 #![tactic(auto)]
 
+pub mod attributes;
 pub mod declaration;
 pub mod faults;
 mod marks;
 pub mod parser;
 pub mod tokens;
+mod words;

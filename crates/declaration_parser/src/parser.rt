@@ -1,72 +1,18 @@
 //! From tokens to declarations.
-use crate::declaration::{Body, Declaration, Field, Fields, Form, Marks, VariantOf};
+use crate::attributes::{
+    add_marks, attribute, closed, first_part, first_word, has_derive, has_mark, held, last_word,
+    opens, passed_over, same_words,
+};
+use crate::declaration::{Body, Declaration, Field, Fields, Form, Layout, Marks, VariantOf};
 use crate::faults::Faults;
-use crate::tokens::{Read, Token, first_letter, is_among, is_lifetime};
+use crate::tokens::{Read, Token, first_letter, is_among, is_comment_mark, is_lifetime};
+use crate::words::{
+    ALMOST, BY_HAND, HAS_BY_ITSELF, HIDDEN_MARK, HOLDS_ITSELF, IN_MACRO, IN_PATH, MOST_FIELDS,
+    NO_BOUNDS, NO_BYTES, NO_MARK, NO_MESSAGES, NO_MESSAGES_MARKED, OF_IMPLEMENTATIONS, OF_ITEMS,
+    OF_POSTCARD, OF_SERDE, ON_SOME_DEVICES, ONE_SIDE, OTHER_CONDITION, PLAIN, REPR, TOO_MANY,
+    UNKNOWN,
+};
 use std::alloc::{AllocError, Global};
-
-/// How many fields a struct or a variant can have.
-const MOST_FIELDS: usize = 36;
-
-/// What is said of more.
-const TOO_MANY: &str = "more than 36 fields: make some of them a struct";
-
-/// What is said of a mark for what isn't chosen.
-const HAS_BY_ITSELF: &str = "` is had by every type whose fields have it: leave it out";
-
-/// What is said of another word of a mark.
-const NO_MARK: &str =
-    "` marks nothing: a message is marked for `Serialize`, `Deserialize`, or both";
-
-/// What is said of a file without marks.
-const NO_MESSAGES_MARKED: &str =
-    "line 1: nothing is marked: write `// message` in a line of its own before a declaration\n";
-
-/// What is said of a variant's number that isn't its place.
-const NO_PLACE: &str =
-    "` isn't the variant's place in plain digits, which its bytes have: leave the number out";
-
-/// The types of the language that a message can hold.
-const PLAIN: &[&str] = &[
-    "bool", "char", "str", "u8", "u16", "u32", "u64", "u128", "usize", "i8", "i16", "i32", "i64",
-    "i128", "isize",
-];
-
-/// Types of std that no message can hold.
-const NO_MESSAGES: &[&str] = &[
-    "HashMap",
-    "HashSet",
-    "BTreeSet",
-    "VecDeque",
-    "Rc",
-    "Arc",
-    "Cow",
-    "Cell",
-    "RefCell",
-    "PhantomData",
-    "Duration",
-    "Instant",
-    "Wrapping",
-];
-
-/// Names that are brought in beside the types.
-const OF_POSTCARD: &[&str] = &[
-    "AsShape",
-    "Flavor",
-    "Formed",
-    "Last",
-    "Readable",
-    "ReadableShape",
-    "Serialize",
-    "SerializeShape",
-    "Serializer",
-    "ShapeOf",
-    "Shaped",
-    "Variant",
-    "Variants4",
-];
-
-/// Names of type parameters in the implementations.
-const OF_IMPLEMENTATIONS: &[&str] = &["F", "Taken"];
 
 /// The marks of a declaration that is not marked.
 const UNMARKED: Marks = Marks {
@@ -98,17 +44,57 @@ struct Parser<'a> {
     rest: &'a [Token],
     /// The line of the last token that was read.
     line: usize,
-    /// The name and the marks of the declaration that is read.
+    /// The name and the marks of the declaration that is read, and the condition of its derive.
     name: &'a str,
     marks: Marks,
+    condition: &'a [Token],
+    /// Whether derives alone mark it.
+    is_derived: bool,
+    /// The file, and whether the types of fields are checked.
+    file: &'a Read,
+    checks: bool,
     /// The variant and the field that are read, by its place and its name; both are empty outside.
     variant: &'a str,
     field: Option<(usize, &'a str)>,
     /// What is wrong, a line each.
-    faults: Faults,
+    faults: Faults<'a>,
     /// Whether something is wrong in the declaration that is read, and the tokens that it hides.
     is_wrong: bool,
     hidden: &'a [Token],
+}
+
+/// Where an attribute stands.
+#[derive(Clone, Copy, PartialEq, Eq, Drop)]
+enum At {
+    Item,
+    Variant,
+    Field,
+}
+
+/// What attributes say of a field's bytes.
+#[derive(Clone, Copy, Drop)]
+struct Said {
+    not_written: bool,
+    not_read: bool,
+    layout: Layout,
+}
+
+/// Whether a name is declared among these tokens.
+pub fn is_declared(tokens: &[Token], name: &str) -> bool {
+    let mut is_next = false;
+    for token in tokens {
+        let word = token.text.as_str();
+        if is_next && word == name {
+            return true;
+        }
+        is_next = is_among(word, &["struct", "enum", "union"]);
+    }
+    false
+}
+
+/// A name without what makes it one.
+pub fn plain_name(word: &str) -> &str {
+    word.strip_prefix("r#").unwrap_or(word)
 }
 
 /// Whether a word stands for no type: a lifetime, a number or a mark.
@@ -117,6 +103,64 @@ fn is_no_type(word: &str) -> bool {
         Some(first) => !(first.is_alphabetic() || first == '_'),
         None => true,
     }
+}
+
+/// How the bytes of a field stand that is sent in a way which `with` names.
+fn layout_of(way: &str) -> Option<Layout> {
+    match way {
+        "\"postcard::fixint::le\"" | "\"::postcard::fixint::le\"" => Some(Layout::Little),
+        "\"postcard::fixint::be\"" | "\"::postcard::fixint::be\"" => Some(Layout::Big),
+        "\"serde_bytes\"" | "\"::serde_bytes\"" => Some(Layout::Buffer),
+        "\"BigArray\"" | "\"serde_big_array::BigArray\"" | "\"serde_arrays\"" => Some(
+            Layout::Array,
+        ),
+        _ => None,
+    }
+}
+
+/// Whether the bytes of a type stand so by themselves.
+fn is_layout_of(layout: Layout, of: &[Token]) -> bool {
+    match layout {
+        Layout::Own => true,
+        Layout::Array => first_word(of) == "[",
+        Layout::Buffer => match of {
+            [vec, open, byte, ..] if vec.text.as_str() == "Vec" => open.text.as_str() == "<"
+                && byte.text.as_str() == "u8",
+            [lent, _, open, byte, close] if lent.text.as_str() == "&" => open.text.as_str() == "["
+                && byte.text.as_str() == "u8"
+                && close.text.as_str() == "]",
+            _ => false,
+        },
+        _ => false,
+    }
+}
+
+/// Whether a type implements a trait by hand among these tokens.
+fn is_by_hand(tokens: &[Token], implemented: &str, name: &str) -> bool {
+    let mut depth: usize = 0;
+    let mut is_head = false;
+    let mut is_this = false;
+    let mut is_next = false;
+    for token in tokens {
+        let word = token.text.as_str();
+        if is_next && word == name {
+            return true;
+        }
+        is_next = is_head && is_this && depth == 0 && word == "for";
+        match word {
+            "impl" => {
+                is_head = true;
+                is_this = false;
+                depth = 0;
+            }
+            "<" => depth = depth.saturating_add(1),
+            ">" => depth = depth.saturating_sub(1),
+            "{" | ";" => is_head = false,
+            _ if depth == 0 && word == implemented => is_this = true,
+            _ => {}
+        }
+    }
+    false
 }
 
 /// Whether a word begins with a small letter.
@@ -144,18 +188,22 @@ fn depth_behind(word: &str, depth: usize) -> Option<usize> {
 }
 
 impl<'a> Parser<'a> {
-    /// At the first of these tokens.
-    fn new(alloc: Global, purpose: Purpose, tokens: &'a [Token]) -> Parser<'a> {
+    /// At the first token of a file, behind what is wrong in others.
+    fn new(alloc: Global, purpose: Purpose, file: &'a Read, faults: Faults<'a>) -> Parser<'a> {
         Parser {
             alloc,
             purpose,
-            rest: tokens,
+            rest: &file.tokens,
             line: 0,
             name: "",
             marks: UNMARKED,
+            condition: &[],
+            is_derived: true,
+            file,
+            checks: purpose == Purpose::Implementations,
             variant: "",
             field: None,
-            faults: Faults::new(alloc),
+            faults,
             is_wrong: false,
             hidden: &[],
         }
@@ -212,16 +260,18 @@ impl<'a> Parser<'a> {
         self.rest = &[];
     }
 
-    /// Notes which field is read, if one is.
+    /// Notes which type is read, which variant and which field of it, so far as one is.
     fn note_field(&mut self) {
-        let Some((place, name)) = self.field else {
+        if self.name.is_empty() {
             return;
-        };
+        }
         let parted = if self.variant.is_empty() { "" } else { "::" };
-        self.faults
-            .put_all(&["`", self.name, parted, self.variant, ".", name]);
-        if name.is_empty() {
-            self.faults.put_number(place);
+        self.faults.put_all(&["`", self.name, parted, self.variant]);
+        if let Some((place, name)) = self.field {
+            self.faults.put_all(&[".", name]);
+            if name.is_empty() {
+                self.faults.put_number(place);
+            }
         }
         self.faults.put("`: ");
     }
@@ -270,41 +320,171 @@ impl<'a> Parser<'a> {
         word
     }
 
-    /// Takes attributes.
-    fn attributes(&mut self) {
-        for _ in 0..self.rest.len() {
-            if !self.take("#") {
+    /// Takes attributes, and comments that are almost marks; gives all of them.
+    fn attributes(&mut self) -> &'a [Token] {
+        let begun = self.rest;
+        for _ in 0..begun.len() {
+            if let Some((_, behind)) = attribute(self.rest) {
+                self.step();
+                self.rest = behind;
+            } else if self.peek().starts_with("//") && !is_comment_mark(self.peek()) {
+                self.step();
+            } else {
                 break;
             }
-            self.refuse_attribute();
-            self.attribute();
+        }
+        let length = begun.len().saturating_sub(self.rest.len());
+        begun.get(..length).unwrap_or(&[])
+    }
+
+    /// Goes over attributes, and gathers what they say of the bytes. What is wrong is told of their lines.
+    fn said(&mut self, attributes: &'a [Token], at: At) -> Said {
+        let line = self.line;
+        let said = self.gathered(attributes, at);
+        self.line = line;
+        said
+    }
+
+    /// As [`said`](Parser::said), at the line of the last attribute.
+    fn gathered(&mut self, attributes: &'a [Token], at: At) -> Said {
+        let mut said = Said {
+            not_written: false,
+            not_read: false,
+            layout: Layout::Own,
+        };
+        let mut rest = attributes;
+        for _ in 0..attributes.len() {
+            rest = match (attribute(rest), rest) {
+                (Some((words, behind)), _) => {
+                    self.read_attribute(words, at, &mut said);
+                    behind
+                }
+                (None, [_, behind @ ..]) => behind,
+                _ => break,
+            };
+        }
+        said
+    }
+
+    /// Goes over an attribute.
+    fn read_attribute(&mut self, words: &'a [Token], at: At, said: &mut Said) {
+        if let [word, ..] = words {
+            self.line = word.line;
+        }
+        if has_mark(words) {
+            self.wrong(&[HIDDEN_MARK]);
+        }
+        if first_word(words) != "cfg_attr" {
+            return self.read_plain(words, at, false, said);
+        }
+        let (condition, attributes) = first_part(held(words));
+        let is_other = !same_words(condition, self.condition);
+        let mut rest = attributes;
+        for _ in 0..attributes.len() {
+            let (part, behind) = first_part(rest);
+            if !part.is_empty() {
+                self.read_plain(part, at, is_other, said);
+            }
+            rest = behind;
         }
     }
 
-    /// Refuses an attribute that changes the bytes: one of serde, or a condition.
-    fn refuse_attribute(&mut self) {
-        let name = self.peek_second();
-        if is_among(name, &["serde", "cfg"]) {
-            self.step();
-            self.refuse(
-                name,
-                "` changes the bytes in ways not known here: leave it out",
-            );
+    /// Goes over an attribute that has no condition, or another one than the derive.
+    fn read_plain(&mut self, words: &'a [Token], at: At, is_other: bool, said: &mut Said) {
+        let name = first_word(words);
+        match name {
+            "serde" => self.read_serde(held(words), at, is_other, said),
+            "serde_as" | "serde_with" if last_word(words) == "serde_as" => {}
+            "cfg" | "cfg_attr" if at != At::Item => self.refuse(name, ON_SOME_DEVICES),
+            "derive" => self.read_derive(held(words)),
+            _ if name.starts_with("serde") => self.refuse(name, UNKNOWN),
+            _ if at == At::Item && !is_among(name, OF_ITEMS) => self.refuse(name, UNKNOWN),
+            _ => {}
         }
     }
 
-    /// Takes the rest of an attribute, and says which of serde's traits it derives.
-    fn attribute(&mut self) -> Marks {
-        let mut found = UNMARKED;
-        for _ in 0..self.rest.len() {
-            match self.step() {
-                "]" => break,
-                "Serialize" => found.written = true,
-                "Deserialize" => found.read = true,
-                _ => {}
+    /// Refuses what a derive makes that isn't known here.
+    fn read_derive(&mut self, names: &'a [Token]) {
+        let mut rest = names;
+        for _ in 0..names.len() {
+            let (part, behind) = first_part(rest);
+            let name = last_word(part);
+            if is_among(name, &["Serialize_repr", "Deserialize_repr"]) {
+                self.refuse(name, REPR);
+            }
+            if is_among(name, &["SerializeDisplay", "DeserializeFromStr"]) {
+                self.refuse(name, "` sends a text: where it is a field, write `String`");
+            }
+            rest = behind;
+        }
+    }
+
+    /// Goes over the words of an attribute of serde's.
+    fn read_serde(&mut self, words: &'a [Token], at: At, is_other: bool, said: &mut Said) {
+        let mut rest = words;
+        for _ in 0..words.len() {
+            let (part, behind) = first_part(rest);
+            let name = first_word(part);
+            if !name.is_empty() && !is_among(name, NO_BYTES) {
+                self.read_changing(name, part, at, said);
+                if is_other {
+                    self.refuse(name, OTHER_CONDITION);
+                }
+            }
+            rest = behind;
+        }
+    }
+
+    /// Goes over a word of serde's that may change the bytes, with what stands behind it.
+    fn read_changing(&mut self, name: &str, words: &'a [Token], at: At, said: &mut Said) {
+        let value = match words {
+            [_, equals, value] if equals.text.as_str() == "=" => value.text.as_str(),
+            _ => "",
+        };
+        let is_field = at == At::Field;
+        match (name, value) {
+            ("with", way) if is_field && layout_of(way).is_some() => {
+                said.layout = layout_of(way).unwrap_or(Layout::Own);
+            }
+            ("skip", "") if is_field => {
+                said.not_written = true;
+                said.not_read = true;
+            }
+            ("skip_serializing", "") if is_field => said.not_written = true,
+            ("skip_deserializing", "") if is_field => said.not_read = true,
+            _ => self.refuse_serde(name),
+        }
+    }
+
+    /// Refuses a word of serde's, with what to write.
+    fn refuse_serde(&mut self, name: &str) {
+        for (known, why) in OF_SERDE {
+            if *known == name {
+                return self.refuse(name, why);
             }
         }
-        found
+        self.refuse(name, UNKNOWN);
+    }
+
+    /// Whether a field is left out, where it is on all sides that there are.
+    fn is_left_out(&mut self, said: Said) -> bool {
+        let not_written = self.marks.written && said.not_written;
+        let not_read = self.marks.read && said.not_read;
+        if !not_written && !not_read {
+            return false;
+        }
+        if (self.marks.written && !not_written) || (self.marks.read && !not_read) {
+            let word = if not_written {
+                "skip_serializing"
+            } else {
+                "skip_deserializing"
+            };
+            self.refuse(word, ONE_SIDE);
+        }
+        if self.implements() {
+            self.refuse("skip", "` can't be implemented here: write it by hand");
+        }
+        true
     }
 
     /// Takes `pub`, with what it is limited to.
@@ -337,9 +517,13 @@ impl<'a> Parser<'a> {
             _ => {}
         }
         if word == self.name && self.implements() {
-            return Some("` holds itself: write it by hand");
+            return Some(HOLDS_ITSELF);
         }
-        if is_small(word) || is_among(word, NO_MESSAGES) || in_path {
+        let is_refused = is_among(word, NO_MESSAGES) && !is_declared(&self.file.tokens, word);
+        if is_small(word) || in_path {
+            return Some(IN_PATH);
+        }
+        if is_refused {
             return Some("` can't stand in the type of a field");
         }
         None
@@ -360,13 +544,19 @@ impl<'a> Parser<'a> {
         let most = self.rest.len();
         let mut depth: usize = 0;
         let mut in_path = false;
+        let mut in_arrow = false;
         for length in 0..most {
             let word = self.peek();
-            let Some(within) = depth_behind(word, depth) else {
-                return length;
-            };
-            depth = within;
-            self.check(word, in_path);
+            if !in_arrow {
+                let Some(within) = depth_behind(word, depth) else {
+                    return length;
+                };
+                depth = within;
+            }
+            in_arrow = word == "-";
+            if self.checks {
+                self.check(word, in_path);
+            }
             in_path = word == ":";
             self.step();
         }
@@ -383,12 +573,25 @@ impl<'a> Parser<'a> {
         words.get(..length).unwrap_or(&[])
     }
 
+    /// Takes a name that may be written `r#name`.
+    fn name_of(&mut self) -> &'a str {
+        let word = self.word();
+        let name = plain_name(word);
+        if name.len() != word.len() && self.implements() {
+            self.refuse(
+                word,
+                "` can't be written by the implementations: call it otherwise",
+            );
+        }
+        name
+    }
+
     /// Takes the name of a field, where fields have names.
     fn field_name(&mut self, named: bool) -> &'a str {
         if !named {
             return "";
         }
-        let name = self.word();
+        let name = self.name_of();
         if name == "serializer" && self.implements() {
             self.refuse(
                 name,
@@ -399,20 +602,37 @@ impl<'a> Parser<'a> {
         name
     }
 
-    /// Takes a field.
-    fn item(&mut self, place: usize, named: bool) -> Field<'a> {
+    /// Takes a field; nothing where it isn't sent.
+    fn item(&mut self, place: usize, named: bool) -> Option<Field<'a>> {
         if place == MOST_FIELDS && self.implements() {
             self.wrong(&[TOO_MANY]);
         }
-        self.attributes();
+        let attributes = self.attributes();
         self.visibility();
         let name = self.field_name(named);
         self.field = Some((place, name));
+        let said = self.said(attributes, At::Field);
+        let is_left_out = self.is_left_out(said);
+        let checks = self.checks;
+        self.checks = checks && !is_left_out;
         let of = self.type_words();
+        self.checks = checks;
+        let layout = said.layout;
+        if self.implements() && !is_layout_of(layout, of) {
+            self.wrong(&[
+                "`with` can't be implemented here: write the type `LE<..>` or `BE<..>`, or `Vec<u8>`",
+            ]);
+        }
         if !self.is_wrong {
             self.field = None;
         }
-        Field { place, name, of }
+        let field = Field {
+            place,
+            name,
+            of,
+            layout,
+        };
+        if is_left_out { None } else { Some(field) }
     }
 
     /// Whether a list has something before the mark that closes it, and else takes the mark.
@@ -432,19 +652,22 @@ impl<'a> Parser<'a> {
         false
     }
 
-    /// Takes the fields up to this mark.
-    fn items(&mut self, close: &str, named: bool) -> Vec<Field<'a>> {
+    /// Takes the fields up to this mark, and says how many there are with those that aren't sent.
+    fn items(&mut self, close: &str, named: bool) -> (Vec<Field<'a>>, usize) {
         let mut items = Vec::new(self.alloc);
+        let mut count: usize = 0;
         let mut goes_on = self.begins(close);
         for place in 0..self.rest.len() {
             if !goes_on {
                 break;
             }
-            let item = self.item(place, named);
-            self.keep(&mut items, item);
+            if let Some(item) = self.item(place, named) {
+                self.keep(&mut items, item);
+            }
+            count = place.saturating_add(1);
             goes_on = self.goes_on(close);
         }
-        items
+        (items, count)
     }
 
     /// Takes the mark that opens fields, if there are any.
@@ -461,31 +684,52 @@ impl<'a> Parser<'a> {
     /// Takes fields in braces, in parentheses, or none.
     fn fields(&mut self) -> Fields<'a> {
         let form = self.form();
-        let items = match form {
-            Form::Unit => Vec::new(self.alloc),
+        let (items, count) = match form {
+            Form::Unit => (Vec::new(self.alloc), 0),
             Form::Tuple => self.items(")", false),
             Form::Named => self.items("}", true),
         };
-        Fields { form, items }
+        Fields { form, items, count }
     }
 
     /// Takes a variant of an enum.
-    fn variant(&mut self, place: usize) -> VariantOf<'a> {
-        self.attributes();
-        let name = self.word();
+    fn variant(&mut self) -> VariantOf<'a> {
+        let attributes = self.attributes();
+        let name = self.name_of();
         self.variant = name;
+        self.said(attributes, At::Variant);
         let fields = self.fields();
         if self.take("=") {
-            self.variant_number(place);
+            self.skip_number();
         }
         VariantOf { name, fields }
     }
 
-    /// Takes the number of a variant, which must be its place.
-    fn variant_number(&mut self, place: usize) {
-        let word = self.step();
-        if !matches!(word.parse::<usize>(), Ok(number) if number == place) {
-            self.refuse(word, NO_PLACE);
+    /// Takes the number of a variant, which isn't sent.
+    fn skip_number(&mut self) {
+        for _ in 0..self.rest.len() {
+            let word = self.peek();
+            if is_among(word, &[",", "}"]) {
+                break;
+            }
+            self.step();
+            if opens(word) {
+                self.skip_group();
+            }
+        }
+    }
+
+    /// Takes what stands up to the mark that closes what was opened, and refuses a mark in it.
+    fn skip_group(&mut self) {
+        match closed(self.rest) {
+            Some((inside, behind)) => {
+                if has_mark(inside) {
+                    self.wrong(&[HIDDEN_MARK]);
+                } else {
+                    self.rest = behind;
+                }
+            }
+            None => self.wrong(&["what is opened here isn't closed"]),
         }
     }
 
@@ -497,11 +741,11 @@ impl<'a> Parser<'a> {
         if !goes_on {
             self.wrong(&["an enum without variants has no values"]);
         }
-        for place in 0..self.rest.len() {
+        for _ in 0..self.rest.len() {
             if !goes_on {
                 break;
             }
-            let variant = self.variant(place);
+            let variant = self.variant();
             self.keep(&mut variants, variant);
             goes_on = self.goes_on("}");
         }
@@ -509,14 +753,59 @@ impl<'a> Parser<'a> {
         variants
     }
 
-    /// Takes a lifetime or a type parameter, or the comma before one.
-    fn parameter(&mut self, parameters: &mut Vec<&'a str>) {
-        let name = self.step();
-        if name == "const" || self.peek() == ":" {
-            self.wrong(&["only lifetimes and types without bounds can be parameters"]);
-        } else if name != "," {
-            self.check_parameter(name, parameters);
-            self.keep(parameters, name);
+    /// Takes a lifetime, a type parameter or a length, or the comma before one.
+    fn parameter(&mut self, parameters: &mut Vec<&'a str>, lengths: &mut Vec<&'a str>) {
+        let word = self.step();
+        if word == "," {
+            return;
+        }
+        let is_length = word == "const";
+        let name = if is_length { self.word() } else { word };
+        let has_more = is_length || is_among(self.peek(), &[":", "="]);
+        if has_more && self.implements() {
+            return self.refuse(name, NO_BOUNDS);
+        }
+        self.check_parameter(name, parameters);
+        self.keep(parameters, name);
+        if is_length {
+            self.keep(lengths, name);
+        }
+        self.skip_bounds();
+    }
+
+    /// Takes what stands behind the name of a parameter.
+    fn skip_bounds(&mut self) {
+        let mut depth: usize = 0;
+        let mut before = "";
+        for _ in 0..self.rest.len() {
+            let word = self.peek();
+            let closes = is_among(word, &[")", "]", "}"]) || (word == ">" && before != "-");
+            if depth == 0 && (closes || word == ",") {
+                break;
+            }
+            if closes {
+                depth = depth.saturating_sub(1);
+            } else if opens(word) || word == "<" {
+                depth = depth.saturating_add(1);
+            }
+            before = word;
+            self.step();
+        }
+    }
+
+    /// Takes `where` and its bounds, up to fields in braces or a semicolon.
+    fn bounds(&mut self) {
+        if !self.take("where") {
+            return;
+        }
+        if self.implements() {
+            return self.refuse("where", NO_BOUNDS);
+        }
+        for _ in 0..self.rest.len() {
+            if is_among(self.peek(), &["{", ";"]) {
+                break;
+            }
+            self.step();
         }
     }
 
@@ -528,7 +817,9 @@ impl<'a> Parser<'a> {
                 "` is a parameter's name of postcard's: call it otherwise",
             );
         }
-        let is_second = is_lifetime(name) && matches!(before, [first, ..] if is_lifetime(first));
+        let is_second = self.implements()
+            && is_lifetime(name)
+            && matches!(before, [first, ..] if is_lifetime(first));
         if is_second {
             self.refuse(
                 name,
@@ -537,21 +828,22 @@ impl<'a> Parser<'a> {
         }
     }
 
-    /// Takes the lifetimes and type parameters.
-    fn parameters(&mut self) -> Vec<&'a str> {
+    /// Takes the lifetimes and type parameters, and says which are lengths.
+    fn parameters(&mut self) -> (Vec<&'a str>, Vec<&'a str>) {
         let mut parameters = Vec::new(self.alloc);
+        let mut lengths = Vec::new(self.alloc);
         let mut is_open = self.take("<") && !self.take(">");
         for _ in 0..self.rest.len() {
             if !is_open {
                 break;
             }
-            self.parameter(&mut parameters);
+            self.parameter(&mut parameters, &mut lengths);
             is_open = !self.take(">");
         }
         if is_open {
             self.wrong(&["`>` is missing"]);
         }
-        parameters
+        (parameters, lengths)
     }
 
     /// Takes `struct` or `enum`, and says whether it is the latter.
@@ -566,7 +858,7 @@ impl<'a> Parser<'a> {
 
     /// Takes the name of a type.
     fn type_name(&mut self) -> &'a str {
-        let name = self.word();
+        let name = self.name_of();
         if is_among(name, OF_POSTCARD) && self.implements() {
             self.refuse(name, "` is also a name of postcard's: call it otherwise");
         }
@@ -577,31 +869,51 @@ impl<'a> Parser<'a> {
     /// Takes what is declared.
     fn body(&mut self, is_enum: bool) -> Body<'a> {
         if is_enum {
+            self.bounds();
             return Body::Enum(self.variants());
         }
+        self.bounds();
         let fields = self.fields();
         match fields.form {
             Form::Named => {}
-            _ => self.owe(";"),
+            _ => {
+                self.bounds();
+                self.owe(";");
+            }
         }
         Body::Struct(fields)
     }
 
-    /// Takes a declaration.
-    fn declaration(&mut self) -> Declaration<'a> {
-        self.attributes();
+    /// Takes a declaration, behind its attributes.
+    fn declaration(&mut self, attributes: &'a [Token]) -> Declaration<'a> {
         self.visibility();
         let is_enum = self.is_enum();
         let name = self.type_name();
         let line = self.line;
-        let parameters = self.parameters();
+        self.said(attributes, At::Item);
+        self.check_by_hand();
+        let (parameters, lengths) = self.parameters();
         let body = self.body(is_enum);
         Declaration {
             name,
+            file: self.file,
             line,
             parameters,
+            lengths,
             body,
             marks: self.marks,
+        }
+    }
+
+    /// Refuses a type of which one side alone is derived, and the other is written by hand.
+    fn check_by_hand(&mut self) {
+        let by_hand = match (self.is_derived, self.marks.written, self.marks.read) {
+            (true, true, false) => "Deserialize",
+            (true, false, true) => "Serialize",
+            _ => return,
+        };
+        if is_by_hand(&self.file.tokens, by_hand, self.name) {
+            self.refuse(by_hand, BY_HAND);
         }
     }
 
@@ -621,61 +933,134 @@ impl<'a> Parser<'a> {
             self.marks = BOTH;
             return;
         };
-        self.marks = UNMARKED;
         for word in words.split(',') {
             self.mark(word.trim());
         }
     }
 
-    /// Takes a token, or an attribute, and says whether it marks the next declaration.
-    fn takes_mark(&mut self) -> bool {
-        let token = self.step();
-        if token.starts_with("// message") {
-            self.marks(token);
-            return true;
-        }
-        if token != "#" {
-            return false;
-        }
-        if self.peek_second() == "serde" {
-            self.refuse_attribute();
-            self.recover();
-        }
-        self.marks = self.attribute();
-        self.marks.written || self.marks.read
-    }
-
-    /// Takes tokens up to what marks a declaration, and says whether anything does.
-    fn finds_mark(&mut self) -> bool {
-        for _ in 0..self.rest.len() {
-            if self.takes_mark() {
-                return true;
+    /// Takes comments that mark and attributes, up to something else, and adds up what they mark; gives all of them.
+    fn item_marks(&mut self) -> &'a [Token] {
+        self.name = "";
+        self.marks = UNMARKED;
+        self.condition = &[];
+        self.is_derived = true;
+        let begun = self.rest;
+        for _ in 0..begun.len() {
+            let word = self.peek();
+            if let Some((words, behind)) = attribute(self.rest) {
+                if let Some(condition) = add_marks(words, &mut self.marks) {
+                    self.condition = condition;
+                }
+                self.step();
+                self.rest = behind;
+            } else if is_comment_mark(word) {
+                self.step();
+                self.marks(word);
+                self.is_derived = false;
+            } else if word.starts_with("//") {
+                self.step();
+            } else {
+                break;
             }
         }
-        false
+        let length = begun.len().saturating_sub(self.rest.len());
+        begun.get(..length).unwrap_or(&[])
+    }
+
+    /// Refuses a comment that is almost a mark, and a mark that is hidden in an attribute, before what isn't marked.
+    fn check_unmarked(&mut self, attributes: &'a [Token]) {
+        let is_declaration = begins_declaration(self.rest);
+        for token in attributes {
+            let word = token.text.as_str();
+            if is_comment_mark(word) || (is_declaration && word.starts_with("//")) {
+                self.faults.put_line_number(token.line);
+                self.faults.put_all(&["`", word, ALMOST]);
+            }
+        }
+    }
+
+    /// Takes tokens up to what is marked, and gives its attributes, if anything is.
+    fn finds_mark(&mut self) -> Option<&'a [Token]> {
+        for _ in 0..self.rest.len() {
+            let attributes = self.item_marks();
+            if self.marks.written || self.marks.read || self.is_wrong {
+                return Some(attributes);
+            }
+            self.check_unmarked(attributes);
+            self.pass_over();
+        }
+        None
+    }
+
+    /// Takes a token, or a call of a macro with all that it holds, where a mark marks nothing.
+    fn pass_over(&mut self) {
+        let group = passed_over(self.rest);
+        let word = self.step();
+        let Some((inside, behind)) = group else {
+            return;
+        };
+        self.rest = behind;
+        if has_mark(inside) || (word != "macro_rules" && has_derive(inside)) {
+            self.refuse(word, IN_MACRO);
+            self.recover();
+        }
     }
 }
 
-/// The marked declarations, and what is wrong, a line each: in others, and that there are none.
+/// Whether a struct or an enum stands at the front of these tokens.
+fn begins_declaration(tokens: &[Token]) -> bool {
+    let rest = match tokens {
+        [public, open, rest @ ..] if public.text.as_str() == "pub" && open.text.as_str() == "(" =>
+            match closed(rest) {
+                Some((_, behind)) => behind,
+                None => return false,
+            },
+        [public, rest @ ..] if public.text.as_str() == "pub" => rest,
+        _ => tokens,
+    };
+    is_among(first_word(rest), &["struct", "enum"])
+}
+
+/// The marked declarations of a file, behind those of others.
+fn add_declarations<'a>(
+    alloc: Global,
+    purpose: Purpose,
+    file: &'a Read,
+    found: &mut Vec<Declaration<'a>>,
+    faults: Faults<'a>,
+) -> Faults<'a> {
+    let mut parser = Parser::new(alloc, purpose, file, faults);
+    parser.faults.put(file.faults.as_str());
+    parser.faults.turn_to(file.file.as_str());
+    for _ in 0..file.tokens.len() {
+        let Some(attributes) = parser.finds_mark() else {
+            break;
+        };
+        let declaration = parser.declaration(attributes);
+        parser.keep(found, declaration);
+        parser.recover();
+    }
+    parser.faults
+}
+
+/// The marked declarations of files, and what is wrong, a line each: in others, and that there are none.
 pub fn declarations(
     alloc: Global,
     purpose: Purpose,
-    read: &Read,
+    files: &[Read],
 ) -> Result<(Vec<Declaration<'_>>, String), AllocError> {
-    let mut parser = Parser::new(alloc, purpose, &read.tokens);
     let mut found = Vec::new(alloc);
-    parser.faults.put_faults(&read.faults);
-    for _ in 0..read.tokens.len() {
-        if !parser.finds_mark() {
-            break;
+    let mut faults = Faults::new(alloc);
+    for file in files {
+        faults = add_declarations(alloc, purpose, file, &mut found, faults);
+    }
+    if found.is_empty() && faults.is_empty() {
+        if let [file] = files {
+            faults.turn_to(file.file.as_str());
         }
-        let declaration = parser.declaration();
-        parser.keep(&mut found, declaration);
-        parser.recover();
+        faults.put_line_number(1);
+        faults.put(NO_MESSAGES_MARKED);
     }
-    if found.is_empty() && parser.faults.is_empty() {
-        parser.faults.put(NO_MESSAGES_MARKED);
-    }
-    let faults = parser.faults.finished()?;
+    let faults = faults.finished()?;
     Ok((found, faults))
 }

@@ -2,59 +2,94 @@
 use crate::faults::Faults;
 use crate::marks::{is_almost_mark, is_mark};
 use std::alloc::{AllocError, Global};
-use std::mem;
 
-/// What is said of a comment that is almost a mark.
+/// What is said of a mark behind code.
 const ALMOST: &str =
     "` marks nothing: a line of its own does, `// message` or `// message: Serialize`\n";
 
-/// What is said of a comment between marks.
-const BLOCK: &str = "a comment between `/*` and `*/` isn't read: write it behind `//`\n";
+/// What is said of a mark in what is skipped.
+const INSIDE_COMMENT: &str =
+    "` stands between `/*` and `*/`, where it marks nothing: take it out\n";
 
-/// A word, a lifetime, a number or a mark, and the line where it stands. A comment `// message` is one token.
+/// The same in a text.
+const INSIDE_TEXT: &str = "` stands in a text, where it marks nothing: write it otherwise\n";
+
+/// Before what a comment that is almost a mark is told of.
+const BEFORE: &[&str] = &["#", "pub", "struct", "enum"];
+
+/// A word, a lifetime, a number, a text, a character or a mark, and the line where it begins. A comment `// message` is one
+/// token, and so is one that is almost that, where a declaration may stand behind it. A text stands between `"` whatever it
+/// was written between.
 #[derive(Drop)]
 pub struct Token {
     pub text: String,
     pub line: usize,
 }
 
-/// The tokens of a file, and what is wrong with its comments, a line each.
+/// The tokens of a file, and what is wrong with its comments and texts, a line each.
 #[derive(Drop)]
 pub struct Read {
+    /// The name of the file; empty where it has none.
+    pub file: String,
     pub tokens: Vec<Token>,
-    pub faults: Faults,
+    pub faults: String,
 }
 
-/// The tokens of lines that are read one behind another. Where memory runs out, [`finished`](Tokens::finished) says so at
+/// What is read to its end, over lines.
+#[derive(Clone, Copy, PartialEq, Eq, Drop)]
+enum Inside {
+    /// A comment between `/*` and `*/`.
+    Comment,
+    /// A text, which ends at the first `"` that isn't behind `\`.
+    Text,
+    /// A text that ends at a `"` with so many `#` behind it.
+    Raw(usize),
+}
+
+/// Takes tokens from the front of a text. Where memory runs out the calls go on, and [`finished`](Tokens::finished) says so at
 /// the end.
 #[derive(Drop)]
-pub struct Tokens {
+struct Tokens<'a> {
     alloc: Global,
-    found: Vec<Token>,
-    faults: Faults,
-    /// The line that is read, counted from 1, and its word that isn't ended yet.
+    rest: &'a str,
+    /// The line of what is read, counted from 1, and whether code stands before it there.
     line: usize,
-    word: String,
+    is_behind_code: bool,
+    /// A comment that is almost a mark, with nothing behind it yet.
+    almost: Option<(&'a str, usize)>,
+    found: Vec<Token>,
+    faults: Faults<'a>,
     failed: bool,
 }
 
-/// The tokens of a text.
-pub fn tokens_of(alloc: Global, text: &str) -> Result<Read, AllocError> {
-    let mut tokens = Tokens::new(alloc);
-    for line in text.lines() {
-        tokens.read_line(line);
+/// The tokens of the text of a file. What is wrong is said with its name, unless that is empty.
+pub fn tokens_of<'a>(alloc: Global, file: &'a str, text: &'a str) -> Result<Read, AllocError> {
+    let name = String::from_str(alloc, file)?;
+    let text = text.strip_prefix('\u{feff}').unwrap_or(text);
+    let mut tokens = Tokens::new(alloc, text);
+    tokens.faults.turn_to(file);
+    for _ in 0..text.len() {
+        if tokens.rest.is_empty() {
+            break;
+        }
+        tokens.read_next();
     }
-    tokens.finished()
+    tokens.finished(name)
 }
 
-/// Whether a character can stand in a word, a lifetime or a number.
+/// Whether a character can stand in a word or a number.
 pub fn is_of_word(character: char) -> bool {
-    character.is_alphanumeric() || character == '_' || character == '\''
+    character.is_alphanumeric() || character == '_'
 }
 
 /// Whether a word is a lifetime.
 pub fn is_lifetime(word: &str) -> bool {
     word.starts_with('\'')
+}
+
+/// Whether a token is a comment that marks a declaration.
+pub fn is_comment_mark(token: &str) -> bool {
+    is_mark(token)
 }
 
 /// Whether a word is one of these.
@@ -72,98 +107,272 @@ pub fn first_letter(word: &str) -> Option<char> {
     word.chars().next()
 }
 
-/// A line's code, and its comment from the slashes on.
-fn parted(line: &str) -> (&str, &str) {
-    let code = match line.split_once("//") {
-        Some((code, _)) => code,
-        None => line,
-    };
-    (code, line.get(code.len()..).unwrap_or(""))
+/// How many bytes of a text stand before what is left of it.
+fn length_before(text: &str, rest: &str) -> usize {
+    text.len().saturating_sub(rest.len())
 }
 
-impl Tokens {
+/// A text without its first bytes.
+fn behind(text: &str, length: usize) -> &str {
+    text.get(length..).unwrap_or("")
+}
+
+/// A text without its first character.
+fn behind_one(text: &str) -> &str {
+    let mut characters = text.chars();
+    match characters.next() {
+        Some(first) => behind(text, first.len_utf8()),
+        None => "",
+    }
+}
+
+/// How many `#` a text begins with.
+fn hashes(text: &str) -> usize {
+    length_before(text, text.trim_start_matches('#'))
+}
+
+/// The line at the front of a text.
+fn first_line(text: &str) -> &str {
+    match text.split_once('\n') {
+        Some((line, _)) => line,
+        None => text,
+    }
+}
+
+impl<'a> Tokens<'a> {
     /// None yet.
-    pub fn new(alloc: Global) -> Tokens {
+    fn new(alloc: Global, text: &'a str) -> Tokens<'a> {
         Tokens {
             alloc,
+            rest: text,
+            line: 1,
+            is_behind_code: false,
+            almost: None,
             found: Vec::new(alloc),
             faults: Faults::new(alloc),
-            line: 0,
-            word: String::new(alloc),
             failed: false,
         }
     }
 
-    /// Appends the tokens of the next line. Comments are left out but for those that mark a declaration.
-    pub fn read_line(&mut self, line: &str) {
-        self.line = self.line.saturating_add(1);
-        let line = line.trim();
-        if is_mark(line) {
-            let failed = self.word.push_str(line).is_err();
-            self.end_word(failed);
-        } else {
-            let (code, comment) = parted(line);
-            if code.split_once("/*").is_some() {
-                self.faults.put_line_number(self.line);
-                self.faults.put(BLOCK);
-            }
-            self.read_comment(comment);
-            self.read_code(code);
-        }
+    /// Takes so many bytes.
+    fn skip(&mut self, length: usize) {
+        self.rest = behind(self.rest, length);
     }
 
-    /// Refuses a comment that is almost a mark.
-    fn read_comment(&mut self, comment: &str) {
-        if is_almost_mark(comment) {
-            self.faults.put_line_number(self.line);
-            self.faults.put_all(&["`", comment, ALMOST]);
+    /// Takes a character, and counts lines.
+    fn skip_one(&mut self) {
+        if self.rest.starts_with('\n') {
+            self.line = self.line.saturating_add(1);
+            self.is_behind_code = false;
         }
+        self.rest = behind_one(self.rest);
     }
 
-    /// Appends the tokens of a line's code.
-    fn read_code(&mut self, code: &str) {
-        for character in code.chars() {
-            self.read_character(character);
-        }
-        self.end_word(false);
-    }
-
-    /// Appends a character: to a word, or as a mark.
-    fn read_character(&mut self, character: char) {
-        let is_of_word = is_of_word(character);
-        if !is_of_word {
-            self.end_word(false);
-        }
-        if !character.is_whitespace() {
-            let failed = self.word.push(character).is_err();
-            self.failed = self.failed || failed;
-        }
-        if !is_of_word {
-            self.end_word(false);
-        }
-    }
-
-    /// Appends what was read of a word or of a mark as a token, unless it is empty, and notes whether memory ran out for it.
-    fn end_word(&mut self, failed: bool) {
-        self.failed = self.failed || failed;
-        if self.word.is_empty() {
+    /// Reads what is next: a blank, a comment or a token.
+    fn read_next(&mut self) {
+        let Some(first) = first_letter(self.rest) else {
             return;
+        };
+        if first.is_whitespace() {
+            self.skip_one();
+        } else if self.rest.starts_with("//") {
+            self.read_comment();
+        } else if self.rest.starts_with("/*") {
+            self.read_inside(Inside::Comment, self.line);
+        } else if first == '"' {
+            self.read_text(Inside::Text, 0);
+        } else if first == '\'' {
+            self.read_quoted();
+        } else if is_of_word(first) {
+            self.read_word();
+        } else {
+            self.read_token(first.len_utf8());
         }
-        let text = mem::replace(&mut self.word, String::new(self.alloc));
+    }
+
+    /// Reads a comment up to the end of its line: a mark, what is almost one, or nothing.
+    fn read_comment(&mut self) {
+        let comment = first_line(self.rest);
+        let length = comment.len();
+        let comment = comment.trim_end();
+        if is_mark(comment) {
+            self.read_mark(comment);
+        } else if !self.is_behind_code && is_almost_mark(comment) {
+            self.almost = Some((comment, self.line));
+        }
+        self.skip(length);
+    }
+
+    /// Appends a comment that marks what is behind it, in a line of its own.
+    fn read_mark(&mut self, comment: &str) {
+        if self.is_behind_code {
+            self.refuse(self.line, comment, ALMOST);
+        } else {
+            self.put(comment, self.line);
+        }
+    }
+
+    /// Notes what is wrong with a comment.
+    fn refuse(&mut self, line: usize, comment: &str, why: &str) {
+        self.faults.put_line_number(line);
+        self.faults.put_all(&["`", comment, why]);
+    }
+
+    /// Reads a character or a lifetime.
+    fn read_quoted(&mut self) {
+        let text = behind(self.rest, 1);
+        let second = behind_one(text);
+        if text.starts_with('\\') {
+            let rest = behind_one(second);
+            let rest = behind_one(rest.trim_start_matches(|c: char| c != '\'' && c != '\n'));
+            self.read_token(length_before(self.rest, rest));
+        } else if second.starts_with('\'') {
+            self.read_token(length_before(self.rest, behind_one(second)));
+        } else {
+            let rest = text.trim_start_matches(is_of_word);
+            self.read_token(length_before(self.rest, rest));
+        }
+    }
+
+    /// Reads a word, or a text with letters before it.
+    fn read_word(&mut self) {
+        let after = self.rest.trim_start_matches(is_of_word);
+        let length = length_before(self.rest, after);
+        let word = self.rest.get(..length).unwrap_or("");
+        let hashes = hashes(after);
+        let is_raw = is_among(word, &["r", "br", "cr"]);
+        if is_raw && behind(after, hashes).starts_with('"') {
+            self.read_text(Inside::Raw(hashes), length.saturating_add(hashes));
+        } else if is_among(word, &["b", "c"]) && after.starts_with('"') {
+            self.read_text(Inside::Text, length);
+        } else if word == "b" && after.starts_with('\'') {
+            self.skip(length);
+            self.read_quoted();
+        } else if word == "r" && hashes == 1 {
+            let rest = behind(after, 1).trim_start_matches(is_of_word);
+            self.read_token(length_before(self.rest, rest));
+        } else {
+            self.read_token(length);
+        }
+    }
+
+    /// Reads a text, before whose `"` so many bytes stand.
+    fn read_text(&mut self, inside: Inside, before: usize) {
         let line = self.line;
-        if self.found.push(Token { text, line }).is_err() {
-            self.failed = true;
+        self.skip(before);
+        let whole = self.rest;
+        self.read_inside(inside, line);
+        let length = length_before(whole, self.rest);
+        let hashes = match inside {
+            Inside::Raw(hashes) => hashes,
+            _ => 0,
+        };
+        let text = whole.get(..length.saturating_sub(hashes)).unwrap_or("");
+        self.is_behind_code = true;
+        self.put(text, line);
+    }
+
+    /// Takes a comment or a text, which begins in that line, to its end.
+    fn read_inside(&mut self, inside: Inside, line: usize) {
+        let mut depth: usize = 0;
+        let mut is_fresh = false;
+        if inside != Inside::Comment {
+            self.skip(1);
         }
+        for _ in 0..self.rest.len() {
+            if is_fresh {
+                self.refuse_inside(inside);
+            }
+            let first = first_letter(self.rest);
+            is_fresh = matches!(first, Some('\n'))
+                || (is_fresh && matches!(first, Some(' ' | '\t')));
+            if inside == Inside::Comment && self.rest.starts_with("/*") {
+                depth = depth.saturating_add(1);
+                self.skip(2);
+            } else if let Some(length) = self.ending(inside) {
+                self.skip(length);
+                depth = depth.saturating_sub(1);
+                if depth == 0 {
+                    return;
+                }
+            } else {
+                if inside == Inside::Text && self.rest.starts_with('\\') {
+                    self.skip(1);
+                }
+                self.skip_one();
+            }
+        }
+        self.faults.put_line_number(line);
+        self.faults.put(if inside == Inside::Comment {
+            "a comment begins here with `/*` that no `*/` ends\n"
+        } else {
+            "a text begins here that isn't ended\n"
+        });
+    }
+
+    /// How long what ends a comment or a text is, where it stands at the front.
+    fn ending(&self, inside: Inside) -> Option<usize> {
+        match inside {
+            Inside::Comment if self.rest.starts_with("*/") => Some(2),
+            Inside::Text if self.rest.starts_with('"') => Some(1),
+            Inside::Raw(wanted)
+                if self.rest.starts_with('"') && hashes(behind(self.rest, 1)) >= wanted => Some(
+                wanted.saturating_add(1),
+            ),
+            _ => None,
+        }
+    }
+
+    /// Refuses a mark at the front, inside a comment or a text.
+    fn refuse_inside(&mut self, inside: Inside) {
+        let line = first_line(self.rest).trim_end();
+        if is_mark(line) {
+            let why = if inside == Inside::Comment {
+                INSIDE_COMMENT
+            } else {
+                INSIDE_TEXT
+            };
+            self.refuse(self.line, line, why);
+        }
+    }
+
+    /// Takes so many bytes as a token.
+    fn read_token(&mut self, length: usize) {
+        let text = self.rest.get(..length).unwrap_or("");
+        self.skip(length);
+        self.is_behind_code = true;
+        self.put(text, self.line);
+    }
+
+    /// Appends a token, and before it a comment that is almost a mark, where a declaration may begin with it.
+    fn put(&mut self, text: &str, line: usize) {
+        if let Some((comment, line)) = self.almost
+            && is_among(text, BEFORE)
+        {
+            self.push(comment, line);
+        }
+        self.almost = None;
+        self.push(text, line);
+    }
+
+    /// Appends a token.
+    fn push(&mut self, text: &str, line: usize) {
+        let failed = match String::from_str(self.alloc, text) {
+            Ok(text) => self.found.push(Token { text, line }).is_err(),
+            Err(_) => true,
+        };
+        self.failed = self.failed || failed;
     }
 
     /// What was read, if there was memory for it.
-    pub fn finished(self) -> Result<Read, AllocError> {
+    fn finished(self, file: String) -> Result<Read, AllocError> {
         if self.failed {
             return Err(AllocError);
         }
         Ok(Read {
+            file,
             tokens: self.found,
-            faults: self.faults,
+            faults: self.faults.finished()?,
         })
     }
 }

@@ -3,8 +3,9 @@
 #![tactic(auto)]
 
 mod builder;
+mod definitions;
 mod read;
 mod schema;
 
-pub use read::{Error, read_schema};
+pub use read::{Error, Source, read_schema, read_sources};
 pub use schema::{Named, Names, Schema};

@@ -1,12 +1,21 @@
 //! From a text of declarations to a table.
 ghost use Rattle.std.specs.Prelude.{◌≡◌, ◌≤◌, length, IfOk};
 
-use crate::builder::table;
+use crate::builder::{has_type_parameters, table};
 use crate::{Named, Schema};
 use declaration_parser::declaration::Declaration;
 use declaration_parser::parser::{Purpose, declarations};
 use declaration_parser::tokens::{Read, tokens_of};
 use std::alloc::{AllocError, Global};
+
+/// A file of declarations.
+#[derive(Drop)]
+pub struct Source {
+    /// What it is called where something in it is wrong; empty where it has no name.
+    pub file: String,
+    /// What stands in it.
+    pub text: String,
+}
 
 /// Why declarations have no schema.
 #[derive(Debug, Drop)]
@@ -38,12 +47,34 @@ fn named(alloc: Global, declared: &[Declaration<'_>]) -> Result<Vec<Named>, Allo
     Ok(types)
 }
 
+/// Declared types that have a schema by themselves, and those that have parameters.
+type Parted<'a> = (Vec<Declaration<'a>>, Vec<Declaration<'a>>);
+
+/// Parts those that have parameters from the others.
+fn parted<'a>(alloc: Global, declared: Vec<Declaration<'a>>) -> Result<Parted<'a>, AllocError> {
+    let mut whole = Vec::new(alloc);
+    let mut generic = Vec::new(alloc);
+    for it in declared {
+        if has_type_parameters(&it) {
+            generic.push(it)?;
+        } else {
+            whole.push(it)?;
+        }
+    }
+    Ok((whole, generic))
+}
+
 /// The table of declared types.
-fn table_of(alloc: Global, declared: &[Declaration<'_>]) -> Result<Schema, Error>
+fn table_of<'a>(
+    alloc: Global,
+    files: &'a [Read],
+    declared: &[Declaration<'a>],
+    generic: &[Declaration<'a>],
+) -> Result<Schema, Error>
     ensures named { IfOk result (λ s. length s.names.items ≡ length s.nodes.items) }
     ensures declared { IfOk result (λ s. length s.types.items ≤ length s.nodes.items) }
 {
-    let (nodes, names) = table(alloc, declared)?;
+    let (nodes, names) = table(alloc, files, declared, generic)?;
     let types = named(alloc, declared)?;
     Ok(Schema {
         types,
@@ -52,14 +83,15 @@ fn table_of(alloc: Global, declared: &[Declaration<'_>]) -> Result<Schema, Error
     })
 }
 
-/// The table of the declarations that these tokens are.
-fn read_tokens(alloc: Global, read: &Read) -> Result<Schema, Error>
+/// The table of the declarations that these files have.
+fn read_tokens(alloc: Global, files: &[Read]) -> Result<Schema, Error>
     ensures named { IfOk result (λ s. length s.names.items ≡ length s.nodes.items) }
     ensures declared { IfOk result (λ s. length s.types.items ≤ length s.nodes.items) }
 {
-    let (declared, faults) = declarations(alloc, Purpose::Schemas, read)?;
+    let (declared, faults) = declarations(alloc, Purpose::Schemas, files)?;
     if faults.is_empty() {
-        return table_of(alloc, &declared);
+        let (declared, generic) = parted(alloc, declared)?;
+        return table_of(alloc, files, &declared, &generic);
     }
     Err(Error::Wrong(faults))
 }
@@ -74,6 +106,26 @@ pub fn read_schema(alloc: Global, text: &str) -> Result<Schema, Error>
     ensures named { IfOk result (λ s. length s.names.items ≡ length s.nodes.items) }
     ensures declared { IfOk result (λ s. length s.types.items ≤ length s.nodes.items) }
 {
-    let read = tokens_of(alloc, text)?;
-    read_tokens(alloc, &read)
+    let read = tokens_of(alloc, "", text)?;
+    read_tokens(alloc, &[read])
+}
+
+/// The tokens of each file.
+fn tokens_in(alloc: Global, sources: &[Source]) -> Result<Vec<Read>, AllocError> {
+    let mut files = Vec::new(alloc);
+    for source in sources {
+        let read = tokens_of(alloc, source.file.as_str(), source.text.as_str())?;
+        files.push(read)?;
+    }
+    Ok(files)
+}
+
+/// As [`read_schema`], of all that these files have, whose names stand before the lines of what is wrong. A name is looked for
+/// in the file where it stands, and then, where that brings it in, in the others.
+pub fn read_sources(alloc: Global, sources: &[Source]) -> Result<Schema, Error>
+    ensures named { IfOk result (λ s. length s.names.items ≡ length s.nodes.items) }
+    ensures declared { IfOk result (λ s. length s.types.items ≤ length s.nodes.items) }
+{
+    let files = tokens_in(alloc, sources)?;
+    read_tokens(alloc, &files)
 }

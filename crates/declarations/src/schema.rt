@@ -1,5 +1,6 @@
 //! Tables of types, with names.
-ghost use Rattle.std.specs.Prelude.{◌<◌, length, IfSome};
+ghost use Rattle.std.specs.Prelude.{◌≡◌, ◌<◌, length, None, IfSome, Decides};
+ghost use Rattle.declarations.specs.TypeNames.{HasTypeName, NoTypeName};
 
 use schemas::Node;
 
@@ -8,6 +9,8 @@ use schemas::Node;
 pub enum Names {
     /// No names: numbers, texts, options, lists, arrays.
     Nothing,
+    /// `f32`, `f64`, whose bits are read as an integer's bytes.
+    Float,
     /// What a variant without fields holds.
     Empty,
     /// `()`, or a struct without fields.
@@ -44,13 +47,24 @@ pub struct Schema {
     pub names: Vec<Names>,
 }
 
+/// Whether two texts are one.
+fn is_text(text: &str, wanted: &str) -> bool
+    ensures { Decides result (text.now ≡ wanted.now) }
+{
+    text == wanted
+}
+
 impl Schema {
-    /// The place of the declared type of this name, if there is one.
+    /// The place of the declared type of this name, if there is one: the first of that name.
     pub fn place_of(&self, name: &str) -> Option<usize>
-        ensures { IfSome result (λ place. place < length self.now.types.items) }
+        ensures within { IfSome result (λ place. place < length self.now.types.items) }
+        ensures found { IfSome result (λ place. HasTypeName self.now.types.items place name.now) }
+        ensures first { IfSome result (λ place. NoTypeName self.now.types.items place name.now) }
+        ensures none { result ≡ None
+            → NoTypeName self.now.types.items (length self.now.types.items) name.now }
     {
         for place in 0..self.types.len() {
-            if self.types[place].name.as_str() == name {
+            if is_text(self.types[place].name.as_str(), name) {
                 return Some(place);
             }
         }

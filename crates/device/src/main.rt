@@ -3,26 +3,49 @@
 
 use calls::{Checked, Numbered, Numbering, Server, Service};
 use line_io::{Reads, Writes};
-use link::{End, receive_each};
+use link::{End, OfType, Ordinary, Receiver, Sender};
 use shell::{Command, Device, FRAME, Report};
+use std::io;
 use std::process::ExitCode;
 
-fn main(rt: HostRuntime) -> ExitCode {
+// Serves all that comes; how the reading ended, and whether a reply wasn't sent whole.
+fn work(rt: &HostRuntime) -> (Option<End>, bool) {
     let mut reader = Reads::new(rt.stdin());
+    let mut receiver = Receiver::<FRAME>::new();
+    let sender = Sender::<_, FRAME>::new(Writes::new(rt.stdout()));
     let mut service = Checked {
         hearer: Service {
             application: Numbering {
                 application: Device::new(),
             },
-            server: Server::<_, Numbered<Report>, FRAME>::new(Writes::new(rt.stdout())),
+            server: Server::<_, Numbered<Command>, Numbered<Report>, FRAME>::new(sender),
+            unsent: false,
         },
     };
-    match receive_each::<(u64, Numbered<Command>), _, _, FRAME>(
+    let end = receiver.receive_each_with::<(u64, Numbered<Command>), _, _, _>(
         rt.alloc(),
+        &Ordinary(OfType),
         &mut reader,
         &mut service,
-    ) {
-        Some(End::Ended) => ExitCode::from(0),
-        _ => ExitCode::from(3),
+    );
+    (end, service.hearer.unsent)
+}
+
+// Says what failed; the status of the program.
+fn run(rt: &HostRuntime) -> io::Result<u8> {
+    match work(rt) {
+        (Some(End::Ended), false) => Ok(0),
+        (Some(End::Ended), true) => {
+            eprintln!(rt; "device: a reply wasn't sent")?;
+            Ok(3)
+        }
+        _ => {
+            eprintln!(rt; "device: reading failed")?;
+            Ok(3)
+        }
     }
+}
+
+fn main(rt: HostRuntime) -> ExitCode {
+    ExitCode::from(run(&rt).unwrap_or(3))
 }

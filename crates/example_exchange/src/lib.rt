@@ -6,7 +6,7 @@ ghost use Rattle.example_exchange.specs.Broken.{HeardByFront};
 ghost use Rattle.example_exchange.specs.declared.reading.Reading.{Reading as Readings};
 ghost use Rattle.link.specs.declared.sender.SendError.TheVariants.{Line};
 ghost use Rattle.link.specs.declared.receiver.Answer.TheVariants.{Value, Damaged};
-ghost use Rattle.link.specs.declared.listening.End.TheVariants.{Ended};
+ghost use Rattle.line_io.specs.declared.transfers.End.TheVariants.{Ended};
 
 mod reading;
 
@@ -18,7 +18,7 @@ use std::alloc::Global;
 
 /// Readings that are alike are equal.
 fn alike()
-    ensures { (v w : Readings) → ⟦<Reading as Readable>⟧.alike v w → v ≡ w }
+    ensures { (v w : Readings) → ⟦<Reading as Readable>⟧.form.alike v w → v ≡ w }
 {}
 
 /// What three sends answered, and what was heard of them.

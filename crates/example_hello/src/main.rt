@@ -1,7 +1,7 @@
 //! Sends a reading twice over a line that breaks off the first send, and prints what is heard.
 #![tactic(auto)]
 
-ghost use Rattle.postcard_tree.specs.ReadingLaws.{seen_as};
+ghost use Rattle.postcard_tree.specs.ReadingLaws.{form_as};
 ghost use Rattle.postcard_tree.specs.Shapes.{read_as_shape, written_as_shape};
 
 use line_io::memory::{Fault, In, Out};
@@ -48,22 +48,7 @@ impl Formed for Reading {
 }
 
 impl Readable for Reading {
-    ghost takes = { ⟦<ShapeOf<Self> as Readable>⟧.takes };
-
-    ghost reads = { λ t v. ⟦<ShapeOf<Self> as Readable>⟧.reads t (⟦<Self as Shaped>⟧.shape v) };
-
-    ghost refuses = { ⟦<ShapeOf<Self> as Readable>⟧.refuses };
-
-    ghost alike = { λ v w. ⟦<ShapeOf<Self> as Readable>⟧.alike (⟦<Self as Shaped>⟧.shape v)
-        (⟦<Self as Shaped>⟧.shape w) };
-
-    ghost growing = { ⟦<ShapeOf<Self> as Readable>⟧.growing };
-
-    ghost reading = { seen_as ⟦<Self as Shaped>⟧.shape ⟦<ShapeOf<Self> as Readable>⟧.reading };
-
-    fn grows() -> bool {
-        ShapeOf::<Self>::grows()
-    }
+    ghost form = { form_as ⟦<Self as Shaped>⟧.shape ⟦<ShapeOf<Self> as Readable>⟧.form };
 }
 
 impl ReadableShape for Reading {

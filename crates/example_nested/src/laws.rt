@@ -21,14 +21,14 @@ pub fn letter<'a>(alloc: Global, v: &Letter, room: &'a mut [u8]) -> Result<(Lett
     ensures text { IfOk result (λ p. string_bytes v.now.text.text ≡ string_bytes p.0.text.text) }
     ensures kind { IfOk result (λ p. v.now.text.kind ≡ p.0.text.kind) }
     ensures bytes { IfOk result
-        (λ p. AlikeLists ⟦<u8 as Readable>⟧.alike v.now.data.items p.0.data.items) }
+        (λ p. AlikeLists ⟦<u8 as Readable>⟧.form.alike v.now.data.items p.0.data.items) }
 {
     round_trip::<Letter>(alloc, v, &[], room)
 }
 
 /// A letter in a mail is alike as letters are: a clause that quotes the trait of the type within.
 pub fn mail<'a>(alloc: Global, v: &Mail, room: &'a mut [u8]) -> Result<(Mail, &'a [u8])>
-    ensures letter { IfOk result (λ p. ⟦<Letter as Readable>⟧.alike v.now.letter p.0.letter) }
+    ensures letter { IfOk result (λ p. ⟦<Letter as Readable>⟧.form.alike v.now.letter p.0.letter) }
 {
     round_trip::<Mail>(alloc, v, &[], room)
 }
@@ -36,11 +36,11 @@ pub fn mail<'a>(alloc: Global, v: &Mail, room: &'a mut [u8]) -> Result<(Mail, &'
 /// Lists, options, arrays, maps and boxes of structs.
 pub fn holders<'a>(alloc: Global, v: &Holders, room: &'a mut [u8]) -> Result<(Holders, &'a [u8])>
     ensures texts { IfOk result
-        (λ p. AlikeLists ⟦<Text as Readable>⟧.alike v.now.texts.items p.0.texts.items) }
+        (λ p. AlikeLists ⟦<Text as Readable>⟧.form.alike v.now.texts.items p.0.texts.items) }
     ensures letter { IfOk result
-        (λ p. ⟦<Option<Letter> as Readable>⟧.alike v.now.letter p.0.letter) }
+        (λ p. ⟦<Option<Letter> as Readable>⟧.form.alike v.now.letter p.0.letter) }
     ensures boxed { IfOk result
-        (λ p. ⟦<Letter as Readable>⟧.alike v.now.boxed.value p.0.boxed.value) }
+        (λ p. ⟦<Letter as Readable>⟧.form.alike v.now.boxed.value p.0.boxed.value) }
 {
     round_trip::<Holders>(alloc, v, &[], room)
 }
@@ -54,7 +54,7 @@ pub fn drawing<'a>(alloc: Global, v: &Drawing, room: &'a mut [u8]) -> Result<(Dr
 
 /// A pair of any type that is lawful.
 pub fn pair<'a>(alloc: Global, v: &Pair<Text>, room: &'a mut [u8]) -> Result<(Pair<Text>, &'a [u8])>
-    ensures first { IfOk result (λ p. ⟦<Text as Readable>⟧.alike v.now.first p.0.first) }
+    ensures first { IfOk result (λ p. ⟦<Text as Readable>⟧.form.alike v.now.first p.0.first) }
 {
     round_trip::<Pair<Text>>(alloc, v, &[], room)
 }
@@ -66,21 +66,21 @@ pub fn borrower<'a>(
     room: &'a mut [u8],
 ) -> Result<(Borrower<'a>, &'a [u8])>
     ensures text { IfOk result (λ p. v.now.lent.text.now ≡ p.0.lent.text.now) }
-    ensures own { IfOk result (λ p. ⟦<Text as Readable>⟧.alike v.now.own p.0.own) }
+    ensures own { IfOk result (λ p. ⟦<Text as Readable>⟧.form.alike v.now.own p.0.own) }
 {
     round_trip::<Borrower<'a>>(alloc, v, &[], room)
 }
 
 /// Twelve tuples deep.
 pub fn deep<'a>(alloc: Global, v: &Deep, room: &'a mut [u8]) -> Result<(Deep, &'a [u8])>
-    ensures { IfOk result (λ p. ⟦<Deep as Readable>⟧.alike v.now p.0) }
+    ensures { IfOk result (λ p. ⟦<Deep as Readable>⟧.form.alike v.now p.0) }
 {
     round_trip::<Deep>(alloc, v, &[], room)
 }
 
 /// Whichever variant it is.
 pub fn message<'a>(alloc: Global, v: &Message, room: &'a mut [u8]) -> Result<(Message, &'a [u8])>
-    ensures { IfOk result (λ p. ⟦<Message as Readable>⟧.alike v.now p.0) }
+    ensures { IfOk result (λ p. ⟦<Message as Readable>⟧.form.alike v.now p.0) }
 {
     round_trip::<Message>(alloc, v, &[], room)
 }
@@ -88,7 +88,7 @@ pub fn message<'a>(alloc: Global, v: &Message, room: &'a mut [u8]) -> Result<(Me
 /// What lies in bytes is read from them.
 pub fn borrower_from_bytes<'a>(alloc: Global, s: &'a [u8]) -> Result<Borrower<'a>>
     ensures { IfOk result
-        (λ v. (rest : List ℕ) × ReadsFront ⟦<Borrower<'a> as Readable>⟧.reads s.now rest v) }
+        (λ v. (rest : List ℕ) × ReadsFront ⟦<Borrower<'a> as Readable>⟧.form.reads s.now rest v) }
 {
     from_bytes::<Borrower<'a>>(alloc, s)
 }
@@ -96,7 +96,7 @@ pub fn borrower_from_bytes<'a>(alloc: Global, s: &'a [u8]) -> Result<Borrower<'a
 /// What keeps none of the bytes is read from them.
 pub fn holders_from_bytes(alloc: Global, s: &[u8]) -> Result<Holders>
     ensures { IfOk result
-        (λ v. (rest : List ℕ) × ReadsFront ⟦<Holders as Readable>⟧.reads s.now rest v) }
+        (λ v. (rest : List ℕ) × ReadsFront ⟦<Holders as Readable>⟧.form.reads s.now rest v) }
 {
     from_bytes_owned::<Holders>(alloc, s)
 }
@@ -115,12 +115,12 @@ pub fn drawing_within(v: &Drawing)
 
 /// What is read writes what was read, whichever type it has.
 fn read_as_written<T: Exact>()
-    ensures { (t : Tree) (v : _) → T.reads t v → T.writes v ≡ Some t }
+    ensures { (t : Tree) (v : _) → T.form.reads t v → T.writes v ≡ Some t }
 {}
 
 /// What is read as a drawing writes what was read.
 pub fn drawing_exact()
-    ensures { (t : Tree) (v : Drawings) → ⟦<Drawing as Readable>⟧.reads t v
+    ensures { (t : Tree) (v : Drawings) → ⟦<Drawing as Readable>⟧.form.reads t v
         → ⟦<Drawing as Serialize>⟧.writes v ≡ Some t }
 {
     read_as_written::<Drawing>();
@@ -128,7 +128,7 @@ pub fn drawing_exact()
 
 /// What is read as a letter writes what was read.
 pub fn letter_exact()
-    ensures { (t : Tree) (v : Letters) → ⟦<Letter as Readable>⟧.reads t v
+    ensures { (t : Tree) (v : Letters) → ⟦<Letter as Readable>⟧.form.reads t v
         → ⟦<Letter as Serialize>⟧.writes v ≡ Some t }
 {
     read_as_written::<Letter>();

@@ -64,7 +64,7 @@ pub fn ping<'a>(alloc: Global, v: &Ping, room: &'a mut [u8]) -> Result<(Ping, &'
 
 /// The variant, and what it holds.
 pub fn command<'a>(alloc: Global, v: &Command, room: &'a mut [u8]) -> Result<(Command, &'a [u8])>
-    ensures { IfOk result (λ p. SameCommand ⟦<SensorReading as Readable>⟧.alike v.now p.0) }
+    ensures { IfOk result (λ p. SameCommand ⟦<SensorReading as Readable>⟧.form.alike v.now p.0) }
 {
     round_trip::<Command>(alloc, v, &[], room)
 }
@@ -72,13 +72,14 @@ pub fn command<'a>(alloc: Global, v: &Command, room: &'a mut [u8]) -> Result<(Co
 /// The name, the readings, the fallback, the gains and the labels.
 pub fn config<'a>(alloc: Global, v: &Config, room: &'a mut [u8]) -> Result<(Config, &'a [u8])>
     ensures name { IfOk result (λ p. string_bytes v.now.name ≡ string_bytes p.0.name) }
-    ensures readings { IfOk result (λ p. AlikeLists ⟦<SensorReading as Readable>⟧.alike
+    ensures readings { IfOk result (λ p. AlikeLists ⟦<SensorReading as Readable>⟧.form.alike
         v.now.readings.items p.0.readings.items) }
     ensures fallback { IfOk result (λ p. v.now.fallback ≡ p.0.fallback) }
-    ensures gains { IfOk result (λ p. AlikeLists ⟦<u16 as Readable>⟧.alike v.now.gains p.0.gains) }
+    ensures gains { IfOk result (λ p. AlikeLists ⟦<u16 as Readable>⟧.form.alike v.now.gains
+        p.0.gains) }
     ensures labels { IfOk result
-        (λ p. AlikeLists (AlikePairs ⟦<u16 as Readable>⟧.alike ⟦<String as Readable>⟧.alike)
-        v.now.labels.entries p.0.labels.entries) }
+        (λ p. AlikeLists (AlikePairs ⟦<u16 as Readable>⟧.form.alike
+        ⟦<String as Readable>⟧.form.alike) v.now.labels.entries p.0.labels.entries) }
 {
     postcard_tree::laws::keys_are_compared_alike();
     round_trip::<Config>(alloc, v, &[], room)
@@ -113,26 +114,26 @@ pub fn event<'a>(alloc: Global, v: &Event, room: &'a mut [u8]) -> Result<(Event,
 
 /// What is read by a type's schema and what is read by the type are of one tree, and leave the same rest.
 pub fn reading_by_schemas<'a>()
-    ensures sensor_reading { AgreesWithItsSchemas ⟦<SensorReading as Readable>⟧.takes
-        ⟦<SensorReading as Readable>⟧.reads ⟦<SensorReading as Readable>⟧.refuses }
-    ensures level { AgreesWithItsSchemas ⟦<Level as Readable>⟧.takes
-        ⟦<Level as Readable>⟧.reads ⟦<Level as Readable>⟧.refuses }
-    ensures log_record { AgreesWithItsSchemas ⟦<LogRecord as Readable>⟧.takes
-        ⟦<LogRecord as Readable>⟧.reads ⟦<LogRecord as Readable>⟧.refuses }
-    ensures address { AgreesWithItsSchemas ⟦<Address as Readable>⟧.takes
-        ⟦<Address as Readable>⟧.reads ⟦<Address as Readable>⟧.refuses }
-    ensures ping { AgreesWithItsSchemas ⟦<Ping as Readable>⟧.takes
-        ⟦<Ping as Readable>⟧.reads ⟦<Ping as Readable>⟧.refuses }
-    ensures command { AgreesWithItsSchemas ⟦<Command as Readable>⟧.takes
-        ⟦<Command as Readable>⟧.reads ⟦<Command as Readable>⟧.refuses }
-    ensures config { AgreesWithItsSchemas ⟦<Config as Readable>⟧.takes
-        ⟦<Config as Readable>⟧.reads ⟦<Config as Readable>⟧.refuses }
-    ensures packet { AgreesWithItsSchemas ⟦<Packet<'a> as Readable>⟧.takes
-        ⟦<Packet<'a> as Readable>⟧.reads ⟦<Packet<'a> as Readable>⟧.refuses }
-    ensures report { AgreesWithItsSchemas ⟦<Report as Readable>⟧.takes
-        ⟦<Report as Readable>⟧.reads ⟦<Report as Readable>⟧.refuses }
-    ensures event { AgreesWithItsSchemas ⟦<Event as Readable>⟧.takes
-        ⟦<Event as Readable>⟧.reads ⟦<Event as Readable>⟧.refuses }
+    ensures sensor_reading { AgreesWithItsSchemas ⟦<SensorReading as Readable>⟧.form.takes
+        ⟦<SensorReading as Readable>⟧.form.reads ⟦<SensorReading as Readable>⟧.form.refuses }
+    ensures level { AgreesWithItsSchemas ⟦<Level as Readable>⟧.form.takes
+        ⟦<Level as Readable>⟧.form.reads ⟦<Level as Readable>⟧.form.refuses }
+    ensures log_record { AgreesWithItsSchemas ⟦<LogRecord as Readable>⟧.form.takes
+        ⟦<LogRecord as Readable>⟧.form.reads ⟦<LogRecord as Readable>⟧.form.refuses }
+    ensures address { AgreesWithItsSchemas ⟦<Address as Readable>⟧.form.takes
+        ⟦<Address as Readable>⟧.form.reads ⟦<Address as Readable>⟧.form.refuses }
+    ensures ping { AgreesWithItsSchemas ⟦<Ping as Readable>⟧.form.takes
+        ⟦<Ping as Readable>⟧.form.reads ⟦<Ping as Readable>⟧.form.refuses }
+    ensures command { AgreesWithItsSchemas ⟦<Command as Readable>⟧.form.takes
+        ⟦<Command as Readable>⟧.form.reads ⟦<Command as Readable>⟧.form.refuses }
+    ensures config { AgreesWithItsSchemas ⟦<Config as Readable>⟧.form.takes
+        ⟦<Config as Readable>⟧.form.reads ⟦<Config as Readable>⟧.form.refuses }
+    ensures packet { AgreesWithItsSchemas ⟦<Packet<'a> as Readable>⟧.form.takes
+        ⟦<Packet<'a> as Readable>⟧.form.reads ⟦<Packet<'a> as Readable>⟧.form.refuses }
+    ensures report { AgreesWithItsSchemas ⟦<Report as Readable>⟧.form.takes
+        ⟦<Report as Readable>⟧.form.reads ⟦<Report as Readable>⟧.form.refuses }
+    ensures event { AgreesWithItsSchemas ⟦<Event as Readable>⟧.form.takes
+        ⟦<Event as Readable>⟧.form.reads ⟦<Event as Readable>⟧.form.refuses }
 {
     reading_by_schemas_agrees::<SensorReading>();
     reading_by_schemas_agrees::<Level>();

@@ -1,11 +1,12 @@
 -- The frames of a text's lines, put some at a time.
-use Rattle.std.proofs.Common.{◌≡◌, ℕ, Bool, true, false, List, [], ◌∷◌, ◌++◌, length, refl, sym, ap, ◌∙◌, append_assoc, Option}
+use Rattle.std.proofs.Common.{◌≡◌, ℕ, Bool, true, false, List, [], ◌∷◌, ◌++◌, length, refl, sym, ap, ◌∙◌, append_assoc}
 use Rattle.std.proofs.lemmas.List.{append-nil}
 use Rattle.hex.specs.Hex.{encode_with}
+use Rattle.line_io.specs.Device.{LineState}
 use Rattle.line_io.specs.Transfers.{BrokeOff}
 use Rattle.link.specs.Run.{Send, written, session_line}
 use Rattle.link.specs.Fates.{clean_after_all}
-use Rattle.framed_lib.specs.Output.{Put}
+use Rattle.framed_lib.specs.Output.{Puts}
 use Rattle.framed_lib.specs.Program.{framed_text, shown, shown_end}
 use Rattle.framed_lib.specs.Sending.{lines_in, AreSendsOf, IsSendOfLine, Sent}
 use Rattle.framed_lib.proofs.DigitsLemmas.{digits-append}
@@ -20,10 +21,10 @@ framed-is : (hex : Bool) (a : List ℕ) → framed_text hex a ≡ shown hex a ++
 framed-is false a = sym (append-nil a)
 framed-is true a = refl
 
-pub none-put : (w : Option (List ℕ)) (f : ℕ) (hex : Bool) → Put w w f f [] [] (shown hex [])
+pub none-put : (w : LineState) (hex : Bool) → Puts w w [] [] (shown hex [])
 unfolding encode_with
-none-put w f false = put-none w f []
-none-put w f true = put-none w f []
+none-put w false = put-none w []
+none-put w true = put-none w []
 
 module _ (hex : Bool) (sentinel : ℕ) where
   -- the frames of the first lines as they are written
@@ -51,10 +52,10 @@ module _ (hex : Bool) (sentinel : ℕ) where
       let d = Sent-split text rest done sends s a in
       ap text_of_all (d.1 ∙ (ap (λ x. done ++ x) (none-sent rest d.0 none d.2) ∙ append-nil done)) ∙ framed-is hex (session_line sentinel false done)
 
-  module _ {u v w : Option (List ℕ)} {f g h : ℕ} {held : List ℕ} (text rest : List ℕ) (done : List Send) (s : Sent text rest done) (p : Put u v f g [] held (shown_of done)) where
+  module _ {u v w : LineState} {held : List ℕ} (text rest : List ℕ) (done : List Send) (s : Sent text rest done) (p : Puts u v [] held (shown_of done)) where
     -- the writer failed at a line
-    pub line-broke : {calls : ℕ} (line tail : List ℕ) (clean : Bool) (x : Send) → lines_in rest ≡ line ∷ lines_in tail → IsSendOfLine line x → clean ≡ clean_after_all false done
-        → BrokeOff v w g h calls (held ++ shown hex (written sentinel clean x)) → (sends : List Send) → AreSendsOf (lines_in text) sends → BrokeOff u w f h calls (text_of_all sends)
+    pub line-broke : (line tail : List ℕ) (clean : Bool) (x : Send) → lines_in rest ≡ line ∷ lines_in tail → IsSendOfLine line x → clean ≡ clean_after_all false done
+        → BrokeOff v w (held ++ shown hex (written sentinel clean x)) → (sends : List Send) → AreSendsOf (lines_in text) sends → BrokeOff u w (text_of_all sends)
     line-broke line tail clean x e o c q sends a =
         let d = Sent-split text tail (done ++ x ∷ []) sends (Sent-more text rest line tail done x s e o) a in
         let later = later-shown (done ++ x ∷ []) d.0 in
@@ -62,9 +63,9 @@ module _ (hex : Bool) (sentinel : ℕ) where
         (ap text_of_all d.1 ∙ (framed-parts (done ++ x ∷ []) d.0 ∙ (ap (λ t. t ++ later) (shown-more clean done x c) ∙ append_assoc (shown_of done) (shown hex (written sentinel clean x)) later))) p q
 
     -- it failed at the end
-    pub end-broke : {calls : ℕ} → length rest ≡ 0 → BrokeOff v w g h calls (held ++ shown_end hex) → (sends : List Send) → AreSendsOf (lines_in text) sends → BrokeOff u w f h calls (text_of_all sends)
+    pub end-broke : length rest ≡ 0 → BrokeOff v w (held ++ shown_end hex) → (sends : List Send) → AreSendsOf (lines_in text) sends → BrokeOff u w (text_of_all sends)
     end-broke none q sends a = put-breaks _ (shown_end hex) [] (all-shown text rest done sends s none a ∙ ap (λ t. shown_of done ++ t) (sym (append-nil (shown_end hex)))) p q
 
     -- all was put
-    pub all-put : {kept : List ℕ} → length rest ≡ 0 → Put v w g h held kept (shown_end hex) → (sends : List Send) → AreSendsOf (lines_in text) sends → Put u w f h [] kept (text_of_all sends)
+    pub all-put : {kept : List ℕ} → length rest ≡ 0 → Puts v w held kept (shown_end hex) → (sends : List Send) → AreSendsOf (lines_in text) sends → Puts u w [] kept (text_of_all sends)
     all-put none q sends a = put-done _ (all-shown text rest done sends s none a) p q

@@ -2,7 +2,7 @@
 use Rattle.std.proofs.Math.Seq.{drop-cons, take-length}
 use Rattle.std.proofs.Common.{take, drop, get_or, add-one, ◌+◌, ◌-◌, ◌≡◌, ℕ, zero, suc, ◌<◌, ◌≤◌, ◌==◌, Bool, true, false, ◌&&◌, ◌||◌, if◌then◌else◌, arith, List, [], ◌∷◌, ◌++◌, length, refl, sym, ap, ◌∙◌}
 use Rattle.std.specs.List.{list_all, AllZip}
-use Rattle.std.specs.Prelude.{flat_map, string_bytes}
+use Rattle.std.specs.Prelude.{flat_map, string_bytes, Option, Some, None}
 use Rattle.std.specs.declared.string.String.{String}
 use Rattle.std.proofs.lemmas.Grind.{flat_map-append}
 use Rattle.std.proofs.lemmas.Bool.{eqb-true, ne_eqb}
@@ -10,14 +10,13 @@ use Rattle.std.proofs.lemmas.List.{take-append-drop, length-drop, length-take}
 use Rattle.memchr.specs.Find.{is_byte2}
 use Rattle.postcard_tree.specs.Tree.{Tree, byte, number, character, sequence, group, Trees, end, part}
 use Rattle.postcard_tree.specs.Reading.{ReadsAll, ReadsByte, ReadsText}
-use Rattle.line_io.specs.Transfers.{Reach, ended, stopped, failed}
 use Rattle.link.specs.Stream.{Verdict}
 use Rattle.link.specs.Pushes.{Matches}
-use Rattle.link.specs.Listening.{IsReceived}
+use Rattle.link.specs.Each.{IsReceivedNow}
 use Rattle.link.specs.declared.receiver.Answer.{Answer}
 use Rattle.link.specs.declared.receiver.Answer.TheVariants.{Value, Damaged, TooLong, Cut}
-use Rattle.link.specs.declared.listening.End.{End}
-use Rattle.link.specs.declared.listening.End.TheVariants.{Ended, ReadFault, NoMemory}
+use Rattle.line_io.specs.declared.transfers.End.{End}
+use Rattle.line_io.specs.declared.transfers.End.TheVariants.{Ended, ReadFault, NoMemory}
 use Rattle.framed_lib.specs.Lines.{holds_text, reads_text, AreAnswers, bytes_in, text_in, escape, value_line, line_of, lines_of, is_value, answer_line, answer_lines, has_value}
 
 -- a text up to a byte that is escaped, and what comes after it
@@ -107,15 +106,10 @@ values-same [] (v ∷ vs) h = absurd h
 values-same (a ∷ more) [] h = absurd h
 values-same (a ∷ more) (v ∷ vs) h = ap (λ x. x && list_all has_value more) (value-same a v h.0) ∙ ap (λ x. is_value v && x) (values-same more vs h.1)
 
--- how far a reception reads
-abbrev pub reach_of : End → Reach
-reach_of Ended = ended
-reach_of ReadFault = failed
-reach_of NoMemory = stopped
-
 -- the answers that were received, as those of the stream
-pub received : {A : Type 0} → (strict : Bool) (sentinel : ℕ) (e : End) (answers : List (Answer (String A))) (stream : List ℕ) → IsReceived (holds_text strict) reads_text 1024 sentinel e answers stream
-    → (verdicts : List Verdict) × AreAnswers strict sentinel (reach_of e) stream verdicts × AllZip (Matches reads_text) answers verdicts
-received strict sentinel Ended answers stream h = (h.verdicts, h.all, h.matching)
-received strict sentinel ReadFault answers stream h = (h.verdicts, h.given, h.matching)
-received strict sentinel NoMemory answers stream h = (h.verdicts, h.begins, h.matching)
+pub received : {A : Type 0} → (strict : Bool) (sentinel : ℕ) (e : Option End) (answers : List (Answer (String A))) (stream : List ℕ) → IsReceivedNow (holds_text strict) reads_text 1024 sentinel e answers stream
+    → (verdicts : List Verdict) × AreAnswers strict sentinel e stream verdicts × AllZip (Matches reads_text) answers verdicts
+received strict sentinel None answers stream h = (h.verdicts, h.given, h.matching)
+received strict sentinel (Some Ended) answers stream h = (h.verdicts, h.all, h.matching)
+received strict sentinel (Some ReadFault) answers stream h = (h.verdicts, h.given, h.matching)
+received strict sentinel (Some NoMemory) answers stream h = (h.verdicts, h.begins, h.matching)

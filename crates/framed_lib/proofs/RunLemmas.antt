@@ -1,11 +1,12 @@
 -- How a run ends, from how its work and its last line ended.
 use Rattle.std.proofs.Common.{◌≡◌, ℕ, ◌<◌, ◌≤◌, inl, inr, Bool, true, false, List, ◌++◌, sym, subst, arith, if◌then◌else◌}
-use Rattle.std.specs.Prelude.{Result, Ok, Err}
+use Rattle.std.specs.Prelude.{Result, Ok, Err, Option}
 use Rattle.framed_lib.specs.declared.arguments.Mode.{Mode}
 use Rattle.framed_lib.specs.declared.arguments.Mode.TheVariants.{Pack, Unpack, Strict}
 use Rattle.framed_lib.specs.declared.stop.Stop.{Stop}
 use Rattle.framed_lib.specs.declared.stop.Stop.TheVariants as stop
-use Rattle.line_io.specs.Transfers.{Fate, whole, broken, Reach}
+use Rattle.line_io.specs.Transfers.{Fate, whole, broken}
+use Rattle.line_io.specs.declared.transfers.End.{End}
 use Rattle.framed_lib.specs.Program.{Program, RunsToItsEnd, LacksMemory, SayingFails, FailsByDevice, read_failed, write_failed, no_memory}
 use Rattle.framed_lib.specs.Working.{Before, Worked, Reports}
 use Rattle.framed_lib.proofs.WorkLemmas.{CarriesOut-map}
@@ -22,18 +23,18 @@ program-low Strict hex sentinel text out said status (inl p) = low _ status p.st
 program-low Strict hex sentinel text out said status (inr p) = (let s = p.status_is in omega arith)
 
 -- how a run ends
-pub record Ends (mode : Mode) (hex : Bool) (sentinel : ℕ) (status : ℕ) (reading : Reach → List ℕ → Type 0) (writing saying : Fate → List ℕ → Type 0) : Type 0 where
+pub record Ends (mode : Mode) (hex : Bool) (sentinel : ℕ) (status : ℕ) (reading : Option End → List ℕ → Type 0) (writing saying : Fate → List ℕ → Type 0) : Type 0 where
   pub finished : status < 3 → RunsToItsEnd mode hex sentinel status reading writing saying
   pub failed : status ≡ 3 → FailsByDevice mode hex sentinel reading writing saying
   pub memory : status ≡ 4 → LacksMemory mode hex sentinel reading writing (saying whole)
   pub range : status ≤ 4
 
-ends-failed : (mode : Mode) (hex : Bool) (sentinel : ℕ) (status : ℕ) (r : Reach → List ℕ → Type 0) (w t : Fate → List ℕ → Type 0) → status ≡ 3 → FailsByDevice mode hex sentinel r w t
+ends-failed : (mode : Mode) (hex : Bool) (sentinel : ℕ) (status : ℕ) (r : Option End → List ℕ → Type 0) (w t : Fate → List ℕ → Type 0) → status ≡ 3 → FailsByDevice mode hex sentinel r w t
     → Ends mode hex sentinel status r w t
 ends-failed mode hex sentinel status r w t e fails =
     record { finished = λ l. absurd (omega arith); failed = λ e. fails; memory = λ m. absurd (omega arith); range = omega arith }
 
-module _ {D : Type 0} (mid new : D) (mode : Mode) (hex : Bool) (sentinel : ℕ) (r : Reach → List ℕ → Type 0) (w : Fate → List ℕ → Type 0) (t : D → Fate → List ℕ → Type 0) (u : Fate → List ℕ → Type 0)
+module _ {D : Type 0} (mid new : D) (mode : Mode) (hex : Bool) (sentinel : ℕ) (r : Option End → List ℕ → Type 0) (w : Fate → List ℕ → Type 0) (t : D → Fate → List ℕ → Type 0) (u : Fate → List ℕ → Type 0)
     (ww : (a b : List ℕ) → t mid whole a → u whole b → t new whole (a ++ b)) (wb : (a b : List ℕ) → t mid whole a → u broken b → t new broken (a ++ b)) where
   -- a last line that was said, and one that wasn't
   told : (line : List ℕ) → u whole line → (said : List ℕ) → Before line (t mid whole) (said ++ line) → t new whole (said ++ line)
@@ -42,8 +43,8 @@ module _ {D : Type 0} (mid new : D) (mode : Mode) (hex : Bool) (sentinel : ℕ) 
   untold : (line : List ℕ) → u broken line → (said : List ℕ) → Before line (t mid whole) (said ++ line) → t new broken (said ++ line)
   untold line p said h = rw h.1 (wb h.0 line h.2 p)
 
-  same : (reach : Reach) (text : List ℕ) → r reach text → r reach text
-  same reach text x = x
+  same : (end : Option End) (text : List ℕ) → r end text → r end text
+  same end text x = x
 
   fails : (status : ℕ) → status ≡ 3 → FailsByDevice mode hex sentinel r w (t new) → Ends mode hex sentinel status r w (t new)
   fails status e h = ends-failed mode hex sentinel status r w (t new) e h

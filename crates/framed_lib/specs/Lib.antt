@@ -3,6 +3,7 @@ pub mod Output
 pub mod Pieces
 pub mod Program
 pub mod Sending
+pub mod Whole
 pub mod Words
 pub mod Working
 pub mod Telling

@@ -1,14 +1,15 @@
 -- The lines that say what a stream holds.
-use Rattle.std.specs.Prelude.{ℕ, ◌==◌, Bool, true, false, List, [], ◌∷◌, ◌++◌, flat_map, codes, string_bytes, if◌then◌else◌}
+use Rattle.std.specs.Prelude.{ℕ, ◌==◌, Bool, true, false, List, [], ◌∷◌, ◌++◌, flat_map, codes, string_bytes, if◌then◌else◌, Option, Some}
 use Rattle.std.specs.declared.string.String.{String}
 use Rattle.postcard_tree.specs.Tree.{Tree, byte, sequence, Trees, end, part}
 use Rattle.postcard_tree.specs.Reading.{TakesText, ReadsText}
 use Rattle.postcard.specs.Frames.{Holds}
-use Rattle.link.specs.Stream.{Verdict, value, damaged, too_long, cut, HoldsExactly, Given, Answers}
 use Rattle.link.specs.Listening.{AnswersBeginProperly}
+use Rattle.link.specs.Stream.{Verdict, value, damaged, too_long, cut, HoldsExactly, Given, Answers}
 use Rattle.link.specs.declared.receiver.Answer.{Answer}
 use Rattle.link.specs.declared.receiver.Answer.TheVariants.{Value, Damaged, TooLong, Cut}
-use Rattle.line_io.specs.Transfers.{Reach, ended, stopped, failed}
+use Rattle.line_io.specs.declared.transfers.End.{End}
+use Rattle.line_io.specs.declared.transfers.End.TheVariants.{Ended, NoMemory}
 
 -- which texts a stretch holds: a front of its message spells one, or strictly it is the frame that sending makes of one
 abbrev pub holds_text : Bool → List ℕ → Tree → Type 0
@@ -19,15 +20,15 @@ holds_text true = HoldsExactly TakesText
 abbrev pub reads_text : {A : Type 0} → Tree → String A → Type 0
 reads_text t s = ReadsText t (string_bytes s)
 
--- The answers to a stream in stretches of at most 1024 bytes, which sentinels end, by how far it was read: all of them;
--- those that are given before its end is known; or the first of them, and not all.
-abbrev pub AreAnswers : Bool → ℕ → Reach → List ℕ → List Verdict → Type 0
-AreAnswers strict sentinel ended stream verdicts =
+-- The answers to a stream in stretches of at most 1024 bytes, which sentinels end, by how far it was read: all of them where that is
+-- to its end, the first of them and not all where memory was wanting, and else those that are given before its end is known.
+abbrev pub AreAnswers : Bool → ℕ → Option End → List ℕ → List Verdict → Type 0
+AreAnswers strict sentinel (Some Ended) stream verdicts =
     Answers (holds_text strict) 1024 sentinel stream verdicts
-AreAnswers strict sentinel failed stream verdicts =
-    Given (holds_text strict) 1024 sentinel stream verdicts
-AreAnswers strict sentinel stopped stream verdicts =
+AreAnswers strict sentinel (Some NoMemory) stream verdicts =
     AnswersBeginProperly (holds_text strict) 1024 sentinel stream verdicts
+AreAnswers strict sentinel _ stream verdicts =
+    Given (holds_text strict) 1024 sentinel stream verdicts
 
 -- the bytes of these parts, each of which is one
 abbrev pub bytes_in : Trees → List ℕ

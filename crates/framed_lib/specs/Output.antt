@@ -1,29 +1,23 @@
 -- Bytes that are held back before they are written.
-use Rattle.std.specs.Prelude.{◌≡◌, ℕ, List, [], ◌++◌, Option}
+use Rattle.std.specs.Prelude.{◌≡◌, ℕ, List, [], ◌++◌}
 use Rattle.std.proofs.Common.{sym, ap, ◌∙◌, append_assoc, append-nil}
+use Rattle.line_io.specs.Device.{LineState}
 use Rattle.line_io.specs.Transfers.{WentOut, BrokeOff}
 use Rattle.line_io.specs.Calls.{WentOut-none, WentOut-then, BrokeOff-then}
 
 -- The bytes were put behind those that were held: a front went out, and the others are held then.
-pub record Put (old new : Option (List ℕ)) (before after : ℕ)
-    (held kept bytes : List ℕ) : Type 0 where
+pub record Puts (old new : LineState) (held kept bytes : List ℕ) : Type 0 where
   pub sent : List ℕ
   pub bytes_are : held ++ bytes ≡ sent ++ kept
-  pub went : WentOut old new before after sent
-
--- What happened to a device, and to the bytes that were held for it, where bytes were put.
-abbrev pub Puts : {D : Type 0} → (D → Option (List ℕ)) → (D → ℕ)
-    → D → D → List ℕ → List ℕ → List ℕ → Type 0
-Puts written faults old new held kept bytes =
-    Put (written old) (written new) (faults old) (faults new) held kept bytes
+  pub went : WentOut old new sent
 
 -- nothing was put
-pub put-none : (w : Option (List ℕ)) (f : ℕ) (held : List ℕ) → Put w w f f held held []
-put-none w f held = record { sent = []; bytes_are = append-nil held; went = WentOut-none w f }
+pub put-none : (w : LineState) (held : List ℕ) → Puts w w held held []
+put-none w held = record { sent = []; bytes_are = append-nil held; went = WentOut-none w }
 
 -- some bytes were put, and then others
-pub put-then : {u v w : Option (List ℕ)} {f g h : ℕ} {x y z a b : List ℕ} → Put u v f g x y a
-    → Put v w g h y z b → Put u w f h x z (a ++ b)
+pub put-then : {u v w : LineState} {x y z a b : List ℕ} → Puts u v x y a → Puts v w y z b
+    → Puts u w x z (a ++ b)
 put-then {x = x} {y = y} {z = z} {a = a} {b = b} p q = record {
   sent = p.sent ++ q.sent;
   bytes_are =
@@ -33,9 +27,8 @@ put-then {x = x} {y = y} {z = z} {a = a} {b = b} p q = record {
 }
 
 -- some bytes were put, and then the device broke off
-pub put-broke : {u v w : Option (List ℕ)} {f g h calls : ℕ} {x y a : List ℕ} (b : List ℕ)
-    → Put u v f g x y a → BrokeOff v w g h calls (y ++ b)
-    → BrokeOff u w f h calls (x ++ (a ++ b))
+pub put-broke : {u v w : LineState} {x y a : List ℕ} (b : List ℕ) → Puts u v x y a
+    → BrokeOff v w (y ++ b) → BrokeOff u w (x ++ (a ++ b))
 put-broke {x = x} {y = y} {a = a} b p q =
     let same : p.sent ++ (y ++ b) ≡ x ++ (a ++ b) =
     sym (append_assoc p.sent y b) ∙ (ap (λ t. t ++ b) (sym p.bytes_are) ∙ append_assoc x a b) in

@@ -1,8 +1,10 @@
 -- What the program writes, what it says, and its status.
-use Rattle.std.specs.Prelude.{◌≡◌, ℕ, Bool, true, false, List, [], ◌∷◌, ◌++◌, ◌⊎◌, codes, if◌then◌else◌, Ok, IsErr}
+use Rattle.std.specs.Prelude.{◌≡◌, ℕ, Bool, true, false, List, [], ◌∷◌, ◌++◌, ◌⊎◌, codes, if◌then◌else◌, Ok, IsErr, Option, Some}
 use Rattle.std.specs.List.{list_all}
 use Rattle.hex.specs.Hex.{encode_lower, decode_of}
-use Rattle.line_io.specs.Transfers.{Fate, whole, broken, Reach, ended, stopped, failed}
+use Rattle.line_io.specs.Transfers.{Fate, whole, broken}
+use Rattle.line_io.specs.declared.transfers.End.{End}
+use Rattle.line_io.specs.declared.transfers.End.TheVariants.{Ended, ReadFault, NoMemory}
 use Rattle.link.specs.Stream.{Verdict}
 use Rattle.link.specs.Run.{Send, session_line}
 use Rattle.framed_lib.specs.declared.arguments.Mode.{Mode}
@@ -72,7 +74,7 @@ pub record Unpacks (strict hex : Bool) (sentinel : ℕ)
   pub stream : List ℕ
   pub stands : StandsFor hex text stream
   pub verdicts : List Verdict
-  pub are : AreAnswers strict sentinel ended stream verdicts
+  pub are : AreAnswers strict sentinel (Some Ended) stream verdicts
   pub out_is : out ≡ lines_of verdicts
   pub said_is : said ≡ []
   pub status_is : status ≡ (if list_all is_value verdicts then 0 else 1)
@@ -93,16 +95,39 @@ Program Strict hex sentinel text out said status =
     Unpacks true hex sentinel text out said status ⊎ RefusesHex hex text out said status
 
 -- what is written for a stream that was read so far: the lines of its answers
-abbrev pub WritesLines : Bool → ℕ → Reach → List ℕ → List ℕ → Type 0
-WritesLines strict sentinel reach stream out = (verdicts : List Verdict)
-    × AreAnswers strict sentinel reach stream verdicts × (out ≡ lines_of verdicts)
+abbrev pub WritesLines : Bool → ℕ → Option End → List ℕ → List ℕ → Type 0
+WritesLines strict sentinel end stream out = (verdicts : List Verdict)
+    × AreAnswers strict sentinel end stream verdicts × (out ≡ lines_of verdicts)
 
--- What is written for the text that was read before a read or a write failed: nothing while lines are sent, or where a text is to
--- be hexadecimal.
-abbrev pub WritesGiven : Mode → Bool → ℕ → List ℕ → List ℕ → Type 0
-WritesGiven Unpack false sentinel text out = WritesLines false sentinel failed text out
-WritesGiven Strict false sentinel text out = WritesLines true sentinel failed text out
-WritesGiven _ _ sentinel text out = out ≡ []
+-- What is written for a text before all of it was read: nothing while lines are sent, or where a text is to be hexadecimal.
+abbrev pub WritesSoFar : Mode → Bool → ℕ → Option End → List ℕ → List ℕ → Type 0
+WritesSoFar Unpack false sentinel end text out = WritesLines false sentinel end text out
+WritesSoFar Strict false sentinel end text out = WritesLines true sentinel end text out
+WritesSoFar _ _ sentinel end text out = out ≡ []
+
+-- The lines of the first answers to a stream that was read as far as this front: not all that it has.
+pub record WritesFirst (strict : Bool) (sentinel : ℕ) (stream out : List ℕ) : Type 0 where
+  pub front : List ℕ
+  pub rest : List ℕ
+  pub stream_is : stream ≡ front ++ rest
+  pub first : WritesLines strict sentinel (Some NoMemory) front out
+
+-- What is written for hexadecimal text that was read to its end, where one of its values found no memory: the lines before that one.
+abbrev pub LacksBehind : Mode → Bool → ℕ → List ℕ → List ℕ → Type 0
+LacksBehind Unpack true sentinel text out =
+    (stream : List ℕ) × StandsFor true text stream × WritesFirst false sentinel stream out
+LacksBehind Strict true sentinel text out =
+    (stream : List ℕ) × StandsFor true text stream × WritesFirst true sentinel stream out
+LacksBehind _ _ sentinel text out = ⊥
+
+-- What is written and said for a text before 'no memory' is said, by how far it was read: to where no memory was found for more, or to its
+-- end.
+abbrev pub RunsOutOfMemory : Mode → Bool → ℕ → Option End → List ℕ → List ℕ → List ℕ → Type 0
+RunsOutOfMemory mode hex sentinel (Some NoMemory) text out said =
+    WritesSoFar mode hex sentinel (Some NoMemory) text out × (said ≡ [])
+RunsOutOfMemory mode hex sentinel (Some Ended) text out said =
+    LacksBehind mode hex sentinel text out × (said ≡ [])
+RunsOutOfMemory mode hex sentinel _ text out said = ⊥
 
 -- The refusals of the text's first lines, as many as were looked at.
 pub record SaysFirst (text said : List ℕ) : Type 0 where
@@ -113,81 +138,53 @@ pub record SaysFirst (text said : List ℕ) : Type 0 where
   pub are : AreSendsOf seen sends
   pub said_is : said ≡ refusals 1 sends
 
--- The lines of the first answers to a stream that was read as far as this front: not all that it has.
-pub record WritesFirst (strict : Bool) (sentinel : ℕ) (stream out : List ℕ) : Type 0 where
-  pub front : List ℕ
-  pub rest : List ℕ
-  pub stream_is : stream ≡ front ++ rest
-  pub first : WritesLines strict sentinel stopped front out
-
--- What is written and said for a text before 'no memory' is said, by how far it was read: to its end, or to where no
--- memory was found for more. While lines are sent nothing is written, and of a text that wasn't read to its end nothing is
--- said. Nothing is written of a text that is to be hexadecimal before all of it was read and its bytes were found memory.
-abbrev pub LacksLines : Bool → Bool → ℕ → Reach → List ℕ → List ℕ → List ℕ → Type 0
-LacksLines strict false sentinel stopped text out said =
-    (said ≡ []) × WritesLines strict sentinel stopped text out
-LacksLines strict true sentinel stopped text out said = (said ≡ []) × (out ≡ [])
-LacksLines strict true sentinel ended text out said =
-    (said ≡ []) × ((out ≡ [])
-    ⊎ ((stream : List ℕ) × StandsFor true text stream × WritesFirst strict sentinel stream out))
-LacksLines strict _ sentinel _ text out said = ⊥
-
--- The same by the mode: `pack` writes and says nothing before all its text is there.
-abbrev pub RunsOutOfMemory : Mode → Bool → ℕ → Reach → List ℕ → List ℕ → List ℕ → Type 0
-RunsOutOfMemory Pack hex sentinel stopped text out said = (out ≡ []) × (said ≡ [])
-RunsOutOfMemory Pack hex sentinel _ text out said = ⊥
-RunsOutOfMemory Unpack hex sentinel reach text out said = LacksLines false hex sentinel reach text out said
-RunsOutOfMemory Strict hex sentinel reach text out said = LacksLines true hex sentinel reach text out said
-
 -- A text was read so far, this was due for it, and so it went out.
-pub record CarriesOut (due : List ℕ → List ℕ → List ℕ → Type 0) (reach : Reach) (fate : Fate)
-    (reading : Reach → List ℕ → Type 0) (writing : Fate → List ℕ → Type 0)
+pub record CarriesOut (due : List ℕ → List ℕ → List ℕ → Type 0) (end : Option End) (fate : Fate)
+    (reading : Option End → List ℕ → Type 0) (writing : Fate → List ℕ → Type 0)
     (says : List ℕ → Type 0) : Type 0 where
   pub text : List ℕ
   pub out : List ℕ
   pub said : List ℕ
   pub is : due text out said
-  pub read : reading reach text
+  pub read : reading end text
   pub wrote : writing fate out
   pub told : says said
 
 -- Status 0, 1 and 2: the text was read to its end, and the program's text went out. No device failed.
-abbrev pub RunsToItsEnd : Mode → Bool → ℕ → ℕ → (Reach → List ℕ → Type 0)
+abbrev pub RunsToItsEnd : Mode → Bool → ℕ → ℕ → (Option End → List ℕ → Type 0)
     → (writing saying : Fate → List ℕ → Type 0) → Type 0
 RunsToItsEnd mode hex sentinel status reading writing saying =
-    CarriesOut (λ text out said. Program mode hex sentinel text out said status) ended whole
+    CarriesOut (λ text out said. Program mode hex sentinel text out said status) (Some Ended) whole
     reading writing (saying whole)
 
--- What is to be written and said for a text, by how far it was read, where the writer may fail. Reading may stop there, with the
--- lines of what was read by then to be written.
-abbrev pub IsToWrite : Mode → Bool → ℕ → Reach → List ℕ → List ℕ → List ℕ → Type 0
-IsToWrite mode hex sentinel ended text out said =
+-- What is to be written and said for a text, by how far it was read: to its end, to where memory was wanting, to a fault, or to where
+-- the writer failed.
+abbrev pub IsToWrite : Mode → Bool → ℕ → Option End → List ℕ → List ℕ → List ℕ → Type 0
+IsToWrite mode hex sentinel (Some Ended) text out said =
     ((status : ℕ) × Program mode hex sentinel text out said status)
-    ⊎ RunsOutOfMemory mode hex sentinel ended text out said
-IsToWrite mode hex sentinel stopped text out said = RunsOutOfMemory mode hex sentinel stopped text out said
-    ⊎ (WritesGiven mode hex sentinel text out × (said ≡ []))
-IsToWrite mode hex sentinel failed text out said =
-    WritesGiven mode hex sentinel text out × (said ≡ [])
+    ⊎ RunsOutOfMemory mode hex sentinel (Some Ended) text out said
+IsToWrite mode hex sentinel end text out said =
+    WritesSoFar mode hex sentinel end text out × (said ≡ [])
 
 -- A read failed: what the text so far gives was written, and 'read failed' was said.
-abbrev pub ReadFails : Mode → Bool → ℕ → (Reach → List ℕ → Type 0)
+abbrev pub ReadFails : Mode → Bool → ℕ → (Option End → List ℕ → Type 0)
     → (Fate → List ℕ → Type 0) → (List ℕ → Type 0) → Type 0
 ReadFails mode hex sentinel reading writing says =
-    CarriesOut (IsToWrite mode hex sentinel failed) failed whole
+    CarriesOut (IsToWrite mode hex sentinel (Some ReadFault)) (Some ReadFault) whole
     reading writing (λ said. says (said ++ read_failed))
 
 -- A write failed: the writer has a beginning, and 'write failed' was said after what was said before.
-abbrev pub WriteFails : Mode → Bool → ℕ → (Reach → List ℕ → Type 0)
+abbrev pub WriteFails : Mode → Bool → ℕ → (Option End → List ℕ → Type 0)
     → (Fate → List ℕ → Type 0) → (List ℕ → Type 0) → Type 0
 WriteFails mode hex sentinel reading writing says =
-    (reach : Reach) × CarriesOut (IsToWrite mode hex sentinel reach) reach broken
+    (end : Option End) × CarriesOut (IsToWrite mode hex sentinel end) end broken
     reading writing (λ said. says (said ++ write_failed))
 
 -- Memory ran out: what was answered by then went out, and 'no memory' was said after what was said before.
-abbrev pub LacksMemory : Mode → Bool → ℕ → (Reach → List ℕ → Type 0)
+abbrev pub LacksMemory : Mode → Bool → ℕ → (Option End → List ℕ → Type 0)
     → (Fate → List ℕ → Type 0) → (List ℕ → Type 0) → Type 0
 LacksMemory mode hex sentinel reading writing says =
-    (reach : Reach) × CarriesOut (RunsOutOfMemory mode hex sentinel reach) reach whole
+    (end : Option End) × CarriesOut (RunsOutOfMemory mode hex sentinel end) end whole
     reading writing (λ said. says (said ++ no_memory))
 
 -- what is said of a text before anything is written
@@ -196,14 +193,14 @@ SaysBeforehand Pack hex text said = SaysFirst text said
 SaysBeforehand _ hex text said = IsNotHex hex text × (said ≡ bad_hex)
 
 -- Standard error failed while the refusals or 'bad hex' were said: nothing was written.
-abbrev pub SaysInVain : Mode → Bool → (Reach → List ℕ → Type 0)
+abbrev pub SaysInVain : Mode → Bool → (Option End → List ℕ → Type 0)
     → (Fate → List ℕ → Type 0) → (List ℕ → Type 0) → Type 0
 SaysInVain mode hex reading writing says =
-    CarriesOut (λ text out said. (out ≡ []) × SaysBeforehand mode hex text said) ended whole
+    CarriesOut (λ text out said. (out ≡ []) × SaysBeforehand mode hex text said) (Some Ended) whole
     reading writing says
 
 -- Standard error failed, there or while the last line was said: it has a beginning of what was to be said.
-abbrev pub SayingFails : Mode → Bool → ℕ → (Reach → List ℕ → Type 0)
+abbrev pub SayingFails : Mode → Bool → ℕ → (Option End → List ℕ → Type 0)
     → (Fate → List ℕ → Type 0) → (List ℕ → Type 0) → Type 0
 SayingFails mode hex sentinel reading writing says =
     SaysInVain mode hex reading writing says
@@ -212,7 +209,7 @@ SayingFails mode hex sentinel reading writing says =
     ⊎ LacksMemory mode hex sentinel reading writing says))
 
 -- Status 3: the reader, the writer or standard error failed.
-abbrev pub FailsByDevice : Mode → Bool → ℕ → (Reach → List ℕ → Type 0)
+abbrev pub FailsByDevice : Mode → Bool → ℕ → (Option End → List ℕ → Type 0)
     → (writing saying : Fate → List ℕ → Type 0) → Type 0
 FailsByDevice mode hex sentinel reading writing saying =
     ReadFails mode hex sentinel reading writing (saying whole)

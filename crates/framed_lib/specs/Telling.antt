@@ -1,10 +1,11 @@
 -- What a teller of answers does.
-use Rattle.std.specs.Prelude.{◌≡◌, ℕ, ◌&&◌, Bool, true, false, List, [], ◌∷◌, ◌++◌, refl, Option}
+use Rattle.std.specs.Prelude.{◌≡◌, ℕ, ◌&&◌, ◌⊎◌, Bool, true, false, List, [], ◌∷◌, ◌++◌, refl}
 use Rattle.std.specs.List.{list_all}
 use Rattle.std.specs.declared.string.String.{String}
 use Rattle.std.proofs.Common.{sym, ap, ◌∙◌, subst, append_assoc, append-nil}
 use Rattle.std.proofs.lemmas.Grind.{flat_map-append}
 use Rattle.std.proofs.lemmas.List.Folds.{list_all-append}
+use Rattle.line_io.specs.Device.{LineState}
 use Rattle.line_io.specs.Transfers.{Writing, broken}
 use Rattle.line_io.specs.Calls.{BrokeOff-more}
 use Rattle.link.specs.Each.{HearerLaws}
@@ -13,14 +14,19 @@ use Rattle.framed_lib.specs.Lines.{answer_line, answer_lines, has_value}
 use Rattle.framed_lib.specs.Output.{Puts, put-none, put-then, put-broke}
 use Rattle.framed_lib.specs.declared.telling.Telling.{Telling}
 
-module _ {W : Type 0} (written : W → Option (List ℕ)) (faults calls_left : W → ℕ) where
+-- What is held was written, or a write failed; lines that aren't live may wait.
+abbrev pub IsSettled : {W : Type 0} → Telling W → Type 0
+IsSettled t = t.live ≡ true → (t.held.items ≡ []) ⊎ (t.failed ≡ true)
+
+module _ {W : Type 0} (line : W → LineState) where
   -- These bytes are put behind what is held, unless a write failed before; and whether they are lines of values alone is known.
   pub record PutsLines (old new : Telling W) (bytes : List ℕ) (values : Bool) : Type 0 where
     pub good : new.good ≡ (old.good && values)
+    pub live : new.live ≡ old.live
     pub went : old.failed ≡ false → new.failed ≡ false
-        → Puts written faults old.writer new.writer old.held.items new.held.items bytes
+        → Puts (line old.writer) (line new.writer) old.held.items new.held.items bytes
     pub broke : old.failed ≡ false → new.failed ≡ true
-        → Writing written faults calls_left old.writer new.writer broken (old.held.items ++ bytes)
+        → Writing (line old.writer) (line new.writer) broken (old.held.items ++ bytes)
     pub silent : old.failed ≡ true → (new.failed ≡ true) × (new.writer ≡ old.writer)
 
   -- the lines of these answers are put
@@ -47,26 +53,27 @@ module _ {W : Type 0} (written : W → Option (List ℕ)) (faults calls_left : W
 
   module _ {A : Type 0} (h k m : Telling W) (a b : List (Answer (String A))) (p : Tells h a k) (q : Tells k b m) where
     went-more : (f : Bool) → k.failed ≡ f → h.failed ≡ false → m.failed ≡ false
-        → Puts written faults h.writer m.writer h.held.items m.held.items (answer_lines (a ++ b))
+        → Puts (line h.writer) (line m.writer) h.held.items m.held.items (answer_lines (a ++ b))
     went-more false e start end =
-        subst (λ x. Puts written faults h.writer m.writer h.held.items m.held.items x) (sym (flat_map-append answer_line a b)) (put-then (p.went start e) (q.went e end))
+        subst (λ x. Puts (line h.writer) (line m.writer) h.held.items m.held.items x) (sym (flat_map-append answer_line a b)) (put-then (p.went start e) (q.went e end))
     went-more true e start end = absurd (no_both m.failed (q.silent e).0 end)
 
     broke-more : (f : Bool) → k.failed ≡ f → h.failed ≡ false → m.failed ≡ true
-        → Writing written faults calls_left h.writer m.writer broken
+        → Writing (line h.writer) (line m.writer) broken
         (h.held.items ++ answer_lines (a ++ b))
     broke-more false e start end =
-        subst (λ x. Writing written faults calls_left h.writer m.writer broken (h.held.items ++ x)) (sym (flat_map-append answer_line a b))
+        subst (λ x. Writing (line h.writer) (line m.writer) broken (h.held.items ++ x)) (sym (flat_map-append answer_line a b))
         (put-broke (answer_lines b) (p.went start e) (q.broke e end))
     broke-more true e start end =
-        subst (λ w. Writing written faults calls_left h.writer w broken (h.held.items ++ answer_lines (a ++ b))) (sym (q.silent e).1)
-        (subst (λ x. Writing written faults calls_left h.writer k.writer broken x)
+        subst (λ w. Writing (line h.writer) (line w) broken (h.held.items ++ answer_lines (a ++ b))) (sym (q.silent e).1)
+        (subst (λ x. Writing (line h.writer) (line k.writer) broken x)
         (append_assoc h.held.items (answer_lines a) (answer_lines b) ∙ ap (λ x. h.held.items ++ x) (sym (flat_map-append answer_line a b)))
         (BrokeOff-more (answer_lines b) (p.broke start e)))
 
     more : Tells h (a ++ b) m
     more = record {
       good = q.good ∙ (ap (λ x. x && list_all has_value b) p.good ∙ (and_assoc h.good (list_all has_value a) (list_all has_value b) ∙ ap (λ x. h.good && x) (sym (list_all-append has_value a b))));
+      live = q.live ∙ p.live;
       went = λ start end. went-more k.failed refl start end;
       broke = λ start end. broke-more k.failed refl start end;
       silent = λ e. let r = p.silent e in let s = q.silent r.0 in (s.0, s.1 ∙ r.1);
@@ -76,7 +83,8 @@ module _ {W : Type 0} (written : W → Option (List ℕ)) (faults calls_left : W
   tells_laws = record {
     none = λ h. record {
       good = and_true h.good;
-      went = λ start end. put-none _ _ _;
+      live = refl;
+      went = λ start end. put-none _ _;
       broke = λ start end. absurd (no_both h.failed end start);
       silent = λ e. (e, refl);
     };

@@ -1,21 +1,21 @@
 -- How the work of a run ends, before its last line is said.
-use Rattle.std.specs.Prelude.{◌≡◌, ℕ, Bool, true, false, List, [], ◌++◌, ◌⊎◌, Option, Some, None, Result, Ok, Err, if◌then◌else◌}
+use Rattle.std.specs.Prelude.{◌≡◌, ℕ, Bool, true, false, List, [], ◌++◌, ◌⊎◌, Option, Some, None, Result, Ok, Err, OnOk, OnErr, if◌then◌else◌}
 use Rattle.std.specs.List.{list_all}
 use Rattle.framed_lib.specs.declared.arguments.Mode.{Mode}
 use Rattle.framed_lib.specs.declared.arguments.Mode.TheVariants.{Unpack, Strict}
 use Rattle.framed_lib.specs.declared.stop.Stop.{Stop}
 use Rattle.framed_lib.specs.declared.stop.Stop.TheVariants as stop
-use Rattle.line_io.specs.Transfers.{Fate, whole, broken, Reach, ended}
+use Rattle.line_io.specs.Transfers.{Fate, whole, broken}
 use Rattle.link.specs.Stream.{Verdict}
-use Rattle.link.specs.declared.listening.End.{End}
-use Rattle.link.specs.declared.listening.End.TheVariants.{Ended, ReadFault, NoMemory}
+use Rattle.line_io.specs.declared.transfers.End.{End}
+use Rattle.line_io.specs.declared.transfers.End.TheVariants.{Ended, ReadFault, NoMemory}
 use Rattle.line_io.specs.declared.transfers.WriteFault.{WriteFault}
 use Rattle.framed_lib.specs.Lines.{AreAnswers, lines_of, is_value}
-use Rattle.framed_lib.specs.Program.{RunsToItsEnd, ReadFails, WriteFails, LacksMemory, SayingFails, WritesLines, WritesFirst, read_failed, write_failed, no_memory}
+use Rattle.framed_lib.specs.Program.{RunsToItsEnd, ReadFails, WriteFails, LacksMemory, SayingFails, read_failed, write_failed, no_memory}
 
 -- the text was read to its end
-abbrev pub IsWhole : List ℕ → Reach → List ℕ → Type 0
-IsWhole bytes ended text = text ≡ bytes
+abbrev pub IsWhole : List ℕ → Option End → List ℕ → Type 0
+IsWhole bytes (Some Ended) text = text ≡ bytes
 IsWhole bytes _ text = ⊥
 
 -- the mode that reads frames, strictly or not
@@ -33,7 +33,7 @@ abbrev pub Before : List ℕ → (List ℕ → Type 0) → List ℕ → Type 0
 Before line says bytes = (said : List ℕ) × (bytes ≡ said ++ line) × says said
 
 -- how the work ends: with a status, or with what is to be said last
-abbrev pub Worked : Mode → Bool → ℕ → (Reach → List ℕ → Type 0)
+abbrev pub Worked : Mode → Bool → ℕ → (Option End → List ℕ → Type 0)
     → (writing saying : Fate → List ℕ → Type 0) → Result ℕ Stop → Type 0
 Worked mode hex sentinel reading writing saying (Ok status) =
     RunsToItsEnd mode hex sentinel status reading writing saying
@@ -68,25 +68,11 @@ outcome_of (Some ReadFault) (Ok u) good = Err stop.ReadFault
 outcome_of (Some NoMemory) (Ok u) good = Err stop.NoMemory
 outcome_of None (Ok u) good = Err stop.WriteFault
 
--- the end of a reception from memory, and its answers, where a fault is taken as out of memory
-abbrev pub without_fault_of : End → End
-without_fault_of Ended = Ended
-without_fault_of _ = NoMemory
-
--- the answers, and none where the reception ended by a fault
-abbrev pub unless_fault : {X : Type 0} → End → List X → List X
-unless_fault ReadFault answers = []
-unless_fault _ answers = answers
-
--- What comes of a stream in memory: how the work ends, and what is written.
-abbrev pub AnswersStream : Bool → ℕ → List ℕ → (Fate → List ℕ → Type 0) → Result ℕ Stop → Type 0
-AnswersStream strict sentinel stream writing (Ok status) =
-    (verdicts : List Verdict) × AreAnswers strict sentinel ended stream verdicts
-    × (status ≡ (if list_all is_value verdicts then 0 else 1)) × writing whole (lines_of verdicts)
-AnswersStream strict sentinel stream writing (Err stop.WriteFault) =
-    (out : List ℕ) × (WritesLines strict sentinel ended stream out
-    ⊎ WritesFirst strict sentinel stream out)
-    × writing broken out
-AnswersStream strict sentinel stream writing (Err stop.NoMemory) =
-    (out : List ℕ) × ((out ≡ []) ⊎ WritesFirst strict sentinel stream out) × writing whole out
-AnswersStream strict sentinel stream writing (Err _) = ⊥
+-- The lines of the answers to a stream that was read so far went out, or the writer broke off; and whether all are values.
+pub record TellsAnswers (strict : Bool) (sentinel : ℕ) (end : Option End) (stream : List ℕ)
+    (good : Bool) (written : Result (Unit {0}) WriteFault) (writing : Fate → List ℕ → Type 0) : Type 0 where
+  pub verdicts : List Verdict
+  pub are : AreAnswers strict sentinel end stream verdicts
+  pub values : good ≡ list_all is_value verdicts
+  pub went : OnOk written (writing whole (lines_of verdicts))
+  pub broke : OnErr written (writing broken (lines_of verdicts))

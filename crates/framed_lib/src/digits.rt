@@ -15,9 +15,9 @@ pub fn put_part<W: Outlet>(
     room: &mut [u8],
 ) -> Result<(), WriteFault>
     requires { 2 * length bytes.now ≤ length room.old }
-    ensures ok { OnOk result (Puts W.written W.faults outlet.old outlet.new
+    ensures ok { OnOk result (Puts (W.line outlet.old) (W.line outlet.new)
         held.old.items held.new.items (shown hex bytes.now)) }
-    ensures err { OnErr result (Writing W.written W.faults W.calls_left outlet.old outlet.new broken
+    ensures err { OnErr result (Writing (W.line outlet.old) (W.line outlet.new) broken
         (held.old.items ++ shown hex bytes.now)) }
 {
     if !hex {
@@ -32,9 +32,9 @@ pub fn put_part<W: Outlet>(
 
 /// Puts what stands behind all framed bytes: the line feed behind hexadecimal digits.
 pub fn put_end<W: Outlet>(outlet: &mut W, held: &mut Held, hex: bool) -> Result<(), WriteFault>
-    ensures ok { OnOk result (Puts W.written W.faults outlet.old outlet.new
+    ensures ok { OnOk result (Puts (W.line outlet.old) (W.line outlet.new)
         held.old.items held.new.items (shown_end hex)) }
-    ensures err { OnErr result (Writing W.written W.faults W.calls_left outlet.old outlet.new broken
+    ensures err { OnErr result (Writing (W.line outlet.old) (W.line outlet.new) broken
         (held.old.items ++ shown_end hex)) }
 {
     let end: &[u8] = if hex { b"\n" } else { b"" };

@@ -1,12 +1,10 @@
-ghost use Rattle.std.specs.Prelude.{◌≡◌, ℕ, ◌<◌, List, ◌++◌, length, flat_map, string_bytes, IfOk, OnOk, OnErr, IfSome, MatchOption};
-ghost use Rattle.std.specs.List.{list_all};
-ghost use Rattle.line_io.specs.Transfers.{Writing, whole, broken};
+ghost use Rattle.std.specs.Prelude.{◌≡◌, ℕ, ◌<◌, List, ◌++◌, length, flat_map, OnOk, OnErr, IfSome, MatchOption};
+ghost use Rattle.line_io.specs.Transfers.{Writing, broken};
 ghost use Rattle.framed_lib.specs.Output.{Puts};
-ghost use Rattle.framed_lib.specs.Lines.{escape, value_line, answer_line, answer_lines, has_value};
+ghost use Rattle.framed_lib.specs.Lines.{escape, value_line, answer_line, has_value};
 
 use crate::output::{Held, put};
-use arrayvec::ArrayVec;
-use line_io::{Outlet, WriteFault, write_all};
+use line_io::{Outlet, WriteFault};
 use link::Answer;
 use memchr::memchr2;
 
@@ -27,9 +25,9 @@ fn split_at_escape(text: &[u8]) -> Option<(&[u8], &[u8], &[u8])>
 
 /// Puts the text, with a backslash before each backslash, and each line feed as `\n`.
 fn put_escaped<W: Outlet>(outlet: &mut W, held: &mut Held, text: &[u8]) -> Result<(), WriteFault>
-    ensures ok { OnOk result (Puts W.written W.faults outlet.old outlet.new
+    ensures ok { OnOk result (Puts (W.line outlet.old) (W.line outlet.new)
         held.old.items held.new.items (flat_map escape text.now)) }
-    ensures err { OnErr result (Writing W.written W.faults W.calls_left outlet.old outlet.new broken
+    ensures err { OnErr result (Writing (W.line outlet.old) (W.line outlet.new) broken
         (held.old.items ++ flat_map escape text.now)) }
 {
     let mut rest = text;
@@ -43,9 +41,9 @@ fn put_escaped<W: Outlet>(outlet: &mut W, held: &mut Held, text: &[u8]) -> Resul
 
 /// Puts the line of a text.
 fn put_value<W: Outlet>(outlet: &mut W, held: &mut Held, text: &[u8]) -> Result<(), WriteFault>
-    ensures ok { OnOk result (Puts W.written W.faults outlet.old outlet.new
+    ensures ok { OnOk result (Puts (W.line outlet.old) (W.line outlet.new)
         held.old.items held.new.items (value_line text.now)) }
-    ensures err { OnErr result (Writing W.written W.faults W.calls_left outlet.old outlet.new broken
+    ensures err { OnErr result (Writing (W.line outlet.old) (W.line outlet.new) broken
         (held.old.items ++ value_line text.now)) }
 {
     put(outlet, held, b"value ")?;
@@ -59,9 +57,9 @@ pub fn put_answer<W: Outlet>(
     held: &mut Held,
     answer: &Answer<String>,
 ) -> Result<(), WriteFault>
-    ensures ok { OnOk result (Puts W.written W.faults outlet.old outlet.new
+    ensures ok { OnOk result (Puts (W.line outlet.old) (W.line outlet.new)
         held.old.items held.new.items (answer_line answer.now)) }
-    ensures err { OnErr result (Writing W.written W.faults W.calls_left outlet.old outlet.new broken
+    ensures err { OnErr result (Writing (W.line outlet.old) (W.line outlet.new) broken
         (held.old.items ++ answer_line answer.now)) }
 {
     match answer {
@@ -72,40 +70,6 @@ pub fn put_answer<W: Outlet>(
     }
 }
 
-/// Puts the lines of the answers.
-fn put_answers<W: Outlet>(
-    outlet: &mut W,
-    held: &mut Held,
-    answers: &[Answer<String>],
-) -> Result<(), WriteFault>
-    ensures ok { OnOk result (Puts W.written W.faults outlet.old outlet.new
-        held.old.items held.new.items (answer_lines answers.now)) }
-    ensures err { OnErr result (Writing W.written W.faults W.calls_left outlet.old outlet.new broken
-        (held.old.items ++ answer_lines answers.now)) }
-{
-    let mut rest = answers;
-    while let Some((answer, after)) = rest.split_first() {
-        put_answer(outlet, held, answer)?;
-        rest = after;
-    }
-    Ok(())
-}
-
-/// Writes the lines of the answers.
-pub fn write_answers<W: Outlet>(
-    writer: &mut W,
-    answers: &[Answer<String>],
-) -> Result<(), WriteFault>
-    ensures ok { OnOk result (Writing W.written W.faults W.calls_left writer.old writer.new whole
-        (answer_lines answers.now)) }
-    ensures err { OnErr result (Writing W.written W.faults W.calls_left writer.old writer.new broken
-        (answer_lines answers.now)) }
-{
-    let mut held: Held = ArrayVec::new();
-    put_answers(writer, &mut held, answers)?;
-    write_all(writer, held.as_slice())
-}
-
 /// Whether the answer is a value.
 pub fn is_value(answer: &Answer<String>) -> bool
     ensures { result ≡ has_value answer.now }
@@ -114,11 +78,4 @@ pub fn is_value(answer: &Answer<String>) -> bool
         Answer::Value(_) => true,
         Answer::Damaged | Answer::TooLong | Answer::Cut => false,
     }
-}
-
-/// Whether all answers are values.
-pub fn are_values(answers: &[Answer<String>]) -> bool
-    ensures { result ≡ list_all has_value answers.now }
-{
-    answers.iter().all(is_value)
 }

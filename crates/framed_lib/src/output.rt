@@ -14,8 +14,8 @@ pub type Held = ArrayVec<u8, ROOM>;
 /// Puts bytes behind those that are held, and writes what is held first where there is no room.
 pub fn put<W: Outlet>(outlet: &mut W, held: &mut Held, bytes: &[u8]) -> Result<(), WriteFault>
     ensures ok { OnOk result
-        (Puts W.written W.faults outlet.old outlet.new held.old.items held.new.items bytes.now) }
-    ensures err { OnErr result (Writing W.written W.faults W.calls_left outlet.old outlet.new broken
+        (Puts (W.line outlet.old) (W.line outlet.new) held.old.items held.new.items bytes.now) }
+    ensures err { OnErr result (Writing (W.line outlet.old) (W.line outlet.new) broken
         (held.old.items ++ bytes.now)) }
 {
     if held.try_extend_from_slice(bytes).is_ok() {

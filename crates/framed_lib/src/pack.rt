@@ -1,5 +1,6 @@
 ghost use Rattle.std.specs.Prelude.{ℕ, false, List, OnOk, OnErr, IsTrue, IsUtf8};
-ghost use Rattle.line_io.specs.Transfers.{Writing, Reading, whole, broken};
+ghost use Rattle.line_io.specs.Transfers.{Writing, whole, broken};
+ghost use Rattle.link.specs.Each.{HasReadNow};
 ghost use Rattle.link.specs.Run.{Send, session_line};
 ghost use Rattle.framed_lib.specs.Program.{framed_text};
 ghost use Rattle.framed_lib.specs.Sending.{lines_in, AreSendsOf};
@@ -27,10 +28,10 @@ fn write_frames<W: Outlet>(
 ) -> Result<(), WriteFault>
     requires { IsTrue is_text → IsUtf8 text.now }
     ensures ok { OnOk result ((sends : List Send) → AreSendsOf (lines_in text.now) sends
-        → Writing W.written W.faults W.calls_left writer.old writer.new whole
+        → Writing (W.line writer.old) (W.line writer.new) whole
         (framed_text hex (session_line sentinel false sends))) }
     ensures err { OnErr result ((sends : List Send) → AreSendsOf (lines_in text.now) sends
-        → Writing W.written W.faults W.calls_left writer.old writer.new broken
+        → Writing (W.line writer.old) (W.line writer.new) broken
         (framed_text hex (session_line sentinel false sends))) }
 {
     let mut held: Held = ArrayVec::new();
@@ -58,8 +59,8 @@ fn pack_text<W: Outlet, E: Outlet>(
     faults: &mut E,
 ) -> Result<u8, Stop>
     ensures { Worked Pack hex sentinel
-        (IsWhole text.now) (Writing W.written W.faults W.calls_left writer.old writer.new)
-        (Writing E.written E.faults E.calls_left faults.old faults.new) result }
+        (IsWhole text.now) (Writing (W.line writer.old) (W.line writer.new))
+        (Writing (E.line faults.old) (E.line faults.new)) result }
 {
     let is_text = basic::from_utf8(text).is_ok();
     let good = match say_refusals(text, is_text, faults) {
@@ -82,9 +83,9 @@ pub fn pack<R: Inlet, W: Outlet, E: Outlet>(
     faults: &mut E,
 ) -> Result<u8, Stop>
     ensures { Worked Pack hex sentinel
-        (Reading R.to_come R.faults R.calls_left reader.old reader.new)
-        (Writing W.written W.faults W.calls_left writer.old writer.new)
-        (Writing E.written E.faults E.calls_left faults.old faults.new) result }
+        (HasReadNow (R.line reader.old) (R.line reader.new))
+        (Writing (W.line writer.old) (W.line writer.new))
+        (Writing (E.line faults.old) (E.line faults.new)) result }
 {
     let mut text = Vec::new(alloc);
     match read_to_end(reader, &mut text) {

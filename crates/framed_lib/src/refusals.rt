@@ -15,9 +15,9 @@ use line_io::{Outlet, WriteFault, write_all};
 
 /// Says that the line with this number is refused.
 fn refuse<E: Outlet>(faults: &mut E, held: &mut Held, number: usize) -> Result<(), WriteFault>
-    ensures ok { OnOk result (Puts E.written E.faults faults.old faults.new
+    ensures ok { OnOk result (Puts (E.line faults.old) (E.line faults.new)
         held.old.items held.new.items (refusal number)) }
-    ensures err { OnErr result (Writing E.written E.faults E.calls_left faults.old faults.new broken
+    ensures err { OnErr result (Writing (E.line faults.old) (E.line faults.new) broken
         (held.old.items ++ refusal number)) }
 {
     put(faults, held, b"line ")?;
@@ -36,10 +36,10 @@ fn judge_line<E: Outlet>(
     requires { IsTrue is_text → IsUtf8 line.now }
     ensures ok { IfOk result (λ sendable. (x : Send) × IsSendOfLine line.now x
         × (sendable ≡ is_whole x)
-        × Puts E.written E.faults faults.old faults.new held.old.items held.new.items
+        × Puts (E.line faults.old) (E.line faults.new) held.old.items held.new.items
         (said_of number x)) }
     ensures err { OnErr result ((x : Send) × IsSendOfLine line.now x
-        × Writing E.written E.faults E.calls_left faults.old faults.new broken
+        × Writing (E.line faults.old) (E.line faults.new) broken
         (held.old.items ++ said_of number x)) }
 {
     if is_sendable(line, is_text) {
@@ -60,9 +60,9 @@ fn judge_lines<E: Outlet>(
     requires held { held.old.items ≡ [] }
     ensures ok { IfOk result (λ good. (sends : List Send) × AreSendsOf (lines_in text.now) sends
         × (good ≡ list_all is_whole sends)
-        × Puts E.written E.faults faults.old faults.new [] held.new.items (refusals 1 sends)) }
+        × Puts (E.line faults.old) (E.line faults.new) [] held.new.items (refusals 1 sends)) }
     ensures err { OnErr result ((said : List ℕ) × SaysFirst text.now said
-        × Writing E.written E.faults E.calls_left faults.old faults.new broken said) }
+        × Writing (E.line faults.old) (E.line faults.new) broken said) }
 {
     let mut rest = text;
     let mut lines = 0;
@@ -86,9 +86,9 @@ pub fn say_refusals<E: Outlet>(
     requires { IsTrue is_text → IsUtf8 text.now }
     ensures ok { IfOk result (λ good. (sends : List Send) × AreSendsOf (lines_in text.now) sends
         × (good ≡ list_all is_whole sends)
-        × Writing E.written E.faults E.calls_left faults.old faults.new whole (refusals 1 sends)) }
+        × Writing (E.line faults.old) (E.line faults.new) whole (refusals 1 sends)) }
     ensures err { OnErr result ((said : List ℕ) × SaysFirst text.now said
-        × Writing E.written E.faults E.calls_left faults.old faults.new broken said) }
+        × Writing (E.line faults.old) (E.line faults.new) broken said) }
 {
     let mut held: Held = ArrayVec::new();
     let good = judge_lines(text, is_text, faults, &mut held)?;

@@ -1,5 +1,6 @@
 ghost use Rattle.std.specs.Prelude.{◌≡◌, ◌<◌, ◌≤◌};
-ghost use Rattle.line_io.specs.Transfers.{Writing, Reading, whole};
+ghost use Rattle.line_io.specs.Transfers.{Writing, whole};
+ghost use Rattle.link.specs.Each.{HasReadNow};
 ghost use Rattle.framed_lib.specs.Program.{RunsToItsEnd, FailsByDevice, LacksMemory};
 ghost use Rattle.framed_lib.specs.Working.{Worked, SaysLast, Reports};
 
@@ -40,31 +41,31 @@ pub fn run<R: Inlet, W: Outlet, E: Outlet>(
     mode: Mode,
     hex: bool,
     sentinel: u8,
-    reader: R,
+    mut reader: R,
     writer: W,
     mut faults: E,
 ) -> Ran<R, W, E>
     // The text was read to its end, and all that the program writes and says for it went out.
     ensures finished { result.status < 3 → RunsToItsEnd mode hex sentinel result.status
-        (Reading R.to_come R.faults R.calls_left reader result.reader)
-        (Writing W.written W.faults W.calls_left writer result.writer)
-        (Writing E.written E.faults E.calls_left faults result.faults) }
+        (HasReadNow (R.line reader) (R.line result.reader))
+        (Writing (W.line writer) (W.line result.writer))
+        (Writing (E.line faults) (E.line result.faults)) }
 
     // A device failed.
     ensures failed { result.status ≡ 3 → FailsByDevice mode hex sentinel
-        (Reading R.to_come R.faults R.calls_left reader result.reader)
-        (Writing W.written W.faults W.calls_left writer result.writer)
-        (Writing E.written E.faults E.calls_left faults result.faults) }
+        (HasReadNow (R.line reader) (R.line result.reader))
+        (Writing (W.line writer) (W.line result.writer))
+        (Writing (E.line faults) (E.line result.faults)) }
 
     // Memory ran out, and no device failed: the lines of the first answers went out.
     ensures memory { result.status ≡ 4 → LacksMemory mode hex sentinel
-        (Reading R.to_come R.faults R.calls_left reader result.reader)
-        (Writing W.written W.faults W.calls_left writer result.writer)
-        (Writing E.written E.faults E.calls_left faults result.faults whole) }
+        (HasReadNow (R.line reader) (R.line result.reader))
+        (Writing (W.line writer) (W.line result.writer))
+        (Writing (E.line faults) (E.line result.faults) whole) }
 
     ensures range { result.status ≤ 4 }
 {
-    let (reader, writer, worked) = work(alloc, mode, hex, sentinel, reader, writer, &mut faults);
+    let (writer, worked) = work(alloc, mode, hex, sentinel, &mut reader, writer, &mut faults);
     let status = report(&mut faults, worked);
     Ran {
         status,
@@ -80,20 +81,19 @@ fn work<R: Inlet, W: Outlet, E: Outlet>(
     mode: Mode,
     hex: bool,
     sentinel: u8,
-    reader: R,
+    reader: &mut R,
     writer: W,
     faults: &mut E,
-) -> (R, W, Result<u8, Stop>)
-    ensures { Worked mode hex sentinel (Reading R.to_come R.faults R.calls_left reader result.0)
-        (Writing W.written W.faults W.calls_left writer result.1)
-        (Writing E.written E.faults E.calls_left faults.old faults.new) result.2 }
+) -> (W, Result<u8, Stop>)
+    ensures { Worked mode hex sentinel (HasReadNow (R.line reader.old) (R.line reader.new))
+        (Writing (W.line writer) (W.line result.0))
+        (Writing (E.line faults.old) (E.line faults.new)) result.1 }
 {
     match mode {
         Mode::Pack => {
-            let mut reader = reader;
             let mut writer = writer;
-            let worked = pack(alloc, hex, sentinel, &mut reader, &mut writer, faults);
-            (reader, writer, worked)
+            let worked = pack(alloc, hex, sentinel, reader, &mut writer, faults);
+            (writer, worked)
         }
         Mode::Unpack => unpack(alloc, false, hex, sentinel, reader, writer, faults),
         Mode::Strict => unpack(alloc, true, hex, sentinel, reader, writer, faults),
@@ -103,7 +103,7 @@ fn work<R: Inlet, W: Outlet, E: Outlet>(
 /// Says why the work ended early, and gives the status.
 fn report<E: Outlet>(faults: &mut E, worked: Result<u8, Stop>) -> u8
     ensures { Reports faults.old faults.new
-        (Writing E.written E.faults E.calls_left faults.old faults.new) worked result }
+        (Writing (E.line faults.old) (E.line faults.new)) worked result }
 {
     match worked {
         Ok(status) => status,
@@ -117,7 +117,7 @@ fn report<E: Outlet>(faults: &mut E, worked: Result<u8, Stop>) -> u8
 /// Says the last line, and gives the status.
 fn say_last<E: Outlet>(faults: &mut E, line: &[u8], status: u8) -> u8
     ensures { SaysLast
-        (Writing E.written E.faults E.calls_left faults.old faults.new) line.now status result }
+        (Writing (E.line faults.old) (E.line faults.new)) line.now status result }
 {
     match write_all(faults, line) {
         Ok(()) => status,

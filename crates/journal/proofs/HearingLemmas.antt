@@ -1,8 +1,9 @@
 -- How answers are handed on, push by push, and what is read of a store so far.
-use Rattle.line_io.specs.Device.{read_faults}
+use Rattle.line_io.specs.Device.{LineState, read_faults}
 use Rattle.line_io.specs.Transfers.{Failed}
 use Rattle.std.proofs.Common.{◌≡◌, ℕ, zero, suc, ◌+◌, ◌-◌, ◌<◌, ◌≤◌, ◌/◌, ◌^◌, min, nat_lt, Bool, true, false, get_or, List, [], ◌∷◌, ◌++◌, length, take, drop, Option, Some, None, Result, Ok, Err, refl, sym, ap, ◌∙◌, subst, inl, inr, append_assoc, arith, rules}
-use Rattle.std.specs.Prelude.{IfSome, if◌then◌else◌}
+use Rattle.std.specs.Prelude.{IfSome, IfErr, IsErrAnd, if◌then◌else◌}
+use Rattle.std.proofs.lemmas.Result.{err_from_is_err_and}
 use Rattle.std.proofs.lemmas.Bool.{lt-ltb, le-ltb, cases_lt}
 use Rattle.std.specs.List.{AllZip}
 use Rattle.std.proofs.lemmas.List.{append-nil, take-append-drop, take-append-le, take_all, take_more, length-take, length-append}
@@ -13,16 +14,19 @@ use Rattle.link.specs.Decoding.{in_array}
 use Rattle.link.specs.Receivers.{IsBehind}
 use Rattle.link.specs.Pushes.{listed, Matches, Answered, IsStretchOf}
 use Rattle.link.specs.Listening.{HasGiven}
+use Rattle.link.specs.Judged.{Judging}
 use Rattle.link.specs.declared.receiver.Answer.{Answer}
 use Rattle.link.specs.declared.receiver.Answer.TheVariants.{Value, Damaged, TooLong, Cut}
 use Rattle.link.specs.declared.receiver.NoMemory.{NoMemory}
 use Rattle.link.specs.declared.reception.Reception.{Reception}
 use Rattle.stores.specs.Store.{GaveAt, EndsBefore}
-use Rattle.journal.specs.Records.{reads_record, past, past_all}
+use Rattle.journal.specs.Records.{past, past_all}
 use Rattle.journal.specs.Places.{Located, answers_in, IsLocatedIn, AreLocatedIn, Numbering, numbered_from, furthest, believed, numbered_behind, all_believed, numbered_after}
 use Rattle.journal.specs.declared.numbers.Count.{Count}
 use Rattle.journal.specs.Visits.{VisitorLaws}
-use Rattle.journal.specs.Reading.{IsRead, IsReadTo, HearsLog, HearsMore, HandsOnBelieved}
+use Rattle.journal.specs.Reading.{IsRead, IsReadTo, HearsLog, HearsMore, HandsOnBelieved, IsHandedTo, ReadCause, numbering_of}
+use Rattle.journal.specs.declared.reading.ReadError.{ReadError}
+use Rattle.journal.specs.declared.reading.ReadError.TheVariants.{Fault, NoMemory as NoMemoryFound, Halted}
 
 zip_one : {A B : Type 0} (R : A → B → Type 0) (xs : List A) (ys : List B) (x : A) (y : B) → AllZip R xs ys → R x y → AllZip R (xs ++ x ∷ []) (ys ++ y ∷ [])
 zip_one R [] [] x y h r = (r, tt)
@@ -92,7 +96,7 @@ module _ {V : Type 0} where
   moves_to c through TooLong l = l
   moves_to c through Cut l = l
 
-module _ {V : Type 0} (holds : List ℕ → Tree → Type 0) (reads : Tree → V → Type 0) (limit : ℕ) where
+module _ {V : Type 0} (holds : List ℕ → Tree → Type 0) (reads : Tree → ℕ × V → Type 0) (limit : ℕ) where
   -- in a longer log
   one_longer : (bytes more : List ℕ) (given : List (Answer (ℕ × V))) (p : Located V) → IsLocatedIn holds reads limit bytes given p → IsLocatedIn holds reads limit (bytes ++ more) given p
   one_longer bytes more given p h = record {
@@ -129,18 +133,18 @@ module _ {V : Type 0} (holds : List ℕ → Tree → Type 0) (reads : Tree → V
     within = omega (arith, h.within, h.so_far);
   }
 
-module _ {V : Type 0} (holds : List ℕ → Tree → Type 0) (reads : Tree → V → Type 0) (limit first : ℕ) (front rest : List ℕ) (used : ℕ) where
+module _ {V : Type 0} (holds : List ℕ → Tree → Type 0) (reads : Tree → ℕ × V → Type 0) (limit first : ℕ) (front rest : List ℕ) (used : ℕ) where
   -- a push that answered nothing
   pub read_quiet : (answers : List (Answer (ℕ × V))) (c : Numbering) → IsReadTo holds reads limit first answers c front
-      → Answered holds (reads_record reads) limit 0 front rest used (Ok None) → IsReadTo holds reads limit first answers c (front ++ take used rest)
+      → Answered holds reads limit 0 front rest used (Ok None) → IsReadTo holds reads limit first answers c (front ++ take used rest)
   read_quiet answers c g (a, says, push) = record {
     located = g.located;
     given = record {
       verdicts = g.given.verdicts ++ listed a;
       given = push.gives g.given.verdicts g.given.given;
       matching =
-          subst (λ o. AllZip (Matches (reads_record reads)) (answers_in g.located) (g.given.verdicts ++ listed o)) (sym says)
-          (subst (λ x. AllZip (Matches (reads_record reads)) (answers_in g.located) x) (sym (append-nil g.given.verdicts)) g.given.matching);
+          subst (λ o. AllZip (Matches reads) (answers_in g.located) (g.given.verdicts ++ listed o)) (sym says)
+          (subst (λ x. AllZip (Matches reads) (answers_in g.located) x) (sym (append-nil g.given.verdicts)) g.given.matching);
     };
     places = located_longer holds reads limit front (take used rest) [] g.located g.places;
     handed_on = g.handed_on;
@@ -150,17 +154,17 @@ module _ {V : Type 0} (holds : List ℕ → Tree → Type 0) (reads : Tree → V
   }
 
   -- one that answered: what was given
-  given_more : (answers : List (Answer (ℕ × V))) (x : Answer (ℕ × V)) → HasGiven holds (reads_record reads) limit 0 answers front
-      → Answered holds (reads_record reads) limit 0 front rest used (Ok (Some x)) → HasGiven holds (reads_record reads) limit 0 (answers ++ x ∷ []) (front ++ take used rest)
+  given_more : (answers : List (Answer (ℕ × V))) (x : Answer (ℕ × V)) → HasGiven holds reads limit 0 answers front
+      → Answered holds reads limit 0 front rest used (Ok (Some x)) → HasGiven holds reads limit 0 (answers ++ x ∷ []) (front ++ take used rest)
   given_more answers x g (a, says, push) = record {
     verdicts = g.verdicts ++ listed a;
     given = push.gives g.verdicts g.given;
-    matching = subst (λ o. AllZip (Matches (reads_record reads)) (answers ++ x ∷ []) (g.verdicts ++ listed o)) (sym says.2) (zip_one (Matches (reads_record reads)) answers g.verdicts x says.0 g.matching says.1);
+    matching = subst (λ o. AllZip (Matches reads) (answers ++ x ∷ []) (g.verdicts ++ listed o)) (sym says.2) (zip_one (Matches reads) answers g.verdicts x says.0 g.matching says.1);
   }
 
   -- and where it stands
-  located_at : (answers : List (Answer (ℕ × V))) (x : Answer (ℕ × V)) (stretch heard : ℕ) → HasGiven holds (reads_record reads) limit 0 answers front
-      → Answered holds (reads_record reads) limit 0 front rest used (Ok (Some x)) → IsStretchOf 0 front rest used (Ok (Some x)) stretch → 0 < used → used ≤ length rest → heard ≡ length front + used
+  located_at : (answers : List (Answer (ℕ × V))) (x : Answer (ℕ × V)) (stretch heard : ℕ) → HasGiven holds reads limit 0 answers front
+      → Answered holds reads limit 0 front rest used (Ok (Some x)) → IsStretchOf 0 front rest used (Ok (Some x)) stretch → 0 < used → used ≤ length rest → heard ≡ length front + used
       → IsLocatedIn holds reads limit (front ++ take used rest) answers (record { before = (heard - 1) - stretch; through = heard; answer = x })
   located_at answers x stretch heard g (a, says, push) st some fits e =
       let all = front ++ take (used - 1) rest in
@@ -175,13 +179,13 @@ module _ {V : Type 0} (holds : List ℕ → Tree → Type 0) (reads : Tree → V
         rest = [];
         bytes_are = bytes ∙ sym (append-nil (all ++ byte ∷ []));
         not_yet = record { verdicts = g.verdicts; given = push.least.same g.verdicts g.given (used - 1) (omega (arith, some)); matching = g.matching };
-        now = subst (λ z. HasGiven holds (reads_record reads) limit 0 (answers ++ x ∷ []) z) bytes (given_more answers x g (a, says, push));
+        now = subst (λ z. HasGiven holds reads limit 0 (answers ++ x ∷ []) z) bytes (given_more answers x g (a, says, push));
         before_is = omega (arith, st, long, e, some);
         through_is = omega (arith, long, e, some);
       }
 
   pub read_answer : (answers : List (Answer (ℕ × V))) (c : Numbering) (x : Answer (ℕ × V)) (stretch heard : ℕ) → IsReadTo holds reads limit first answers c front
-      → Answered holds (reads_record reads) limit 0 front rest used (Ok (Some x)) → IsStretchOf 0 front rest used (Ok (Some x)) stretch → 0 < used → used ≤ length rest → heard ≡ length front + used
+      → Answered holds reads limit 0 front rest used (Ok (Some x)) → IsStretchOf 0 front rest used (Ok (Some x)) stretch → 0 < used → used ≤ length rest → heard ≡ length front + used
       → IsReadTo holds reads limit first (answers ++ believed c ((heard - 1) - stretch) x ∷ []) (numbered_behind c heard (believed c ((heard - 1) - stretch) x)) (front ++ take used rest)
   read_answer answers c x stretch heard g h st some fits e =
       let before = (heard - 1) - stretch in
@@ -191,7 +195,7 @@ module _ {V : Type 0} (holds : List ℕ → Tree → Type 0) (reads : Tree → V
       let to : (numbered_behind c heard (believed c before x)).through ≤ heard = moves_to c heard (believed c before x) (omega (arith, g.so_far, e)) in
       record {
         located = g.located ++ p ∷ [];
-        given = subst (λ z. HasGiven holds (reads_record reads) limit 0 z (front ++ take used rest)) (sym (answers_more g.located p)) (given_more (answers_in g.located) x g.given h);
+        given = subst (λ z. HasGiven holds reads limit 0 z (front ++ take used rest)) (sym (answers_more g.located p)) (given_more (answers_in g.located) x g.given h);
         places =
             located_more holds reads limit (front ++ take used rest) [] g.located p (located_longer holds reads limit front (take used rest) [] g.located g.places)
             (located_at (answers_in g.located) x stretch heard g.given h st some fits e);
@@ -204,7 +208,7 @@ module _ {V : Type 0} (holds : List ℕ → Tree → Type 0) (reads : Tree → V
   -- either, and its answer was handed on
   pub read_on : {S : Type 0} {took : S → List (Answer (ℕ × V)) → S → Type 0} → VisitorLaws took → (answers more : List (Answer (ℕ × V))) (c later : Numbering) (stretch heard : ℕ) (r : Result (Option (Answer (ℕ × V))) NoMemory) (old mid new : S)
       → took old more mid → IsReadTo holds reads limit first (answers ++ more) c front
-      → Answered holds (reads_record reads) limit 0 front rest used r → IsStretchOf 0 front rest used r stretch → 0 < used → used ≤ length rest → heard ≡ length front + used
+      → Answered holds reads limit 0 front rest used r → IsStretchOf 0 front rest used r stretch → 0 < used → used ≤ length rest → heard ≡ length front + used
       → HandsOnBelieved took r ((heard - 1) - stretch) heard mid new c later
       → (also : List (Answer (ℕ × V))) × took old also new × IsReadTo holds reads limit first (answers ++ also) later (front ++ take used rest)
   read_on {took} laws answers more c later stretch heard (Ok None) old mid new before g h st some fits e k = (
@@ -222,7 +226,7 @@ module _ {V : Type 0} (holds : List ℕ → Tree → Type 0) (reads : Tree → V
   read_on laws answers more c later stretch heard (Err x) old mid new before g h st some fits e k = absurd k
 
 -- nothing was heard yet
-pub heard_none : {S V : Type 0} {N : ℕ} {took : S → List (Answer (ℕ × V)) → S → Type 0} {holds : List ℕ → Tree → Type 0} {reads : Tree → V → Type 0} → VisitorLaws took → (first : ℕ) (visitor : S) (receiver : Reception (CobsDecoderHeapless N)) (answers : List (Answer (ℕ × V))) (count : Count) (stream : List ℕ)
+pub heard_none : {S V : Type 0} {N : ℕ} {took : S → List (Answer (ℕ × V)) → S → Type 0} {holds : List ℕ → Tree → Type 0} {reads : Tree → ℕ × V → Type 0} → VisitorLaws took → (first : ℕ) (visitor : S) (receiver : Reception (CobsDecoderHeapless N)) (answers : List (Answer (ℕ × V))) (count : Count) (stream : List ℕ)
     → HearsLog holds reads first receiver answers count stream → HearsMore took holds reads first visitor visitor receiver answers count (stream ++ [])
 heard_none {holds} {reads} laws first visitor receiver answers count stream h = record {
   more = [];
@@ -231,7 +235,7 @@ heard_none {holds} {reads} laws first visitor receiver answers count stream h = 
 }
 
 -- at the start of a log
-pub heard_first : {S V : Type 0} {N : ℕ} {took : S → List (Answer (ℕ × V)) → S → Type 0} (holds : List ℕ → Tree → Type 0) (reads : Tree → V → Type 0) → VisitorLaws took → (first : ℕ) (visitor : S) (receiver : Reception (CobsDecoderHeapless N))
+pub heard_first : {S V : Type 0} {N : ℕ} {took : S → List (Answer (ℕ × V)) → S → Type 0} (holds : List ℕ → Tree → Type 0) (reads : Tree → ℕ × V → Type 0) → VisitorLaws took → (first : ℕ) (visitor : S) (receiver : Reception (CobsDecoderHeapless N))
     → IsBehind in_array N 0 receiver [] → HearsMore took holds reads first visitor visitor receiver [] (record { next = first; through = 0; heard = 0 }) []
 heard_first holds reads laws first visitor receiver h = record {
   more = [];
@@ -244,7 +248,7 @@ heard_first holds reads laws first visitor receiver h = record {
 }
 
 -- more was heard behind what was
-pub then_more : {S V : Type 0} {N : ℕ} {took : S → List (Answer (ℕ × V)) → S → Type 0} {holds : List ℕ → Tree → Type 0} {reads : Tree → V → Type 0} → VisitorLaws took → (first : ℕ) (old mid new : S) (receiver : Reception (CobsDecoderHeapless N)) (answers before : List (Answer (ℕ × V))) (count : Count) (stream : List ℕ)
+pub then_more : {S V : Type 0} {N : ℕ} {took : S → List (Answer (ℕ × V)) → S → Type 0} {holds : List ℕ → Tree → Type 0} {reads : Tree → ℕ × V → Type 0} → VisitorLaws took → (first : ℕ) (old mid new : S) (receiver : Reception (CobsDecoderHeapless N)) (answers before : List (Answer (ℕ × V))) (count : Count) (stream : List ℕ)
     → took old before mid → HearsMore took holds reads first mid new receiver (answers ++ before) count stream → HearsMore took holds reads first old new receiver answers count stream
 then_more {holds} {reads} laws first old mid new receiver answers before count stream b h = record {
   more = before ++ h.more;
@@ -283,6 +287,45 @@ no_fault before now after zero n f q = omega (arith, f)
 no_fault before now after (suc left) n f q = omega (arith, f)
 
 -- a fault, or no call was left
-pub read_failed : (before now after left calls : ℕ) → after ≡ now + read_faults left None → calls ≡ left - 1 → now ≡ before → Failed before after calls
-read_failed before now after zero calls f e q = inr (omega arith)
-read_failed before now after (suc left) calls f e q = inl (omega (arith, f))
+pub read_failed : (first before after : LineState) → after.faults ≡ before.faults + read_faults before.calls_left None → after.calls_left ≡ before.calls_left - 1 → before.faults ≡ first.faults → Failed first after
+read_failed first before after f e q = by_calls before.calls_left f e
+  where
+    by_calls : (left : ℕ) → after.faults ≡ before.faults + read_faults left None → after.calls_left ≡ left - 1 → Failed first after
+    by_calls zero f e = inr (omega arith)
+    by_calls (suc left) f e = inl (omega (arith, f))
+
+-- what is said at a fault, of the bytes so far
+pub handed_to : {S V : Type 0} {N : ℕ} (took : S → List (Answer (ℕ × V)) → S → Type 0) (judging : Judging (ℕ × V)) (first : ℕ) (old new : S) (receiver : Reception (CobsDecoderHeapless N)) (count : Count) (held : Option (List ℕ))
+    → IfSome held (λ bytes. HearsMore took judging.holds judging.reads first old new receiver [] count (take count.heard bytes)) → IfSome held (λ bytes. IsHandedTo took judging N first old new bytes)
+handed_to took judging first old new receiver count None h = tt
+handed_to took judging first old new receiver count (Some bytes) h = record {
+  count = count.heard;
+  within = (let long = h.hears.heard in let part = length-take count.heard bytes in omega (arith, long, part));
+  answers = h.more;
+  handed = h.handed;
+  numbers = numbering_of count;
+  read = h.hears.read;
+}
+
+-- how many calls were used, by the bytes that were heard
+pub few_calls : {S V : Type 0} {N : ℕ} (took : S → List (Answer (ℕ × V)) → S → Type 0) (judging : Judging (ℕ × V)) (first : ℕ) (old new : S) (receiver : Reception (CobsDecoderHeapless N)) (count : Count) (held : Option (List ℕ)) (all left : ℕ)
+    → IfSome held (λ bytes. HearsMore took judging.holds judging.reads first old new receiver [] count (take count.heard bytes)) → all ≤ left + (count.heard + 1) → IfSome held (λ bytes. all ≤ left + (length bytes + 1))
+few_calls took judging first old new receiver count None all left h l = tt
+few_calls took judging first old new receiver count (Some bytes) all left h l = (let long = h.hears.heard in let part = length-take count.heard bytes in omega (arith, long, part, l))
+
+-- a fact of an error that is passed on
+pub if_passed : {T E : Type 0} (r : Result T E) (e : E) (P : E → Type 0) → IsErrAnd r (λ y. y ≡ e) → P e → IfErr r P
+if_passed r e P h p = let a = err_from_is_err_and r h in rw a.1 (subst P (sym a.2) p)
+
+-- the cause of what was read as that of the whole
+pub cause_on : (e : ReadError) (failed : Type 0) (growing : Bool) (halts later : Type 0) → (halts → later) → ReadCause ⊥ growing halts e → ReadCause failed growing later e
+cause_on Fault failed growing halts later f h = absurd h
+cause_on NoMemoryFound failed growing halts later f h = h
+cause_on Halted failed growing halts later f h = f h
+
+-- the answers that a push handed on, behind others
+pub handed_more : {S V : Type 0} {took : S → List (Answer (ℕ × V)) → S → Type 0} → VisitorLaws took → (r : Result (Option (Answer (ℕ × V))) NoMemory) (before through : ℕ) (old mid new : S) (c later : Numbering) (more : List (Answer (ℕ × V)))
+    → took old more mid → HandsOnBelieved took r before through mid new c later → (answers : List (Answer (ℕ × V))) × took old answers new
+handed_more laws (Ok None) before through old mid new c later more t h = (more ++ [], laws.more old mid new more [] t h.0)
+handed_more laws (Ok (Some a)) before through old mid new c later more t h = (more ++ believed c before a ∷ [], laws.more old mid new more (believed c before a ∷ []) t h.0)
+handed_more laws (Err e) before through old mid new c later more t h = absurd h

@@ -1,10 +1,11 @@
 -- What appending and opening do.
-use Rattle.std.specs.Prelude.{◌≡◌, ℕ, ◌+◌, ◌-◌, ◌^◌, ◌<◌, Bool, true, false, List, [], ◌∷◌, length, Option, Some, IfSome, Result, Ok, Err}
+use Rattle.std.specs.Prelude.{◌≡◌, ℕ, ◌+◌, ◌-◌, ◌^◌, ◌<◌, ◌≤◌, Bool, true, false, List, [], ◌∷◌, length, Option, Some, IfSome, Result, Ok, Err}
 use Rattle.cobs.specs.Frames.{shortest_frame}
-use Rattle.line_io.specs.Device.{Wrote}
+use Rattle.line_io.specs.Device.{LineState, Wrote}
 use Rattle.postcard_tree.specs.Tree.{Tree, IsTree}
 use Rattle.postcard_tree.specs.declared.error.Error.TheVariants.{SerializeBufferFull}
 use Rattle.postcard.specs.Written.{UnlessRefused}
+use Rattle.link.specs.Judged.{Judging}
 use Rattle.link.specs.Run.{Send, completed, refused, broken, written, IsSend}
 use Rattle.link.specs.declared.receiver.Answer.{Answer}
 use Rattle.stores.specs.Store.{Settles}
@@ -33,11 +34,12 @@ spent_after spent (Err Line) = true
 spent_after spent r = spent
 
 -- an append to a store that held the first and now holds the second
-pub record Appended (limit : ℕ) (spent : Bool) (n : ℕ) (writes : Option Tree) (r : Result ℕ AppendError) (old new : Option (List ℕ)) (before after : ℕ) : Type 0 where
+pub record Appended (limit : ℕ) (spent : Bool) (n : ℕ) (writes : Option Tree) (r : Result ℕ AppendError)
+    (old new : LineState) : Type 0 where
   pub send : Send
   pub is_send : IsSend IsTree limit 0 true send
   pub is : IsAppend limit spent n writes r send
-  pub wrote : Wrote old new before after (written 0 true send)
+  pub wrote : Wrote old new (written 0 true send)
 
 -- a fact where the store failed to take bytes
 abbrev pub OnStore : Result ℕ AppendError → Type 0 → Type 0
@@ -52,10 +54,21 @@ Unless (Err (Refused e)) P = P
 Unless (Err Spent) P = P
 Unless (Err Full) P = P
 
+-- a fact where bytes were handed to the store
+abbrev pub OnTried : Result ℕ AppendError → Type 0 → Type 0
+OnTried (Ok m) P = P
+OnTried (Err Line) P = P
+OnTried (Err (Refused e)) P = Unit {0}
+OnTried (Err Spent) P = Unit {0}
+OnTried (Err Full) P = Unit {0}
+
 -- A log was opened: a zero was put behind what the store held; no crash takes any of that; and what is read of it was handed on.
-pub record IsOpened {S V : Type 0} (took : S → List (Answer (ℕ × V)) → S → Type 0) (holds : List ℕ → Tree → Type 0) (reads : Tree → V → Type 0) (limit first : ℕ) (old new : Option (List ℕ)) (before after settled : ℕ) (visitor later : S) (next : ℕ) (spent : Bool) : Type 0 where
-  pub wrote : Wrote old new before after (0 ∷ [])
-  pub quiet : after ≡ before
-  pub settles : Settles new settled
-  pub read : IfSome new (λ bytes. IsHanded took holds reads limit first visitor later next bytes)
+pub record IsOpened {S V : Type 0} (took : S → List (Answer (ℕ × V)) → S → Type 0)
+    (judging : Judging (ℕ × V)) (limit first : ℕ) (old new : LineState) (settled : ℕ)
+    (visitor later : S) (next : ℕ) (spent : Bool) : Type 0 where
+  pub wrote : Wrote old new (0 ∷ [])
+  pub quiet : new.faults ≡ old.faults
+  pub settles : Settles new.told settled
+  pub read : IfSome new.told (λ bytes. IsHanded took judging limit first visitor later next bytes)
+  pub few : IfSome new.told (λ bytes. old.calls_left ≤ new.calls_left + (length bytes + 3))
   pub ready : spent ≡ false

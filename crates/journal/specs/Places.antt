@@ -5,7 +5,6 @@ use Rattle.link.specs.Stream.{unfinished}
 use Rattle.link.specs.Listening.{HasGiven}
 use Rattle.link.specs.declared.receiver.Answer.{Answer}
 use Rattle.link.specs.declared.receiver.Answer.TheVariants.{Value, Damaged, TooLong, Cut}
-use Rattle.journal.specs.Records.{reads_record}
 
 -- An answer to a stretch of a log: how many bytes stand before the stretch, and how many through the byte that brings the answer about.
 pub record Located (V : Type 0) : Type 0 where
@@ -20,18 +19,18 @@ answers_in (p ∷ located) = p.answer ∷ answers_in located
 
 -- Behind the first bytes of a log, one more brings about this answer, behind those that were given: to the stretch that is
 -- unfinished there.
-pub record IsLocatedIn {V : Type 0} (holds : List ℕ → Tree → Type 0) (reads : Tree → V → Type 0) (limit : ℕ) (bytes : List ℕ) (given : List (Answer (ℕ × V))) (p : Located V) : Type 0 where
+pub record IsLocatedIn {V : Type 0} (holds : List ℕ → Tree → Type 0) (reads : Tree → ℕ × V → Type 0) (limit : ℕ) (bytes : List ℕ) (given : List (Answer (ℕ × V))) (p : Located V) : Type 0 where
   pub front : List ℕ
   pub byte : ℕ
   pub rest : List ℕ
   pub bytes_are : bytes ≡ (front ++ byte ∷ []) ++ rest
-  pub not_yet : HasGiven holds (reads_record reads) limit 0 given front
-  pub now : HasGiven holds (reads_record reads) limit 0 (given ++ p.answer ∷ []) (front ++ byte ∷ [])
+  pub not_yet : HasGiven holds reads limit 0 given front
+  pub now : HasGiven holds reads limit 0 (given ++ p.answer ∷ []) (front ++ byte ∷ [])
   pub before_is : p.before ≡ length front - length (unfinished 0 front)
   pub through_is : p.through ≡ length front + 1
 
 -- so they are located, one behind another
-abbrev pub AreLocatedIn : {V : Type 0} → (List ℕ → Tree → Type 0) → (Tree → V → Type 0) → ℕ → List ℕ → List (Answer (ℕ × V)) → List (Located V) → Type 0
+abbrev pub AreLocatedIn : {V : Type 0} → (List ℕ → Tree → Type 0) → (Tree → ℕ × V → Type 0) → ℕ → List ℕ → List (Answer (ℕ × V)) → List (Located V) → Type 0
 AreLocatedIn holds reads limit bytes given [] = Unit {0}
 AreLocatedIn holds reads limit bytes given (p ∷ located) = IsLocatedIn holds reads limit bytes given p × AreLocatedIn holds reads limit bytes (given ++ p.answer ∷ []) located
 

@@ -1,36 +1,37 @@
 -- What is read of a log.
-use Rattle.std.specs.Prelude.{◌≡◌, ℕ, ◌+◌, ◌≤◌, List, [], ◌∷◌, ◌++◌, length, Option, Some, None, Result, Ok, Err}
+use Rattle.std.specs.Prelude.{◌≡◌, ℕ, ◌+◌, ◌≤◌, Bool, true, List, [], ◌∷◌, ◌++◌, length, take, Option, Some, None, Result, Ok, Err}
 use Rattle.postcard_tree.specs.Tree.{Tree}
 use Rattle.link.specs.Listening.{HasGiven}
+use Rattle.link.specs.Judged.{Judging}
 use Rattle.cobs.specs.declared.dec.heapless.CobsDecoderHeapless.{CobsDecoderHeapless}
 use Rattle.link.specs.Decoding.{in_array}
 use Rattle.link.specs.Receivers.{IsBehind}
 use Rattle.link.specs.declared.receiver.Answer.{Answer}
-use Rattle.link.specs.declared.receiver.NoMemory.{NoMemory}
+use Rattle.link.specs.declared.receiver.NoMemory.{NoMemory as OutOfMemory}
 use Rattle.link.specs.declared.reception.Reception.{Reception}
 use Rattle.journal.specs.declared.numbers.Count.{Count}
 use Rattle.journal.specs.declared.reading.ReadError.{ReadError}
-use Rattle.journal.specs.declared.reading.ReadError.TheVariants.{Fault, Halted}
+use Rattle.journal.specs.declared.reading.ReadError.TheVariants.{Fault, NoMemory, Halted}
 use Rattle.journal.specs.declared.log.OpenError.{OpenError}
 use Rattle.journal.specs.declared.log.OpenError.TheVariants.{Line, Sync, Read}
-use Rattle.journal.specs.Records.{reads_record, past_all}
+use Rattle.journal.specs.Records.{past_all}
 use Rattle.journal.specs.Places.{Located, answers_in, AreLocatedIn, Numbering, numbered_from, believed, numbered_behind, all_believed, numbered_after}
 
 -- These are the answers to a log's bytes as they are handed on, by which trees a stretch holds: those that are given of the bytes,
 -- but for records whose numbers are further ahead than the bytes before them can account for, which are damaged. The next number is
 -- the one behind the greatest of those that are handed on, and at least the first; and at most as far behind it as there are bytes.
-pub record IsRead {V : Type 0} (holds : List ℕ → Tree → Type 0) (reads : Tree → V → Type 0) (limit first : ℕ) (answers : List (Answer (ℕ × V))) (next : ℕ) (bytes : List ℕ) : Type 0 where
+pub record IsRead {V : Type 0} (holds : List ℕ → Tree → Type 0) (reads : Tree → ℕ × V → Type 0) (limit first : ℕ) (answers : List (Answer (ℕ × V))) (next : ℕ) (bytes : List ℕ) : Type 0 where
   pub located : List (Located V)
-  pub given : HasGiven holds (reads_record reads) limit 0 (answers_in located) bytes
+  pub given : HasGiven holds reads limit 0 (answers_in located) bytes
   pub places : AreLocatedIn holds reads limit bytes [] located
   pub handed_on : answers ≡ all_believed (numbered_from first) located
   pub next_is : next ≡ past_all first answers
   pub within : next ≤ first + length bytes
 
 -- the same, with the numbers behind these bytes
-pub record IsReadTo {V : Type 0} (holds : List ℕ → Tree → Type 0) (reads : Tree → V → Type 0) (limit first : ℕ) (answers : List (Answer (ℕ × V))) (c : Numbering) (bytes : List ℕ) : Type 0 where
+pub record IsReadTo {V : Type 0} (holds : List ℕ → Tree → Type 0) (reads : Tree → ℕ × V → Type 0) (limit first : ℕ) (answers : List (Answer (ℕ × V))) (c : Numbering) (bytes : List ℕ) : Type 0 where
   pub located : List (Located V)
-  pub given : HasGiven holds (reads_record reads) limit 0 (answers_in located) bytes
+  pub given : HasGiven holds reads limit 0 (answers_in located) bytes
   pub places : AreLocatedIn holds reads limit bytes [] located
   pub handed_on : answers ≡ all_believed (numbered_from first) located
   pub numbers : c ≡ numbered_after (numbered_from first) located
@@ -42,38 +43,69 @@ abbrev pub numbering_of : Count → Numbering
 numbering_of count = record { next = count.next; through = count.through }
 
 -- the same, a receiver stands behind these bytes, and so many they are
-pub record HearsLog {V : Type 0} {N : ℕ} (holds : List ℕ → Tree → Type 0) (reads : Tree → V → Type 0) (first : ℕ) (receiver : Reception (CobsDecoderHeapless N)) (answers : List (Answer (ℕ × V))) (count : Count) (stream : List ℕ) : Type 0 where
+pub record HearsLog {V : Type 0} {N : ℕ} (holds : List ℕ → Tree → Type 0) (reads : Tree → ℕ × V → Type 0) (first : ℕ) (receiver : Reception (CobsDecoderHeapless N)) (answers : List (Answer (ℕ × V))) (count : Count) (stream : List ℕ) : Type 0 where
   pub after : IsBehind in_array N 0 receiver stream
   pub read : IsReadTo holds reads N first answers (numbering_of count) stream
   pub heard : count.heard ≡ length stream
 
 -- the answer of a push, where it has one, was handed on as it is believed, and the numbers behind it are told
-abbrev pub HandsOnBelieved : {S V : Type 0} → (S → List (Answer (ℕ × V)) → S → Type 0) → Result (Option (Answer (ℕ × V))) NoMemory → ℕ → ℕ → S → S → Numbering → Numbering → Type 0
+abbrev pub HandsOnBelieved : {S V : Type 0} → (S → List (Answer (ℕ × V)) → S → Type 0) → Result (Option (Answer (ℕ × V))) OutOfMemory → ℕ → ℕ → S → S → Numbering → Numbering → Type 0
 HandsOnBelieved took (Ok None) before through old new c later = took old [] new × (later ≡ c)
 HandsOnBelieved took (Ok (Some a)) before through old new c later = took old (believed c before a ∷ []) new × (later ≡ numbered_behind c through (believed c before a))
 HandsOnBelieved took (Err e) before through old new c later = ⊥
 
 -- more answers were handed on, and with those before them they are what a receiver that stands behind these bytes has brought about
-pub record HearsMore {S V : Type 0} {N : ℕ} (took : S → List (Answer (ℕ × V)) → S → Type 0) (holds : List ℕ → Tree → Type 0) (reads : Tree → V → Type 0) (first : ℕ) (old new : S) (receiver : Reception (CobsDecoderHeapless N)) (answers : List (Answer (ℕ × V))) (count : Count) (stream : List ℕ) : Type 0 where
+pub record HearsMore {S V : Type 0} {N : ℕ} (took : S → List (Answer (ℕ × V)) → S → Type 0) (holds : List ℕ → Tree → Type 0) (reads : Tree → ℕ × V → Type 0) (first : ℕ) (old new : S) (receiver : Reception (CobsDecoderHeapless N)) (answers : List (Answer (ℕ × V))) (count : Count) (stream : List ℕ) : Type 0 where
   pub more : List (Answer (ℕ × V))
   pub handed : took old more new
   pub hears : HearsLog holds reads first receiver (answers ++ more) count stream
 
 -- what is read of a log was handed on
-pub record IsHanded {S V : Type 0} (took : S → List (Answer (ℕ × V)) → S → Type 0) (holds : List ℕ → Tree → Type 0) (reads : Tree → V → Type 0) (limit first : ℕ) (old new : S) (next : ℕ) (bytes : List ℕ) : Type 0 where
+pub record IsHanded {S V : Type 0} (took : S → List (Answer (ℕ × V)) → S → Type 0)
+    (judging : Judging (ℕ × V)) (limit first : ℕ) (old new : S) (next : ℕ) (bytes : List ℕ) : Type 0 where
   pub answers : List (Answer (ℕ × V))
   pub handed : took old answers new
-  pub read : IsRead holds reads limit first answers next bytes
+  pub read : IsRead judging.holds judging.reads limit first answers next bytes
+
+-- what is read of so many bytes of a log was handed on, and nothing else
+pub record IsHandedTo {S V : Type 0} (took : S → List (Answer (ℕ × V)) → S → Type 0)
+    (judging : Judging (ℕ × V)) (limit first : ℕ) (old new : S) (bytes : List ℕ) : Type 0 where
+  pub count : ℕ
+  pub within : count ≤ length bytes
+  pub answers : List (Answer (ℕ × V))
+  pub handed : took old answers new
+  pub numbers : Numbering
+  pub read : IsReadTo judging.holds judging.reads limit first answers numbers (take count bytes)
 
 -- a fact where a read failed
 abbrev pub OnFault : Result ℕ ReadError → Type 0 → Type 0
 OnFault (Ok n) P = Unit {0}
 OnFault (Err Fault) P = P
+OnFault (Err NoMemory) P = Unit {0}
 OnFault (Err Halted) P = Unit {0}
 
--- why an open failed: the store did, unless the visitor halted
-abbrev pub HasCause : OpenError → Type 0 → Type 0
-HasCause Line P = P
-HasCause Sync P = P
-HasCause (Read Fault) P = P
-HasCause (Read Halted) P = Unit {0}
+-- some answers were handed on, or none
+abbrev pub HasHanded : {S A : Type 0} → (S → List A → S → Type 0) → S → S → Type 0
+HasHanded {S} {A} took old new = (answers : List A) × took old answers new
+
+-- behind some answers that were handed on, the visitor is one that halts
+abbrev pub HaltsBehind : {S A : Type 0} → (S → List A → S → Type 0) → (S → Type 0) → S → Type 0
+HaltsBehind {S} {A} took halts old = (answers : List A) × (mid : S) × took old answers mid × halts mid
+
+-- why reading a log went no further: the store failed, a value asked for memory, or the visitor halted
+abbrev pub ReadCause : Type 0 → Bool → Type 0 → ReadError → Type 0
+ReadCause failed growing halted Fault = failed
+ReadCause failed growing halted NoMemory = growing ≡ true
+ReadCause failed growing halted Halted = halted
+
+-- why a log wasn't opened: the store failed, or it wasn't read to its end
+abbrev pub OpenCause : Type 0 → Bool → Type 0 → OpenError → Type 0
+OpenCause failed growing halted Line = failed
+OpenCause failed growing halted Sync = failed
+OpenCause failed growing halted (Read e) = ReadCause failed growing halted e
+
+-- a fact where the log was begun to be read
+abbrev pub OnRead : OpenError → (ReadError → Type 0) → Type 0
+OnRead Line P = Unit {0}
+OnRead Sync P = Unit {0}
+OnRead (Read e) P = P e

@@ -5,7 +5,7 @@
 //!
 //! ```text
 //! let mut list = Listed::new(alloc);
-//! let mut journal = Journal::<_, 256>::open::<Reading, _>(alloc, store, 0, &mut list)?;
+//! let mut journal = Journal::<_, 256>::open::<Reading, _, _>(alloc, store, 0, &Strict(OfType), &mut list)?;
 //! let number = journal.append(&reading)?;
 //! journal.sync()?;      // from here on no crash takes it
 //! ```
@@ -15,7 +15,6 @@
 #![tactic(auto)]
 
 mod framing;
-mod judging;
 mod log;
 mod numbers;
 mod reading;
@@ -23,5 +22,5 @@ mod visitors;
 
 pub use framing::frame_record;
 pub use log::{AppendError, Journal, OpenError, Unopened};
-pub use reading::{ReadError, read_all, read_all_ordinary};
+pub use reading::{ReadError, read_all};
 pub use visitors::{Halt, Listed, Unheard, Visitor};

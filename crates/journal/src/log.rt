@@ -1,20 +1,16 @@
 //! Appending to a log.
-ghost use Rattle.std.specs.Prelude.{◌≡◌, ℕ, ◌-◌, ◌^◌, ◌<◌, ◌≤◌, [], true, false, IfOk, IfErr, OnOk, OnErr};
+ghost use Rattle.std.specs.Prelude.{◌≡◌, ◌⊎◌, ℕ, ◌+◌, ◌-◌, ◌^◌, ◌<◌, ◌≤◌, max, [], true, false, IfOk, IfErr, IfSome, OnOk, OnErr};
 ghost use Rattle.line_io.specs.Transfers.{Failed};
-ghost use Rattle.postcard.specs.Frames.{Holds};
-ghost use Rattle.link.specs.Stream.{HoldsExactly};
 ghost use Rattle.link.specs.Listening.{ReceiverFitsInMemory};
 ghost use Rattle.stores.specs.Store.{Settles};
-ghost use Rattle.journal.specs.Records.{takes_record};
-ghost use Rattle.journal.specs.Reading.{HasCause};
-ghost use Rattle.journal.specs.Appending.{Appended, next_after, spent_after, OnStore, Unless, IsOpened};
+ghost use Rattle.journal.specs.Reading.{HaltsBehind, IsHandedTo, OnFault, OnRead, OpenCause};
+ghost use Rattle.journal.specs.Appending.{Appended, next_after, spent_after, OnStore, OnTried, Unless, IsOpened};
 
 use crate::framing::frame_record;
-use crate::judging::{Judging, Ordinary, Strict};
-use crate::reading::{ReadError, read_by};
+use crate::reading::{ReadError, read_all};
 use crate::visitors::Visitor;
-use postcard::{DeserializeOwned, Exact, Serialize};
-use postcard_tree::Readable;
+use link::MessageReader;
+use postcard::Serialize;
 use std::alloc::Global;
 use stores::{Store, SyncFault, put};
 use thiserror::Error;
@@ -27,7 +23,7 @@ pub enum AppendError {
     Refused(postcard::Error),
     /// The store failed. A beginning of the record's bytes went out, not all of them, and perhaps none. The journal is spent: it
     /// can't know whether the record will be read.
-    #[error("store failed")]
+    #[error("write failed")]
     Line,
     /// The journal is spent: an append or a sync failed before. Nothing was written. Open the log again.
     #[error("spent")]
@@ -41,7 +37,7 @@ pub enum AppendError {
 #[derive(Clone, Copy, PartialEq, Eq, Debug, Drop, Error)]
 pub enum OpenError {
     /// The zero couldn't be put behind what is there.
-    #[error("store failed")]
+    #[error("write failed")]
     Line,
     /// The store couldn't be synced.
     #[error("not synced")]
@@ -73,22 +69,28 @@ pub struct Journal<S, const N: usize> {
 impl<S: Store, const N: usize> Journal<S, N> {
     ghost use Rattle.journal.specs.Logs.{store_of, next_of, spent_of};
 
-    // Puts a zero behind what is there, syncs, and reads, by a way of judging stretches.
-    fn open_by<T: Readable + Drop, J: Judging<T, N>, V: Visitor<T>>(
+    /// Opens a log: puts a zero behind what is there, syncs, and hands what is read to the visitor. The first record of an empty
+    /// log gets the number `first`, any other one the number behind the greatest that was read, and at least `first`.
+    ///
+    /// By `Strict(OfType)` a stretch is a record where it is the very frame that appending one makes, by `Ordinary(OfType)` where a
+    /// front of its message is one in any spelling: also where a newer writer put fields behind those that are known here. What is
+    /// appended is spelled as ever.
+    ///
+    /// At an error the store is handed back; it may have got the zero.
+    pub fn open<T: Drop, M: MessageReader<(u64, T)>, V: Visitor<T>>(
         alloc: Global,
         store: S,
         first: u64,
+        messages: &M,
         visitor: &mut V,
     ) -> Result<Journal<S, N>, Unopened<S>>
         requires some { 1 < N }
         requires fits { ReceiverFitsInMemory N.row }
-        ensures opened { IfOk result
-            (λ j. IsOpened V.took J.holds T.reads N first (S.held store) (S.held (store_of j))
-            (S.faults store) (S.faults (store_of j)) (S.settled (store_of j)) visitor.old
-            visitor.new (next_of j) (spent_of j)) }
-        ensures cause { IfErr result
-            (λ e. HasCause e.cause
-            (Failed (S.faults store) (S.faults e.store) (S.calls_left e.store))) }
+        ensures opened { IfOk result (λ j. IsOpened V.took (M.judging messages.now) N first
+            (S.line store) (S.line (store_of j)) (S.settled (store_of j))
+            visitor.old visitor.new (next_of j) (spent_of j)) }
+        ensures cause { IfErr result (λ e. OpenCause (Failed (S.line store) (S.line e.store))
+            (M.judging messages.now).growing (HaltsBehind V.took V.halts visitor.old) e.cause) }
     {
         let mut store = store;
         if put(&mut store, &[0]) == 0 {
@@ -103,7 +105,7 @@ impl<S: Store, const N: usize> Journal<S, N> {
                 store,
             });
         }
-        match read_by::<T, J, S, V, N>(alloc, &mut store, first, visitor) {
+        match read_all::<T, M, S, V, N>(alloc, &mut store, first, messages, visitor) {
             Ok(next) => Ok(Journal {
                 store,
                 next,
@@ -117,50 +119,30 @@ impl<S: Store, const N: usize> Journal<S, N> {
         }
     }
 
-    /// Opens a log: puts a zero behind what is there, syncs, and hands what is read to the visitor. The first record of an empty
-    /// log gets the number `first`, any other one the number behind the greatest that was read, and at least `first`.
-    ///
-    /// At an error the store is handed back; it may have got the zero.
-    pub fn open<T: DeserializeOwned + Exact, V: Visitor<T>>(
-        alloc: Global,
-        store: S,
-        first: u64,
-        visitor: &mut V,
-    ) -> Result<Journal<S, N>, Unopened<S>>
+    /// A log that goes on at the end of this store, by this number, and is neither read nor written here. The caller knows that no
+    /// stretch is begun at the store's end, and which numbers were given: as `open` does, which puts a zero there, syncs and reads.
+    pub fn resume(store: S, next: u64) -> Journal<S, N>
         requires some { 1 < N }
         requires fits { ReceiverFitsInMemory N.row }
-        ensures opened { IfOk result
-            (λ j. IsOpened V.took (HoldsExactly (takes_record T.takes)) T.reads N first
-            (S.held store) (S.held (store_of j))
-            (S.faults store) (S.faults (store_of j)) (S.settled (store_of j)) visitor.old
-            visitor.new (next_of j) (spent_of j)) }
-        ensures cause { IfErr result
-            (λ e. HasCause e.cause
-            (Failed (S.faults store) (S.faults e.store) (S.calls_left e.store))) }
+        ensures store { store_of result ≡ store }
+        ensures next { next_of result ≡ next }
+        ensures ready { spent_of result ≡ false }
     {
-        Journal::<S, N>::open_by::<T, Strict, V>(alloc, store, first, visitor)
+        Journal {
+            store,
+            next,
+            spent: false,
+            buffer: [0; N],
+        }
     }
 
-    /// As `open`, but a stretch is a record where a front of its message is one in any spelling: also where a newer writer put
-    /// fields behind those that are known here. What is appended is spelled as ever.
-    pub fn open_ordinary<T: DeserializeOwned, V: Visitor<T>>(
-        alloc: Global,
-        store: S,
-        first: u64,
-        visitor: &mut V,
-    ) -> Result<Journal<S, N>, Unopened<S>>
-        requires some { 1 < N }
-        requires fits { ReceiverFitsInMemory N.row }
-        ensures opened { IfOk result
-            (λ j. IsOpened V.took (Holds (takes_record T.takes)) T.reads N first (S.held store)
-            (S.held (store_of j))
-            (S.faults store) (S.faults (store_of j)) (S.settled (store_of j)) visitor.old
-            visitor.new (next_of j) (spent_of j)) }
-        ensures cause { IfErr result
-            (λ e. HasCause e.cause
-            (Failed (S.faults store) (S.faults e.store) (S.calls_left e.store))) }
+    /// Leaves out all numbers below this one: the next record gets it, or the number that it would have got where that is above.
+    pub fn skip_to(&mut self, number: u64)
+        ensures next { next_of self.new ≡ max (next_of self.old) number }
+        ensures spent { spent_of self.new ≡ spent_of self.old }
+        ensures store { store_of self.new ≡ store_of self.old }
     {
-        Journal::<S, N>::open_by::<T, Ordinary, V>(alloc, store, first, visitor)
+        self.next = self.next.max(number);
     }
 
     /// The number that the next record gets.
@@ -191,22 +173,22 @@ impl<S: Store, const N: usize> Journal<S, N> {
     }
 
     /// Appends a value, and answers its number. The record is whole in the journal's own buffer before its first byte goes out, and
-    /// goes out in one call where the store takes it so. No crash takes it from the next `sync` on that is Ok.
+    /// goes out by one call where the store takes whole pieces. No crash takes it from the next `sync` on that is Ok.
     pub fn append<T: Serialize>(&mut self, value: &T) -> Result<u64, AppendError>
         ensures appended { Appended (N - 1) (spent_of self.old) (next_of self.old)
-            (T.writes value.now) result
-            (S.held (store_of self.old)) (S.held (store_of self.new)) (S.faults (store_of self.old))
-            (S.faults (store_of self.new)) }
+            (T.writes value.now) result (S.line (store_of self.old)) (S.line (store_of self.new)) }
         ensures next { next_of self.new ≡ next_after (next_of self.old) result }
         ensures spent { spent_of self.new ≡ spent_after (spent_of self.old) result }
         ensures number { OnOk result (next_of self.old < 2 ^ 64 - 1) }
         ensures valid { OnOk result (T.valid value.now) }
         ensures untouched { Unless result (store_of self.new ≡ store_of self.old) }
         ensures settled { S.settled (store_of self.new) ≡ S.settled (store_of self.old) }
-        ensures quiet { OnOk result (S.faults (store_of self.new) ≡ S.faults (store_of self.old)) }
+        ensures quiet { OnOk result
+            ((S.line (store_of self.new)).faults ≡ (S.line (store_of self.old)).faults) }
+        ensures once { S.whole (store_of self.old) → OnTried result
+            ((S.line (store_of self.new)).calls_left ≡ (S.line (store_of self.old)).calls_left - 1) }
         ensures cause { OnStore result
-            (Failed (S.faults (store_of self.old)) (S.faults (store_of self.new))
-            (S.calls_left (store_of self.new))) }
+            (Failed (S.line (store_of self.old)) (S.line (store_of self.new))) }
     {
         if self.spent {
             return Err(AppendError::Spent);
@@ -231,9 +213,13 @@ impl<S: Store, const N: usize> Journal<S, N> {
     /// what this one lost.
     pub fn sync(&mut self) -> Result<(), SyncFault>
         ensures settled { OnOk result
-            (Settles (S.held (store_of self.new)) (S.settled (store_of self.new))) }
+            (Settles (S.line (store_of self.new)).told (S.settled (store_of self.new))) }
         ensures no_less { S.settled (store_of self.old) ≤ S.settled (store_of self.new) }
-        ensures held { S.held (store_of self.new) ≡ S.held (store_of self.old) }
+        ensures held { (S.line (store_of self.new)).told ≡ (S.line (store_of self.old)).told }
+        ensures quiet { OnOk result
+            ((S.line (store_of self.new)).faults ≡ (S.line (store_of self.old)).faults) }
+        ensures cause { OnErr result ((spent_of self.old ≡ true)
+            ⊎ Failed (S.line (store_of self.old)) (S.line (store_of self.new))) }
         ensures next { next_of self.new ≡ next_of self.old }
         ensures ready { OnOk result ((spent_of self.old ≡ false) × (spent_of self.new ≡ false)) }
         ensures spent { OnErr result (spent_of self.new ≡ true) }

@@ -1,19 +1,13 @@
 //! Reading a log from its first byte to its end.
-ghost use Rattle.std.specs.Prelude.{◌≡◌, ℕ, ◌+◌, ◌-◌, ◌^◌, ◌<◌, ◌≤◌, List, [], ◌∷◌, ◌++◌, length, IfOk, IfErr, OnOk, IfSome};
+ghost use Rattle.std.specs.Prelude.{◌≡◌, ℕ, ◌+◌, ◌-◌, ◌^◌, ◌<◌, ◌≤◌, true, Err, List, [], ◌∷◌, ◌++◌, length, IfOk, IfErr, IsErr, OnOk, IfSome};
 ghost use Rattle.line_io.specs.Transfers.{Failed};
 ghost use Rattle.link.specs.Listening.{ReceiverFitsInMemory};
 ghost use Rattle.link.specs.declared.receiver.Answer.{Answer};
-ghost use Rattle.postcard.specs.Frames.{Holds};
-ghost use Rattle.link.specs.Stream.{HoldsExactly};
-ghost use Rattle.journal.specs.Records.{takes_record};
-ghost use Rattle.journal.specs.Reading.{HandsOnBelieved, HearsLog, HearsMore, IsHanded, OnFault, numbering_of};
+ghost use Rattle.journal.specs.Reading.{HandsOnBelieved, HearsLog, HearsMore, HasHanded, HaltsBehind, ReadCause, IsHanded, IsHandedTo, OnFault, numbering_of};
 
-use crate::judging::{Judging, Ordinary, Strict};
 use crate::numbers::{Count, believe, count_on};
 use crate::visitors::Visitor;
-use link::{Answer, NoMemory, Pushed, Receiver};
-use postcard::{DeserializeOwned, Exact};
-use postcard_tree::Readable;
+use link::{Answer, MessageReader, NoMemory, Pushed, Receiver};
 use std::alloc::Global;
 use stores::Store;
 use thiserror::Error;
@@ -24,10 +18,13 @@ const ROOM: usize = 1024;
 /// Why a log wasn't read to its end.
 #[derive(Clone, Copy, PartialEq, Eq, Debug, Drop, Error)]
 pub enum ReadError {
-    /// A read failed, or the store has no call left.
+    /// A read failed, or the store has no call left. What was read before it was handed on.
     #[error("read failed")]
     Fault,
-    /// The visitor wanted no more, or no memory was found for a value.
+    /// No memory was found for a value.
+    #[error("no memory")]
+    NoMemory,
+    /// The visitor wanted no more.
     #[error("halted")]
     Halted,
 }
@@ -43,7 +40,8 @@ fn hand_on<T: Drop, V: Visitor<T>>(
         (λ later. HandsOnBelieved V.took answer ((count.heard - 1) - stretch) count.heard
         visitor.old visitor.new (numbering_of count) (numbering_of later)) }
     ensures heard { IfOk result (λ later. later.heard ≡ count.heard) }
-    ensures halted { IfErr result (λ e. e ≡ ReadError.Halted) }
+    ensures cause { IfErr result (λ e. ReadCause ⊥ true (V.halts visitor.old) e) }
+    ensures memory { result ≡ Err ReadError.NoMemory → IsErr answer }
 {
     match answer {
         Ok(None) => Ok(count),
@@ -56,7 +54,7 @@ fn hand_on<T: Drop, V: Visitor<T>>(
                 Err(_) => Err(ReadError::Halted),
             }
         }
-        Err(_) => Err(ReadError::Halted),
+        Err(_) => Err(ReadError::NoMemory),
     }
 }
 
@@ -73,9 +71,10 @@ fn hear_on(count: Count, used: usize) -> Count
     }
 }
 
-// HearsLog a piece, and hands on the answers.
-fn hear<T: Readable + Drop, J: Judging<T, N>, V: Visitor<T>, const N: usize>(
+// Hears a piece, and hands on the answers.
+fn hear<T: Drop, M: MessageReader<(u64, T)>, V: Visitor<T>, const N: usize>(
     alloc: Global,
+    messages: &M,
     receiver: &mut Receiver<N>,
     visitor: &mut V,
     count: Count,
@@ -84,11 +83,14 @@ fn hear<T: Readable + Drop, J: Judging<T, N>, V: Visitor<T>, const N: usize>(
     requires { count.heard + length piece.now < 2 ^ 64 }
     ensures heard { IfOk result
         (λ later. (first : ℕ) (stream : List ℕ) (answers : List (Answer (ℕ × T)))
-        → HearsLog J.holds T.reads first receiver.old answers count stream
-        → HearsMore V.took J.holds T.reads first visitor.old visitor.new receiver.new answers later
-        (stream ++ piece.now)) }
+        → HearsLog (M.judging messages.now).holds (M.judging messages.now).reads
+        first receiver.old answers count stream
+        → HearsMore V.took (M.judging messages.now).holds (M.judging messages.now).reads
+        first visitor.old visitor.new receiver.new answers later (stream ++ piece.now)) }
     ensures on { IfOk result (λ later. later.heard ≡ count.heard + length piece.now) }
-    ensures halted { IfErr result (λ e. e ≡ ReadError.Halted) }
+    ensures handed { OnOk result (HasHanded V.took visitor.old visitor.new) }
+    ensures cause { IfErr result (λ e. ReadCause ⊥ (M.judging messages.now).growing
+        (HaltsBehind V.took V.halts visitor.old) e) }
 {
     let mut rest = piece;
     let mut count = count;
@@ -97,7 +99,7 @@ fn hear<T: Readable + Drop, J: Judging<T, N>, V: Visitor<T>, const N: usize>(
             used,
             stretch,
             answer,
-        } = J::push(alloc, receiver, rest);
+        } = receiver.push_with::<(u64, T), M>(alloc, messages, rest);
         count = hand_on(visitor, hear_on(count, used), stretch, answer)?;
         let (_, after) = rest.split_at(used);
         rest = after;
@@ -105,24 +107,36 @@ fn hear<T: Readable + Drop, J: Judging<T, N>, V: Visitor<T>, const N: usize>(
     Ok(count)
 }
 
-// Reads a log from its first byte to its end, by a way of judging stretches.
-pub(crate) fn read_by<
-    T: Readable + Drop,
-    J: Judging<T, N>,
-    S: Store,
-    V: Visitor<T>,
-    const N: usize,
->(alloc: Global, store: &mut S, first: u64, visitor: &mut V) -> Result<u64, ReadError>
+/// Reads a log from its first byte to its end, hands the answers to its stretches to a visitor, and answers the number behind the
+/// greatest one, which is at least `first`. What stands behind the last zero isn't answered.
+///
+/// By `Strict(OfType)` a stretch is a value only where it is the very frame that appending that record makes. By `Ordinary(OfType)`
+/// it is one where a front of its message is a record in any spelling: also where a newer writer put fields behind those that are
+/// known here.
+///
+/// The store is read once from front to back, in at most one read for each byte and one more. At `Fault` the visitor was handed what
+/// was read until then, and nothing else.
+pub fn read_all<T: Drop, M: MessageReader<(u64, T)>, S: Store, V: Visitor<T>, const N: usize>(
+    alloc: Global,
+    store: &mut S,
+    first: u64,
+    messages: &M,
+    visitor: &mut V,
+) -> Result<u64, ReadError>
     requires { ReceiverFitsInMemory N.row }
-    ensures read { IfOk result (λ next. IfSome (S.held store.old) (λ bytes.
-        IsHanded V.took J.holds T.reads N first visitor.old visitor.new next bytes)) }
-    ensures held { S.held store.new ≡ S.held store.old }
+    ensures read { IfOk result (λ next. IfSome (S.line store.old).told (λ bytes.
+        IsHanded V.took (M.judging messages.now) N first visitor.old visitor.new next bytes)) }
+    ensures so_far { OnFault result (IfSome (S.line store.old).told (λ bytes.
+        IsHandedTo V.took (M.judging messages.now) N first visitor.old visitor.new bytes)) }
+    ensures cause { IfErr result (λ e. ReadCause (Failed (S.line store.old) (S.line store.new))
+        (M.judging messages.now).growing (HaltsBehind V.took V.halts visitor.old) e) }
+    ensures few { IfSome (S.line store.old).told (λ bytes. (S.line store.old).calls_left
+        ≤ (S.line store.new).calls_left + (length bytes + 1)) }
+    ensures held { (S.line store.new).told ≡ (S.line store.old).told }
     ensures settled { S.settled store.new ≡ S.settled store.old }
-    ensures quiet { OnOk result (S.faults store.new ≡ S.faults store.old) }
-    ensures fault { OnFault result
-        (Failed (S.faults store.old) (S.faults store.new) (S.calls_left store.new)) }
-    ensures more { S.faults store.old ≤ S.faults store.new }
-    ensures calls { S.calls_left store.new ≤ S.calls_left store.old }
+    ensures quiet { OnOk result ((S.line store.new).faults ≡ (S.line store.old).faults) }
+    ensures more { (S.line store.old).faults ≤ (S.line store.new).faults }
+    ensures calls { (S.line store.new).calls_left ≤ (S.line store.old).calls_left }
 {
     let mut receiver = Receiver::<N>::new();
     let mut room = [0u8; ROOM];
@@ -136,56 +150,9 @@ pub(crate) fn read_by<
             None => return Err(ReadError::Fault),
             Some(0) => return Ok(count.next),
             Some(n) => {
-                count = hear::<T, J, V, N>(alloc, &mut receiver, visitor, count, &room[..n])?;
+                let piece = &room[..n];
+                count = hear::<T, M, V, N>(alloc, messages, &mut receiver, visitor, count, piece)?;
             }
         }
     }
-}
-
-/// Reads a log from its first byte to its end, hands the answers to its stretches to a visitor, and answers the number behind the
-/// greatest one, which is at least `first`. What stands behind the last zero isn't answered.
-///
-/// A stretch is a value only where it is the very frame that appending that record makes.
-pub fn read_all<T: DeserializeOwned + Exact, S: Store, V: Visitor<T>, const N: usize>(
-    alloc: Global,
-    store: &mut S,
-    first: u64,
-    visitor: &mut V,
-) -> Result<u64, ReadError>
-    requires { ReceiverFitsInMemory N.row }
-    ensures read { IfOk result (λ next. IfSome (S.held store.old) (λ bytes.
-        IsHanded V.took (HoldsExactly (takes_record T.takes)) T.reads N first visitor.old
-        visitor.new next bytes)) }
-    ensures held { S.held store.new ≡ S.held store.old }
-    ensures settled { S.settled store.new ≡ S.settled store.old }
-    ensures quiet { OnOk result (S.faults store.new ≡ S.faults store.old) }
-    ensures fault { OnFault result
-        (Failed (S.faults store.old) (S.faults store.new) (S.calls_left store.new)) }
-    ensures more { S.faults store.old ≤ S.faults store.new }
-    ensures calls { S.calls_left store.new ≤ S.calls_left store.old }
-{
-    read_by::<T, Strict, S, V, N>(alloc, store, first, visitor)
-}
-
-/// As `read_all`, but a stretch is a value where a front of its message is a record in any spelling: also where a newer writer put
-/// fields behind those that are known here.
-pub fn read_all_ordinary<T: DeserializeOwned, S: Store, V: Visitor<T>, const N: usize>(
-    alloc: Global,
-    store: &mut S,
-    first: u64,
-    visitor: &mut V,
-) -> Result<u64, ReadError>
-    requires { ReceiverFitsInMemory N.row }
-    ensures read { IfOk result (λ next. IfSome (S.held store.old) (λ bytes.
-        IsHanded V.took (Holds (takes_record T.takes)) T.reads N first visitor.old visitor.new
-        next bytes)) }
-    ensures held { S.held store.new ≡ S.held store.old }
-    ensures settled { S.settled store.new ≡ S.settled store.old }
-    ensures quiet { OnOk result (S.faults store.new ≡ S.faults store.old) }
-    ensures fault { OnFault result
-        (Failed (S.faults store.old) (S.faults store.new) (S.calls_left store.new)) }
-    ensures more { S.faults store.old ≤ S.faults store.new }
-    ensures calls { S.calls_left store.new ≤ S.calls_left store.old }
-{
-    read_by::<T, Ordinary, S, V, N>(alloc, store, first, visitor)
 }

@@ -1,5 +1,5 @@
 //! What is handed the answers to a log.
-ghost use Rattle.std.specs.Prelude.{◌≡◌, ℕ, List, [], ◌∷◌, ◌++◌, OnOk, ⊤};
+ghost use Rattle.std.specs.Prelude.{◌≡◌, ℕ, List, [], ◌∷◌, ◌++◌, OnOk, OnErr, ⊤};
 ghost use Rattle.link.specs.declared.receiver.Answer.{Answer};
 ghost use Rattle.journal.specs.Visits.{VisitorLaws};
 
@@ -17,9 +17,13 @@ pub trait Visitor<T> {
     /// It was handed these answers, one after another: before, the answers, after.
     ghost took: { Self → List (Answer (ℕ × T)) → Self → Type 0 };
 
+    /// Where it may halt; one that never does says so by the empty type.
+    ghost halts: { Self → Type 0 };
+
     /// Takes the next answer.
     fn visit(&mut self, answer: Answer<(u64, T)>) -> Result<(), Halt>
-        ensures { OnOk result (took self.old (answer ∷ []) self.new) };
+        ensures took { OnOk result (took self.old (answer ∷ []) self.new) }
+        ensures halts { OnErr result (halts self.old) };
 
     ghost laws: { VisitorLaws took };
 }
@@ -47,13 +51,18 @@ impl<T: Drop> Visitor<T> for Listed<T> {
 
     ghost took = { λ l a m. m.answers.items ≡ l.answers.items ++ a };
 
+    // where no memory is found for the answer
+    ghost halts = { λ _. ⊤ };
+
     ghost laws = { record {
       nothing = λ l. sym (append-nil l.answers.items);
       more = λ l m n a b p q. q ∙ ap (λ x. x ++ b) p ∙ append_assoc l.answers.items a b;
     } };
 
     fn visit(&mut self, answer: Answer<(u64, T)>) -> Result<(), Halt>
-        ensures { OnOk result (self.new.answers.items ≡ self.old.answers.items ++ answer ∷ []) }
+        ensures took { OnOk result (self.new.answers.items ≡ self.old.answers.items ++ answer ∷ []) }
+        ensures halts { OnErr result ⊤ }
+        ensures kept { OnErr result (self.new.answers.items ≡ self.old.answers.items) }
     {
         match self.answers.push(answer) {
             Ok(()) => Ok(()),
@@ -69,10 +78,13 @@ pub struct Unheard;
 impl<T: Drop> Visitor<T> for Unheard {
     ghost took = { λ _ _ _. ⊤ };
 
+    ghost halts = { λ _. ⊥ };
+
     ghost laws = { record { nothing = λ s. tt; more = λ s t u a b p q. tt } };
 
     fn visit(&mut self, _answer: Answer<(u64, T)>) -> Result<(), Halt>
-        ensures { OnOk result ⊤ }
+        ensures took { OnOk result ⊤ }
+        ensures halts { OnErr result ⊥ }
     {
         Ok(())
     }

@@ -1,8 +1,10 @@
 -- What is read of what repairing a log wrote, and of a front of a log.
-use Rattle.std.proofs.Common.{◌≡◌, ◌↔◌, ℕ, zero, suc, ◌≤◌, List, [], ◌∷◌, ◌++◌, length, map, take, drop, true, false, refl, sym, ap, ◌∙◌, subst, append_assoc}
+use Rattle.std.proofs.Common.{◌≡◌, ◌↔◌, ℕ, zero, suc, ◌≤◌, List, [], ◌∷◌, ◌++◌, length, map, take, drop, true, false, refl, sym, ap, ◌∙◌, subst, inr, append_assoc}
 use Rattle.std.proofs.lemmas.List.{append-nil, take-append-drop}
 use Rattle.std.specs.List.{AllZip}
-use Rattle.cobs.specs.Sentinel.{masked}
+use Rattle.cobs.specs.Sentinel.{masked, frame_for}
+use Rattle.postcard_tree.specs.Spelling.{short}
+use Rattle.journal_scan.specs.Scanning.{with_zero}
 use Rattle.postcard_tree.specs.Tree.{Tree}
 use Rattle.link.specs.Stream.{Verdict, cut, damaged, too_long, value, ended, unfinished, IsAnswer, HoldsExactly, begun_answers, cut_answers, Answers}
 use Rattle.link.specs.Run.{completed, sent, session_line, line, IsFramed, IsRun}
@@ -75,6 +77,36 @@ module _ (takes : Tree → Type 0) (limit : ℕ) where
           are = values_back (t ∷ ts) ∙ sym e;
         },
       )
+
+-- records appended anew end with a zero
+ends_with_zero : (front : List ℕ) (ts : List Tree) → (x : List ℕ) × ((front ++ 0 ∷ []) ++ appended_anew ts ≡ x ++ 0 ∷ [])
+ends_with_zero front [] = (front, append-nil (front ++ 0 ∷ []))
+ends_with_zero front (t ∷ ts) =
+    let more = (front ++ 0 ∷ []) ++ frame_for 0 (short t) in
+    let h = ends_with_zero more ts in (
+      h.0,
+      sym (append_assoc (front ++ 0 ∷ []) (frame_for 0 (short t) ++ 0 ∷ []) (appended_anew ts)) ∙ ap (λ x. x ++ appended_anew ts) (sym (append_assoc (front ++ 0 ∷ []) (frame_for 0 (short t)) (0 ∷ []))) ∙ h.1,
+    )
+
+-- one more zero ends nothing there
+zero_ends_none : (ts : List Tree) → ended 0 (with_zero (rewritten ts)) ≡ ended 0 (rewritten ts)
+zero_ends_none ts = ended_behind 0 (rewritten ts) (0 ∷ []) (inr (ends_with_zero [] ts)) ∙ ap (λ x. ended 0 (rewritten ts) ++ x) (ended_skip 0 []) ∙ append-nil (ended 0 (rewritten ts))
+
+-- where the same stretches are ended the same records are read
+reads_same : (takes : Tree → Type 0) (limit : ℕ) (x y : List ℕ) (us : List Tree) → ended 0 x ≡ ended 0 y → AreReadIn takes limit x us → AreReadIn takes limit y us
+reads_same takes limit x y us e h =
+    let strictly = HoldsExactly (takes_record takes) in
+    let u = unfinished 0 y in
+    let all = h.whole.done ++ (begun_answers limit u ++ cut_answers limit u) in
+    let w : Answers strictly limit 0 y all = record { done = h.whole.done; each = subst (λ ps. AllZip (IsAnswer strictly limit) ps h.whole.done) e h.whole.each; whole = refl } in
+    record { answers = all; whole = w; are = values_done w ∙ sym (values_done h.whole) ∙ h.are }
+
+-- so what is read behind one more zero
+pub repairs_again_closed : (takes : Tree → Type 0) (limit : ℕ) (ts us : List Tree) → AreReadIn takes limit (rewritten ts) us ↔ (us ≡ ts) → AreReadIn takes limit (with_zero (rewritten ts)) us ↔ (us ≡ ts)
+repairs_again_closed takes limit ts us h = (
+  λ k. h.0 (reads_same takes limit (with_zero (rewritten ts)) (rewritten ts) us (zero_ends_none ts) k),
+  λ e. reads_same takes limit (rewritten ts) (with_zero (rewritten ts)) us (sym (zero_ends_none ts)) (h.1 e),
+)
 
 -- the stretches that are ended in a front are the first ones
 record MoreEnded (a b : List ℕ) : Type 0 where

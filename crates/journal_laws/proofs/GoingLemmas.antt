@@ -5,7 +5,7 @@ use Rattle.std.proofs.lemmas.List.{append-nil, length-append}
 use Rattle.std.specs.Prelude.{Bool, IfSome}
 use Rattle.cobs.specs.Sentinel.{frame_for}
 use Rattle.postcard_tree.specs.Spelling.{short}
-use Rattle.line_io.specs.Device.{Wrote}
+use Rattle.line_io.specs.Device.{LineState, Grew, Wrote}
 use Rattle.line_io.specs.Calls.{Wrote-none, Wrote-then}
 use Rattle.postcard_tree.specs.Tree.{Tree, IsTree}
 use Rattle.link.specs.Run.{Send, completed, sent, written, session_line, line, IsSend, IsFramed, IsSession, IsRun}
@@ -43,26 +43,26 @@ module _ (takes : Tree → Type 0) (limit : ℕ) where
 length_more : (ts : List Tree) (t : Tree) → length (ts ++ t ∷ []) ≡ length ts + 1
 length_more ts t = length-append ts (t ∷ [])
 
-module _ {V : Type 0} (takes : Tree → Type 0) (writes : V → Option Tree) (limit n : ℕ) (old : Option (List ℕ)) (before : ℕ) where
-  pub none_appended : AppendsAll takes writes limit n n old old before before []
-  none_appended = record { trees = []; of = tt; are = tt; wrote = Wrote-none old before; quiet = refl; next_is = omega arith }
+module _ {V : Type 0} (takes : Tree → Type 0) (writes : V → Option Tree) (limit n : ℕ) (old : LineState) where
+  pub none_appended : AppendsAll takes writes limit n n old old []
+  none_appended = record { trees = []; of = tt; are = tt; wrote = Wrote-none old; quiet = refl; next_is = omega arith }
 
   -- one more
-  pub one_appended : (now next m : ℕ) (mid new : Option (List ℕ)) (between after : ℕ) (spent : Bool) (values : List V) (v : V)
-      → AppendsAll takes writes limit n now old mid before between values → Appended (limit - 1) spent now (writes v) (Ok m) mid new between after → after ≡ between → next ≡ now + 1 → now < 2 ^ 64 - 1
-      → ((t : Tree) → writes v ≡ Some t → takes t) → AppendsAll takes writes limit n next old new before after (values ++ v ∷ [])
-  one_appended now next m mid new between after spent values v p q quiet e l taken =
+  pub one_appended : (now next m : ℕ) (mid new : LineState) (spent : Bool) (values : List V) (v : V)
+      → AppendsAll takes writes limit n now old mid values → Appended (limit - 1) spent now (writes v) (Ok m) mid new → new.faults ≡ mid.faults → next ≡ now + 1 → now < 2 ^ 64 - 1
+      → ((t : Tree) → writes v ≡ Some t → takes t) → AppendsAll takes writes limit n next old new (values ++ v ∷ [])
+  one_appended now next m mid new spent values v p q quiet e l taken =
       let t = q.is.1.0 in
       let done : q.send ≡ completed (numbered now t) = q.is.1.2 in
       let here : now ≡ n + length p.trees = p.next_is in
       let framed : IsFramed IsTree (limit - 1) (numbered now t) = subst (λ x. IsSend IsTree (limit - 1) 0 true x) done q.is_send in
-      let bytes : Wrote mid new between after (sent 0 true (numbered now t)) = subst (λ x. Wrote mid new between after (written 0 true x)) done q.wrote in
+      let bytes : Wrote mid new (sent 0 true (numbered now t)) = subst (λ x. Wrote mid new (written 0 true x)) done q.wrote in
       record {
         trees = p.trees ++ t ∷ [];
         of = zip_one (λ v t. writes v ≡ Some t) values p.trees v t p.of q.is.1.1;
         are = session_more (takes_record takes) limit n p.trees t p.are (subst (λ m. IsFramed (takes_record takes) limit (numbered m t)) here
             (record { taken = ((refl, omega (arith, l)), (taken t q.is.1.1, tt)); within = omega (arith, framed.within) }));
-        wrote = subst (λ b. Wrote old new before after b) (ap (λ m. session_line 0 true (appends numbered n p.trees) ++ sent 0 true (numbered m t)) here ∙ line_more n p.trees t) (Wrote-then _ _ _ _ _ _ _ _ p.wrote bytes);
+        wrote = subst (λ b. Wrote old new b) (ap (λ m. session_line 0 true (appends numbered n p.trees) ++ sent 0 true (numbered m t)) here ∙ line_more n p.trees t) (Wrote-then _ _ _ _ _ p.wrote bytes);
         quiet = quiet ∙ p.quiet;
         next_is = omega (arith, e, here, length_more p.trees t);
       }
@@ -82,9 +82,9 @@ module _ (takes : Tree → Type 0) (limit : ℕ) (any : Tree) where
   of_run run (e ∷ events) d = of_run (after 0 numbered any run e) events d
 
 -- the bytes behind told ones
-told_on : (old bytes : List ℕ) (new : Option (List ℕ)) (f g : ℕ) → Wrote (Some old) new f g bytes → g ≡ f → new ≡ Some (old ++ bytes)
-told_on old bytes None f g w e = absurd (omega (arith, w.grew))
-told_on old bytes (Some x) f g w e = ap (λ z. Some z) w.grew
+told_on : (old bytes : List ℕ) (new : Option (List ℕ)) (f g : ℕ) → Grew (Some old) new f g bytes → g ≡ f → new ≡ Some (old ++ bytes)
+told_on old bytes None f g w e = absurd (omega (arith, w))
+told_on old bytes (Some x) f g w e = ap (λ z. Some z) w
 
 -- numbers that count on from the records that are there
 same_numbers : (n : ℕ) (count : ℕ) (ts : List Tree) → n ≡ min count (2 ^ 64 - 1) → (0 < length ts → n < 2 ^ 64 - 1) → appends numbered n ts ≡ appends numbered count ts
@@ -103,11 +103,11 @@ both_some None p q f = tt
 both_some (Some x) p q f = f x p q
 
 module _ {V : Type 0} (takes : Tree → Type 0) (writes : V → Option Tree) (limit : ℕ) (has : HasBytes (takes_record takes) limit 0) where
-  pub goes_on : (any : Tree) (events : List LogEvent) (n next : ℕ) (old new : Option (List ℕ)) (before after' : ℕ) (values : List V)
+  pub goes_on : (any : Tree) (events : List LogEvent) (n next : ℕ) (old new : LineState) (values : List V)
       → IsFramed (takes_record takes) limit any → IsHistory (takes_record takes) limit 0 numbered any [] events
-      → old ≡ Some (line 0 (history 0 numbered any [] events) ++ 0 ∷ []) → n ≡ min (length (read_of (history 0 numbered any [] events))) (2 ^ 64 - 1)
-      → AppendsAll takes writes limit n next old new before after' values → (0 < length values → n < 2 ^ 64 - 1) → HistoryGoesOn takes writes limit any events new values
-  goes_on any events n next old new before after' values f is held e p below =
+      → old.told ≡ Some (line 0 (history 0 numbered any [] events) ++ 0 ∷ []) → n ≡ min (length (read_of (history 0 numbered any [] events))) (2 ^ 64 - 1)
+      → AppendsAll takes writes limit n next old new values → (0 < length values → n < 2 ^ 64 - 1) → HistoryGoesOn takes writes limit any events new.told values
+  goes_on any events n next old new values f is held e p below =
       let run = history 0 numbered any [] events in
       let count = length (read_of run) in
       let more = same_numbers n count p.trees e (λ l. below (omega (arith, l, zip_length (λ v t. writes v ≡ Some t) values p.trees p.of))) in
@@ -116,8 +116,8 @@ module _ {V : Type 0} (takes : Tree → Type 0) (writes : V → Option Tree) (li
       let joined : IsRun (takes_record takes) limit 0 (after 0 numbered any run (appended p.trees)) =
       runs_joined (takes_record takes) limit 0 run (opened any (appends numbered count p.trees) ∷ []) is_run (session_opened (takes_record takes) limit any count p.trees f are, tt) in
       let behind = history_more any [] events (appended p.trees) in
-      let bytes : new ≡ Some ((line 0 run ++ 0 ∷ []) ++ session_line 0 true (appends numbered n p.trees)) =
-      told_on (line 0 run ++ 0 ∷ []) (session_line 0 true (appends numbered n p.trees)) new before after' (subst (λ x. Wrote x new before after' (session_line 0 true (appends numbered n p.trees))) held p.wrote) p.quiet in
+      let bytes : new.told ≡ Some ((line 0 run ++ 0 ∷ []) ++ session_line 0 true (appends numbered n p.trees)) =
+      told_on (line 0 run ++ 0 ∷ []) (session_line 0 true (appends numbered n p.trees)) new.told old.faults new.faults (subst (λ x. Grew x new.told old.faults new.faults (session_line 0 true (appends numbered n p.trees))) held p.wrote.grew) p.quiet in
       record {
         trees = p.trees;
         of = p.of;

@@ -4,9 +4,10 @@ use Rattle.std.specs.Prelude.{IfSome}
 use Rattle.std.specs.List.{AllZip}
 use Rattle.std.proofs.lemmas.Bool.{le-ltb}
 use Rattle.std.proofs.lemmas.List.{append-nil}
-use Rattle.line_io.specs.Device.{Wrote}
+use Rattle.line_io.specs.Device.{LineState, Grew}
 use Rattle.postcard_tree.specs.Tree.{Tree}
 use Rattle.link.specs.Stream.{Verdict, Answers}
+use Rattle.link.specs.Judged.{Judging}
 use Rattle.link.specs.Run.{line}
 use Rattle.link.specs.Pushes.{Matches}
 use Rattle.link.specs.Roads.{values_of}
@@ -21,9 +22,22 @@ use Rattle.journal_laws.specs.Numbers.{Counted, history, CountsOn}
 use Rattle.journal_laws.specs.Together.{OpensHistory}
 
 -- the bytes that a store holds behind one more
-grown : (old : List ℕ) (new : Option (List ℕ)) (f g : ℕ) → Wrote (Some old) new f g (0 ∷ []) → g ≡ f → new ≡ Some (old ++ 0 ∷ [])
-grown old None f g w e = absurd (omega (arith, w.grew))
-grown old (Some x) f g w e = ap (λ z. Some z) w.grew
+grown : (old : List ℕ) (new : Option (List ℕ)) (f g : ℕ) → Grew (Some old) new f g (0 ∷ []) → g ≡ f → new ≡ Some (old ++ 0 ∷ [])
+grown old None f g w e = absurd (omega (arith, w))
+grown old (Some x) f g w e = ap (λ z. Some z) w
+
+-- what is read by one relation is read by one that follows from it
+one_read : {V : Type 0} (r s : Tree → V → Type 0) → ((t : Tree) (v : V) → r t v → s t v) → (a : Answer V) (x : Verdict) → Matches r a x → Matches s a x
+one_read r s f (Value v) x h = (h.0, f h.0 v h.1, h.2)
+one_read r s f Damaged x h = h
+one_read r s f TooLong x h = h
+one_read r s f Cut x h = h
+
+all_read : {V : Type 0} (r s : Tree → V → Type 0) → ((t : Tree) (v : V) → r t v → s t v) → (answers : List (Answer V)) (xs : List Verdict) → AllZip (Matches r) answers xs → AllZip (Matches s) answers xs
+all_read r s f [] [] h = tt
+all_read r s f [] (x ∷ xs) h = absurd h
+all_read r s f (a ∷ answers) [] h = absurd h
+all_read r s f (a ∷ answers) (x ∷ xs) h = (one_read r s f a x h.0, all_read r s f answers xs h.1)
 
 -- an empty stream has no answers
 nothing : (holds : List ℕ → Tree → Type 0) (limit s : ℕ) → Answers holds limit s [] []
@@ -110,28 +124,29 @@ told_of : (held : Option (List ℕ)) (bytes : List ℕ) (P : List ℕ → Type 0
 told_of None bytes P e h = cc
 told_of (Some x) bytes P e h = let same : x ≡ bytes = cc in subst P same h
 
-module _ {S V : Type 0} (took : S → List (Answer (ℕ × V)) → S → Type 0) (takes : Tree → Type 0) (reads : Tree → V → Type 0) (limit : ℕ)
-    (holds : List ℕ → Tree → Type 0) (counts : CountsOn (takes_record takes) holds limit 0) (append : Appends holds limit 0) where
-  pub opens_history : (old new : Option (List ℕ)) (before after settled : ℕ) (visitor later : S) (next : ℕ) (spent : Bool)
-      → IsOpened took holds reads limit 0 old new before after settled visitor later next spent → OpensHistory took takes reads limit old new visitor later next
-  opens_history old new before after settled visitor later next spent o any events framed is e =
+module _ {S V : Type 0} (took : S → List (Answer (ℕ × V)) → S → Type 0) (takes : Tree → Type 0) (reads : Tree → V → Type 0) (limit : ℕ) (judging : Judging (ℕ × V))
+    (counts : CountsOn (takes_record takes) judging.holds limit 0) (append : Appends judging.holds limit 0) (records : (t : Tree) (r : ℕ × V) → judging.reads t r → reads_record reads t r) where
+  pub opens_history : (old new : LineState) (settled : ℕ) (visitor later : S) (next : ℕ) (spent : Bool)
+      → IsOpened took judging limit 0 old new settled visitor later next spent → OpensHistory took takes reads limit old.told new.told visitor later next
+  opens_history old new settled visitor later next spent o any events framed is e =
       let log = line 0 (history 0 numbered any [] events) in
-      let bytes : new ≡ Some (log ++ 0 ∷ []) = grown log new before after (subst (λ x. Wrote x new before after (0 ∷ [])) e o.wrote) o.quiet in
-      let told = told_of new (log ++ 0 ∷ []) (λ x. IsHanded took holds reads limit 0 visitor later next x) bytes o.read in
+      let bytes : new.told ≡ Some (log ++ 0 ∷ []) = grown log new.told old.faults new.faults (subst (λ x. Grew x new.told old.faults new.faults (0 ∷ [])) e o.wrote.grew) o.quiet in
+      let told = told_of new.told (log ++ 0 ∷ []) (λ x. IsHanded took judging limit 0 visitor later next x) bytes o.read in
       let read = told.read in
       let vs = read.given.verdicts in
-      let whole : Answers holds limit 0 (log ++ 0 ∷ []) vs =
-      subst (λ x. Answers holds limit 0 x vs) (append-nil (log ++ 0 ∷ []))
-      ((append (log ++ 0 ∷ []) [] vs (inr (log, refl))).1 (vs, [], read.given.given, nothing holds limit 0, sym (append-nil vs))) in
+      let matching = all_read judging.reads (reads_record reads) records (answers_in read.located) vs read.given.matching in
+      let whole : Answers judging.holds limit 0 (log ++ 0 ∷ []) vs =
+      subst (λ x. Answers judging.holds limit 0 x vs) (append-nil (log ++ 0 ∷ []))
+      ((append (log ++ 0 ∷ []) [] vs (inr (log, refl))).1 (vs, [], read.given.given, nothing judging.holds limit 0, sym (append-nil vs))) in
       let c = counts numbered any events vs framed is whole in
-      let all = all_counted reads 0 (numbered_from 0) read.located vs read.given.matching c.counted refl in
+      let all = all_counted reads 0 (numbered_from 0) read.located vs matching c.counted refl in
       let same : told.answers ≡ answers_in read.located = read.handed_on ∙ all.0 in
       record {
         answers = told.answers;
         handed = told.handed;
         bytes = bytes;
         verdicts = vs;
-        matching = subst (λ x. AllZip (Matches (reads_record reads)) x vs) (sym same) read.given.matching;
+        matching = subst (λ x. AllZip (Matches (reads_record reads)) x vs) (sym same) matching;
         are = c.are;
         counted = c.counted;
         next_is =

@@ -1,19 +1,20 @@
 -- What a session of appends does to a log, and what comes of its history.
 use Rattle.std.specs.Prelude.{◌≡◌, ℕ, ◌+◌, true, List, [], ◌∷◌, ◌++◌, length, Option, Some}
 use Rattle.std.specs.List.{AllZip}
-use Rattle.line_io.specs.Device.{Wrote}
+use Rattle.line_io.specs.Device.{LineState, Wrote}
 use Rattle.postcard_tree.specs.Tree.{Tree}
 use Rattle.link.specs.Run.{IsFramed, IsSession, session_line, line}
 use Rattle.journal.specs.Records.{numbered, takes_record}
 use Rattle.journal_laws.specs.Numbers.{LogEvent, appended, appends, history, IsHistory}
 
 -- these values were appended, with the numbers from n on
-pub record AppendsAll {V : Type 0} (takes : Tree → Type 0) (writes : V → Option Tree) (limit n next : ℕ) (old new : Option (List ℕ)) (before after : ℕ) (values : List V) : Type 0 where
+pub record AppendsAll {V : Type 0} (takes : Tree → Type 0) (writes : V → Option Tree) (limit n next : ℕ)
+    (old new : LineState) (values : List V) : Type 0 where
   pub trees : List Tree
   pub of : AllZip (λ v t. writes v ≡ Some t) values trees
   pub are : IsSession (takes_record takes) limit 0 true (appends numbered n trees)
-  pub wrote : Wrote old new before after (session_line 0 true (appends numbered n trees))
-  pub quiet : after ≡ before
+  pub wrote : Wrote old new (session_line 0 true (appends numbered n trees))
+  pub quiet : new.faults ≡ old.faults
   pub next_is : next ≡ n + length trees
 
 -- The history went on by an opening and appends of these values: it is one again, and its line is what is held.

@@ -1,13 +1,13 @@
 -- Records that are read of a log one after another, and appended anew.
 use Rattle.std.proofs.Common.{◌≡◌, ℕ, ◌+◌, ◌-◌, ◌^◌, ◌<◌, ◌≤◌, min, max, Bool, true, false, cond, ltb, List, [], ◌∷◌, ◌++◌, length, take, Option, Some, None, Result, Ok, Err, refl, sym, ap, ◌∙◌, subst, append_assoc, arith}
-use Rattle.std.specs.Prelude.{IfErr, IsErrAnd}
+use Rattle.std.specs.Prelude.{IfOk, IfErr, IfSome, IsErrAnd}
 use Rattle.std.specs.List.{AllZip}
-use Rattle.std.proofs.lemmas.List.{append-nil, take_all, length-append}
+use Rattle.std.proofs.lemmas.List.{append-nil, take_all, take-append-le, length-append}
 use Rattle.std.proofs.lemmas.Result.{err_from_is_err_and}
 use Rattle.std.proofs.Math.Seq.{take-append-add}
 use Rattle.cobs.specs.Frames.{shortest_frame}
 use Rattle.cobs.specs.Sentinel.{frame_for}
-use Rattle.line_io.specs.Device.{Grew, Wrote}
+use Rattle.line_io.specs.Device.{LineState, Grew, Wrote}
 use Rattle.line_io.specs.Calls.{Wrote-none, Wrote-then}
 use Rattle.postcard_tree.specs.Tree.{Tree, byte, number, character, sequence, group, part, end}
 use Rattle.postcard_tree.specs.Spelling.{short}
@@ -27,8 +27,8 @@ use Rattle.journal_scan.specs.declared.repairing.RepairError.{RepairError}
 use Rattle.journal_scan.specs.declared.repairing.RepairError.TheVariants.{Read, Refused, Line, Sync}
 use Rattle.journal_scan.specs.Tallies.{behind_greatest}
 use Rattle.journal_scan.specs.Checks.{numbers_of}
-use Rattle.journal_scan.specs.Scanning.{IsScanning, FoundAll, offset_of}
-use Rattle.journal_scan.specs.Repairs.{appended_anew, rewritten, IsTreeOf, AreTreesOf, AreReadIn, AreReadFirst, IsRepaired, IsPartlyRepaired, record_read, WentAnew, BrokeAnew, GoesAnew, StopsAnew, RepairCause, IfRefused, IfUnsynced}
+use Rattle.journal_scan.specs.Scanning.{IsScanning, Found, FoundAll, FoundLast, offset_of, with_zero, told_with_zero}
+use Rattle.journal_scan.specs.Repairs.{appended_anew, rewritten, IsTreeOf, AreTreesOf, AreReadIn, AreReadFirst, IsRepaired, IsPartlyRepaired, record_read, WentAnew, BrokeAnew, GoesAnew, StopsAnew, LastGoesAnew, LastStopsAnew, StopsAtLast, last_record, RepairCause, IfRefused, IfUnsynced}
 use Rattle.journal_scan.proofs.GapsLemmas.{behind_push}
 use Rattle.journal_scan.proofs.StretchesLemmas.{if_told, numbers_joined}
 
@@ -75,12 +75,16 @@ anew_joined (t ∷ ts) us = ap (λ x. sent 0 true t ++ x) (anew_joined ts us) �
 pub one_anew : (t : Tree) → appended_anew (t ∷ []) ≡ sent 0 true t
 one_anew t = append-nil (sent 0 true t)
 
+-- Of the stretches that zeros end before an offset these are the records' trees.
+pub record ReadsTo (takes : Tree → Type 0) (limit : ℕ) (bytes : List ℕ) (at : ℕ) (ts : List Tree) : Type 0 where
+  pub answers : List Verdict
+  pub each : AllZip (IsAnswer (HoldsExactly (takes_record takes)) limit) (ended 0 (take at bytes)) answers
+  pub are : values_of answers ≡ ts
+
 -- A scan stands behind stretches of which these are the records' trees.
 pub record ReadsBehind (takes : Tree → Type 0) (limit : ℕ) (bytes : List ℕ) (scan : Scan) (ts : List Tree) : Type 0 where
   pub scanning : IsScanning limit bytes scan
-  pub answers : List Verdict
-  pub each : AllZip (IsAnswer (HoldsExactly (takes_record takes)) limit) (ended 0 (take (offset_of scan) bytes)) answers
-  pub are : values_of answers ≡ ts
+  pub to : ReadsTo takes limit bytes (offset_of scan) ts
 
 module _ {V : Type 0} (reads : Tree → V → Type 0) (writes : V → Option Tree) (back : (t : Tree) (v : V) → reads t v → writes v ≡ Some t) where
   same_some : (u v : Tree) → Some u ≡ Some v → u ≡ v
@@ -121,23 +125,26 @@ module _ {V : Type 0} (reads : Tree → V → Type 0) (writes : V → Option Tre
   values_read Cut v (u ∷ us) h k = absurd k
 
   module _ (takes : Tree → Type 0) (limit : ℕ) (bytes : List ℕ) where
-    pub one_read : (old new : Scan) (ts us : List Tree) (s : Stretch V) → ReadsBehind takes limit bytes old ts → IsScanning limit bytes new
-        → FoundAll takes reads limit bytes (offset_of old) (offset_of new) (Some s) → AreTreesOf writes (record_read s.answer) us → ReadsBehind takes limit bytes new (ts ++ us)
-    one_read old new ts us s h k f o = record {
-      scanning = k;
+    pub one_more : (old new : ℕ) (ts us : List Tree) (s : Stretch V) → ReadsTo takes limit bytes old ts
+        → Found takes reads limit bytes old new (Some s) → AreTreesOf writes (record_read s.answer) us → ReadsTo takes limit bytes new (ts ++ us)
+    one_more old new ts us s h f o = record {
       answers = h.answers ++ f.is.verdict ∷ [];
       each =
           subst (λ ps. AllZip (IsAnswer (HoldsExactly (takes_record takes)) limit) ps (h.answers ++ f.is.verdict ∷ [])) (sym f.next)
-          (zip_joined _ (ended 0 (take (offset_of old) bytes)) (f.stretch ∷ []) h.answers (f.is.verdict ∷ []) h.each (f.is.is, tt));
+          (zip_joined _ (ended 0 (take old bytes)) (f.stretch ∷ []) h.answers (f.is.verdict ∷ []) h.each (f.is.is, tt));
       are = values_joined h.answers (f.is.verdict ∷ []) ∙ ap (λ x. x ++ values_of (f.is.verdict ∷ [])) h.are ∙ ap (λ x. ts ++ x) (values_read s.answer f.is.verdict us f.is.says o);
     }
 
+    pub one_read : (old new : Scan) (ts us : List Tree) (s : Stretch V) → ReadsBehind takes limit bytes old ts → IsScanning limit bytes new
+        → FoundAll takes reads limit bytes (offset_of old) (offset_of new) (Some s) → AreTreesOf writes (record_read s.answer) us → ReadsBehind takes limit bytes new (ts ++ us)
+    one_read old new ts us s h k f o = record { scanning = k; to = one_more (offset_of old) (offset_of new) ts us s h.to f o }
+
     -- a record that was read within the limit isn't refused for its length
-    never_refused : (old new : ℕ) (s : Stretch V) (held now : Option (List ℕ)) (before after most : ℕ) (x : _) → limit < most + 1
-        → FoundAll takes reads limit bytes old new (Some s) → StopsAnew writes most s.answer held now before after (Refused x) → ⊥
-    never_refused old new s held now before after most x l f h = go s.answer f.is.verdict f.is.says f.is.is h
+    never_refused : (old new : ℕ) (s : Stretch V) (held now : LineState) (most : ℕ) (x : _) → limit < most + 1
+        → FoundAll takes reads limit bytes old new (Some s) → StopsAnew writes most s.answer held now (Refused x) → ⊥
+    never_refused old new s held now most x l f h = go s.answer f.is.verdict f.is.says f.is.is h
       where
-        go : (a : Answer (ℕ × V)) (v : Verdict) → Matches (reads_record reads) a v → IsAnswer (HoldsExactly (takes_record takes)) limit f.stretch v → StopsAnew writes most a held now before after (Refused x) → ⊥
+        go : (a : Answer (ℕ × V)) (v : Verdict) → Matches (reads_record reads) a v → IsAnswer (HoldsExactly (takes_record takes)) limit f.stretch v → StopsAnew writes most a held now (Refused x) → ⊥
         go (Value r) v (t, m, e) is k =
             let here = subst (IsAnswer (HoldsExactly (takes_record takes)) limit f.stretch) e is in
             let d = tree_read r t m in
@@ -153,14 +160,12 @@ module _ (takes : Tree → Type 0) (limit : ℕ) (bytes : List ℕ) where
   pub none_read : (scan : Scan) → IsScanning limit bytes scan → ended 0 (take (offset_of scan) bytes) ≡ [] → ReadsBehind takes limit bytes scan []
   none_read scan h e = record {
     scanning = h;
-    answers = [];
-    each = subst (λ ps. AllZip (IsAnswer (HoldsExactly (takes_record takes)) limit) ps []) (sym e) tt;
-    are = refl;
+    to = record { answers = []; each = subst (λ ps. AllZip (IsAnswer (HoldsExactly (takes_record takes)) limit) ps []) (sym e) tt; are = refl };
   }
 
   -- all that is read
-  pub all_read : (scan : Scan) (ts : List Tree) → ReadsBehind takes limit bytes scan ts → ended 0 bytes ≡ ended 0 (take (offset_of scan) bytes) → AreReadIn takes limit bytes ts
-  all_read scan ts h e =
+  pub all_read : (at : ℕ) (ts : List Tree) → ReadsTo takes limit bytes at ts → ended 0 bytes ≡ ended 0 (take at bytes) → AreReadIn takes limit bytes ts
+  all_read at ts h e =
       let u = unfinished 0 bytes in
       record {
         answers = h.answers ++ (begun_answers limit u ++ cut_answers limit u);
@@ -175,11 +180,11 @@ module _ (takes : Tree → Type 0) (limit : ℕ) (bytes : List ℕ) where
       }
 
   -- what is read of the bytes so far
-  pub some_read : (scan : Scan) (ts : List Tree) → ReadsBehind takes limit bytes scan ts → AreReadFirst takes limit bytes ts
-  some_read scan ts h =
-      let u = unfinished 0 (take (offset_of scan) bytes) in
+  pub some_read : (at : ℕ) (ts : List Tree) → ReadsTo takes limit bytes at ts → AreReadFirst takes limit bytes ts
+  some_read at ts h =
+      let u = unfinished 0 (take at bytes) in
       record {
-        count = offset_of scan;
+        count = at;
         answers = h.answers ++ begun_answers limit u;
         given = record { done = h.answers; each = h.each; whole = refl };
         are = values_joined h.answers (begun_answers limit u) ∙ ap (λ x. values_of h.answers ++ x) (none_in_begun limit u) ∙ append-nil (values_of h.answers) ∙ h.are;
@@ -189,53 +194,74 @@ module _ (takes : Tree → Type 0) (limit : ℕ) (bytes : List ℕ) where
   pub nothing_read : AreReadFirst takes limit bytes []
   nothing_read = record { count = 0; answers = begun_answers limit []; given = record { done = []; each = tt; whole = refl }; are = none_in_begun limit [] }
 
--- a front of the bytes that went out
-module _ (old mid new : Option (List ℕ)) (before between after : ℕ) (ts : List Tree) where
-  pub more_anew : (us : List Tree) → Wrote old mid before between (rewritten ts) → Wrote mid new between after (appended_anew us) → Wrote old new before after (rewritten (ts ++ us))
-  more_anew us w v = subst (Wrote old new before after) (ap (λ x. 0 ∷ x) (sym (anew_joined ts us))) (Wrote-then _ _ _ _ _ _ _ _ w v)
+-- the same in a longer log
+reads_longer : (takes : Tree → Type 0) (limit : ℕ) (bytes more : List ℕ) (at : ℕ) (ts : List Tree) → at ≤ length bytes → ReadsTo takes limit bytes at ts → ReadsTo takes limit (bytes ++ more) at ts
+reads_longer takes limit bytes more at ts l h = record {
+  answers = h.answers;
+  each = subst (λ x. AllZip (IsAnswer (HoldsExactly (takes_record takes)) limit) (ended 0 x) h.answers) (sym (take-append-le at bytes more l)) h.each;
+  are = h.are;
+}
 
-  pub front_anew : (t : Tree) (k : ℕ) → Wrote old mid before between (rewritten ts) → Wrote mid new between after (take k (sent 0 true t))
-      → Wrote old new before after (take (length (rewritten ts) + k) (rewritten (ts ++ t ∷ [])))
+-- before the zero that stands behind a log
+reads_before : (takes : Tree → Type 0) (limit : ℕ) (bytes : List ℕ) (scan : Scan) (ts : List Tree) → ReadsBehind takes limit bytes scan ts → ReadsTo takes limit (with_zero bytes) (offset_of scan) ts
+reads_before takes limit bytes scan ts h = reads_longer takes limit bytes (0 ∷ []) (offset_of scan) ts h.scanning.within h.to
+
+-- all of a log with a zero behind it was gone over
+all_taken : (bytes : List ℕ) → ended 0 (with_zero bytes) ≡ ended 0 (take (length bytes + 1) (with_zero bytes))
+all_taken bytes = ap (ended 0) (sym (take_all (length bytes + 1) (with_zero bytes) (omega (arith, length-append bytes (0 ∷ [])))))
+
+-- a fact of the bytes with a zero behind them, where they are told
+pub if_with_zero : (held : Option (List ℕ)) (P : List ℕ → Type 0) → ((bytes : List ℕ) → held ≡ Some bytes → P (with_zero bytes)) → IfSome (told_with_zero held) P
+if_with_zero None P h = tt
+if_with_zero (Some bytes) P h = h bytes refl
+
+-- a front of the bytes that went out
+module _ (old mid new : LineState) (ts : List Tree) where
+  pub more_anew : (us : List Tree) → Wrote old mid (rewritten ts) → Wrote mid new (appended_anew us) → Wrote old new (rewritten (ts ++ us))
+  more_anew us w v = subst (Wrote old new) (ap (λ x. 0 ∷ x) (sym (anew_joined ts us))) (Wrote-then _ _ _ _ _ w v)
+
+  pub front_anew : (t : Tree) (k : ℕ) → Wrote old mid (rewritten ts) → Wrote mid new (take k (sent 0 true t))
+      → Wrote old new (take (length (rewritten ts) + k) (rewritten (ts ++ t ∷ [])))
   front_anew t k w v =
       let bytes : rewritten (ts ++ t ∷ []) ≡ rewritten ts ++ sent 0 true t = ap (λ x. 0 ∷ x) (anew_joined ts (t ∷ []) ∙ ap (λ y. appended_anew ts ++ y) (one_anew t)) in
-      subst (Wrote old new before after) (sym (take-append-add (rewritten ts) (sent 0 true t) k) ∙ ap (take (length (rewritten ts) + k)) (sym bytes)) (Wrote-then _ _ _ _ _ _ _ _ w v)
+      subst (Wrote old new) (sym (take-append-add (rewritten ts) (sent 0 true t) k) ∙ ap (take (length (rewritten ts) + k)) (sym bytes)) (Wrote-then _ _ _ _ _ w v)
 
-  pub all_anew : Wrote old mid before between (rewritten ts) → Wrote old mid before between (take (length (rewritten ts)) (rewritten ts))
-  all_anew w = subst (Wrote old mid before between) (sym (take_all (length (rewritten ts)) (rewritten ts) (omega arith))) w
+  pub all_anew : Wrote old mid (rewritten ts) → Wrote old mid (take (length (rewritten ts)) (rewritten ts))
+  all_anew w = subst (Wrote old mid) (sym (take_all (length (rewritten ts)) (rewritten ts) (omega arith))) w
 
 -- what was written stays so where no more bytes are
-pub wrote_still : (old mid new : Option (List ℕ)) (before between after : ℕ) (bs : List ℕ) → Wrote old mid before between bs → new ≡ mid → between ≤ after → Wrote old new before after bs
-wrote_still old mid new before between after bs w e l = subst (λ x. Wrote old x before after bs) (sym e) (record { grew = go old mid w.grew; more = omega (arith, w.more, l) })
+pub wrote_still : (old mid new : LineState) (bs : List ℕ) → Wrote old mid bs → new.told ≡ mid.told → mid.faults ≤ new.faults → Wrote old new bs
+wrote_still old mid new bs w e l = record { grew = subst (λ x. Grew old.told x old.faults new.faults bs) (sym e) (go old.told mid.told w.grew); more = omega (arith, w.more, l) }
   where
-    go : (u v : Option (List ℕ)) → Grew u v before between bs → Grew u v before after bs
+    go : (u v : Option (List ℕ)) → Grew u v old.faults mid.faults bs → Grew u v old.faults new.faults bs
     go None None h = tt
     go None (Some y) h = h
     go (Some x) None h = omega (arith, h, l)
     go (Some x) (Some y) h = h
 
-pub wrote_zero : (old new : Option (List ℕ)) (before after n : ℕ) → 0 < n → n ≤ 1 → Wrote old new before after (take n (0 ∷ [])) → Wrote old new before after (0 ∷ [])
-wrote_zero old new before after n l m w = let one : n ≡ 1 = omega (arith, l, m) in subst (λ k. Wrote old new before after (take k (0 ∷ []))) one w
+pub wrote_zero : (old new : LineState) (n : ℕ) → 0 < n → n ≤ 1 → Wrote old new (take n (0 ∷ [])) → Wrote old new (0 ∷ [])
+wrote_zero old new n l m w = let one : n ≡ 1 = omega (arith, l, m) in subst (λ k. Wrote old new (take k (0 ∷ []))) one w
 
 -- what a record that was framed whole writes
-module _ (writes : Option Tree) (n : ℕ) (old new : Option (List ℕ)) (before after : ℕ) (buffer : List ℕ) (len : ℕ) where
+module _ (writes : Option Tree) (n : ℕ) (old new : LineState) (buffer : List ℕ) (len : ℕ) where
   pub went_whole : (put : ℕ) → WrittenWhole (record_of n writes) (λ bytes. (len ≡ length (shortest_frame bytes) + 1) × (take len buffer ≡ frame_for 0 bytes ++ 0 ∷ []))
-      → length (take len buffer) ≤ put → Wrote old new before after (take put (take len buffer)) → WentAnew writes n old new before after
+      → length (take len buffer) ≤ put → Wrote old new (take put (take len buffer)) → WentAnew writes n old new
   went_whole put h l w = go writes h refl
     where
-      all : Wrote old new before after (take len buffer)
-      all = subst (Wrote old new before after) (take_all put (take len buffer) l) w
+      all : Wrote old new (take len buffer)
+      all = subst (Wrote old new) (take_all put (take len buffer) l) w
 
-      go : (o : Option Tree) → WrittenWhole (record_of n o) (λ bytes. (len ≡ length (shortest_frame bytes) + 1) × (take len buffer ≡ frame_for 0 bytes ++ 0 ∷ [])) → writes ≡ o → WentAnew writes n old new before after
+      go : (o : Option Tree) → WrittenWhole (record_of n o) (λ bytes. (len ≡ length (shortest_frame bytes) + 1) × (take len buffer ≡ frame_for 0 bytes ++ 0 ∷ [])) → writes ≡ o → WentAnew writes n old new
       go None h e = absurd h
-      go (Some v) h e = record { value = v; is = e; wrote = subst (Wrote old new before after) h.1.1 all }
+      go (Some v) h e = record { value = v; is = e; wrote = subst (Wrote old new) h.1.1 all }
 
   pub went_front : (put : ℕ) → WrittenWhole (record_of n writes) (λ bytes. (len ≡ length (shortest_frame bytes) + 1) × (take len buffer ≡ frame_for 0 bytes ++ 0 ∷ []))
-      → Wrote old new before after (take put (take len buffer)) → BrokeAnew writes n old new before after
+      → Wrote old new (take put (take len buffer)) → BrokeAnew writes n old new
   went_front put h w = go writes h refl
     where
-      go : (o : Option Tree) → WrittenWhole (record_of n o) (λ bytes. (len ≡ length (shortest_frame bytes) + 1) × (take len buffer ≡ frame_for 0 bytes ++ 0 ∷ [])) → writes ≡ o → BrokeAnew writes n old new before after
+      go : (o : Option Tree) → WrittenWhole (record_of n o) (λ bytes. (len ≡ length (shortest_frame bytes) + 1) × (take len buffer ≡ frame_for 0 bytes ++ 0 ∷ [])) → writes ≡ o → BrokeAnew writes n old new
       go None h e = absurd h
-      go (Some v) h e = record { value = v; is = e; count = put; wrote = subst (λ x. Wrote old new before after (take put x)) h.1.1 w }
+      go (Some v) h e = record { value = v; is = e; count = put; wrote = subst (λ x. Wrote old new (take put x)) h.1.1 w }
 
 pub refused_so : (o : Option Tree) (P Q : List ℕ → Type 0) → UnlessRefused o (λ b. P b × Q b) → UnlessRefused o Q
 refused_so None P Q h = tt
@@ -257,66 +283,66 @@ on_any (Ok x) P p = tt
 on_any (Err e) P p = p
 
 -- an append doesn't sync
-pub if_stopped : {V : Type 0} (writes : V → Option Tree) (most : ℕ) (a : Answer (ℕ × V)) (old new : Option (List ℕ)) (before after : ℕ) (e : RepairError) (P : Type 0) → StopsAnew writes most a old new before after e → IfUnsynced e P
-if_stopped writes most a old new before after (Read x) P h = tt
-if_stopped writes most a old new before after (Refused x) P h = tt
-if_stopped writes most a old new before after Line P h = tt
-if_stopped writes most (Value r) old new before after Sync P h = absurd h
-if_stopped writes most Damaged old new before after Sync P h = absurd h
-if_stopped writes most TooLong old new before after Sync P h = absurd h
-if_stopped writes most Cut old new before after Sync P h = absurd h
+pub if_stopped : {V : Type 0} (writes : V → Option Tree) (most : ℕ) (a : Answer (ℕ × V)) (old new : LineState) (e : RepairError) (P : Type 0) → StopsAnew writes most a old new e → IfUnsynced e P
+if_stopped writes most a old new (Read x) P h = tt
+if_stopped writes most a old new (Refused x) P h = tt
+if_stopped writes most a old new Line P h = tt
+if_stopped writes most (Value r) old new Sync P h = absurd h
+if_stopped writes most Damaged old new Sync P h = absurd h
+if_stopped writes most TooLong old new Sync P h = absurd h
+if_stopped writes most Cut old new Sync P h = absurd h
 
 -- a fact of an error that is passed on
 pub if_passed : {T E : Type 0} (r : Result T E) (e : E) (P : E → Type 0) → IsErrAnd r (λ y. y ≡ e) → P e → IfErr r P
 if_passed r e P h p = let a = err_from_is_err_and r h in rw a.1 (subst P (sym a.2) p)
 
 -- nothing was appended, or only a front of the zero
-pub none_appended : (takes : Tree → Type 0) (limit : ℕ) (held old new : Option (List ℕ)) (before after : ℕ) → Wrote old new before after [] → IsPartlyRepaired takes limit held old new before after
-none_appended takes limit held old new before after w = record { trees = []; count = 0; read = if_told held (λ bytes. AreReadFirst takes limit bytes []) (λ bytes e. nothing_read takes limit bytes); wrote = w }
+pub none_appended : (takes : Tree → Type 0) (limit : ℕ) (held : Option (List ℕ)) (old new : LineState) → Wrote old new [] → IsPartlyRepaired takes limit (told_with_zero held) old new
+none_appended takes limit held old new w = record { trees = []; count = 0; read = if_with_zero held (λ bytes. AreReadFirst takes limit bytes []) (λ bytes e. nothing_read takes limit (with_zero bytes)); wrote = w }
 
-pub none_went : (old new : Option (List ℕ)) (before after n : ℕ) (bs : List ℕ) → n ≡ 0 → Wrote old new before after (take n bs) → Wrote old new before after []
-none_went old new before after n bs e w = subst (λ k. Wrote old new before after (take k bs)) e w
+pub none_went : (old new : LineState) (n : ℕ) (bs : List ℕ) → n ≡ 0 → Wrote old new (take n bs) → Wrote old new []
+none_went old new n bs e w = subst (λ k. Wrote old new (take k bs)) e w
 
 none_if : (held : Option (List ℕ)) → ((bytes : List ℕ) → held ≡ Some bytes → ⊥) → held ≡ None
 none_if None h = refl
 none_if (Some bytes) h = absurd (h bytes refl)
 
 -- The records behind which a scan stands were appended anew, and are counted.
-pub record RepairedSoFar {V : Type 0} (takes : Tree → Type 0) (writes : V → Option Tree) (limit : ℕ) (held old now : Option (List ℕ)) (before after : ℕ) (repaired : Repaired) (scan : Scan) : Type 0 where
+pub record RepairedSoFar {V : Type 0} (takes : Tree → Type 0) (writes : V → Option Tree) (limit : ℕ) (held : Option (List ℕ)) (old now : LineState) (repaired : Repaired) (scan : Scan) : Type 0 where
   pub records : List (ℕ × V)
   pub trees : List Tree
   pub of : AreTreesOf writes records trees
-  pub wrote : Wrote old now before after (rewritten trees)
+  pub wrote : Wrote old now (rewritten trees)
   pub records_are : repaired.records ≡ min (length records) (2 ^ 64 - 1)
   pub next_is : repaired.next ≡ behind_greatest (numbers_of records)
   pub behind : (bytes : List ℕ) → held ≡ Some bytes → ReadsBehind takes limit bytes scan trees
 
 -- what one answer adds
-module _ {V : Type 0} (writes : V → Option Tree) (old new : Option (List ℕ)) (before after : ℕ) (repaired later : Repaired) where
-  pub goes_one : (r : ℕ × V) → WentAnew (writes r.1) r.0 old new before after → later.records ≡ min (repaired.records + 1) (2 ^ 64 - 1) → later.next ≡ max repaired.next (min (r.0 + 1) (2 ^ 64 - 1))
-      → GoesAnew writes (Value r) old new before after repaired later
+module _ {V : Type 0} (writes : V → Option Tree) (old new : LineState) (repaired later : Repaired) where
+  pub goes_one : (r : ℕ × V) → WentAnew (writes r.1) r.0 old new → later.records ≡ min (repaired.records + 1) (2 ^ 64 - 1) → later.next ≡ max repaired.next (min (r.0 + 1) (2 ^ 64 - 1))
+      → GoesAnew writes (Value r) old new repaired later
   goes_one r w e f = record {
     trees = numbered r.0 w.value ∷ [];
     of = ((w.value, w.is, refl), tt);
-    wrote = subst (Wrote old new before after) (sym (one_anew (numbered r.0 w.value))) w.wrote;
+    wrote = subst (Wrote old new) (sym (one_anew (numbered r.0 w.value))) w.wrote;
     records_are = e;
     next_is = λ ns h. f ∙ ap (λ x. max x (min (r.0 + 1) (2 ^ 64 - 1))) h ∙ sym (behind_push ns r.0);
   }
 
-pub goes_none : {V : Type 0} (writes : V → Option Tree) (a : Answer (ℕ × V)) (old : Option (List ℕ)) (before : ℕ) (repaired : Repaired) → record_read a ≡ [] → repaired.records ≤ 2 ^ 64 - 1 → GoesAnew writes a old old before before repaired repaired
-goes_none writes a old before repaired e l = record {
+pub goes_none : {V : Type 0} (writes : V → Option Tree) (a : Answer (ℕ × V)) (old : LineState) (repaired : Repaired) → record_read a ≡ [] → repaired.records ≤ 2 ^ 64 - 1 → GoesAnew writes a old old repaired repaired
+goes_none writes a old repaired e l = record {
   trees = [];
   of = subst (λ rs. AreTreesOf writes rs []) (sym e) tt;
-  wrote = Wrote-none old before;
+  wrote = Wrote-none old;
   records_are = omega (arith, l);
   next_is = λ ns h. h ∙ ap behind_greatest (sym (append-nil ns) ∙ ap (λ rs. ns ++ numbers_of rs) (sym e));
 }
 
 -- the steps of a repair
-module _ {V : Type 0} (reads : Tree → V → Type 0) (writes : V → Option Tree) (back : (t : Tree) (v : V) → reads t v → writes v ≡ Some t) (takes : Tree → Type 0) (limit : ℕ) (held old : Option (List ℕ)) (before : ℕ) where
-  pub repair_begins : (now : Option (List ℕ)) (after : ℕ) (repaired : Repaired) (scan : Scan) → Wrote old now before after (0 ∷ []) → repaired.records ≡ 0 → repaired.next ≡ 0
-      → ((bytes : List ℕ) → IsScanning limit bytes scan) → offset_of scan ≡ 0 → RepairedSoFar takes writes limit held old now before after repaired scan
-  repair_begins now after repaired scan w e f stands at = record {
+module _ {V : Type 0} (reads : Tree → V → Type 0) (writes : V → Option Tree) (back : (t : Tree) (v : V) → reads t v → writes v ≡ Some t) (takes : Tree → Type 0) (limit : ℕ) (held : Option (List ℕ)) (old : LineState) where
+  pub repair_begins : (now : LineState) (repaired : Repaired) (scan : Scan) → Wrote old now (0 ∷ []) → repaired.records ≡ 0 → repaired.next ≡ 0
+      → ((bytes : List ℕ) → IsScanning limit bytes scan) → offset_of scan ≡ 0 → RepairedSoFar takes writes limit held old now repaired scan
+  repair_begins now repaired scan w e f stands at = record {
     records = [];
     trees = [];
     of = tt;
@@ -326,28 +352,140 @@ module _ {V : Type 0} (reads : Tree → V → Type 0) (writes : V → Option Tre
     behind = λ bytes h. none_read takes limit bytes scan (stands bytes) (ap (λ n. ended 0 (take n bytes)) at);
   }
 
-  module _ {now : Option (List ℕ)} {between : ℕ} {repaired : Repaired} {scan : Scan} (h : RepairedSoFar takes writes limit held old now before between repaired scan) where
-    -- all records were appended
-    pub repair_ends : (new : Option (List ℕ)) (after at : ℕ) → ((bytes : List ℕ) → held ≡ Some bytes → IsScanning limit bytes scan → FoundAll {V = V} takes reads limit bytes (offset_of scan) at None)
-        → new ≡ now → between ≤ after → IsRepaired takes writes limit held old new before after repaired
-    repair_ends new after at found e l = record {
+  module _ {now : LineState} {repaired : Repaired} {scan : Scan} (h : RepairedSoFar takes writes limit held old now repaired scan) where
+    -- behind the last stretch that a zero ends
+    pub repair_passes : (later : Scan) → ((bytes : List ℕ) → held ≡ Some bytes → IsScanning limit bytes scan → IsScanning limit bytes later)
+        → ((bytes : List ℕ) → held ≡ Some bytes → IsScanning limit bytes scan → FoundAll {V = V} takes reads limit bytes (offset_of scan) (offset_of later) None) → RepairedSoFar takes writes limit held old now repaired later
+    repair_passes later stands found = record {
       records = h.records;
       trees = h.trees;
       of = h.of;
-      read = if_told held (λ bytes. AreReadIn takes limit bytes h.trees) (λ bytes x. let k = h.behind bytes x in all_read takes limit bytes scan h.trees k (found bytes x k.scanning).1);
-      wrote = wrote_still old now new before between after (rewritten h.trees) h.wrote e l;
+      wrote = h.wrote;
       records_are = h.records_are;
       next_is = h.next_is;
+      behind = λ bytes x.
+          let k = h.behind bytes x in
+          let f = found bytes x k.scanning in
+          record {
+            scanning = stands bytes x k.scanning;
+            to = record {
+              answers = k.to.answers;
+              each = subst (λ ps. AllZip (IsAnswer (HoldsExactly (takes_record takes)) limit) ps k.to.answers) (sym (ap (ended 0) (take_all (offset_of later) bytes (omega (arith, f.0))) ∙ f.1)) k.to.each;
+              are = k.to.are;
+            };
+          };
     }
 
     -- it was broken off between two of them
-    pub repair_stops : (new : Option (List ℕ)) (after : ℕ) → new ≡ now → between ≤ after → IsPartlyRepaired takes limit held old new before after
-    repair_stops new after e l = record {
+    pub repair_stops : (new : LineState) → new.told ≡ now.told → now.faults ≤ new.faults → IsPartlyRepaired takes limit (told_with_zero held) old new
+    repair_stops new e l = record {
       trees = h.trees;
       count = length (rewritten h.trees);
-      read = if_told held (λ bytes. AreReadFirst takes limit bytes h.trees) (λ bytes x. some_read takes limit bytes scan h.trees (h.behind bytes x));
-      wrote = wrote_still old now new before between after _ (all_anew old now now before between between h.trees h.wrote) e l;
+      read = if_with_zero held (λ bytes. AreReadFirst takes limit bytes h.trees) (λ bytes x. some_read takes limit (with_zero bytes) (offset_of scan) h.trees (reads_before takes limit bytes scan h.trees (h.behind bytes x)));
+      wrote = wrote_still old now new _ (all_anew old now now h.trees h.wrote) e l;
     }
+
+    -- what a zero behind the log ends was appended too, where it is a record
+    module _ (ends : (bytes : List ℕ) → held ≡ Some bytes → IsScanning limit bytes scan → offset_of scan ≡ length bytes) where
+      reads_last : (last : Option (Stretch V)) (us : List Tree) → AreTreesOf writes (last_record last) us → (bytes : List ℕ) → held ≡ Some bytes → FoundLast takes reads limit bytes last
+          → ReadsTo takes limit (with_zero bytes) (length bytes + 1) (h.trees ++ us)
+      reads_last None [] o bytes x f =
+          let k = h.behind bytes x in
+          let before = subst (λ n. ReadsTo takes limit (with_zero bytes) n h.trees) (ends bytes x k.scanning) (reads_before takes limit bytes scan h.trees k) in
+          record {
+            answers = before.answers;
+            each = subst (λ ps. AllZip (IsAnswer (HoldsExactly (takes_record takes)) limit) ps before.answers) (sym f) before.each;
+            are = before.are ∙ sym (append-nil h.trees);
+          }
+      reads_last None (u ∷ us) o bytes x f = absurd o
+      reads_last (Some s) us o bytes x f =
+          let k = h.behind bytes x in
+          let before = subst (λ n. ReadsTo takes limit (with_zero bytes) n h.trees) (ends bytes x k.scanning) (reads_before takes limit bytes scan h.trees k) in
+          one_more reads writes back takes limit (with_zero bytes) (length bytes) (length bytes + 1) h.trees us s before f o
+
+      last_goes : (new : LineState) (next : Repaired) → LastGoesAnew takes reads writes scan now new repaired next → IsRepaired takes writes limit (told_with_zero held) old new next
+      last_goes new next g =
+          let rs = last_record g.last in
+          let sizes : length rs ≡ length g.trees = zip_lengths (IsTreeOf writes) rs g.trees g.of in
+          let all : length (h.records ++ rs) ≡ length h.records + length g.trees = length-append h.records rs ∙ ap (λ n. length h.records + n) sizes in
+          record {
+            records = h.records ++ rs;
+            trees = h.trees ++ g.trees;
+            of = zip_joined (IsTreeOf writes) h.records rs h.trees g.trees h.of g.of;
+            read = if_with_zero held (λ bytes. AreReadIn takes limit bytes (h.trees ++ g.trees)) (λ bytes x. let k = h.behind bytes x in
+                all_read takes limit (with_zero bytes) (length bytes + 1) (h.trees ++ g.trees) (reads_last g.last g.trees g.of bytes x (g.found limit bytes k.scanning (ends bytes x k.scanning))) (all_taken bytes));
+            wrote = more_anew old now new h.trees g.trees h.wrote g.wrote;
+            records_are = min_more repaired.records next.records (length h.records) (length g.trees) (2 ^ 64 - 1) h.records_are g.records_are ∙ ap (λ n. min n (2 ^ 64 - 1)) (sym all);
+            next_is = g.next_is (numbers_of h.records) h.next_is ∙ ap behind_greatest (sym (numbers_joined h.records rs));
+          }
+
+      -- all of it was appended
+      pub repair_ends : (mid new : LineState) (next : Repaired) → LastGoesAnew takes reads writes scan now mid repaired next → new.told ≡ mid.told → mid.faults ≤ new.faults
+          → IsRepaired takes writes limit (told_with_zero held) old new next
+      repair_ends mid new next g e l =
+          let r = last_goes mid next g in
+          record { records = r.records; trees = r.trees; of = r.of; read = r.read; wrote = wrote_still old mid new (rewritten r.trees) r.wrote e l; records_are = r.records_are; next_is = r.next_is }
+
+      -- but it couldn't be synced
+      pub repair_unsynced : (mid new : LineState) (next : Repaired) → LastGoesAnew takes reads writes scan now mid repaired next → new.told ≡ mid.told → mid.faults ≤ new.faults
+          → IsPartlyRepaired takes limit (told_with_zero held) old new
+      repair_unsynced mid new next g e l =
+          let ts = h.trees ++ g.trees in
+          record {
+            trees = ts;
+            count = length (rewritten ts);
+            read = if_with_zero held (λ bytes. AreReadFirst takes limit bytes ts) (λ bytes x. let k = h.behind bytes x in
+                some_read takes limit (with_zero bytes) (length bytes + 1) ts (reads_last g.last g.trees g.of bytes x (g.found limit bytes k.scanning (ends bytes x k.scanning))));
+            wrote = wrote_still old mid new _ (all_anew old mid mid ts (more_anew old now mid h.trees g.trees h.wrote g.wrote)) e l;
+          }
+
+      -- it was broken off inside that record
+      pub last_breaks : (new : LineState) (most : ℕ) (e : RepairError) → LastStopsAnew takes reads writes most scan now new e → IsPartlyRepaired takes limit (told_with_zero held) old new
+      last_breaks new most (Read x) st = record {
+        trees = h.trees;
+        count = length (rewritten h.trees);
+        read = if_with_zero held (λ bytes. AreReadFirst takes limit bytes h.trees) (λ bytes x. some_read takes limit (with_zero bytes) (offset_of scan) h.trees (reads_before takes limit bytes scan h.trees (h.behind bytes x)));
+        wrote = all_anew old new new h.trees (subst (Wrote old new) (append-nil (rewritten h.trees)) (Wrote-then _ _ _ _ _ h.wrote st));
+      }
+      last_breaks new most Line st = go st.last.answer refl st.stops
+        where
+          go : (a : Answer (ℕ × V)) → a ≡ st.last.answer → StopsAnew writes most a now new Line → IsPartlyRepaired takes limit (told_with_zero held) old new
+          go (Value r) q b =
+              let us = numbered r.0 b.value ∷ [] in
+              let ts = h.trees ++ us in
+              record {
+                trees = ts;
+                count = length (rewritten h.trees) + b.count;
+                read = if_with_zero held (λ bytes. AreReadFirst takes limit bytes ts) (λ bytes x. let k = h.behind bytes x in
+                    some_read takes limit (with_zero bytes) (length bytes + 1) ts
+                    (reads_last (Some st.last) us (subst (λ z. AreTreesOf writes (record_read z) us) q ((b.value, b.is, refl), tt)) bytes x (st.found limit bytes k.scanning (ends bytes x k.scanning))));
+                wrote = front_anew old now new h.trees (numbered r.0 b.value) b.count h.wrote b.wrote;
+              }
+          go Damaged q b = absurd b
+          go TooLong q b = absurd b
+          go Cut q b = absurd b
+      last_breaks new most (Refused x) st = go st.last.answer st.stops
+        where
+          go : (a : Answer (ℕ × V)) → StopsAnew writes most a now new (Refused x) → IsPartlyRepaired takes limit (told_with_zero held) old new
+          go (Value r) b = record {
+            trees = h.trees;
+            count = length (rewritten h.trees);
+            read = if_with_zero held (λ bytes. AreReadFirst takes limit bytes h.trees) (λ bytes x. some_read takes limit (with_zero bytes) (offset_of scan) h.trees (reads_before takes limit bytes scan h.trees (h.behind bytes x)));
+            wrote = all_anew old new new h.trees (subst (Wrote old new) (append-nil (rewritten h.trees)) (Wrote-then _ _ _ _ _ h.wrote b.0));
+          }
+          go Damaged b = absurd b
+          go TooLong b = absurd b
+          go Cut b = absurd b
+      last_breaks new most Sync st = absurd st
+
+      -- nor is that record refused
+      pub last_fits : (new : LineState) (most : ℕ) (e : RepairError) → limit < most + 1 → LastStopsAnew takes reads writes most scan now new e → IfRefused e (held ≡ None)
+      last_fits new most (Read x) l st = tt
+      last_fits new most (Refused x) l st =
+          none_if held (λ bytes y. let k = h.behind bytes y in
+          never_refused reads writes back takes limit (with_zero bytes) (length bytes) (length bytes + 1) st.last now new most x l (st.found limit bytes k.scanning (ends bytes y k.scanning)) st.stops)
+      last_fits new most Line l st = tt
+      last_fits new most Sync l st = tt
 
     -- one stretch more
     module _ (later : Scan) (s : Stretch V) (stands : (bytes : List ℕ) → held ≡ Some bytes → IsScanning limit bytes scan → IsScanning limit bytes later)
@@ -355,39 +493,39 @@ module _ {V : Type 0} (reads : Tree → V → Type 0) (writes : V → Option Tre
       reads_on : (us : List Tree) → AreTreesOf writes (record_read s.answer) us → (bytes : List ℕ) → held ≡ Some bytes → ReadsBehind takes limit bytes later (h.trees ++ us)
       reads_on us o bytes x = let k = h.behind bytes x in one_read reads writes back takes limit bytes scan later h.trees us s k (stands bytes x k.scanning) (found bytes x k.scanning) o
 
-      pub repair_goes : (new : Option (List ℕ)) (after : ℕ) (next : Repaired) → GoesAnew writes s.answer now new between after repaired next → RepairedSoFar takes writes limit held old new before after next later
-      repair_goes new after next goes =
+      pub repair_goes : (new : LineState) (next : Repaired) → GoesAnew writes s.answer now new repaired next → RepairedSoFar takes writes limit held old new next later
+      repair_goes new next goes =
           let sizes : length (record_read s.answer) ≡ length goes.trees = zip_lengths (IsTreeOf writes) (record_read s.answer) goes.trees goes.of in
           let all : length (h.records ++ record_read s.answer) ≡ length h.records + length goes.trees = length-append h.records (record_read s.answer) ∙ ap (λ n. length h.records + n) sizes in
           record {
             records = h.records ++ record_read s.answer;
             trees = h.trees ++ goes.trees;
             of = zip_joined (IsTreeOf writes) h.records (record_read s.answer) h.trees goes.trees h.of goes.of;
-            wrote = more_anew old now new before between after h.trees goes.trees h.wrote goes.wrote;
+            wrote = more_anew old now new h.trees goes.trees h.wrote goes.wrote;
             records_are = min_more repaired.records next.records (length h.records) (length goes.trees) (2 ^ 64 - 1) h.records_are goes.records_are ∙ ap (λ n. min n (2 ^ 64 - 1)) (sym all);
             next_is = goes.next_is (numbers_of h.records) h.next_is ∙ ap behind_greatest (sym (numbers_joined h.records (record_read s.answer)));
             behind = reads_on goes.trees goes.of;
           }
 
       -- it was broken off inside a record, or at one that was refused
-      pub repair_breaks : (new : Option (List ℕ)) (after most : ℕ) (e : RepairError) → StopsAnew writes most s.answer now new between after e → IsPartlyRepaired takes limit held old new before after
-      repair_breaks new after most e st = go s.answer refl e st
+      pub repair_breaks : (new : LineState) (most : ℕ) (e : RepairError) → StopsAnew writes most s.answer now new e → IsPartlyRepaired takes limit (told_with_zero held) old new
+      repair_breaks new most e st = go s.answer refl e st
         where
-          go : (a : Answer (ℕ × V)) → a ≡ s.answer → (e : RepairError) → StopsAnew writes most a now new between after e → IsPartlyRepaired takes limit held old new before after
+          go : (a : Answer (ℕ × V)) → a ≡ s.answer → (e : RepairError) → StopsAnew writes most a now new e → IsPartlyRepaired takes limit (told_with_zero held) old new
           go (Value r) q Line st =
               let ts = h.trees ++ numbered r.0 st.value ∷ [] in
               record {
                 trees = ts;
                 count = length (rewritten h.trees) + st.count;
-                read = if_told held (λ bytes. AreReadFirst takes limit bytes ts)
-                    (λ bytes x. some_read takes limit bytes later ts (reads_on (numbered r.0 st.value ∷ []) (subst (λ b. AreTreesOf writes (record_read b) (numbered r.0 st.value ∷ [])) q ((st.value, st.is, refl), tt)) bytes x));
-                wrote = front_anew old now new before between after h.trees (numbered r.0 st.value) st.count h.wrote st.wrote;
+                read = if_with_zero held (λ bytes. AreReadFirst takes limit bytes ts)
+                    (λ bytes x. some_read takes limit (with_zero bytes) (offset_of later) ts (reads_before takes limit bytes later ts (reads_on (numbered r.0 st.value ∷ []) (subst (λ b. AreTreesOf writes (record_read b) (numbered r.0 st.value ∷ [])) q ((st.value, st.is, refl), tt)) bytes x)));
+                wrote = front_anew old now new h.trees (numbered r.0 st.value) st.count h.wrote st.wrote;
               }
           go (Value r) q (Refused x) st = record {
             trees = h.trees;
             count = length (rewritten h.trees);
-            read = if_told held (λ bytes. AreReadFirst takes limit bytes h.trees) (λ bytes x. some_read takes limit bytes scan h.trees (h.behind bytes x));
-            wrote = all_anew old new new before after after h.trees (subst (Wrote old new before after) (append-nil (rewritten h.trees)) (Wrote-then _ _ _ _ _ _ _ _ h.wrote st.0));
+            read = if_with_zero held (λ bytes. AreReadFirst takes limit bytes h.trees) (λ bytes x. some_read takes limit (with_zero bytes) (offset_of scan) h.trees (reads_before takes limit bytes scan h.trees (h.behind bytes x)));
+            wrote = all_anew old new new h.trees (subst (Wrote old new) (append-nil (rewritten h.trees)) (Wrote-then _ _ _ _ _ h.wrote st.0));
           }
           go (Value r) q (Read x) st = absurd st
           go (Value r) q Sync st = absurd st
@@ -396,9 +534,47 @@ module _ {V : Type 0} (reads : Tree → V → Type 0) (writes : V → Option Tre
           go Cut q e st = absurd st
 
       -- no record is refused that was read of bytes that are told
-      pub repair_fits : (new : Option (List ℕ)) (after most : ℕ) (e : RepairError) → limit < most + 1 → StopsAnew writes most s.answer now new between after e → IfRefused e (held ≡ None)
-      repair_fits new after most (Read x) l st = tt
-      repair_fits new after most (Refused x) l st =
-          none_if held (λ bytes y. never_refused reads writes back takes limit bytes (offset_of scan) (offset_of later) s now new between after most x l (found bytes y (h.behind bytes y).scanning) st)
-      repair_fits new after most Line l st = tt
-      repair_fits new after most Sync l st = tt
+      pub repair_fits : (new : LineState) (most : ℕ) (e : RepairError) → limit < most + 1 → StopsAnew writes most s.answer now new e → IfRefused e (held ≡ None)
+      repair_fits new most (Read x) l st = tt
+      repair_fits new most (Refused x) l st =
+          none_if held (λ bytes y. never_refused reads writes back takes limit bytes (offset_of scan) (offset_of later) s now new most x l (found bytes y (h.behind bytes y).scanning) st)
+      repair_fits new most Line l st = tt
+      repair_fits new most Sync l st = tt
+
+-- what appending the record of the last stretch says of the whole
+module _ {V : Type 0} (takes : Tree → Type 0) (reads : Tree → V → Type 0) (writes : V → Option Tree) (scan : Scan) (old new : LineState) where
+  pub no_last : ((limit : ℕ) (bytes : List ℕ) → IsScanning limit bytes scan → offset_of scan ≡ length bytes → FoundLast takes reads limit bytes None) → (repaired : Repaired) → repaired.records ≤ 2 ^ 64 - 1
+      → LastGoesAnew takes reads writes scan old old repaired repaired
+  no_last found repaired l = record {
+    last = None;
+    found = found;
+    trees = [];
+    of = tt;
+    wrote = Wrote-none old;
+    records_are = omega (arith, l);
+    next_is = λ ns h. h ∙ ap behind_greatest (sym (append-nil ns));
+  }
+
+  module _ (s : Stretch V) (found : (limit : ℕ) (bytes : List ℕ) → IsScanning limit bytes scan → offset_of scan ≡ length bytes → FoundLast takes reads limit bytes (Some s)) where
+    pub last_some : (repaired : Repaired) (r : Result Repaired RepairError) → IfOk r (λ later. GoesAnew writes s.answer old new repaired later) → IfOk r (λ later. LastGoesAnew takes reads writes scan old new repaired later)
+    last_some repaired (Ok later) h = record { last = Some s; found = found; trees = h.trees; of = h.of; wrote = h.wrote; records_are = h.records_are; next_is = h.next_is }
+    last_some repaired (Err e) h = tt
+
+    never_read : (a : Answer (ℕ × V)) (most : ℕ) (x : _) → StopsAnew writes most a old new (Read x) → ⊥
+    never_read (Value r) most x h = h
+    never_read Damaged most x h = h
+    never_read TooLong most x h = h
+    never_read Cut most x h = h
+
+    never_sync : (a : Answer (ℕ × V)) (most : ℕ) → StopsAnew writes most a old new Sync → ⊥
+    never_sync (Value r) most h = h
+    never_sync Damaged most h = h
+    never_sync TooLong most h = h
+    never_sync Cut most h = h
+
+    pub last_stops : (most : ℕ) (r : Result Repaired RepairError) → IfErr r (λ e. StopsAnew writes most s.answer old new e) → IfErr r (λ e. LastStopsAnew takes reads writes most scan old new e)
+    last_stops most (Ok later) h = tt
+    last_stops most (Err (Read x)) h = absurd (never_read s.answer most x h)
+    last_stops most (Err (Refused x)) h = record { last = s; found = found; stops = h }
+    last_stops most (Err Line) h = record { last = s; found = found; stops = h }
+    last_stops most (Err Sync) h = absurd (never_sync s.answer most h)

@@ -359,11 +359,29 @@ module _ {ns : List ℕ} {next : ℕ} {gaps : List Gap} {count : ℕ} (t : Talli
   pub not_counted_late : Contains ns n → ⊥
   not_counted_late = ((parted.missing n).0 (lies_here (take i gaps) (drop (i + 1) gaps) (get_or gaps i any) n parted (f any) (m any))).1
 
--- that lies in none of the ranges so far
-pub none_more : (xs : List Gap) (i n : ℕ) (d : Gap) → i < length xs → (LiesIn (take i xs) n → ⊥) → ((get_or xs i d).last < n) ⊎ (n < (get_or xs i d).first) → LiesIn (take (i + 1) xs) n → ⊥
-none_more xs i n d l none out h = elim ((lies_joined (take i xs) (get_or xs i d ∷ []) n).0 (subst (λ z. LiesIn z n) (take_more xs i d l) h)) [
-  | inl e ↦ none e
-  | inr e ↦ elim e [ inl y ↦ elim out [ inl z ↦ omega (arith, y, z) | inr z ↦ omega (arith, y, z) ] | inr y ↦ absurd y ]
+-- Ranges in order, and a number that doesn't lie in the one at a place: behind it, it lies in none up to there; before it, in none
+-- from there on.
+module _ (xs : List Gap) (i n : ℕ) (d : Gap) (l : i < length xs) (apart : AreApart 0 xs) where
+  parts : AreApart 0 (take i xs) × AreApart (behind_ranges 0 (take i xs)) (get_or xs i d ∷ drop (i + 1) xs)
+  parts = apart_front 0 (take i xs) (get_or xs i d ∷ drop (i + 1) xs) (subst (AreApart 0) (sym (take-append-drop i xs) ∙ ap (λ z. take i xs ++ z) (drop_more xs i d l)) apart)
+
+  pub none_up_to : (get_or xs i d).last < n → LiesIn (take (i + 1) xs) n → ⊥
+  none_up_to o h = elim ((lies_joined (take i xs) (get_or xs i d ∷ []) n).0 (subst (λ z. LiesIn z n) (take_more xs i d l) h)) [
+    | inl e ↦ (let b = lies_before 0 (take i xs) n parts.0 e in omega (arith, b, parts.1.0, parts.1.1, o))
+    | inr e ↦ elim e [ inl y ↦ omega (arith, y, o) | inr y ↦ absurd y ]
+  ]
+
+  pub none_from : n < (get_or xs i d).first → LiesIn (drop i xs) n → ⊥
+  none_from o h = elim (subst (λ z. LiesIn z n) (drop_more xs i d l) h) [
+    | inl y ↦ omega (arith, y, o)
+    | inr e ↦ (let b = lies_behind ((get_or xs i d).last + 2) (drop (i + 1) xs) n parts.1.2 e in omega (arith, b, parts.1.1, o))
+  ]
+
+-- a number that lies in none before a place and in none from there on
+pub none_at_all : (xs : List Gap) (i n : ℕ) → (LiesIn (take i xs) n → ⊥) → (LiesIn (drop i xs) n → ⊥) → LiesIn xs n → ⊥
+none_at_all xs i n a b h = elim ((lies_joined (take i xs) (drop i xs) n).0 (subst (λ z. LiesIn z n) (sym (take-append-drop i xs)) h)) [
+  | inl e ↦ a e
+  | inr e ↦ b e
 ]
 
 -- the ranges that a tally keeps

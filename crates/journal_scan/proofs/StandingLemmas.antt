@@ -2,7 +2,7 @@
 use Rattle.std.proofs.Common.{◌≡◌, ℕ, ◌+◌, ◌-◌, ◌<◌, ◌≤◌, nat_lt, Bool, true, false, List, [], ◌∷◌, ◌++◌, length, take, drop, Option, Some, None, Result, Ok, Err, refl, sym, ap, ◌∙◌, subst, inl, inr, append_assoc, arith}
 use Rattle.std.specs.Prelude.{if◌then◌else◌}
 use Rattle.std.proofs.lemmas.Bool.{ltb-true, ltb-false, lt-ltb, le-ltb}
-use Rattle.std.proofs.lemmas.List.{append-nil, length-append, length-take, take-append-le, drop-append-le, take-append-drop, length-drop, drop-drop, nil_from_length}
+use Rattle.std.proofs.lemmas.List.{append-nil, length-append, length-take, take-append-le, drop-append-le, take-append-drop, length-drop, drop-drop, drop_all, nil_from_length}
 use Rattle.std.proofs.Math.Seq.{take-add}
 use Rattle.cobs.specs.Frames.{NoZero}
 use Rattle.cobs.specs.declared.dec.owned.CobsDecoderOwned.{CobsDecoderOwned}
@@ -19,7 +19,7 @@ use Rattle.link.specs.declared.receiver.Answer.TheVariants.{Value, Damaged, TooL
 use Rattle.link.specs.declared.receiver.NoMemory.{NoMemory}
 use Rattle.journal.specs.Records.{takes_record, reads_record}
 use Rattle.journal_scan.specs.declared.scanning.Stretch.{Stretch}
-use Rattle.journal_scan.specs.Scanning.{ScanStands, IsNextStretch, Found}
+use Rattle.journal_scan.specs.Scanning.{ScanStands, IsNextStretch, Found, FoundLast, with_zero}
 use Rattle.journal_scan.proofs.WalkingLemmas.{no_zero_more, alone_ended, alone_unfinished, zero_ended, zero_unfinished, behind_of, first_of, push_quiet, push_answer}
 
 -- what is begun depends on the unfinished stretch alone
@@ -265,6 +265,19 @@ module _ {limit at from : ℕ} {r : Reception CobsDecoderOwned} {past : Bool} {u
       let t = stands_on 1 r true (omega (arith, ap length z)) n later_long (same_behind limit r stream (take (at + 1) bytes) both s.behind) in
       (subst (λ x. ScanStands limit r (at + 1) from past x bytes) (ap (drop 1) z) (subst (λ c. ScanStands limit r (at + 1) from c (drop 1 unread) bytes) (sym e) t.0), t.1)
 
+  -- the place of a stretch that is too long
+  pub passed_found : {V : Type 0} (rule : List ℕ → Tree → Type 0) (reads : Tree → V → Type 0) (later : List ℕ) → past ≡ true → unread ≡ 0 ∷ later → IsNextStretch rule reads limit bytes at (at + 1) from at TooLong
+  passed_found rule reads later e z =
+      let zero_more : at + (1 - 1) ≡ at = omega arith in
+      let k = behind_of stream [] in
+      let within : 1 ≤ length unread = omega (arith, ap length z) in
+      let long : limit < length u = ltb-true limit (length u) (sym s.past_is ∙ e) in
+      let are : take 1 unread ≡ [] ++ 0 ∷ [] = ap (take 1) z in
+      let n : NoZero (u ++ []) = subst NoZero (sym (append-nil u)) k.nonzero in
+      let size : length (u ++ []) ≡ length u = ap length (append-nil u) in
+      let f = found rule reads [] 1 TooLong too_long refl (omega arith) within are n (omega (arith, size, long)) (omega (arith, size, long)) in
+      subst (λ to. IsNextStretch rule reads limit bytes at (at + 1) from to TooLong) zero_more f
+
   -- and the zero that ends it
   pub stands_passed : {V : Type 0} (rule : List ℕ → Tree → Type 0) (reads : Tree → V → Type 0) (now : Reception CobsDecoderOwned) (later : List ℕ) → past ≡ true → unread ≡ 0 ∷ later → IsBehind in_owner limit 0 now []
       → ScanStands limit now (at + 1) (at + 1) false later bytes × IsNextStretch rule reads limit bytes at (at + 1) from at TooLong
@@ -332,3 +345,52 @@ stands_longer {limit} {at} {from} {r} {past} {unread} bytes more s =
       behind = subst (IsBehind in_owner limit 0 r) (sym same) s.behind;
       past_is = s.past_is ∙ ap (λ x. nat_lt limit (length (unfinished 0 x))) (sym same);
     }
+
+-- a scan at the end of a log stands in front of the zero that is put behind it
+pub stands_before_zero : {limit at from : ℕ} {r : Reception CobsDecoderOwned} {past : Bool} {unread bytes : List ℕ} → ScanStands limit r at from past unread bytes → at ≡ length bytes → ScanStands limit r at from past (0 ∷ []) (with_zero bytes)
+stands_before_zero {at = at} {bytes = bytes} s end =
+    stands_read (0 ∷ []) [] (stands_longer bytes (0 ∷ []) s) (drop-append-le at bytes (0 ∷ []) s.within ∙ ap (λ x. x ++ 0 ∷ []) (drop_all at bytes (omega (arith, end))))
+
+-- what a zero behind a log says of what a scan at its end stands in
+module _ {V : Type 0} (takes : Tree → Type 0) (reads : Tree → V → Type 0) {limit at from : ℕ} {r : Reception CobsDecoderOwned} {past : Bool} {unread bytes : List ℕ} (s : ScanStands limit r at from past unread bytes) (end : at ≡ length bytes) where
+  abbrev holds_at_end : List ℕ → Tree → Type 0
+  holds_at_end = HoldsExactly (takes_record takes)
+
+  last_is : (o : Option (Stretch V)) → Found takes reads limit (with_zero bytes) at (at + 1) o → FoundLast takes reads limit bytes o
+  last_is o f = subst (λ n. Found takes reads limit (with_zero bytes) n (n + 1) o) end f
+
+  -- no stretch is begun there
+  pub last_none : from ≡ at → FoundLast takes reads limit bytes None
+  last_none e = last_is None (stands_zero (stands_before_zero s end) [] e refl).1
+
+  -- one is that is too long
+  pub last_over : past ≡ true → FoundLast takes reads limit bytes (Some (record { from = from; to = at; answer = TooLong }))
+  last_over e = last_is (Some (record { from = from; to = at; answer = TooLong })) (passed_found (stands_before_zero s end) holds_at_end (reads_record reads) [] e refl)
+
+  -- one is that the receiver answers
+  abbrev pub AtEnd : Result (Option (Answer (ℕ × V))) NoMemory → Type 0
+  AtEnd (Ok None) = FoundLast {V = V} takes reads limit bytes None
+  AtEnd (Ok (Some TooLong)) = FoundLast {V = V} takes reads limit bytes None
+  AtEnd (Ok (Some x)) = FoundLast takes reads limit bytes (Some (record { from = from; to = at; answer = x }))
+  AtEnd (Err e) = Unit {0}
+
+  same_place : at + (1 - 1) ≡ at
+  same_place = omega arith
+
+  module _ (used : ℕ) (now : Reception CobsDecoderOwned) (fresh : past ≡ false) (begun_there : from ≡ at → ⊥) (some : 0 < used) (l : used ≤ 1) (stands : (stream : List ℕ) → IsBehind in_owner limit 0 r stream → IsBehind in_owner limit 0 now (stream ++ take used (0 ∷ []))) where
+    none_first : from ≡ at → (later : List ℕ) → 0 ∷ [] ≡ 0 ∷ later → ⊥
+    none_first e later same = begun_there e
+
+    one : used ≡ 1
+    one = omega (arith, some, l)
+
+    of_step : (result : Result (Option (Answer (ℕ × V))) NoMemory) → Step (stands_before_zero s end) takes reads used now fresh none_first some l stands result → AtEnd result
+    of_step (Ok None) h = last_is None (subst (λ n. ended 0 (take (at + n) (with_zero bytes)) ≡ ended 0 (take at (with_zero bytes))) one h.1)
+    of_step (Ok (Some TooLong)) h = last_is None (subst (λ n. ended 0 (take (at + n) (with_zero bytes)) ≡ ended 0 (take at (with_zero bytes))) one h.1)
+    of_step (Ok (Some (Value v))) h = last_is (Some (record { from = from; to = at; answer = Value v })) (subst (λ m. IsNextStretch holds_at_end (reads_record reads) limit (with_zero bytes) at (at + 1) from m (Value v)) same_place (subst (λ n. IsNextStretch holds_at_end (reads_record reads) limit (with_zero bytes) at (at + n) from (at + (n - 1)) (Value v)) one h.1))
+    of_step (Ok (Some Damaged)) h = last_is (Some (record { from = from; to = at; answer = Damaged })) (subst (λ m. IsNextStretch holds_at_end (reads_record reads) limit (with_zero bytes) at (at + 1) from m Damaged) same_place (subst (λ n. IsNextStretch holds_at_end (reads_record reads) limit (with_zero bytes) at (at + n) from (at + (n - 1)) Damaged) one h.1))
+    of_step (Ok (Some Cut)) h = last_is (Some (record { from = from; to = at; answer = Cut })) (subst (λ m. IsNextStretch holds_at_end (reads_record reads) limit (with_zero bytes) at (at + 1) from m Cut) same_place (subst (λ n. IsNextStretch holds_at_end (reads_record reads) limit (with_zero bytes) at (at + n) from (at + (n - 1)) Cut) one h.1))
+    of_step (Err e) h = tt
+
+    pub pushed_last : (result outcome : Result (Option (Answer (ℕ × V))) NoMemory) → ((stream : List ℕ) → IsBehind in_owner limit 0 r stream → Answered holds_at_end (reads_record reads) limit 0 stream (0 ∷ []) used result) → result ≡ outcome → AtEnd outcome
+    pushed_last result outcome answers e = subst AtEnd e (of_step result (pushed (stands_before_zero s end) takes reads used now fresh none_first some l stands result answers))

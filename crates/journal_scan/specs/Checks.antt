@@ -1,6 +1,6 @@
 -- What a log's stretches are as a whole, and what checking it finds.
-use Rattle.std.specs.Prelude.{ℕ, Bool, List, [], ◌∷◌, ◌++◌, length, map, if◌then◌else◌, Option, IfSome}
-use Rattle.std.specs.List.{AllZip}
+use Rattle.std.specs.Prelude.{◌≡◌, ◌↔◌, ℕ, ◌-◌, ◌^◌, ◌<◌, Bool, true, false, IsTrue, List, [], ◌∷◌, ◌++◌, length, map, if◌then◌else◌, Option, Some, None, IfSome}
+use Rattle.std.specs.List.{AllZip, Contains}
 use Rattle.postcard_tree.specs.Tree.{Tree}
 use Rattle.link.specs.Stream.{ended, HoldsExactly}
 use Rattle.link.specs.declared.receiver.Answer.{Answer}
@@ -8,7 +8,11 @@ use Rattle.link.specs.declared.receiver.Answer.TheVariants.{Value, Damaged, TooL
 use Rattle.journal.specs.Records.{takes_record, reads_record}
 use Rattle.journal_scan.specs.declared.scanning.Stretch.{Stretch}
 use Rattle.journal_scan.specs.declared.tallies.Tally.{Tally}
-use Rattle.journal_scan.specs.Scanning.{IsStretchAt, IsUnfinishedStretch}
+use Rattle.journal_scan.specs.declared.scanning.ScanError.TheVariants.{Fault, NoMemory}
+use Rattle.journal_scan.specs.declared.checking.CheckError.{CheckError}
+use Rattle.journal_scan.specs.declared.checking.CheckError.TheVariants.{Read, Halted}
+use Rattle.journal_scan.specs.declared.scanning.Scan.{Scan}
+use Rattle.journal_scan.specs.Scanning.{IsScanning, IsStretchAt, FoundLast, offset_of, with_zero}
 use Rattle.journal_scan.specs.Tallies.{IsTally}
 
 -- these stretches of a log are these bytes, one after another, each with its place and its answer, strictly
@@ -36,11 +40,62 @@ records_in counted (s ∷ stretches) = record_in counted s.answer ++ records_in 
 abbrev pub numbers_of : {V : Type 0} → List (ℕ × V) → List ℕ
 numbers_of records = map (λ r. r.0) records
 
--- A log was checked: the watcher was told of all its stretches, in order; what is kept is the tally of the records among them that
--- count; and the stretch that no zero ends is told.
-pub record IsChecked {V W : Type 0} (told : W → List (Stretch V) → W → Type 0) (counted : ℕ → V → Bool) (takes : Tree → Type 0) (reads : Tree → V → Type 0) (limit : ℕ) (held : Option (List ℕ)) (old new : W) (tally : Tally) (unfinished : Option (Stretch V)) : Type 0 where
+-- a list of one, or none
+abbrev pub listed_rest : {V : Type 0} → Option (Stretch V) → List (Stretch V)
+listed_rest None = []
+listed_rest (Some s) = s ∷ []
+
+-- an answer that is no record
+abbrev pub IsNoRecord : {V : Type 0} → Answer (ℕ × V) → Type 0
+IsNoRecord (Value r) = ⊥
+IsNoRecord Damaged = Unit {0}
+IsNoRecord TooLong = Unit {0}
+IsNoRecord Cut = Unit {0}
+
+-- what is left of a log's stretches once the watcher was told of the others: it stands at the log's end, and is no record
+abbrev pub IsRest : {V : Type 0} → List ℕ → Option (Stretch V) → Type 0
+IsRest bytes None = Unit {0}
+IsRest bytes (Some s) = (s.to ≡ length bytes) × IsNoRecord s.answer
+
+-- a fact where a test failed
+abbrev pub OnFalse : Bool → Type 0 → Type 0
+OnFalse true P = Unit {0}
+OnFalse false P = P
+
+-- What a zero behind a log ends was judged: the watcher was told of it and it was counted where it is a record, and else it is left.
+pub record JudgesLast {V W : Type 0} (told : W → List (Stretch V) → W → Type 0)
+    (counted : ℕ → V → Bool) (takes : Tree → Type 0) (reads : Tree → V → Type 0) (scan : Scan)
+    (old new : W) (tally later : Tally) (unfinished : Option (Stretch V)) : Type 0 where
+  pub last : Option (Stretch V)
+  pub found : (limit : ℕ) (bytes : List ℕ) → IsScanning limit bytes scan
+      → offset_of scan ≡ length bytes → FoundLast takes reads limit bytes last
+  pub also : List (Stretch V)
+  pub handed : told old also new
+  pub all : listed_rest last ≡ also ++ listed_rest unfinished
+  pub tallied : (numbers : List ℕ) → IsTally numbers tally
+      → IsTally (numbers ++ numbers_of (records_in counted also)) later
+  pub rest : (limit : ℕ) (bytes : List ℕ) → IsScanning limit bytes scan
+      → offset_of scan ≡ length bytes → IsRest bytes unfinished
+
+-- A log was checked, with a zero behind it, as opening it puts one there: the watcher was told of its stretches, in order, but for
+-- the last one where no zero ends that and it is no record; and what is kept is the tally of the records among them that count.
+pub record IsChecked {V W : Type 0} (told : W → List (Stretch V) → W → Type 0)
+    (counted : ℕ → V → Bool) (takes : Tree → Type 0) (reads : Tree → V → Type 0) (limit : ℕ)
+    (held : Option (List ℕ)) (old new : W) (tally : Tally) (unfinished : Option (Stretch V)) : Type 0 where
   pub stretches : List (Stretch V)
   pub handed : told old stretches new
-  pub are : IfSome held (λ bytes. AreStretches takes reads limit bytes stretches)
+  pub are : IfSome held (λ bytes. AreStretches takes reads limit (with_zero bytes) (stretches ++ listed_rest unfinished))
   pub tallied : IsTally (numbers_of (records_in counted stretches)) tally
-  pub rest : IfSome held (λ bytes. IsUnfinishedStretch limit bytes (length bytes) unfinished)
+  pub rest : IfSome held (λ bytes. IsRest bytes unfinished)
+
+-- Whether the number of a record that counts was among those before it; of none it isn't. Of the greatest number of all that isn't
+-- said.
+abbrev pub IsAgain : {V : Type 0} → List ℕ → List (ℕ × V) → Bool → Type 0
+IsAgain numbers [] again = again ≡ false
+IsAgain numbers (r ∷ _) again = r.0 < 2 ^ 64 - 1 → IsTrue again ↔ Contains numbers r.0
+
+-- why a log wasn't checked to its end: a read failed, no memory was found, or the watcher halted
+abbrev pub CheckCause : Type 0 → Type 0 → CheckError → Type 0
+CheckCause failed halted (Read Fault) = failed
+CheckCause failed halted (Read NoMemory) = Unit {0}
+CheckCause failed halted Halted = halted

@@ -1,8 +1,8 @@
 -- What appending the records of a log anew writes.
-use Rattle.std.specs.Prelude.{◌≡◌, ℕ, ◌+◌, ◌-◌, ◌^◌, ◌<◌, min, true, List, [], ◌∷◌, ◌++◌, length, map, take, Option, Some, IfSome}
+use Rattle.std.specs.Prelude.{◌≡◌, ℕ, ◌+◌, ◌-◌, ◌^◌, ◌<◌, min, true, List, [], ◌∷◌, ◌++◌, length, map, take, Option, Some, None, IfSome}
 use Rattle.std.specs.List.{AllZip}
 use Rattle.cobs.specs.Frames.{shortest_frame}
-use Rattle.line_io.specs.Device.{Wrote}
+use Rattle.line_io.specs.Device.{LineState, Wrote}
 use Rattle.postcard_tree.specs.Tree.{Tree}
 use Rattle.postcard.specs.Written.{UnlessRefused}
 use Rattle.link.specs.Stream.{Verdict, HoldsExactly, Given, Answers}
@@ -13,6 +13,9 @@ use Rattle.link.specs.declared.receiver.Answer.TheVariants.{Value, Damaged, TooL
 use Rattle.journal.specs.Records.{numbered, record_of, takes_record}
 use Rattle.journal_scan.specs.Checks.{numbers_of}
 use Rattle.journal_scan.specs.Tallies.{behind_greatest}
+use Rattle.journal_scan.specs.Scanning.{IsScanning, FoundLast, offset_of}
+use Rattle.journal_scan.specs.declared.scanning.Scan.{Scan}
+use Rattle.journal_scan.specs.declared.scanning.Stretch.{Stretch}
 use Rattle.journal_scan.specs.declared.scanning.ScanError.TheVariants.{Fault, NoMemory}
 use Rattle.journal_scan.specs.declared.repairing.Repaired.{Repaired}
 use Rattle.journal_scan.specs.declared.repairing.RepairError.{RepairError}
@@ -53,23 +56,23 @@ pub record AreReadFirst (takes : Tree → Type 0) (limit : ℕ) (bytes : List �
 -- A log was repaired: all records that are read of it were appended anew, behind a zero; so many they are, and this is the number
 -- behind the greatest of theirs.
 pub record IsRepaired {V : Type 0} (takes : Tree → Type 0) (writes : V → Option Tree)
-    (limit : ℕ) (held old new : Option (List ℕ)) (before after : ℕ)
+    (limit : ℕ) (held : Option (List ℕ)) (old new : LineState)
     (repaired : Repaired) : Type 0 where
   pub records : List (ℕ × V)
   pub trees : List Tree
   pub of : AreTreesOf writes records trees
   pub read : IfSome held (λ bytes. AreReadIn takes limit bytes trees)
-  pub wrote : Wrote old new before after (rewritten trees)
+  pub wrote : Wrote old new (rewritten trees)
   pub records_are : repaired.records ≡ min (length records) (2 ^ 64 - 1)
   pub next_is : repaired.next ≡ behind_greatest (numbers_of records)
 
 -- A repair was broken off: a front of what appending the first records anew writes is there.
 pub record IsPartlyRepaired (takes : Tree → Type 0) (limit : ℕ)
-    (held old new : Option (List ℕ)) (before after : ℕ) : Type 0 where
+    (held : Option (List ℕ)) (old new : LineState) : Type 0 where
   pub trees : List Tree
   pub count : ℕ
   pub read : IfSome held (λ bytes. AreReadFirst takes limit bytes trees)
-  pub wrote : Wrote old new before after (take count (rewritten trees))
+  pub wrote : Wrote old new (take count (rewritten trees))
 
 -- the record that an answer is, where it is one
 abbrev pub record_read : {V : Type 0} → Answer (ℕ × V) → List (ℕ × V)
@@ -79,48 +82,79 @@ record_read TooLong = []
 record_read Cut = []
 
 -- a record was appended anew
-pub record WentAnew (writes : Option Tree) (n : ℕ) (old new : Option (List ℕ))
-    (before after : ℕ) : Type 0 where
+pub record WentAnew (writes : Option Tree) (n : ℕ) (old new : LineState) : Type 0 where
   pub value : Tree
   pub is : writes ≡ Some value
-  pub wrote : Wrote old new before after (sent 0 true (numbered n value))
+  pub wrote : Wrote old new (sent 0 true (numbered n value))
 
 -- a front of it was
-pub record BrokeAnew (writes : Option Tree) (n : ℕ) (old new : Option (List ℕ))
-    (before after : ℕ) : Type 0 where
+pub record BrokeAnew (writes : Option Tree) (n : ℕ) (old new : LineState) : Type 0 where
   pub value : Tree
   pub is : writes ≡ Some value
   pub count : ℕ
-  pub wrote : Wrote old new before after (take count (sent 0 true (numbered n value)))
+  pub wrote : Wrote old new (take count (sent 0 true (numbered n value)))
 
 -- it wasn't appended: a front of it was, or it was refused, since it takes more than so many bytes
-abbrev pub StoppedAnew : Option Tree → ℕ → ℕ → Option (List ℕ) → Option (List ℕ) → ℕ → ℕ
-    → RepairError → Type 0
-StoppedAnew writes n most old new before after Line = BrokeAnew writes n old new before after
-StoppedAnew writes n most old new before after (Refused e) =
-    Wrote old new before after []
+abbrev pub StoppedAnew : Option Tree → ℕ → ℕ → LineState → LineState → RepairError → Type 0
+StoppedAnew writes n most old new Line = BrokeAnew writes n old new
+StoppedAnew writes n most old new (Refused e) =
+    Wrote old new []
     × UnlessRefused (record_of n writes) (λ bytes. most < length (shortest_frame bytes))
-StoppedAnew writes n most old new before after (Read e) = ⊥
-StoppedAnew writes n most old new before after Sync = ⊥
+StoppedAnew writes n most old new (Read e) = ⊥
+StoppedAnew writes n most old new Sync = ⊥
 
 -- the record that an answer is was appended anew, where it is one, and is counted
 pub record GoesAnew {V : Type 0} (writes : V → Option Tree) (answer : Answer (ℕ × V))
-    (old new : Option (List ℕ)) (before after : ℕ) (repaired later : Repaired) : Type 0 where
+    (old new : LineState) (repaired later : Repaired) : Type 0 where
   pub trees : List Tree
   pub of : AreTreesOf writes (record_read answer) trees
-  pub wrote : Wrote old new before after (appended_anew trees)
+  pub wrote : Wrote old new (appended_anew trees)
   pub records_are : later.records ≡ min (repaired.records + length trees) (2 ^ 64 - 1)
   pub next_is : (ns : List ℕ) → repaired.next ≡ behind_greatest ns
       → later.next ≡ behind_greatest (ns ++ numbers_of (record_read answer))
 
 -- it wasn't
 abbrev pub StopsAnew : {V : Type 0} → (V → Option Tree) → ℕ → Answer (ℕ × V)
-    → Option (List ℕ) → Option (List ℕ) → ℕ → ℕ → RepairError → Type 0
-StopsAnew writes most (Value r) old new before after e =
-    StoppedAnew (writes r.1) r.0 most old new before after e
-StopsAnew writes most Damaged old new before after e = ⊥
-StopsAnew writes most TooLong old new before after e = ⊥
-StopsAnew writes most Cut old new before after e = ⊥
+    → LineState → LineState → RepairError → Type 0
+StopsAnew writes most (Value r) old new e =
+    StoppedAnew (writes r.1) r.0 most old new e
+StopsAnew writes most Damaged old new e = ⊥
+StopsAnew writes most TooLong old new e = ⊥
+StopsAnew writes most Cut old new e = ⊥
+
+-- the record that a stretch is, where there is one and it is one
+abbrev pub last_record : {V : Type 0} → Option (Stretch V) → List (ℕ × V)
+last_record None = []
+last_record (Some s) = record_read s.answer
+
+-- What a zero behind the log ends was appended anew, where it is a record, and is counted.
+pub record LastGoesAnew {V : Type 0} (takes : Tree → Type 0) (reads : Tree → V → Type 0)
+    (writes : V → Option Tree) (scan : Scan) (old new : LineState) (repaired later : Repaired) : Type 0 where
+  pub last : Option (Stretch V)
+  pub found : (limit : ℕ) (bytes : List ℕ) → IsScanning limit bytes scan
+      → offset_of scan ≡ length bytes → FoundLast takes reads limit bytes last
+  pub trees : List Tree
+  pub of : AreTreesOf writes (last_record last) trees
+  pub wrote : Wrote old new (appended_anew trees)
+  pub records_are : later.records ≡ min (repaired.records + length trees) (2 ^ 64 - 1)
+  pub next_is : (ns : List ℕ) → repaired.next ≡ behind_greatest ns
+      → later.next ≡ behind_greatest (ns ++ numbers_of (last_record last))
+
+-- it wasn't
+pub record StopsAtLast {V : Type 0} (takes : Tree → Type 0) (reads : Tree → V → Type 0)
+    (writes : V → Option Tree) (most : ℕ) (scan : Scan) (old new : LineState) (e : RepairError) : Type 0 where
+  pub last : Stretch V
+  pub found : (limit : ℕ) (bytes : List ℕ) → IsScanning limit bytes scan
+      → offset_of scan ≡ length bytes → FoundLast takes reads limit bytes (Some last)
+  pub stops : StopsAnew writes most last.answer old new e
+
+-- it wasn't, or had no memory
+abbrev pub LastStopsAnew : {V : Type 0} → (Tree → Type 0) → (Tree → V → Type 0)
+    → (V → Option Tree) → ℕ → Scan → LineState → LineState → RepairError → Type 0
+LastStopsAnew takes reads writes most scan old new (Read e) = Wrote old new []
+LastStopsAnew takes reads writes most scan old new (Refused e) = StopsAtLast takes reads writes most scan old new (Refused e)
+LastStopsAnew takes reads writes most scan old new Line = StopsAtLast takes reads writes most scan old new Line
+LastStopsAnew takes reads writes most scan old new Sync = ⊥
 
 -- why a repair was broken off: the log's store failed, or the destination did
 abbrev pub RepairCause : RepairError → Type 0 → Type 0 → Type 0

@@ -71,6 +71,19 @@ abbrev pub FoundAll : {V : Type 0} → (Tree → Type 0) → (Tree → V → Typ
 FoundAll takes reads limit bytes old new None = (new ≡ length bytes) × (ended 0 bytes ≡ ended 0 (take old bytes))
 FoundAll takes reads limit bytes old new (Some s) = Found takes reads limit bytes old new (Some s)
 
+-- a log with a zero behind it, as opening it puts one there
+abbrev pub with_zero : List ℕ → List ℕ
+with_zero bytes = bytes ++ 0 ∷ []
+
+-- the same of bytes that may not be told
+abbrev pub told_with_zero : Option (List ℕ) → Option (List ℕ)
+told_with_zero None = None
+told_with_zero (Some bytes) = Some (with_zero bytes)
+
+-- what a zero behind a log ends: a stretch, or nothing
+abbrev pub FoundLast : {V : Type 0} → (Tree → Type 0) → (Tree → V → Type 0) → ℕ → List ℕ → Option (Stretch V) → Type 0
+FoundLast takes reads limit bytes o = Found takes reads limit (with_zero bytes) (length bytes) (length bytes + 1) o
+
 -- the answer to a stretch of so many bytes that no zero ends
 abbrev pub IsOver : {V : Type 0} → ℕ → ℕ → Answer V → Type 0
 IsOver limit n TooLong = limit < n

@@ -50,3 +50,8 @@ gaps_without g n = (if nat_lt g.first n then record { first = g.first; last = n 
 -- the range of the numbers from the next one up to this one, where there are any
 abbrev pub gap_before : ℕ → ℕ → List Gap
 gap_before next n = if nat_lt next n then record { first = next; last = n - 1 } ∷ [] else []
+
+-- The number behind the greatest of some is above each of them, but for 2^64 - 1.
+abbrev pub StandsAboveAll : Type 0
+StandsAboveAll = (numbers : List ℕ) (n : ℕ) → Contains numbers n → n < 2 ^ 64 - 1
+    → n < behind_greatest numbers

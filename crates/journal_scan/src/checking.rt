@@ -1,10 +1,9 @@
 //! Checking a log: what isn't a record, and which numbers no record has.
-ghost use Rattle.std.specs.Prelude.{◌≡◌, ℕ, List, ◌++◌, OnOk, IfOk};
+ghost use Rattle.std.specs.Prelude.{◌≡◌, ℕ, ◌≤◌, List, ◌++◌, OnOk, IfOk, IfErr};
 ghost use Rattle.line_io.specs.Transfers.{Failed};
-ghost use Rattle.journal_scan.specs.Checks.{IsChecked, record_in, numbers_of};
+ghost use Rattle.journal.specs.Reading.{HaltsBehind};
+ghost use Rattle.journal_scan.specs.Checks.{IsChecked, IsNoRecord, JudgesLast, OnFalse, CheckCause, IsAgain, record_in, numbers_of};
 ghost use Rattle.journal_scan.specs.Tallies.{IsTally};
-ghost use Rattle.journal_scan.specs.declared.scanning.ScanError.TheVariants.{Fault};
-ghost use Rattle.journal_scan.specs.declared.checking.CheckError.TheVariants.{Read};
 
 use crate::scanning::{Scan, ScanError, Stretch};
 use crate::tallies::Tally;
@@ -31,8 +30,20 @@ pub enum CheckError {
 pub struct Report<T> {
     /// The records that count: how many they are, the number behind the greatest, and the numbers below it that none has.
     pub tally: Tally,
-    /// The stretch that no zero ends, where there is one.
+    /// The stretch that no zero ends, where there is one that isn't a record.
     pub unfinished: Option<Stretch<T>>,
+}
+
+// Whether an answer is a record.
+fn is_record<T>(answer: &Answer<(u64, T)>) -> bool
+    ensures { OnFalse result (IsNoRecord answer.now) }
+{
+    match answer {
+        Answer::Value(_) => true,
+        Answer::Damaged => false,
+        Answer::TooLong => false,
+        Answer::Cut => false,
+    }
 }
 
 // Counts the record that a stretch is, where it is one that counts, and says whether its number was there before.
@@ -41,8 +52,10 @@ fn count_record<T, W: Watcher<T>>(
     tally: &mut Tally,
     stretch: &Stretch<T>,
 ) -> Result<bool, NoMemory>
-    ensures { OnOk result ((numbers : List ℕ) → IsTally numbers tally.old
+    ensures counted { OnOk result ((numbers : List ℕ) → IsTally numbers tally.old
         → IsTally (numbers ++ numbers_of (record_in W.counted stretch.now.answer)) tally.new) }
+    ensures again { IfOk result (λ again. (numbers : List ℕ) → IsTally numbers tally.old
+        → IsAgain numbers (record_in W.counted stretch.now.answer) again) }
 {
     match &stretch.answer {
         Answer::Value((number, value)) => {
@@ -57,8 +70,52 @@ fn count_record<T, W: Watcher<T>>(
     }
 }
 
+// Judges what stands behind the last zero as it will be once the log is opened, with a zero behind it: where that is a record the
+// watcher is told of it.
+fn judge_last<T: DeserializeOwned + Exact, W: Watcher<T>>(
+    alloc: Global,
+    scan: Scan,
+    tally: Tally,
+    watcher: &mut W,
+) -> Result<Report<T>, CheckError>
+    ensures judged { IfOk result (λ r. JudgesLast W.told W.counted T.form.takes T.form.reads scan
+        watcher.old watcher.new tally r.tally r.unfinished) }
+    ensures cause { IfErr result (λ e. CheckCause ⊥ (W.halts watcher.old) e) }
+{
+    let mut tally = tally;
+    let stretch = match scan.finish::<T>(alloc) {
+        Ok(Some(stretch)) => stretch,
+        Ok(None) => {
+            return Ok(Report {
+                tally,
+                unfinished: None,
+            });
+        }
+        Err(e) => return Err(CheckError::Read(e)),
+    };
+    if !is_record(&stretch.answer) {
+        return Ok(Report {
+            tally,
+            unfinished: Some(stretch),
+        });
+    }
+    let again = match count_record(watcher, &mut tally, &stretch) {
+        Ok(again) => again,
+        Err(_) => return Err(CheckError::Read(ScanError::NoMemory)),
+    };
+    match watcher.tell(stretch, again) {
+        Ok(()) => Ok(Report {
+            tally,
+            unfinished: None,
+        }),
+        Err(_) => Err(CheckError::Halted),
+    }
+}
+
 /// Goes over a log to its end, tells the watcher of each stretch that a zero ends, and answers which numbers are missing among the
-/// records that count, and what stands behind the last zero. Keeps one stretch, one read's bytes and the ranges that are missing.
+/// records that count. What stands behind the last zero is judged as opening the log will, which puts a zero behind it: a record
+/// there is told and counted as any other, and what is none is answered. Keeps one stretch, one read's bytes and the ranges that
+/// are missing.
 pub fn check<T: DeserializeOwned + Exact, S: Store, W: Watcher<T>>(
     alloc: Global,
     limit: usize,
@@ -66,11 +123,14 @@ pub fn check<T: DeserializeOwned + Exact, S: Store, W: Watcher<T>>(
     watcher: &mut W,
 ) -> Result<Report<T>, CheckError>
     ensures checked { IfOk result
-        (λ r. IsChecked W.told W.counted T.takes T.reads limit (S.held store.old)
+        (λ r. IsChecked W.told W.counted T.form.takes T.form.reads limit (S.line store.old).told
         watcher.old watcher.new r.tally r.unfinished) }
-    ensures held { S.held store.new ≡ S.held store.old }
+    ensures held { (S.line store.new).told ≡ (S.line store.old).told }
     ensures settled { S.settled store.new ≡ S.settled store.old }
-    ensures quiet { OnOk result (S.faults store.new ≡ S.faults store.old) }
+    ensures quiet { OnOk result ((S.line store.new).faults ≡ (S.line store.old).faults) }
+    ensures cause { IfErr result (λ e. CheckCause (Failed (S.line store.old) (S.line store.new))
+        (HaltsBehind W.told W.halts watcher.old) e) }
+    ensures more { (S.line store.old).faults ≤ (S.line store.new).faults }
 {
     let mut scan = match Scan::new(alloc, limit, 0) {
         Ok(scan) => scan,
@@ -80,10 +140,7 @@ pub fn check<T: DeserializeOwned + Exact, S: Store, W: Watcher<T>>(
     loop {
         let stretch = match scan.next_ended::<T, S>(alloc, store) {
             Ok(Some(stretch)) => stretch,
-            Ok(None) => {
-                let unfinished = scan.unfinished::<T>();
-                return Ok(Report { tally, unfinished });
-            }
+            Ok(None) => return judge_last(alloc, scan, tally, watcher),
             Err(e) => return Err(CheckError::Read(e)),
         };
         let again = match count_record(watcher, &mut tally, &stretch) {

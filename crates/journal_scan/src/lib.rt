@@ -3,12 +3,14 @@
 
 mod checking;
 pub mod laws;
+mod opening;
 mod repairing;
 mod scanning;
 mod tallies;
 mod watching;
 
 pub use checking::{CheckError, Report, check};
+pub use opening::open_by;
 pub use repairing::{RepairError, Repaired, repair};
 pub use scanning::{Scan, ScanError, Stretch};
 pub use tallies::{Gap, Tally};

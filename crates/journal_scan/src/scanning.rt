@@ -1,5 +1,5 @@
 //! Going over a log stretch by stretch, with the places of the stretches.
-ghost use Rattle.std.specs.Prelude.{◌≡◌, ◌+◌, ◌-◌, ◌<◌, ◌≤◌, ◌^◌, ℕ, List, ◌∷◌, ◌++◌, Err, OnOk, IfOk, IfErr, IfSome, MatchOption, MatchResult, length, take, drop, vec_len, true, false};
+ghost use Rattle.std.specs.Prelude.{◌≡◌, ◌+◌, ◌-◌, ◌<◌, ◌≤◌, ◌^◌, ℕ, List, ◌∷◌, ◌++◌, Err, Some, None, OnOk, IfOk, IfErr, IfSome, MatchOption, MatchResult, length, take, drop, vec_len, true, false};
 ghost use Rattle.line_io.specs.Transfers.{Failed};
 ghost use Rattle.link.specs.Laws.{EndsBetween};
 ghost use Rattle.link.specs.Stream.{ended};
@@ -56,7 +56,7 @@ pub struct Scan {
 }
 
 impl Scan {
-    ghost use Rattle.journal_scan.specs.Scanning.{IsScanning, offset_of, Goes, Found, FoundAll, IsUnfinishedStretch};
+    ghost use Rattle.journal_scan.specs.Scanning.{IsScanning, offset_of, Goes, Found, FoundAll, FoundLast, IsUnfinishedStretch};
 
     /// From an offset on, which is 0 or stands behind a zero, with stretches of at most `limit` bytes. Takes memory for one
     /// stretch's and one read's bytes.
@@ -93,17 +93,18 @@ impl Scan {
 
     // Reads what stands at the offset; false is the end.
     fn fill<S: Store>(&mut self, store: &mut S) -> Result<bool, ScanError>
-        ensures stands { (limit : ℕ) (bytes : List ℕ) → S.held store.old ≡ Some bytes
+        ensures stands { (limit : ℕ) (bytes : List ℕ) → (S.line store.old).told ≡ Some bytes
             → IsScanning limit bytes self.old → IsScanning limit bytes self.new }
         ensures at { self.new.at ≡ self.old.at }
         ensures end { IfOk result (λ more. more ≡ false
-            → EndsBefore (S.held store.old) self.old.at) }
-        ensures held { S.held store.new ≡ S.held store.old }
+            → EndsBefore (S.line store.old).told self.old.at) }
+        ensures held { (S.line store.new).told ≡ (S.line store.old).told }
         ensures settled { S.settled store.new ≡ S.settled store.old }
-        ensures quiet { OnOk result (S.faults store.new ≡ S.faults store.old) }
+        ensures quiet { OnOk result ((S.line store.new).faults ≡ (S.line store.old).faults) }
         ensures fault { IfErr result
-            (λ e. Failed (S.faults store.old) (S.faults store.new) (S.calls_left store.new)) }
-        ensures calls { OnOk result (S.calls_left store.new < S.calls_left store.old) }
+            (λ e. (e ≡ ScanError.Fault) × Failed (S.line store.old) (S.line store.new)) }
+        ensures more { (S.line store.old).faults ≤ (S.line store.new).faults }
+        ensures calls { OnOk result ((S.line store.new).calls_left < (S.line store.old).calls_left) }
     {
         match store.read_at(self.at, &mut self.room) {
             None => {
@@ -148,8 +149,8 @@ impl Scan {
             → drop self.old.start (take self.old.end self.old.room.items) ≡ 0 ∷ rest → ⊥ }
         requires within { self.old.past ≡ false }
         ensures goes { (limit : ℕ) (bytes : List ℕ) → IsScanning limit bytes self.old
-            → Goes T.takes T.reads limit bytes self.old self.new result }
-        ensures memory { IfErr result (λ e. e ≡ ScanError.NoMemory) }
+            → Goes T.form.takes T.form.reads limit bytes self.old self.new result }
+        ensures memory { IfErr result (λ e. (e ≡ ScanError.NoMemory) × (T.form.growing ≡ true)) }
         ensures back { self.old.at ≤ self.new.at }
         ensures on { IfOk result (λ o. IfSome o (λ _. self.old.at < self.new.at)) }
     {
@@ -198,7 +199,7 @@ impl Scan {
         ensures on { IfSome result (λ _. self.old.at < self.new.at) }
         ensures stands { (limit : ℕ) (bytes : List ℕ) → IsScanning limit bytes self.old
             → IsScanning limit bytes self.new
-            × Found T.takes T.reads limit bytes self.old.at self.new.at result }
+            × Found T.form.takes T.form.reads limit bytes self.old.at self.new.at result }
     {
         while self.start < self.end {
             let byte = self.room[self.start];
@@ -242,8 +243,8 @@ impl Scan {
         alloc: Global,
     ) -> Result<Option<Stretch<T>>, ScanError>
         ensures goes { (limit : ℕ) (bytes : List ℕ) → IsScanning limit bytes self.old
-            → Goes T.takes T.reads limit bytes self.old self.new result }
-        ensures memory { IfErr result (λ e. e ≡ ScanError.NoMemory) }
+            → Goes T.form.takes T.form.reads limit bytes self.old self.new result }
+        ensures memory { IfErr result (λ e. (e ≡ ScanError.NoMemory) × (T.form.growing ≡ true)) }
         ensures back { self.old.at ≤ self.new.at }
         ensures on { IfOk result (λ o. IfSome o (λ _. self.old.at < self.new.at)) }
     {
@@ -264,23 +265,31 @@ impl Scan {
     }
 
     /// The next stretch that a zero ends; nothing at the end of what the store holds now. Called again later, it goes on behind
-    /// what was appended since. At `NoMemory` it stands behind the stretch whose value had no memory, at `Fault` where it stood.
+    /// what was appended since. At `NoMemory` it stands behind the stretch whose value had no memory. At `Fault` it passed no stretch
+    /// that a zero ends: called again, it finds the next one.
     pub fn next_ended<T: DeserializeOwned + Exact, S: Store>(
         &mut self,
         alloc: Global,
         store: &mut S,
     ) -> Result<Option<Stretch<T>>, ScanError>
-        ensures stands { (limit : ℕ) (bytes : List ℕ) → S.held store.old ≡ Some bytes
+        ensures stands { (limit : ℕ) (bytes : List ℕ) → (S.line store.old).told ≡ Some bytes
             → IsScanning limit bytes self.old → IsScanning limit bytes self.new }
         ensures found { IfOk result (λ o. (limit : ℕ) (bytes : List ℕ)
-            → S.held store.old ≡ Some bytes → IsScanning limit bytes self.old
-            → FoundAll T.takes T.reads limit bytes (offset_of self.old) (offset_of self.new) o) }
+            → (S.line store.old).told ≡ Some bytes → IsScanning limit bytes self.old
+            → FoundAll T.form.takes T.form.reads limit bytes (offset_of self.old)
+            (offset_of self.new) o) }
         ensures on { IfOk result (λ o. IfSome o (λ _. offset_of self.old < offset_of self.new)) }
-        ensures held { S.held store.new ≡ S.held store.old }
+        ensures held { (S.line store.new).told ≡ (S.line store.old).told }
         ensures settled { S.settled store.new ≡ S.settled store.old }
-        ensures quiet { OnOk result (S.faults store.new ≡ S.faults store.old) }
+        ensures quiet { OnOk result ((S.line store.new).faults ≡ (S.line store.old).faults) }
         ensures fault { result ≡ Err ScanError.Fault
-            → Failed (S.faults store.old) (S.faults store.new) (S.calls_left store.new) }
+            → Failed (S.line store.old) (S.line store.new) }
+        ensures lost_none { result ≡ Err ScanError.Fault → (limit : ℕ) (bytes : List ℕ)
+            → (S.line store.old).told ≡ Some bytes → IsScanning limit bytes self.old
+            → Found T.form.takes T.form.reads limit bytes (offset_of self.old)
+            (offset_of self.new) None }
+        ensures memory { result ≡ Err ScanError.NoMemory → T.form.growing ≡ true }
+        ensures more { (S.line store.old).faults ≤ (S.line store.new).faults }
     {
         loop {
             match self.next_read::<T>(alloc)? {
@@ -290,6 +299,51 @@ impl Scan {
             if !self.fill(store)? {
                 return Ok(None);
             }
+        }
+    }
+
+    /// What stands behind the last zero, where anything does, as it is once a zero stands behind it: opening the log puts one there.
+    /// The scan stands at the end of what the store holds, as it does where `next_ended` answered nothing.
+    pub fn finish<T: DeserializeOwned + Exact>(
+        self,
+        alloc: Global,
+    ) -> Result<Option<Stretch<T>>, ScanError>
+        ensures found { IfOk result (λ o. (limit : ℕ) (bytes : List ℕ) → IsScanning limit bytes self
+            → offset_of self ≡ length bytes → FoundLast T.form.takes T.form.reads limit bytes o) }
+        ensures memory { IfErr result (λ e. (e ≡ ScanError.NoMemory) × (T.form.growing ≡ true)) }
+    {
+        let Scan {
+            mut receiver,
+            at,
+            from,
+            past,
+            ..
+        } = self;
+        let to = at;
+        if from == to {
+            return Ok(None);
+        }
+        if past {
+            let answer = Answer::TooLong;
+            return Ok(Some(Stretch { from, to, answer }));
+        }
+        let Pushed { answer, .. } = receiver.push_strict::<(u64, T)>(alloc, &[0]);
+        match answer {
+            Ok(None) => Ok(None),
+            Ok(Some(Answer::TooLong)) => Ok(None),
+            Ok(Some(Answer::Value(record))) => {
+                let answer = Answer::Value(record);
+                Ok(Some(Stretch { from, to, answer }))
+            }
+            Ok(Some(Answer::Damaged)) => {
+                let answer = Answer::Damaged;
+                Ok(Some(Stretch { from, to, answer }))
+            }
+            Ok(Some(Answer::Cut)) => {
+                let answer = Answer::Cut;
+                Ok(Some(Stretch { from, to, answer }))
+            }
+            Err(_) => Err(ScanError::NoMemory),
         }
     }
 }

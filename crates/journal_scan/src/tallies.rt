@@ -23,7 +23,7 @@ pub struct Tally {
 }
 
 impl Tally {
-    ghost use Rattle.journal_scan.specs.Tallies.{IsTally, Tallies, AreMissing, LiesIn, behind_greatest, gaps_without, gap_before};
+    ghost use Rattle.journal_scan.specs.Tallies.{IsTally, Tallies, AreApart, AreMissing, LiesIn, behind_greatest, gaps_without, gap_before};
 
     /// One that counted nothing.
     pub fn new(alloc: Global) -> Tally
@@ -36,16 +36,24 @@ impl Tally {
         }
     }
 
-    // Which of the ranges a number lies in.
+    // Which of the ranges a number lies in, where they stand in order.
     fn place(&self, number: u64) -> Option<usize>
-        ensures { MatchOption result (LiesIn self.now.gaps.items number
-            → ⊥) (λ i. (i < length self.now.gaps.items)
+        ensures { MatchOption result (AreApart 0 self.now.gaps.items
+            → LiesIn self.now.gaps.items number → ⊥) (λ i. (i < length self.now.gaps.items)
             × ((g : Gap) → (slice_index_or self.now.gaps.items i g).first ≤ number)
             × ((g : Gap) → number ≤ (slice_index_or self.now.gaps.items i g).last)) }
     {
-        for (i, gap) in self.gaps.iter().enumerate() {
-            if gap.first <= number && number <= gap.last {
-                return Some(i);
+        let mut from = 0;
+        let mut to = self.gaps.len();
+        while from < to {
+            let middle = from + (to - from) / 2;
+            let Gap { first, last } = self.gaps[middle];
+            if number < first {
+                to = middle;
+            } else if last < number {
+                from = middle + 1;
+            } else {
+                return Some(middle);
             }
         }
         None

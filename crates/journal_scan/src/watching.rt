@@ -1,5 +1,5 @@
 //! What is told of the stretches of a log.
-ghost use Rattle.std.specs.Prelude.{◌≡◌, ℕ, Bool, List, [], ◌∷◌, OnOk};
+ghost use Rattle.std.specs.Prelude.{◌≡◌, ℕ, Bool, List, [], ◌∷◌, OnOk, OnErr};
 ghost use Rattle.journal.specs.Visits.{VisitorLaws};
 ghost use Rattle.journal_scan.specs.declared.scanning.Stretch.{Stretch};
 
@@ -21,9 +21,13 @@ pub trait Watcher<T>: Judge<T> {
     /// It was told of these stretches, one after another: before, the stretches, after.
     ghost told: { Self → List (Stretch T) → Self → Type 0 };
 
+    /// Where it may halt; one that never does says so by the empty type.
+    ghost halts: { Self → Type 0 };
+
     /// Takes the next stretch, and whether it is a record whose number a record before had.
     fn tell(&mut self, stretch: Stretch<T>, again: bool) -> Result<(), Halt>
-        ensures { OnOk result (told self.old (stretch ∷ []) self.new) };
+        ensures told { OnOk result (told self.old (stretch ∷ []) self.new) }
+        ensures halts { OnErr result (halts self.old) };
 
     ghost laws: { VisitorLaws told };
 }

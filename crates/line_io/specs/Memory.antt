@@ -1,5 +1,6 @@
 -- What a clause reads of a device over memory.
-use Rattle.std.specs.Prelude.{ℕ, ◌-◌, List, length, take}
+use Rattle.std.specs.Prelude.{ℕ, ◌-◌, List, length, take, Some}
+use Rattle.line_io.specs.Device.{LineState}
 use Rattle.std.specs.Borrow.{MutBor}
 use Rattle.line_io.specs.Plan.{Plan, failing}
 use Rattle.line_io.specs.declared.memory.Out.{Out}
@@ -69,3 +70,15 @@ owned_faults o = o.faults
 -- how many calls it still answers
 abbrev pub owned_calls : OwnedOut → ℕ
 owned_calls o = o.calls
+
+-- where it stands
+abbrev pub out_line : Out → LineState
+out_line d = record { told = Some (out_bytes d); faults = d.faults; calls_left = d.calls }
+
+-- where it stands
+abbrev pub in_line : In → LineState
+in_line d = record { told = Some (in_bytes d); faults = d.faults; calls_left = d.calls }
+
+-- where it stands
+abbrev pub owned_line : OwnedOut → LineState
+owned_line d = record { told = Some (owned_bytes d); faults = d.faults; calls_left = d.calls }

@@ -1,5 +1,6 @@
 -- What a clause reads of a device over a writer or a reader of std.
 use Rattle.std.specs.Prelude.{ℕ, List, Option, None, ◌==◌, if◌then◌else◌}
+use Rattle.line_io.specs.Device.{LineState}
 use Rattle.line_io.specs.declared.writers.Writes.{Writes}
 use Rattle.line_io.specs.declared.readers.Reads.{Reads}
 
@@ -34,3 +35,11 @@ reads_calls r = r.calls
 -- the bytes that the reader will give, where it tells them: none are told from a fault on
 abbrev pub reads_told : {R : Type 0} → (R → Option (List ℕ)) → Reads R → Option (List ℕ)
 reads_told remaining r = if r.faults == 0 then remaining r.inner else None
+
+-- where a device over a writer stands
+abbrev pub writes_line : {W : Type 0} → (W → Option (List ℕ)) → Writes W → LineState
+writes_line contents w = record { told = writes_told contents w; faults = w.faults; calls_left = w.calls }
+
+-- where a device over a reader stands
+abbrev pub reads_line : {R : Type 0} → (R → Option (List ℕ)) → Reads R → LineState
+reads_line remaining r = record { told = reads_told remaining r; faults = r.faults; calls_left = r.calls }

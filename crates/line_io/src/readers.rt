@@ -75,9 +75,9 @@ impl<R: Read> Reads<R> {
 
     /// A device over the reader. It has met no fault.
     pub fn new(inner: R) -> Reads<R>
-        ensures to_come { ⟦<Reads<R> as Inlet>⟧.to_come result ≡ R.remaining inner }
-        ensures faults { ⟦<Reads<R> as Inlet>⟧.faults result ≡ 0 }
-        ensures calls { ⟦<Reads<R> as Inlet>⟧.calls_left result ≡ 2 ^ 64 - 1 }
+        ensures to_come { (⟦<Reads<R> as Inlet>⟧.line result).told ≡ R.remaining inner }
+        ensures faults { (⟦<Reads<R> as Inlet>⟧.line result).faults ≡ 0 }
+        ensures calls { (⟦<Reads<R> as Inlet>⟧.line result).calls_left ≡ 2 ^ 64 - 1 }
         ensures inner { inner_reader result ≡ inner }
     {
         Reads {
@@ -90,8 +90,8 @@ impl<R: Read> Reads<R> {
     /// The reader, after the calls so far.
     pub fn into_inner(self) -> R
         ensures inner { result ≡ inner_reader self }
-        ensures told { ⟦<Reads<R> as Inlet>⟧.faults self ≡ 0
-            → R.remaining result ≡ ⟦<Reads<R> as Inlet>⟧.to_come self }
+        ensures told { (⟦<Reads<R> as Inlet>⟧.line self).faults ≡ 0
+            → R.remaining result ≡ (⟦<Reads<R> as Inlet>⟧.line self).told }
     {
         let Reads {
             inner,
@@ -103,18 +103,14 @@ impl<R: Read> Reads<R> {
 }
 
 impl<R: Read> Inlet for Reads<R> {
-    ghost use Rattle.line_io.specs.Streams.{inner_reader, reads_told, reads_faults, reads_calls};
+    ghost use Rattle.line_io.specs.Streams.{inner_reader, reads_told, reads_faults, reads_calls, reads_line};
 
-    ghost to_come = { reads_told R.remaining };
-
-    ghost faults = { reads_faults };
-
-    ghost calls_left = { reads_calls };
+    ghost line = { reads_line R.remaining };
 
     fn read(&mut self, room: &mut [u8]) -> Option<usize>
         ensures bound { IfSome result (λ n. n ≤ length room.new) }
-        ensures bytes { Gave (reads_told R.remaining self.old) (reads_told R.remaining self.new)
-            (reads_faults self.old) (reads_faults self.new) (moved_front result room.new) }
+        ensures bytes { Gave (reads_line R.remaining self.old)
+            (reads_line R.remaining self.new) (moved_front result room.new) }
         ensures end { result ≡ Some 0 → 0 < length room.new
             → IfSome (reads_told R.remaining self.new) (λ rest. rest ≡ []) }
         ensures faults { reads_faults self.new

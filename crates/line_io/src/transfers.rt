@@ -1,5 +1,5 @@
 ghost use Rattle.std.specs.Prelude.{◌≡◌, ℕ, ◌+◌, ◌-◌, ◌≤◌, List, ◌++◌, length, OnOk, OnErr};
-ghost use Rattle.line_io.specs.Transfers.{Writing, Reading, whole, broken, ended, stopped, failed};
+ghost use Rattle.line_io.specs.Transfers.{Writing, HasRead, whole, broken};
 ghost use Rattle.line_io.specs.declared.transfers.End.{End};
 ghost use Rattle.line_io.specs.declared.transfers.End.TheVariants.{Ended, ReadFault, NoMemory};
 
@@ -23,11 +23,12 @@ pub struct WriteFault;
 /// ```
 pub fn write_all<W: Outlet>(outlet: &mut W, bytes: &[u8]) -> Result<(), WriteFault>
     ensures ok { OnOk result
-        (Writing W.written W.faults W.calls_left outlet.old outlet.new whole bytes.now) }
+        (Writing (W.line outlet.old) (W.line outlet.new) whole bytes.now) }
     ensures err { OnErr result
-        (Writing W.written W.faults W.calls_left outlet.old outlet.new broken bytes.now) }
-    ensures calls { W.calls_left outlet.new ≤ W.calls_left outlet.old }
-    ensures few { W.calls_left outlet.old ≤ W.calls_left outlet.new + length bytes.now }
+        (Writing (W.line outlet.old) (W.line outlet.new) broken bytes.now) }
+    ensures calls { (W.line outlet.new).calls_left ≤ (W.line outlet.old).calls_left }
+    ensures few { (W.line outlet.old).calls_left
+        ≤ (W.line outlet.new).calls_left + length bytes.now }
 {
     let mut rest = bytes;
     while !rest.is_empty() {
@@ -44,11 +45,11 @@ pub fn write_all<W: Outlet>(outlet: &mut W, bytes: &[u8]) -> Result<(), WriteFau
 /// How a reading ended.
 #[derive(Clone, Copy, Debug, PartialEq, Eq, Drop)]
 pub enum End {
-    /// There was nothing left to read.
+    /// The reader told its end.
     Ended,
-    /// A read failed.
+    /// A read failed, or the reader has no call left.
     ReadFault,
-    /// A growth was refused.
+    /// No memory was found for what was read.
     NoMemory,
 }
 
@@ -57,16 +58,16 @@ pub enum End {
 /// Where memory runs out, the vector has got a front of what was read.
 pub fn read_to_end<R: Inlet>(inlet: &mut R, bytes: &mut Vec<u8>) -> End
     ensures ended { result ≡ Ended → (text : List ℕ) × (bytes.new.items ≡ bytes.old.items ++ text)
-        × Reading R.to_come R.faults R.calls_left inlet.old inlet.new ended text }
+        × HasRead (R.line inlet.old) (R.line inlet.new) Ended text }
     ensures failed { result ≡ ReadFault
         → (text : List ℕ) × (bytes.new.items ≡ bytes.old.items ++ text)
-        × Reading R.to_come R.faults R.calls_left inlet.old inlet.new failed text }
+        × HasRead (R.line inlet.old) (R.line inlet.new) ReadFault text }
     ensures memory { result ≡ NoMemory
         → (text : List ℕ) × (lost : List ℕ) × (bytes.new.items ≡ bytes.old.items ++ text)
-        × Reading R.to_come R.faults R.calls_left inlet.old inlet.new stopped (text ++ lost) }
-    ensures calls { R.calls_left inlet.new ≤ R.calls_left inlet.old }
-    ensures few { R.calls_left inlet.old + length bytes.old.items
-        ≤ R.calls_left inlet.new + length bytes.new.items + 1 }
+        × HasRead (R.line inlet.old) (R.line inlet.new) NoMemory (text ++ lost) }
+    ensures calls { (R.line inlet.new).calls_left ≤ (R.line inlet.old).calls_left }
+    ensures few { (R.line inlet.old).calls_left + length bytes.old.items
+        ≤ (R.line inlet.new).calls_left + length bytes.new.items + 1 }
 {
     let mut room = [0u8; ROOM];
     loop {

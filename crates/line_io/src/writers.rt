@@ -27,9 +27,9 @@ impl<W: Write> Writes<W> {
 
     /// A device over the writer. It has met no fault.
     pub fn new(inner: W) -> Writes<W>
-        ensures written { ⟦<Writes<W> as Outlet>⟧.written result ≡ W.contents inner }
-        ensures faults { ⟦<Writes<W> as Outlet>⟧.faults result ≡ 0 }
-        ensures calls { ⟦<Writes<W> as Outlet>⟧.calls_left result ≡ 2 ^ 64 - 1 }
+        ensures written { (⟦<Writes<W> as Outlet>⟧.line result).told ≡ W.contents inner }
+        ensures faults { (⟦<Writes<W> as Outlet>⟧.line result).faults ≡ 0 }
+        ensures calls { (⟦<Writes<W> as Outlet>⟧.line result).calls_left ≡ 2 ^ 64 - 1 }
         ensures inner { inner_writer result ≡ inner }
     {
         Writes {
@@ -42,8 +42,8 @@ impl<W: Write> Writes<W> {
     /// The writer, after the calls so far. Nothing is flushed.
     pub fn into_inner(self) -> W
         ensures inner { result ≡ inner_writer self }
-        ensures told { ⟦<Writes<W> as Outlet>⟧.faults self ≡ 0
-            → W.contents result ≡ ⟦<Writes<W> as Outlet>⟧.written self }
+        ensures told { (⟦<Writes<W> as Outlet>⟧.line self).faults ≡ 0
+            → W.contents result ≡ (⟦<Writes<W> as Outlet>⟧.line self).told }
     {
         let Writes {
             inner,
@@ -55,18 +55,14 @@ impl<W: Write> Writes<W> {
 }
 
 impl<W: Write> Outlet for Writes<W> {
-    ghost use Rattle.line_io.specs.Streams.{inner_writer, writes_told, writes_faults, writes_calls};
+    ghost use Rattle.line_io.specs.Streams.{inner_writer, writes_told, writes_faults, writes_calls, writes_line};
 
-    ghost written = { writes_told W.contents };
-
-    ghost faults = { writes_faults };
-
-    ghost calls_left = { writes_calls };
+    ghost line = { writes_line W.contents };
 
     fn write(&mut self, piece: &[u8]) -> Option<usize>
         ensures bound { IfSome result (λ n. n ≤ length piece.now) }
-        ensures bytes { Wrote (writes_told W.contents self.old) (writes_told W.contents self.new)
-            (writes_faults self.old) (writes_faults self.new) (moved_front result piece.now) }
+        ensures bytes { Wrote (writes_line W.contents self.old)
+            (writes_line W.contents self.new) (moved_front result piece.now) }
         ensures faults { writes_faults self.new
             ≡ writes_faults self.old + write_faults (writes_calls self.old) result piece.now }
         ensures calls { writes_calls self.new ≡ writes_calls self.old - 1 }

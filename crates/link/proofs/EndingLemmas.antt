@@ -11,7 +11,7 @@ use Rattle.link.specs.Listening.{HasGiven, HasAnswered, KeepsAnswer}
 use Rattle.link.specs.declared.receiver.Answer.{Answer}
 use Rattle.link.specs.declared.receiver.Answer.TheVariants.{Cut}
 use Rattle.link.specs.Stepwise.{heard_stepwise}
-use Rattle.link.proofs.FeedingLemmas.{begun_of, is_short, is_long, short_answers}
+use Rattle.link.specs.FeedLaws.{begun_of, is_short, is_long, short_answers}
 use Rattle.link.specs.Givens.{zip_one}
 
 module _ (holds : List ℕ → Tree → Type 0) (limit s : ℕ) (stream : List ℕ) where

@@ -10,8 +10,8 @@ use Rattle.postcard.specs.Frames.{Holds, HoldsValue}
 use Rattle.postcard.specs.Feeds.{Feeds}
 use Rattle.link.specs.Stream.{Verdict, Answers}
 use Rattle.link.specs.Roads.{Loops, done, stopped, used_up, consumed, overfull, failed, success, joined, AllFit, AreValues, AreFirst, values_of}
-use Rattle.link.specs.declared.listening.End.{End}
-use Rattle.link.specs.declared.listening.End.TheVariants.{Ended, ReadFault, NoMemory}
+use Rattle.line_io.specs.declared.transfers.End.{End}
+use Rattle.line_io.specs.declared.transfers.End.TheVariants.{Ended, ReadFault, NoMemory}
 use Rattle.link.specs.Gathering.{GathersPieces, GathersOnLine, HasGathered, AreThose, AreThoseFor, AreLooped, LoopsOver, AreSameByAccumulator, some_held}
 use Rattle.link.specs.Pieces.{masked_twice}
 use Rattle.link.specs.RoadLaws.{zeroed, whole_length, less_length}

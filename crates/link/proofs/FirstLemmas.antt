@@ -3,16 +3,18 @@ use Rattle.std.proofs.Common.{◌≡◌, ℕ, Bool, true, false, List, [], ◌�
 use Rattle.std.specs.Prelude.{◌≢◌}
 use Rattle.std.specs.List.{AllZip}
 use Rattle.std.proofs.lemmas.List.{append-nil}
+use Rattle.line_io.specs.Device.{LineState}
 use Rattle.postcard_tree.specs.Tree.{Tree}
 use Rattle.link.specs.Stream.{Verdict, IsAnswer, begun_answers, cut_answers, Answers}
 use Rattle.link.specs.Judged.{IsJudged}
 use Rattle.link.specs.Pushes.{Matches}
-use Rattle.link.specs.Listening.{HasGiven, HasAnswered, HasBegun, HasRead, IsReceived}
+use Rattle.line_io.specs.Transfers.{HasRead}
+use Rattle.link.specs.Listening.{HasGiven, HasAnswered, HasBegun, IsReceived}
 use Rattle.link.specs.Each.{HasReadNow, IsReceivedNow}
 use Rattle.link.specs.Firsts.{KeepsFirst, listed_end}
 use Rattle.link.specs.declared.receiver.Answer.{Answer}
-use Rattle.link.specs.declared.listening.End.{End}
-use Rattle.link.specs.declared.listening.End.TheVariants.{Ended, ReadFault, NoMemory}
+use Rattle.line_io.specs.declared.transfers.End.{End}
+use Rattle.line_io.specs.declared.transfers.End.TheVariants.{Ended, ReadFault, NoMemory}
 use Rattle.link.specs.HeardLaws.{zip_parts, heard_once}
 use Rattle.link.specs.OneAnswers.{one_answer}
 use Rattle.link.proofs.PrefixesLemmas.{given_front}
@@ -88,14 +90,14 @@ received_by holds judged reads limit s stream (Some end) false old items answers
     let same : answers ≡ items = k.parts ∙ ap (λ y. k.kept ++ y) (k.whole refl).1 ∙ append-nil k.kept ∙ sym (k.items ∙ ap (λ y. y ++ k.kept) o) in
     subst (λ y. IsReceived holds reads limit s end y stream) same h
 
-read_by : (old new : Option (List ℕ)) (before after calls : ℕ) (bytes : List ℕ) (end : Option End) (full : Bool) → (end ≡ None → full ≡ true) → (end ≡ Some ReadFault → full ≡ false)
-    → HasReadNow old new before after calls end bytes → HasRead old new before after calls (listed_end end full) bytes
-read_by old new before after calls bytes None true n m h = h
-read_by old new before after calls bytes (Some Ended) true n m h = (h.0, h.1)
-read_by old new before after calls bytes (Some ReadFault) true n m h = absurd (no_both true refl (m refl))
-read_by old new before after calls bytes (Some NoMemory) true n m h = h
-read_by old new before after calls bytes None false n m h = absurd (no_both false (n refl) refl)
-read_by old new before after calls bytes (Some end) false n m h = h
+read_by : (old new : LineState) (bytes : List ℕ) (end : Option End) (full : Bool) → (end ≡ None → full ≡ true) → (end ≡ Some ReadFault → full ≡ false)
+    → HasReadNow old new end bytes → HasRead old new (listed_end end full) bytes
+read_by old new bytes None true n m h = h
+read_by old new bytes (Some Ended) true n m h = (h.0, h.1)
+read_by old new bytes (Some ReadFault) true n m h = absurd (no_both true refl (m refl))
+read_by old new bytes (Some NoMemory) true n m h = h
+read_by old new bytes None false n m h = absurd (no_both false (n refl) refl)
+read_by old new bytes (Some end) false n m h = h
 
 -- what a list keeps is what is received
 pub listed_received : {V : Type 0} (holds : List ℕ → Tree → Type 0) (judged : IsJudged holds) (reads : Tree → V → Type 0) (limit s : ℕ) (stream : List ℕ) (end : Option End) (full : Bool) (result : End) (old items answers : List (Answer V)) → result ≡ listed_end end full → old ≡ []
@@ -104,6 +106,6 @@ listed_received holds judged reads limit s stream end full result old items answ
     subst (λ x. IsReceived holds reads limit s x items stream) (sym e) (received_by holds judged reads limit s stream end full old items answers o k n m h)
 
 -- and what was read
-pub listed_read : (old new : Option (List ℕ)) (before after calls : ℕ) (bytes : List ℕ) (end : Option End) (full : Bool) (result : End) → result ≡ listed_end end full → (end ≡ None → full ≡ true) → (end ≡ Some ReadFault → full ≡ false)
-    → HasReadNow old new before after calls end bytes → HasRead old new before after calls result bytes
-listed_read old new before after calls bytes end full result e n m h = subst (λ x. HasRead old new before after calls x bytes) (sym e) (read_by old new before after calls bytes end full n m h)
+pub listed_read : (old new : LineState) (bytes : List ℕ) (end : Option End) (full : Bool) (result : End) → result ≡ listed_end end full → (end ≡ None → full ≡ true) → (end ≡ Some ReadFault → full ≡ false)
+    → HasReadNow old new end bytes → HasRead old new result bytes
+listed_read old new bytes end full result e n m h = subst (λ x. HasRead old new x bytes) (sym e) (read_by old new bytes end full n m h)

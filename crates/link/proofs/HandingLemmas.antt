@@ -1,16 +1,17 @@
 -- How answers are handed on, push by push.
-use Rattle.std.proofs.Common.{◌≡◌, ◌-◌, ◌<◌, ◌≤◌, false, ℕ, inl, inr, arith, List, [], ◌∷◌, ◌++◌, length, take, Option, Some, None, Result, Ok, Err, sym, ap, ◌∙◌, subst}
+use Rattle.std.proofs.Common.{◌≡◌, ◌-◌, ◌<◌, ◌≤◌, ◌+◌, false, ℕ, arith, List, [], ◌∷◌, ◌++◌, length, take, Option, Some, None, Result, Ok, Err, sym, ap, ◌∙◌, subst}
 use Rattle.std.proofs.lemmas.List.{append-nil, length-append, length-take-le}
-use Rattle.line_io.specs.Device.{Gave}
-use Rattle.line_io.specs.Calls.{Gave-none, Gave-then}
+use Rattle.line_io.specs.Device.{LineState, Gave}
+use Rattle.line_io.specs.Calls.{Gave-none, Gave-then, Failed-later}
 use Rattle.postcard_tree.specs.Tree.{Tree}
 use Rattle.link.specs.Decoding.{Inside}
-use Rattle.link.specs.Listening.{KeepsAnswer, HasRead, Hears, IsHeard}
-use Rattle.line_io.specs.Transfers.{Failed}
-use Rattle.link.specs.declared.listening.End.{End}
-use Rattle.link.specs.declared.listening.End.TheVariants.{Ended, ReadFault, NoMemory as NoneLeft}
+use Rattle.link.specs.Receivers.{IsBehind}
+use Rattle.line_io.specs.Transfers.{HasRead}
+use Rattle.link.specs.Listening.{KeepsAnswer, Hears, IsHeard}
+use Rattle.line_io.specs.declared.transfers.End.{End}
+use Rattle.line_io.specs.declared.transfers.End.TheVariants.{Ended, ReadFault, NoMemory as NoneLeft}
 use Rattle.link.specs.declared.reception.Reception.{Reception}
-use Rattle.link.specs.Each.{Handed, HearerLaws, UsesFew, MayLackMemory, HadMemory, StandsNow, last_call}
+use Rattle.link.specs.Each.{Handed, HearerLaws, UsesFew, last_call}
 use Rattle.link.specs.declared.receiver.Answer.{Answer}
 use Rattle.link.specs.declared.receiver.NoMemory.{NoMemory}
 
@@ -36,10 +37,10 @@ module _ {H V : Type 0} (hears : H → List (Answer V) → H → Type 0) (laws :
 
 -- where a receiver stands of which this is heard
 pub stands_by : {D V : Type 0} (inside : D → Inside) (holds : List ℕ → Tree → Type 0) (reads : Tree → V → Type 0) (limit s : ℕ) (end : End) (r : Reception D) (answers : List (Answer V)) (stream : List ℕ)
-    → IsHeard inside holds reads limit s end r answers stream → StandsNow inside limit s (Some end) r stream
+    → IsHeard inside holds reads limit s false end r answers stream → IsBehind inside limit s r stream
 stands_by inside holds reads limit s Ended r answers stream h = h.after
 stands_by inside holds reads limit s ReadFault r answers stream h = h.after
-stands_by inside holds reads limit s NoneLeft r answers stream h = tt
+stands_by inside holds reads limit s NoneLeft r answers stream h = h.1
 
 -- the first of two facts
 pub handed_first : {H V : Type 0} (hears : H → List (Answer V) → H → Type 0) (h k : H) (P Q : List (Answer V) → Type 0) → Handed hears h k (λ xs. P xs × Q xs) → Handed hears h k P
@@ -59,24 +60,24 @@ nothing_more inside holds reads limit s r given stream bytes e h =
     (subst (λ x. Hears inside holds reads limit s r given x) (sym (ap (λ x. stream ++ x) e ∙ append-nil stream)) h)
 
 -- reads that were no fault, and then the last ones
-pub read_then : (u v w : Option (List ℕ)) (before now after calls : ℕ) (a b : List ℕ) (end : End) → Gave u v before now a → now ≡ before → HasRead v w now after calls end b → HasRead u w before after calls end (a ++ b)
-read_then u v w before now after calls a b Ended g q h = (Gave-then _ _ _ _ _ _ _ _ g h.0, h.1 ∙ q, h.2)
-read_then u v w before now after calls a b ReadFault g q h = (Gave-then _ _ _ _ _ _ _ _ g h.0, Failed-on _ _ _ _ q h.1)
-  where
-    Failed-on : (f n m calls : ℕ) → n ≡ f → Failed n m calls → Failed f m calls
-    Failed-on f n m calls e (inl l) = inl (omega arith)
-    Failed-on f n m calls e (inr z) = inr z
-read_then u v w before now after calls a b NoneLeft g q h = (Gave-then _ _ _ _ _ _ _ _ g h.0, h.1 ∙ q)
+pub read_then : (u v w : LineState) (a b : List ℕ) (end : End) → Gave u v a → v.faults ≡ u.faults → HasRead v w end b → HasRead u w end (a ++ b)
+read_then u v w a b Ended g q h = (Gave-then _ _ _ _ _ g h.0, h.1 ∙ q, h.2)
+read_then u v w a b ReadFault g q h = (Gave-then _ _ _ _ _ g h.0, Failed-later u v w q h.1)
+read_then u v w a b NoneLeft g q h = (Gave-then _ _ _ _ _ g h.0, h.1 ∙ q)
+
+-- no more calls than these bytes, and then no more than those and the last one
+pub few_then : (k m n : ℕ) (a b : List ℕ) (last : ℕ) → k ≤ m + length a + 0 → m ≤ n + length b + last → k ≤ n + length (a ++ b) + last
+few_then k m n a b last p q = omega (arith, p, q, length-append a b)
 
 -- no call was used
-pub uses_none : (w : Option (List ℕ)) (f calls : ℕ) → UsesFew w w f f calls calls 0
-uses_none w f calls = record { bytes = []; gave = Gave-none w f; few = omega arith }
+pub uses_none : (w : LineState) → UsesFew w w 0
+uses_none w = record { bytes = []; gave = Gave-none w; few = omega arith }
 
 -- few calls, and then few others
-pub uses_then : (u v w : Option (List ℕ)) (f g h c d e last : ℕ) → UsesFew u v f g c d 0 → UsesFew v w g h d e last → UsesFew u w f h c e last
-uses_then u v w f g h c d e last p q = record {
+pub uses_then : (u v w : LineState) (last : ℕ) → UsesFew u v 0 → UsesFew v w last → UsesFew u w last
+uses_then u v w last p q = record {
   bytes = p.bytes ++ q.bytes;
-  gave = Gave-then u v w f g h p.bytes q.bytes p.gave q.gave;
+  gave = Gave-then u v w p.bytes q.bytes p.gave q.gave;
   few = omega (arith, p.few, q.few, length-append p.bytes q.bytes);
 }
 
@@ -85,21 +86,14 @@ pub taken_some : (n : ℕ) (room : List ℕ) → (n ≡ 0 → ⊥) → n ≤ len
 taken_some n room some bound = omega (arith, length-take-le n room bound, some)
 
 -- a read that took bytes
-pub uses_read : (u w : Option (List ℕ)) (f h c e : ℕ) (bytes : List ℕ) → Gave u w f h bytes → e ≡ c - 1 → 0 < length bytes → UsesFew u w f h c e 0
-uses_read u w f h c e bytes g z l = record { bytes = bytes; gave = g; few = omega (arith, z, l) }
+pub uses_read : (u w : LineState) (bytes : List ℕ) → Gave u w bytes → w.calls_left ≡ u.calls_left - 1 → 0 < length bytes → UsesFew u w 0
+uses_read u w bytes g z l = record { bytes = bytes; gave = g; few = omega (arith, z, l) }
 
 -- the last read
-pub uses_last : (u w : Option (List ℕ)) (f h c e : ℕ) (bytes : List ℕ) → Gave u w f h bytes → e ≡ c - 1 → UsesFew u w f h c e 1
-uses_last u w f h c e bytes g z = record { bytes = bytes; gave = g; few = omega (arith, z) }
+pub uses_last : (u w : LineState) (bytes : List ℕ) → Gave u w bytes → w.calls_left ≡ u.calls_left - 1 → UsesFew u w 1
+uses_last u w bytes g z = record { bytes = bytes; gave = g; few = omega (arith, z) }
 
 -- few calls, however it ended
-pub uses_ended : (u w : Option (List ℕ)) (f h c e : ℕ) (end : Option End) → UsesFew u w f h c e (last_call end) → UsesFew u w f h c e 1
-uses_ended u w f h c e None p = record { bytes = p.bytes; gave = p.gave; few = omega (arith, p.few) }
-uses_ended u w f h c e (Some end) p = p
-
--- of values that ask for no memory none is wanting
-pub had_memory : (end : Option End) → MayLackMemory false end → HadMemory end
-had_memory None h = tt
-had_memory (Some Ended) h = tt
-had_memory (Some ReadFault) h = tt
-had_memory (Some NoneLeft) h = cc
+pub uses_ended : (u w : LineState) (end : Option End) → UsesFew u w (last_call end) → UsesFew u w 1
+uses_ended u w None p = record { bytes = p.bytes; gave = p.gave; few = omega (arith, p.few) }
+uses_ended u w (Some end) p = p

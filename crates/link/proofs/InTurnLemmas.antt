@@ -19,7 +19,7 @@ use Rattle.link.specs.declared.receiver.Answer.{Answer}
 use Rattle.link.specs.declared.receiver.Answer.TheVariants as answers
 use Rattle.link.specs.declared.receiver.NoMemory.{NoMemory}
 use Rattle.link.specs.Pieces.{masked_twice}
-use Rattle.link.proofs.MasksLemmas.{mask_twice}
+use Rattle.link.specs.MaskLaws.{mask_twice}
 use Rattle.link.proofs.ReadingLemmas.{unpadded_some}
 use Rattle.link.specs.RoadLaws.{zeroed, whole_length, less_length, stretch_nonzero}
 

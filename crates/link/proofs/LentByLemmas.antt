@@ -13,8 +13,8 @@ use Rattle.link.specs.declared.reception.Reception.{Reception}
 use Rattle.link.specs.declared.reception.Taken.{Taken}
 use Rattle.link.specs.declared.receiver.Pushed.{Pushed}
 use Rattle.link.specs.Finds.{IsSpan}
-use Rattle.link.proofs.AnsweringLemmas.{behind_after, answered}
-use Rattle.link.proofs.SpanningLemmas.{stretch_of}
+use Rattle.link.specs.AnswerLaws.{behind_after, answered}
+use Rattle.link.specs.SpanLaws.{stretch_of}
 
 module _ {D V : Type 0} (inside : D → Inside) (takes : Tree → Type 0) (reads : Tree → V → Type 0) (grows : Bool) (r : Reception D) (piece : List ℕ) (taken : Taken (Bor (List ℕ))) (result : Pushed V) (a : AdvancesToEvent inside r piece taken) (h : ReadsLent takes reads grows taken result) where
   -- what is lent is answered as a push is

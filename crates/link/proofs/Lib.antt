@@ -1,13 +1,6 @@
-pub mod MasksLemmas
 pub mod SentinelsLemmas
-pub mod StreamsLemmas
-pub mod UniqueLemmas
-pub mod FeedingLemmas
-pub mod CoursingLemmas
 pub mod ReceivingLemmas
-pub mod TurningLemmas
 pub mod BetweensLemmas
-pub mod AnsweringLemmas
 pub mod SpanningLemmas
 pub mod ReadingLemmas
 pub mod NextsLemmas
@@ -19,6 +12,7 @@ pub mod HearingLemmas
 pub mod EndingLemmas
 pub mod TurnsLemmas
 pub mod PrefixesLemmas
+pub mod RecoveringLemmas
 pub mod FirstLemmas
 pub mod SentnessLemmas
 pub mod FetchingLemmas

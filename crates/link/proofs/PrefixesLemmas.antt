@@ -11,14 +11,14 @@ use Rattle.std.proofs.lemmas.List.{map-append}
 use Rattle.std.specs.Prelude.{bit_xor}
 use Rattle.link.specs.Stream.{Verdict, too_long, cut, IsAnswer, begun_answers, cut_answers, Given, Answers, ended, unfinished, kept}
 use Rattle.link.specs.Relational.{Stretches}
-use Rattle.link.specs.Pushes.{IsBegun, IsPush, IsLost}
-use Rattle.link.specs.Listening.{IsDue, AnswersBeginProperly, IsKeptDue, IsReceived}
+use Rattle.link.specs.Pushes.{IsBegun, IsPush, IsLost, Matches}
+use Rattle.link.specs.Listening.{IsDue, AnswersBeginProperly, EndsAtLoss, IsKeptDue, IsReceived}
 use Rattle.link.specs.declared.receiver.Answer.{Answer}
-use Rattle.link.specs.declared.listening.End.{End}
-use Rattle.link.specs.declared.listening.End.TheVariants.{Ended, ReadFault, NoMemory}
+use Rattle.line_io.specs.declared.transfers.End.{End}
+use Rattle.line_io.specs.declared.transfers.End.TheVariants.{Ended, ReadFault, NoMemory}
 use Rattle.link.specs.Stepwise.{filled, has_stretches, ended_is, unfinished_is}
-use Rattle.link.proofs.StreamsLemmas.{NoZero-append, goes_on}
-use Rattle.link.proofs.FeedingLemmas.{is_short}
+use Rattle.link.specs.StretchLaws.{NoZero-append, goes_on}
+use Rattle.link.specs.FeedLaws.{is_short}
 use Rattle.link.specs.Judged.{IsJudged}
 use Rattle.link.specs.OneAnswers.{one_answer}
 
@@ -193,8 +193,15 @@ module _ (holds : List ℕ → Tree → Type 0) (judged : IsJudged holds) (limit
 pub received : {V : Type 0} (holds : List ℕ → Tree → Type 0) → IsJudged holds → (reads : Tree → V → Type 0) (limit s : ℕ) (end : End) (answers : List (Answer V)) (stream : List ℕ) → IsKeptDue holds reads limit s end answers stream → IsReceived holds reads limit s end answers stream
 received holds judged reads limit s Ended answers stream h = h
 received holds judged reads limit s ReadFault answers stream h = h
-received holds judged reads limit s NoMemory answers stream h = record {
-  verdicts = h.given.verdicts;
-  begins = subst (λ x. AnswersBeginProperly holds limit s x h.given.verdicts) (sym h.parts) (due_begins holds judged limit s h.front h.rest h.given.verdicts h.given.given h.due);
-  matching = h.given.matching;
-}
+received holds judged reads limit s NoMemory answers stream h =
+    let l = h.loss in record {
+      verdicts = l.given.verdicts;
+      begins = subst (λ x. AnswersBeginProperly holds limit s x l.given.verdicts) (sym h.parts) (due_begins holds judged limit s l.front l.rest l.given.verdicts l.given.given (inr (inl (l.used, l.lost))));
+      matching = subst (λ xs. AllZip (Matches reads) xs l.given.verdicts) (sym h.said) l.given.matching;
+    }
+
+-- and which value was lost
+pub lost_value : {V : Type 0} (holds : List ℕ → Tree → Type 0) (reads : Tree → V → Type 0) (limit s : ℕ) (end : End) (answers : List (Answer V)) (stream : List ℕ) → IsKeptDue holds reads limit s end answers stream → Some end ≡ Some NoMemory → EndsAtLoss holds reads limit s answers stream
+lost_value holds reads limit s Ended answers stream h e = cc
+lost_value holds reads limit s ReadFault answers stream h e = cc
+lost_value holds reads limit s NoMemory answers stream h e = h

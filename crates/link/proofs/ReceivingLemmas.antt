@@ -16,7 +16,7 @@ use Rattle.cobs.specs.declared.dec.report.DecodeError.TheVariants.{InvalidFrame}
 use Rattle.link.specs.Stream.{Begun, kept, over}
 use Rattle.link.specs.Decoding.{Inside}
 use Rattle.link.specs.Receivers.{Has, IsAtBy, IsAtWith}
-use Rattle.link.proofs.MasksLemmas.{zero_of}
+use Rattle.link.specs.MaskLaws.{zero_of}
 
 module _ (limit s : ℕ) (inside : Inside) (count : ℕ) (past : Bool) where
   pub kept_is : (b : Begun) → past ≡ false → IsAtBy limit s inside count past b → (p : List ℕ) × (b ≡ kept p) × Has limit s inside count p

@@ -3,7 +3,7 @@ use Rattle.std.proofs.Common.{◌≡◌, ℕ, ◌+◌, ◌-◌, ◌<◌, ◌≤�
 use Rattle.std.specs.Prelude.{unwrap_or, IfSome, bit_xor, zero, suc}
 use Rattle.std.proofs.lemmas.List.{append-nil, length-append, length-drop, length-map, length-take, take_all, take-append-le}
 use Rattle.std.proofs.Math.Seq.{take-add, take-append-add}
-use Rattle.line_io.specs.Device.{moved_front, write_faults, Wrote}
+use Rattle.line_io.specs.Device.{LineState, moved_front, write_faults, Wrote}
 use Rattle.line_io.specs.Calls.{moved_no_fault}
 use Rattle.cobs.specs.Sentinel.{frame_for}
 use Rattle.postcard.specs.Written.{WrittenWhole}
@@ -56,8 +56,8 @@ all_out s clean f k n h m ne =
     ∙ append_assoc (lead s clean) f (s ∷ [])
 
 -- the same bytes, said otherwise
-pub wrote_as : (u v : Option (List ℕ)) (f g : ℕ) (a b : List ℕ) → a ≡ b → Wrote u v f g a → Wrote u v f g b
-wrote_as u v f g a b e h = subst (λ x. Wrote u v f g x) e h
+pub wrote_as : (u v : LineState) (a b : List ℕ) → a ≡ b → Wrote u v a → Wrote u v b
+wrote_as u v a b e h = subst (λ x. Wrote u v x) e h
 
 -- the tree whose frame for a sentinel stands in front of a buffer
 pub framed_in : (s : ℕ) (writes : Option Tree) (n limit : ℕ) (b : List ℕ) → length b ≤ limit

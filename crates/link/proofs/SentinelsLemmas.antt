@@ -6,7 +6,7 @@ use Rattle.std.proofs.lemmas.Bool.{ne_eqb, eq-eqb}
 use Rattle.std.proofs.lemmas.List.{drop-map, drop_more}
 use Rattle.cobs.specs.Sentinel.{masked}
 use Rattle.cobs.specs.Whole.{unpadded}
-use Rattle.link.proofs.StreamsLemmas.{nonzero}
+use Rattle.link.specs.StretchLaws.{nonzero}
 
 -- at the sentinel zero bytes stand on the line as they are
 pub masked_zero : (p : List ℕ) → masked 0 p ≡ p

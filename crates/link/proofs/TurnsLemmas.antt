@@ -1,6 +1,7 @@
 -- Sends one after another.
 use Rattle.std.proofs.Common.{◌≡◌, ℕ, ◌+◌, ◌≤◌, Bool, List, [], ◌∷◌, ◌++◌, map, Option, refl, sym, ap, ◌∙◌, subst, inl, inr, arith, append_assoc}
 use Rattle.std.proofs.lemmas.List.{append-nil, map-append}
+use Rattle.line_io.specs.Device.{LineState}
 use Rattle.line_io.specs.Calls.{Wrote-none, Wrote-then}
 use Rattle.postcard_tree.specs.Tree.{Tree, IsTree}
 use Rattle.link.specs.Run.{Send, written, clean_after, session_line, IsSend, IsSession}
@@ -24,27 +25,27 @@ session_more : (takes : Tree → Type 0) (limit s : ℕ) (clean : Bool) (xs : Li
 session_more takes limit s clean [] x h k = (k, tt)
 session_more takes limit s clean (y ∷ xs) x h k = (h.0, session_more takes limit s (clean_after clean y) xs x h.1 k)
 
-few_more : (f g h c d m n k : ℕ) → FewBroke f g c m → FewBroke g h d n → d ≤ c → g ≤ h → k ≡ m + n → FewBroke f h d k
-few_more f g h c d m n k (inl p) (inl q) l z e = inl (omega arith)
-few_more f g h c d m n k (inl p) (inr q) l z e = inr q
-few_more f g h c d m n k (inr p) q l z e = inr (omega arith)
+few_more : (u v w : LineState) (m n k : ℕ) → FewBroke u v m → FewBroke v w n → w.calls_left ≤ v.calls_left → v.faults ≤ w.faults → k ≡ m + n → FewBroke u w k
+few_more u v w m n k (inl p) (inl q) l z e = inl (omega arith)
+few_more u v w m n k (inl p) (inr q) l z e = inr q
+few_more u v w m n k (inr p) q l z e = inr (omega arith)
 
-did_more : (u v w : Option (List ℕ)) (f g h c d e : ℕ) (a b : List ℕ) (m n : ℕ) → Did u v f g c d a m → Did v w g h d e b n → Did u w f h c e (a ++ b) (m + n)
-did_more u v w f g h c d e a b m n p q = record {
-  wrote = Wrote-then u v w f g h a b p.wrote q.wrote;
-  few = few_more f g h d e m n (m + n) p.few q.few q.calls q.wrote.more refl;
+did_more : (u v w : LineState) (a b : List ℕ) (m n : ℕ) → Did u v a m → Did v w b n → Did u w (a ++ b) (m + n)
+did_more u v w a b m n p q = record {
+  wrote = Wrote-then u v w a b p.wrote q.wrote;
+  few = few_more u v w m n (m + n) p.few q.few q.calls q.wrote.more refl;
   once = omega (arith, p.once, q.once);
   calls = omega (arith, p.calls, q.calls);
 }
 
-pub none_sent : {V : Type 0} (limit s : ℕ) (writes : V → Option Tree) (valid : V → Type 0) (clean : Bool) (w : Option (List ℕ)) (f c : ℕ) → SendsAll limit s writes valid clean clean w w f f c c [] []
-none_sent limit s writes valid clean w f c = record { sends = []; are = tt; of = tt; fated = refl; did = record { wrote = Wrote-none w f; few = inl (omega arith); once = omega arith; calls = omega arith }; then = refl }
+pub none_sent : {V : Type 0} (limit s : ℕ) (writes : V → Option Tree) (valid : V → Type 0) (clean : Bool) (w : LineState) → SendsAll limit s writes valid clean clean w w [] []
+none_sent limit s writes valid clean w = record { sends = []; are = tt; of = tt; fated = refl; did = record { wrote = Wrote-none w; few = inl (omega arith); once = omega arith; calls = omega arith }; then = refl }
 
 -- one more
-pub one_sent : {V : Type 0} (limit s : ℕ) (writes : V → Option Tree) (valid : V → Type 0) (clean now later : Bool) (u v w : Option (List ℕ)) (f g h c d e : ℕ) (values : List V) (value : V) (fates : List Fate) (fate : Fate)
-    → SendsAll limit s writes valid clean now u v f g c d values fates → SendsOne limit s (writes value) (valid value) now later v w g h d e fate
-    → SendsAll limit s writes valid clean later u w f h c e (values ++ value ∷ []) (fates ++ fate ∷ [])
-one_sent limit s writes valid clean now later u v w f g h c d e values value fates fate p q =
+pub one_sent : {V : Type 0} (limit s : ℕ) (writes : V → Option Tree) (valid : V → Type 0) (clean now later : Bool) (u v w : LineState) (values : List V) (value : V) (fates : List Fate) (fate : Fate)
+    → SendsAll limit s writes valid clean now u v values fates → SendsOne limit s (writes value) (valid value) now later v w fate
+    → SendsAll limit s writes valid clean later u w (values ++ value ∷ []) (fates ++ fate ∷ [])
+one_sent limit s writes valid clean now later u v w values value fates fate p q =
     let xs = p.sends in
     let x = q.send in
     let line = line_more s clean xs x ∙ ap (λ z. session_line s clean xs ++ written s z x) (sym p.then) in
@@ -53,7 +54,7 @@ one_sent limit s writes valid clean now later u v w f g h c d e values value fat
       are = session_more IsTree limit s clean xs x p.are (subst (λ z. IsSend IsTree limit s z x) p.then q.is);
       of = zip_one (λ v' x'. IsSendOf limit (writes v') (valid v') x') values xs value x p.of q.of;
       fated = ap (λ fs. fs ++ fate ∷ []) p.fated ∙ ap (λ y. map fate_of xs ++ y ∷ []) q.fated ∙ sym (map-append fate_of xs (x ∷ []));
-      did = subst (λ n. Did u w f h c e (session_line s clean (xs ++ x ∷ [])) n) (sym (brokens_more xs x))
-          (subst (λ b. Did u w f h c e b (brokens xs + broke x)) (sym line) (did_more u v w f g h c d e (session_line s clean xs) (written s now x) (brokens xs) (broke x) p.did q.did));
+      did = subst (λ n. Did u w (session_line s clean (xs ++ x ∷ [])) n) (sym (brokens_more xs x))
+          (subst (λ b. Did u w b (brokens xs + broke x)) (sym line) (did_more u v w (session_line s clean xs) (written s now x) (brokens xs) (broke x) p.did q.did));
       then = q.then ∙ ap (λ z. clean_after z x) p.then ∙ sym (clean_more clean xs x);
     }

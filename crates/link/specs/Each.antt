@@ -1,19 +1,19 @@
 -- What is handed on while a stream is read.
-use Rattle.std.specs.Prelude.{◌≡◌, ℕ, ◌+◌, ◌≤◌, List, [], ◌++◌, length, Bool, true, Option, Some, None, Result, Ok}
-use Rattle.line_io.specs.Device.{Gave}
+use Rattle.std.specs.Prelude.{◌≡◌, ℕ, ◌+◌, ◌≤◌, List, [], ◌++◌, length, Bool, true, Option, Some, None, Result, IsErr}
+use Rattle.line_io.specs.Device.{LineState, Gave}
 use Rattle.postcard_tree.specs.Tree.{Tree}
-use Rattle.postcard_tree.specs.Reading.{ReadsText}
-use Rattle.std.specs.Borrow.{Bor}
 use Rattle.link.specs.Decoding.{Inside}
 use Rattle.link.specs.Receivers.{IsBehind}
+use Rattle.link.specs.Judged.{Judging}
 use Rattle.link.specs.Steps.{Event}
 use Rattle.link.specs.Finds.{Replies}
-use Rattle.link.specs.Listening.{KeepsAnswer, HasRead, HasGiven, IsReceived, IsKeptDue, Hears, IsHeard}
+use Rattle.line_io.specs.Transfers.{HasRead}
+use Rattle.link.specs.Listening.{KeepsAnswer, HasGiven, EndsAtLoss, IsReceived, IsKeptDue, Hears, IsHeard}
 use Rattle.link.specs.declared.reception.Reception.{Reception}
 use Rattle.link.specs.declared.receiver.Answer.{Answer}
 use Rattle.link.specs.declared.receiver.NoMemory.{NoMemory as NoAnswer}
-use Rattle.link.specs.declared.listening.End.{End}
-use Rattle.link.specs.declared.listening.End.TheVariants.{Ended, ReadFault, NoMemory}
+use Rattle.line_io.specs.declared.transfers.End.{End}
+use Rattle.line_io.specs.declared.transfers.End.TheVariants.{Ended, ReadFault, NoMemory}
 
 -- What a hearer owes: no answers leave it as it is, and answers may be heard one after another.
 pub record HearerLaws {H V : Type 0} (hears : H → List (Answer V) → H → Type 0) : Type 0 where
@@ -41,47 +41,37 @@ pub record HandsOn {V : Type 0} (holds : List ℕ → Tree → Type 0) (reads : 
   pub replies : Replies holds reads e reply
   pub keeps : KeepsAnswer reply [] answers
 
--- An event has an answer that wasn't handed on.
+-- An event has an answer that found no memory.
 pub record Withholds {V : Type 0} (holds : List ℕ → Tree → Type 0)
     (reads : Tree → V → Type 0) (e : Event) : Type 0 where
   pub reply : Result (Option (Answer V)) NoAnswer
   pub replies : Replies holds reads e reply
-  pub some : reply ≡ Ok None → ⊥
+  pub fails : IsErr reply
 
 -- what reading gave so far: bytes, and there may be more; or how the reading ended
-abbrev pub HasReadNow : Option (List ℕ) → Option (List ℕ) → ℕ → ℕ → ℕ → Option End → List ℕ → Type 0
-HasReadNow old new before after calls_left None bytes =
-    Gave old new before after bytes × (after ≡ before)
-HasReadNow old new before after calls_left (Some end) bytes =
-    HasRead old new before after calls_left end bytes
+abbrev pub HasReadNow : LineState → LineState → Option End → List ℕ → Type 0
+HasReadNow old new None bytes = Gave old new bytes × (new.faults ≡ old.faults)
+HasReadNow old new (Some end) bytes = HasRead old new end bytes
 
 -- the call that ended the reading, where one did
 abbrev pub last_call : Option End → ℕ
 last_call None = 0
 last_call (Some end) = 1
 
--- the reader gave bytes, and no more calls of it were used than these are, and the last one
-pub record UsesFew (old new : Option (List ℕ))
-    (before after calls_before calls_after last : ℕ) : Type 0 where
+-- The reader gave bytes, and no more calls of it were used than these are, and the last one. (Of one that tells nothing these are any
+-- bytes: there it says nothing.)
+pub record UsesFew (old new : LineState) (last : ℕ) : Type 0 where
   pub bytes : List ℕ
-  pub gave : Gave old new before after bytes
-  pub few : calls_before ≤ calls_after + length bytes + last
+  pub gave : Gave old new bytes
+  pub few : old.calls_left ≤ new.calls_left + length bytes + last
 
-module _ {D : Type 0} (inside : D → Inside) where
-  -- a receiver was given this stream, and these were its answers; or it had no memory for one
-  abbrev pub IsHeardNow : {V : Type 0} → (List ℕ → Tree → Type 0) → (Tree → V → Type 0) → ℕ → ℕ
-      → Option End → Reception D → List (Answer V) → List ℕ → Type 0
-  IsHeardNow holds reads limit s None r answers stream =
-      Hears inside holds reads limit s r answers stream
-  IsHeardNow holds reads limit s (Some end) r answers stream =
-      IsHeard inside holds reads limit s end r answers stream
-
-  -- where the receiver stands, unless it had no memory for an answer
-  abbrev pub StandsNow : ℕ → ℕ → Option End → Reception D → List ℕ → Type 0
-  StandsNow limit s None r stream = IsBehind inside limit s r stream
-  StandsNow limit s (Some Ended) r stream = IsBehind inside limit s r stream
-  StandsNow limit s (Some ReadFault) r stream = IsBehind inside limit s r stream
-  StandsNow limit s (Some NoMemory) r stream = Unit {0}
+-- A receiver was given this stream, and these were its answers; or it had no memory for values, and went on behind them or not.
+abbrev pub IsHeardNow : {D V : Type 0} → (D → Inside) → (List ℕ → Tree → Type 0)
+    → (Tree → V → Type 0) → ℕ → ℕ → Bool → Option End → Reception D → List (Answer V) → List ℕ → Type 0
+IsHeardNow inside holds reads limit s on None r answers stream =
+    Hears inside holds reads limit s r answers stream
+IsHeardNow inside holds reads limit s on (Some end) r answers stream =
+    IsHeard inside holds reads limit s on end r answers stream
 
 -- what the answers are, by how the reading of the stream ended, or whether there may be more
 abbrev pub IsReceivedNow : {V : Type 0} → (List ℕ → Tree → Type 0) → (Tree → V → Type 0) → ℕ → ℕ
@@ -90,16 +80,12 @@ IsReceivedNow holds reads limit s None answers stream = HasGiven holds reads lim
 IsReceivedNow holds reads limit s (Some end) answers stream =
     IsReceived holds reads limit s end answers stream
 
--- the same where a further answer is known to be due
+-- the same where it is known which value had no memory
 abbrev pub IsKeptNow : {V : Type 0} → (List ℕ → Tree → Type 0) → (Tree → V → Type 0) → ℕ → ℕ
     → Option End → List (Answer V) → List ℕ → Type 0
 IsKeptNow holds reads limit s None answers stream = HasGiven holds reads limit s answers stream
 IsKeptNow holds reads limit s (Some end) answers stream =
     IsKeptDue holds reads limit s end answers stream
-
--- what a text that lies elsewhere is read from
-abbrev pub reads_lent : Tree → Bor (List ℕ) → Type 0
-reads_lent t v = ReadsText t v.now
 
 -- memory may be wanting only where values can ask for it
 abbrev pub MayLackMemory : Bool → Option End → Type 0
@@ -108,9 +94,57 @@ MayLackMemory grows (Some Ended) = Unit {0}
 MayLackMemory grows (Some ReadFault) = Unit {0}
 MayLackMemory grows (Some NoMemory) = grows ≡ true
 
--- memory was found, or none was asked for
-abbrev pub HadMemory : Option End → Type 0
-HadMemory None = Unit {0}
-HadMemory (Some Ended) = Unit {0}
-HadMemory (Some ReadFault) = Unit {0}
-HadMemory (Some NoMemory) = ⊥
+module _ {D H V : Type 0} (inside : D → Inside) (judging : Judging V)
+    (hears : H → List (Answer V) → H → Type 0) where
+  -- What was handed on are the answers that these bytes add to whatever the receiver had heard.
+  abbrev pub Adds : List ℕ → Reception D → Reception D → H → H → Type 0
+  Adds bytes r s h k = Handed hears h k (λ more. (limit z : ℕ) (stream : List ℕ)
+      (given : List (Answer V)) → Hears inside judging.holds judging.reads limit z r given stream
+      → Hears inside judging.holds judging.reads limit z s (given ++ more) (stream ++ bytes))
+
+  -- the same, however the reading ended: where values had no memory, it went on behind them or not
+  abbrev pub AddsBy : Bool → List ℕ → Reception D → Reception D → H → H → Option End → Type 0
+  AddsBy on bytes r s h k end = Handed hears h k (λ more. (limit z : ℕ) (stream : List ℕ)
+      (given : List (Answer V)) → Hears inside judging.holds judging.reads limit z r given stream
+      → IsHeardNow inside judging.holds judging.reads limit z on end s (given ++ more)
+      (stream ++ bytes))
+
+  -- The reader gave bytes, by no more calls than these are and the last one; what was handed on are the answers that they add.
+  pub record ListensBy (on : Bool) (line later : LineState) (r s : Reception D) (h k : H)
+      (end : Option End) : Type 0 where
+    pub bytes : List ℕ
+    pub read : HasReadNow line later end bytes
+    pub few : line.calls_left ≤ later.calls_left + length bytes + last_call end
+    pub adds : AddsBy on bytes r s h k end
+
+  -- the same where listening goes on behind a value that had no memory
+  abbrev pub Listens : LineState → LineState → Reception D → Reception D → H → H → Option End
+      → Type 0
+  Listens line later r s h k end = ListensBy true line later r s h k end
+
+  -- The same of a receiver that was given nothing: what was handed on are the answers to the bytes, with what the end adds; or those to
+  -- what stands before a value that had no memory.
+  pub record HearsOut (line later : LineState) (r s : Reception D) (h k : H)
+      (end : Option End) : Type 0 where
+    pub bytes : List ℕ
+    pub read : HasReadNow line later end bytes
+    pub few : line.calls_left ≤ later.calls_left + length bytes + last_call end
+    pub hands : Handed hears h k (λ answers. (limit z : ℕ) → IsBehind inside limit z r []
+        → IsReceivedNow judging.holds judging.reads limit z end answers bytes
+        × IsBehind inside limit z s bytes
+        × (end ≡ Some NoMemory → EndsAtLoss judging.holds judging.reads limit z answers bytes))
+
+-- what a reader gave, however the reading ended
+pub gave_now : (line later : LineState) (end : Option End) (bytes : List ℕ)
+    → HasReadNow line later end bytes → Gave line later bytes
+gave_now line later None bytes h = h.0
+gave_now line later (Some Ended) bytes h = h.0
+gave_now line later (Some ReadFault) bytes h = h.0
+gave_now line later (Some NoMemory) bytes h = h.0
+
+-- few calls of a reader were used, however the reading ended
+pub uses_few : (line later : LineState) (end : Option End) (bytes : List ℕ)
+    → HasReadNow line later end bytes
+    → line.calls_left ≤ later.calls_left + length bytes + last_call end
+    → UsesFew line later (last_call end)
+uses_few line later end bytes h f = record { bytes = bytes; gave = gave_now line later end bytes h; few = f }

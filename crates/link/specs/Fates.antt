@@ -4,7 +4,7 @@ use Rattle.std.specs.List.{AllZip}
 use Rattle.std.specs.Borrow.{RattleType}
 use Rattle.std.specs.Mem.{FitsInMemory}
 use Rattle.cobs.specs.Frames.{shortest_frame}
-use Rattle.line_io.specs.Device.{Wrote}
+use Rattle.line_io.specs.Device.{LineState, Wrote}
 use Rattle.postcard_tree.specs.Tree.{Tree, IsTree}
 use Rattle.postcard.specs.Written.{UnlessRefused}
 use Rattle.link.specs.Run.{Send, completed, refused, broken, written, clean_after, session_line, IsSend, IsSession}
@@ -33,8 +33,8 @@ brokens [] = 0
 brokens (x ∷ xs) = broke x + brokens xs
 
 -- no more broke off than calls failed, or no call is left
-abbrev pub FewBroke : ℕ → ℕ → ℕ → ℕ → Type 0
-FewBroke before after calls_left broken_off = (before + broken_off ≤ after) ⊎ (calls_left ≡ 0)
+abbrev pub FewBroke : LineState → LineState → ℕ → Type 0
+FewBroke old new broken_off = (old.faults + broken_off ≤ new.faults) ⊎ (new.calls_left ≡ 0)
 
 -- a send of a value that writes this tree, where it writes one
 abbrev pub IsSendOf : ℕ → Option Tree → Type 0 → Send → Type 0
@@ -49,34 +49,31 @@ clean_after_all clean [] = clean
 clean_after_all clean (x ∷ xs) = clean_after_all (clean_after clean x) xs
 
 -- what a sender did to its line: no more of its calls failed or took nothing than sends broke off, so that nothing is tried twice
-pub record Did (old new : Option (List ℕ)) (before after calls_before calls_after : ℕ)
-    (bytes : List ℕ) (broken_off : ℕ) : Type 0 where
-  pub wrote : Wrote old new before after bytes
-  pub few : FewBroke before after calls_after broken_off
-  pub once : after ≤ before + broken_off
-  pub calls : calls_after ≤ calls_before
+pub record Did (old new : LineState) (bytes : List ℕ) (broken_off : ℕ) : Type 0 where
+  pub wrote : Wrote old new bytes
+  pub few : FewBroke old new broken_off
+  pub once : new.faults ≤ old.faults + broken_off
+  pub calls : new.calls_left ≤ old.calls_left
 
 -- one send
 pub record SendsOne (limit s : ℕ) (writes : Option Tree) (valid : Type 0) (clean later : Bool)
-    (old new : Option (List ℕ))
-    (before after calls_before calls_after : ℕ) (fate : Fate) : Type 0 where
+    (old new : LineState) (fate : Fate) : Type 0 where
   pub send : Send
   pub is : IsSend IsTree limit s clean send
   pub of : IsSendOf limit writes valid send
   pub fated : fate ≡ fate_of send
-  pub did : Did old new before after calls_before calls_after (written s clean send) (broke send)
+  pub did : Did old new (written s clean send) (broke send)
   pub then : later ≡ clean_after clean send
 
 -- the sends of these values, and what became of them
 pub record SendsAll {V : Type 0} (limit s : ℕ) (writes : V → Option Tree) (valid : V → Type 0)
-    (clean later : Bool) (old new : Option (List ℕ)) (before after calls_before calls_after : ℕ)
+    (clean later : Bool) (old new : LineState)
     (values : List V) (fates : List Fate) : Type 0 where
   pub sends : List Send
   pub are : IsSession IsTree limit s clean sends
   pub of : AllZip (λ v x. IsSendOf limit (writes v) (valid v) x) values sends
   pub fated : fates ≡ map fate_of sends
-  pub did : Did old new before after calls_before calls_after
-      (session_line s clean sends) (brokens sends)
+  pub did : Did old new (session_line s clean sends) (brokens sends)
   pub then : later ≡ clean_after_all clean sends
 
 -- A session of values that are valid is one of trees that the type takes.

@@ -3,8 +3,8 @@ use Rattle.std.specs.Prelude.{◌≡◌, ◌≢◌, Bool, true, false, List, [],
 use Rattle.std.proofs.Common.{sym, ◌∙◌, ap, append_assoc, append-nil}
 use Rattle.link.specs.Each.{HearerLaws}
 use Rattle.link.specs.declared.receiver.Answer.{Answer}
-use Rattle.link.specs.declared.listening.End.{End}
-use Rattle.link.specs.declared.listening.End.TheVariants.{NoMemory}
+use Rattle.line_io.specs.declared.transfers.End.{End}
+use Rattle.line_io.specs.declared.transfers.End.TheVariants.{NoMemory}
 
 -- The first of these answers were put behind the others: all of them, or those before one that found no memory. Behind such a one
 -- none is kept.

@@ -8,8 +8,8 @@ use Rattle.postcard.specs.contracts.accumulator.CobsAccumulator as accumulator
 use Rattle.postcard.specs.Frames.{Holds}
 use Rattle.link.specs.Stream.{Verdict, Answers}
 use Rattle.link.specs.Roads.{Loops, joined, AllFit, AreValues, AreFirst, values_of, IsSameByAccumulator}
-use Rattle.link.specs.declared.listening.End.{End}
-use Rattle.link.specs.declared.listening.End.TheVariants.{NoMemory}
+use Rattle.line_io.specs.declared.transfers.End.{End}
+use Rattle.line_io.specs.declared.transfers.End.TheVariants.{NoMemory}
 
 -- an accumulator of such a room can be held
 abbrev pub AccumulatorFitsInMemory : RattleType → Type 0

@@ -1,3 +1,4 @@
+pub mod Link
 pub mod Stream
 pub mod Relational
 pub mod Laws
@@ -27,3 +28,13 @@ pub mod Stepwise
 pub mod Lengths
 pub mod RoadLaws
 pub mod Givens
+pub mod Losses
+pub mod MaskLaws
+pub mod StretchLaws
+pub mod JoinLaws
+pub mod FeedLaws
+pub mod CourseLaws
+pub mod AnswerLaws
+pub mod SpanLaws
+pub mod TurnLaws
+pub mod RunLaws

@@ -2,13 +2,12 @@
 ghost use Rattle.std.specs.Prelude.{◌≡◌, ◌<◌, OnOk, OnErr, List, [], ◌∷◌, ℕ};
 ghost use Rattle.cobs.specs.Sentinel.{masked};
 ghost use Rattle.postcard.specs.Gathers.{held_of, sentinel_of};
-ghost use Rattle.link.specs.Listening.{HasRead};
+ghost use Rattle.line_io.specs.Transfers.{HasRead};
 ghost use Rattle.link.specs.Each.{UsesFew};
 ghost use Rattle.link.specs.Gathering.{GathersPieces, LacksPlace, AreSameByAccumulator, HasGathered, AreThoseFor, AreLooped, AccumulatorFitsInMemory};
 
-use crate::listening::End;
 use crate::receiver::NoMemory;
-use line_io::Inlet;
+use line_io::{End, Inlet};
 use postcard::DeserializeOwned;
 use postcard::accumulator::{CobsAccumulator, FeedResult};
 use postcard_tree::Readable;
@@ -36,10 +35,11 @@ fn gather<T: DeserializeOwned, const N: usize>(
     piece: &[u8],
 ) -> Result<(), NoMemory>
     requires { 0 < N }
-    ensures ok { OnOk result (GathersPieces T.takes T.reads T.growing N
+    ensures ok { OnOk result (GathersPieces T.form.takes T.form.reads T.form.growing N
         (held_of accumulator.old) (masked (sentinel_of accumulator.old) piece.now ∷ [])
         (held_of accumulator.new) [] values.old.items values.new.items) }
-    ensures err { OnErr result (LacksPlace T.takes T.reads T.growing N (held_of accumulator.old)
+    ensures err { OnErr result (LacksPlace T.form.takes T.form.reads T.form.growing N
+        (held_of accumulator.old)
         (masked (sentinel_of accumulator.old) piece.now ∷ []) values.old.items values.new.items) }
     ensures sentinel { sentinel_of accumulator.new ≡ sentinel_of accumulator.old }
 {
@@ -68,14 +68,12 @@ fn collect<T: DeserializeOwned, R: Inlet, const N: usize>(
     values: &mut Vec<T>,
 ) -> End
     requires { 0 < N }
-    ensures gathered { (bytes : List ℕ) × HasRead (R.to_come reader.old) (R.to_come reader.new)
-        (R.faults reader.old) (R.faults reader.new) (R.calls_left reader.new) result bytes
-        × HasGathered T.takes T.reads T.growing N
+    ensures gathered { (bytes : List ℕ)
+        × HasRead (R.line reader.old) (R.line reader.new) result bytes
+        × HasGathered T.form.takes T.form.reads T.form.growing N
         (sentinel_of accumulator.old) (held_of accumulator.old) bytes
         (held_of accumulator.new) values.old.items values.new.items result }
-    ensures calls { UsesFew (R.to_come reader.old) (R.to_come reader.new)
-        (R.faults reader.old) (R.faults reader.new)
-        (R.calls_left reader.old) (R.calls_left reader.new) 1 }
+    ensures calls { UsesFew (R.line reader.old) (R.line reader.new) 1 }
 {
     let mut room = [0u8; ROOM];
     loop {
@@ -93,7 +91,7 @@ fn collect<T: DeserializeOwned, R: Inlet, const N: usize>(
 
 // What `laws::roads` says of values, of any. It does nothing.
 fn gathered_alike<T: Readable>()
-    ensures { AreSameByAccumulator T.takes T.reads T.growing }
+    ensures { AreSameByAccumulator T.form.takes T.form.reads T.form.growing }
 {
     cobs::laws::message_of_a_frame();
     cobs::laws::frames_of_a_message();
@@ -112,13 +110,13 @@ pub fn receive_by_accumulator<T: DeserializeOwned, R: Inlet, const N: usize>(
 ) -> Gathered<T, R>
     requires some { 0 < N }
     requires fits { AccumulatorFitsInMemory N.row }
-    ensures received { (bytes : List ℕ) × HasRead (R.to_come reader) (R.to_come result.reader)
-        (R.faults reader) (R.faults result.reader) (R.calls_left result.reader) result.end bytes
-        × AreThoseFor T.takes T.reads T.growing N 0 bytes result.values.items result.end
-        × AreLooped T.takes T.reads T.growing N 0 bytes result.values.items result.end }
-    ensures calls { UsesFew (R.to_come reader) (R.to_come result.reader)
-        (R.faults reader) (R.faults result.reader)
-        (R.calls_left reader) (R.calls_left result.reader) 1 }
+    ensures received { (bytes : List ℕ)
+        × HasRead (R.line reader) (R.line result.reader) result.end bytes
+        × AreThoseFor T.form.takes T.form.reads T.form.growing N 0 bytes result.values.items
+        result.end
+        × AreLooped T.form.takes T.form.reads T.form.growing N 0 bytes result.values.items
+        result.end }
+    ensures calls { UsesFew (R.line reader) (R.line result.reader) 1 }
 {
     receive_by_accumulator_with_sentinel::<T, R, N>(alloc, reader, 0)
 }
@@ -131,13 +129,13 @@ pub fn receive_by_accumulator_with_sentinel<T: DeserializeOwned, R: Inlet, const
 ) -> Gathered<T, R>
     requires some { 0 < N }
     requires fits { AccumulatorFitsInMemory N.row }
-    ensures received { (bytes : List ℕ) × HasRead (R.to_come reader) (R.to_come result.reader)
-        (R.faults reader) (R.faults result.reader) (R.calls_left result.reader) result.end bytes
-        × AreThoseFor T.takes T.reads T.growing N sentinel bytes result.values.items result.end
-        × AreLooped T.takes T.reads T.growing N sentinel bytes result.values.items result.end }
-    ensures calls { UsesFew (R.to_come reader) (R.to_come result.reader)
-        (R.faults reader) (R.faults result.reader)
-        (R.calls_left reader) (R.calls_left result.reader) 1 }
+    ensures received { (bytes : List ℕ)
+        × HasRead (R.line reader) (R.line result.reader) result.end bytes
+        × AreThoseFor T.form.takes T.form.reads T.form.growing N sentinel bytes result.values.items
+        result.end
+        × AreLooped T.form.takes T.form.reads T.form.growing N sentinel bytes result.values.items
+        result.end }
+    ensures calls { UsesFew (R.line reader) (R.line result.reader) 1 }
 {
     let mut reader = reader;
     let mut accumulator = CobsAccumulator::<N>::new_with_sentinel(sentinel);

@@ -33,9 +33,9 @@ fn read_stretch<'a, T: Deserialize<&'a [u8]>>(
     sentinel: u8,
 ) -> Result<Answer<T>, NoMemory>
     requires { stretch (masked sentinel bytes.now) ≡ [] → ⊥ }
-    ensures answer { AnswersEnded (Holds T.takes) T.reads
+    ensures answer { AnswersEnded (Holds T.form.takes) T.form.reads
         (stretch (masked sentinel bytes.entry.now)) result }
-    ensures memory { OnErr result (T.growing ≡ true) }
+    ensures memory { OnErr result (T.form.growing ≡ true) }
 {
     cobs::laws::message_of_a_frame();
     cobs::laws::shorter();
@@ -98,7 +98,7 @@ fn read_next<'a, T: Deserialize<&'a [u8]>>(
 ) -> Option<(Result<Answer<T>, NoMemory>, &'a mut [u8])>
     requires { (bytes : List ℕ) × IsNext sentinel end bytes parts }
     ensures { (bytes : List ℕ) → IsNext sentinel end bytes parts.entry
-        → AnswersNext T.takes T.reads T.growing sentinel bytes result }
+        → AnswersNext T.form.takes T.form.reads T.form.growing sentinel bytes result }
 {
     match parts {
         None => {
@@ -126,9 +126,9 @@ pub fn read_in_place<'a, T: Deserialize<&'a [u8]>>(
     bytes: &'a mut [u8],
 ) -> Option<(Result<Answer<T>, NoMemory>, &'a mut [u8])>
     ensures some { IfSome result
-        (λ p. ReadsNext T.takes T.reads (unpadded bytes.entry.now) p.0 p.1.now) }
+        (λ p. ReadsNext T.form.takes T.form.reads (unpadded bytes.entry.now) p.0 p.1.now) }
     ensures none { IfNone result (unpadded bytes.entry.now ≡ []) }
-    ensures memory { IfSome result (λ p. OnErr p.0 (T.growing ≡ true)) }
+    ensures memory { IfSome result (λ p. OnErr p.0 (T.form.growing ≡ true)) }
     ensures* unchanged { sem 𝓛 (KeptUnlessEnded bytes.entry result) }
 {
     read_in_place_with_sentinel(alloc, bytes, 0)
@@ -140,10 +140,10 @@ pub fn read_in_place_with_sentinel<'a, T: Deserialize<&'a [u8]>>(
     bytes: &'a mut [u8],
     sentinel: u8,
 ) -> Option<(Result<Answer<T>, NoMemory>, &'a mut [u8])>
-    ensures some { IfSome result (λ p. ReadsNext T.takes T.reads
+    ensures some { IfSome result (λ p. ReadsNext T.form.takes T.form.reads
         (unpadded (masked sentinel bytes.entry.now)) p.0 (masked sentinel p.1.now)) }
     ensures none { IfNone result (unpadded (masked sentinel bytes.entry.now) ≡ []) }
-    ensures memory { IfSome result (λ p. OnErr p.0 (T.growing ≡ true)) }
+    ensures memory { IfSome result (λ p. OnErr p.0 (T.form.growing ≡ true)) }
     ensures* unchanged { sem 𝓛 (KeptUnlessEnded bytes.entry result) }
 {
     let (end, bytes) = with_end(bytes, sentinel);

@@ -17,7 +17,7 @@ pub fn room<T: MaxWritten>(value: &T)
 
 /// Whether sending makes a stretch that holds a tree is told by two lengths.
 pub fn by_lengths<T: Readable>()
-    ensures { IsToldByLengths T.takes }
+    ensures { IsToldByLengths T.form.takes }
 {
     cobs::laws::message_of_a_frame();
     cobs::laws::frames_of_a_message();
@@ -28,5 +28,5 @@ pub fn by_lengths<T: Readable>()
 /// What `read_in_place` answers, again and again until nothing is left, are the answers of reading in place: those of which `roads` of
 /// the crate `link_laws` says that their values are the receiver's.
 pub fn in_turn<T: Readable>()
-    ensures { (s : ℕ) → IsReadInTurn T.takes T.reads s }
+    ensures { (s : ℕ) → IsReadInTurn T.form.takes T.form.reads s }
 {}

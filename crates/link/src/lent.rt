@@ -3,17 +3,15 @@ ghost use Rattle.std.specs.Prelude.{◌≡◌, ℕ, ◌<◌, ◌≤◌, length, 
 ghost use Rattle.std.specs.Borrow.{sem};
 ghost use Rattle.cobs.specs.Frames.{Frame};
 ghost use Rattle.postcard.specs.Frames.{Holds};
-ghost use Rattle.link.specs.Stream.{HoldsExactly};
 ghost use Rattle.link.specs.Lending.{ReadsLent};
 ghost use Rattle.link.specs.Steps.{Course, Event};
 ghost use Rattle.link.specs.Finds.{IsTaken, Replies, lent_message};
 
 use crate::decoding::Decoding;
-use crate::judging::{had_memory, is_sent, judged};
-use crate::laws;
+use crate::judging::{had_memory, judged};
 use crate::receiver::{Answer, NoMemory, Pushed};
 use crate::reception::{Found, Reception, Taken};
-use postcard::{Deserialize, Exact, from_bytes};
+use postcard::{Deserialize, from_bytes};
 use std::alloc::Global;
 
 impl<D: Decoding> Reception<D> {
@@ -39,7 +37,7 @@ impl<D: Decoding> Reception<D> {
         alloc: Global,
         piece: &[u8],
     ) -> Pushed<T>
-        ensures answer { AnswersBy D.inside T.takes T.reads T.growing
+        ensures answer { AnswersBy D.inside T.form.takes T.form.reads T.form.growing
             self.entry.now piece.now result }
         ensures* after { sem 𝓛 (follows_so (the_row D.row) (the_row D.row) self.entry.ghost_name
             none (λ _ _. ⊤) (λ n. StandsBy D.inside self.entry.now piece.now result n)) }
@@ -55,40 +53,12 @@ pub(crate) fn read_message<'de, T: Deserialize<&'de [u8]>>(
     message: &'de [u8],
 ) -> Result<Option<Answer<T>>, NoMemory>
     ensures stretch { (p : List ℕ) → Frame p message.now
-        → Replies (Holds T.takes) T.reads (Event.ended p) result }
-    ensures memory { OnErr result (T.growing ≡ true) }
+        → Replies (Holds T.form.takes) T.form.reads (Event.ended p) result }
+    ensures memory { OnErr result (T.form.growing ≡ true) }
 {
     cobs::laws::message_of_a_frame();
     match from_bytes(alloc, message) {
         Ok(value) => Ok(Some(Answer::Value(value))),
-        Err(error) => {
-            had_memory(error)?;
-            Ok(Some(Answer::Damaged))
-        }
-    }
-}
-
-// The same where the stretch has so many bytes and counts only as the frame that sending makes.
-pub(crate) fn read_exact_message<'de, T: Deserialize<&'de [u8]> + Exact>(
-    alloc: Global,
-    message: &'de [u8],
-    stretch: usize,
-) -> Result<Option<Answer<T>>, NoMemory>
-    ensures stretch { (p : List ℕ) → Frame p message.now → stretch ≡ length p
-        → Replies (HoldsExactly T.takes) T.reads (Event.ended p) result }
-    ensures memory { OnErr result (T.growing ≡ true) }
-{
-    cobs::laws::message_of_a_frame();
-    cobs::laws::frames_of_a_message();
-    postcard_tree::laws::short_is_a_spelling();
-    laws::by_lengths::<T>();
-    match from_bytes::<T>(alloc, message) {
-        Ok(value) => {
-            if is_sent(&value, message, stretch) {
-                return Ok(Some(Answer::Value(value)));
-            }
-            Ok(Some(Answer::Damaged))
-        }
         Err(error) => {
             had_memory(error)?;
             Ok(Some(Answer::Damaged))
@@ -102,8 +72,8 @@ fn read_lent<'de, T: Deserialize<&'de [u8]>>(
     taken: Taken<&'de [u8]>,
 ) -> Result<Option<Answer<T>>, NoMemory>
     ensures replies { (limit : ℕ) (k : Course) → IsTaken limit k lent_message taken.entry
-        → Replies (Holds T.takes) T.reads k.event result }
-    ensures memory { OnErr result (T.growing ≡ true) }
+        → Replies (Holds T.form.takes) T.form.reads k.event result }
+    ensures memory { OnErr result (T.form.growing ≡ true) }
 {
     judged::<T>();
     match taken.found {
@@ -116,7 +86,7 @@ fn read_lent<'de, T: Deserialize<&'de [u8]>>(
 
 // What a push gives that took this.
 fn pushed<'de, T: Deserialize<&'de [u8]>>(alloc: Global, taken: Taken<&'de [u8]>) -> Pushed<T>
-    ensures { ReadsLent T.takes T.reads T.growing taken.entry result }
+    ensures { ReadsLent T.form.takes T.form.reads T.form.growing taken.entry result }
 {
     Pushed {
         used: taken.used,

@@ -36,8 +36,8 @@
 //! | frame what a serializer of the caller's pushes | `Framed`, a flavor of postcard's |
 //! | receive from pieces | `Receiver`: `push`, `push_ref` of values that borrow, `push_strict` of what sending makes alone; each tells how long the answered stretch was |
 //! | receive with a limit that is a value, and set it anew | `OwnedReceiver` |
-//! | receive by a reader of messages that is a value, as one by a table of types | `push_with`, `listen_with`, `receive_each_with` of a receiver; `MessageReader` |
-//! | receive from a reader, each answer handed on when its last byte was read | `listen` of a receiver, `receive_each`; `listen_texts`, `receive_each_text` of texts where they lie |
+//! | receive by a reader of messages that is a value, as one by a table of types | `push_with`, `listen_with`, `listen_until_with`, `receive_each_with` of a receiver; `MessageReader` |
+//! | receive from a reader, each answer handed on when its last byte was read | a `Hearer`, and of a receiver `listen_with` for one read, `listen_until_with` until the hearer has had enough, `receive_each_with` to the end |
 //! | receive all that a reader gives | `receive`, `receive_strict`, `receive_owned`, `receive_by_accumulator` |
 //! | read a buffer where it lies | `read_in_place` |
 //!
@@ -61,7 +61,6 @@
 
 mod decoding;
 mod each;
-mod effects;
 mod framed;
 mod gathering;
 mod in_place;
@@ -75,20 +74,17 @@ mod receiver;
 mod reception;
 mod sender;
 mod session;
-mod texts;
 mod writing;
 
 pub use decoding::Decoding;
-pub use each::{
-    Hearer, receive_each, receive_each_owned, receive_each_owned_strict, receive_each_strict,
-    receive_each_strict_with_sentinel, receive_each_with_sentinel,
-};
+pub use each::Hearer;
 pub use framed::{Framed, frame_into, frame_into_with_sentinel};
 pub use gathering::{Gathered, receive_by_accumulator, receive_by_accumulator_with_sentinel};
 pub use in_place::{read_in_place, read_in_place_with_sentinel};
 pub use judging::{ExactReader, FrontReader, MessageReader, OfType, Ordinary, Strict};
+pub use line_io::End;
 pub use listening::{
-    End, Received, receive, receive_owned, receive_owned_strict, receive_strict,
+    Received, receive, receive_owned, receive_owned_strict, receive_strict,
     receive_strict_with_sentinel, receive_with_sentinel,
 };
 pub use owned::OwnedReceiver;
@@ -96,7 +92,3 @@ pub use receiver::{Answer, NoMemory, Pushed, Receiver};
 pub use reception::Reception;
 pub use sender::{SendError, Sender};
 pub use session::{Fate, send_each, send_each_with_sentinel};
-pub use texts::{
-    TextHearer, receive_each_text, receive_each_text_owned, receive_each_text_owned_strict,
-    receive_each_text_strict,
-};

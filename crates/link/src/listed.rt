@@ -1,5 +1,5 @@
 //! A list of answers, as long as it finds memory.
-ghost use Rattle.std.specs.Prelude.{◌≡◌, [], ◌∷◌};
+ghost use Rattle.std.specs.Prelude.{◌≡◌, [], ◌∷◌, ⊤};
 ghost use Rattle.link.specs.Firsts.{KeepsFirst, keeps_laws};
 
 use crate::each::Hearer;
@@ -20,6 +20,8 @@ impl<T: Drop> Hearer<T> for Listed<T> {
 
     ghost enough = { λ l. l.full };
 
+    ghost settled = { λ _. ⊤ };
+
     fn hear(&mut self, answer: Answer<T>)
         ensures { KeepsFirst self.old.answers.items self.new.answers.items
             self.old.full self.new.full (answer ∷ []) }
@@ -33,8 +35,9 @@ impl<T: Drop> Hearer<T> for Listed<T> {
     }
 
     fn pause(&mut self)
-        ensures { KeepsFirst self.old.answers.items self.new.answers.items
+        ensures heard { KeepsFirst self.old.answers.items self.new.answers.items
             self.old.full self.new.full [] }
+        ensures settles { ⊤ }
     {}
 
     fn has_enough(&self) -> bool

@@ -3,7 +3,7 @@ ghost use Rattle.std.specs.Prelude.{◌≡◌, ℕ, ◌⊎◌, List, []};
 ghost use Rattle.postcard.specs.Frames.{Holds};
 ghost use Rattle.link.specs.Stream.{HoldsExactly};
 ghost use Rattle.link.specs.Receivers.{IsBehind};
-ghost use Rattle.link.specs.Listening.{ReceiverFitsInMemory, HasRead, IsReceived, IsUnmade};
+ghost use Rattle.link.specs.Listening.{ReceiverFitsInMemory, Receives, IsUnmade};
 ghost use Rattle.link.specs.Each.{UsesFew};
 ghost use Rattle.link.specs.Firsts.{listed_end};
 
@@ -13,20 +13,9 @@ use crate::listed::Listed;
 use crate::owned::OwnedReceiver;
 use crate::receiver::{Answer, NoMemory, Receiver};
 use crate::reception::Reception;
-use line_io::Inlet;
+use line_io::{End, Inlet};
 use postcard::{DeserializeOwned, Exact};
 use std::alloc::Global;
-
-/// How a reception ended.
-#[derive(Clone, Copy, PartialEq, Debug, Drop)]
-pub enum End {
-    /// The reader told its end.
-    Ended,
-    /// A read failed, or the reader has no call left.
-    ReadFault,
-    /// No memory was found, for a value, for the list of what was received, or for a receiver whose limit is a value.
-    NoMemory,
-}
 
 /// What was received.
 #[derive(Drop)]
@@ -37,7 +26,7 @@ pub struct Received<T, R> {
     /// they are these without `Cut`. At `NoMemory` they are the first of them, and at least one is missing; where there was none
     /// for a receiver of `receive_owned`, nothing was read.
     pub answers: Vec<Answer<T>>,
-    /// How the reception ended.
+    /// How the reception ended: at `NoMemory` none was found for a value, for the list, or for a receiver whose limit is a value.
     pub end: End,
     /// The reader that was handed in, after this call's reads.
     pub reader: R,
@@ -64,12 +53,9 @@ fn receive_by<V: Drop, M: MessageReader<V>, R: Inlet, D: Decoding>(
     receiver: &mut Reception<D>,
 ) -> Received<V, R>
     ensures received { (limit s : ℕ) → IsBehind D.inside limit s receiver.old []
-        → (bytes : List ℕ) × HasRead (R.to_come reader) (R.to_come result.reader)
-        (R.faults reader) (R.faults result.reader) (R.calls_left result.reader) result.end bytes
-        × IsReceived (M.holds messages.now) (M.reads messages.now) limit s result.end result.answers.items bytes }
-    ensures calls { UsesFew (R.to_come reader) (R.to_come result.reader)
-        (R.faults reader) (R.faults result.reader)
-        (R.calls_left reader) (R.calls_left result.reader) 1 }
+        → Receives (M.judging messages.now).holds (M.judging messages.now).reads limit s
+        (R.line reader) (R.line result.reader) result.end result.answers.items }
+    ensures calls { UsesFew (R.line reader) (R.line result.reader) 1 }
 {
     messages.show();
     let mut reader = reader;
@@ -95,12 +81,9 @@ pub fn receive<T: DeserializeOwned, R: Inlet, const N: usize>(
     reader: R,
 ) -> Received<T, R>
     requires { ReceiverFitsInMemory N.row }
-    ensures received { (bytes : List ℕ) × HasRead (R.to_come reader) (R.to_come result.reader)
-        (R.faults reader) (R.faults result.reader) (R.calls_left result.reader) result.end bytes
-        × IsReceived (Holds T.takes) T.reads N 0 result.end result.answers.items bytes }
-    ensures calls { UsesFew (R.to_come reader) (R.to_come result.reader)
-        (R.faults reader) (R.faults result.reader)
-        (R.calls_left reader) (R.calls_left result.reader) 1 }
+    ensures received { Receives (Holds T.form.takes) T.form.reads N 0
+        (R.line reader) (R.line result.reader) result.end result.answers.items }
+    ensures calls { UsesFew (R.line reader) (R.line result.reader) 1 }
 {
     receive_with_sentinel::<T, R, N>(alloc, reader, 0)
 }
@@ -112,12 +95,9 @@ pub fn receive_with_sentinel<T: DeserializeOwned, R: Inlet, const N: usize>(
     sentinel: u8,
 ) -> Received<T, R>
     requires { ReceiverFitsInMemory N.row }
-    ensures received { (bytes : List ℕ) × HasRead (R.to_come reader) (R.to_come result.reader)
-        (R.faults reader) (R.faults result.reader) (R.calls_left result.reader) result.end bytes
-        × IsReceived (Holds T.takes) T.reads N sentinel result.end result.answers.items bytes }
-    ensures calls { UsesFew (R.to_come reader) (R.to_come result.reader)
-        (R.faults reader) (R.faults result.reader)
-        (R.calls_left reader) (R.calls_left result.reader) 1 }
+    ensures received { Receives (Holds T.form.takes) T.form.reads N sentinel
+        (R.line reader) (R.line result.reader) result.end result.answers.items }
+    ensures calls { UsesFew (R.line reader) (R.line result.reader) 1 }
 {
     let mut receiver = Receiver::<N>::new_with_sentinel(sentinel);
     receive_by(alloc, &Ordinary(OfType), reader, &mut receiver)
@@ -130,12 +110,9 @@ pub fn receive_strict<T: DeserializeOwned + Exact, R: Inlet, const N: usize>(
     reader: R,
 ) -> Received<T, R>
     requires { ReceiverFitsInMemory N.row }
-    ensures received { (bytes : List ℕ) × HasRead (R.to_come reader) (R.to_come result.reader)
-        (R.faults reader) (R.faults result.reader) (R.calls_left result.reader) result.end bytes
-        × IsReceived (HoldsExactly T.takes) T.reads N 0 result.end result.answers.items bytes }
-    ensures calls { UsesFew (R.to_come reader) (R.to_come result.reader)
-        (R.faults reader) (R.faults result.reader)
-        (R.calls_left reader) (R.calls_left result.reader) 1 }
+    ensures received { Receives (HoldsExactly T.form.takes) T.form.reads N 0
+        (R.line reader) (R.line result.reader) result.end result.answers.items }
+    ensures calls { UsesFew (R.line reader) (R.line result.reader) 1 }
 {
     receive_strict_with_sentinel::<T, R, N>(alloc, reader, 0)
 }
@@ -147,13 +124,9 @@ pub fn receive_strict_with_sentinel<T: DeserializeOwned + Exact, R: Inlet, const
     sentinel: u8,
 ) -> Received<T, R>
     requires { ReceiverFitsInMemory N.row }
-    ensures received { (bytes : List ℕ) × HasRead (R.to_come reader) (R.to_come result.reader)
-        (R.faults reader) (R.faults result.reader) (R.calls_left result.reader) result.end bytes
-        × IsReceived (HoldsExactly T.takes) T.reads N sentinel
-        result.end result.answers.items bytes }
-    ensures calls { UsesFew (R.to_come reader) (R.to_come result.reader)
-        (R.faults reader) (R.faults result.reader)
-        (R.calls_left reader) (R.calls_left result.reader) 1 }
+    ensures received { Receives (HoldsExactly T.form.takes) T.form.reads N sentinel
+        (R.line reader) (R.line result.reader) result.end result.answers.items }
+    ensures calls { UsesFew (R.line reader) (R.line result.reader) 1 }
 {
     let mut receiver = Receiver::<N>::new_with_sentinel(sentinel);
     receive_by(alloc, &Strict(OfType), reader, &mut receiver)
@@ -179,12 +152,9 @@ pub fn receive_owned<T: DeserializeOwned, R: Inlet>(
     sentinel: u8,
 ) -> Received<T, R>
     ensures received { IsUnmade reader result.reader result.end result.answers.items
-        ⊎ ((bytes : List ℕ) × HasRead (R.to_come reader) (R.to_come result.reader)
-        (R.faults reader) (R.faults result.reader) (R.calls_left result.reader) result.end bytes
-        × IsReceived (Holds T.takes) T.reads limit sentinel result.end result.answers.items bytes) }
-    ensures calls { UsesFew (R.to_come reader) (R.to_come result.reader)
-        (R.faults reader) (R.faults result.reader)
-        (R.calls_left reader) (R.calls_left result.reader) 1 }
+        ⊎ Receives (Holds T.form.takes) T.form.reads limit sentinel
+        (R.line reader) (R.line result.reader) result.end result.answers.items }
+    ensures calls { UsesFew (R.line reader) (R.line result.reader) 1 }
 {
     match OwnedReceiver::new(alloc, limit, sentinel) {
         Ok(mut receiver) => receive_by(alloc, &Ordinary(OfType), reader, &mut receiver),
@@ -201,13 +171,9 @@ pub fn receive_owned_strict<T: DeserializeOwned + Exact, R: Inlet>(
     sentinel: u8,
 ) -> Received<T, R>
     ensures received { IsUnmade reader result.reader result.end result.answers.items
-        ⊎ ((bytes : List ℕ) × HasRead (R.to_come reader) (R.to_come result.reader)
-        (R.faults reader) (R.faults result.reader) (R.calls_left result.reader) result.end bytes
-        × IsReceived (HoldsExactly T.takes) T.reads limit sentinel
-        result.end result.answers.items bytes) }
-    ensures calls { UsesFew (R.to_come reader) (R.to_come result.reader)
-        (R.faults reader) (R.faults result.reader)
-        (R.calls_left reader) (R.calls_left result.reader) 1 }
+        ⊎ Receives (HoldsExactly T.form.takes) T.form.reads limit sentinel
+        (R.line reader) (R.line result.reader) result.end result.answers.items }
+    ensures calls { UsesFew (R.line reader) (R.line result.reader) 1 }
 {
     match OwnedReceiver::new(alloc, limit, sentinel) {
         Ok(mut receiver) => receive_by(alloc, &Strict(OfType), reader, &mut receiver),

@@ -19,7 +19,7 @@ pub enum Answer<T> {
 }
 
 /// No memory was found for a value, or for the buffer of an `OwnedReceiver`. Only types whose values can ask for memory
-/// (`Readable::grows`) are answered by this, and only for a stretch that is a frame within the limit.
+/// (`Grows::grows`) are answered by this, and only for a stretch that is a frame within the limit.
 #[derive(Clone, Copy, PartialEq, Eq, Debug, Drop, Error)]
 #[error("no memory")]
 pub struct NoMemory;

@@ -53,8 +53,8 @@ pub(crate) fn read<V, M: MessageReader<V>>(
     taken: Taken<&[u8]>,
 ) -> Result<Option<Answer<V>>, NoMemory>
     ensures replies { (limit : ℕ) (k : Course) → IsTaken limit k lent_message taken.entry
-        → Replies (M.holds messages.now) (M.reads messages.now) k.event result }
-    ensures memory { OnErr result (M.growing messages.now ≡ true) }
+        → Replies (M.judging messages.now).holds (M.judging messages.now).reads k.event result }
+    ensures memory { OnErr result ((M.judging messages.now).growing ≡ true) }
 {
     messages.show();
     match taken.found {
@@ -289,11 +289,12 @@ impl<D: Decoding> Reception<D> {
             → IsBehind D.inside limit s self.new (stream ++ take result.used piece.now) }
         ensures answers { (limit s : ℕ) (stream : List ℕ)
             → IsBehind D.inside limit s self.old stream
-            → Answered (Holds T.takes) T.reads limit s stream piece.now result.used result.answer }
+            → Answered (Holds T.form.takes) T.form.reads limit s stream piece.now result.used
+            result.answer }
         ensures stretch { (limit s : ℕ) (stream : List ℕ)
             → IsBehind D.inside limit s self.old stream
             → IsStretchOf s stream piece.now result.used result.answer result.stretch }
-        ensures memory { OnErr result.answer (T.growing ≡ true) }
+        ensures memory { OnErr result.answer (T.form.growing ≡ true) }
         ensures same { SameTerms D.inside self.old self.new }
     {
         self.push_with(alloc, &Ordinary(OfType), piece)
@@ -311,12 +312,13 @@ impl<D: Decoding> Reception<D> {
         ensures stands { (limit s : ℕ) (stream : List ℕ) → IsBehind D.inside limit s self.old stream
             → IsBehind D.inside limit s self.new (stream ++ take result.used piece.now) }
         ensures answers { (limit s : ℕ) (stream : List ℕ)
-            → IsBehind D.inside limit s self.old stream → Answered (HoldsExactly T.takes) T.reads
+            → IsBehind D.inside limit s self.old stream → Answered
+            (HoldsExactly T.form.takes) T.form.reads
             limit s stream piece.now result.used result.answer }
         ensures stretch { (limit s : ℕ) (stream : List ℕ)
             → IsBehind D.inside limit s self.old stream
             → IsStretchOf s stream piece.now result.used result.answer result.stretch }
-        ensures memory { OnErr result.answer (T.growing ≡ true) }
+        ensures memory { OnErr result.answer (T.form.growing ≡ true) }
         ensures same { SameTerms D.inside self.old self.new }
     {
         self.push_with(alloc, &Strict(OfType), piece)
@@ -336,12 +338,12 @@ impl<D: Decoding> Reception<D> {
             → IsBehind D.inside limit s self.new (stream ++ take result.used piece.now) }
         ensures answers { (limit s : ℕ) (stream : List ℕ)
             → IsBehind D.inside limit s self.old stream
-            → Answered (M.holds messages.now) (M.reads messages.now)
+            → Answered (M.judging messages.now).holds (M.judging messages.now).reads
             limit s stream piece.now result.used result.answer }
         ensures stretch { (limit s : ℕ) (stream : List ℕ)
             → IsBehind D.inside limit s self.old stream
             → IsStretchOf s stream piece.now result.used result.answer result.stretch }
-        ensures memory { OnErr result.answer (M.growing messages.now ≡ true) }
+        ensures memory { OnErr result.answer ((M.judging messages.now).growing ≡ true) }
         ensures same { SameTerms D.inside self.old self.new }
     {
         let taken = self.take(piece);

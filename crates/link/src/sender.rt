@@ -1,6 +1,5 @@
 //! Sending values over a line that may fail.
-ghost use Rattle.std.specs.Prelude.{◌≡◌, ℕ, ◌+◌, ◌<◌, ◌≤◌, ◌++◌, ◌∷◌, List, [], length, take, false, IsTrue, IfSome, IfNone, OnOk, if◌then◌else◌};
-ghost use Rattle.cobs.specs.Sentinel.{masked};
+ghost use Rattle.std.specs.Prelude.{◌≡◌, ◌<◌, false};
 
 use crate::framed::frame_into_with_sentinel;
 use crate::writing::put_frame;
@@ -36,8 +35,7 @@ pub struct Sender<W, const N: usize> {
 }
 
 impl<W: Outlet, const N: usize> Sender<W, N> {
-    ghost use Rattle.line_io.specs.Transfers.{Failed};
-    ghost use Rattle.link.specs.Senders.{writer_of, clean_of, sentinel_of, HasSent, UnlessRefusal, OnRefusal, OnLine};
+    ghost use Rattle.link.specs.Senders.{writer_of, clean_of, sentinel_of, HasSent, OnRefusal, sender_place};
 
     /// A sender that hasn't written anything, and isn't clean. The caller owes that N is at least 1.
     pub fn new(writer: W) -> Sender<W, N>
@@ -109,23 +107,9 @@ impl<W: Outlet, const N: usize> Sender<W, N> {
     /// The frame is whole in the sender's own buffer before its first byte goes out. No memory is taken, and nothing is tried
     /// twice: after `Line` the caller may send the value again, and a receiver may then hear it twice.
     pub fn send<T: Serialize>(&mut self, value: &T) -> Result<(), SendError>
-        ensures sent { HasSent N (sentinel_of self.old) (T.writes value.now)
-            (clean_of self.old) (clean_of self.new)
-            (W.written (writer_of self.old)) (W.written (writer_of self.new))
-            (W.faults (writer_of self.old)) (W.faults (writer_of self.new)) result }
-        ensures sentinel { sentinel_of self.new ≡ sentinel_of self.old }
-        ensures valid { UnlessRefusal result (T.valid value.now) }
+        ensures sent { HasSent N (T.writes value.now) (T.valid value.now)
+            (sender_place W.line self.old) (sender_place W.line self.new) result }
         ensures refused { OnRefusal result (writer_of self.new ≡ writer_of self.old) }
-        ensures calls { W.calls_left (writer_of self.new) ≤ W.calls_left (writer_of self.old) }
-        // It makes at most so many: one for each byte that can go out.
-        ensures few { W.calls_left (writer_of self.old)
-            ≤ W.calls_left (writer_of self.new) + (N + 2) }
-        // At most one of its writes fails or takes nothing: nothing is tried twice.
-        ensures once { W.faults (writer_of self.new) ≤ W.faults (writer_of self.old) + 1 }
-        ensures done { OnOk result (W.faults (writer_of self.new) ≡ W.faults (writer_of self.old)) }
-        ensures line { OnLine result
-            (Failed (W.faults (writer_of self.old)) (W.faults (writer_of self.new))
-            (W.calls_left (writer_of self.new))) }
     {
         let n = match frame_into_with_sentinel(value, &mut self.buffer, self.sentinel) {
             Ok(n) => n,

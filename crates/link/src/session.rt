@@ -22,9 +22,7 @@ pub enum Fate {
 fn send_one<T: Serialize, W: Outlet, const N: usize>(sender: &mut Sender<W, N>, value: &T) -> Fate
     ensures one { SendsOne N (sentinel_of sender.old) (T.writes value.now) (T.valid value.now)
         (clean_of sender.old) (clean_of sender.new)
-        (W.written (writer_of sender.old)) (W.written (writer_of sender.new))
-        (W.faults (writer_of sender.old)) (W.faults (writer_of sender.new))
-        (W.calls_left (writer_of sender.old)) (W.calls_left (writer_of sender.new)) result }
+        (W.line (writer_of sender.old)) (W.line (writer_of sender.new)) result }
     ensures sentinel { sentinel_of sender.new ≡ sentinel_of sender.old }
 {
     match sender.send(value) {
@@ -45,9 +43,7 @@ fn send_all<T: Serialize, W: Outlet, const N: usize>(
     requires { length values.now ≡ length fates.old }
     ensures { SendsAll N (sentinel_of sender.old) T.writes T.valid
         (clean_of sender.old) (clean_of sender.new)
-        (W.written (writer_of sender.old)) (W.written (writer_of sender.new))
-        (W.faults (writer_of sender.old)) (W.faults (writer_of sender.new))
-        (W.calls_left (writer_of sender.old)) (W.calls_left (writer_of sender.new))
+        (W.line (writer_of sender.old)) (W.line (writer_of sender.new))
         values.now fates.new }
 {
     for i in 0..values.len() {
@@ -69,8 +65,7 @@ pub fn send_each<T: Serialize, W: Outlet, const N: usize>(
     requires some { 0 < N }
     requires fits { SenderFitsInMemory W.row N.row }
     ensures { (later : Bool) × SendsAll N 0 T.writes T.valid false later
-        (W.written writer) (W.written result) (W.faults writer) (W.faults result)
-        (W.calls_left writer) (W.calls_left result) values.now fates.new }
+        (W.line writer) (W.line result) values.now fates.new }
 {
     send_each_with_sentinel::<T, W, N>(writer, values, fates, 0)
 }
@@ -86,8 +81,7 @@ pub fn send_each_with_sentinel<T: Serialize, W: Outlet, const N: usize>(
     requires some { 0 < N }
     requires fits { SenderFitsInMemory W.row N.row }
     ensures { (later : Bool) × SendsAll N sentinel T.writes T.valid false later
-        (W.written writer) (W.written result) (W.faults writer) (W.faults result)
-        (W.calls_left writer) (W.calls_left result) values.now fates.new }
+        (W.line writer) (W.line result) values.now fates.new }
 {
     let mut sender = Sender::<W, N>::new_with_sentinel(writer, sentinel);
     send_all(&mut sender, values, fates);

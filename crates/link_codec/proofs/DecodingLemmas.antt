@@ -7,13 +7,17 @@ use Rattle.std.proofs.lemmas.Bool.{cases_lt}
 use Rattle.std.proofs.Math.Seq.{take-append-add, drop-append-add}
 use Rattle.std.proofs.lemmas.List.{take-append-le, take_all, drop_all}
 use Rattle.postcard_tree.specs.Tree.{Tree}
+use Rattle.link.specs.declared.decoding.Decoding.{Ghosts}
+use Rattle.link.specs.Judged.{Judging}
 use Rattle.link.specs.Stream.{Verdict, Given, kept, begun}
 use Rattle.link.specs.Pushes.{IsPush, IsLost, IsLeast, IsBegun, Answered, listed, finished}
 use Rattle.link.specs.declared.receiver.Answer.{Answer}
 use Rattle.link.specs.declared.receiver.NoMemory.{NoMemory as NoAnswer}
 use Rattle.link_codec.specs.declared.error.DecodeError.{DecodeError}
 use Rattle.link_codec.specs.declared.error.DecodeError.TheVariants.{NoMemory, Io}
-use Rattle.link_codec.specs.Gives.{GivenBy, Adds, AddsNothing, Ends, gives_answers}
+use Rattle.link_codec.specs.Decoders.{IsGiven, IsGivenTo, messages_in, gives_judged}
+use Rattle.link_codec.specs.declared.decoder.AnswerDecoder.{AnswerDecoder}
+use Rattle.link_codec.specs.Gives.{GivenBy, AddsAnswer, AddsNothing, gives_answers}
 use Rattle.tokio_util.specs.Codec.Next.{Next, Decodes, DecodesAtEnd, decoded, partial, at_end}
 use Rattle.tokio_util.proofs.CodecLemmas.Next.{Resumes_now, DecodesAtEnd_from_end}
 
@@ -75,7 +79,7 @@ module _ {C V : Type 0} (IsGiven : GivenBy C) (holds : List ℕ → Tree → Typ
       subst (λ n. IsPush holds limit s stream (xs ++ more) n None) (sym (length-append xs more))
       (push_joined holds limit s stream xs more (length more) (nothing limit s stream i) None (h limit s (stream ++ xs) (given limit s stream i)))
 
-  adds_joined : (more : List ℕ) (n : ℕ) (r : Result (Answer V) DecodeError) → Adds IsGiven holds reads growing t more n r → Adds IsGiven holds reads growing d (xs ++ more) (length xs + n) r
+  adds_joined : (more : List ℕ) (n : ℕ) (r : Result (Answer V) DecodeError) → AddsAnswer IsGiven holds reads growing t more n r → AddsAnswer IsGiven holds reads growing d (xs ++ more) (length xs + n) r
   adds_joined more n (Ok a) h = λ limit s stream i.
       answered_joined holds reads limit s stream xs more n a (nothing limit s stream i) (h limit s (stream ++ xs) (given limit s stream i))
   adds_joined more n (Err NoMemory) h = (
@@ -136,15 +140,25 @@ module _ {C V : Type 0} (IsGiven : GivenBy C) (holds : List ℕ → Tree → Typ
           (λ more next h. resumes_from IsGiven holds reads growing d t xs (given_all e) (nothing_added e) more next (subst (λ zs. gives_answers IsGiven holds reads growing t (zs ++ more) next) empty h)),
         )
 
-module _ {C V : Type 0} (IsGiven : GivenBy C) (holds : List ℕ → Tree → Type 0) (reads : Tree → V → Type 0) (growing : Bool) (d m t : C) (xs ys : List ℕ) (last : Option (Answer V)) (decodes : Decodes (gives_answers IsGiven holds reads growing) d xs (Ok None) m ys) (empty : ys ≡ [])
-    (anew : (limit s : ℕ) (stream : List ℕ) → IsGiven limit s m stream → IsGiven limit s t []) (answer : (limit s : ℕ) (stream : List ℕ) → IsGiven limit s m stream → last ≡ finished (begun limit s stream)) where
-  ends_here : Ends IsGiven holds reads growing m ys (Ok last) t ys
-  ends_here = record {
-    nothing = decodes.0;
-    rest = empty;
-    anew = anew;
-    answer = λ limit s stream i. ap (λ o. Ok o) (answer limit s stream i) ∙ ap (λ x. Ok (finished (begun limit s x))) (sym (append-nil stream) ∙ ap (λ zs. stream ++ zs) (sym empty));
-  }
+module _ {V M D : Type 0} {g : Ghosts D} (judging : M → Judging V) where
+  -- a decoder whose reader of messages is the same decodes as that reader judges
+  pub decodes_judged : (d t : AnswerDecoder V M D g) (xs ys : List ℕ) (o : Option (Answer V)) → messages_in t ≡ messages_in d
+      → Decodes (gives_answers (IsGivenTo (messages_in d)) (judging (messages_in d)).holds (judging (messages_in d)).reads (judging (messages_in d)).growing) d xs (Ok o) t ys → Decodes (gives_judged judging) d xs (Ok o) t ys
+  decodes_judged d t xs ys (Some a) e h = h
+  decodes_judged d t xs ys None e h =
+      let at : M → List ℕ → Next (AnswerDecoder V M D g) (Answer V) DecodeError → Type 0 = λ m zs next. gives_answers (IsGivenTo m) (judging m).holds (judging m).reads (judging m).growing t zs next in
+      (subst (λ m. at m ys partial) (sym e) h.0, λ more next k. h.1 more next (subst (λ m. at m (ys ++ more) next) e k))
 
-  pub decodes_end : DecodesAtEnd (gives_answers IsGiven holds reads growing) d xs (Ok last) t ys
-  decodes_end = DecodesAtEnd_from_end (gives_answers IsGiven holds reads growing) d xs (Ok last) t ys (Resumes_now (gives_answers IsGiven holds reads growing) d xs m ys (at_end (Ok last) t ys) decodes.1 ends_here)
+  -- a decoder of which nothing is left ends its stream, and begins anew
+  pub decodes_end : (d m t : AnswerDecoder V M D g) (xs ys : List ℕ) (last : Option (Answer V)) → Decodes (gives_judged judging) d xs (Ok None) m ys → ys ≡ []
+      → ((limit s : ℕ) (stream : List ℕ) → IsGiven limit s m stream → IsGiven limit s t []) → messages_in t ≡ messages_in m
+      → ((limit s : ℕ) (stream : List ℕ) → IsGiven limit s m stream → last ≡ finished (begun limit s stream)) → DecodesAtEnd (gives_judged judging) d xs (Ok last) t ys
+  decodes_end d m t xs ys last decodes empty anew same answer =
+      let gives = gives_judged judging in
+      let ends : gives m ys (at_end (Ok last) t ys) = record {
+        nothing = decodes.0;
+        rest = empty;
+        anew = λ limit s stream i. (anew limit s stream i.0, same ∙ i.1);
+        answer = λ limit s stream i. ap (λ o. Ok o) (answer limit s stream i.0) ∙ ap (λ x. Ok (finished (begun limit s x))) (sym (append-nil stream) ∙ ap (λ zs. stream ++ zs) (sym empty));
+      } in
+      DecodesAtEnd_from_end gives d xs (Ok last) t ys (Resumes_now gives d xs m ys (at_end (Ok last) t ys) decodes.1 ends)

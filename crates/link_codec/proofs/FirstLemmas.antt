@@ -4,17 +4,20 @@ use Rattle.std.proofs.lemmas.List.{take-append-drop}
 use Rattle.std.proofs.lemmas.List.Elements.{All-head, All-tail}
 use Rattle.std.specs.declared.io.Error.{Error}
 use Rattle.postcard_tree.specs.Tree.{Tree}
+use Rattle.link.specs.declared.decoding.Decoding.{Ghosts}
+use Rattle.link.specs.Judged.{Judging}
 use Rattle.link.specs.Listening.{HasGiven}
 use Rattle.link.specs.declared.receiver.Answer.{Answer}
 use Rattle.link_codec.specs.declared.error.DecodeError.{DecodeError}
+use Rattle.link_codec.specs.Decoders.{IsGiven as Given, IsGivenTo, messages_in, gives_judged, judged_stable}
+use Rattle.link_codec.specs.declared.decoder.AnswerDecoder.{AnswerDecoder}
 use Rattle.link_codec.specs.Gives.{GivenBy, gives_answers}
-use Rattle.link_codec.specs.Laws.{answers_stable}
 use Rattle.link_codec.specs.Whole.{answers_of, IsOfReader, Begins, IsHeardOf, IsAnsweredSoFar}
 use Rattle.link_codec.proofs.KeptLemmas.{kept_given, none_given}
-use Rattle.link_codec.proofs.WholeLemmas.{none_decoded, none_ended, ended_on}
+use Rattle.link_codec.proofs.WholeLemmas.{none_decoded, none_ended, ended_on, as_judged}
 use Rattle.tokio.specs.Io.Moved.{Passes, PassesInOrder}
 use Rattle.tokio.specs.Io.Steps.{Yields, answers, passes, waits}
-use Rattle.tokio_util.specs.Codec.Next.{Gives, decoded, at_end, Resumes, IsStable}
+use Rattle.tokio_util.specs.Codec.Next.{Next, Gives, decoded, at_end, Resumes, IsStable}
 use Rattle.tokio_util.specs.Codec.Framing.{unframed, as_last, IsReading, SawEnd}
 use Rattle.tokio_util.specs.Codec.Framed.{Reads, PollsFrame}
 use Rattle.tokio_util.specs.Codec.Whole.{EndIsFinal}
@@ -86,36 +89,42 @@ module _ {T D X E : Type 0} (reads : Passes T) (is_at_end : T → Type 0) (fails
         | inr rests ↦ absurd rests
       ])
 
-module _ {C V : Type 0} (IsGiven : GivenBy C) (holds : List ℕ → Tree → Type 0) (reads : Tree → V → Type 0) (growing : Bool) where
-  no_more : (limit s : ℕ) (d : C) (xs : List ℕ) (items : List (Result (Answer V) DecodeError)) → xs ≡ [] → IsGiven limit s d [] → All IsOk items → ReadsFirst (gives_answers IsGiven holds reads growing) d xs items → answers_of items ≡ []
-  no_more limit s _ _ _ e b oks (whole d xs (Ok a) t ys rest h later) = absurd (none_decoded IsGiven holds reads growing limit s d t xs ys a e b h)
+module _ {C V : Type 0} (IsGiven : GivenBy C) (holds : List ℕ → Tree → Type 0) (reads : Tree → V → Type 0) (growing : Bool) (gives : Gives C (Answer V) DecodeError)
+    (gives_so : (limit s : ℕ) (stream : List ℕ) (d : C) (xs : List ℕ) (next : Next C (Answer V) DecodeError) → IsGiven limit s d stream → gives d xs next → gives_answers IsGiven holds reads growing d xs next) where
+  no_more : (limit s : ℕ) (d : C) (xs : List ℕ) (items : List (Result (Answer V) DecodeError)) → xs ≡ [] → IsGiven limit s d [] → All IsOk items → ReadsFirst gives d xs items → answers_of items ≡ []
+  no_more limit s _ _ _ e b oks (whole d xs (Ok a) t ys rest h later) = absurd (none_decoded IsGiven holds reads growing limit s d t xs ys a e b (gives_so limit s [] d xs (decoded (Ok a) t ys) b h))
   no_more limit s _ _ _ e b oks (whole d xs (Err f) t ys rest h later) = let wrong : is_ok {T = Answer V} (Err f) ≡ true = All-head IsOk (Err f) rest oks in cc
-  no_more limit s _ _ _ e b oks (last d xs (Ok a) t ys rest h later) = absurd (none_ended IsGiven holds reads growing limit s d t xs ys a e b h)
+  no_more limit s _ _ _ e b oks (last d xs (Ok a) t ys rest h later) = absurd (none_ended IsGiven holds reads growing limit s d t xs ys a e b (gives_so limit s [] d xs (at_end (Ok (Some a)) t ys) b h))
   no_more limit s _ _ _ e b oks (last d xs (Err f) t ys rest h later) = let wrong : is_ok {T = Answer V} (Err f) ≡ true = All-head IsOk (Err f) rest oks in cc
   no_more limit s _ _ _ e b oks (stopped d xs) = refl
 
-  pub read_first : (limit s : ℕ) (d : C) (xs : List ℕ) (items : List (Result (Answer V) DecodeError)) → ReadsFirst (gives_answers IsGiven holds reads growing) d xs items → All IsOk items → (stream : List ℕ) (told : List (Answer V)) → IsGiven limit s d stream → HasGiven holds reads limit s told stream
+  pub read_first : (limit s : ℕ) (d : C) (xs : List ℕ) (items : List (Result (Answer V) DecodeError)) → ReadsFirst gives d xs items → All IsOk items → (stream : List ℕ) (told : List (Answer V)) → IsGiven limit s d stream → HasGiven holds reads limit s told stream
       → IsHeardOf holds reads limit s (told ++ answers_of items) (stream ++ xs)
-  read_first limit s _ _ _ (whole d xs (Ok a) t ys rest (n, k, h) later) oks stream told b g =
+  read_first limit s _ _ _ (whole d xs (Ok a) t ys rest found later) oks stream told b g =
+      let (n, k, h) = gives_so limit s stream d xs (decoded (Ok a) t ys) b found in
       let next = kept_given holds reads limit s stream xs told (told ++ a ∷ []) n (Ok (Some a)) g (h limit s stream b) refl in
       let all = read_first limit s t ys rest later (All-tail IsOk (Ok a) rest oks) (stream ++ take n xs) (told ++ a ∷ []) (k.given limit s stream b) next in
       let bytes : (stream ++ take n xs) ++ ys ≡ stream ++ xs = append_assoc stream (take n xs) ys ∙ ap (λ x. stream ++ (take n xs ++ x)) k.rest ∙ ap (λ x. stream ++ x) (take-append-drop n xs) in
       subst (λ x. IsHeardOf holds reads limit s x (stream ++ xs)) (append_assoc told (a ∷ []) (answers_of rest))
       (subst (λ x. IsHeardOf holds reads limit s ((told ++ a ∷ []) ++ answers_of rest) x) bytes all)
   read_first limit s _ _ _ (whole d xs (Err f) t ys rest h later) oks stream told b g = let wrong : is_ok {T = Answer V} (Err f) ≡ true = All-head IsOk (Err f) rest oks in cc
-  read_first limit s _ _ _ (last d xs (Ok a) t ys rest h later) oks stream told b g =
+  read_first limit s _ _ _ (last d xs (Ok a) t ys rest found later) oks stream told b g =
+      let h = gives_so limit s stream d xs (at_end (Ok (Some a)) t ys) b found in
       let none = no_more limit s t ys rest h.rest (h.anew limit s stream b) (All-tail IsOk (Ok a) rest oks) later in
       inr (ended_on IsGiven holds reads growing limit s d t xs ys stream (Some a) told (told ++ a ∷ answers_of rest) h b g (ap (λ x. told ++ a ∷ x) none))
   read_first limit s _ _ _ (last d xs (Err f) t ys rest h later) oks stream told b g = let wrong : is_ok {T = Answer V} (Err f) ≡ true = All-head IsOk (Err f) rest oks in cc
   read_first limit s _ _ _ (stopped d xs) oks stream told b g = inl (stream, xs, refl, subst (λ x. HasGiven holds reads limit s x stream) (sym (append-nil told)) g)
 
-  module _ {R : Type 0} (gave : Passes R) (is_at_end : R → Type 0) (fails : R → Error → Type 0) (in_order : PassesInOrder gave) where
-    pub answered_so_far : (f : Reads R C) → IsAnsweredSoFar gave is_at_end fails (λ d. d) IsGiven (gives_answers IsGiven holds reads growing) holds reads f
-    answered_so_far f limit s items next final begins oks yielded =
-        let all = first_frames gave is_at_end fails (gives_answers IsGiven holds reads growing) IsOfReader in_order final (answers_stable IsGiven holds reads growing) f items next yielded oks (inl begins.reading) in
-        let read = subst (λ zs. ReadsFirst (gives_answers IsGiven holds reads growing) f.codec (zs ++ all.0) items) begins.none all.3 in (
-          all.0,
-          all.1,
-          all.2,
-          read_first limit s f.codec all.0 items read oks [] [] begins.given (none_given holds reads limit s),
-        )
+module _ {V M D R : Type 0} {g : Ghosts D} (judging : M → Judging V) (gave : Passes R) (is_at_end : R → Type 0) (fails : R → Error → Type 0) (in_order : PassesInOrder gave) where
+  pub answered_so_far : (f : Reads R (AnswerDecoder V M D g)) → IsAnsweredSoFar gave is_at_end fails (λ d. d) Given (gives_judged judging) (λ d. judging (messages_in d)) f
+  answered_so_far f limit s items next final begins oks yielded =
+      let gives = gives_judged judging in
+      let m = messages_in f.codec in
+      let all = first_frames gave is_at_end fails gives IsOfReader in_order final (judged_stable judging) f items next yielded oks (inl begins.reading) in
+      let read = subst (λ zs. ReadsFirst gives f.codec (zs ++ all.0) items) begins.none all.3 in (
+        all.0,
+        all.1,
+        all.2,
+        read_first (IsGivenTo m) (judging m).holds (judging m).reads (judging m).growing gives (as_judged judging m) limit s f.codec all.0 items read oks [] [] (begins.given, refl)
+            (none_given (judging m).holds (judging m).reads limit s),
+      )

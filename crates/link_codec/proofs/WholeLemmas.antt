@@ -4,19 +4,23 @@ use Rattle.std.proofs.lemmas.List.{take_all, take-append-drop}
 use Rattle.std.proofs.lemmas.List.Elements.{All-head, All-tail}
 use Rattle.std.specs.declared.io.Error.{Error}
 use Rattle.postcard_tree.specs.Tree.{Tree}
+use Rattle.link.specs.declared.decoding.Decoding.{Ghosts}
+use Rattle.link.specs.Judged.{Judging}
 use Rattle.link.specs.Stream.{kept, begun}
 use Rattle.link.specs.Pushes.{IsPush, finished}
 use Rattle.link.specs.Listening.{HasGiven, HasAnswered, KeepsAnswer}
 use Rattle.link.specs.declared.receiver.Answer.{Answer}
 use Rattle.link_codec.specs.declared.error.DecodeError.{DecodeError}
 use Rattle.link_codec.specs.Beside.{gives_beside, stable_beside}
+use Rattle.link_codec.specs.Decoders.{IsGiven as Given, IsGivenTo, messages_in, gives_judged, judged_stable}
+use Rattle.link_codec.specs.declared.decoder.AnswerDecoder.{AnswerDecoder}
 use Rattle.link_codec.specs.Gives.{GivenBy, AddsNothing, Ends, gives_answers}
 use Rattle.link_codec.proofs.KeptLemmas.{none_begun, kept_given, ended_by, none_given}
-use Rattle.link_codec.specs.Laws.{no_push, answers_stable}
+use Rattle.link_codec.specs.Laws.{no_push}
 use Rattle.link_codec.specs.Whole.{answers_of, IsOfReader, Begins, IsAnsweredWhole}
 use Rattle.link_codec.proofs.DecodingLemmas.{push_none}
 use Rattle.tokio.specs.Io.Moved.{Passes, PassesInOrder}
-use Rattle.tokio_util.specs.Codec.Next.{Gives, decoded, at_end}
+use Rattle.tokio_util.specs.Codec.Next.{Next, Gives, decoded, at_end}
 use Rattle.tokio_util.specs.Codec.Framed.{Reads}
 use Rattle.tokio_util.specs.Codec.Whole.{ReadsAll, whole_frame, last_frame, no_frame}
 use Rattle.tokio_util.proofs.CodecLemmas.Whole.{all_frames}
@@ -41,13 +45,6 @@ module _ {C V : Type 0} (IsGiven : GivenBy C) (holds : List ℕ → Tree → Typ
   none_ended limit s d t xs ys a e b h =
       let same : Ok (Some a) ≡ Ok (finished (kept [])) = h.answer limit s [] b ∙ ap (λ zs. Ok (finished (begun limit s zs))) e ∙ ap (λ p. Ok (finished p)) (none_begun limit s) in cc
 
-  no_item : (limit s : ℕ) (d : C) (xs : List ℕ) (items : List (Result (Answer V) DecodeError)) → xs ≡ [] → IsGiven limit s d [] → All IsOk items → ReadsAll (gives_answers IsGiven holds reads growing) d xs items → answers_of items ≡ []
-  no_item limit s _ _ _ e b oks (whole_frame d xs (Ok a) t ys rest h later) = absurd (none_decoded limit s d t xs ys a e b h)
-  no_item limit s _ _ _ e b oks (whole_frame d xs (Err f) t ys rest h later) = let wrong : is_ok {T = Answer V} (Err f) ≡ true = All-head IsOk (Err f) rest oks in cc
-  no_item limit s _ _ _ e b oks (last_frame d xs (Ok a) t ys rest h later) = absurd (none_ended limit s d t xs ys a e b h)
-  no_item limit s _ _ _ e b oks (last_frame d xs (Err f) t ys rest h later) = let wrong : is_ok {T = Answer V} (Err f) ≡ true = All-head IsOk (Err f) rest oks in cc
-  no_item limit s _ _ _ e b oks (no_frame d xs t ys h) = refl
-
   -- what is given of a stream and bytes that add nothing
   given_on : (limit s : ℕ) (d : C) (xs stream : List ℕ) (answers : List (Answer V)) → AddsNothing IsGiven holds reads growing d xs → IsGiven limit s d stream → HasGiven holds reads limit s answers stream → HasGiven holds reads limit s answers (stream ++ xs)
   given_on limit s d xs stream answers nothing b g =
@@ -60,42 +57,58 @@ module _ {C V : Type 0} (IsGiven : GivenBy C) (holds : List ℕ → Tree → Typ
       ended_by holds limit s (stream ++ xs) reads answers new (given_on limit s d xs stream answers h.nothing b g)
       (keeps_by o (finished (begun limit s (stream ++ xs))) answers new (h.answer limit s stream b) k)
 
-  pub read_whole : (limit s : ℕ) (d : C) (xs : List ℕ) (items : List (Result (Answer V) DecodeError)) → ReadsAll (gives_answers IsGiven holds reads growing) d xs items → All IsOk items → (stream : List ℕ) (answers : List (Answer V)) → IsGiven limit s d stream → HasGiven holds reads limit s answers stream
-      → HasAnswered holds reads limit s (answers ++ answers_of items) (stream ++ xs)
-  read_whole limit s _ _ _ (whole_frame d xs (Ok a) t ys rest (n, k, h) later) oks stream answers b g =
-      let next = kept_given holds reads limit s stream xs answers (answers ++ a ∷ []) n (Ok (Some a)) g (h limit s stream b) refl in
-      let all = read_whole limit s t ys rest later (All-tail IsOk (Ok a) rest oks) (stream ++ take n xs) (answers ++ a ∷ []) (k.given limit s stream b) next in
-      let bytes : (stream ++ take n xs) ++ ys ≡ stream ++ xs = append_assoc stream (take n xs) ys ∙ ap (λ x. stream ++ (take n xs ++ x)) k.rest ∙ ap (λ x. stream ++ x) (take-append-drop n xs) in
-      subst (λ x. HasAnswered holds reads limit s x (stream ++ xs)) (append_assoc answers (a ∷ []) (answers_of rest))
-      (subst (λ x. HasAnswered holds reads limit s ((answers ++ a ∷ []) ++ answers_of rest) x) bytes all)
-  read_whole limit s _ _ _ (whole_frame d xs (Err f) t ys rest h later) oks stream answers b g = let wrong : is_ok {T = Answer V} (Err f) ≡ true = All-head IsOk (Err f) rest oks in cc
-  read_whole limit s _ _ _ (last_frame d xs (Ok a) t ys rest h later) oks stream answers b g =
-      let last = no_item limit s t ys rest h.rest (h.anew limit s stream b) (All-tail IsOk (Ok a) rest oks) later in
-      ended_on limit s d t xs ys stream (Some a) answers (answers ++ a ∷ answers_of rest) h b g (ap (λ x. answers ++ a ∷ x) last)
-  read_whole limit s _ _ _ (last_frame d xs (Err f) t ys rest h later) oks stream answers b g = let wrong : is_ok {T = Answer V} (Err f) ≡ true = All-head IsOk (Err f) rest oks in cc
-  read_whole limit s _ _ _ (no_frame d xs t ys h) oks stream answers b g = ended_on limit s d t xs ys stream None answers (answers ++ []) h b g (append-nil answers)
+  -- where a decoder that was given a stream gives so
+  module _ (gives : Gives C (Answer V) DecodeError) (gives_so : (limit s : ℕ) (stream : List ℕ) (d : C) (xs : List ℕ) (next : Next C (Answer V) DecodeError) → IsGiven limit s d stream → gives d xs next → gives_answers IsGiven holds reads growing d xs next) where
+    no_item : (limit s : ℕ) (d : C) (xs : List ℕ) (items : List (Result (Answer V) DecodeError)) → xs ≡ [] → IsGiven limit s d [] → All IsOk items → ReadsAll gives d xs items → answers_of items ≡ []
+    no_item limit s _ _ _ e b oks (whole_frame d xs (Ok a) t ys rest h later) = absurd (none_decoded limit s d t xs ys a e b (gives_so limit s [] d xs (decoded (Ok a) t ys) b h))
+    no_item limit s _ _ _ e b oks (whole_frame d xs (Err f) t ys rest h later) = let wrong : is_ok {T = Answer V} (Err f) ≡ true = All-head IsOk (Err f) rest oks in cc
+    no_item limit s _ _ _ e b oks (last_frame d xs (Ok a) t ys rest h later) = absurd (none_ended limit s d t xs ys a e b (gives_so limit s [] d xs (at_end (Ok (Some a)) t ys) b h))
+    no_item limit s _ _ _ e b oks (last_frame d xs (Err f) t ys rest h later) = let wrong : is_ok {T = Answer V} (Err f) ≡ true = All-head IsOk (Err f) rest oks in cc
+    no_item limit s _ _ _ e b oks (no_frame d xs t ys h) = refl
+
+    pub read_whole : (limit s : ℕ) (d : C) (xs : List ℕ) (items : List (Result (Answer V) DecodeError)) → ReadsAll gives d xs items → All IsOk items → (stream : List ℕ) (answers : List (Answer V)) → IsGiven limit s d stream → HasGiven holds reads limit s answers stream
+        → HasAnswered holds reads limit s (answers ++ answers_of items) (stream ++ xs)
+    read_whole limit s _ _ _ (whole_frame d xs (Ok a) t ys rest found later) oks stream answers b g =
+        let (n, k, h) = gives_so limit s stream d xs (decoded (Ok a) t ys) b found in
+        let next = kept_given holds reads limit s stream xs answers (answers ++ a ∷ []) n (Ok (Some a)) g (h limit s stream b) refl in
+        let all = read_whole limit s t ys rest later (All-tail IsOk (Ok a) rest oks) (stream ++ take n xs) (answers ++ a ∷ []) (k.given limit s stream b) next in
+        let bytes : (stream ++ take n xs) ++ ys ≡ stream ++ xs = append_assoc stream (take n xs) ys ∙ ap (λ x. stream ++ (take n xs ++ x)) k.rest ∙ ap (λ x. stream ++ x) (take-append-drop n xs) in
+        subst (λ x. HasAnswered holds reads limit s x (stream ++ xs)) (append_assoc answers (a ∷ []) (answers_of rest))
+        (subst (λ x. HasAnswered holds reads limit s ((answers ++ a ∷ []) ++ answers_of rest) x) bytes all)
+    read_whole limit s _ _ _ (whole_frame d xs (Err f) t ys rest h later) oks stream answers b g = let wrong : is_ok {T = Answer V} (Err f) ≡ true = All-head IsOk (Err f) rest oks in cc
+    read_whole limit s _ _ _ (last_frame d xs (Ok a) t ys rest found later) oks stream answers b g =
+        let h = gives_so limit s stream d xs (at_end (Ok (Some a)) t ys) b found in
+        let last = no_item limit s t ys rest h.rest (h.anew limit s stream b) (All-tail IsOk (Ok a) rest oks) later in
+        ended_on limit s d t xs ys stream (Some a) answers (answers ++ a ∷ answers_of rest) h b g (ap (λ x. answers ++ a ∷ x) last)
+    read_whole limit s _ _ _ (last_frame d xs (Err f) t ys rest h later) oks stream answers b g = let wrong : is_ok {T = Answer V} (Err f) ≡ true = All-head IsOk (Err f) rest oks in cc
+    read_whole limit s _ _ _ (no_frame d xs t ys h) oks stream answers b g =
+        ended_on limit s d t xs ys stream None answers (answers ++ []) (gives_so limit s stream d xs (at_end (Ok None) t ys) b h) b g (append-nil answers)
+
+module _ {V M D : Type 0} {g : Ghosts D} (judging : M → Judging V) where
+  -- a decoder gives as its reader of messages judges
+  pub as_judged : (m : M) (limit s : ℕ) (stream : List ℕ) (d : AnswerDecoder V M D g) (xs : List ℕ) (next : Next (AnswerDecoder V M D g) (Answer V) DecodeError) → IsGivenTo m limit s d stream → gives_judged judging d xs next
+      → gives_answers (IsGivenTo m) (judging m).holds (judging m).reads (judging m).growing d xs next
+  as_judged m limit s stream d xs next i h =
+      subst (λ n. gives_answers (IsGivenTo n) (judging n).holds (judging n).reads (judging n).growing d xs next) i.1 h
+
+  all_read : (limit s : ℕ) (d : AnswerDecoder V M D g) (xs : List ℕ) (items : List (Result (Answer V) DecodeError)) → ReadsAll (gives_judged judging) d xs items → All IsOk items → Given limit s d []
+      → HasAnswered (judging (messages_in d)).holds (judging (messages_in d)).reads limit s (answers_of items) xs
+  all_read limit s d xs items read oks given =
+      let j = judging (messages_in d) in
+      read_whole (IsGivenTo (messages_in d)) j.holds j.reads j.growing (gives_judged judging) (as_judged (messages_in d)) limit s d xs items read oks [] [] (given, refl) (none_given j.holds j.reads limit s)
 
   module _ {R : Type 0} (gave : Passes R) (is_at_end : R → Type 0) (fails : R → Error → Type 0) (in_order : PassesInOrder gave) where
-    pub answered_whole : (f : Reads R C) → IsAnsweredWhole gave is_at_end fails (λ d. d) IsGiven (gives_answers IsGiven holds reads growing) holds reads f
+    pub answered_whole : (f : Reads R (AnswerDecoder V M D g)) → IsAnsweredWhole gave is_at_end fails (λ d. d) Given (gives_judged judging) (λ d. judging (messages_in d)) f
     answered_whole f limit s items final begins oks yielded =
-        let all = all_frames gave is_at_end fails (gives_answers IsGiven holds reads growing) IsOfReader in_order final (answers_stable IsGiven holds reads growing) f items begins.reading oks yielded in
-        let read = subst (λ zs. ReadsAll (gives_answers IsGiven holds reads growing) f.codec (zs ++ all.0) items) begins.none all.4 in (
-          all.0,
-          all.1,
-          all.2,
-          all.3,
-          read_whole limit s f.codec all.0 items read oks [] [] begins.given (none_given holds reads limit s),
-        )
+        let all = all_frames gave is_at_end fails (gives_judged judging) IsOfReader in_order final (judged_stable judging) f items begins.reading oks yielded in
+        let read = subst (λ zs. ReadsAll (gives_judged judging) f.codec (zs ++ all.0) items) begins.none all.4 in
+        (all.0, all.1, all.2, all.3, all_read limit s f.codec all.0 items read oks begins.given)
 
     -- the same of a decoder with something beside it
-    pub answered_beside : {K B : Type 0} (decoder_in : K → C) (beside : K → B) (f : Reads R K) → IsAnsweredWhole gave is_at_end fails decoder_in IsGiven (gives_beside decoder_in beside (gives_answers IsGiven holds reads growing)) holds reads f
+    pub answered_beside : {K B : Type 0} (decoder_in : K → AnswerDecoder V M D g) (beside : K → B) (f : Reads R K)
+        → IsAnsweredWhole gave is_at_end fails decoder_in Given (gives_beside decoder_in beside (gives_judged judging)) (λ d. judging (messages_in d)) f
     answered_beside decoder_in beside f limit s items final begins oks yielded =
-        let gives = gives_answers IsGiven holds reads growing in
-        let all = all_frames gave is_at_end fails (gives_beside decoder_in beside gives) IsOfReader in_order final (stable_beside decoder_in beside gives (answers_stable IsGiven holds reads growing)) f items begins.reading oks yielded in
-        let read = subst (λ zs. ReadsAll (gives_beside decoder_in beside gives) f.codec (zs ++ all.0) items) begins.none all.4 in (
-          all.0,
-          all.1,
-          all.2,
-          all.3,
-          read_whole limit s (decoder_in f.codec) all.0 items (found_beside decoder_in beside gives f.codec all.0 items read) oks [] [] begins.given (none_given holds reads limit s),
-        )
+        let gives = gives_judged judging in
+        let all = all_frames gave is_at_end fails (gives_beside decoder_in beside gives) IsOfReader in_order final (stable_beside decoder_in beside gives (judged_stable judging)) f items begins.reading oks yielded in
+        let read = subst (λ zs. ReadsAll (gives_beside decoder_in beside gives) f.codec (zs ++ all.0) items) begins.none all.4 in
+        (all.0, all.1, all.2, all.3, all_read limit s (decoder_in f.codec) all.0 items (found_beside decoder_in beside gives f.codec all.0 items read) oks begins.given)

@@ -22,13 +22,13 @@ pub record Takes {C : Type 0} (IsGiven : GivenBy C) (d : C) (xs : List ℕ)
 
 module _ {C V : Type 0} (IsGiven : GivenBy C) (holds : List ℕ → Tree → Type 0) (reads : Tree → V → Type 0) (growing : Bool) where
   -- what the taken bytes add to the answers of the stream so far
-  abbrev pub Adds : C → List ℕ → ℕ → Result (Answer V) DecodeError → Type 0
-  Adds d xs used (Ok a) = (limit s : ℕ) (stream : List ℕ) → IsGiven limit s d stream
+  abbrev pub AddsAnswer : C → List ℕ → ℕ → Result (Answer V) DecodeError → Type 0
+  AddsAnswer d xs used (Ok a) = (limit s : ℕ) (stream : List ℕ) → IsGiven limit s d stream
       → Answered holds reads limit s stream xs used (Ok (Some a))
-  Adds d xs used (Err NoMemory) = (growing ≡ true)
+  AddsAnswer d xs used (Err NoMemory) = (growing ≡ true)
       × ((limit s : ℕ) (stream : List ℕ) → IsGiven limit s d stream
       → IsLost holds limit s stream xs used)
-  Adds d xs used (Err (Io e)) = ⊥
+  AddsAnswer d xs used (Err (Io e)) = ⊥
 
   -- they add nothing
   abbrev pub AddsNothing : C → List ℕ → Type 0
@@ -46,6 +46,6 @@ module _ {C V : Type 0} (IsGiven : GivenBy C) (holds : List ℕ → Tree → Typ
 
   -- what decoding gives: an answer that the used bytes add, none that a part adds, and what the end adds
   abbrev pub gives_answers : Gives C (Answer V) DecodeError
-  gives_answers d xs (decoded r t ys) = (used : ℕ) × Takes IsGiven d xs used t ys × Adds d xs used r
+  gives_answers d xs (decoded r t ys) = (used : ℕ) × Takes IsGiven d xs used t ys × AddsAnswer d xs used r
   gives_answers d xs partial = AddsNothing d xs
   gives_answers d xs (at_end r t ys) = Ends d xs r t ys

@@ -10,8 +10,8 @@ use Rattle.link.specs.Pushes.{IsPush, IsLost, IsLeast, Answered}
 use Rattle.link.specs.declared.receiver.Answer.{Answer}
 use Rattle.link_codec.specs.declared.error.DecodeError.{DecodeError}
 use Rattle.link_codec.specs.declared.error.DecodeError.TheVariants.{NoMemory, Io}
-use Rattle.link_codec.specs.Gives.{GivenBy, Adds, gives_answers}
-use Rattle.tokio_util.specs.Codec.Next.{IsStable, PartialHasNoFrame, EndIsPartial}
+use Rattle.link_codec.specs.Gives.{GivenBy, AddsAnswer, gives_answers}
+use Rattle.tokio_util.specs.Codec.Next.{decoded, partial, IsStable, EndIsPartial}
 
 zip_length : {A B : Type 0} (R : A → B → Type 0) (xs : List A) (us : List B) → AllZip R xs us
     → length us ≡ length xs
@@ -98,8 +98,8 @@ module _ {V : Type 0} (holds : List ℕ → Tree → Type 0) (reads : Tree → V
 
 module _ {C V : Type 0} (IsGiven : GivenBy C) (holds : List ℕ → Tree → Type 0) (reads : Tree → V → Type 0) (growing : Bool) where
   adds_append : (d : C) (xs more : List ℕ) (used : ℕ) (r : Result (Answer V) DecodeError)
-      → used ≤ length xs → Adds IsGiven holds reads growing d xs used r
-      → Adds IsGiven holds reads growing d (xs ++ more) used r
+      → used ≤ length xs → AddsAnswer IsGiven holds reads growing d xs used r
+      → AddsAnswer IsGiven holds reads growing d (xs ++ more) used r
   adds_append d xs more used (Ok a) within h = λ limit s stream i. answered_append holds reads limit s stream xs more used a within (h limit s stream i)
   adds_append d xs more used (Err NoMemory) within h = (h.0, λ limit s stream i. lost_append holds limit s stream xs more used within (h.1 limit s stream i))
   adds_append d xs more used (Err (Io e)) within h = absurd h
@@ -115,12 +115,13 @@ module _ {C V : Type 0} (IsGiven : GivenBy C) (holds : List ℕ → Tree → Typ
     adds_append d xs more used r k.within h,
   )
 
-  -- every decoder was given some stream
-  module _ (stands : (d : C) → ∥ ((limit : ℕ) × (s : ℕ) × (stream : List ℕ) × IsGiven limit s d stream) ∥₁) where
-    pub answers_partial : PartialHasNoFrame {D = C} (gives_answers IsGiven holds reads growing)
-    answers_partial d xs x t ys nothing (used, k, h) = ∥∥₁_elim (stands d) (λ a b. absurd a) (λ b.
-        let (a, says, push) = h b.0 b.1 b.2 b.3 in
-        no_push holds b.0 b.1 b.2 xs used says.0 k.within (nothing b.0 b.1 b.2 b.3) (subst (λ o. IsPush holds b.0 b.1 b.2 xs used o) says.2 push))
+  -- a decoder that was given some stream
+  pub answers_partial : (d : C) → ∥ ((limit : ℕ) × (s : ℕ) × (stream : List ℕ) × IsGiven limit s d stream) ∥₁
+      → (xs : List ℕ) (x : Answer V) (t : C) (ys : List ℕ) → gives_answers IsGiven holds reads growing d xs partial
+      → gives_answers IsGiven holds reads growing d xs (decoded (Ok x) t ys) → ⊥
+  answers_partial d stands xs x t ys nothing (used, k, h) = ∥∥₁_elim stands (λ a b. absurd a) (λ b.
+      let (a, says, push) = h b.0 b.1 b.2 b.3 in
+      no_push holds b.0 b.1 b.2 xs used says.0 k.within (nothing b.0 b.1 b.2 b.3) (subst (λ o. IsPush holds b.0 b.1 b.2 xs used o) says.2 push))
 
   pub answers_end : EndIsPartial {D = C} (gives_answers IsGiven holds reads growing)
   answers_end d xs r t ys h = h.nothing

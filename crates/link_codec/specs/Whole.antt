@@ -2,11 +2,12 @@
 use Rattle.std.specs.Prelude.{◌≡◌, ℕ, ◌⊎◌, Bool, List, [], ◌∷◌, ◌++◌, All, IsOk, Option, None, Result, Ok, Err}
 use Rattle.std.specs.declared.io.Error.{Error}
 use Rattle.postcard_tree.specs.Tree.{Tree}
+use Rattle.link.specs.Judged.{Judging}
 use Rattle.link.specs.Listening.{HasGiven, HasAnswered}
 use Rattle.link.specs.declared.receiver.Answer.{Answer}
 use Rattle.link_codec.specs.declared.error.DecodeError.{DecodeError}
 use Rattle.link_codec.specs.declared.error.DecodeError.TheVariants.{Io}
-use Rattle.link_codec.specs.Gives.{GivenBy, gives_answers}
+use Rattle.link_codec.specs.Gives.{GivenBy}
 use Rattle.tokio.specs.Io.Moved.{Passes}
 use Rattle.tokio.specs.Io.Steps.{Yields}
 use Rattle.tokio_util.specs.Codec.Next.{Gives}
@@ -38,7 +39,7 @@ IsHeardOf holds reads limit s answers stream = ((front : List ℕ) × (rest : Li
     × (stream ≡ front ++ rest) × HasGiven holds reads limit s answers front)
     ⊎ HasAnswered holds reads limit s answers stream
 
-module _ {R D C V : Type 0} (gave : Passes R) (is_at_end : R → Type 0) (fails : R → Error → Type 0) (decoder_in : D → C) (IsGiven : GivenBy C) (gives : Gives D (Answer V) DecodeError) (holds : List ℕ → Tree → Type 0) (reads : Tree → V → Type 0) (f : Reads R D) where
+module _ {R D C V : Type 0} (gave : Passes R) (is_at_end : R → Type 0) (fails : R → Error → Type 0) (decoder_in : D → C) (IsGiven : GivenBy C) (gives : Gives D (Answer V) DecodeError) (judging : C → Judging V) (f : Reads R D) where
   -- From a reader whose end is final, items that are no errors, up to the end, are the answers of all the bytes that it gave.
   abbrev pub IsAnsweredWhole : Type 0
   IsAnsweredWhole =
@@ -46,7 +47,8 @@ module _ {R D C V : Type 0} (gave : Passes R) (is_at_end : R → Type 0) (fails 
       → Begins decoder_in IsGiven limit s f → All IsOk items
       → Yields (PollsFrame gave is_at_end fails gives IsOfReader) f items None
       → (bytes : List ℕ) × (last : R) × gave f.io bytes last × is_at_end last
-      × HasAnswered holds reads limit s (answers_of items) bytes
+      × HasAnswered (judging (decoder_in f.codec)).holds (judging (decoder_in f.codec)).reads
+      limit s (answers_of items) bytes
 
   -- From a reader whose end is final, the items before an error, or before any other item or the end, are answers given of a front of
   -- the bytes that it gave, or all their answers.
@@ -57,4 +59,5 @@ module _ {R D C V : Type 0} (gave : Passes R) (is_at_end : R → Type 0) (fails 
       → EndIsFinal gave is_at_end → Begins decoder_in IsGiven limit s f → All IsOk items
       → Yields (PollsFrame gave is_at_end fails gives IsOfReader) f items next
       → (bytes : List ℕ) × (last : R) × gave f.io bytes last
-      × IsHeardOf holds reads limit s (answers_of items) bytes
+      × IsHeardOf (judging (decoder_in f.codec)).holds (judging (decoder_in f.codec)).reads
+      limit s (answers_of items) bytes

@@ -1,80 +1,72 @@
-//! Answers from a stream of bytes, with a limit that is part of the type.
+//! Answers from a stream of bytes.
 ghost use Rattle.std.specs.Prelude.{◌≡◌, ℕ, List, [], IfOk, IfNone};
-ghost use Rattle.link.specs.Decoding.{in_array};
 ghost use Rattle.link.specs.Receivers.{IsBehind};
 
 use crate::error::DecodeError;
-use crate::judges::{Judges, Ordinary, Strict};
 use bytes::BytesMut;
-use link::{Answer, NoMemory, Pushed, Receiver};
-use postcard::Readable;
+use link::{Answer, Decoding, MessageReader, NoMemory, Pushed, Reception};
 use std::marker::PhantomData;
 use tokio_util::codec::Decoder;
 
-/// Answers each stretch of a stream as a `Receiver<N>` does, with stretches of at most N bytes; N may be 0. By `J` it answers
-/// ordinarily or strictly: `LinkDecoder` and `StrictLinkDecoder` are the names of the two.
+/// Answers each stretch of a stream as its receiver does by its reader of messages. `LinkDecoder`, `StrictLinkDecoder`,
+/// `OwnedLinkDecoder` and `StrictOwnedLinkDecoder` are the names of those that read a type; `with` makes one of any receiver and any
+/// reader of messages, as one by a table of types.
 #[derive(Drop)]
-pub struct AnswerDecoder<T, J, const N: usize> {
-    receiver: Receiver<N>,
-    of: PhantomData<T>,
-    by: PhantomData<J>,
+pub struct AnswerDecoder<V, M, D: Decoding> {
+    receiver: Reception<D>,
+    messages: M,
+    of: PhantomData<V>,
     ghost stands: { ∥ ((limit : ℕ) × (s : ℕ) × (stream : List ℕ)
-        × IsBehind in_array limit s receiver stream) ∥₁ },
+        × IsBehind D.inside limit s receiver stream) ∥₁ },
 }
 
-/// Answers as `Receiver::push` does.
-pub type LinkDecoder<T, const N: usize> = AnswerDecoder<T, Ordinary, N>;
+impl<V, M, D: Decoding> AnswerDecoder<V, M, D> {
+    ghost use Rattle.link_codec.specs.Decoders.{IsGiven, messages_in};
 
-/// Answers as `Receiver::push_strict` does.
-pub type StrictLinkDecoder<T, const N: usize> = AnswerDecoder<T, Strict, N>;
-
-impl<T, J, const N: usize> AnswerDecoder<T, J, N> {
-    ghost use Rattle.link_codec.specs.Decoders.{IsGiven};
-
-    /// A decoder that was given nothing. Its sentinel is zero.
-    pub fn new() -> AnswerDecoder<T, J, N>
-        ensures { IsGiven N 0 result [] }
-    {
-        AnswerDecoder::<T, J, N>::new_with_sentinel(0)
-    }
-
-    /// A decoder that was given nothing, for a line with this sentinel.
-    pub fn new_with_sentinel(sentinel: u8) -> AnswerDecoder<T, J, N>
-        ensures { IsGiven N sentinel result [] }
+    /// A decoder that goes on where the receiver stands, and reads messages by this reader.
+    ///
+    /// The caller owes a receiver that was given some stream, as each one was that `Receiver::new` or `OwnedReceiver::new` made.
+    pub fn with(receiver: Reception<D>, messages: M) -> AnswerDecoder<V, M, D>
+        requires { (limit : ℕ) × (s : ℕ) × (stream : List ℕ)
+            × IsBehind D.inside limit s receiver stream }
+        ensures given { (limit s : ℕ) (stream : List ℕ) → IsBehind D.inside limit s receiver stream
+            → IsGiven limit s result stream }
+        ensures messages { messages_in result ≡ messages }
     {
         AnswerDecoder {
-            receiver: Receiver::<N>::new_with_sentinel(sentinel),
+            receiver,
+            messages,
             of: PhantomData,
-            by: PhantomData,
         }
     }
 }
 
-impl<T: Readable + Drop, J: Judges<T>, const N: usize> Decoder for AnswerDecoder<T, J, N> {
+impl<V: Drop, M: MessageReader<V> + Drop, D: Decoding + Drop> Decoder for AnswerDecoder<V, M, D> {
     ghost use Rattle.tokio_util.specs.Codec.Next.{Decodes};
-    ghost use Rattle.link_codec.specs.Decoders.{IsGiven, stands};
-    ghost use Rattle.link_codec.specs.Gives.{gives_answers};
-    ghost use Rattle.link_codec.specs.Laws.{answers_stable, answers_partial, answers_end};
+    ghost use Rattle.link_codec.specs.Decoders.{gives_judged, judged_stable, judged_partial, judged_end, messages_in};
 
-    type Item = Answer<T>;
+    type Item = Answer<V>;
 
     type Error = DecodeError;
 
-    ghost gives = { gives_answers IsGiven J.holds T.reads T.growing };
+    ghost gives = { gives_judged M.judging };
 
-    ghost stable = { answers_stable IsGiven J.holds T.reads T.growing };
+    ghost stable = { judged_stable M.judging };
 
-    ghost partial_has_no_frame = { answers_partial IsGiven J.holds T.reads T.growing stands };
+    ghost partial_has_no_frame = { judged_partial M.judging };
 
-    ghost end_is_partial = { answers_end IsGiven J.holds T.reads T.growing };
+    ghost end_is_partial = { judged_end M.judging };
 
-    fn decode(&mut self, src: &mut BytesMut) -> Result<Option<Answer<T>>, DecodeError>
-        ensures next { Decodes (gives_answers IsGiven J.holds T.reads T.growing) self.old
-            src.old.items result self.new src.new.items }
+    fn decode(&mut self, src: &mut BytesMut) -> Result<Option<Answer<V>>, DecodeError>
+        ensures next { Decodes (gives_judged M.judging) self.old src.old.items result
+            self.new src.new.items }
         ensures all { IfOk result (λ r. IfNone r (src.new.items ≡ [])) }
+        ensures messages { messages_in self.new ≡ messages_in self.old }
     {
         let alloc = *src.allocator();
-        let Pushed { used, answer, .. } = J::push(&mut self.receiver, alloc, src.as_slice());
+        let Pushed { used, answer, .. } = self
+            .receiver
+            .push_with(alloc, &self.messages, src.as_slice());
         src.advance(used);
         match answer {
             Ok(answer) => Ok(answer),
@@ -82,7 +74,7 @@ impl<T: Readable + Drop, J: Judges<T>, const N: usize> Decoder for AnswerDecoder
         }
     }
 
-    fn decode_eof(&mut self, src: &mut BytesMut) -> Result<Option<Answer<T>>, DecodeError> {
+    fn decode_eof(&mut self, src: &mut BytesMut) -> Result<Option<Answer<V>>, DecodeError> {
         match self.decode(src)? {
             Some(answer) => Ok(Some(answer)),
             None => Ok(self.receiver.restart()),

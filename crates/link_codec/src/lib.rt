@@ -11,17 +11,19 @@
 //! `TooLong`. With a limit that is part of the type it takes no memory but for the values.
 #![tactic(auto)]
 
+mod array;
+mod by_type;
 mod codec;
 mod decoder;
 mod encoder;
 mod error;
-mod judges;
 pub mod laws;
 mod owned;
 
+pub use array::{LinkDecoder, StrictLinkDecoder};
+pub use by_type::ByType;
 pub use codec::LinkCodec;
-pub use decoder::{AnswerDecoder, LinkDecoder, StrictLinkDecoder};
+pub use decoder::AnswerDecoder;
 pub use encoder::LinkEncoder;
 pub use error::{DecodeError, EncodeError};
-pub use judges::{Judges, Ordinary, Strict};
-pub use owned::{OwnedAnswerDecoder, OwnedLinkDecoder, StrictOwnedLinkDecoder};
+pub use owned::{OwnedLinkDecoder, StrictOwnedLinkDecoder};

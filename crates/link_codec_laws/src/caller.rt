@@ -22,14 +22,15 @@ pub fn answers_at_once<T: DeserializeOwned, R: RandomSource + AllocGlobal>(
     sentinel: u8,
 ) -> io::Result<Option<Vec<Result<Answer<T>, DecodeError>>>>
     ensures all { IfOk result (λ o. IfSome o (λ items. All IsOk items.items
-        → HasAnswered (Holds T.takes) T.reads limit sentinel (answers_of items.items) stream.now)) }
+        → HasAnswered (Holds T.form.takes) T.form.reads limit sentinel
+        (answers_of items.items) stream.now)) }
 {
     let decoder = match OwnedLinkDecoder::<T>::new(rt.alloc(), limit, sentinel) {
         Ok(decoder) => decoder,
         Err(NoMemory) => return Err(io::ErrorKind::OutOfMemory.into()),
     };
     let answers = FramedRead::new(rt.alloc(), stream, decoder)?;
-    link_codec::laws::owned_answered_whole(&answers);
+    link_codec::laws::answered_whole(&answers);
     match answers.collect(rt.alloc()).now_or_never(rt)? {
         Some(items) => Ok(Some(items?)),
         None => Ok(None),

@@ -1,37 +1,36 @@
 //! The laws.
-ghost use Rattle.std.specs.Prelude.{◌≡◌, ◌≤◌};
-ghost use Rattle.postcard.specs.Frames.{Holds};
-ghost use Rattle.link.specs.Stream.{HoldsExactly};
+ghost use Rattle.std.specs.Prelude.{◌≤◌};
 ghost use Rattle.tokio_util.specs.Codec.Framed.{framed_read};
-ghost use Rattle.link_codec.specs.Decoders.{IsGiven};
-ghost use Rattle.link_codec.specs.Gives.{gives_answers};
+ghost use Rattle.link_codec.specs.Decoders.{IsGiven, gives_judged};
 ghost use Rattle.link_codec_laws.specs.Told.{IsToldWhole, IsSessionOf, IsCarriedWhole};
 
-use link_codec::{LinkDecoder, LinkEncoder, StrictLinkDecoder};
+use link::{Decoding, MessageReader, OfType, Ordinary, Strict};
+use link_codec::{AnswerDecoder, LinkDecoder, LinkEncoder};
 use postcard::{DeserializeOwned, Exact, Lawful, Serialize};
 use tokio::io::AsyncRead;
 use tokio_util::codec::FramedRead;
 
 /// Whatever sends went out, by one sender or encoder or several in turn, each possibly broken off at any byte: from a reader that gives
-/// the line of the run, and whose end is final, a framed reader yields what is to be told of the run, and nothing else.
-pub fn told_whole<T: DeserializeOwned, R: AsyncRead, const N: usize>(
-    reader: &FramedRead<R, LinkDecoder<T, N>>,
+/// the line of the run, and whose end is final, a framed reader yields what is to be told of the run, and nothing else. So with a limit
+/// that is part of the type as with one that is a value.
+pub fn told_whole<T: DeserializeOwned, D: Decoding, R: AsyncRead>(
+    reader: &FramedRead<R, AnswerDecoder<T, Ordinary<OfType>, D>>,
 )
     ensures { IsToldWhole R.reads R.is_at_end R.fails IsGiven
-        (gives_answers IsGiven (Holds T.takes) T.reads T.growing)
-        T.takes T.reads (framed_read reader.now) }
+        (gives_judged ⟦<Ordinary<OfType> as MessageReader<T>>⟧.judging)
+        T.form.takes T.form.reads (framed_read reader.now) }
 {
     link_codec::laws::answered_whole(reader);
     link_laws::told::<T>();
 }
 
 /// The same of a strict decoder.
-pub fn strict_told_whole<T: DeserializeOwned + Exact, R: AsyncRead, const N: usize>(
-    reader: &FramedRead<R, StrictLinkDecoder<T, N>>,
+pub fn strict_told_whole<T: DeserializeOwned + Exact, D: Decoding, R: AsyncRead>(
+    reader: &FramedRead<R, AnswerDecoder<T, Strict<OfType>, D>>,
 )
     ensures { IsToldWhole R.reads R.is_at_end R.fails IsGiven
-        (gives_answers IsGiven (HoldsExactly T.takes) T.reads T.growing)
-        T.takes T.reads (framed_read reader.now) }
+        (gives_judged ⟦<Strict<OfType> as MessageReader<T>>⟧.judging)
+        T.form.takes T.form.reads (framed_read reader.now) }
 {
     link_codec::laws::answered_whole(reader);
     link_laws::told::<T>();
@@ -52,8 +51,8 @@ pub fn carried_whole<T: Lawful + DeserializeOwned, R: AsyncRead, const N: usize,
 )
     requires { N ≤ L }
     ensures { IsCarriedWhole R.reads R.is_at_end R.fails IsGiven
-        (gives_answers IsGiven (Holds T.takes) T.reads T.growing)
-        T.writes T.valid T.alike encoder.now values.now L (framed_read reader.now) }
+        (gives_judged ⟦<Ordinary<OfType> as MessageReader<T>>⟧.judging)
+        T.writes T.valid T.form.alike encoder.now values.now L (framed_read reader.now) }
 {
     session_of(encoder, values);
     link_laws::carried(values);

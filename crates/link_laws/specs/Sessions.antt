@@ -5,7 +5,7 @@ use Rattle.std.specs.Prelude.{IfSome, bit_xor, cond, map, nat_lt}
 use Rattle.std.specs.List.{AllZip, AllByRecursion, zip}
 use Rattle.std.proofs.lemmas.Bool.{lt-ltb, le-ltb}
 use Rattle.std.proofs.lemmas.List.{append-nil, length-append, length-map}
-use Rattle.line_io.specs.Device.{Gave, Wrote}
+use Rattle.line_io.specs.Device.{LineState, Came, Grew, Wrote}
 use Rattle.line_io.specs.Calls.{Wrote-none, Wrote-then}
 use Rattle.cobs.specs.Frames.{shortest_frame}
 use Rattle.cobs.specs.Sentinel.{frame_for}
@@ -14,43 +14,44 @@ use Rattle.postcard_tree.specs.Spelling.{short}
 use Rattle.postcard.specs.Frames.{Holds}
 use Rattle.link.specs.Stream.{HoldsExactly, value, damaged}
 use Rattle.link.specs.Run.{Send, completed, refused, broken, written, clean_after, session_line, line, sent, frame_bytes, told_broken, told, IsSend, IsSession, IsRun}
-use Rattle.link.specs.Senders.{HasSent, IsSent, UnlessRefusal}
+use Rattle.link.specs.Senders.{SenderPlace, HasSent, IsSent, UnlessRefusal}
 use Rattle.link.specs.Fates.{IsSendOf, SendsAll}
 use Rattle.link.specs.Pushes.{Matches}
-use Rattle.link.specs.Listening.{HasAnswered, HasRead, IsReceived}
+use Rattle.line_io.specs.Transfers.{HasRead}
+use Rattle.link.specs.Listening.{HasAnswered, IsReceived, Receives}
 use Rattle.link_laws.specs.Answered.{Sends}
 use Rattle.link_laws.specs.Values.{sends_of, runs_of, answer_of, told_values_session, told_values, AlikeAnswers, AreSends}
 use Rattle.link.specs.declared.sender.SendError.{SendError}
 use Rattle.link.specs.declared.sender.SendError.TheVariants.{Refused, Line}
 use Rattle.link.specs.declared.receiver.Answer.{Answer}
 use Rattle.link.specs.declared.receiver.Answer.TheVariants.{Value, Damaged, TooLong, Cut}
-use Rattle.link.specs.declared.listening.End.{End}
-use Rattle.link.specs.declared.listening.End.TheVariants.{Ended}
+use Rattle.line_io.specs.declared.transfers.End.{End}
+use Rattle.line_io.specs.declared.transfers.End.TheVariants.{Ended}
 
 -- a send of v: which one it was, what it left on the line, and whether the sender is clean behind it
 pub record LeavesSend {V : Type 0} (takes : Tree → Type 0) (writes : V → Option Tree)
-    (valid : V → Type 0) (limit s : ℕ) (clean later : Bool) (old new : Option (List ℕ))
-    (before after : ℕ) (v : V) (x : Send) : Type 0 where
+    (valid : V → Type 0) (limit s : ℕ) (clean later : Bool) (old new : LineState)
+    (v : V) (x : Send) : Type 0 where
   pub is : IsSend takes limit s clean x
   pub of : Sends writes valid v x
-  pub wrote : Wrote old new before after (written s clean x)
+  pub wrote : Wrote old new (written s clean x)
   pub then : later ≡ clean_after clean x
 
 -- sends of values by one sender, and what they left on the line
 pub record LeavesSession {V : Type 0} (takes : Tree → Type 0) (writes : V → Option Tree)
-    (valid : V → Type 0) (limit s : ℕ) (clean : Bool) (old new : Option (List ℕ))
-    (before after : ℕ) (calls : List (V × Send)) : Type 0 where
+    (valid : V → Type 0) (limit s : ℕ) (clean : Bool) (old new : LineState)
+    (calls : List (V × Send)) : Type 0 where
   pub is : IsSession takes limit s clean (sends_of calls)
   pub of : AllByRecursion (λ c. Sends writes valid c.0 c.1) calls
-  pub wrote : Wrote old new before after (session_line s clean (sends_of calls))
+  pub wrote : Wrote old new (session_line s clean (sends_of calls))
 
 -- sends of values by new senders one after another, and what they left on the line
 pub record LeavesRun {V : Type 0} (takes : Tree → Type 0) (writes : V → Option Tree)
-    (valid : V → Type 0) (limit s : ℕ) (old new : Option (List ℕ)) (before after : ℕ)
+    (valid : V → Type 0) (limit s : ℕ) (old new : LineState)
     (run : List (List (V × Send))) : Type 0 where
   pub is : IsRun takes limit s (runs_of run)
   pub of : AreSends writes valid run
-  pub wrote : Wrote old new before after (line s (runs_of run))
+  pub wrote : Wrote old new (line s (runs_of run))
 
 -- These answers are what is to be told of the run; their values are alike those sent.
 pub record HeardOfRun {V : Type 0} (reads : Tree → V → Type 0) (alike : V → V → Type 0) (s : ℕ)
@@ -74,27 +75,26 @@ pub record CarriesValues {V : Type 0} (takes : Tree → Type 0) (reads : Tree �
   pub ordinary : HearsRuns takes (Holds takes) reads alike writes valid
   pub strict : HearsRuns takes (HoldsExactly takes) reads alike writes valid
 
--- what `receive` and its kin say
-abbrev pub Receives : {V : Type 0} → (List ℕ → Tree → Type 0) → (Tree → V → Type 0) → ℕ → ℕ
-    → Option (List ℕ) → Option (List ℕ) → ℕ → ℕ → ℕ → End → List (Answer V) → Type 0
-Receives holds reads limit s old new before after calls_left end answers =
-    (bytes : List ℕ) × HasRead old new before after calls_left end bytes
-    × IsReceived holds reads limit s end answers bytes
-
 -- A reader that told its end gave all that was to come.
-pub all_read : (stream bytes : List ℕ) (new : Option (List ℕ)) (before after : ℕ)
-    → Gave (Some stream) new before after bytes → after ≡ before → IfSome new (λ rest. rest ≡ [])
-    → bytes ≡ stream
-all_read stream bytes None before after g e h = absurd (let l : before < after = g.came in omega arith)
-all_read stream bytes (Some rest) before after g e h = let w : stream ≡ bytes ++ rest = g.came in sym (w ∙ ap (λ x. bytes ++ x) h ∙ append-nil bytes)
+pub all_read : (stream bytes : List ℕ) (old new : LineState) → old.told ≡ Some stream → HasRead old new Ended bytes → bytes ≡ stream
+all_read stream bytes old new comes h = all_told old.told new.told old.faults new.faults comes h.0.came h.1 h.2
+  where
+    all_told : (u v : Option (List ℕ)) (f g : ℕ) → u ≡ Some stream → Came u v f g bytes → g ≡ f → IfSome v (λ rest. rest ≡ []) → bytes ≡ stream
+    all_told None v f g e c q h = cc
+    all_told (Some x) None f g e c q h = absurd (omega arith)
+    all_told (Some x) (Some rest) f g e c q h = sym (some_is e ∙ c ∙ ap (λ y. bytes ++ y) h ∙ append-nil bytes)
+      where
+        some_is : {x y : List ℕ} → ◌≡◌ {A = Option (List ℕ)} (Some x) (Some y) → y ≡ x
+        some_is e = cc
 
 -- Bytes that were told stay told where all calls that wrote told theirs: on an empty line what was written is all that is there.
-pub all_written : (old : Option (List ℕ)) (stream bytes : List ℕ) (before after : ℕ) → old ≡ Some []
-    → Wrote old (Some stream) before after bytes → stream ≡ bytes
-all_written old stream bytes before after e w =
-    let told = subst (λ o. Wrote o (Some stream) before after bytes) e w in
-    let grew : stream ≡ [] ++ bytes = told.grew in
-    grew
+pub all_written : (old new : LineState) (stream bytes : List ℕ) → old.told ≡ Some [] → new.told ≡ Some stream → Wrote old new bytes → stream ≡ bytes
+all_written old new stream bytes e w h = all_grew old.told new.told old.faults new.faults e w h.grew
+  where
+    all_grew : (u v : Option (List ℕ)) (f g : ℕ) → u ≡ Some [] → v ≡ Some stream → Grew u v f g bytes → stream ≡ bytes
+    all_grew None v f g e w k = cc
+    all_grew (Some x) None f g e w k = cc
+    all_grew (Some x) (Some y) f g e w k = cc
 
 -- Sends of values, each beside its value, are these sends.
 pub sends_beside : {V : Type 0} (R : V → Send → Type 0) (values : List V) (xs : List Send)
@@ -152,9 +152,9 @@ module _ {V : Type 0} {takes : Tree → Type 0} {writes : V → Option Tree} {va
 -- A run of values is one of trees that their type takes.
 pub takes_run : {V : Type 0} {takes : Tree → Type 0} {writes : V → Option Tree} {valid : V → Type 0}
     → ((v : V) (t : Tree) → valid v → writes v ≡ Some t → takes t)
-    → {limit s : ℕ} {old new : Option (List ℕ)} {before after : ℕ} {run : List (List (V × Send))}
-    → LeavesRun IsTree writes valid limit s old new before after run
-    → LeavesRun takes writes valid limit s old new before after run
+    → {limit s : ℕ} {old new : LineState} {run : List (List (V × Send))}
+    → LeavesRun IsTree writes valid limit s old new run
+    → LeavesRun takes writes valid limit s old new run
 takes_run taken {limit = limit} {s = s} {run = run} h = record { is = takes_each taken limit s run h.of h.is; of = h.of; wrote = h.wrote }
 
 module _ (takes : Tree → Type 0) (s : ℕ) where
@@ -176,121 +176,114 @@ module _ (takes : Tree → Type 0) (s : ℕ) where
   wider_run n limit l [] k = tt
   wider_run n limit l (xs ∷ run) k = (wider_session n limit l xs false k.0, wider_run n limit l run k.1)
 
-module _ {V : Type 0} {takes : Tree → Type 0} {reads : Tree → V → Type 0} {alike : V → V → Type 0} {writes : V → Option Tree} {valid : V → Type 0} (law : CarriesValues takes reads alike writes valid) {limit s : ℕ} (v : V)
-    {clean later : Bool} {old new : Option (List ℕ)} {before after : ℕ} {r : Result (Unit {0}) SendError} where
+module _ {V : Type 0} (writes : V → Option Tree) (valid : V → Type 0) (limit : ℕ) (v : V) (old new : SenderPlace) where
+  -- a send of v by a sender that stood and stands so
+  abbrev pub Leaves : Send → Type 0
+  Leaves x = LeavesSend IsTree writes valid limit old.sentinel old.clean new.clean old.line new.line v x
+
+module _ {V : Type 0} {takes : Tree → Type 0} {reads : Tree → V → Type 0} {alike : V → V → Type 0} {writes : V → Option Tree} {valid : V → Type 0} (law : CarriesValues takes reads alike writes valid) {limit : ℕ} (v : V)
+    {old new : SenderPlace} {r : Result (Unit {0}) SendError} where
   -- What `send` says of a value, whatever it answered.
-  pub sent_somehow : HasSent limit s (writes v) clean later old new before after r
-      → UnlessRefusal r (valid v)
-      → (x : Send) × IsSent limit (writes v) r x
-      × LeavesSend IsTree writes valid limit s clean later old new before after v x
-  sent_somehow h k = (h.send, h.answered, record { is = h.is; of = sent_is writes valid limit v r h.send h.answered k; wrote = h.wrote; then = h.then })
+  pub sent_somehow : HasSent limit (writes v) (valid v) old new r
+      → (x : Send) × IsSent limit (writes v) r x × Leaves writes valid limit v old new x
+  sent_somehow h = (h.send, h.answered, record { is = h.is; of = sent_is writes valid limit v r h.send h.answered h.valid; wrote = h.wrote; then = h.then })
 
   -- A send that was answered `Ok` completed.
-  pub sent_whole : HasSent limit s (writes v) clean later old new before after r
-      → UnlessRefusal r (valid v) → r ≡ Ok tt → (t : Tree)
-      × LeavesSend IsTree writes valid limit s clean later old new before after v (completed t)
-  sent_whole h k e = let x = sent_somehow h k in by x.0 x.1 x.2
+  pub sent_whole : HasSent limit (writes v) (valid v) old new r → r ≡ Ok tt
+      → (t : Tree) × Leaves writes valid limit v old new (completed t)
+  sent_whole h e = let x = sent_somehow h in by x.0 x.1 x.2
     where
-      by : (x : Send) → IsSent limit (writes v) r x
-          → LeavesSend IsTree writes valid limit s clean later old new before after v x → (t : Tree)
-          × LeavesSend IsTree writes valid limit s clean later old new before after v (completed t)
+      by : (x : Send) → IsSent limit (writes v) r x → Leaves writes valid limit v old new x → (t : Tree) × Leaves writes valid limit v old new (completed t)
       by (completed t) i l = (t, l)
       by refused i l = absurd (let no : ◌≡◌ {A = Result (Unit {0}) SendError} (Err (Refused i.0)) (Ok tt) = sym i.1 ∙ e in cc)
       by (broken t n) i l = absurd (let no : ◌≡◌ {A = Result (Unit {0}) SendError} (Err Line) (Ok tt) = sym i.0 ∙ e in cc)
 
   -- A send that was answered `Line` broke off.
-  pub sent_in_part : HasSent limit s (writes v) clean later old new before after r
-      → UnlessRefusal r (valid v) → r ≡ Err Line → (t : Tree) × (k : ℕ)
-      × LeavesSend IsTree writes valid limit s clean later old new before after v (broken t k)
-  sent_in_part h k e = let x = sent_somehow h k in by x.0 x.1 x.2
+  pub sent_in_part : HasSent limit (writes v) (valid v) old new r → r ≡ Err Line
+      → (t : Tree) × (k : ℕ) × Leaves writes valid limit v old new (broken t k)
+  sent_in_part h e = let x = sent_somehow h in by x.0 x.1 x.2
     where
-      by : (x : Send) → IsSent limit (writes v) r x
-          → LeavesSend IsTree writes valid limit s clean later old new before after v x
-          → (t : Tree) × (k : ℕ)
-          × LeavesSend IsTree writes valid limit s clean later old new before after v (broken t k)
+      by : (x : Send) → IsSent limit (writes v) r x → Leaves writes valid limit v old new x → (t : Tree) × (k : ℕ) × Leaves writes valid limit v old new (broken t k)
       by (completed t) i l = absurd (let no : ◌≡◌ {A = Result (Unit {0}) SendError} (Ok tt) (Err Line) = sym i.0 ∙ e in cc)
       by refused i l = absurd (let no : ◌≡◌ {A = Result (Unit {0}) SendError} (Err (Refused i.0)) (Err Line) = sym i.1 ∙ e in cc)
       by (broken t n) i l = (t, n, l)
 
 module _ {V : Type 0} {writes : V → Option Tree} {valid : V → Type 0} {limit : ℕ} where
   -- What `send_each` says is a session.
-  pub all_sent : {s : ℕ} {clean later : Bool} {u v : Option (List ℕ)} {f g c d : ℕ}
+  pub all_sent : {s : ℕ} {clean later : Bool} {u v : LineState}
       {values : List V} {fates : _}
-      (all : SendsAll limit s writes valid clean later u v f g c d values fates)
-      → LeavesSession IsTree writes valid limit s clean u v f g (zip values all.sends)
-  all_sent {s = s} {clean = clean} {u = u} {v = v} {f = f} {g = g} {values = values} all =
+      (all : SendsAll limit s writes valid clean later u v values fates)
+      → LeavesSession IsTree writes valid limit s clean u v (zip values all.sends)
+  all_sent {s = s} {clean = clean} {u = u} {v = v} {values = values} all =
       let beside = sym (sends_beside (λ v x. IsSendOf limit (writes v) (valid v) x) values all.sends all.of) in
       record {
         is = subst (λ xs. IsSession IsTree limit s clean xs) beside all.are;
         of = all_of writes valid limit values all.sends all.of;
-        wrote = subst (λ xs. Wrote u v f g (session_line s clean xs)) beside all.did.wrote;
+        wrote = subst (λ xs. Wrote u v (session_line s clean xs)) beside all.did.wrote;
       }
 
 module _ {V : Type 0} {takes : Tree → Type 0} {writes : V → Option Tree} {valid : V → Type 0} {limit : ℕ} where
   -- A session may be empty.
-  pub none_sent : {s : ℕ} {clean : Bool} {now : Option (List ℕ)} {faults : ℕ}
-      → LeavesSession takes writes valid limit s clean now now faults faults []
-  none_sent {now = now} {faults = faults} = record { is = tt; of = tt; wrote = Wrote-none now faults }
+  pub none_sent : {s : ℕ} {clean : Bool} {now : LineState}
+      → LeavesSession takes writes valid limit s clean now now []
+  none_sent {now = now} = record { is = tt; of = tt; wrote = Wrote-none now }
 
   -- A send and then a session of the same sender, whose sentinel stays, are a session.
-  pub then_sent : {s s' : ℕ} {clean later : Bool} {u v w : Option (List ℕ)} {f g h : ℕ} {a : V}
+  pub then_sent : {s s' : ℕ} {clean later : Bool} {u v w : LineState} {a : V}
       {x : Send} {calls : List (V × Send)}
-      → LeavesSend takes writes valid limit s clean later u v f g a x → s' ≡ s
-      → LeavesSession takes writes valid limit s' later v w g h calls
-      → LeavesSession takes writes valid limit s clean u w f h ((a, x) ∷ calls)
-  then_sent {s = s} {clean = clean} {later = later} {u = u} {v = v} {w = w} {f = f} {g = g} {h = h} {a = a} {x = x} {calls = calls} p e q =
-      let q' = subst (λ z. LeavesSession takes writes valid limit s z v w g h calls) p.then (subst (λ z. LeavesSession takes writes valid limit z later v w g h calls) e q) in
+      → LeavesSend takes writes valid limit s clean later u v a x → s' ≡ s
+      → LeavesSession takes writes valid limit s' later v w calls
+      → LeavesSession takes writes valid limit s clean u w ((a, x) ∷ calls)
+  then_sent {s = s} {clean = clean} {later = later} {u = u} {v = v} {w = w} {a = a} {x = x} {calls = calls} p e q =
+      let q' = subst (λ z. LeavesSession takes writes valid limit s z v w calls) p.then (subst (λ z. LeavesSession takes writes valid limit z later v w calls) e q) in
       record {
         is = (p.is, q'.is);
         of = (p.of, q'.of);
-        wrote = Wrote-then u v w f g h (written s clean x) (session_line s (clean_after clean x) (sends_of calls)) p.wrote q'.wrote;
+        wrote = Wrote-then u v w (written s clean x) (session_line s (clean_after clean x) (sends_of calls)) p.wrote q'.wrote;
       }
 
   -- A run may be empty.
-  pub no_session : {s : ℕ} {now : Option (List ℕ)} {faults : ℕ}
-      → LeavesRun takes writes valid limit s now now faults faults []
-  no_session {now = now} {faults = faults} = record { is = tt; of = tt; wrote = Wrote-none now faults }
+  pub no_session : {s : ℕ} {now : LineState}
+      → LeavesRun takes writes valid limit s now now []
+  no_session {now = now} = record { is = tt; of = tt; wrote = Wrote-none now }
 
   -- A session of a new sender, which isn't clean, and then a run are a run.
-  pub then_session : {s s' : ℕ} {clean : Bool} {u v w : Option (List ℕ)} {f g h : ℕ}
+  pub then_session : {s s' : ℕ} {clean : Bool} {u v w : LineState}
       {calls : List (V × Send)} {run : List (List (V × Send))}
-      → s' ≡ s → clean ≡ false → LeavesSession takes writes valid limit s' clean u v f g calls
-      → LeavesRun takes writes valid limit s v w g h run
-      → LeavesRun takes writes valid limit s u w f h (calls ∷ run)
-  then_session {s = s} {clean = clean} {u = u} {v = v} {w = w} {f = f} {g = g} {h = h} {calls = calls} {run = run} e d p q =
-      let p' = subst (λ z. LeavesSession takes writes valid limit s z u v f g calls) d (subst (λ z. LeavesSession takes writes valid limit z clean u v f g calls) e p) in
+      → s' ≡ s → clean ≡ false → LeavesSession takes writes valid limit s' clean u v calls
+      → LeavesRun takes writes valid limit s v w run
+      → LeavesRun takes writes valid limit s u w (calls ∷ run)
+  then_session {s = s} {clean = clean} {u = u} {v = v} {w = w} {calls = calls} {run = run} e d p q =
+      let p' = subst (λ z. LeavesSession takes writes valid limit s z u v calls) d (subst (λ z. LeavesSession takes writes valid limit z clean u v calls) e p) in
       record {
         is = (p'.is, q.is);
         of = (p'.of, q.of);
-        wrote = Wrote-then u v w f g h (session_line s false (sends_of calls)) (line s (runs_of run)) p'.wrote q.wrote;
+        wrote = Wrote-then u v w (session_line s false (sends_of calls)) (line s (runs_of run)) p'.wrote q.wrote;
       }
 
 module _ {V : Type 0} {takes : Tree → Type 0} {reads : Tree → V → Type 0} {alike : V → V → Type 0} {writes : V → Option Tree} {valid : V → Type 0} (law : CarriesValues takes reads alike writes valid) where
   -- What is received of the line of a run, by a reader that gives it and told its end, is what is to be told of the run.
-  pub heard_of_run : {n limit s : ℕ} (run : List (List (V × Send))) (old new : Option (List ℕ))
-      (before after calls_left : ℕ) (end : End) (answers : List (Answer V))
+  pub heard_of_run : {n limit s : ℕ} (run : List (List (V × Send))) (old new : LineState)
+      (end : End) (answers : List (Answer V))
       → n ≤ limit → IsRun takes n s (runs_of run) → AreSends writes valid run
-      → Receives (Holds takes) reads limit s old new before after calls_left end answers
-      → old ≡ Some (line s (runs_of run)) → end ≡ Ended → HeardOfRun reads alike s run answers
-  heard_of_run {n = n} {limit = limit} {s = s} run old new before after calls_left end answers l is of h comes ends =
-      let read = subst (λ e. HasRead old new before after calls_left e h.0) ends h.1 in
+      → Receives (Holds takes) reads limit s old new end answers
+      → old.told ≡ Some (line s (runs_of run)) → end ≡ Ended → HeardOfRun reads alike s run answers
+  heard_of_run {n = n} {limit = limit} {s = s} run old new end answers l is of h comes ends =
       let answered : HasAnswered (Holds takes) reads limit s answers h.0 = subst (λ e. IsReceived (Holds takes) reads limit s e answers h.0) ends h.2 in
-      let gave = subst (λ o. Gave o new before after h.0) comes read.0 in
-      let same = all_read (line s (runs_of run)) h.0 new before after gave read.1 read.2 in
+      let same = all_read (line s (runs_of run)) h.0 old new comes (subst (λ e. HasRead old new e h.0) ends h.1) in
       law.ordinary limit s run answers (wider_run takes s n limit l (runs_of run) is) of
       (subst (λ z. HasAnswered (Holds takes) reads limit s answers z) same answered)
 
   -- Where the line was empty, and what the run left there is what comes, that is heard.
-  pub heard_of_line : {n limit s : ℕ} {run : List (List (V × Send))} {u v : Option (List ℕ)}
-      {f g : ℕ} (stream : List ℕ) (old new : Option (List ℕ)) (before after calls_left : ℕ)
+  pub heard_of_line : {n limit s : ℕ} {run : List (List (V × Send))} {u v : LineState} (stream : List ℕ) (old new : LineState)
       (end : End) (answers : List (Answer V))
-      → LeavesRun IsTree writes valid n s u v f g run
-      → Receives (Holds takes) reads limit s old new before after calls_left end answers
-      → n ≤ limit → u ≡ Some [] → v ≡ Some stream → old ≡ Some stream → end ≡ Ended
+      → LeavesRun IsTree writes valid n s u v run
+      → Receives (Holds takes) reads limit s old new end answers
+      → n ≤ limit → u.told ≡ Some [] → v.told ≡ Some stream → old.told ≡ Some stream → end ≡ Ended
       → HeardOfRun reads alike s run answers
-  heard_of_line {n = n} {s = s} {run = run} {u = u} {f = f} {g = g} stream old new before after calls_left end answers r h l empty wrote comes ends =
-      let whole = all_written u stream (line s (runs_of run)) f g empty (subst (λ z. Wrote u z f g (line s (runs_of run))) wrote r.wrote) in
-      heard_of_run run old new before after calls_left end answers l (takes_each law.taken n s run r.of r.is) r.of h (comes ∙ ap Some whole) ends
+  heard_of_line {n = n} {s = s} {run = run} {u = u} {v = v} stream old new end answers r h l empty wrote comes ends =
+      let whole = all_written u v stream (line s (runs_of run)) empty wrote r.wrote in
+      heard_of_run run old new end answers l (takes_each law.taken n s run r.of r.is) r.of h (comes ∙ ap Some whole) ends
 
 -- Of a frame so many bytes had gone out where a send broke off: all of them at most.
 pub out_at_most : (s : ℕ) (clean : Bool) (t : Tree) (k : ℕ) → k < length (sent s clean t)

@@ -1,7 +1,7 @@
 -- What two senders in turn leave on a line, and what is heard of the line of a run of values.
 use Rattle.std.proofs.Common.{◌≡◌, ◌≤◌, ℕ, List, [], ◌∷◌, map, Option, Some, Result, ap, ◌∙◌, subst}
 use Rattle.std.specs.List.{AllZip, zip}
-use Rattle.line_io.specs.Device.{Wrote}
+use Rattle.line_io.specs.Device.{LineState, Wrote}
 use Rattle.postcard_tree.specs.Tree.{Tree}
 use Rattle.link.specs.Run.{Send, IsRun, line}
 use Rattle.link.specs.Senders.{IsSent}
@@ -11,23 +11,23 @@ use Rattle.link.specs.Fates.{IsSendOf, fate_of}
 use Rattle.link.specs.declared.session.Fate.{Fate}
 use Rattle.link.specs.declared.receiver.Answer.{Answer}
 use Rattle.link.specs.declared.sender.SendError.{SendError}
-use Rattle.link.specs.declared.listening.End.{End}
-use Rattle.link.specs.declared.listening.End.TheVariants.{Ended}
+use Rattle.line_io.specs.declared.transfers.End.{End}
+use Rattle.line_io.specs.declared.transfers.End.TheVariants.{Ended}
 
 -- A send of a value by each of two senders in turn, by what each answered: what they left is the line of this run.
 pub record LeavesTwo {V : Type 0} (takes : Tree → Type 0) (writes : V → Option Tree)
-    (valid : V → Type 0) (limit s : ℕ) (old new : Option (List ℕ)) (before after : ℕ) (v w : V)
+    (valid : V → Type 0) (limit s : ℕ) (old new : LineState) (v w : V)
     (first second : Result (Unit {0}) SendError) : Type 0 where
   pub one : Send
   pub other : Send
   pub first_is : IsSent limit (writes v) first one
   pub second_is : IsSent limit (writes w) second other
-  pub run : LeavesRun takes writes valid limit s old new before after
+  pub run : LeavesRun takes writes valid limit s old new
       (((v, one) ∷ []) ∷ ((w, other) ∷ []) ∷ [])
 
 -- A session of values by each of two senders in turn, with these fates: what they left is the line of this run.
 pub record LeavesSessions {V : Type 0} (takes : Tree → Type 0) (writes : V → Option Tree)
-    (valid : V → Type 0) (limit s : ℕ) (old new : Option (List ℕ)) (before after : ℕ)
+    (valid : V → Type 0) (limit s : ℕ) (old new : LineState)
     (firsts seconds : List V) (first_fates second_fates : List Fate) : Type 0 where
   pub one : List Send
   pub other : List Send
@@ -35,7 +35,7 @@ pub record LeavesSessions {V : Type 0} (takes : Tree → Type 0) (writes : V →
   pub second_of : AllZip (λ v x. IsSendOf limit (writes v) (valid v) x) seconds other
   pub first_fated : first_fates ≡ map fate_of one
   pub second_fated : second_fates ≡ map fate_of other
-  pub run : LeavesRun takes writes valid limit s old new before after
+  pub run : LeavesRun takes writes valid limit s old new
       (zip firsts one ∷ zip seconds other ∷ [])
 
 -- Where the line of a run of values comes, with frames within the limit, and the reader has told its end, these answers are what is
@@ -51,13 +51,13 @@ HearsValues {V} limit s takes reads alike writes valid to_come end answers =
 -- The two parts joined: where the line was empty, what senders left there is what comes, and the reader has told its end, that is heard.
 pub heard_in_turn : {V : Type 0} {takes : Tree → Type 0} {reads : Tree → V → Type 0}
     {alike : V → V → Type 0} {writes : V → Option Tree} {valid : V → Type 0} {n s : ℕ}
-    {old new to_come : Option (List ℕ)} {before after : ℕ} {end : End}
+    {old new : LineState} {to_come : Option (List ℕ)} {end : End}
     {run : List (List (V × Send))} {answers : List (Answer V)} (limit : ℕ) (stream : List ℕ)
-    → LeavesRun takes writes valid n s old new before after run
+    → LeavesRun takes writes valid n s old new run
     → HearsValues limit s takes reads alike writes valid to_come end answers → n ≤ limit
-    → old ≡ Some [] → new ≡ Some stream → to_come ≡ Some stream → end ≡ Ended
+    → old.told ≡ Some [] → new.told ≡ Some stream → to_come ≡ Some stream → end ≡ Ended
     → HeardOfRun reads alike s run answers
-heard_in_turn {n = n} {s = s} {old = old} {before = before} {after = after} {run = run} limit stream left hears l empty wrote comes ends =
+heard_in_turn {n = n} {s = s} {old = old} {new = new} {run = run} limit stream left hears l empty wrote comes ends =
     let bytes = line s (runs_of run) in
-    let whole = all_written old stream bytes before after empty (subst (λ z. Wrote old z before after bytes) wrote left.wrote) in
+    let whole = all_written old new stream bytes empty wrote left.wrote in
     hears n run l left.is left.of (comes ∙ ap Some whole) ends

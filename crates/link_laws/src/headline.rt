@@ -12,7 +12,7 @@ ghost use Rattle.std.specs.List.{AllZip};
 ghost use Rattle.link.specs.Pushes.{Matches};
 ghost use Rattle.link.specs.Run.{Send, IsRun, line, told};
 ghost use Rattle.link.specs.Listening.{ReceiverFitsInMemory};
-ghost use Rattle.link.specs.declared.listening.End.TheVariants.{Ended};
+ghost use Rattle.line_io.specs.declared.transfers.End.TheVariants.{Ended};
 
 use line_io::{Inlet, Outlet};
 use link::{
@@ -28,9 +28,9 @@ pub fn receive_run<T: DeserializeOwned, R: Inlet, const N: usize>(
     reader: R,
 ) -> Received<T, R>
     requires { ReceiverFitsInMemory N.row }
-    ensures { (run : List (List Send)) → IsRun T.takes N 0 run
-        → R.to_come reader ≡ Some (line 0 run) → result.end ≡ Ended
-        → AllZip (Matches T.reads) result.answers.items (told 0 run) }
+    ensures { (run : List (List Send)) → IsRun T.form.takes N 0 run
+        → (R.line reader).told ≡ Some (line 0 run) → result.end ≡ Ended
+        → AllZip (Matches T.form.reads) result.answers.items (told 0 run) }
 {
     receive_run_with_sentinel::<T, R, N>(alloc, reader, 0)
 }
@@ -42,9 +42,9 @@ pub fn receive_run_with_sentinel<T: DeserializeOwned, R: Inlet, const N: usize>(
     sentinel: u8,
 ) -> Received<T, R>
     requires { ReceiverFitsInMemory N.row }
-    ensures { (run : List (List Send)) → IsRun T.takes N sentinel run
-        → R.to_come reader ≡ Some (line sentinel run) → result.end ≡ Ended
-        → AllZip (Matches T.reads) result.answers.items (told sentinel run) }
+    ensures { (run : List (List Send)) → IsRun T.form.takes N sentinel run
+        → (R.line reader).told ≡ Some (line sentinel run) → result.end ≡ Ended
+        → AllZip (Matches T.form.reads) result.answers.items (told sentinel run) }
 {
     crate::told::<T>();
     receive_with_sentinel::<T, R, N>(alloc, reader, sentinel)
@@ -57,9 +57,9 @@ pub fn receive_owned_run<T: DeserializeOwned, R: Inlet>(
     limit: usize,
     sentinel: u8,
 ) -> Received<T, R>
-    ensures { (run : List (List Send)) → IsRun T.takes limit sentinel run
-        → R.to_come reader ≡ Some (line sentinel run) → result.end ≡ Ended
-        → AllZip (Matches T.reads) result.answers.items (told sentinel run) }
+    ensures { (run : List (List Send)) → IsRun T.form.takes limit sentinel run
+        → (R.line reader).told ≡ Some (line sentinel run) → result.end ≡ Ended
+        → AllZip (Matches T.form.reads) result.answers.items (told sentinel run) }
 {
     crate::told::<T>();
     receive_owned(alloc, reader, limit, sentinel)
@@ -72,8 +72,8 @@ pub fn receive_values<T: Lawful + DeserializeOwned, R: Inlet, const N: usize>(
     reader: R,
 ) -> Received<T, R>
     requires { ReceiverFitsInMemory N.row }
-    ensures { HearsValues N 0 T.takes T.reads T.alike T.writes T.valid
-        (R.to_come reader) result.end result.answers.items }
+    ensures { HearsValues N 0 T.form.takes T.form.reads T.form.alike T.writes T.valid
+        (R.line reader).told result.end result.answers.items }
 {
     receive_values_with_sentinel::<T, R, N>(alloc, reader, 0)
 }
@@ -85,8 +85,8 @@ pub fn receive_values_with_sentinel<T: Lawful + DeserializeOwned, R: Inlet, cons
     sentinel: u8,
 ) -> Received<T, R>
     requires { ReceiverFitsInMemory N.row }
-    ensures { HearsValues N sentinel T.takes T.reads T.alike T.writes T.valid
-        (R.to_come reader) result.end result.answers.items }
+    ensures { HearsValues N sentinel T.form.takes T.form.reads T.form.alike T.writes T.valid
+        (R.line reader).told result.end result.answers.items }
 {
     crate::carries::<T>();
     receive_with_sentinel::<T, R, N>(alloc, reader, sentinel)
@@ -112,8 +112,8 @@ pub fn send_in_turn<T: Lawful, W: Outlet, const N: usize>(
 ) -> InTurn<W>
     requires some { 0 < N }
     requires sender { SenderFitsInMemory W.row N.row }
-    ensures { LeavesTwo T.takes T.writes T.valid N 0 (W.written writer) (W.written result.writer)
-        (W.faults writer) (W.faults result.writer) first.now second.now result.first result.second }
+    ensures { LeavesTwo T.form.takes T.writes T.valid N 0 (W.line writer)
+        (W.line result.writer) first.now second.now result.first result.second }
 {
     send_in_turn_with_sentinel::<T, W, N>(writer, first, second, 0)
 }
@@ -127,8 +127,8 @@ pub fn send_in_turn_with_sentinel<T: Lawful, W: Outlet, const N: usize>(
 ) -> InTurn<W>
     requires some { 0 < N }
     requires sender { SenderFitsInMemory W.row N.row }
-    ensures { LeavesTwo T.takes T.writes T.valid N sentinel
-        (W.written writer) (W.written result.writer) (W.faults writer) (W.faults result.writer)
+    ensures { LeavesTwo T.form.takes T.writes T.valid N sentinel
+        (W.line writer) (W.line result.writer)
         first.now second.now result.first result.second }
 {
     crate::carries::<T>();
@@ -157,8 +157,8 @@ pub fn send_each_in_turn<T: Lawful, W: Outlet, const N: usize>(
     requires second_places { length seconds.now ≡ length second_fates.old }
     requires some { 0 < N }
     requires sender { SenderFitsInMemory W.row N.row }
-    ensures { LeavesSessions T.takes T.writes T.valid N 0
-        (W.written writer) (W.written result) (W.faults writer) (W.faults result)
+    ensures { LeavesSessions T.form.takes T.writes T.valid N 0
+        (W.line writer) (W.line result)
         firsts.now seconds.now first_fates.new second_fates.new }
 {
     send_each_in_turn_with_sentinel::<T, W, N>(
@@ -184,8 +184,8 @@ pub fn send_each_in_turn_with_sentinel<T: Lawful, W: Outlet, const N: usize>(
     requires second_places { length seconds.now ≡ length second_fates.old }
     requires some { 0 < N }
     requires sender { SenderFitsInMemory W.row N.row }
-    ensures { LeavesSessions T.takes T.writes T.valid N sentinel
-        (W.written writer) (W.written result) (W.faults writer) (W.faults result)
+    ensures { LeavesSessions T.form.takes T.writes T.valid N sentinel
+        (W.line writer) (W.line result)
         firsts.now seconds.now first_fates.new second_fates.new }
 {
     crate::carries::<T>();

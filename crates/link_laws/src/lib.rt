@@ -33,8 +33,8 @@ use postcard::{Exact, Lawful, Readable, Serialize};
 /// Whatever sends of a type's trees go out, by one sender or several in turn, each possibly broken off at any byte: what a
 /// receiver answers to the line is what is to be told of the run, and nothing else. The frames are within its limit.
 pub fn told<T: Readable>()
-    ensures ordinary { (limit s : ℕ) → IsTold T.takes (Holds T.takes) limit s }
-    ensures strict { (limit s : ℕ) → IsTold T.takes (HoldsExactly T.takes) limit s }
+    ensures ordinary { (limit s : ℕ) → IsTold T.form.takes (Holds T.form.takes) limit s }
+    ensures strict { (limit s : ℕ) → IsTold T.form.takes (HoldsExactly T.form.takes) limit s }
 {
     cobs::laws::message_of_a_frame();
     cobs::laws::frames_of_a_message();
@@ -47,42 +47,42 @@ pub fn told<T: Readable>()
 /// The same of the answers that a receiver gives: each value is what its tree is read as.
 pub fn told_as<T: Readable>(answers: &[Answer<T>])
     ensures ordinary { (limit s : ℕ)
-        → IsToldAs T.takes (Holds T.takes) T.reads answers.now limit s }
+        → IsToldAs T.form.takes (Holds T.form.takes) T.form.reads answers.now limit s }
     ensures strict { (limit s : ℕ)
-        → IsToldAs T.takes (HoldsExactly T.takes) T.reads answers.now limit s }
+        → IsToldAs T.form.takes (HoldsExactly T.form.takes) T.form.reads answers.now limit s }
 {
     told::<T>();
 }
 
 /// The same of a run of a lawful type's values: a receiver's answers are, one by one, alike what is to be told of them.
 pub fn told_by_values<T: Lawful>(answers: &[Answer<T>])
-    ensures ordinary { (limit s : ℕ) → IsToldByValues T.takes
-        (Holds T.takes) T.reads T.alike T.writes T.valid answers.now limit s }
-    ensures strict { (limit s : ℕ) → IsToldByValues T.takes
-        (HoldsExactly T.takes) T.reads T.alike T.writes T.valid answers.now limit s }
+    ensures ordinary { (limit s : ℕ) → IsToldByValues T.form.takes
+        (Holds T.form.takes) T.form.reads T.form.alike T.writes T.valid answers.now limit s }
+    ensures strict { (limit s : ℕ) → IsToldByValues T.form.takes
+        (HoldsExactly T.form.takes) T.form.reads T.form.alike T.writes T.valid answers.now limit s }
 {
     told_as(answers);
 }
 
 /// Of a run of a lawful type's values whose sends all completed, a receiver's answers are values, one by one alike those sent.
 pub fn given_back<T: Lawful>(answers: &[Answer<T>])
-    ensures ordinary { (limit s : ℕ) → AreGivenBack T.takes
-        (Holds T.takes) T.reads T.alike T.writes T.valid answers.now limit s }
-    ensures strict { (limit s : ℕ) → AreGivenBack T.takes
-        (HoldsExactly T.takes) T.reads T.alike T.writes T.valid answers.now limit s }
+    ensures ordinary { (limit s : ℕ) → AreGivenBack T.form.takes
+        (Holds T.form.takes) T.form.reads T.form.alike T.writes T.valid answers.now limit s }
+    ensures strict { (limit s : ℕ) → AreGivenBack T.form.takes
+        (HoldsExactly T.form.takes) T.form.reads T.form.alike T.writes T.valid answers.now limit s }
 {
     told_by_values(answers);
 }
 
 /// A session of a lawful type's values is one of trees that the type takes, as `told` wants it.
 pub fn carried<T: Lawful>(values: &[T])
-    ensures { IsCarried T.takes T.writes T.valid values.now }
+    ensures { IsCarried T.form.takes T.writes T.valid values.now }
 {}
 
 /// A line carries a lawful type's values: its type takes what its valid values write, and what is answered to the line of a run of
 /// them is, one by one, alike what is to be told of it. The laws of `specs/Sessions.antt` start from this one.
 pub fn carries<T: Lawful>()
-    ensures { CarriesValues T.takes T.reads T.alike T.writes T.valid }
+    ensures { CarriesValues T.form.takes T.form.reads T.form.alike T.writes T.valid }
 {
     told::<T>();
 }
@@ -90,8 +90,9 @@ pub fn carries<T: Lawful>()
 /// What is heard of a run has the value of each send that completed, in order, and none that wasn't sent: those that completed
 /// are among those that are heard, and these among those that were tried.
 pub fn between<T: Readable>()
-    ensures ordinary { (limit s : ℕ) → IsHeardBetween T.takes (Holds T.takes) limit s }
-    ensures strict { (limit s : ℕ) → IsHeardBetween T.takes (HoldsExactly T.takes) limit s }
+    ensures ordinary { (limit s : ℕ) → IsHeardBetween T.form.takes (Holds T.form.takes) limit s }
+    ensures strict { (limit s : ℕ) → IsHeardBetween T.form.takes
+        (HoldsExactly T.form.takes) limit s }
 {
     told::<T>();
 }
@@ -99,31 +100,31 @@ pub fn between<T: Readable>()
 /// Whatever front of a run's line is left, as by a crash or a full disk, it is the line of a run: of the sends whose bytes are
 /// all there, and one broken off. And runs one after another are a run.
 pub fn left<T: Readable>()
-    ensures front { (limit s : ℕ) → IsLeft T.takes limit s }
-    ensures goes_on { (limit s : ℕ) → RunsGoOn T.takes limit s }
+    ensures front { (limit s : ℕ) → IsLeft T.form.takes limit s }
+    ensures goes_on { (limit s : ℕ) → RunsGoOn T.form.takes limit s }
 {}
 
 /// Whatever was sent with frames within a limit was sent with frames within a greater one.
 pub fn within<T: Readable>()
-    ensures { (s : ℕ) → IsRunWithin T.takes s }
+    ensures { (s : ℕ) → IsRunWithin T.form.takes s }
 {}
 
 /// What a receiver answers doesn't depend on how the stream was cut into pieces.
 pub fn over_pieces<T: Readable>()
-    ensures ordinary { (limit s : ℕ) → AreOfTheWhole (Holds T.takes) limit s }
-    ensures strict { (limit s : ℕ) → AreOfTheWhole (HoldsExactly T.takes) limit s }
+    ensures ordinary { (limit s : ℕ) → AreOfTheWhole (Holds T.form.takes) limit s }
+    ensures strict { (limit s : ℕ) → AreOfTheWhole (HoldsExactly T.form.takes) limit s }
 {}
 
 /// Where a limit is set anew between stretches, what comes before is answered by the old limit and what comes behind by the new one.
 pub fn set_anew<T: Readable>()
-    ensures ordinary { (s : ℕ) → IsSetAnew (Holds T.takes) s }
-    ensures strict { (s : ℕ) → IsSetAnew (HoldsExactly T.takes) s }
+    ensures ordinary { (s : ℕ) → IsSetAnew (Holds T.form.takes) s }
+    ensures strict { (s : ℕ) → IsSetAnew (HoldsExactly T.form.takes) s }
 {}
 
 /// A stream has at most one list of answers.
 pub fn one_answer<T: Readable>()
-    ensures ordinary { (limit s : ℕ) → HasOneAnswer (Holds T.takes) limit s }
-    ensures strict { (limit s : ℕ) → HasOneAnswer (HoldsExactly T.takes) limit s }
+    ensures ordinary { (limit s : ℕ) → HasOneAnswer (Holds T.form.takes) limit s }
+    ensures strict { (limit s : ℕ) → HasOneAnswer (HoldsExactly T.form.takes) limit s }
 {
     cobs::laws::message_of_a_frame();
     cobs::laws::frames_of_a_message();
@@ -132,14 +133,14 @@ pub fn one_answer<T: Readable>()
 
 /// Behind a sentinel, and at the start, the answers to what comes are those that it has alone.
 pub fn append<T: Readable>()
-    ensures ordinary { (limit s : ℕ) → Appends (Holds T.takes) limit s }
-    ensures strict { (limit s : ℕ) → Appends (HoldsExactly T.takes) limit s }
+    ensures ordinary { (limit s : ℕ) → Appends (Holds T.form.takes) limit s }
+    ensures strict { (limit s : ℕ) → Appends (HoldsExactly T.form.takes) limit s }
 {}
 
 /// What is changed, lost or added in a line changes no answer to what ends before it or begins behind the next sentinel.
 pub fn local<T: Readable>()
-    ensures ordinary { (limit s : ℕ) → IsLocal (Holds T.takes) limit s }
-    ensures strict { (limit s : ℕ) → IsLocal (HoldsExactly T.takes) limit s }
+    ensures ordinary { (limit s : ℕ) → IsLocal (Holds T.form.takes) limit s }
+    ensures strict { (limit s : ℕ) → IsLocal (HoldsExactly T.form.takes) limit s }
 {
     cobs::laws::message_of_a_frame();
     cobs::laws::frames_of_a_message();
@@ -148,13 +149,13 @@ pub fn local<T: Readable>()
 
 /// Whoever joins a line anywhere hears, from the next sentinel on, what everyone hears.
 pub fn start_anywhere<T: Readable>()
-    ensures ordinary { (limit s : ℕ) → StartsAnywhere (Holds T.takes) limit s }
-    ensures strict { (limit s : ℕ) → StartsAnywhere (HoldsExactly T.takes) limit s }
+    ensures ordinary { (limit s : ℕ) → StartsAnywhere (Holds T.form.takes) limit s }
+    ensures strict { (limit s : ℕ) → StartsAnywhere (HoldsExactly T.form.takes) limit s }
 {}
 
 /// A nonempty proper front of a frame that sending makes is damaged.
 pub fn fronts_damaged<T: Readable>()
-    ensures { (limit : ℕ) → IsDamagedInFronts T.takes limit }
+    ensures { (limit : ℕ) → IsDamagedInFronts T.form.takes limit }
 {
     cobs::laws::message_of_a_frame();
     cobs::laws::frames_of_a_message();
@@ -168,19 +169,19 @@ pub fn fronts_damaged<T: Readable>()
 pub fn as_sent<T: Lawful>(sent: &T, answered: &T)
     requires { T.valid sent.now }
     ensures { (t : Tree) → T.writes sent.now ≡ Some t
-        → T.reads t answered.now → T.alike sent.now answered.now }
+        → T.form.reads t answered.now → T.form.alike sent.now answered.now }
 {}
 
 /// Strictly a stretch holds what a value of an exact type is read from exactly where it is the frame of that value.
 pub fn strict_value<T: Exact>(value: &T)
-    ensures { (stretch : List ℕ) (t : Tree) → T.reads t value.now
-        → HoldsExactly T.takes stretch t ↔ IsFrameOf (T.writes value.now) stretch }
+    ensures { (stretch : List ℕ) (t : Tree) → T.form.reads t value.now
+        → HoldsExactly T.form.takes stretch t ↔ IsFrameOf (T.writes value.now) stretch }
 {}
 
 /// Streams without a leading sentinel or two in a row, each empty or ending in one, all of whose strict answers are values
 /// are equal exactly where these are.
 pub fn strict_injective<T: Readable>()
-    ensures { (limit s : ℕ) → IsInjective T.takes limit s }
+    ensures { (limit s : ℕ) → IsInjective T.form.takes limit s }
 {
     cobs::laws::message_of_a_frame();
     cobs::laws::frames_of_a_message();
@@ -189,7 +190,7 @@ pub fn strict_injective<T: Readable>()
 
 /// A stretch that is answered by a value is no shorter than the frame that sending makes of it.
 pub fn least<T: Readable>()
-    ensures { (limit : ℕ) → IsLeast T.takes limit }
+    ensures { (limit : ℕ) → IsLeast T.form.takes limit }
 {
     cobs::laws::message_of_a_frame();
     cobs::laws::frames_of_a_message();
@@ -201,9 +202,9 @@ pub fn least<T: Readable>()
 /// The stretches of a stream, one by one, and what is heard of it in these words.
 pub fn stepwise<T: Readable>()
     ensures ordinary { (limit : ℕ) (said : List ℕ → List Verdict) (s : ℕ)
-        → IsHeardStepwise (IsAnswer (Holds T.takes) limit) said s }
+        → IsHeardStepwise (IsAnswer (Holds T.form.takes) limit) said s }
     ensures strict { (limit : ℕ) (said : List ℕ → List Verdict) (s : ℕ)
-        → IsHeardStepwise (IsAnswer (HoldsExactly T.takes) limit) said s }
+        → IsHeardStepwise (IsAnswer (HoldsExactly T.form.takes) limit) said s }
     ensures unfinished { (s : ℕ) → IsUnfinishedPart s }
 {}
 
@@ -222,8 +223,9 @@ pub fn zero_sentinel()
 /// Where the ended stretches with their sentinels fit a receiver, the values in its answers, those of reading in place and
 /// those of an accumulator of that size are the same; for a type that can ask for memory the last may lack some.
 pub fn roads<T: Readable>(values: &[T])
-    ensures in_place { (s : ℕ) → IsSameInPlace (Holds T.takes) s }
-    ensures accumulator { (s : ℕ) → IsSameByAccumulator T.takes T.reads T.growing values.now s }
+    ensures in_place { (s : ℕ) → IsSameInPlace (Holds T.form.takes) s }
+    ensures accumulator { (s : ℕ) → IsSameByAccumulator T.form.takes T.form.reads T.form.growing
+        values.now s }
 {
     cobs::laws::message_of_a_frame();
     cobs::laws::frames_of_a_message();

@@ -142,7 +142,7 @@ stretch_stays [] = (refl, refl)
 stretch_stays (b ∷ s) = let i = stretch_stays s in stretch_cons b s i.0 i.1
 
 -- where a search finds the first zero
-stretch_byte : (b : ℕ) (x : List ℕ) → (b ≡ 0 → ⊥) → stretch (b ∷ x) ≡ b ∷ stretch x
+pub stretch_byte : (b : ℕ) (x : List ℕ) → (b ≡ 0 → ⊥) → stretch (b ∷ x) ≡ b ∷ stretch x
 stretch_byte b x n = rw (ne_eqb b 0 n) refl
 
 stretch_of_none : (s : ℕ) (bytes : List ℕ) → ((k : ℕ) → k < length bytes → get_or bytes k 0 ≡ s → ⊥) → length bytes ≡ length (stretch (masked s bytes))

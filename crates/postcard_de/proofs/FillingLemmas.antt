@@ -24,12 +24,12 @@ tells_rest (Some x) (Some y) s room left limit ct c e l r w =
     fits_back y left (limit - ct) (omega (arith, k.0, n, e, r)) (omega (arith, k.1, n, e, l))
 
 -- the next ct bytes are s, and the buffer has lost no more places than they are
-pub gave_filled : (o p : Option (List ℕ)) (failed fails : Bool) (s : List ℕ) (room left limit ct : ℕ) → (fails ≡ failed) × Consumes o p s → length s ≡ ct → ct ≤ limit → room ≤ left + ct
+pub gave_filled : (o p : Option (List ℕ)) (failed fails : Bool) (s : List ℕ) (room left limit ct : ℕ) → (fails ≡ failed) × Consumes o p s → length s ≡ ct → ct ≤ limit → room ≤ left + ct → left ≤ room
     → SourceGave (reader_state o failed room limit) (reader_state p fails left (limit - ct)) s
-gave_filled o p true true s room left limit ct c e l r = record { told = c.1; whole = λ w f. w; faults = omega arith; limit = omega (arith, e, l) }
-gave_filled o p true false s room left limit ct c e l r = absurd (let d = c.0 in cc)
-gave_filled o p false true s room left limit ct c e l r = absurd (let d = c.0 in cc)
-gave_filled o p false false s room left limit ct c e l r = record { told = c.1; whole = λ w f. tells_rest o p s room left limit ct c.1 e l r w; faults = omega arith; limit = omega (arith, e, l) }
+gave_filled o p true true s room left limit ct c e l r k = record { told = c.1; whole = λ w f. w; faults = omega arith; limit = omega (arith, e, l); room = k }
+gave_filled o p true false s room left limit ct c e l r k = absurd (let d = c.0 in cc)
+gave_filled o p false true s room left limit ct c e l r k = absurd (let d = c.0 in cc)
+gave_filled o p false false s room left limit ct c e l r k = record { told = c.1; whole = λ w f. tells_rest o p s room left limit ct c.1 e l r w; faults = omega arith; limit = omega (arith, e, l); room = k }
 
 -- less than ct bytes were left, where it told them
 short_of : (o p : Option (List ℕ)) (s : List ℕ) (room limit ct : ℕ) → Consumes o p s → IsAtEnd p → length s < ct → tells_all o room limit ≡ true
@@ -45,16 +45,16 @@ ended_tells (Some x) None s room left limit less c z w = absurd c
 ended_tells (Some x) (Some y) s room left limit less c z w = fits_back y left less (omega (arith, ap length z)) (omega (arith, ap length z))
 
 -- ct bytes were wanted, and less came
-pub less_came : (o p : Option (List ℕ)) (failed fails : Bool) (room left limit ct n : ℕ) → GaveLess o p failed fails n → n ≡ ct → ct ≤ limit
+pub less_came : (o p : Option (List ℕ)) (failed fails : Bool) (room left limit ct n : ℕ) → GaveLess o p failed fails n → n ≡ ct → ct ≤ limit → left ≤ room
     → Fails (reader_state o failed room limit) (reader_state p fails left (limit - ct)) (IsShort ct) false DeserializeUnexpectedEnd
-less_came o p true true room left limit ct n h q l = record { taken = h.taken; gave = record { told = h.gave; whole = λ w f. absurd cc; faults = omega arith; limit = omega (arith, h.within, l, q) }; first = λ w f. absurd cc; memory = λ e. absurd cc }
-less_came o p true false room left limit ct n h q l = absurd (let e = h.noted refl in cc)
-less_came o p false true room left limit ct n h q l = record { taken = h.taken; gave = record { told = h.gave; whole = λ w f. absurd cc; faults = omega arith; limit = omega (arith, h.within, l, q) }; first = λ w f. absurd cc; memory = λ e. absurd cc }
-less_came o p false false room left limit ct n h q l =
+less_came o p true true room left limit ct n h q l k = record { taken = h.taken; gave = record { told = h.gave; whole = λ w f. absurd cc; faults = omega arith; limit = omega (arith, h.within, l, q); room = k }; first = λ w f. absurd cc; memory = λ e. absurd cc }
+less_came o p true false room left limit ct n h q l k = absurd (let e = h.noted refl in cc)
+less_came o p false true room left limit ct n h q l k = record { taken = h.taken; gave = record { told = h.gave; whole = λ w f. absurd cc; faults = omega arith; limit = omega (arith, h.within, l, q); room = k }; first = λ w f. absurd cc; memory = λ e. absurd cc }
+less_came o p false false room left limit ct n h q l k =
     let z = h.ended refl in
     record {
       taken = h.taken;
-      gave = record { told = h.gave; whole = λ w f. ended_tells o p h.taken room left limit (limit - ct) h.gave z.0 w; faults = omega arith; limit = omega (arith, h.within, l, q) };
+      gave = record { told = h.gave; whole = λ w f. ended_tells o p h.taken room left limit (limit - ct) h.gave z.0 w; faults = omega arith; limit = omega (arith, h.within, l, q); room = k };
       first = λ w f. inr (short_of o p h.taken room limit ct h.gave z.0 (omega (arith, z.1, q)) w);
       memory = λ e. absurd cc;
     }

@@ -14,7 +14,8 @@ fn read_shape<W: Reads<M::Shape, F>, M: ReadableShape + Drop, F: Flavor>(
 ) -> Result<M>
 where
     M::Shape: Readable,
-    ensures { OutcomeOf F.source d.old d.new result (Spelled M.reads) M.refuses M.growing }
+    ensures { OutcomeOf F.source d.old d.new result (Spelled M.form.reads) M.form.refuses
+        M.form.growing }
 {
     let it = W::read(d)?;
     Ok(M::from_shape(it))

@@ -54,9 +54,9 @@ fn read_words(rt: &HostRuntime) -> io::Result<Option<Asked>> {
 }
 
 /// The tokens of standard input.
-fn read_tokens(rt: &HostRuntime) -> io::Result<Read> {
+fn read_tokens(rt: &HostRuntime) -> io::Result<[Read; 1]> {
     let text = io::read_to_string(rt.alloc(), rt.reader())?;
-    Ok(tokens_of(rt.alloc(), text.as_str())?)
+    Ok([tokens_of(rt.alloc(), "", text.as_str())?])
 }
 
 /// Writes the implementations, or what is wrong to standard error; and says whether nothing is.

@@ -21,7 +21,7 @@ const HEAD: &str = "//! How the message types of the module above are written an
 ";
 
 /// What ghost text brings in for tables of types with parameters.
-const OF_TABLES: &str = "ghost use Rattle.std.specs.Prelude.{IfOk, ◌≡◌};
+const OF_TABLES: &str = "ghost use Rattle.std.specs.Prelude.{IfOk};
 ghost use Rattle.schemas.specs.TypeSchemas.{BeginsWith, IsSchemaOf};
 ";
 
@@ -44,30 +44,7 @@ impl%% Formed for %Name% {
 /// What a type that is read takes from its shape.
 const READ: &str = "
 impl%: Readable% Readable for %Name% {
-    ghost takes = { ⟦<ShapeOf<Self> as Readable>⟧.takes };
-
-    ghost reads = { λ t v. ⟦<ShapeOf<Self> as Readable>⟧.reads t (⟦<Self as Shaped>⟧.shape v) };
-
-    ghost refuses = { ⟦<ShapeOf<Self> as Readable>⟧.refuses };
-
-    ghost alike = { λ v w. ⟦<ShapeOf<Self> as Readable>⟧.alike (⟦<Self as Shaped>⟧.shape v)
-        (⟦<Self as Shaped>⟧.shape w) };
-
-    ghost growing = { ⟦<ShapeOf<Self> as Readable>⟧.growing };
-
-    ghost reading = { seen_as ⟦<Self as Shaped>⟧.shape ⟦<ShapeOf<Self> as Readable>⟧.reading };
-
-    fn grows() -> bool";
-
-/// What a function of the trait promises, which is written again for a type with parameters.
-const GROWS: &str = "
-        ensures { result ≡ ⟦<ShapeOf<Self> as Readable>⟧.growing }
-    {";
-
-/// What stands behind it.
-const READ_AS_SHAPE: &str = "
-        ShapeOf::<Self>::grows()
-    }
+    ghost form = { form_as ⟦<Self as Shaped>⟧.shape ⟦<ShapeOf<Self> as Readable>⟧.form };
 }
 
 impl%: Readable% ReadableShape for %Name% {
@@ -84,8 +61,8 @@ impl%: HasSchema% HasSchema for %Name% {
 const IS_SCHEMA: &str = "
         ensures kept { BeginsWith nodes.old.items nodes.new.items }
         ensures is_schema { IfOk result (λ place.
-            IsSchemaOf ⟦<ShapeOf<Self> as Readable>⟧.takes ⟦<ShapeOf<Self> as Readable>⟧.refuses
-            nodes.new.items place) }
+            IsSchemaOf ⟦<ShapeOf<Self> as Readable>⟧.form.takes
+            ⟦<ShapeOf<Self> as Readable>⟧.form.refuses nodes.new.items place) }
     {";
 
 /// What stands behind it.
@@ -333,15 +310,13 @@ impl Text {
 
     /// Writes what ghost text brings in for types that are used so.
     fn lemmas(&mut self, used: Uses) {
-        match (used.stated, used.put_in_tables) {
-            (true, true) => self.put(OF_TABLES),
-            (true, false) => self.line(0, "ghost use Rattle.std.specs.Prelude.{◌≡◌};"),
-            _ => {}
+        if used.stated && used.put_in_tables {
+            self.put(OF_TABLES);
         }
         if used.read {
             self.line(
                 0,
-                "ghost use Rattle.postcard_tree.specs.ReadingLaws.{seen_as};",
+                "ghost use Rattle.postcard_tree.specs.ReadingLaws.{form_as};",
             );
         }
         let names = match (used.read, used.written) {
@@ -379,7 +354,7 @@ impl Text {
         }
         self.fill(it, FORMED);
         if it.marks.read {
-            self.promised(it, READ, GROWS, READ_AS_SHAPE);
+            self.fill(it, READ);
         }
         if it.marks.written {
             self.written(it);

@@ -2,7 +2,7 @@
 use crate::parts::{Parts, ROW, Spelling, spelled};
 use crate::printer::FROM_SHAPE;
 use crate::text::Text;
-use declaration_parser::declaration::{Declaration, Field, Fields};
+use declaration_parser::declaration::{Declaration, Field, Fields, Layout};
 
 impl Text {
     /// Appends how the shape is written of a struct with an alias for it, or of one without.
@@ -85,6 +85,7 @@ impl Text {
                     place,
                     name: "",
                     of: &[],
+                    layout: Layout::Own,
                 },
             };
             self.note(rows.push(part).is_err());

@@ -1,75 +1,96 @@
 //! Appending lines to a log.
 
-use crate::checking::next_number;
-use crate::entries::{Entry, MOST, open_file};
-use journal::{AppendError, Journal, Unheard};
+use crate::checking::Printer;
+use crate::entries::{Entry, MOST, open_file, say_failed, sync_folder};
+use crate::settling::{Settled, Unsettled};
+use journal::{AppendError, Journal, OpenError, ReadError, Unopened};
+use journal_scan::open_by;
 use sealed::Sealed;
-use std::fs::File;
-use std::io::{self, BufRead, BufReader};
+use std::alloc::Global;
+use std::fs::{File, TryLockError};
+use std::io::{self, BufRead, BufReader, ErrorKind};
 use stores::Stored;
 
 type Log = Stored<File>;
 
-// A log of this store, to be appended to; or the status where it can't be had. The first number is the one behind the greatest of a
-// sealed record: also where numbers are missing and the bytes that accounted for them are gone, none is used twice.
+// A log of this store, to be appended to; or the status where it can't be had. The next number is the one behind the greatest of a
+// sealed record: also where numbers are missing and the bytes that accounted for them are gone.
 fn open_log(rt: &HostRuntime, path: &str, store: Log) -> Result<Journal<Log, MOST>, u8> {
-    let mut store = store;
-    let first = match next_number(rt.alloc(), &mut store) {
-        Ok(first) => first,
-        Err(status) => return Err(status),
+    let mut silent = Printer {
+        rt: None,
+        sound: true,
     };
-    match Journal::<Log, MOST>::open::<Entry, Unheard>(rt.alloc(), store, first, &mut Unheard) {
-        Ok(journal) => Ok(journal),
-        Err(e) => {
-            let cause = e.cause;
-            // where this fails too the status is the same
-            let _ = eprintln!(rt; "records: {path}: {cause}");
-            Err(3)
+    match open_by::<Entry, Log, Printer<'_>, MOST>(rt.alloc(), store, &mut silent) {
+        Ok((journal, _)) => Ok(journal),
+        Err(Unopened { cause, store: _ }) => {
+            let failed = say_failed(rt, path, &cause);
+            match cause {
+                OpenError::Read(ReadError::NoMemory) => Err(4),
+                _ => Err(failed),
+            }
         }
     }
 }
 
-// Syncs what was appended, and prints its number; or says why it wasn't. The status of that.
-fn settle(
-    rt: &HostRuntime,
-    journal: &mut Journal<Log, MOST>,
-    appended: Result<u64, AppendError>,
-) -> io::Result<u8> {
-    match appended {
-        Ok(number) => {
-            if journal.sync().is_err() {
-                return Ok(3);
-            }
-            println!(rt; "{number}")?;
-            Ok(0)
-        }
-        Err(AppendError::Refused(_)) => {
+// Prints the number of a record that no crash takes.
+fn print_number(rt: &HostRuntime, settled: &Settled) -> io::Result<u8> {
+    let number = settled.number();
+    println!(rt; "{number}")?;
+    Ok(0)
+}
+
+// Says why a line has no number; the status of that.
+fn say_unsettled(rt: &HostRuntime, path: &str, why: Unsettled) -> io::Result<u8> {
+    match why {
+        Unsettled::Append(AppendError::Refused(_)) => {
             eprintln!(rt; "records: a line is too long")?;
             Ok(1)
         }
-        Err(_) => Ok(3),
+        Unsettled::Append(e) => Ok(say_failed(rt, path, &e)),
+        Unsettled::Sync => Ok(say_failed(rt, path, &"not synced")),
     }
 }
 
-// Appends a line as it was read; the status of that.
+// Appends a line, and prints its number once no crash takes it; the status of that.
 fn append_line(
     rt: &HostRuntime,
+    path: &str,
     journal: &mut Journal<Log, MOST>,
-    line: io::Result<String>,
+    line: String,
 ) -> io::Result<u8> {
-    let entry = Sealed((journal.next(), line?));
-    let appended = journal.append(&entry);
-    settle(rt, journal, appended)
+    let entry = Sealed((journal.next(), line));
+    match Settled::append(journal, &entry) {
+        Ok(settled) => print_number(rt, &settled),
+        Err(why) => say_unsettled(rt, path, why),
+    }
+}
+
+// The next line, without the line feed that ends it; nothing at the end of the input. No other byte is taken off.
+fn read_line<R: BufRead>(alloc: Global, input: &mut R) -> io::Result<Option<String>> {
+    let mut line: Vec<u8> = Vec::new(alloc);
+    if input.read_until(b'\n', &mut line)? == 0 {
+        return Ok(None);
+    }
+    if line.last() == Some(&b'\n') {
+        let _ = line.pop();
+    }
+    match String::from_utf8(line) {
+        Ok(text) => Ok(Some(text)),
+        Err(_) => Err(io::Error::from(ErrorKind::InvalidData)),
+    }
 }
 
 // Appends each line of standard input; one that is too long is left out.
-fn append_lines(rt: &HostRuntime, journal: &mut Journal<Log, MOST>) -> io::Result<u8> {
-    let Ok(input) = BufReader::new(rt.alloc(), rt.reader()) else {
+fn append_lines(rt: &HostRuntime, path: &str, journal: &mut Journal<Log, MOST>) -> io::Result<u8> {
+    let Ok(mut input) = BufReader::new(rt.alloc(), rt.reader()) else {
         return Ok(4);
     };
     let mut status = 0u8;
-    for line in input.lines(rt.alloc()) {
-        match append_line(rt, journal, line) {
+    for _ in 0..u64::MAX {
+        let Some(line) = read_line(rt.alloc(), &mut input)? else {
+            return Ok(status);
+        };
+        match append_line(rt, path, journal, line) {
             Ok(0) => {}
             Ok(1) => status = 1,
             failed => return failed,
@@ -78,19 +99,34 @@ fn append_lines(rt: &HostRuntime, journal: &mut Journal<Log, MOST>) -> io::Resul
     Ok(status)
 }
 
-fn in_use(rt: &HostRuntime, path: &str) -> io::Result<u8> {
-    eprintln!(rt; "records: {path} is in use")?;
-    Ok(3)
+// Takes the lock of a log's file; or says why not. The status of that.
+fn lock(rt: &HostRuntime, path: &str, file: &File) -> u8 {
+    match file.try_lock() {
+        Ok(()) => 0,
+        Err(TryLockError::WouldBlock) => say_failed(rt, path, &"in use"),
+        Err(TryLockError::Error(e)) => say_failed(rt, path, &e),
+    }
 }
 
 /// Appends each line of standard input to a log that none else appends to, and prints its number once it is synced.
 pub fn append(rt: &HostRuntime, path: &str) -> io::Result<u8> {
-    let file = open_file(rt, path, true)?;
-    if file.try_lock().is_err() {
-        return in_use(rt, path);
+    let file = match open_file(rt, path, true) {
+        Ok(file) => file,
+        Err(status) => return Ok(status),
+    };
+    match lock(rt, path, &file) {
+        0 => {}
+        failed => return Ok(failed),
+    }
+    // a file that has bytes was opened so before
+    if file.metadata()?.len() == 0 {
+        match sync_folder(rt, path) {
+            0 => {}
+            failed => return Ok(failed),
+        }
     }
     match open_log(rt, path, Stored::new(file)) {
-        Ok(mut journal) => append_lines(rt, &mut journal),
+        Ok(mut journal) => append_lines(rt, path, &mut journal),
         Err(status) => Ok(status),
     }
 }

@@ -1,13 +1,12 @@
 //! Checking a log, and repairing one.
-ghost use Rattle.std.specs.Prelude.{◌==◌, ⊤, OnOk};
+ghost use Rattle.std.specs.Prelude.{◌==◌, ⊤, OnOk, OnErr};
 
-use crate::entries::{Entry, MOST, open_file, read_input, status_of};
+use crate::entries::{Entry, INPUT, MOST, open_file, read_input, say_failed, status_of};
 use journal::Halt;
 use journal_scan::{CheckError, Gap, Judge, RepairError, Report, Stretch, Tally, Watcher};
 use line_io::{Writes, write_all};
 use link::Answer;
 use sealed::Sealed;
-use std::alloc::Global;
 use std::io;
 use stores::{Memory, Store, Stored};
 
@@ -31,9 +30,11 @@ fn print_stretch(rt: &HostRuntime, from: u64, to: u64, what: &str) -> Result<(),
 
 // Prints what a log has against it, as it is told, or nothing; and keeps whether it was told of something.
 #[derive(Drop)]
-struct Printer<'a> {
-    rt: Option<&'a HostRuntime>,
-    sound: bool,
+pub struct Printer<'a> {
+    /// Where it is printed.
+    pub rt: Option<&'a HostRuntime>,
+    /// Whether it was told of nothing so far.
+    pub sound: bool,
 }
 
 impl Judge<Entry> for Printer<'_> {
@@ -48,10 +49,14 @@ impl Judge<Entry> for Printer<'_> {
 impl Watcher<Entry> for Printer<'_> {
     ghost told = { λ _ _ _. ⊤ };
 
+    // where what it says can't be printed
+    ghost halts = { λ _. ⊤ };
+
     ghost laws = { record { nothing = λ s. tt; more = λ s t u a b p q. tt } };
 
     fn tell(&mut self, stretch: Stretch<Entry>, again: bool) -> Result<(), Halt>
-        ensures { OnOk result ⊤ }
+        ensures told { OnOk result ⊤ }
+        ensures halts { OnErr result ⊤ }
     {
         let Some(what) = held_against(&stretch.answer, again) else {
             return Ok(());
@@ -64,23 +69,11 @@ impl Watcher<Entry> for Printer<'_> {
     }
 }
 
-// The status where a check went no further.
-fn status_at(e: CheckError) -> u8 {
+// Says why a check of a log went no further; the status of that.
+fn status_at(rt: &HostRuntime, log: &str, e: CheckError) -> u8 {
     match e {
-        CheckError::Read(e) => status_of(e),
-        CheckError::Halted => 3,
-    }
-}
-
-/// The number behind the greatest of a log's sealed records; or the status where the log wasn't read.
-pub fn next_number<S: Store>(alloc: Global, store: &mut S) -> Result<u64, u8> {
-    let mut silent = Printer {
-        rt: None,
-        sound: true,
-    };
-    match journal_scan::check::<Entry, S, Printer<'_>>(alloc, MOST, store, &mut silent) {
-        Ok(report) => Ok(report.tally.next()),
-        Err(e) => Err(status_at(e)),
+        CheckError::Read(e) => status_of(rt, log, e),
+        CheckError::Halted => say_failed(rt, log, &"not printed"),
     }
 }
 
@@ -113,23 +106,26 @@ fn sum_up(rt: &HostRuntime, report: &Report<Entry>, sound: bool) -> io::Result<u
     if whole && sound { Ok(0) } else { Ok(1) }
 }
 
-fn check_in<S: Store>(rt: &HostRuntime, store: &mut S) -> io::Result<u8> {
+fn check_in<S: Store>(rt: &HostRuntime, log: &str, store: &mut S) -> io::Result<u8> {
     let mut printer = Printer {
         rt: Some(rt),
         sound: true,
     };
     match journal_scan::check::<Entry, S, Printer<'_>>(rt.alloc(), MOST, store, &mut printer) {
         Ok(report) => sum_up(rt, &report, printer.sound),
-        Err(e) => Ok(status_at(e)),
+        Err(e) => Ok(status_at(rt, log, e)),
     }
 }
 
 /// Checks a log.
 pub fn check(rt: &HostRuntime, path: Option<&str>) -> io::Result<u8> {
     match path {
-        Some(path) => check_in(rt, &mut Stored::new(open_file(rt, path, false)?)),
+        Some(path) => match open_file(rt, path, false) {
+            Ok(file) => check_in(rt, path, &mut Stored::new(file)),
+            Err(status) => Ok(status),
+        },
         None => match read_input(rt) {
-            Ok(mut store) => check_in(rt, &mut store),
+            Ok(mut store) => check_in(rt, INPUT, &mut store),
             Err(status) => Ok(status),
         },
     }
@@ -140,15 +136,18 @@ fn mend_to(rt: &HostRuntime, from: &mut Memory, to: &mut Memory) -> io::Result<u
     match journal_scan::repair::<Entry, Memory, Memory>(rt.alloc(), MOST, from, to) {
         Ok(repaired) => {
             if write_all(&mut Writes::new(rt.stdout()), to.bytes()).is_err() {
-                return Ok(3);
+                return Ok(say_failed(rt, "standard output", &"write failed"));
             }
             let count = repaired.records;
             eprintln!(rt; "{count} records")?;
             Ok(0)
         }
-        Err(RepairError::Read(e)) => Ok(status_of(e)),
+        Err(RepairError::Read(e)) => Ok(status_of(rt, INPUT, e)),
         // the store in memory found none for what it got
-        Err(_) => Ok(4),
+        Err(_) => {
+            say_failed(rt, INPUT, &"no memory");
+            Ok(4)
+        }
     }
 }
 

@@ -3,6 +3,7 @@
 use journal_scan::ScanError;
 use line_io::{End, Reads, read_to_end};
 use sealed::Sealed;
+use std::fmt::Display;
 use std::fs::{File, OpenOptions};
 use std::io;
 use stores::Memory;
@@ -14,13 +15,65 @@ pub const MOST: usize = 1024;
 pub type Entry = Sealed<(u64, String)>;
 
 /// Opens the file of a log, to be read, or to be appended to as well: then it is made where it isn't there.
-pub fn open_file(rt: &HostRuntime, path: &str, write: bool) -> io::Result<File> {
+///
+/// Where that fails it is said, and the status answered.
+pub fn open_file(rt: &HostRuntime, path: &str, write: bool) -> Result<File, u8> {
     let mut options = OpenOptions::new();
     options.read(true);
     if write {
         options.append(true).create(true);
     }
-    options.open(rt, path)
+    match options.open(rt, path) {
+        Ok(file) => Ok(file),
+        Err(e) => Err(say_failed(rt, path, &e)),
+    }
+}
+
+// The folder that a file lies in.
+fn folder_of(path: &str) -> &str {
+    match path.rsplit_once('/') {
+        Some(("", _)) => "/",
+        Some((folder, _)) => folder,
+        None => ".",
+    }
+}
+
+/// Syncs the folder that a new file lies in, so that no crash takes the file; or says why not. The status of that.
+pub fn sync_folder(rt: &HostRuntime, path: &str) -> u8 {
+    let folder = folder_of(path);
+    let mut options = OpenOptions::new();
+    options.read(true);
+    match options.open(rt, folder) {
+        Ok(opened) => match opened.sync_all() {
+            Ok(()) => 0,
+            Err(e) => say_failed(rt, folder, &e),
+        },
+        Err(e) => say_failed(rt, folder, &e),
+    }
+}
+
+// The null device.
+fn open_null(rt: &HostRuntime) -> io::Result<File> {
+    let mut options = OpenOptions::new();
+    options.read(true);
+    options.write(true);
+    options.open(rt, "/dev/null")
+}
+
+/// Holds the descriptors 0 to 2 for as long as the answer is held: one that was closed is the null device then. Else a log that is
+/// opened next would get it, and what is printed would be written into the log.
+pub fn hold_descriptors(rt: &HostRuntime) -> io::Result<[File; 3]> {
+    Ok([open_null(rt)?, open_null(rt)?, open_null(rt)?])
+}
+
+/// What a log on standard input is called.
+pub const INPUT: &str = "standard input";
+
+/// Says what failed of a log; and the status of that.
+pub fn say_failed<W: Display>(rt: &HostRuntime, log: &str, what: &W) -> u8 {
+    // where this fails too the status is the same
+    let _ = eprintln!(rt; "records: {log}: {what}");
+    3
 }
 
 /// The log that stands on standard input; or the status where it can't be had.
@@ -28,15 +81,21 @@ pub fn read_input(rt: &HostRuntime) -> Result<Memory, u8> {
     let mut bytes = Vec::new(rt.alloc());
     match read_to_end(&mut Reads::new(rt.stdin()), &mut bytes) {
         End::Ended => Ok(Memory::new(bytes)),
-        End::ReadFault => Err(3),
-        End::NoMemory => Err(4),
+        End::ReadFault => Err(say_failed(rt, INPUT, &"read failed")),
+        End::NoMemory => {
+            say_failed(rt, INPUT, &"no memory");
+            Err(4)
+        }
     }
 }
 
-/// The status where a scan went no further.
-pub fn status_of(e: ScanError) -> u8 {
+/// Says why a scan of a log went no further; and the status of that.
+pub fn status_of(rt: &HostRuntime, log: &str, e: ScanError) -> u8 {
     match e {
-        ScanError::Fault => 3,
-        ScanError::NoMemory => 4,
+        ScanError::Fault => say_failed(rt, log, &"read failed"),
+        ScanError::NoMemory => {
+            say_failed(rt, log, &"no memory");
+            4
+        }
     }
 }

@@ -19,11 +19,13 @@
 mod appending;
 mod checking;
 mod entries;
+mod settling;
 mod showing;
 mod words;
 
 use crate::appending::append;
 use crate::checking::{check, mend};
+use crate::entries::hold_descriptors;
 use crate::showing::{follow, show};
 use crate::words::wanted_by;
 use std::process::ExitCode;
@@ -74,6 +76,7 @@ fn run_on(rt: &HostRuntime, held: &[String]) -> io::Result<u8> {
 }
 
 fn run(rt: &HostRuntime) -> io::Result<u8> {
+    let _held = hold_descriptors(rt)?;
     let mut words: Vec<String> = Vec::new(rt.alloc());
     for word in env::args(rt)?.skip(1) {
         words.push(word)?;

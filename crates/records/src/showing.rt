@@ -1,8 +1,10 @@
 //! Showing the records of a log.
+ghost use Rattle.std.specs.Prelude.{◌-◌, IsTrue};
+ghost use Rattle.stores.specs.Store.{EndsBefore};
 
-use crate::entries::{Entry, MOST, open_file, read_input, status_of};
+use crate::entries::{Entry, INPUT, MOST, open_file, read_input, say_failed, status_of};
 use crate::words::Wanted;
-use journal_scan::Scan;
+use journal_scan::{Scan, ScanError};
 use link::Answer;
 use sealed::Sealed;
 use std::alloc::Global;
@@ -59,19 +61,19 @@ fn write_rest<S: Store, W: Write>(
     to: &mut W,
     wanted: Wanted<'_>,
     passed: &mut u64,
-) -> io::Result<u8> {
+) -> io::Result<Result<u8, ScanError>> {
     for _ in 0..u64::MAX {
         let written = match scan.next_ended::<Entry, S>(alloc, store) {
             Ok(Some(stretch)) => write_wanted(alloc, to, &stretch.answer, wanted, passed),
-            Ok(None) => return Ok(0),
-            Err(e) => Ok(status_of(e)),
+            Ok(None) => return Ok(Ok(0)),
+            Err(e) => return Ok(Err(e)),
         };
-        match written {
-            Ok(0) => {}
-            failed => return failed,
+        match written? {
+            0 => {}
+            failed => return Ok(Ok(failed)),
         }
     }
-    Ok(3)
+    Ok(Ok(3))
 }
 
 // Prints the same. The lines are gathered, and all of them are printed before this returns, also where it goes no further.
@@ -87,7 +89,22 @@ fn show_rest<S: Store>(
     };
     let shown = write_rest(rt.alloc(), scan, store, &mut printed, wanted, passed);
     printed.flush()?;
-    shown
+    match shown? {
+        Ok(status) => Ok(status),
+        Err(e) => Ok(status_of(rt, wanted.path.unwrap_or(INPUT), e)),
+    }
+}
+
+// Prints what stands behind the last zero, where that is a record but for its zero, and is wanted.
+fn show_last(rt: &HostRuntime, scan: Scan, wanted: Wanted<'_>, passed: &mut u64) -> io::Result<u8> {
+    match scan.finish::<Entry>(rt.alloc()) {
+        Ok(Some(stretch)) => {
+            let answer = &stretch.answer;
+            write_wanted(rt.alloc(), &mut io::writer(rt), answer, wanted, passed)
+        }
+        Ok(None) => Ok(0),
+        Err(e) => Ok(status_of(rt, wanted.path.unwrap_or(INPUT), e)),
+    }
 }
 
 // Prints what is wanted of a log, without the first `passed` of it.
@@ -98,8 +115,11 @@ fn show_from<S: Store>(
     passed: &mut u64,
 ) -> io::Result<u8> {
     match Scan::new(rt.alloc(), MOST, 0) {
-        Ok(mut scan) => show_rest(rt, &mut scan, store, wanted, passed),
-        Err(e) => Ok(status_of(e)),
+        Ok(mut scan) => match show_rest(rt, &mut scan, store, wanted, passed) {
+            Ok(0) => show_last(rt, scan, wanted, passed),
+            failed => failed,
+        },
+        Err(e) => Ok(status_of(rt, wanted.path.unwrap_or(INPUT), e)),
     }
 }
 
@@ -120,12 +140,23 @@ fn show_in<S: Store>(rt: &HostRuntime, store: &mut S, wanted: Wanted<'_>) -> io:
 /// Shows a log.
 pub fn show(rt: &HostRuntime, wanted: Wanted<'_>) -> io::Result<u8> {
     match wanted.path {
-        Some(path) => show_in(rt, &mut Stored::new(open_file(rt, path, false)?), wanted),
+        Some(path) => match open_file(rt, path, false) {
+            Ok(file) => show_in(rt, &mut Stored::new(file), wanted),
+            Err(status) => Ok(status),
+        },
         None => match read_input(rt) {
             Ok(mut store) => show_in(rt, &mut store, wanted),
             Err(status) => Ok(status),
         },
     }
+}
+
+// Whether a log is shorter than what was read of it.
+fn is_cut_off<S: Store>(store: &mut S, at: u64) -> bool
+    ensures { IsTrue result → EndsBefore (S.line store.old).told (at - 1) }
+{
+    let mut room = [0u8; 1];
+    at > 0 && matches!(store.read_at(at - 1, &mut room), Some(0))
 }
 
 // Shows what the scan still comes to, and again at each line of standard input.
@@ -141,6 +172,10 @@ fn follow_on<S: Store>(
     }
     for line in rt.lines(rt.alloc()) {
         line?;
+        if is_cut_off(store, scan.at()) {
+            let log = wanted.path.unwrap_or(INPUT);
+            return Ok(say_failed(rt, log, &"cut off: it is shorter than what was shown"));
+        }
         match show_rest(rt, scan, store, wanted, &mut 0) {
             Ok(0) => {}
             failed => return failed,
@@ -151,9 +186,12 @@ fn follow_on<S: Store>(
 
 /// Shows a log, and what was appended since at each line of standard input.
 pub fn follow(rt: &HostRuntime, path: &str, wanted: Wanted<'_>) -> io::Result<u8> {
-    let mut store = Stored::new(open_file(rt, path, false)?);
+    let mut store = match open_file(rt, path, false) {
+        Ok(file) => Stored::new(file),
+        Err(status) => return Ok(status),
+    };
     match Scan::new(rt.alloc(), MOST, 0) {
         Ok(mut scan) => follow_on(rt, &mut scan, &mut store, wanted),
-        Err(e) => Ok(status_of(e)),
+        Err(e) => Ok(status_of(rt, wanted.path.unwrap_or(INPUT), e)),
     }
 }

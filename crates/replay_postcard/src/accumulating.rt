@@ -69,6 +69,7 @@ fn feed_new(size: usize, feeding: Feeding<'_>, pieces: &[Vec<u8>]) -> Result<Str
         11 => feed_all::<11>(feeding, pieces),
         12 => feed_all::<12>(feeding, pieces),
         16 => feed_all::<16>(feeding, pieces),
+        17 => feed_all::<17>(feeding, pieces),
         32 => feed_all::<32>(feeding, pieces),
         64 => feed_all::<64>(feeding, pieces),
         _ => Err(Trouble::Unreadable),

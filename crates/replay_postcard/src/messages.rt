@@ -133,19 +133,6 @@ fn perform<'a, T: Serialize + Deserialize<&'a [u8]> + DeserializeOwned + Shown>(
     perform_borrowing::<T>(line, findings)
 }
 
-/// Does what a line asks of a type that no stored line writes: reads it.
-fn perform_reading<'a, T: Deserialize<&'a [u8]> + DeserializeOwned + Shown>(
-    line: &mut Line<'a>,
-    findings: &mut Findings,
-) -> Result<(), Trouble> {
-    match line.task {
-        Task::Write => return Err(Trouble::Unreadable),
-        Task::Read => read_owned::<T>(line.alloc, line.bytes, line.wanted, findings)?,
-        Task::ReadFrame => {}
-    }
-    read_by_task::<T>(line, findings)
-}
-
 /// Does what a line asks of a type that may keep bytes.
 fn perform_borrowing<'a, T: Serialize + Deserialize<&'a [u8]> + Shown>(
     line: &mut Line<'a>,
@@ -188,7 +175,7 @@ fn ask_number(line: &mut Line<'_>, findings: &mut Findings) -> Result<(), Troubl
         "i128" => perform::<i128>(line, findings),
         "isize" => perform::<isize>(line, findings),
         "char" => perform::<char>(line, findings),
-        "()" => perform_reading::<()>(line, findings),
+        "()" => perform::<()>(line, findings),
         _ => ask_fixed(line, findings),
     }
 }
@@ -221,7 +208,8 @@ fn ask_text<'a>(line: &mut Line<'a>, findings: &mut Findings) -> Result<(), Trou
     match line.name {
         "&[u8]" => perform_borrowing::<&'a [u8]>(line, findings),
         "&str" => perform_borrowing::<&'a str>(line, findings),
-        "ArrayString<0>" => perform_reading::<ArrayString<0>>(line, findings),
+        "ArrayString<0>" => perform::<ArrayString<0>>(line, findings),
+        "ArrayString<4>" => perform::<ArrayString<4>>(line, findings),
         "ArrayString<8>" => perform::<ArrayString<8>>(line, findings),
         "String" => perform::<String>(line, findings),
         _ => ask_vector(line, findings),
@@ -252,17 +240,17 @@ fn ask_vector(line: &mut Line<'_>, findings: &mut Findings) -> Result<(), Troubl
 fn ask_array(line: &mut Line<'_>, findings: &mut Findings) -> Result<(), Trouble> {
     match line.name {
         "ArrayVec<(),3>" => perform::<ArrayVec<(), 3>>(line, findings),
-        "ArrayVec<u8,0>" => perform_reading::<ArrayVec<u8, 0>>(line, findings),
-        "ArrayVec<u8,2>" => perform_reading::<ArrayVec<u8, 2>>(line, findings),
+        "ArrayVec<u8,0>" => perform::<ArrayVec<u8, 0>>(line, findings),
+        "ArrayVec<u8,2>" => perform::<ArrayVec<u8, 2>>(line, findings),
         "ArrayVec<u8,4>" => perform::<ArrayVec<u8, 4>>(line, findings),
         "ArrayVec<u16,2>" => perform::<ArrayVec<u16, 2>>(line, findings),
         "ArrayVec<ArrayString<4>,2>" => perform::<ArrayVec<ArrayString<4>, 2>>(line, findings),
         "[(bool,i16);2]" => perform::<[(bool, i16); 2]>(line, findings),
         "[Option<u8>;2]" => perform::<[Option<u8>; 2]>(line, findings),
         "[u16;3]" => perform::<[u16; 3]>(line, findings),
-        "[u8;0]" => perform_reading::<[u8; 0]>(line, findings),
+        "[u8;0]" => perform::<[u8; 0]>(line, findings),
         "[u8;1]" => perform::<[u8; 1]>(line, findings),
-        "[u8;3]" => perform_reading::<[u8; 3]>(line, findings),
+        "[u8;3]" => perform::<[u8; 3]>(line, findings),
         "[u8;32]" => perform::<[u8; 32]>(line, findings),
         "[u8;4]" => perform::<[u8; 4]>(line, findings),
         _ => ask_tuple(line, findings),
@@ -298,7 +286,7 @@ fn ask_choice(line: &mut Line<'_>, findings: &mut Findings) -> Result<(), Troubl
         "Option<Vec<Result<(u8,String),[u16;2]>>>" => perform::<
             Option<Vec<Result<(u8, String), [u16; 2]>>>,
         >(line, findings),
-        "Result<u8,u8>" => perform_reading::<Result<u8, u8>>(line, findings),
+        "Result<u8,u8>" => perform::<Result<u8, u8>>(line, findings),
         "Result<u8,u16>" => perform::<Result<u8, u16>>(line, findings),
         "Result<(),String>" => perform::<Result<(), String>>(line, findings),
         "Result<Vec<u8>,bool>" => perform::<Result<Vec<u8>, bool>>(line, findings),
@@ -323,12 +311,12 @@ fn ask_other(line: &mut Line<'_>, findings: &mut Findings) -> Result<(), Trouble
 /// Asks a container of nothings that the lines of other families don't name.
 fn ask_nothings(line: &mut Line<'_>, findings: &mut Findings) -> Result<(), Trouble> {
     match line.name {
-        "Vec<()>" => perform_reading::<Vec<()>>(line, findings),
-        "[();3]" => perform_reading::<[(); 3]>(line, findings),
-        "Box<()>" => perform_reading::<Box<()>>(line, findings),
-        "((),)" => perform_reading::<((),)>(line, findings),
-        "Result<(),()>" => perform_reading::<Result<(), ()>>(line, findings),
-        "BTreeMap<u8,()>" => perform_reading::<BTreeMap<u8, ()>>(line, findings),
+        "Vec<()>" => perform::<Vec<()>>(line, findings),
+        "[();3]" => perform::<[(); 3]>(line, findings),
+        "Box<()>" => perform::<Box<()>>(line, findings),
+        "((),)" => perform::<((),)>(line, findings),
+        "Result<(),()>" => perform::<Result<(), ()>>(line, findings),
+        "BTreeMap<u8,()>" => perform::<BTreeMap<u8, ()>>(line, findings),
         _ => Err(Trouble::Unreadable),
     }
 }

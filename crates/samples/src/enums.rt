@@ -1,5 +1,5 @@
 //! Enums are the variant's index and what the variant holds.
-ghost use Rattle.postcard_tree.specs.ReadingLaws.{seen_as};
+ghost use Rattle.postcard_tree.specs.ReadingLaws.{form_as};
 ghost use Rattle.postcard_tree.specs.Shapes.{read_as_shape, written_as_shape};
 
 use crate::structs::EnumStruct;
@@ -45,22 +45,7 @@ impl Formed for BasicEnum {
 }
 
 impl Readable for BasicEnum {
-    ghost takes = { ⟦<ShapeOf<Self> as Readable>⟧.takes };
-
-    ghost reads = { λ t v. ⟦<ShapeOf<Self> as Readable>⟧.reads t (⟦<Self as Shaped>⟧.shape v) };
-
-    ghost refuses = { ⟦<ShapeOf<Self> as Readable>⟧.refuses };
-
-    ghost alike = { λ v w. ⟦<ShapeOf<Self> as Readable>⟧.alike
-        (⟦<Self as Shaped>⟧.shape v) (⟦<Self as Shaped>⟧.shape w) };
-
-    ghost growing = { ⟦<ShapeOf<Self> as Readable>⟧.growing };
-
-    ghost reading = { seen_as ⟦<Self as Shaped>⟧.shape ⟦<ShapeOf<Self> as Readable>⟧.reading };
-
-    fn grows() -> bool {
-        ShapeOf::<Self>::grows()
-    }
+    ghost form = { form_as ⟦<Self as Shaped>⟧.shape ⟦<ShapeOf<Self> as Readable>⟧.form };
 }
 
 impl ReadableShape for BasicEnum {
@@ -138,22 +123,7 @@ impl Formed for DataEnum {
 }
 
 impl Readable for DataEnum {
-    ghost takes = { ⟦<ShapeOf<Self> as Readable>⟧.takes };
-
-    ghost reads = { λ t v. ⟦<ShapeOf<Self> as Readable>⟧.reads t (⟦<Self as Shaped>⟧.shape v) };
-
-    ghost refuses = { ⟦<ShapeOf<Self> as Readable>⟧.refuses };
-
-    ghost alike = { λ v w. ⟦<ShapeOf<Self> as Readable>⟧.alike
-        (⟦<Self as Shaped>⟧.shape v) (⟦<Self as Shaped>⟧.shape w) };
-
-    ghost growing = { ⟦<ShapeOf<Self> as Readable>⟧.growing };
-
-    ghost reading = { seen_as ⟦<Self as Shaped>⟧.shape ⟦<ShapeOf<Self> as Readable>⟧.reading };
-
-    fn grows() -> bool {
-        ShapeOf::<Self>::grows()
-    }
+    ghost form = { form_as ⟦<Self as Shaped>⟧.shape ⟦<ShapeOf<Self> as Readable>⟧.form };
 }
 
 impl ReadableShape for DataEnum {

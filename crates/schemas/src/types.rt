@@ -33,7 +33,7 @@ pub trait HasSchema: Readable {
     fn add_schema(alloc: Global, nodes: &mut Vec<Node>) -> Result<usize, AllocError>
         ensures kept { BeginsWith nodes.old.items nodes.new.items }
         ensures is_schema { IfOk result (λ place.
-            IsSchemaOf Self.takes Self.refuses nodes.new.items place) };
+            IsSchemaOf Self.form.takes Self.form.refuses nodes.new.items place) };
 }
 
 /// Variants that are types of a table.
@@ -53,7 +53,7 @@ pub trait HasPayloadSchemas: ReadableVariants {
 
 /// A table of the type alone, and the type's place in it.
 pub fn schema_of<T: HasSchema>(alloc: Global) -> Result<(Vec<Node>, usize), AllocError>
-    ensures { IfOk result (λ p. IsSchemaOf T.takes T.refuses p.0.items p.1) }
+    ensures { IfOk result (λ p. IsSchemaOf T.form.takes T.form.refuses p.0.items p.1) }
 {
     let mut nodes = Vec::new(alloc);
     let place = T::add_schema(alloc, &mut nodes)?;

@@ -9,8 +9,9 @@
 //! ```
 //!
 //! A frame tells where a message ends and that none of its bytes is the sentinel; it is no checksum. Of the single flipped bits in
-//! a run of frames about half read as another message. CRC-32 finds each damage of up to 32 bits in a row, and of all others it
-//! lets one of 2^32 pass.
+//! a run of frames about half read as another message. CRC-32 finds each damage of up to 32 bits in a row of the spelling, where
+//! that keeps its length. On a line the damage is of the frame: a flipped bit of a code, or of a count, moves what stands behind it,
+//! so one bit there changes the message in several places. Of such damage, as of all other, one of 2^32 passes.
 #![tactic(auto)]
 
 mod checksum;

@@ -10,29 +10,28 @@ use crate::checksum::FIRST;
 use crate::summing::Summing;
 use postcard::fixint::LE;
 use postcard::ser_flavors::Flavor;
-use postcard::{Exact, Lawful, Readable, Result, Serialize, Serializer};
+use postcard::{Exact, Grows, Lawful, Readable, Result, Serialize, Serializer};
 
 /// A value with the CRC-32 of its spelling behind it.
 ///
 /// The sum is that of the shortest spelling of the value, which is the one that is written: four bytes, the lowest first. A value is
 /// read exactly where these four bytes are the sum of what it writes; where they aren't, the answer is
 /// `DeserializeBadCrc`, after all refusals of the value itself, and of fewer than four bytes.
-#[derive(Drop)]
+#[derive(PartialEq, Drop)]
 pub struct Sealed<T>(pub T);
 
 impl<T: Readable> Readable for Sealed<T> {
-    ghost takes = { TakesSealed T.takes };
+    ghost form = { record {
+      takes = TakesSealed T.form.takes;
+      reads = λ t v. ReadsSealed T.form.reads t v.0;
+      refuses = RefusesSealed T.form.takes T.form.refuses;
+      alike = λ v w. T.form.alike v.0 w.0;
+      growing = T.form.growing;
+      laws = seen_as (λ v. v.0) (sealed_laws T.form.laws);
+    } };
+}
 
-    ghost reads = { λ t v. ReadsSealed T.reads t v.0 };
-
-    ghost refuses = { RefusesSealed T.takes T.refuses };
-
-    ghost alike = { λ v w. T.alike v.0 w.0 };
-
-    ghost growing = { T.growing };
-
-    ghost reading = { seen_as (λ v. v.0) (sealed_laws T.reading) };
-
+impl<T: Grows> Grows for Sealed<T> {
     fn grows() -> bool {
         T::grows()
     }
@@ -81,9 +80,10 @@ impl<T: Serialize> Serialize for Sealed<T> {
 }
 
 impl<T: Lawful> Lawful for Sealed<T> {
-    ghost reads_back = { λ v t h e. sealed_back T.reads v.0 (T.writes v.0) t (λ u k. T.reads_back v.0 u h k) e };
+    ghost reads_back = { λ v t h e. sealed_back T.form.reads v.0 (T.writes v.0) t
+        (λ u k. T.reads_back v.0 u h k) e };
 }
 
 impl<T: Exact> Exact for Sealed<T> {
-    ghost writes_back = { λ t v h. sealed_written T.reads T.writes T.writes_back t v.0 h };
+    ghost writes_back = { λ t v h. sealed_written T.form.reads T.writes T.writes_back t v.0 h };
 }

@@ -1,8 +1,9 @@
 //! What the device does.
-ghost use Rattle.std.specs.Prelude.{◌≡◌, ◌+◌, ◌<◌, ◌≤◌, false, IfSome, IfNone};
+ghost use Rattle.std.specs.Prelude.{◌≡◌, ◌+◌, ◌<◌, ◌≤◌, false, Some, IfSome, IfNone};
 ghost use Rattle.shell.specs.Device.{DeviceStands, Does, Doses};
+ghost use Rattle.shell.specs.declared.messages.Report.TheVariants.{Passed};
 
-use crate::messages::{Command, Refusal, Report};
+use crate::messages::{Behind, Command, Refusal, Report};
 use calls::Application;
 
 /// A pump that doses, and counts what it has dosed.
@@ -59,10 +60,12 @@ fn used_within(limit: u32, used: u32, amount: u32) -> Option<u32>
 impl Application<Command, Report> for Device {
     ghost executes = { Does };
 
-    fn execute(&mut self, command: Command) -> Report
-        ensures { Does self.old command result self.new }
+    ghost passes = { λ number last. Some (Passed (record { number = number; last = last })) };
+
+    fn execute(&mut self, command: &Command) -> Report
+        ensures { Does self.old command.now result self.new }
     {
-        match command {
+        match *command {
             Command::Show => {
                 return Report::State {
                     is_on: self.is_on,
@@ -77,5 +80,11 @@ impl Application<Command, Report> for Device {
             Command::Reset => self.used = 0,
         }
         Report::Done
+    }
+
+    fn pass(number: u64, last: u64) -> Option<Report>
+        ensures { result ≡ Some (Passed (record { number = number; last = last })) }
+    {
+        Some(Report::Passed(Behind { number, last }))
     }
 }

@@ -6,9 +6,9 @@ mod messages;
 mod words;
 
 pub use device::Device;
-pub use messages::{Command, Refusal, Report};
+pub use messages::{Behind, Command, Refusal, Report};
 pub use words::command_of;
 
-/// The bytes of a frame at most, on both lines. The longest message is a number, and that number and a state with their sum: 36
-/// bytes, whose frame has 37.
-pub const FRAME: usize = 40;
+/// The bytes of a frame at most, on both lines. The longest message is a number, and that number and what is said of a call that was
+/// passed over with their sum: 45 bytes, whose frame has 46.
+pub const FRAME: usize = 48;

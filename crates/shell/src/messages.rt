@@ -29,6 +29,18 @@ pub enum Report {
     Done,
     /// Nothing was done.
     Refused(Refusal),
+    /// A call was passed over. It may have been executed before.
+    Passed(Behind),
+}
+
+/// A call that isn't above the last.
+// message
+#[derive(Clone, Copy, Debug, PartialEq, Eq, Drop)]
+pub struct Behind {
+    /// Its number.
+    pub number: u64,
+    /// That of the call that was executed last.
+    pub last: u64,
 }
 
 /// Why nothing was done.

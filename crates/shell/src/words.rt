@@ -66,6 +66,7 @@ impl fmt::Display for Report {
             }
             Report::Done => write!(f, "done"),
             Report::Refused(refusal) => write!(f, "refused: {refusal}"),
+            Report::Passed(it) => write!(f, "call {} is behind call {}", it.number, it.last),
         }
     }
 }

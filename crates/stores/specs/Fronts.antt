@@ -1,5 +1,6 @@
 -- What a clause reads of a store that is read from an offset on.
-use Rattle.std.specs.Prelude.{ℕ, List, Option}
+use Rattle.std.specs.Prelude.{ℕ}
+use Rattle.line_io.specs.Device.{LineState}
 use Rattle.stores.specs.Store.{behind}
 use Rattle.stores.specs.declared.front.Front.{Front}
 
@@ -11,6 +12,6 @@ store_in f = f.store
 abbrev pub offset_in : {S : Type 0} → Front S → ℕ
 offset_in f = f.at
 
--- the bytes that are still to come
-abbrev pub to_come_in : {S : Type 0} → (S → Option (List ℕ)) → Front S → Option (List ℕ)
-to_come_in held f = behind (held f.store) f.at
+-- where it stands as an inlet: the bytes behind the offset are to come
+abbrev pub line_behind : {S : Type 0} → (S → LineState) → Front S → LineState
+line_behind line f = record { told = behind (line f.store).told f.at; faults = (line f.store).faults; calls_left = (line f.store).calls_left }

@@ -1,23 +1,20 @@
 -- What a clause reads of a store in memory.
 use Rattle.std.specs.Prelude.{ℕ, List, Option, Some}
+use Rattle.line_io.specs.Device.{LineState}
 use Rattle.stores.specs.declared.memory.Memory.{Memory}
 
 -- the bytes that it holds
 abbrev pub bytes_in : Memory → List ℕ
 bytes_in m = m.bytes.items
 
--- what it tells of the bytes that it holds: all of them
-abbrev pub held_in : Memory → Option (List ℕ)
-held_in m = Some m.bytes.items
+-- where it stands: it tells all bytes that it holds
+abbrev pub line_in : Memory → LineState
+line_in m = record { told = Some m.bytes.items; faults = m.faults; calls_left = m.calls }
 
 -- how many no crash takes
 abbrev pub settled_in : Memory → ℕ
 settled_in m = m.settled
 
--- how many of its calls were faults
-abbrev pub faults_in : Memory → ℕ
-faults_in m = m.faults
-
--- how many calls it still answers
-abbrev pub calls_in : Memory → ℕ
-calls_in m = m.calls
+-- after how many bytes more an append fails once, where one will
+abbrev pub fault_in : Memory → Option ℕ
+fault_in m = m.fault

@@ -1,5 +1,5 @@
 //! A store over a file of std.
-ghost use Rattle.std.specs.Prelude.{◌+◌, ◌-◌, ◌≤◌, ◌^◌, None};
+ghost use Rattle.std.specs.Prelude.{◌≡◌, ◌+◌, ◌-◌, ◌≤◌, ◌^◌};
 
 use crate::traits::{Store, SyncFault};
 use line_io::read_front;
@@ -19,8 +19,13 @@ pub struct Stored<F> {
 }
 
 impl<F> Stored<F> {
+    ghost use Rattle.stores.specs.Files.{file_line};
+    ghost use Rattle.stores.specs.Store.{IsFresh};
+
     /// Over a file.
-    pub fn new(file: F) -> Stored<F> {
+    pub fn new(file: F) -> Stored<F>
+        ensures fresh { IsFresh (file_line result) }
+    {
         Stored {
             file,
             faults: 0,
@@ -30,15 +35,14 @@ impl<F> Stored<F> {
 }
 
 impl<F: Read + Write + Seek + OpenFile> Store for Stored<F> {
-    ghost use Rattle.stores.specs.Files.{file_faults, file_calls};
+    ghost use Rattle.stores.specs.Files.{file_line};
 
-    ghost held = { λ _. None };
+    ghost line = { file_line };
 
     ghost settled = { λ _. 0 };
 
-    ghost faults = { file_faults };
-
-    ghost calls_left = { file_calls };
+    // no contract can say how much a file takes
+    ghost whole = { λ _. ⊥ };
 
     fn append(&mut self, piece: &[u8]) -> Option<usize> {
         if self.calls == 0 {

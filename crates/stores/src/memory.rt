@@ -17,10 +17,13 @@ pub struct Memory {
 }
 
 impl Memory {
-    ghost use Rattle.stores.specs.Memory.{bytes_in, settled_in};
+    ghost use Rattle.stores.specs.Memory.{bytes_in, settled_in, fault_in, line_in};
+    ghost use Rattle.stores.specs.Store.{IsFresh};
 
     /// A store that holds these bytes, all of them settled.
     pub fn new(bytes: Vec<u8>) -> Memory
+        ensures fresh { IsFresh (line_in result) }
+        ensures sound { fault_in result ≡ None }
         ensures bytes { bytes_in result ≡ bytes.items }
         ensures settled { settled_in result ≡ length bytes.items }
     {
@@ -35,6 +38,7 @@ impl Memory {
 
     /// After so many bytes more, an append fails once; before that it takes what is left of these.
     pub fn fail_after(&mut self, count: usize)
+        ensures fault { fault_in self.new ≡ Some count }
         ensures bytes { bytes_in self.new ≡ bytes_in self.old }
         ensures settled { settled_in self.new ≡ settled_in self.old }
     {
@@ -77,15 +81,13 @@ impl Memory {
 }
 
 impl Store for Memory {
-    ghost use Rattle.stores.specs.Memory.{held_in, settled_in, faults_in, calls_in};
+    ghost use Rattle.stores.specs.Memory.{line_in, settled_in, fault_in};
 
-    ghost held = { held_in };
+    ghost line = { line_in };
 
     ghost settled = { settled_in };
 
-    ghost faults = { faults_in };
-
-    ghost calls_left = { calls_in };
+    ghost whole = { λ m. fault_in m ≡ None };
 
     fn append(&mut self, piece: &[u8]) -> Option<usize> {
         if self.calls == 0 {

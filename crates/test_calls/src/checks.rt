@@ -34,7 +34,8 @@ pub fn is_read(end: Option<End>) -> bool {
     matches!(end, Some(End::Ended))
 }
 
-/// What a server did, as a letter: executed E, again A, passed over P; e where the line failed at the first reply, and else ?.
+/// What a server did, as a letter: executed E, again A, another one by the last number O, passed over P, and o or p where something was
+/// sent of that; e where the line failed at the first reply, and else ?.
 pub fn letter(served: Served) -> char {
     match served {
         Served::Executed(sent) => match sent {
@@ -46,6 +47,15 @@ pub fn letter(served: Served) -> char {
             Ok(()) => 'A',
             Err(_) => '?',
         },
-        Served::Passed => 'P',
+        Served::Other(sent) => match sent {
+            None => 'O',
+            Some(Ok(())) => 'o',
+            Some(Err(_)) => '?',
+        },
+        Served::Passed(sent) => match sent {
+            None => 'P',
+            Some(Ok(())) => 'p',
+            Some(Err(_)) => '?',
+        },
     }
 }

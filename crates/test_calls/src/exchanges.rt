@@ -1,18 +1,18 @@
 //! Calls and replies, each by itself.
 
 use crate::checks::{are_equal, check, is_number, is_read, is_reply, letter};
-use crate::served::{Adder, Line, line, service};
-use calls::{
-    CallError, Client, Server, Service, Waiting, serve, serve_owned, serve_owned_strict,
-    serve_strict, serve_with_sentinel, wait, wait_strict, wait_with,
-};
+use crate::served::{Adder, Echo, Line, line, sender, service};
+use calls::{CallError, Client, LastCall, Server, Service, Waiting, serve_with, wait_with};
 use line_io::memory::{Fault, In, Out};
-use link::{Answer, End, OfType, Ordinary, OwnedReceiver, Receiver};
+use link::{
+    Answer, Decoding, End, MessageReader, OfType, Ordinary, OwnedReceiver, Receiver, Reception,
+    Sender, Strict,
+};
 use std::alloc::Global;
 
 // A client of adders, whose first call has the number 5.
 fn client(alloc: Global, sentinel: u8) -> Client<Line, u32, 16> {
-    Client::new_with_sentinel(line(alloc), 5, sentinel)
+    Client::new(sender(alloc, sentinel), 5)
 }
 
 // What a client wrote, by these requests.
@@ -34,28 +34,32 @@ enum Way {
     OwnedStrictBySentinel(u8),
 }
 
-type Adding = Service<Adder, Line, u32, 16>;
+type Adding = Service<Adder, Line, u32, u32, 16>;
 
-// Serves all that the reader gives; whether it was read to its end.
-fn serve_by(alloc: Global, way: Way, reader: &mut In<'_>, service: &mut Adding) -> bool {
-    let end = match way {
-        Way::Plain => Ok(serve::<u32, u32, Adder, In<'_>, Line, 16, 8>(alloc, reader, service)),
-        Way::Strict => Ok(serve_strict::<u32, u32, Adder, In<'_>, Line, 16, 8>(
-            alloc, reader, service,
-        )),
-        Way::BySentinel(sentinel) => Ok(serve_with_sentinel::<u32, u32, Adder, In<'_>, Line, 16, 8>(
-            alloc, reader, service, sentinel,
-        )),
-        Way::Owned => serve_owned::<u32, u32, Adder, In<'_>, Line, 16>(
-            alloc, reader, service, 8, 0,
-        ),
-        Way::OwnedStrictBySentinel(sentinel) => {
-            serve_owned_strict::<u32, u32, Adder, In<'_>, Line, 16>(
-                alloc, reader, service, 8, sentinel,
-            )
+// Serves all that the reader gives, by a receiver of 8 bytes; how the reading ended.
+fn serve_by(alloc: Global, way: Way, reader: &mut In<'_>, service: &mut Adding) -> Option<End> {
+    match way {
+        Way::Plain => {
+            let mut receiver = Receiver::<8>::new();
+            Some(serve_with(alloc, &mut receiver, &Ordinary(OfType), reader, service))
         }
-    };
-    matches!(end, Ok(End::Ended))
+        Way::Strict => {
+            let mut receiver = Receiver::<8>::new();
+            Some(serve_with(alloc, &mut receiver, &Strict(OfType), reader, service))
+        }
+        Way::BySentinel(sentinel) => {
+            let mut receiver = Receiver::<8>::new_with_sentinel(sentinel);
+            Some(serve_with(alloc, &mut receiver, &Ordinary(OfType), reader, service))
+        }
+        Way::Owned => {
+            let mut receiver = OwnedReceiver::new(alloc, 8, 0).ok()?;
+            Some(serve_with(alloc, &mut receiver, &Ordinary(OfType), reader, service))
+        }
+        Way::OwnedStrictBySentinel(sentinel) => {
+            let mut receiver = OwnedReceiver::new(alloc, 8, sentinel).ok()?;
+            Some(serve_with(alloc, &mut receiver, &Strict(OfType), reader, service))
+        }
+    }
 }
 
 // Whether all that the reader gives is read to its end, and so many requests executed, to this sum; and what is replied.
@@ -65,7 +69,7 @@ fn replies(alloc: Global, way: Way, reader: &mut In<'_>, wanted: (u32, u32)) -> 
         _ => 0,
     };
     let mut service = service(alloc, sentinel);
-    let is_read = serve_by(alloc, way, reader, &mut service);
+    let is_read = is_read(serve_by(alloc, way, reader, &mut service));
     let (executed, sum) = wanted;
     let is_right = is_read
         && service.application.executed == executed
@@ -78,6 +82,17 @@ fn calling(alloc: Global) -> (bool, Waiting<Line, u32, u32, 16>) {
     let mut client = client(alloc, 0);
     let is_right = client.call(7).is_ok() && is_number(client.pending(), 5);
     (is_right, Waiting { client, said: None })
+}
+
+// Waits for the reply; how the reading ended, where none was heard.
+fn wait_by<D: Decoding, M: MessageReader<(u64, u32)>>(
+    alloc: Global,
+    receiver: &mut Reception<D>,
+    messages: &M,
+    reader: &mut In<'_>,
+    waiting: &mut Waiting<Line, u32, u32, 16>,
+) -> Option<End> {
+    wait_with(alloc, receiver, messages, reader, waiting, &mut [0u8; 64])
 }
 
 // Whether 7 was heard, and no call is pending.
@@ -99,7 +114,13 @@ fn a_call_is_replied(rt: HostRuntime) {
     check(&rt, is_served);
     let mut reader = In::new(replies.as_slice(), 1, None);
     let mut receiver = Receiver::<8>::new();
-    let end = wait(rt.alloc(), &mut receiver, &mut reader, &mut waiting);
+    let end = wait_by(
+        rt.alloc(),
+        &mut receiver,
+        &Ordinary(OfType),
+        &mut reader,
+        &mut waiting,
+    );
     check(&rt, end.is_none());
     check(&rt, has_heard(&mut waiting));
 }
@@ -117,19 +138,21 @@ fn one_sent_again_is_executed_once(rt: HostRuntime) {
     check(&rt, are_equal(&replies, &[0, 3, 5, 7, 0, 3, 5, 7, 0]));
 }
 
-// Whether requests of four numbers are answered so, and two of them executed.
-fn are_told_apart(server: &mut Server<Line, u32, 16>) -> bool {
+// Whether requests are answered so, and two of them executed: another request by the last number is neither executed nor replied to
+// by the reply to the first, which is, again.
+fn are_told_apart(server: &mut Server<Line, u32, u32, 16>) -> bool {
     let mut adder = Adder::new();
     letter(server.answer(&mut adder, 9, 4u32)) == 'E'
         && letter(server.answer(&mut adder, 8, 4u32)) == 'P'
-        && letter(server.answer(&mut adder, 9, 70u32)) == 'A'
+        && letter(server.answer(&mut adder, 9, 70u32)) == 'O'
+        && letter(server.answer(&mut adder, 9, 4u32)) == 'A'
         && letter(server.answer(&mut adder, 10, 1u32)) == 'E'
         && adder.executed == 2
 }
 
 #[test]
 fn an_old_number_is_passed_over(rt: HostRuntime) {
-    let mut server = Server::<Line, u32, 16>::new(line(rt.alloc()));
+    let mut server = Server::<Line, u32, u32, 16>::new(sender(rt.alloc(), 0));
     check(&rt, are_told_apart(&mut server));
     let replies = server.into_inner().into_inner();
     check(
@@ -138,13 +161,38 @@ fn an_old_number_is_passed_over(rt: HostRuntime) {
     );
 }
 
+// A zero; twice the number of the last call, 9, by the greatest number, which is ten bytes of a u64; and the reply.
+const PASSED: [u8; 31] = [
+    0, 12, 0xFF, 0xFF, 0xFF, 0xFF, 0xFF, 0xFF, 0xFF, 0xFF, 0xFF, 1, 9, 0, 12, 0xFF, 0xFF, 0xFF,
+    0xFF, 0xFF, 0xFF, 0xFF, 0xFF, 0xFF, 1, 9, 0, 3, 9, 4, 0,
+];
+
+// Whether a server that goes on behind call 9 knows it, and says of what it passes over which call was the last.
+fn says_the_last(server: &mut Server<Line, u64, u64, 16>) -> bool {
+    letter(server.answer(&mut Echo, 8, 4u64)) == 'p'
+        && letter(server.answer(&mut Echo, 9, 5u64)) == 'o'
+        && letter(server.answer(&mut Echo, 9, 4u64)) == 'A'
+}
+
+#[test]
+fn a_server_goes_on_behind_a_call(rt: HostRuntime) {
+    let last = LastCall {
+        request: 4u64,
+        reply: (9, 4u64),
+    };
+    let mut server = Server::<Line, u64, u64, 16>::resume(sender(rt.alloc(), 0), Some(last));
+    check(&rt, says_the_last(&mut server));
+    let replies = server.into_inner().into_inner();
+    check(&rt, are_equal(&replies, &PASSED));
+}
+
 // The first reply finds a line that fails after two bytes; it is kept, and sent again to the same number.
 #[test]
 fn a_lost_reply_is_kept(rt: HostRuntime) {
     let mut room = [0u8; 32];
     let mut adder = Adder::new();
     let failing = Out::new(&mut room, 1, Some((2, Fault::Fail)));
-    let mut server = Server::<Out<'_>, u32, 16>::new(failing);
+    let mut server = Server::<Out<'_>, u32, u32, 16>::new(Sender::new(failing));
     check(&rt, letter(server.answer(&mut adder, 1, 4u32)) == 'e');
     check(&rt, letter(server.answer(&mut adder, 1, 4u32)) == 'A');
     check(&rt, adder.executed == 1);
@@ -159,7 +207,7 @@ fn is_full(sent: Result<(), CallError>) -> bool {
 
 #[test]
 fn the_last_number_is_not_given(rt: HostRuntime) {
-    let mut client = Client::<Line, u32, 16>::new(line(rt.alloc()), u64::MAX - 1);
+    let mut client = Client::<Line, u32, 16>::new(sender(rt.alloc(), 0), u64::MAX - 1);
     check(&rt, client.call(1).is_ok());
     check(&rt, is_full(client.call(2)));
     // the earlier call is pending still
@@ -232,11 +280,23 @@ fn a_longer_reply(rt: HostRuntime) {
         return;
     };
     let mut reader = In::new(&LONGER, 2, None);
-    let end = wait_strict(rt.alloc(), &mut receiver, &mut reader, &mut waiting);
+    let end = wait_by(
+        rt.alloc(),
+        &mut receiver,
+        &Strict(OfType),
+        &mut reader,
+        &mut waiting,
+    );
     check(&rt, is_read(end));
     check(&rt, is_number(waiting.client.pending(), 5));
     let mut reader = In::new(&LONGER, 2, None);
-    let end = wait(rt.alloc(), &mut receiver, &mut reader, &mut waiting);
+    let end = wait_by(
+        rt.alloc(),
+        &mut receiver,
+        &Ordinary(OfType),
+        &mut reader,
+        &mut waiting,
+    );
     check(&rt, end.is_none());
     check(&rt, is_reply(waiting.said, 7));
 }
@@ -264,5 +324,26 @@ fn waiting_in_a_room(rt: HostRuntime) {
         );
         check(&rt, end.is_none());
         check(&rt, is_reply(waiting.said.take(), said));
+    }
+}
+
+// A reply to call 5 isn't found behind call 6, whose reply doesn't come.
+#[test]
+fn an_old_reply_is_let_go(rt: HostRuntime) {
+    let (is_called, mut waiting) = calling(rt.alloc());
+    check(&rt, is_called);
+    let mut receiver = Receiver::<8>::new();
+    let mut reader = In::new(&[0u8, 3, 5, 7, 0], 100, None);
+    for is_last in [false, true] {
+        let end = wait_by(
+            rt.alloc(),
+            &mut receiver,
+            &Ordinary(OfType),
+            &mut reader,
+            &mut waiting,
+        );
+        check(&rt, end.is_some() == is_last);
+        check(&rt, waiting.said.is_none() == is_last);
+        check(&rt, is_last || waiting.client.call(8).is_ok());
     }
 }

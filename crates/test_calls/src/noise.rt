@@ -1,12 +1,12 @@
 //! 10,000 calls over lines that lose, change and double bytes at random. Messages are sealed with their numbers, so that a changed
 //! frame that still reads as a message isn't taken for one that was sent.
-ghost use Rattle.std.specs.Prelude.{⊤};
+ghost use Rattle.std.specs.Prelude.{◌≡◌, ⊤, None};
 
 use crate::checks::check;
-use crate::served::{Line, line};
+use crate::served::{Line, line, sender};
 use calls::{Application, Checked, Client, Numbered, Server, Service, Waiting};
 use line_io::memory::In;
-use link::Receiver;
+use link::{OfType, Ordinary, Receiver};
 use sealed::Sealed;
 use std::alloc::Global;
 
@@ -22,19 +22,28 @@ struct Counter {
 impl Application<Numbered<u32>, Numbered<u32>> for Counter {
     ghost executes = { λ old asks says new. ⊤ };
 
-    fn execute(&mut self, request: Numbered<u32>) -> Numbered<u32>
+    ghost passes = { λ number last. None };
+
+    fn execute(&mut self, request: &Numbered<u32>) -> Numbered<u32>
         ensures { ⊤ }
     {
-        let Sealed((number, value)) = request;
+        let (number, value) = request.0;
         match self.counts.get_mut(value as usize) {
             Some(count) if number == u64::from(value) + 1 => *count = count.saturating_add(1),
             _ => self.strangers = self.strangers.saturating_add(1),
         }
         Sealed((number, value.wrapping_mul(3)))
     }
+
+    fn pass(number: u64, last: u64) -> Option<Numbered<u32>>
+        ensures { result ≡ None }
+    {
+        let _ = (number, last);
+        None
+    }
 }
 
-type Device = Checked<Service<Counter, Line, Numbered<u32>, 48>>;
+type Device = Checked<Service<Counter, Line, Numbered<u32>, Numbered<u32>, 48>>;
 
 type Console = Checked<Waiting<Line, Numbered<u32>, Numbered<u32>, 48>>;
 
@@ -90,9 +99,13 @@ impl Sides {
         let asked = self.console.hearer.client.replace_inner(line(alloc));
         let came = self.noise.spoil(alloc, asked.into_inner().as_slice());
         let mut reader = In::new(came.as_slice(), 1024, None);
-        let _ = self
-            .to_device
-            .listen::<(u64, Numbered<u32>), In<'_>, Device>(alloc, &mut reader, &mut self.device);
+        let _ = self.to_device.listen_with::<(u64, Numbered<u32>), _, _, _>(
+            alloc,
+            &Ordinary(OfType),
+            &mut reader,
+            &mut self.device,
+            &mut [0u8; 1024],
+        );
     }
 
     // Brings what the server wrote to the client.
@@ -100,9 +113,13 @@ impl Sides {
         let told = self.device.hearer.server.replace_inner(line(alloc));
         let came = self.noise.spoil(alloc, told.into_inner().as_slice());
         let mut reader = In::new(came.as_slice(), 1024, None);
-        let _ = self
-            .to_console
-            .listen::<(u64, Numbered<u32>), In<'_>, Console>(alloc, &mut reader, &mut self.console);
+        let _ = self.to_console.listen_with::<(u64, Numbered<u32>), _, _, _>(
+            alloc,
+            &Ordinary(OfType),
+            &mut reader,
+            &mut self.console,
+            &mut [0u8; 1024],
+        );
     }
 
     // Calls by this value, up to eight times: the number and the value of the reply, if one was heard.
@@ -131,7 +148,7 @@ fn start(alloc: Global, seed: u64) -> Sides {
     Sides {
         console: Checked {
             hearer: Waiting {
-                client: Client::new(line(alloc), 1),
+                client: Client::new(sender(alloc, 0), 1),
                 said: None,
             },
         },
@@ -141,7 +158,8 @@ fn start(alloc: Global, seed: u64) -> Sides {
                     counts,
                     strangers: 0,
                 },
-                server: Server::new(line(alloc)),
+                server: Server::new(sender(alloc, 0)),
+                unsent: false,
             },
         },
         noise: Noise { state: seed },

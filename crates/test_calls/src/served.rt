@@ -1,8 +1,9 @@
 //! An application and what is served to it, over memory.
-ghost use Rattle.std.specs.Prelude.{⊤};
+ghost use Rattle.std.specs.Prelude.{◌≡◌, ◌<◌, ⊤, Some, None};
 
 use calls::{Application, Server, Service};
 use line_io::Writes;
+use link::Sender;
 use std::alloc::Global;
 
 /// A sum, and how many requests were executed.
@@ -25,12 +26,44 @@ impl Adder {
 impl Application<u32, u32> for Adder {
     ghost executes = { λ old asks says new. ⊤ };
 
-    fn execute(&mut self, request: u32) -> u32
+    ghost passes = { λ number last. None };
+
+    fn execute(&mut self, request: &u32) -> u32
         ensures { ⊤ }
     {
         self.executed = self.executed.saturating_add(1);
-        self.sum = self.sum.wrapping_add(request);
+        self.sum = self.sum.wrapping_add(*request);
         self.sum
+    }
+
+    fn pass(number: u64, last: u64) -> Option<u32>
+        ensures { result ≡ None }
+    {
+        let _ = (number, last);
+        None
+    }
+}
+
+/// It says what it is asked, and of a call that is passed over the number of the last one.
+#[derive(Drop)]
+pub struct Echo;
+
+impl Application<u64, u64> for Echo {
+    ghost executes = { λ old asks says new. ⊤ };
+
+    ghost passes = { λ number last. Some last };
+
+    fn execute(&mut self, request: &u64) -> u64
+        ensures { ⊤ }
+    {
+        *request
+    }
+
+    fn pass(number: u64, last: u64) -> Option<u64>
+        ensures { result ≡ Some last }
+    {
+        let _ = number;
+        Some(last)
     }
 }
 
@@ -43,9 +76,17 @@ pub fn line(alloc: Global) -> Line {
 }
 
 /// A service of a new adder, over an empty line with this sentinel.
-pub fn service(alloc: Global, sentinel: u8) -> Service<Adder, Line, u32, 16> {
+pub fn service(alloc: Global, sentinel: u8) -> Service<Adder, Line, u32, u32, 16> {
     Service {
         application: Adder::new(),
-        server: Server::new_with_sentinel(line(alloc), sentinel),
+        server: Server::new(sender(alloc, sentinel)),
+        unsent: false,
     }
+}
+
+/// What sends over an empty line with this sentinel.
+pub fn sender<const N: usize>(alloc: Global, sentinel: u8) -> Sender<Line, N>
+    requires { 0 < N }
+{
+    Sender::new_with_sentinel(line(alloc), sentinel)
 }

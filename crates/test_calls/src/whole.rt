@@ -4,8 +4,9 @@
 
 use crate::checks::check;
 use crate::served::Adder;
-use calls_laws::exchange::{Called, Way, call_once, call_once_strict};
+use calls_laws::exchange::{Called, Way, call_once};
 use line_io::memory::{Fault, OwnedOut};
+use link::{OfType, Ordinary, Strict};
 use std::alloc::Global;
 
 // A writer that fails once, after so many bytes, or never.
@@ -35,7 +36,17 @@ fn called(
         each: 1,
         stops: stops[1],
     };
-    call_once::<u32, u32, Adder, OwnedOut, 16, 8>(alloc, there, back, Adder::new(), 5, 7, again)
+    call_once::<u32, u32, Adder, Ordinary<OfType>, Ordinary<OfType>, OwnedOut, 16, 8>(
+        alloc,
+        &Ordinary(OfType),
+        &Ordinary(OfType),
+        there,
+        back,
+        Adder::new(),
+        5,
+        7,
+        again,
+    )
 }
 
 // Where the sends of a call and of its reply break off and their readings stop, and how often the call is sent again; then whether the
@@ -152,8 +163,10 @@ fn a_strict_call(rt: HostRuntime) {
         each: 64,
         stops: None,
     };
-    let all = call_once_strict::<u32, u32, Adder, OwnedOut, 16, 8>(
+    let all = call_once::<u32, u32, Adder, Strict<OfType>, Strict<OfType>, OwnedOut, 16, 8>(
         rt.alloc(),
+        &Strict(OfType),
+        &Strict(OfType),
         there,
         back,
         Adder::new(),

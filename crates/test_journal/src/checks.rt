@@ -1,5 +1,5 @@
 //! Logs that are checked: what is told, and which numbers are missing.
-ghost use Rattle.std.specs.Prelude.{true, ⊤, OnOk};
+ghost use Rattle.std.specs.Prelude.{true, ⊤, OnOk, OnErr};
 
 use crate::bytes::{Place, check, holding, is_last, is_place};
 use crate::tallies::are_gaps;
@@ -8,23 +8,25 @@ use journal_scan::{CheckError, Judge, Report, Stretch, Tally, Watcher};
 use std::alloc::Global;
 use stores::Memory;
 
-// Record 1, a damaged stretch, record 3, a stretch of more than twelve bytes, record 3 again, the record 2^64 - 1, and a cut one.
+// Record 1, a damaged stretch, record 3, a stretch of more than twelve bytes, record 3 again, the record 2^64 - 1, and record 4
+// without its zero.
 const BYTES: [u8; 47] = [
     0, 3, 1, 5, 0, 9, 9, 0, 3, 3, 7, 0, 7, 7, 7, 7, 7, 7, 7, 7, 7, 7, 7, 7, 7, 0, 3, 3, 8, 0, 12,
     255, 255, 255, 255, 255, 255, 255, 255, 255, 1, 9, 0, 0, 3, 4, 1,
 ];
 
 // What is told of it: a stretch, and whether its number was there before.
-const TOLD: [(Place, bool); 6] = [
+const TOLD: [(Place, bool); 7] = [
     ((1, 4, 'v'), false),
     ((5, 7, 'd'), false),
     ((8, 11, 'v'), false),
     ((12, 25, 'l'), false),
     ((26, 29, 'v'), true),
     ((30, 42, 'v'), false),
+    ((44, 47, 'v'), false),
 ];
 
-const MISSING: [(u64, u64); 3] = [(0, 0), (2, 2), (4, 18446744073709551614)];
+const MISSING: [(u64, u64); 3] = [(0, 0), (2, 2), (5, 18446744073709551614)];
 
 // Compares what it is told, so many stretches at most.
 #[derive(Drop)]
@@ -70,10 +72,13 @@ impl Judge<u32> for Told {
 impl Watcher<u32> for Told {
     ghost told = { λ _ _ _. ⊤ };
 
+    ghost halts = { λ _. ⊤ };
+
     ghost laws = { record { nothing = λ s. tt; more = λ s t u a b p q. tt } };
 
     fn tell(&mut self, stretch: Stretch<u32>, again: bool) -> Result<(), Halt>
-        ensures { OnOk result ⊤ }
+        ensures told { OnOk result ⊤ }
+        ensures halts { OnErr result ⊤ }
     {
         if self.count >= self.most {
             return Err(Halt);
@@ -112,10 +117,10 @@ const LOGS: [Log; 4] = [
     Log {
         bytes: &BYTES,
         told: &TOLD,
-        counted: 4,
+        counted: 5,
         next: 18446744073709551615,
         missing: &MISSING,
-        unfinished: Some((44, 47, 'c')),
+        unfinished: None,
     },
     Log {
         bytes: &[],

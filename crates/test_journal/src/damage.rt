@@ -3,7 +3,7 @@
 use crate::bytes::{check, with};
 use crate::logs::{N, write};
 use journal::{Listed, read_all};
-use link::Answer;
+use link::{Answer, OfType, Strict};
 use sealed::Sealed;
 use std::alloc::Global;
 use stores::Memory;
@@ -48,7 +48,13 @@ fn bits(answers: &[Answer<(u64, Entry)>]) -> Option<u8> {
 // Which of the values are read, as bits; nothing where a record is read that was never appended.
 fn found(alloc: Global, store: &mut Memory) -> Option<u8> {
     let mut list = Listed::<Entry>::new(alloc);
-    match read_all::<Entry, Memory, Listed<Entry>, N>(alloc, store, 0, &mut list) {
+    match read_all::<Entry, Strict<OfType>, Memory, Listed<Entry>, N>(
+        alloc,
+        store,
+        0,
+        &Strict(OfType),
+        &mut list,
+    ) {
         Ok(_) => bits(&list.answers),
         Err(_) => None,
     }

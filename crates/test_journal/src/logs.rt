@@ -2,7 +2,7 @@
 
 use crate::bytes::{are_bytes, check};
 use journal::{Journal, Listed, Unheard};
-use link::Answer;
+use link::{Answer, OfType, Strict};
 use postcard::{DeserializeOwned, Exact, Serialize};
 use std::alloc::Global;
 use stores::{Memory, Store, put};
@@ -35,7 +35,7 @@ pub fn write<T: DeserializeOwned + Exact>(
     store: Memory,
     values: &[T],
 ) -> (usize, Memory) {
-    match Log::open::<T, Unheard>(alloc, store, 0, &mut Unheard) {
+    match Log::open::<T, Strict<OfType>, Unheard>(alloc, store, 0, &Strict(OfType), &mut Unheard) {
         Ok(mut journal) => {
             let done = append_all(&mut journal, values);
             (done, journal.into_store())
@@ -69,7 +69,7 @@ fn counted(answers: &[Answer<(u64, u32)>]) -> Option<usize> {
 // How many records are read of a store, opened.
 fn count(alloc: Global, store: Memory) -> Option<usize> {
     let mut list = List::new(alloc);
-    match Log::open::<u32, List>(alloc, store, 0, &mut list) {
+    match Log::open::<u32, Strict<OfType>, List>(alloc, store, 0, &Strict(OfType), &mut list) {
         Ok(_) => counted(&list.answers),
         Err(_) => None,
     }
@@ -115,7 +115,13 @@ fn goes_on(journal: &mut Log, count: usize) -> bool {
 // How many records a log has that is opened and gets one more, synced; and what it is then.
 fn gone_on(alloc: Global, store: Memory) -> Option<(usize, Memory)> {
     let mut list = List::new(alloc);
-    let Ok(mut journal) = Log::open::<u32, List>(alloc, store, 0, &mut list) else {
+    let Ok(mut journal) = Log::open::<u32, Strict<OfType>, List>(
+        alloc,
+        store,
+        0,
+        &Strict(OfType),
+        &mut list,
+    ) else {
         return None;
     };
     match counted(&list.answers) {

@@ -1,7 +1,7 @@
 //! Logs whose records are appended anew.
 
 use crate::bytes::{are_bytes, check, holding, with};
-use journal_scan::{RepairError, Repaired, Scan, repair};
+use journal_scan::{RepairError, Repaired, Scan, ScanError, Stretch, repair};
 use link::Answer;
 use std::alloc::Global;
 use stores::{Memory, Store};
@@ -46,18 +46,22 @@ fn writes(alloc: Global, bytes: &[u8], records: u64, next: u64, wanted: &[u8]) -
     }
 }
 
-// Zeros, a damaged stretch, one that is too long, record 0 twice, and one that no zero ends.
+// Zeros, a damaged stretch, one that is too long, record 0 twice, record 1, and record 2 without its zero.
 const DAMAGED: [u8; 36] = [
     0, 0, 1, 3, 172, 2, 0, 9, 9, 0, 7, 7, 7, 7, 7, 7, 7, 7, 7, 7, 7, 7, 7, 0, 1, 3, 172, 2, 0, 3,
     1, 5, 0, 3, 2, 5,
 ];
 
-const MENDED: [u8; 15] = [0, 1, 3, 172, 2, 0, 1, 3, 172, 2, 0, 3, 1, 5, 0];
+const MENDED: [u8; 19] = [0, 1, 3, 172, 2, 0, 1, 3, 172, 2, 0, 3, 1, 5, 0, 3, 2, 5, 0];
+
+// Of record 2 a byte more is missing.
+const TORN: [u8; 7] = [0, 3, 1, 5, 0, 3, 2];
 
 #[test]
 fn repaired_by_hand(rt: HostRuntime) {
     let alloc = rt.alloc();
-    check(&rt, writes(alloc, &DAMAGED, 3, 2, &MENDED));
+    check(&rt, writes(alloc, &DAMAGED, 4, 3, &MENDED));
+    check(&rt, writes(alloc, &TORN, 1, 2, &[0, 3, 1, 5, 0]));
     check(&rt, writes(alloc, &[], 0, 0, &[0]));
     check(&rt, writes(alloc, &LOG, 3, 4, &LOG));
 }
@@ -71,9 +75,9 @@ fn add_frame(all: &mut Vec<u8>, record: &(u64, u32)) -> bool {
     }
 }
 
-// Appends the record of the next stretch, where it is one; false where the scan or the memory fails.
-fn add_next(alloc: Global, scan: &mut Scan, from: &mut Memory, all: &mut Vec<u8>) -> bool {
-    match scan.next_ended::<u32, Memory>(alloc, from) {
+// Appends the record of a stretch, where it is one; false where the scan or the memory fails.
+fn add_stretch(found: Result<Option<Stretch<u32>>, ScanError>, all: &mut Vec<u8>) -> bool {
+    match found {
         Ok(Some(stretch)) => match &stretch.answer {
             Answer::Value(record) => add_frame(all, record),
             _ => true,
@@ -84,22 +88,23 @@ fn add_next(alloc: Global, scan: &mut Scan, from: &mut Memory, all: &mut Vec<u8>
 }
 
 // Appends the records of these bytes, one by one, each as postcard frames that pair, behind a zero.
-fn add_all(alloc: Global, scan: &mut Scan, bytes: &[u8], all: &mut Vec<u8>) -> bool {
+fn add_all(alloc: Global, scan: Scan, bytes: &[u8], all: &mut Vec<u8>) -> bool {
+    let mut scan = scan;
     let Some(mut from) = holding(alloc, bytes) else {
         return false;
     };
     for _ in bytes {
-        if !add_next(alloc, scan, &mut from, all) {
+        if !add_stretch(scan.next_ended::<u32, Memory>(alloc, &mut from), all) {
             return false;
         }
     }
-    true
+    add_stretch(scan.finish::<u32>(alloc), all)
 }
 
 // Appends what repairing these bytes is to write.
 fn expect(alloc: Global, bytes: &[u8], all: &mut Vec<u8>) -> bool {
     match Scan::new(alloc, LIMIT, 0) {
-        Ok(mut scan) => all.push(0u8).is_ok() && add_all(alloc, &mut scan, bytes, all),
+        Ok(scan) => all.push(0u8).is_ok() && add_all(alloc, scan, bytes, all),
         Err(_) => false,
     }
 }

@@ -51,3 +51,31 @@ fn sealed_number(rt: HostRuntime) {
         check(&rt, reads_with(rt.alloc(), at, byte, refused));
     }
 }
+
+// A frame of 65 bytes and its zero. Its first code says where the first zero of the message stands; a flipped bit there moves the
+// blocks behind, so the message changes in several places, and its last four bytes are the CRC-32 of the rest all the same.
+const FRAME: [u8; 66] = [
+    0x02, 0x92, 0x07, 0x02, 0xEE, 0x02, 0x95, 0x09, 0x55, 0x02, 0xDC, 0x09, 0xB2, 0xED, 0x45, 0x96,
+    0x07, 0xDE, 0x72, 0xC5, 0x06, 0x36, 0x6B, 0x07, 0xFB, 0x24, 0x02, 0xA7, 0x03, 0x6F, 0x18, 0x22,
+    0x70, 0xB6, 0x37, 0x90, 0xBF, 0x72, 0x6A, 0x43, 0x8C, 0x78, 0xD2, 0xFF, 0x94, 0x14, 0xA7, 0x6D,
+    0x1F, 0x58, 0xB7, 0xF3, 0x8D, 0x35, 0x0B, 0x57, 0x87, 0x9C, 0x53, 0x37, 0x12, 0x8A, 0xE4, 0x84,
+    0xA9, 0x00,
+];
+
+// Whether the frame holds a sealed value with such a first code, and these are its bytes behind the first.
+fn goes_on(alloc: Global, code: u8, second: u8, third: u8) -> bool {
+    let mut frame = FRAME;
+    frame[0] = code;
+    match postcard::from_bytes_cobs::<Sealed<[u8; 60]>>(alloc, &mut frame) {
+        Ok(sealed) => sealed.0[1] == second && sealed.0[2] == third,
+        Err(_) => false,
+    }
+}
+
+// With 4 as the first code these bytes are no frame.
+#[test]
+fn flipped_bit_of_a_code_is_not_told(rt: HostRuntime) {
+    check(&rt, goes_on(rt.alloc(), 2, 0, 2));
+    check(&rt, goes_on(rt.alloc(), 3, 7, 0));
+    check(&rt, !goes_on(rt.alloc(), 4, 7, 2));
+}

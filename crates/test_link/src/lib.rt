@@ -9,6 +9,8 @@
 #[cfg(test)]
 mod any_sentinel;
 #[cfg(test)]
+mod behind_no_memory;
+#[cfg(test)]
 mod checks;
 #[cfg(test)]
 mod crossing;
@@ -16,6 +18,8 @@ mod crossing;
 mod framed_runs;
 #[cfg(test)]
 mod framed_words;
+#[cfg(test)]
+mod lent_texts;
 #[cfg(test)]
 mod line_memory;
 #[cfg(test)]

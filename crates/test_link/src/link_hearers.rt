@@ -5,14 +5,15 @@ ghost use Rattle.link.specs.Each.{HeardAnyhow, heard_anyhow};
 
 use crate::checks::{check, check_at};
 use crate::message_readers::Chosen;
+use arrayvec::ArrayString;
 use line_io::memory::In;
 use link::{
-    Answer, End, Hearer, OwnedReceiver, Receiver, TextHearer, receive_each, receive_each_owned,
-    receive_each_owned_strict, receive_each_strict, receive_each_strict_with_sentinel,
-    receive_each_text, receive_each_text_owned, receive_each_text_owned_strict,
-    receive_each_text_strict, receive_each_with_sentinel,
+    Answer, End, Hearer, MessageReader, NoMemory, OfType, Ordinary, OwnedReceiver, Receiver, Strict,
 };
 use std::alloc::Global;
+
+/// How many bytes a read has room for where the line is shorter.
+const ROOM: usize = 64;
 
 /// What is to be heard, each answer by the byte of this offset.
 #[derive(Drop)]
@@ -68,6 +69,8 @@ impl<'a, T: PartialEq + Drop> Hearer<T> for Wanted<'a, T> {
 
     ghost enough = { λ w. w.is_full };
 
+    ghost settled = { λ _. ⊤ };
+
     fn hear(&mut self, answer: Answer<T>)
         ensures { ⊤ }
     {
@@ -79,7 +82,8 @@ impl<'a, T: PartialEq + Drop> Hearer<T> for Wanted<'a, T> {
     }
 
     fn pause(&mut self)
-        ensures { ⊤ }
+        ensures heard { ⊤ }
+        ensures settles { ⊤ }
     {
         self.pauses = self.pauses.saturating_add(1);
     }
@@ -91,14 +95,21 @@ impl<'a, T: PartialEq + Drop> Hearer<T> for Wanted<'a, T> {
     }
 }
 
-impl<'a> TextHearer for Wanted<'a, &'static str> {
+/// A text without memory.
+type Text = ArrayString<8>;
+
+impl<'a> Hearer<Text> for Wanted<'a, &'static str> {
     ghost hears = { HeardAnyhow };
 
     ghost laws = { heard_anyhow };
 
     ghost enough = { λ w. w.is_full };
 
-    fn hear_text(&mut self, answer: Answer<&str>) {
+    ghost settled = { λ _. ⊤ };
+
+    fn hear(&mut self, answer: Answer<Text>)
+        ensures { ⊤ }
+    {
         let is_wanted = match self.answers.get(self.heard) {
             Some((at, wanted)) => *at == self.pauses && are_alike(wanted, &answer),
             None => false,
@@ -106,19 +117,24 @@ impl<'a> TextHearer for Wanted<'a, &'static str> {
         self.note(is_wanted);
     }
 
-    fn pause(&mut self) {
+    fn pause(&mut self)
+        ensures heard { ⊤ }
+        ensures settles { ⊤ }
+    {
         self.pauses = self.pauses.saturating_add(1);
     }
 
-    fn has_enough(&self) -> bool {
+    fn has_enough(&self) -> bool
+        ensures { result ≡ self.now.is_full }
+    {
         self.is_full
     }
 }
 
 // Whether two answers are the same.
-fn are_alike(wanted: &Answer<&str>, answer: &Answer<&str>) -> bool {
+fn are_alike(wanted: &Answer<&str>, answer: &Answer<Text>) -> bool {
     match (wanted, answer) {
-        (Answer::Value(one), Answer::Value(other)) => **one == **other,
+        (Answer::Value(one), Answer::Value(other)) => **one == *other.as_str(),
         (Answer::Damaged, Answer::Damaged) => true,
         (Answer::TooLong, Answer::TooLong) => true,
         (Answer::Cut, Answer::Cut) => true,
@@ -159,7 +175,7 @@ const MARKED: [u8; 28] = [
     0x0B, 0x0A, 0x09, 0xA6, 0x08, 0x0A, 0x0E, 0x0F, 0x0B, 0x0B, 0x0A, 0x08,
 ];
 
-/// A call that hands each answer on, until the end.
+/// A receiver and a reader of messages that hand each answer on, until the end.
 #[derive(Clone, Copy, Drop)]
 enum Call {
     Plain,
@@ -173,29 +189,37 @@ enum Call {
     Chosen,
 }
 
+/// By a receiver whose limit is a value.
+fn hand_on_limited<M: MessageReader<u32>>(
+    alloc: Global,
+    sentinel: u8,
+    messages: &M,
+    reader: &mut In<'_>,
+    wanted: &mut Wanted<'_, u32>,
+) -> Option<End> {
+    match OwnedReceiver::new(alloc, 4, sentinel) {
+        Ok(mut receiver) => receiver.receive_each_with(alloc, messages, reader, wanted),
+        Err(NoMemory) => Some(End::NoMemory),
+    }
+}
+
 fn hand_on(
     alloc: Global,
     call: Call,
     reader: &mut In<'_>,
     wanted: &mut Wanted<'_, u32>,
 ) -> Option<End> {
-    let lacking = Some(End::NoMemory);
+    let mut plain = Receiver::<4>::new();
+    let mut marked = Receiver::<4>::new_with_sentinel(10);
     match call {
-        Call::Plain => receive_each::<u32, _, _, 4>(alloc, reader, wanted),
-        Call::Strict => receive_each_strict::<u32, _, _, 4>(alloc, reader, wanted),
-        Call::Marked => receive_each_with_sentinel::<u32, _, _, 4>(alloc, reader, wanted, 10),
-        Call::MarkedStrict => {
-            receive_each_strict_with_sentinel::<u32, _, _, 4>(alloc, reader, wanted, 10)
-        }
-        Call::Limited => {
-            receive_each_owned::<u32, _, _>(alloc, reader, wanted, 4, 10).unwrap_or(lacking)
-        }
-        Call::LimitedStrict => {
-            receive_each_owned_strict::<u32, _, _>(alloc, reader, wanted, 4, 0).unwrap_or(lacking)
-        }
+        Call::Plain => plain.receive_each_with(alloc, &Ordinary(OfType), reader, wanted),
+        Call::Strict => plain.receive_each_with(alloc, &Strict(OfType), reader, wanted),
+        Call::Marked => marked.receive_each_with(alloc, &Ordinary(OfType), reader, wanted),
+        Call::MarkedStrict => marked.receive_each_with(alloc, &Strict(OfType), reader, wanted),
+        Call::Limited => hand_on_limited(alloc, 10, &Ordinary(OfType), reader, wanted),
+        Call::LimitedStrict => hand_on_limited(alloc, 0, &Strict(OfType), reader, wanted),
         Call::Chosen => {
-            let ordinary = Chosen { strict: false };
-            Receiver::<4>::new().receive_each_with(alloc, &ordinary, reader, wanted)
+            plain.receive_each_with(alloc, &Chosen { strict: false }, reader, wanted)
         }
     }
 }
@@ -231,7 +255,8 @@ fn each_by_a_reader(rt: HostRuntime) {
     let mut reader = In::new(&LINE, 28, None);
     let mut receiver = Receiver::<4>::new();
     let strict = Chosen { strict: true };
-    let end = receiver.listen_with(rt.alloc(), &strict, &mut reader, &mut wanted);
+    let mut room = [0u8; ROOM];
+    let end = receiver.listen_with(rt.alloc(), &strict, &mut reader, &mut wanted, &mut room);
     let passed = end.is_none() && wanted.heard == 6;
     check(&rt, passed && wanted.pauses == 1);
 }
@@ -244,13 +269,8 @@ fn each_read_into_a_room(rt: HostRuntime) {
     let mut reader = In::new(&LINE, 28, None);
     let mut room = [0u8; 20];
     for moved in [20, 28] {
-        let end = receiver.listen_with_room(
-            rt.alloc(),
-            &Chosen { strict: false },
-            &mut reader,
-            &mut wanted,
-            &mut room,
-        );
+        let ordinary = Chosen { strict: false };
+        let end = receiver.listen_with(rt.alloc(), &ordinary, &mut reader, &mut wanted, &mut room);
         check(&rt, end.is_none() && reader.moved() == moved);
     }
     check(&rt, wanted.heard == 6 && wanted.pauses == 2);
@@ -263,7 +283,7 @@ fn listen(
     reader: &mut In<'_>,
     wanted: &mut Wanted<'_, u32>,
 ) -> Option<End> {
-    receiver.listen::<u32, _, _>(alloc, reader, wanted)
+    receiver.listen_with(alloc, &Ordinary(OfType), reader, wanted, &mut [0u8; ROOM])
 }
 
 /// One read a call, and nothing that it has brought about is left.
@@ -291,7 +311,13 @@ fn each_read_strictly(rt: HostRuntime) {
         return;
     };
     for _ in 0..28 {
-        let end = receiver.listen_strict::<u32, _, _>(rt.alloc(), &mut reader, &mut wanted);
+        let end = receiver.listen_with(
+            rt.alloc(),
+            &Strict(OfType),
+            &mut reader,
+            &mut wanted,
+            &mut [0u8; ROOM],
+        );
         check(&rt, end.is_none());
     }
     check(&rt, wanted.has_heard(6) && reader.moved() == 28);
@@ -350,47 +376,29 @@ const TEXTS_HEARD_STRICTLY: [(usize, Answer<&str>); 4] = [
     (17, Answer::Cut),
 ];
 
-/// A call that hands each text on where it lies, until the end.
-#[derive(Clone, Copy, Drop)]
-enum TextCall {
-    Plain,
-    Strict,
-    /// With a limit that is a value.
-    Limited,
-    LimitedStrict,
-}
-
+/// The texts of a line, each in a value of its own that takes no memory, ordinarily or strictly.
 fn hand_texts_on(
     alloc: Global,
-    call: TextCall,
+    is_strict: bool,
     wanted: &mut Wanted<'_, &'static str>,
 ) -> Option<End> {
     let reader = &mut In::new(&TEXTS, 1, None);
-    let lacking = Some(End::NoMemory);
-    match call {
-        TextCall::Plain => receive_each_text::<_, _, 8>(alloc, reader, wanted, 0),
-        TextCall::Strict => receive_each_text_strict::<_, _, 8>(alloc, reader, wanted, 0),
-        TextCall::Limited => {
-            receive_each_text_owned(alloc, reader, wanted, 8, 0).unwrap_or(lacking)
-        }
-        TextCall::LimitedStrict => {
-            receive_each_text_owned_strict(alloc, reader, wanted, 8, 0).unwrap_or(lacking)
-        }
+    let mut receiver = Receiver::<8>::new();
+    if is_strict {
+        return receiver.receive_each_with::<Text, _, _, _>(alloc, &Strict(OfType), reader, wanted);
     }
+    receiver.receive_each_with::<Text, _, _, _>(alloc, &Ordinary(OfType), reader, wanted)
 }
 
-const TEXT_CALLS: [(TextCall, &[(usize, Answer<&str>)]); 4] = [
-    (TextCall::Plain, &TEXTS_HEARD),
-    (TextCall::Strict, &TEXTS_HEARD_STRICTLY),
-    (TextCall::Limited, &TEXTS_HEARD),
-    (TextCall::LimitedStrict, &TEXTS_HEARD_STRICTLY),
-];
-
 #[test]
-fn texts_where_they_lie(rt: HostRuntime) {
-    for (at, (call, answers)) in TEXT_CALLS.iter().enumerate() {
+fn texts_without_memory(rt: HostRuntime) {
+    let rows: [(bool, &[(usize, Answer<&str>)]); 2] = [
+        (false, &TEXTS_HEARD),
+        (true, &TEXTS_HEARD_STRICTLY),
+    ];
+    for (at, (is_strict, answers)) in rows.iter().enumerate() {
         let mut wanted = Wanted::new(answers);
-        let end = hand_texts_on(rt.alloc(), *call, &mut wanted);
+        let end = hand_texts_on(rt.alloc(), *is_strict, &mut wanted);
         check_at(&rt, at, wanted.is_whole(end));
     }
 }

@@ -13,11 +13,11 @@ pub struct Chosen {
 }
 
 impl MessageReader<u32> for Chosen {
-    ghost holds = { λ r. HoldsBy r.strict ⟦<u32 as Readable>⟧.takes };
-
-    ghost reads = { λ _. ⟦<u32 as Readable>⟧.reads };
-
-    ghost growing = { λ _. ⟦<u32 as Readable>⟧.growing };
+    ghost judging = { λ r. record {
+      holds = HoldsBy r.strict ⟦<u32 as Readable>⟧.form.takes;
+      reads = ⟦<u32 as Readable>⟧.form.reads;
+      growing = ⟦<u32 as Readable>⟧.form.growing;
+    } };
 
     fn read(&self, alloc: Global, message: &[u8], stretch: usize) -> Result<Option<u32>, NoMemory> {
         if self.strict {

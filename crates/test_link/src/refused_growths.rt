@@ -9,9 +9,9 @@ use crate::checks::{all_true, are_bytes, are_fates, check, is_answer, is_told};
 use cobs::{CobsDecoderOwned, DecodeVecError};
 use line_io::memory::{In, Out};
 use link::{
-    Answer, End, Fate, Gathered, Hearer, NoMemory, OwnedReceiver, Pushed, Received, Receiver,
-    Sender, read_in_place, read_in_place_with_sentinel, receive, receive_by_accumulator,
-    receive_by_accumulator_with_sentinel, receive_each, receive_each_owned_strict, receive_owned,
+    Answer, End, Fate, Gathered, Hearer, NoMemory, OfType, Ordinary, OwnedReceiver, Pushed,
+    Received, Receiver, Sender, Strict, read_in_place, read_in_place_with_sentinel, receive,
+    receive_by_accumulator, receive_by_accumulator_with_sentinel, receive_owned,
     receive_owned_strict, receive_strict, receive_strict_with_sentinel, receive_with_sentinel,
     send_each,
 };
@@ -386,6 +386,8 @@ impl Hearer<Vec<u8>> for Vectors {
 
     ghost enough = { λ v. false };
 
+    ghost settled = { λ _. ⊤ };
+
     fn hear(&mut self, answer: Answer<Vec<u8>>)
         ensures { ⊤ }
     {
@@ -394,7 +396,8 @@ impl Hearer<Vec<u8>> for Vectors {
     }
 
     fn pause(&mut self)
-        ensures { ⊤ }
+        ensures heard { ⊤ }
+        ensures settles { ⊤ }
     {}
 
     fn has_enough(&self) -> bool
@@ -421,7 +424,8 @@ fn hand_on(alloc: Global, wants: &mut Wants, each: usize)
 {
     let mut vectors = Vectors::new();
     let mut line = In::new(&LINE, each, None);
-    let end = receive_each::<Vec<u8>, _, _, 8>(alloc, &mut line, &mut vectors);
+    let mut receiver = Receiver::<8>::new();
+    let end = receiver.receive_each_with(alloc, &Ordinary(OfType), &mut line, &mut vectors);
     wants.handed(end, &vectors);
 }
 
@@ -429,13 +433,108 @@ fn hand_on(alloc: Global, wants: &mut Wants, each: usize)
 fn hand_on_owned(alloc: Global, wants: &mut Wants) {
     let mut vectors = Vectors::new();
     let mut line = In::new(&LINE, 7, None);
-    match receive_each_owned_strict::<Vec<u8>, _, _>(alloc, &mut line, &mut vectors, 8, 0) {
-        Ok(end) => wants.handed(end, &vectors),
+    match OwnedReceiver::new(alloc, 8, 0) {
+        Ok(mut receiver) => {
+            let strict = Strict(OfType);
+            let end = receiver.receive_each_with(alloc, &strict, &mut line, &mut vectors);
+            wants.handed(end, &vectors);
+        }
         Err(NoMemory) => {
             wants.expect(vectors.next == 1 && line.moved() == 0);
             wants.add();
         }
     }
+}
+
+/// Byte by byte: where memory was wanting, every frame that was read is handed on but for the last one, which was lost.
+fn stand_handed(alloc: Global, wants: &mut Wants) {
+    let mut vectors = Vectors::new();
+    let mut line = In::new(&LINE, 1, None);
+    let mut receiver = Receiver::<8>::new();
+    let end = receiver.receive_each_with(alloc, &Ordinary(OfType), &mut line, &mut vectors);
+    if end == Some(End::NoMemory) {
+        wants.expect(usize::from(vectors.next) == line.moved() / 4);
+    }
+    wants.handed(end, &vectors);
+}
+
+/// Vectors of one byte that were heard live, each greater than the one before it, since one may be lost.
+#[derive(Drop)]
+struct Rising {
+    last: u8,
+    heard: usize,
+    pauses: usize,
+    are_right: bool,
+}
+
+impl Rising {
+    fn new() -> Rising {
+        Rising {
+            last: 0,
+            heard: 0,
+            pauses: 0,
+            are_right: true,
+        }
+    }
+}
+
+impl Hearer<Vec<u8>> for Rising {
+    ghost hears = { HeardAnyhow };
+
+    ghost laws = { heard_anyhow };
+
+    ghost enough = { λ v. false };
+
+    ghost settled = { λ _. ⊤ };
+
+    fn hear(&mut self, answer: Answer<Vec<u8>>)
+        ensures { ⊤ }
+    {
+        match &answer {
+            Answer::Value(value) => match value.as_slice() {
+                [byte] if self.last < *byte && *byte <= 6 => self.last = *byte,
+                _ => self.are_right = false,
+            },
+            _ => self.are_right = false,
+        }
+        self.heard = self.heard.saturating_add(1);
+    }
+
+    fn pause(&mut self)
+        ensures heard { ⊤ }
+        ensures settles { ⊤ }
+    {
+        self.pauses = self.pauses.saturating_add(1);
+    }
+
+    fn has_enough(&self) -> bool
+        ensures { result ≡ false }
+    {
+        false
+    }
+}
+
+/// The line in three reads, the first two of which cut a frame: a value that finds no memory costs itself alone, and the read that
+/// lost it says so. All others are heard, also those behind it in its read and those that its read has begun, and each read pauses.
+fn go_on(alloc: Global, wants: &mut Wants) {
+    let mut receiver = Receiver::<8>::new();
+    let mut line = In::new(&LINE, 10, None);
+    let mut heard = Rising::new();
+    let mut lost = 0usize;
+    for _ in 0..3 {
+        let room = &mut [0u8; 16];
+        match receiver.listen_with(alloc, &Ordinary(OfType), &mut line, &mut heard, room) {
+            None => {}
+            Some(end) => {
+                wants.expect(end == End::NoMemory);
+                wants.add();
+                lost = lost.saturating_add(1);
+            }
+        }
+    }
+    wants.expect(heard.are_right && heard.pauses == 3);
+    wants.expect(heard.heard.saturating_add(lost) == 6);
+    wants.expect(receiver.is_between() && line.moved() == 24);
 }
 
 /// Receptions to the end, in pieces of this size.
@@ -604,6 +703,8 @@ fn receive_all(alloc: Global, wants: &mut Wants) {
     listen(alloc, wants, 1);
     listen(alloc, wants, 7);
     listen(alloc, wants, 24);
+    stand_handed(alloc, wants);
+    go_on(alloc, wants);
 }
 
 /// All calls for a line whose mark is FF.

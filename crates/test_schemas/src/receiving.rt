@@ -4,6 +4,7 @@ use declarations::{Schema, read_schema};
 use link::{Answer, Ordinary, OwnedReceiver, Strict};
 use schemas::Value;
 use std::alloc::Global;
+use std::cell::Cell;
 use std::process::Abort;
 use wire_lib::DEPTH;
 use wire_lib::receive::{Reading, Receiver};
@@ -86,6 +87,7 @@ fn has_its_lines(alloc: Global, schema: &Schema, run: &Run, size: usize) -> bool
         place: 0,
         hex: false,
         strict: run.strict,
+        depth: DEPTH,
         sentinel: 0,
     };
     let Ok(mut receiver) = Receiver::new(reading, run.from) else {
@@ -128,10 +130,12 @@ fn by_the_table(rt: HostRuntime) {
     let alloc = rt.alloc();
     let schema = schema(alloc).expect(&rt, "a schema");
     let mut receiver = OwnedReceiver::new(alloc, 8, 0).expect(&rt, "a receiver");
+    let is_deep = Cell::new(false);
     let table = TableReader {
         nodes: &schema.nodes,
         place: 0,
         depth: DEPTH,
+        is_deep: &is_deep,
     };
     let piece = &STREAM[9..15];
     let pushed = receiver.push_with(alloc, &Ordinary(table), piece);

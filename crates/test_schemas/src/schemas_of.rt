@@ -81,6 +81,7 @@ fn put_held(line: &mut String, node: &Node) -> Result<(), AllocError> {
 fn word_of_names(names: &Names) -> &'static str {
     match names {
         Names::Nothing => "",
+        Names::Float => ", float",
         Names::Empty => ", empty",
         Names::Unit => ", unit",
         Names::Newtype => ", newtype",
@@ -191,35 +192,35 @@ fn kinds(rt: HostRuntime) {
 const WRONG: [Row; 9] = [
     (
         "// message\nstruct A(B);\n\n// message\nstruct C(\n    D,\n);",
-        "line 2: `B` isn't declared and marked here\nline 6: `D` isn't declared and marked here\n",
+        "line 2: `A.0`: `B` isn't declared and marked here\nline 6: `C.0`: `D` isn't declared and marked here\n",
     ),
     (
         "// message\nstruct A(u8);\n// message\nenum A { B }",
-        "line 4: `A` is declared twice\n",
+        "line 4: `A`: the file declares this name twice\n",
     ),
     (
-        "// message\nstruct A<T>(T);",
-        "line 2: `A` has parameters that are types, which no schema has\nline 2: `T` isn't declared and marked here\n",
+        "// message\nstruct A<T>(T);\n// message\nstruct B(A<C>);",
+        "line 4: `B.0`: `C` isn't declared and marked here\n",
     ),
     (
         "// message\nstruct A([u8; N]);",
-        "line 2: `N` isn't a length in plain digits\n",
+        "line 2: `A.0`: `N` isn't a length in plain digits\n",
     ),
     (
         "// message\nstruct A(ArrayVec<u8, N>);",
-        "line 2: `N` isn't a length in plain digits\n",
+        "line 2: `A.0`: `N` isn't a length in plain digits\n",
     ),
     (
         "// message\nstruct A(LE<u8>);",
-        "line 2: `u8` isn't an integer of 16 to 128 bits\n",
+        "line 2: `A.0`: `u8` isn't an integer of 16 to 128 bits\n",
     ),
     (
         "// message\nstruct A(Option);",
-        "line 2: `<` is wanted in place of ``\n",
+        "line 2: `A.0`: `<` is wanted in place of ``\n",
     ),
     (
-        "// message\nstruct A { a: f32 }",
-        "line 2: `A.a`: `f32` is no message: take `LE<u32>` of its bits\n",
+        "// message\nstruct A { #[serde(flatten)] a: u8 }",
+        "line 2: `A.a`: `flatten` can't be sent by postcard, which has no names: write the fields themselves\n",
     ),
     (
         "struct A;",

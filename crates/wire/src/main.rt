@@ -1,68 +1,34 @@
-//! Messages of any device as lines of JSON, by the declarations of their types in Rust: `wire read FILE TYPE` makes a line of each
-//! frame that it reads, `wire write FILE TYPE` a frame of each line, and `wire check FILE` lists the types.
+//! Messages of any device as lines of JSON, by the declarations of their types in Rust: `wire read FILES TYPE` makes a line of
+//! each frame that it reads, `wire write FILES TYPE` a frame of each line, and `wire check FILES` lists the types. FILES is a
+//! file, several with commas between them, or a folder.
 //!
 //! The work is that of `wire_lib`.
 #![tactic(auto)]
 
-use declarations::{Error, Schema, read_schema};
-use std::alloc::AllocError;
+mod sources;
+mod stop;
+
+use crate::sources::sources_of;
+use crate::stop::{Stop, wrong};
+use declarations::{Error, Schema, read_sources};
+use std::env;
 use std::io::{Read, Write};
 use std::process::ExitCode;
-use std::{env, fs};
 use wire_lib::receive::{Reading, Receiver};
-use wire_lib::send::{SendError, Sender, Sending};
-use wire_lib::sizes::greatest_sizes;
+use wire_lib::send::{Sender, Sending};
+use wire_lib::sizes::{bound_lists, greatest_sizes};
 use wire_lib::words::{Options, options_of};
 
+type Ran = Result<bool, Stop>;
+
 const USAGE: &str =
-    "usage: wire read FILE TYPE [hex] [strict] [sentinel=HH] [from=OFFSET] [bytes=hex]
-       wire write FILE TYPE [hex] [sentinel=HH]
-       wire check FILE
+    "usage: wire read FILES TYPE [hex] [strict] [sentinel=HH] [from=OFFSET] [bytes=hex] [depth=N] [empty=N]
+       wire write FILES TYPE [hex] [sentinel=HH] [depth=N] [empty=N]
+       wire check FILES
 ";
 
 /// How many bytes are asked for in one read.
 const ROOM: usize = 65536;
-
-/// Why a run ends before its work is done.
-#[derive(Drop)]
-enum Stop {
-    /// The words are wrong, or what they name; lines that say why.
-    Wrong(String),
-    /// A read failed.
-    ReadFault,
-    /// A write failed.
-    WriteFault,
-    /// Out of memory.
-    NoMemory,
-}
-
-impl From<AllocError> for Stop {
-    fn from(_: AllocError) -> Stop {
-        Stop::NoMemory
-    }
-}
-
-impl From<SendError> for Stop {
-    fn from(error: SendError) -> Stop {
-        match error {
-            SendError::NotText => Stop::ReadFault,
-            SendError::OutOfMemory => Stop::NoMemory,
-        }
-    }
-}
-
-type Ran = Result<bool, Stop>;
-
-/// A text as what is wrong.
-fn wrong(rt: &HostRuntime, pieces: &[&str]) -> Stop {
-    let mut text = String::new(rt.alloc());
-    for piece in pieces {
-        if text.push_str(piece).is_err() {
-            return Stop::NoMemory;
-        }
-    }
-    Stop::Wrong(text)
-}
 
 /// Writes bytes to standard output, all of them before it returns.
 fn say(rt: &HostRuntime, bytes: &[u8]) -> Result<(), Stop> {
@@ -73,12 +39,10 @@ fn say(rt: &HostRuntime, bytes: &[u8]) -> Result<(), Stop> {
     Ok(())
 }
 
-/// The schema of the declarations in a file.
-fn schema_of(rt: &HostRuntime, file: &str) -> Result<Schema, Stop> {
-    let Ok(text) = fs::read_to_string(rt, file) else {
-        return Err(Stop::ReadFault);
-    };
-    match read_schema(rt.alloc(), text.as_str()) {
+/// The schema of the declarations in files.
+fn schema_of(rt: &HostRuntime, files: &str) -> Result<Schema, Stop> {
+    let sources = sources_of(rt, files)?;
+    match read_sources(rt.alloc(), &sources) {
         Ok(schema) => Ok(schema),
         Err(Error::Wrong(lines)) => Err(Stop::Wrong(lines)),
         Err(Error::OutOfMemory) => Err(Stop::NoMemory),
@@ -107,19 +71,27 @@ fn read_whole(rt: &HostRuntime) -> Result<Vec<u8>, Stop> {
     Ok(whole)
 }
 
-/// Hands the bytes of hexadecimal text on; a line feed at its end is dropped.
+/// The bytes of a text without its blanks and line ends.
+fn without_blanks(rt: &HostRuntime, text: &[u8]) -> Result<Vec<u8>, Stop> {
+    let mut digits = Vec::new(rt.alloc());
+    for byte in text {
+        if !byte.is_ascii_whitespace() {
+            digits.push(*byte)?;
+        }
+    }
+    Ok(digits)
+}
+
+/// Hands the bytes of hexadecimal text on.
 fn receive_digits(
     rt: &HostRuntime,
     receiver: &mut Receiver<'_>,
     lines: &mut Vec<u8>,
 ) -> Result<(), Stop> {
     let text = read_whole(rt)?;
-    let digits = match text.as_slice() {
-        [digits @ .., b'\n'] => digits,
-        digits => digits,
-    };
+    let digits = without_blanks(rt, &text)?;
     let mut bytes = Vec::from_elem(rt.alloc(), 0u8, digits.len() / 2)?;
-    if hex::decode_to_slice(digits, &mut bytes).is_err() {
+    if hex::decode_to_slice(&digits, &mut bytes).is_err() {
         return Err(wrong(rt, &["bad hex\n"]));
     }
     Ok(receiver.push(&bytes, lines)?)
@@ -152,6 +124,7 @@ fn read(rt: &HostRuntime, schema: &Schema, place: usize, options: Options) -> Ra
         place,
         hex: options.digits,
         strict: options.strict,
+        depth: options.depth,
         sentinel: options.sentinel,
     };
     let mut receiver = Receiver::new(reading, options.from)?;
@@ -237,6 +210,7 @@ fn write(rt: &HostRuntime, schema: &Schema, place: usize, options: Options) -> R
         alloc,
         schema,
         place,
+        depth: options.depth,
         sentinel,
     };
     let mut frames = Vec::from_elem(alloc, sentinel, 1)?;
@@ -260,8 +234,31 @@ fn check(rt: &HostRuntime, schema: &Schema) -> Ran {
     Ok(true)
 }
 
+/// The place of the type of that name, which is one alone.
+fn place_of(rt: &HostRuntime, schema: &Schema, files: &str, name: &str) -> Result<usize, Stop> {
+    let Some(place) = schema.place_of(name) else {
+        return Err(wrong(
+            rt,
+            &["`", name, "` isn't declared and marked in ", files, "\n"],
+        ));
+    };
+    for it in schema.types.iter().skip(place.saturating_add(1)) {
+        if it.name.as_str() == name {
+            return Err(wrong(
+                rt,
+                &[
+                    "`",
+                    name,
+                    "` is declared in two of the files: name the one that is meant\n",
+                ],
+            ));
+        }
+    }
+    Ok(place)
+}
+
 /// Reads or writes messages of a type.
-fn work(rt: &HostRuntime, mode: &str, file: &str, name: &str, words: &[String]) -> Ran {
+fn work(rt: &HostRuntime, mode: &str, files: &str, name: &str, words: &[String]) -> Ran {
     let Some(options) = options_of(words) else {
         return Err(wrong(rt, &[USAGE]));
     };
@@ -269,13 +266,9 @@ fn work(rt: &HostRuntime, mode: &str, file: &str, name: &str, words: &[String]) 
     if !is_read && (mode != "write" || options.strict || options.digits || options.from != 0) {
         return Err(wrong(rt, &[USAGE]));
     }
-    let schema = schema_of(rt, file)?;
-    let Some(place) = schema.place_of(name) else {
-        return Err(wrong(
-            rt,
-            &["`", name, "` isn't declared and marked in ", file, "\n"],
-        ));
-    };
+    let mut schema = schema_of(rt, files)?;
+    let place = place_of(rt, &schema, files, name)?;
+    bound_lists(rt.alloc(), &mut schema.nodes, options.empty)?;
     if is_read {
         return read(rt, &schema, place, options);
     }
@@ -285,12 +278,12 @@ fn work(rt: &HostRuntime, mode: &str, file: &str, name: &str, words: &[String]) 
 /// Does what the words behind the program's name say.
 fn run(rt: &HostRuntime, words: &[String]) -> Ran {
     match words {
-        [mode, file] if mode.as_str() == "check" => {
-            let schema = schema_of(rt, file.as_str())?;
+        [mode, files] if mode.as_str() == "check" => {
+            let schema = schema_of(rt, files.as_str())?;
             check(rt, &schema)
         }
-        [mode, file, name, options @ ..] => {
-            work(rt, mode.as_str(), file.as_str(), name.as_str(), options)
+        [mode, files, name, options @ ..] => {
+            work(rt, mode.as_str(), files.as_str(), name.as_str(), options)
         }
         _ => Err(wrong(rt, &[USAGE])),
     }
@@ -313,6 +306,7 @@ fn report(rt: &HostRuntime, ran: Ran) -> u8 {
     let (said, status) = match ran {
         Ok(is_good) => return if is_good { 0 } else { 1 },
         Err(Stop::Wrong(lines)) => (eprint!(rt; "{lines}"), 2),
+        Err(Stop::NoFile(line)) => (eprint!(rt; "{line}"), 3),
         Err(Stop::ReadFault) => (eprintln!(rt; "read failed"), 3),
         Err(Stop::WriteFault) => (eprintln!(rt; "write failed"), 3),
         Err(Stop::NoMemory) => (eprintln!(rt; "no memory"), 4),

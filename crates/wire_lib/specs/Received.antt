@@ -13,13 +13,13 @@ use Rattle.link.specs.declared.receiver.Answer.TheVariants as answer
 use Rattle.wire_lib.specs.declared.receive.Reading.{Reading}
 use Rattle.wire_lib.specs.declared.receive.Receiver.{Receiver}
 
--- which trees a stretch holds: those of the type, that nest in at most sixty nodes, ordinarily or strictly
+-- which trees a stretch holds: those of the type, that nest in at most so many nodes, ordinarily or strictly
 abbrev pub held_by : Reading → List ℕ → Tree → Type 0
-held_by r = HoldsBy r.strict (SchemaTakes 60 r.schema.now.nodes.items r.place)
+held_by r = HoldsBy r.strict (SchemaTakes r.depth r.schema.now.nodes.items r.place)
 
 -- as which values
 abbrev pub read_by : Reading → Tree → Value → Type 0
-read_by r = SchemaReads 60 r.schema.now.nodes.items r.place
+read_by r = SchemaReads r.depth r.schema.now.nodes.items r.place
 
 -- what frames are read as
 abbrev pub reading_of : Receiver → Reading

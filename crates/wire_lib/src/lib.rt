@@ -2,6 +2,7 @@
 //! words of the program `wire`.
 #![tactic(auto)]
 
+mod floats;
 mod looks;
 pub mod parse;
 pub mod print;
@@ -10,6 +11,7 @@ pub mod send;
 pub mod sizes;
 pub mod table;
 pub mod words;
+pub mod wrong;
 
-/// How many nodes a value may nest in.
+/// How many nodes a value may nest in, unless a word says otherwise.
 pub const DEPTH: u32 = 60;

@@ -1,70 +1,56 @@
 //! JSON as values.
-use crate::DEPTH;
-use crate::looks::{PRESENT, has_text_keys, is_empty, may_be_null};
+use crate::floats::{float_of_number, float_of_word};
+use crate::looks::{PRESENT, has_text_keys, is_byte, is_empty, may_be_null};
+use crate::wrong::{ParseError, at_column, inside, inside_element, refusal};
 use declarations::{Names, Schema};
-use json::{Error, Scratch, Value as Json};
+use json::{Error, Reader, Scratch, Value as Json};
 use schemas::{Integer, IntegerType, Node, Value};
-use std::alloc::{AllocError, AllocFailed, Global};
-
-/// Why a line isn't a value of the type.
-#[derive(Clone, Copy, Debug, PartialEq, Eq, Drop)]
-pub enum ParseError {
-    /// It is no JSON, or not of the type, for this reason.
-    Wrong(&'static str),
-    /// Out of memory.
-    OutOfMemory,
-}
-
-impl From<AllocError> for ParseError {
-    fn from(_: AllocError) -> ParseError {
-        ParseError::OutOfMemory
-    }
-}
-
-impl<T: Drop> From<AllocFailed<T>> for ParseError {
-    fn from(_: AllocFailed<T>) -> ParseError {
-        ParseError::OutOfMemory
-    }
-}
+use std::alloc::Global;
+use std::str::from_utf8;
 
 type Parsed = Result<Value, ParseError>;
 
 /// What is said of nodes that nest too deep.
-const TOO_DEEP: ParseError = ParseError::Wrong("the value nests too deep");
+const TOO_DEEP: &str = "the value nests too deep: `depth=` says how deep it may";
 
 /// What is said of a type that isn't there.
-const NO_TYPE: ParseError = ParseError::Wrong("the schema has no such type");
+const NO_TYPE: &str = "the schema has no such type";
 
 fn boolean(json: &Json<'_>) -> Parsed {
     match json {
         Json::Bool(b) => Ok(Value::Bool(*b)),
-        _ => Err(ParseError::Wrong("true or false is wanted")),
+        _ => Err(refusal("true or false is wanted")),
     }
 }
 
 /// A text of one character.
 fn character(json: &Json<'_>) -> Parsed {
-    let Json::String(text) = json else {
-        return Err(ParseError::Wrong("a text of one character is wanted"));
-    };
+    match json {
+        Json::String(text) => char_of(text),
+        _ => Err(refusal("a text of one character is wanted")),
+    }
+}
+
+/// The character that a text is.
+fn char_of(text: &str) -> Parsed {
     let mut characters = text.chars();
     match (characters.next(), characters.next()) {
         (Some(c), None) => Ok(Value::Char(c)),
-        _ => Err(ParseError::Wrong("a text of one character is wanted")),
+        _ => Err(refusal("a text of one character is wanted")),
     }
 }
 
 fn text(alloc: Global, json: &Json<'_>) -> Parsed {
     match json {
         Json::String(text) => Ok(Value::Text(String::from_str(alloc, text)?)),
-        _ => Err(ParseError::Wrong("a text is wanted")),
+        _ => Err(refusal("a text is wanted")),
     }
 }
 
 /// A text of at most so many bytes.
 fn text_up_to(alloc: Global, most: u64, held: &str) -> Parsed {
     if held.len() as u64 > most {
-        return Err(ParseError::Wrong("a text is too long"));
+        return Err(refusal("a text is too long"));
     }
     Ok(Value::Text(String::from_str(alloc, held)?))
 }
@@ -73,7 +59,7 @@ fn text_up_to(alloc: Global, most: u64, held: &str) -> Parsed {
 fn short_text(alloc: Global, most: u64, json: &Json<'_>) -> Parsed {
     match json {
         Json::String(held) => text_up_to(alloc, most, held),
-        _ => Err(ParseError::Wrong("a text is wanted")),
+        _ => Err(refusal("a text is wanted")),
     }
 }
 
@@ -82,9 +68,9 @@ fn byte(json: &Json<'_>) -> Result<u8, ParseError> {
     match json {
         Json::Number(text) => match text.parse::<u8>() {
             Ok(byte) => Ok(byte),
-            Err(_) => Err(ParseError::Wrong("a byte is out of range")),
+            Err(_) => Err(refusal("a number from 0 to 255 is wanted")),
         },
-        _ => Err(ParseError::Wrong("a byte is wanted")),
+        _ => Err(refusal("a byte is wanted")),
     }
 }
 
@@ -92,7 +78,10 @@ fn byte(json: &Json<'_>) -> Result<u8, ParseError> {
 fn bytes_of_numbers(alloc: Global, elements: &[Json<'_>]) -> Result<Vec<u8>, ParseError> {
     let mut bytes = Vec::new(alloc);
     for element in elements {
-        bytes.push(byte(element)?)?;
+        match byte(element) {
+            Ok(byte) => bytes.push(byte)?,
+            Err(error) => return Err(inside_element(alloc, bytes.len(), error)),
+        }
     }
     Ok(bytes)
 }
@@ -102,7 +91,7 @@ fn bytes_of_digits(alloc: Global, digits: &str) -> Result<Vec<u8>, ParseError> {
     let mut bytes = Vec::from_elem(alloc, 0, digits.len() / 2)?;
     match hex::decode_to_slice(digits.as_bytes(), &mut bytes) {
         Ok(()) => Ok(bytes),
-        Err(_) => Err(ParseError::Wrong("the text isn't hexadecimal")),
+        Err(_) => Err(refusal("the text isn't hexadecimal")),
     }
 }
 
@@ -110,7 +99,7 @@ fn bytes(alloc: Global, json: &Json<'_>) -> Parsed {
     match json {
         Json::Array(elements) => Ok(Value::Bytes(bytes_of_numbers(alloc, elements)?)),
         Json::String(digits) => Ok(Value::Bytes(bytes_of_digits(alloc, digits)?)),
-        _ => Err(ParseError::Wrong("an array of bytes is wanted, or their digits")),
+        _ => Err(refusal("an array of bytes is wanted, or their digits")),
     }
 }
 
@@ -128,53 +117,83 @@ fn integer_of(of: IntegerType, text: &str) -> Option<Integer> {
     })
 }
 
-/// The type of a node's values, if they are integers of 16 bits or more as varints.
-fn integer_type(node: &Node) -> Option<IntegerType> {
-    Some(match node {
-        Node::U16 => IntegerType::U16,
-        Node::U32 => IntegerType::U32,
-        Node::U64 => IntegerType::U64,
-        Node::U128 => IntegerType::U128,
-        Node::I16 => IntegerType::I16,
-        Node::I32 => IntegerType::I32,
-        Node::I64 => IntegerType::I64,
-        Node::I128 => IntegerType::I128,
-        _ => return None,
-    })
-}
-
-/// The value of such an integer.
-fn value_of(n: Integer) -> Value {
-    match n {
-        Integer::U16(n) => Value::U16(n),
-        Integer::U32(n) => Value::U32(n),
-        Integer::U64(n) => Value::U64(n),
-        Integer::U128(n) => Value::U128(n),
-        Integer::I16(n) => Value::I16(n),
-        Integer::I32(n) => Value::I32(n),
-        Integer::I64(n) => Value::I64(n),
-        Integer::I128(n) => Value::I128(n),
-    }
-}
-
 /// A number of the type, if it is in its range.
 fn number_of(node: &Node, text: &str) -> Option<Value> {
     Some(match node {
         Node::U8 => Value::U8(text.parse().ok()?),
+        Node::U16 => Value::U16(text.parse().ok()?),
+        Node::U32 => Value::U32(text.parse().ok()?),
+        Node::U64 => Value::U64(text.parse().ok()?),
+        Node::U128 => Value::U128(text.parse().ok()?),
         Node::I8 => Value::I8(text.parse().ok()?),
+        Node::I16 => Value::I16(text.parse().ok()?),
+        Node::I32 => Value::I32(text.parse().ok()?),
+        Node::I64 => Value::I64(text.parse().ok()?),
+        Node::I128 => Value::I128(text.parse().ok()?),
         Node::LE(of) => Value::LE(integer_of(*of, text)?),
         Node::BE(of) => Value::BE(integer_of(*of, text)?),
-        _ => value_of(integer_of(integer_type(node)?, text)?),
+        _ => return None,
     })
+}
+
+/// What is said of a number that isn't of the type.
+fn range_of(node: &Node) -> &'static str {
+    match node {
+        Node::U8 => "a number from 0 to 255 is wanted",
+        Node::I8 => "a number from -128 to 127 is wanted",
+        Node::U16 | Node::LE(IntegerType::U16) | Node::BE(IntegerType::U16) =>
+            "a number from 0 to 65535 is wanted",
+        Node::I16 | Node::LE(IntegerType::I16) | Node::BE(IntegerType::I16) =>
+            "a number from -32768 to 32767 is wanted",
+        Node::U32 | Node::LE(IntegerType::U32) | Node::BE(IntegerType::U32) =>
+            "a number from 0 to 4294967295 is wanted",
+        Node::I32 | Node::LE(IntegerType::I32) | Node::BE(IntegerType::I32) =>
+            "a number from -2147483648 to 2147483647 is wanted",
+        Node::U64 | Node::LE(IntegerType::U64) | Node::BE(IntegerType::U64) =>
+            "a number from 0 to 2^64 - 1 is wanted",
+        Node::I64 | Node::LE(IntegerType::I64) | Node::BE(IntegerType::I64) =>
+            "a number from -2^63 to 2^63 - 1 is wanted",
+        Node::U128 | Node::LE(IntegerType::U128) | Node::BE(IntegerType::U128) =>
+            "a number from 0 to 2^128 - 1 is wanted",
+        _ => "a number from -2^127 to 2^127 - 1 is wanted",
+    }
+}
+
+/// Whether a number has a fraction or an exponent.
+fn has_fraction(text: &str) -> bool {
+    text.chars().any(is_of_fraction)
+}
+
+/// Whether a character of a number begins a fraction or an exponent.
+fn is_of_fraction(c: char) -> bool {
+    matches!(c, '.' | 'e' | 'E')
 }
 
 fn number(node: &Node, json: &Json<'_>) -> Parsed {
     let Json::Number(text) = json else {
-        return Err(ParseError::Wrong("a number is wanted"));
+        return Err(refusal("a number is wanted"));
     };
     match number_of(node, text) {
         Some(value) => Ok(value),
-        None => Err(ParseError::Wrong("a number is out of range")),
+        None if has_fraction(text) => {
+            Err(refusal("a number without fraction or exponent is wanted"))
+        }
+        None => Err(refusal(range_of(node))),
+    }
+}
+
+/// A float of a width, by its bits: of a number, or of a text for what is none.
+fn float(of: IntegerType, json: &Json<'_>) -> Parsed {
+    let bits = match json {
+        Json::Number(text) => float_of_number(of, text),
+        Json::String(word) => float_of_word(of, word),
+        _ => return Err(refusal("a number is wanted")),
+    };
+    match bits {
+        Some(bits) => Ok(Value::LE(bits)),
+        None => Err(refusal(
+            "a float is out of range, or another text than `NaN`, `Infinity`, `-Infinity`",
+        )),
     }
 }
 
@@ -193,7 +212,7 @@ fn present<'a, 'b>(
     {
         return Ok(held);
     }
-    Err(ParseError::Wrong("null or {\"Some\": ..} is wanted"))
+    Err(refusal("null or {\"Some\": ..} is wanted"))
 }
 
 #[cycle(parse)]
@@ -217,22 +236,120 @@ fn items(
 ) -> Result<Vec<Value>, ParseError> {
     let mut items = Vec::new(alloc);
     for element in elements {
-        let item = value(alloc, schema, place, depth, element)?;
-        items.push(item)?;
+        match value(alloc, schema, place, depth, element) {
+            Ok(item) => items.push(item)?,
+            Err(error) => return Err(inside_element(alloc, items.len(), error)),
+        }
     }
     Ok(items)
 }
 
-/// A text as the key of a map, if its keys are texts.
+/// Bytes as values.
+fn byte_values(alloc: Global, bytes: &[u8]) -> Result<Vec<Value>, ParseError> {
+    let mut items = Vec::new(alloc);
+    for byte in bytes {
+        items.push(Value::U8(*byte))?;
+    }
+    Ok(items)
+}
+
+/// Values of one type: of an array, or of hexadecimal digits where they are bytes.
+#[cycle(parse)]
+fn elements(
+    alloc: Global,
+    schema: &Schema,
+    place: usize,
+    depth: u32,
+    json: &Json<'_>,
+) -> Result<Vec<Value>, ParseError> {
+    match json {
+        Json::Array(elements) => items(alloc, schema, place, depth, elements),
+        Json::String(digits) if depth > 0 && is_byte(schema, place) => {
+            let bytes = bytes_of_digits(alloc, digits)?;
+            byte_values(alloc, &bytes)
+        }
+        _ if is_byte(schema, place) => {
+            Err(refusal("an array of bytes is wanted, or their digits"))
+        }
+        _ => Err(refusal("an array is wanted")),
+    }
+}
+
+/// A truth value by its name.
+fn truth_of(key: &str) -> Parsed {
+    match key {
+        "true" => Ok(Value::Bool(true)),
+        "false" => Ok(Value::Bool(false)),
+        _ => Err(refusal("the key is neither true nor false")),
+    }
+}
+
+/// A number by its digits.
+fn number_key(node: &Node, key: &str) -> Parsed {
+    match number_of(node, key) {
+        Some(value) => Ok(value),
+        None => Err(refusal(range_of(node))),
+    }
+}
+
+/// A text as a key that isn't inside another type.
+fn plain_key(alloc: Global, node: &Node, key: &str) -> Parsed {
+    match node {
+        Node::Bool => truth_of(key),
+        Node::Char => char_of(key),
+        Node::Text => Ok(Value::Text(String::from_str(alloc, key)?)),
+        Node::TextUpTo(most) => text_up_to(alloc, *most, key),
+        _ => number_key(node, key),
+    }
+}
+
+/// A variant that holds nothing, by its name.
+#[cycle(parse)]
+fn variant_key(
+    alloc: Global,
+    schema: &Schema,
+    names: &Names,
+    payloads: &[usize],
+    depth: u32,
+    key: &str,
+) -> Parsed {
+    let Some(index) = index_of(names, key) else {
+        return Err(refusal("the type has no such variant"));
+    };
+    if index as usize >= payloads.len() {
+        return Err(refusal(NO_TYPE));
+    }
+    let held = value(alloc, schema, payloads[index as usize], depth, &Json::Null)?;
+    Ok(Value::Variant(index, Box::new(alloc, held)?))
+}
+
+/// A text as the key of a map, if its keys can be texts.
+#[cycle(parse)]
 fn key_of(alloc: Global, schema: &Schema, place: usize, depth: u32, key: &str) -> Parsed {
     if depth == 0 {
-        return Err(TOO_DEEP);
+        return Err(refusal(TOO_DEEP));
     }
-    match schema.nodes.get(place) {
-        Some(Node::Text) => Ok(Value::Text(String::from_str(alloc, key)?)),
-        Some(Node::TextUpTo(most)) => text_up_to(alloc, *most, key),
-        _ => Err(NO_TYPE),
+    match (schema.nodes.get(place), schema.names.get(place)) {
+        (Some(Node::Struct(fields)), Some(Names::Newtype)) => {
+            let [only] = fields.as_slice() else {
+                return Err(refusal(NO_TYPE));
+            };
+            let held = key_of(alloc, schema, *only, depth - 1, key)?;
+            one_part(alloc, held)
+        }
+        (Some(Node::Enum(payloads)), Some(names)) => {
+            variant_key(alloc, schema, names, payloads, depth - 1, key)
+        }
+        (Some(node), _) => plain_key(alloc, node, key),
+        _ => Err(refusal(NO_TYPE)),
     }
+}
+
+/// A struct of one field.
+fn one_part(alloc: Global, held: Value) -> Parsed {
+    let mut parts = Vec::new(alloc);
+    parts.push(held)?;
+    Ok(Value::Group(parts))
 }
 
 /// A pair of a key and what it stands for.
@@ -246,7 +363,7 @@ fn pair(
     json: &Json<'_>,
 ) -> Parsed {
     let [first, second] = fields else {
-        return Err(NO_TYPE);
+        return Err(refusal(NO_TYPE));
     };
     let key = key_of(alloc, schema, *first, depth, key)?;
     let held = value(alloc, schema, *second, depth, json)?;
@@ -267,11 +384,11 @@ fn member(
     json: &Json<'_>,
 ) -> Parsed {
     if depth == 0 {
-        return Err(TOO_DEEP);
+        return Err(refusal(TOO_DEEP));
     }
     match schema.nodes.get(place) {
         Some(Node::Struct(fields)) => pair(alloc, schema, fields, depth - 1, key, json),
-        _ => Err(NO_TYPE),
+        _ => Err(refusal(NO_TYPE)),
     }
 }
 
@@ -286,30 +403,31 @@ fn pairs(
 ) -> Result<Vec<Value>, ParseError> {
     let mut items = Vec::new(alloc);
     for (key, json) in members {
-        let item = member(alloc, schema, place, depth, key, json)?;
-        items.push(item)?;
+        match member(alloc, schema, place, depth, key, json) {
+            Ok(item) => items.push(item)?,
+            Err(error) => return Err(inside(alloc, key, error)),
+        }
     }
     Ok(items)
 }
 
-/// A list: of an array, or of an object where it is a map with texts as keys.
+/// Values of one type: of an object where they are the pairs of a map whose keys can be texts, or as `elements`.
 #[cycle(parse)]
 fn list(
     alloc: Global,
     schema: &Schema,
-    is_map: bool,
+    names: &Names,
     place: usize,
     depth: u32,
     json: &Json<'_>,
-) -> Parsed {
-    match json {
-        Json::Object(members) if is_map && has_text_keys(schema, place) => {
-            Ok(Value::List(pairs(alloc, schema, place, depth, members)?))
+) -> Result<Vec<Value>, ParseError> {
+    match (names, json) {
+        (Names::Map, Json::Object(members)) if has_text_keys(schema, place) => {
+            pairs(alloc, schema, place, depth, members)
         }
-        Json::Array(elements) if !(is_map && has_text_keys(schema, place)) => {
-            Ok(Value::List(items(alloc, schema, place, depth, elements)?))
-        }
-        _ => Err(ParseError::Wrong("an array is wanted, or an object for a map of texts")),
+        (Names::Map, Json::Array(elements)) => items(alloc, schema, place, depth, elements),
+        (Names::Map, _) => Err(refusal("an object is wanted, or an array of pairs")),
+        _ => elements(alloc, schema, place, depth, json),
     }
 }
 
@@ -318,34 +436,31 @@ fn list(
 fn list_up_to(
     alloc: Global,
     schema: &Schema,
-    most: u64,
-    place: usize,
+    names: &Names,
+    (most, place): (u64, usize),
     depth: u32,
     json: &Json<'_>,
 ) -> Parsed {
-    match json {
-        Json::Array(elements) if elements.len() as u64 <= most => {
-            Ok(Value::List(items(alloc, schema, place, depth, elements)?))
-        }
-        _ => Err(ParseError::Wrong("an array is wanted, of no more elements than the type has")),
+    let items = list(alloc, schema, names, place, depth, json)?;
+    if items.len() as u64 > most {
+        return Err(refusal("the list has more elements than the type takes"));
     }
+    Ok(Value::List(items))
 }
 
 #[cycle(parse)]
 fn array(
     alloc: Global,
     schema: &Schema,
-    count: u64,
-    place: usize,
+    (count, place): (u64, usize),
     depth: u32,
     json: &Json<'_>,
 ) -> Parsed {
-    match json {
-        Json::Array(elements) if elements.len() as u64 == count => {
-            Ok(Value::Group(items(alloc, schema, place, depth, elements)?))
-        }
-        _ => Err(ParseError::Wrong("an array of another length is wanted")),
+    let items = elements(alloc, schema, place, depth, json)?;
+    if items.len() as u64 != count {
+        return Err(refusal("the array has another length than the type"));
     }
+    Ok(Value::Group(items))
 }
 
 /// The member of that name.
@@ -359,15 +474,72 @@ fn named<'a, 'b>(members: &'b [(&'a str, Json<'a>)], name: &str) -> Option<&'b J
 }
 
 /// What stands for the field at that place among so many.
-fn part<'a, 'b>(names: &Names, count: usize, i: usize, json: &'b Json<'a>) -> Option<&'b Json<'a>> {
+fn part<'a, 'b>(
+    names: &Names,
+    count: usize,
+    i: usize,
+    json: &'b Json<'a>,
+) -> Result<&'b Json<'a>, &'static str> {
     match (names, json) {
-        (Names::Newtype, _) => Some(json),
-        (Names::Tuple, Json::Array(elements)) if elements.len() == count => elements.get(i),
-        (Names::Fields(names), Json::Object(members)) if members.len() == count => {
-            named(members, names.get(i)?.as_str())
-        }
-        _ => None,
+        (Names::Newtype, _) => Ok(json),
+        (Names::Tuple, Json::Array(elements)) if elements.len() == count => match elements.get(i) {
+            Some(held) => Ok(held),
+            None => Err(NO_TYPE),
+        },
+        (Names::Tuple, _) => Err("an array of as many elements as the tuple has is wanted"),
+        (Names::Fields(names), Json::Object(members)) => match names.get(i) {
+            Some(name) => named(members, name.as_str()).ok_or("a field is missing"),
+            None => Err(NO_TYPE),
+        },
+        (Names::Fields(_), _) => Err("an object of the fields is wanted"),
+        _ => Err(NO_TYPE),
     }
+}
+
+/// The name of a field, if it has one.
+fn field_name(names: &Names, i: usize) -> &str {
+    match names {
+        Names::Fields(names) => match names.get(i) {
+            Some(name) => name.as_str(),
+            None => "",
+        },
+        _ => "",
+    }
+}
+
+/// An error in a field, or of one that is missing.
+fn inside_field(alloc: Global, names: &Names, i: usize, error: ParseError) -> ParseError {
+    match names {
+        Names::Newtype => error,
+        Names::Tuple => inside_element(alloc, i, error),
+        _ => inside(alloc, field_name(names, i), error),
+    }
+}
+
+/// Whether one of these names is this one.
+fn has_name(names: &[String], wanted: &str) -> bool {
+    for name in names {
+        if name.as_str() == wanted {
+            return true;
+        }
+    }
+    false
+}
+
+/// Refuses a member that is none of the fields, or stands twice.
+fn check_members(alloc: Global, names: &Names, json: &Json<'_>) -> Result<(), ParseError> {
+    let (Names::Fields(names), Json::Object(members)) = (names, json) else {
+        return Ok(());
+    };
+    if members.len() == names.len() {
+        return Ok(());
+    }
+    for (key, _) in members {
+        if !has_name(names, key) {
+            return Err(inside(alloc, key, refusal("the type has no such field")));
+        }
+    }
+    Err(refusal("a field stands twice"))
 }
 
 /// Whether what stands for a struct without fields is right.
@@ -391,17 +563,37 @@ fn group(
     json: &Json<'_>,
 ) -> Parsed {
     if fields.is_empty() && !is_right_without_fields(names, json) {
-        return Err(ParseError::Wrong("a struct without fields is wanted"));
+        return Err(refusal("a struct without fields is wanted"));
     }
     let mut items = Vec::new(alloc);
     for i in 0..fields.len() {
-        let Some(held) = part(names, fields.len(), i, json) else {
-            return Err(ParseError::Wrong("the fields aren't those of the struct"));
-        };
-        let item = value(alloc, schema, fields[i], depth, held)?;
-        items.push(item)?;
+        match field(alloc, schema, names, fields, i, depth, json) {
+            Ok(item) => items.push(item)?,
+            Err(error) => return Err(inside_field(alloc, names, i, error)),
+        }
     }
+    check_members(alloc, names, json)?;
     Ok(Value::Group(items))
+}
+
+/// The value of the field at that place.
+#[cycle(parse)]
+fn field(
+    alloc: Global,
+    schema: &Schema,
+    names: &Names,
+    fields: &[usize],
+    i: usize,
+    depth: u32,
+    json: &Json<'_>,
+) -> Parsed {
+    let Some(place) = fields.get(i) else {
+        return Err(refusal(NO_TYPE));
+    };
+    match part(names, fields.len(), i, json) {
+        Ok(held) => value(alloc, schema, *place, depth, held),
+        Err(why) => Err(refusal(why)),
+    }
 }
 
 /// The name of a variant, and what stands for what it holds, if anything does.
@@ -441,20 +633,38 @@ fn variant(
     json: &Json<'_>,
 ) -> Parsed {
     let Some((name, held)) = choice(json) else {
-        return Err(ParseError::Wrong("a variant is wanted"));
+        return Err(refusal("a variant is wanted"));
     };
     let Some(index) = index_of(names, name) else {
-        return Err(ParseError::Wrong("the type has no such variant"));
+        return Err(refusal("the type has no such variant"));
     };
     if index as usize >= payloads.len() {
-        return Err(NO_TYPE);
+        return Err(refusal(NO_TYPE));
     }
-    let payload = payloads[index as usize];
-    if held.is_none() != is_empty(schema, payload) {
-        return Err(ParseError::Wrong("the variant holds something else"));
+    match payload(alloc, schema, payloads[index as usize], depth, held) {
+        Ok(held) => Ok(Value::Variant(index, Box::new(alloc, held)?)),
+        Err(error) => Err(inside(alloc, name, error)),
     }
-    let held = value(alloc, schema, payload, depth, held.unwrap_or(&Json::Null))?;
-    Ok(Value::Variant(index, Box::new(alloc, held)?))
+}
+
+/// What a variant holds, by what stands for it: nothing or `null` where it has no fields.
+#[cycle(parse)]
+fn payload(
+    alloc: Global,
+    schema: &Schema,
+    place: usize,
+    depth: u32,
+    held: Option<&Json<'_>>,
+) -> Parsed {
+    let is_empty = is_empty(schema, place);
+    match held {
+        None if is_empty => value(alloc, schema, place, depth, &Json::Null),
+        None => Err(refusal("the variant has fields, so an object of its name is wanted")),
+        Some(json) if is_empty && !json.is_null() => {
+            Err(refusal("the variant has no fields, so its name alone is wanted"))
+        }
+        Some(json) => value(alloc, schema, place, depth, json),
+    }
 }
 
 /// A value of a node, whose values are called so.
@@ -474,14 +684,14 @@ fn of_node(
         Node::TextUpTo(most) => short_text(alloc, *most, json),
         Node::Bytes => bytes(alloc, json),
         Node::Option(inner) => option(alloc, schema, *inner, depth, json),
-        Node::List(inner) => {
-            let is_map = matches!(names, Names::Map);
-            list(alloc, schema, is_map, *inner, depth, json)
+        Node::List(inner) => Ok(Value::List(list(alloc, schema, names, *inner, depth, json)?)),
+        Node::ListUpTo(most, inner) => {
+            list_up_to(alloc, schema, names, (*most, *inner), depth, json)
         }
-        Node::ListUpTo(most, inner) => list_up_to(alloc, schema, *most, *inner, depth, json),
-        Node::Array(count, inner) => array(alloc, schema, *count, *inner, depth, json),
+        Node::Array(count, inner) => array(alloc, schema, (*count, *inner), depth, json),
         Node::Struct(fields) => group(alloc, schema, names, fields, depth, json),
         Node::Enum(payloads) => variant(alloc, schema, names, payloads, depth, json),
+        Node::LE(of) if matches!(names, Names::Float) => float(*of, json),
         _ => number(node, json),
     }
 }
@@ -490,23 +700,84 @@ fn of_node(
 #[cycle(parse)]
 fn value(alloc: Global, schema: &Schema, place: usize, depth: u32, json: &Json<'_>) -> Parsed {
     if depth == 0 {
-        return Err(TOO_DEEP);
+        return Err(refusal(TOO_DEEP));
     }
     match (schema.nodes.get(place), schema.names.get(place)) {
         (Some(node), Some(names)) => of_node(alloc, schema, names, node, depth - 1, json),
-        _ => Err(NO_TYPE),
+        _ => Err(refusal(NO_TYPE)),
     }
 }
 
-/// The value of the type at that place of the schema that a line of JSON is, as [`print`](crate::print::print) writes it; the
-/// fields of a struct may stand in any order, and bytes may be an array or a text of hexadecimal digits.
-///
-/// A number out of its type's range, a field too many, twice or too few, and another number of elements are refused.
-pub fn parse(alloc: Global, schema: &Schema, place: usize, line: &[u8]) -> Parsed {
-    let mut scratch = Scratch::new(alloc);
-    match Json::from_slice(alloc, line, &mut scratch) {
-        Ok(json) => value(alloc, schema, place, DEPTH, &json),
+/// What stands under `value` in an object that has nothing else.
+fn value_in<'a, 'b>(json: &'b Json<'a>) -> Option<&'b Json<'a>> {
+    match json {
+        Json::Object(members) => match members.as_slice() {
+            [(name, held)] if *name == "value" => Some(held),
+            _ => None,
+        },
+        _ => None,
+    }
+}
+
+/// A value by itself, or as `{"value": ..}`: where both would do, as the latter.
+fn value_of_line(
+    alloc: Global,
+    schema: &Schema,
+    place: usize,
+    depth: u32,
+    json: &Json<'_>,
+) -> Parsed {
+    let Some(held) = value_in(json) else {
+        return value(alloc, schema, place, depth, json);
+    };
+    match value(alloc, schema, place, depth, held) {
+        Err(ParseError::Wrong(why)) => match value(alloc, schema, place, depth, json) {
+            Err(ParseError::Wrong(_)) => Err(ParseError::Wrong(why)),
+            whole => whole,
+        },
+        read => read,
+    }
+}
+
+/// How deep the JSON of a value may nest that nests in so many nodes: each has a bracket or two, and the line one.
+fn json_depth(depth: u32) -> usize {
+    (depth as usize).saturating_mul(2).saturating_add(2)
+}
+
+/// The JSON that a text is, which nests so deep at most; nothing where it is none, and then the reader stands where that shows.
+fn json_of<'a>(
+    alloc: Global,
+    depth: u32,
+    reader: &mut Reader<'a>,
+) -> Result<Option<Json<'a>>, ParseError> {
+    match Json::read(alloc, reader, json_depth(depth)) {
+        Ok(json) if reader.next().is_none() => Ok(Some(json)),
         Err(Error::OutOfMemory) => Err(ParseError::OutOfMemory),
-        Err(_) => Err(ParseError::Wrong("the line is no JSON")),
+        _ => Ok(None),
+    }
+}
+
+/// That a text is no JSON, from so many bytes on.
+fn no_json(alloc: Global, text: &str, offset: usize) -> Parsed {
+    let before = text.get(..offset).unwrap_or(text).chars().count();
+    Err(at_column(alloc, before.saturating_add(1)))
+}
+
+/// The value of the type at that place of the schema that a line of JSON is, as [`print`](crate::print::print) writes it, by
+/// itself or as `{"value": ..}`, nesting in at most so many nodes. The fields of a struct may stand in any order, bytes may be
+/// an array or a text of hexadecimal digits, a map whose keys can be texts an object or an array of pairs, and a variant
+/// without fields its name or an object with `null`.
+///
+/// A number out of its type's range, a field too many, twice or too few, and another number of elements are refused, with
+/// the way to them.
+pub fn parse(alloc: Global, schema: &Schema, place: usize, depth: u32, line: &[u8]) -> Parsed {
+    let Ok(text) = from_utf8(line) else {
+        return Err(refusal("the line isn't UTF-8"));
+    };
+    let mut scratch = Scratch::new(alloc);
+    let mut reader = Reader::new(text, &mut scratch)?;
+    match json_of(alloc, depth, &mut reader)? {
+        Some(json) => value_of_line(alloc, schema, place, depth, &json),
+        None => no_json(alloc, text, reader.offset()),
     }
 }

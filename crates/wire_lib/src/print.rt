@@ -1,15 +1,15 @@
 //! Values as JSON.
-use crate::DEPTH;
-use crate::looks::{PRESENT, has_text_keys, is_empty, may_be_null};
+use crate::floats::{double, single, word_of, word_of_double};
+use crate::looks::{PRESENT, has_text_keys, is_byte, is_empty, is_float, may_be_null};
 use declarations::{Names, Schema};
 use json::{Writer, is_number};
 use schemas::{Integer, Node, Value};
-use std::alloc::{AllocError, Global};
+use std::alloc::{AllocError, AllocFailed, Global};
 
 /// Why a value isn't printed.
 #[derive(Clone, Copy, Debug, PartialEq, Eq, Drop)]
 pub enum PrintError {
-    /// It isn't of the type at that place, or nests in more than [`DEPTH`] nodes.
+    /// It isn't of the type at that place, or nests in more nodes than it may.
     NotOfType,
     /// Out of memory.
     OutOfMemory,
@@ -17,6 +17,12 @@ pub enum PrintError {
 
 impl From<AllocError> for PrintError {
     fn from(_: AllocError) -> PrintError {
+        PrintError::OutOfMemory
+    }
+}
+
+impl<T: Drop> From<AllocFailed<T>> for PrintError {
+    fn from(_: AllocFailed<T>) -> PrintError {
         PrintError::OutOfMemory
     }
 }
@@ -74,6 +80,43 @@ fn put_integer(out: &mut Writer, n: Integer) -> Printed {
         Integer::I32(n) => put_i64(out, i64::from(n)),
         Integer::I64(n) => put_i64(out, n),
         Integer::I128(n) => put_i128(out, n),
+    }
+}
+
+/// Appends a float of 32 bits: the shortest number that reads back as it, or a text where it is none.
+fn put_single(out: &mut Writer, alloc: Global, bits: u32) -> Printed {
+    match single(bits) {
+        Some(float) if float.is_finite() => {
+            let mut buffer = ryu::Buffer::new();
+            put_digits(out, buffer.format(float))
+        }
+        _ => {
+            let word = word_of(alloc, bits)?;
+            put_text(out, word.as_str())
+        }
+    }
+}
+
+/// The same of 64 bits.
+fn put_double(out: &mut Writer, alloc: Global, bits: u64) -> Printed {
+    match double(bits) {
+        Some(float) if float.is_finite() => {
+            let mut buffer = ryu::Buffer::new();
+            put_digits(out, buffer.format(float))
+        }
+        _ => {
+            let word = word_of_double(alloc, bits)?;
+            put_text(out, word.as_str())
+        }
+    }
+}
+
+/// Appends a float by its bits.
+fn put_float(out: &mut Writer, alloc: Global, bits: Integer) -> Printed {
+    match bits {
+        Integer::U32(bits) => put_single(out, alloc, bits),
+        Integer::U64(bits) => put_double(out, alloc, bits),
+        _ => Err(PrintError::NotOfType),
     }
 }
 
@@ -146,14 +189,21 @@ fn put(out: &mut Writer, style: Style<'_>, place: usize, value: &Value) -> Print
         (Node::Option(_), Value::Absent) => Ok(out.null()?),
         (Node::Option(inner), Value::Present(held)) => put_present(out, style, *inner, held),
         (Node::List(inner), Value::List(items)) => put_list(out, style, place, *inner, items),
-        (Node::ListUpTo(_, inner), Value::List(items)) => put_items(out, style, *inner, items),
-        (Node::Array(_, inner), Value::Group(items)) => put_items(out, style, *inner, items),
+        (Node::ListUpTo(_, inner), Value::List(items)) => {
+            put_list(out, style, place, *inner, items)
+        }
+        (Node::Array(_, inner), Value::Group(items)) => put_elements(out, style, *inner, items),
         (Node::Struct(fields), Value::Group(items)) => {
             put_struct(out, style, place, fields, items)
         }
         (Node::Enum(payloads), Value::Variant(index, held)) => {
             put_variant(out, style, place, payloads, *index, held)
         }
+        (Node::LE(_), Value::LE(bits)) if is_float(style.schema, place) => put_float(
+            out,
+            style.alloc,
+            *bits,
+        ),
         _ => put_plain(out, style, value),
     }
 }
@@ -195,7 +245,29 @@ fn put_list(
     if is_map && has_text_keys(style.schema, inner) {
         return put_pairs(out, style, inner, items);
     }
+    put_elements(out, style, inner, items)
+}
+
+/// Appends values of one type as an array, or bytes as a text.
+#[cycle(print)]
+fn put_elements(out: &mut Writer, style: Style<'_>, inner: usize, items: &[Value]) -> Printed {
+    if style.hex && is_byte(style.schema, inner) {
+        let bytes = bytes_of(style.alloc, items)?;
+        return put_bytes(out, style, &bytes);
+    }
     put_items(out, style, inner, items)
+}
+
+/// The bytes that values are.
+fn bytes_of(alloc: Global, items: &[Value]) -> Result<Vec<u8>, PrintError> {
+    let mut bytes = Vec::new(alloc);
+    for item in items {
+        match item {
+            Value::U8(byte) => bytes.push(*byte)?,
+            _ => return Err(PrintError::NotOfType),
+        }
+    }
+    Ok(bytes)
 }
 
 /// Appends values of one type as an array.
@@ -218,6 +290,108 @@ fn put_pairs(out: &mut Writer, style: Style<'_>, pair: usize, items: &[Value]) -
     Ok(out.end_object()?)
 }
 
+/// Appends a number as a key.
+fn put_u128_key(out: &mut Writer, n: u128) -> Printed {
+    let mut buffer = itoa::Buffer::new();
+    Ok(out.key(buffer.format(n))?)
+}
+
+/// Appends a number that may be negative as a key.
+fn put_i128_key(out: &mut Writer, n: i128) -> Printed {
+    let mut buffer = itoa::Buffer::new();
+    Ok(out.key(buffer.format(n))?)
+}
+
+/// Appends an integer whose bytes stand as they are as a key.
+fn put_integer_key(out: &mut Writer, n: Integer) -> Printed {
+    match n {
+        Integer::U16(n) => put_u128_key(out, u128::from(n)),
+        Integer::U32(n) => put_u128_key(out, u128::from(n)),
+        Integer::U64(n) => put_u128_key(out, u128::from(n)),
+        Integer::U128(n) => put_u128_key(out, n),
+        Integer::I16(n) => put_i128_key(out, i128::from(n)),
+        Integer::I32(n) => put_i128_key(out, i128::from(n)),
+        Integer::I64(n) => put_i128_key(out, i128::from(n)),
+        Integer::I128(n) => put_i128_key(out, n),
+    }
+}
+
+/// Appends a character as a key.
+fn put_char_key(out: &mut Writer, alloc: Global, c: char) -> Printed {
+    let mut text = String::new(alloc);
+    if text.push(c).is_err() {
+        return Err(PrintError::OutOfMemory);
+    }
+    Ok(out.key(text.as_str())?)
+}
+
+/// Appends what looks the same whatever holds it as a key.
+fn put_plain_key(out: &mut Writer, alloc: Global, value: &Value) -> Printed {
+    match value {
+        Value::Bool(b) => Ok(out.key(if *b { "true" } else { "false" })?),
+        Value::U8(n) => put_u128_key(out, u128::from(*n)),
+        Value::U16(n) => put_u128_key(out, u128::from(*n)),
+        Value::U32(n) => put_u128_key(out, u128::from(*n)),
+        Value::U64(n) => put_u128_key(out, u128::from(*n)),
+        Value::U128(n) => put_u128_key(out, *n),
+        Value::I8(n) => put_i128_key(out, i128::from(*n)),
+        Value::I16(n) => put_i128_key(out, i128::from(*n)),
+        Value::I32(n) => put_i128_key(out, i128::from(*n)),
+        Value::I64(n) => put_i128_key(out, i128::from(*n)),
+        Value::I128(n) => put_i128_key(out, *n),
+        Value::LE(n) | Value::BE(n) => put_integer_key(out, *n),
+        Value::Char(c) => put_char_key(out, alloc, *c),
+        Value::Text(text) => Ok(out.key(text.as_str())?),
+        _ => Err(PrintError::NotOfType),
+    }
+}
+
+/// The name of a variant of the type at that place.
+fn variant_name<'a>(schema: &'a Schema, place: usize, index: u32) -> Option<&'a str> {
+    match schema.names.get(place) {
+        Some(Names::Variants(names)) => match names.get(index as usize) {
+            Some(name) => Some(name.as_str()),
+            None => None,
+        },
+        _ => None,
+    }
+}
+
+/// What newtypes round a key hold, and the place of its type.
+fn inside_newtypes<'a>(
+    schema: &Schema,
+    place: usize,
+    value: &'a Value,
+) -> Option<(usize, &'a Value)> {
+    let mut at = place;
+    let mut held = value;
+    for _ in 0..schema.nodes.len() {
+        let (Some(Node::Struct(fields)), Value::Group(parts)) = (schema.nodes.get(at), held) else {
+            return Some((at, held));
+        };
+        let ([only], [part]) = (fields.as_slice(), parts.as_slice()) else {
+            return None;
+        };
+        at = *only;
+        held = part;
+    }
+    None
+}
+
+/// Appends a key of the type at that place: its text, its digits, or the name of a variant.
+fn put_key(out: &mut Writer, style: Style<'_>, place: usize, value: &Value) -> Printed {
+    let Some((at, held)) = inside_newtypes(style.schema, place, value) else {
+        return Err(PrintError::NotOfType);
+    };
+    let Value::Variant(index, _) = held else {
+        return put_plain_key(out, style.alloc, held);
+    };
+    match variant_name(style.schema, at, *index) {
+        Some(name) => Ok(out.key(name)?),
+        None => Err(PrintError::NotOfType),
+    }
+}
+
 /// Appends a pair as a member.
 #[cycle(print)]
 fn put_pair(out: &mut Writer, style: Style<'_>, pair: usize, item: &Value) -> Printed {
@@ -225,9 +399,9 @@ fn put_pair(out: &mut Writer, style: Style<'_>, pair: usize, item: &Value) -> Pr
         return Err(PrintError::NotOfType);
     };
     match (fields.as_slice(), item) {
-        ([_, inner], Value::Group(parts)) => match parts.as_slice() {
-            [Value::Text(key), held] => {
-                out.key(key.as_str())?;
+        ([key, inner], Value::Group(parts)) => match parts.as_slice() {
+            [name, held] => {
+                put_key(out, style, *key, name)?;
                 put(out, style, *inner, held)
             }
             _ => Err(PrintError::NotOfType),
@@ -300,54 +474,60 @@ fn put_variant(
     index: u32,
     held: &Value,
 ) -> Printed {
-    let Some(Names::Variants(names)) = style.schema.names.get(place) else {
-        return Err(PrintError::NotOfType);
-    };
-    let (Some(name), Some(payload)) = (names.get(index as usize), payloads.get(index as usize))
-    else {
+    let (Some(name), Some(payload)) = (
+        variant_name(style.schema, place, index),
+        payloads.get(index as usize),
+    ) else {
         return Err(PrintError::NotOfType);
     };
     if is_empty(style.schema, *payload) {
-        return put_text(out, name.as_str());
+        return put_text(out, name);
     }
-    put_under(out, style, name.as_str(), *payload, held)
+    put_under(out, style, name, *payload, held)
 }
 
-/// Appends a value of the type at that place of the schema. With `hex` bytes are hexadecimal texts in lower case, else arrays
-/// of numbers.
+/// How values look.
+#[derive(Clone, Copy, Drop)]
+pub struct Look {
+    /// Whether bytes are hexadecimal texts in lower case, else arrays of numbers.
+    pub hex: bool,
+    /// How many nodes a value may nest in.
+    pub depth: u32,
+}
+
+/// Appends a value of the type at that place of the schema.
 pub fn print_into(
     out: &mut Writer,
     alloc: Global,
     schema: &Schema,
     place: usize,
-    hex: bool,
+    look: Look,
     value: &Value,
 ) -> Result<(), PrintError> {
-    let depth = DEPTH;
     let style = Style {
         alloc,
         schema,
-        hex,
-        depth,
+        hex: look.hex,
+        depth: look.depth,
     };
     put(out, style, place, value)
 }
 
 /// The JSON of a value of the type at that place of the schema, in one line without a line feed.
 ///
-/// Enums and structs look as `serde_json` writes them: a variant without fields as its name, another as an object of its name
-/// and what it holds; a struct as an object in the order of its fields, a newtype as what it holds, a tuple as an array, and
-/// what has no fields as `null`. Every number is exact. Bytes are an array of numbers, or with `hex` a text; a map whose keys
-/// are texts is an object, another one an array of pairs. An absent value is `null`; one that is there and might look as
-/// `null` itself is `{"Some": ..}`.
+/// It is what `serde_json` writes for the same Rust type: a variant without fields as its name, another as an object of its
+/// name and what it holds; a struct as an object in the order of its fields, by Rust's names; a newtype as what it holds, a
+/// tuple as an array, and what has no fields as `null`. Every number is exact. Bytes are an array of numbers, or with `hex` a
+/// text; a map whose keys can be texts is an object, another one an array of pairs, which `serde_json` refuses. An absent value
+/// is `null`; one that is there and might look as `null` itself is `{"Some": ..}`, where `serde_json` has `null` again.
 pub fn print(
     alloc: Global,
     schema: &Schema,
     place: usize,
-    hex: bool,
+    look: Look,
     value: &Value,
 ) -> Result<Vec<u8>, PrintError> {
     let mut out = Writer::new(Vec::new(alloc));
-    print_into(&mut out, alloc, schema, place, hex, value)?;
+    print_into(&mut out, alloc, schema, place, look, value)?;
     Ok(out.into_inner())
 }

@@ -7,8 +7,7 @@ ghost use Rattle.link.specs.declared.receiver.Answer.{Answer as Answers};
 ghost use Rattle.schemas.specs.declared.value.Value.{Value as Values};
 ghost use Rattle.wire_lib.specs.Received.{HasTold, held_by, read_by, reading_of, skip_of, is_a_value, are_all_values, added_at_end};
 
-use crate::DEPTH;
-use crate::print::{PrintError, print_into};
+use crate::print::{Look, PrintError, print_into};
 use crate::table::TableReader;
 use cobs::before_sentinel;
 use declarations::Schema;
@@ -16,6 +15,7 @@ use json::Writer;
 use link::{Answer, NoMemory, Ordinary, OwnedReceiver, Pushed, Strict};
 use schemas::Value;
 use std::alloc::{AllocError, Global};
+use std::cell::Cell;
 use std::mem;
 
 /// How many bytes a stretch between sentinels may have.
@@ -34,6 +34,8 @@ pub struct Reading<'a> {
     pub hex: bool,
     /// Whether only the frame that sending the value makes is taken.
     pub strict: bool,
+    /// How many nodes a value may nest in.
+    pub depth: u32,
     /// The byte that stands round each frame, with which its bytes are XORed.
     pub sentinel: u8,
 }
@@ -43,6 +45,8 @@ pub struct Reading<'a> {
 pub struct Receiver<'a> {
     reading: Reading<'a>,
     receiver: OwnedReceiver,
+    /// Whether the message that is looked at nests deeper than it may.
+    is_deep: Cell<bool>,
     /// How many bytes are still to be passed over.
     skip: u64,
     /// How many bytes of the stream came, those that were passed over too, and how many stand before what is begun of a stretch.
@@ -62,6 +66,7 @@ impl<'a> Receiver<'a> {
             Ok(receiver) => Ok(Receiver {
                 reading,
                 receiver,
+                is_deep: Cell::new(false),
                 skip: from,
                 at: from,
                 is_good: true,
@@ -83,7 +88,14 @@ impl<'a> Receiver<'a> {
         let from = last.saturating_sub(stretch as u64);
         match answer {
             Answer::Value(value) => put_value_line(self.reading, value, lines),
-            Answer::Damaged => put_stretch_line(self.reading.alloc, "damaged", (from, last), lines),
+            Answer::Damaged => {
+                let what = if self.is_deep.replace(false) {
+                    "too_deep"
+                } else {
+                    "damaged"
+                };
+                put_stretch_line(self.reading.alloc, what, (from, last), lines)
+            }
             Answer::TooLong => {
                 let more = before_sentinel(left, self.reading.sentinel);
                 let so_far = self.at.saturating_add(more as u64);
@@ -107,7 +119,7 @@ impl<'a> Receiver<'a> {
             used,
             stretch,
             answer,
-        } = push_next(self.reading, &mut self.receiver, rest);
+        } = push_next(self.reading, &self.is_deep, &mut self.receiver, rest);
         let (_, left) = rest.split_at(used);
         self.at = self.at.saturating_add(used as u64);
         match answer {
@@ -154,7 +166,8 @@ impl<'a> Receiver<'a> {
 
     /// Takes the next bytes of the stream, and appends the line of each answer that they end:
     /// `{"value": ..}`; `{"damaged": {"from": .., "to": ..}}` with the bytes of the stream that the stretch has, counted from 0, the
-    /// last one not counted in; or `too_long` likewise, with those that the piece in which the stretch grew past [`LIMIT`] has of it.
+    /// last one not counted in; `too_deep` likewise, of a message that nests in more nodes than it may; or `too_long`, with those
+    /// that the piece in which the stretch grew past [`LIMIT`] has of it.
     pub fn push(&mut self, piece: &[u8], lines: &mut Vec<u8>) -> Result<(), AllocError>
         ensures told { OnOk result ((stream : List ℕ) (answers : List (Answers Values))
             → HasTold self.old stream answers → (more : List (Answers Values))
@@ -184,7 +197,12 @@ impl<'a> Receiver<'a> {
 }
 
 /// Takes bytes up to the first answer.
-fn push_next(reading: Reading<'_>, receiver: &mut OwnedReceiver, rest: &[u8]) -> Pushed<Value>
+fn push_next(
+    reading: Reading<'_>,
+    is_deep: &Cell<bool>,
+    receiver: &mut OwnedReceiver,
+    rest: &[u8],
+) -> Pushed<Value>
     ensures within { result.used ≤ length rest.now }
     ensures forward { 0 < length rest.now → 0 < result.used }
     ensures stands { (limit s : ℕ) (stream : List ℕ) → IsBehind in_owner limit s receiver.old stream
@@ -201,7 +219,8 @@ fn push_next(reading: Reading<'_>, receiver: &mut OwnedReceiver, rest: &[u8]) ->
     let table = TableReader {
         nodes: &reading.schema.nodes,
         place: reading.place,
-        depth: DEPTH,
+        depth: reading.depth,
+        is_deep,
     };
     if reading.strict {
         return receiver.push_with(reading.alloc, &Strict(table), rest);
@@ -247,11 +266,12 @@ fn put_value(out: &mut Writer, reading: Reading<'_>, value: &Value) -> Result<()
         schema,
         place,
         hex,
+        depth,
         ..
     } = reading;
     out.begin_object()?;
     out.key("value")?;
-    match print_into(out, alloc, schema, place, hex, value) {
+    match print_into(out, alloc, schema, place, Look { hex, depth }, value) {
         Ok(()) => {}
         // What was read by a schema is of its type.
         Err(PrintError::NotOfType) => out.null()?,

@@ -1,11 +1,12 @@
 //! Lines of JSON as frames.
-use crate::parse::{ParseError, parse};
-use cobs::before_sentinel;
+use crate::parse::parse;
+use crate::receive::LIMIT;
+use crate::wrong::{ParseError, Wrong, put_wrong, refusal};
+use cobs::{before_sentinel, encode_vec_with_sentinel};
 use declarations::Schema;
-use postcard::to_allocvec_cobs_with_sentinel;
+use postcard::to_allocvec;
 use std::alloc::{AllocError, Global};
 use std::mem;
-use std::str::from_utf8;
 
 /// What lines are sent as.
 #[derive(Clone, Copy, Drop)]
@@ -16,41 +17,41 @@ pub struct Sending<'a> {
     pub schema: &'a Schema,
     /// The place of the type of the messages.
     pub place: usize,
+    /// How many nodes a value may nest in.
+    pub depth: u32,
     /// The byte that stands round each frame, with which its bytes are XORed.
     pub sentinel: u8,
 }
 
-/// Why lines aren't sent to their end.
-#[derive(Clone, Copy, Debug, PartialEq, Eq, Drop)]
-pub enum SendError {
-    /// A line isn't UTF-8.
-    NotText,
-    /// Out of memory.
-    OutOfMemory,
-}
-
-impl From<AllocError> for SendError {
-    fn from(_: AllocError) -> SendError {
-        SendError::OutOfMemory
-    }
-}
-
-type Sent = Result<(), SendError>;
+type Sent = Result<(), AllocError>;
 
 /// Appends bytes.
 fn append(to: &mut Vec<u8>, bytes: &[u8]) -> Sent {
-    Ok(to.extend_from_slice(bytes)?)
+    to.extend_from_slice(bytes)
 }
 
-/// The frame of the value of the type at that place which a line of JSON is, with the sentinel that ends it.
+/// The shortest frame of the value of the type at that place which a line of JSON is, with the sentinel that ends it.
 ///
-/// An error is that of [`parse`], or out of memory.
+/// An error is that of [`parse`], or of a frame of more bytes than a [`Receiver`](crate::receive::Receiver) takes, or out of
+/// memory.
 pub fn frame_of(sending: Sending<'_>, line: &[u8]) -> Result<Vec<u8>, ParseError> {
-    let value = parse(sending.alloc, sending.schema, sending.place, line)?;
-    match to_allocvec_cobs_with_sentinel(sending.alloc, &value, sending.sentinel) {
-        Ok(frame) => Ok(frame),
-        Err(_) => Err(ParseError::OutOfMemory),
+    let Sending {
+        alloc,
+        schema,
+        place,
+        depth,
+        sentinel,
+    } = sending;
+    let value = parse(alloc, schema, place, depth, line)?;
+    let Ok(message) = to_allocvec(alloc, &value) else {
+        return Err(ParseError::OutOfMemory);
+    };
+    let mut frame = encode_vec_with_sentinel(alloc, &message, sentinel)?;
+    if frame.len() > LIMIT {
+        return Err(refusal("the frame has more than 65536 bytes, which `read` doesn't take"));
     }
+    frame.push(sentinel)?;
+    Ok(frame)
 }
 
 /// Reads lines in pieces, and makes a frame of each.
@@ -78,24 +79,17 @@ impl<'a> Sender<'a> {
     /// Sends a line, without its line feed.
     fn send(&mut self, line: &[u8], frames: &mut Vec<u8>, wrongs: &mut String) -> Sent {
         self.number = self.number.saturating_add(1);
-        if from_utf8(line).is_err() {
-            return Err(SendError::NotText);
-        }
         match frame_of(self.sending, line) {
             Ok(frame) => append(frames, &frame),
-            Err(ParseError::Wrong(why)) => self.refuse(why, wrongs),
-            Err(ParseError::OutOfMemory) => Err(SendError::OutOfMemory),
+            Err(ParseError::Wrong(why)) => self.refuse(&why, wrongs),
+            Err(ParseError::OutOfMemory) => Err(AllocError),
         }
     }
 
     /// Says why a line isn't sent.
-    fn refuse(&mut self, why: &str, wrongs: &mut String) -> Sent {
+    fn refuse(&mut self, why: &Wrong, wrongs: &mut String) -> Sent {
         self.is_good = false;
-        let number = self.number;
-        match writeln!(wrongs, "line {number}: {why}") {
-            Ok(()) => Ok(()),
-            Err(_) => Err(SendError::OutOfMemory),
-        }
+        put_wrong(wrongs, self.number, why)
     }
 
     /// Sends a line of which this is the last part. One that lies whole in the piece is read from there.
@@ -112,7 +106,7 @@ impl<'a> Sender<'a> {
     }
 
     /// Takes the next bytes, and appends the frame of each line that they end; of a line that isn't of the type a line
-    /// `line K: ..` to `wrongs`, counted from 1.
+    /// `line K: ..` to `wrongs`, counted from 1, with the way to what is wrong.
     ///
     /// After an error the lines before that one have been appended.
     pub fn push(&mut self, piece: &[u8], frames: &mut Vec<u8>, wrongs: &mut String) -> Sent {
@@ -138,7 +132,7 @@ impl<'a> Sender<'a> {
     }
 
     /// Ends the text: as `push` for a last line without a line feed; and says whether all lines were values.
-    pub fn finish(mut self, frames: &mut Vec<u8>, wrongs: &mut String) -> Result<bool, SendError> {
+    pub fn finish(mut self, frames: &mut Vec<u8>, wrongs: &mut String) -> Result<bool, AllocError> {
         self.send_rest(frames, wrongs)?;
         Ok(self.is_good)
     }

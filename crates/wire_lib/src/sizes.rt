@@ -107,3 +107,22 @@ pub fn greatest_sizes(alloc: Global, nodes: &[Node]) -> Result<Vec<Option<u64>>,
     }
     Ok(sizes)
 }
+
+/// Whether values of the type at that place take no bytes.
+fn takes_none(sizes: &[Option<u64>], place: usize) -> bool {
+    size_at(sizes, place) == Some(0)
+}
+
+/// Lets a list of elements that take no bytes have so many at most, since its bytes don't bound them: a frame of seven bytes
+/// could say that there are 2^64.
+pub fn bound_lists(alloc: Global, nodes: &mut Vec<Node>, most: u64) -> Result<(), AllocError> {
+    let sizes = greatest_sizes(alloc, nodes)?;
+    for node in nodes {
+        if let Node::List(inner) = node
+            && takes_none(&sizes, *inner)
+        {
+            *node = Node::ListUpTo(most, *inner);
+        }
+    }
+    Ok(())
+}

@@ -5,9 +5,12 @@ ghost use Rattle.schemas.specs.Schemas.{SchemaTakes, SchemaReads};
 ghost use Rattle.schemas.specs.SchemaLaws.{schema_laws};
 ghost use Rattle.link.specs.Judged.{front_laws};
 
+use crate::words::DEEPEST;
 use link::{ExactReader, FrontReader};
+use postcard::Error;
 use schemas::{Node, Value, from_bytes};
 use std::alloc::Global;
+use std::cell::Cell;
 
 /// Reads the messages of a type that a table of types has.
 #[derive(Clone, Copy, Drop)]
@@ -18,6 +21,17 @@ pub struct TableReader<'a> {
     pub place: usize,
     /// How many nodes a value may nest in.
     pub depth: u32,
+    /// Where it is noted that a message nests deeper.
+    pub is_deep: &'a Cell<bool>,
+}
+
+impl TableReader<'_> {
+    /// Notes that a message which was refused is one that nests deeper, if it is.
+    fn note_depth(&self, alloc: Global, message: &[u8]) {
+        if from_bytes(alloc, self.nodes, self.place, DEEPEST, message).is_ok() {
+            self.is_deep.set(true);
+        }
+    }
 }
 
 impl FrontReader<Value> for TableReader<'_> {
@@ -30,7 +44,11 @@ impl FrontReader<Value> for TableReader<'_> {
     ghost laws = { λ r. front_laws (schema_laws r.depth r.nodes.now r.place) };
 
     fn read_front(&self, alloc: Global, message: &[u8]) -> postcard::Result<Value> {
-        from_bytes(alloc, self.nodes, self.place, self.depth, message)
+        let read = from_bytes(alloc, self.nodes, self.place, self.depth, message);
+        if matches!(read, Err(Error::SerdeDeCustom)) {
+            self.note_depth(alloc, message);
+        }
+        read
     }
 }
 

@@ -1,4 +1,11 @@
 //! The words that the program is called with.
+use crate::DEPTH;
+
+/// How many nodes `depth` lets a value nest in at most.
+pub const DEEPEST: u32 = 1000;
+
+/// How many elements that take no bytes a list may have without a word.
+pub const EMPTY: u64 = 65536;
 
 /// How frames are read or written.
 #[derive(Clone, Copy, Debug, PartialEq, Eq, Drop)]
@@ -13,6 +20,10 @@ pub struct Options {
     pub from: u64,
     /// Whether bytes in messages look as hexadecimal text.
     pub digits: bool,
+    /// How many nodes a value may nest in.
+    pub depth: u32,
+    /// How many elements that take no bytes a list may have.
+    pub empty: u64,
 }
 
 /// What stands without a word.
@@ -22,6 +33,8 @@ const PLAIN: Options = Options {
     sentinel: 0,
     from: 0,
     digits: false,
+    depth: DEPTH,
+    empty: EMPTY,
 };
 
 /// The byte of two hexadecimal digits.
@@ -33,6 +46,15 @@ fn byte_of(digits: &str) -> Option<u8> {
     }
 }
 
+/// A depth by its digits: one node at least.
+fn depth_of(value: &str) -> Option<u32> {
+    let depth = value.parse::<u32>().ok()?;
+    if depth == 0 || depth > DEEPEST {
+        return None;
+    }
+    Some(depth)
+}
+
 /// The options with a word that has a value behind `=`.
 fn with_value(options: Options, name: &str, value: &str) -> Option<Options> {
     let mut options = options;
@@ -40,6 +62,8 @@ fn with_value(options: Options, name: &str, value: &str) -> Option<Options> {
         "sentinel" => options.sentinel = byte_of(value)?,
         "from" => options.from = value.parse::<u64>().ok()?,
         "bytes" if value == "hex" => options.digits = true,
+        "depth" => options.depth = depth_of(value)?,
+        "empty" => options.empty = value.parse::<u64>().ok()?,
         _ => return None,
     }
     Some(options)
@@ -59,8 +83,8 @@ fn with_word(options: Options, word: &str) -> Option<Options> {
     Some(options)
 }
 
-/// What these words say behind the type, in any order: `hex`, `strict`, `sentinel=HH`, `from=OFFSET`, `bytes=hex`. Nothing where one
-/// of them is another.
+/// What these words say behind the type, in any order: `hex`, `strict`, `sentinel=HH`, `from=OFFSET`, `bytes=hex`, `depth=N`,
+/// `empty=N`. Nothing where one of them is another.
 pub fn options_of(words: &[String]) -> Option<Options> {
     let mut options = PLAIN;
     for word in words {

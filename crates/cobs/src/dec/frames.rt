@@ -1,7 +1,7 @@
 //! The bytes of one frame, decoded into a slice by what is quicker.
-ghost use Rattle.std.specs.Prelude.{◌≡◌, ◌+◌, ◌<◌, ◌≤◌, length, IsTrue};
+ghost use Rattle.std.specs.Prelude.{◌≡◌, ◌≢◌, ◌+◌, ◌<◌, ◌≤◌, length, slice_index, IsTrue};
 ghost use Rattle.cobs.specs.Frames.{NoZero, part};
-ghost use Rattle.cobs.specs.InPlace.{overwritten};
+ghost use Rattle.cobs.specs.InPlace.{stretch, overwritten};
 ghost use Rattle.cobs.specs.Sentinel.{masked};
 ghost use Rattle.cobs.specs.Streaming.{HasStreamed};
 ghost use Rattle.cobs.specs.Whole.{decoded_into};
@@ -9,7 +9,9 @@ ghost use Rattle.cobs.specs.Whole.{decoded_into};
 use super::progress::Progress;
 use super::report::DecodeError;
 use super::state::DecoderState;
-use super::window::{WINDOW, copy_at_once, decode_at_once};
+use super::window::decode_at_once;
+use crate::finding::before_sentinel;
+use crate::moves::is_clear_255;
 
 // How many bytes a frame has at most whose message is of one window.
 const SHORT: usize = 255;
@@ -35,31 +37,29 @@ fn is_short(frame: &[u8], sentinel: u8) -> bool
     frame.len() <= SHORT && (frame.len() < 64 || frame[0] != sentinel ^ 1)
 }
 
-// Takes in the bytes of such a frame, each XORed with the sentinel, for which there is room.
+// Decodes such a frame, each byte of it XORed with the sentinel, for whose bytes there is room. Behind the code of a full block
+// there is none that isn't its.
 #[inline(always)]
-fn take_short(frame: &[u8], dest: &mut [u8], sentinel: u8) -> Progress
+fn decode_short(frame: &[u8], dest: &mut [u8], sentinel: u8) -> Result<usize, DecodeError>
     requires some { 0 < length frame.now }
     requires few { length frame.now ≤ 255 }
     requires room { length frame.now ≤ length dest.old + 1 }
     requires clear { NoZero (masked sentinel frame.now) }
-    ensures stands { HasStreamed result (masked sentinel frame.now) }
+    ensures answer { result ≡ decoded_into (length dest.old) (masked sentinel frame.now) }
     ensures dest { dest.new ≡ overwritten (part (masked sentinel frame.now)) dest.old }
 {
     let code = sentinel ^ frame[0];
     let bytes = &frame[1..];
     let len = bytes.len();
-    if code == u8::MAX {
-        copy_at_once(bytes, &mut dest[..len], sentinel);
-        return Progress {
-            state: DecoderState::GrabChain((WINDOW - len) as u8),
-            len,
-        };
-    }
     let state = decode_at_once(bytes, &mut dest[..len], code - 1, sentinel);
-    Progress { state, len }
+    if state.left() == 0 {
+        Ok(len)
+    } else {
+        Err(DecodeError::InvalidFrame { decoded_bytes: len })
+    }
 }
 
-// The same of a frame of any length.
+// Takes in the bytes of a frame of any length, each XORed with the sentinel, for which there is room.
 #[inline(never)]
 fn take_long(frame: &[u8], dest: &mut [u8], sentinel: u8) -> Progress
     requires some { 0 < length frame.now }
@@ -83,22 +83,6 @@ fn take_long(frame: &[u8], dest: &mut [u8], sentinel: u8) -> Progress
     progress
 }
 
-// The same by what is quicker.
-#[inline(always)]
-fn take_whole(frame: &[u8], dest: &mut [u8], sentinel: u8) -> Progress
-    requires some { 0 < length frame.now }
-    requires room { length frame.now ≤ length dest.old + 1 }
-    requires clear { NoZero (masked sentinel frame.now) }
-    ensures stands { HasStreamed result (masked sentinel frame.now) }
-    ensures dest { dest.new ≡ overwritten (part (masked sentinel frame.now)) dest.old }
-{
-    if is_short(frame, sentinel) {
-        take_short(frame, dest, sentinel)
-    } else {
-        take_long(frame, dest, sentinel)
-    }
-}
-
 // Decodes a frame, each byte of it XORed with the sentinel, for whose bytes there is room.
 #[inline(always)]
 pub(crate) fn decode_whole(
@@ -112,11 +96,93 @@ pub(crate) fn decode_whole(
     ensures answer { result ≡ decoded_into (length dest.old) (masked sentinel frame.now) }
     ensures dest { dest.new ≡ overwritten (part (masked sentinel frame.now)) dest.old }
 {
-    let Progress { state, len } = take_whole(frame, dest, sentinel);
+    if is_short(frame, sentinel) {
+        return decode_short(frame, dest, sentinel);
+    }
+    let Progress { state, len } = take_long(frame, dest, sentinel);
     if state.left() == 0 {
         Ok(len)
     } else {
         Err(DecodeError::InvalidFrame { decoded_bytes: len })
+    }
+}
+
+// Takes in the bytes of a source before its first sentinel, each XORed with it: there is room for all of the source. They are
+// searched as they are copied, 255 at a time. Answers how many they are.
+#[inline(never)]
+fn take_source(source: &[u8], dest: &mut [u8], sentinel: u8) -> (Progress, usize)
+    requires some { 0 < length source.now }
+    requires room { length source.now ≤ length dest.old + 1 }
+    requires begins { slice_index source.now 0 ≢ sentinel }
+    ensures end { result.1 ≡ length (stretch (masked sentinel source.now)) }
+    ensures some { 0 < result.1 }
+    ensures within { result.1 ≤ length source.now }
+    ensures stands { HasStreamed result.0 (stretch (masked sentinel source.now)) }
+    ensures dest { dest.new
+        ≡ overwritten (part (stretch (masked sentinel source.now))) dest.old }
+{
+    let mut progress = Progress::new();
+    let _ = progress.take_in(dest, sentinel ^ source[0]);
+    let mut read: usize = 1;
+    while 255 <= source.len() - read && is_clear_255(&source[read..read + 255], sentinel) {
+        if let DecoderState::GrabChain(0) = progress.state {
+            // By its code that is known, so that what is kept between full blocks is known too.
+            if sentinel ^ source[read] == u8::MAX {
+                let _ = progress.take_in(dest, u8::MAX);
+                let full = progress.take_clear(dest, &source[read + 1..read + 255], sentinel);
+                read += 1 + full;
+                continue;
+            }
+            let _ = progress.take_in(dest, sentinel ^ source[read]);
+            let block = progress.take_clear(dest, &source[read + 1..read + 255], sentinel);
+            read += 1 + block;
+            continue;
+        }
+        let taken = progress.take_clear(dest, &source[read..read + 255], sentinel);
+        if 0 < taken {
+            read += taken;
+            continue;
+        }
+        let _ = progress.take_in(dest, sentinel ^ source[read]);
+        read += 1;
+    }
+    let end = read + before_sentinel(&source[read..], sentinel);
+    while read < end {
+        let last = progress.take_clear(dest, &source[read..end], sentinel);
+        if 0 < last {
+            read += last;
+            continue;
+        }
+        let _ = progress.take_in(dest, sentinel ^ source[read]);
+        read += 1;
+    }
+    (progress, end)
+}
+
+// As `decode_with_sentinel`, of a source that doesn't begin with the sentinel, for all of which there is room. Also answers how
+// many bytes come before the sentinel.
+#[inline(always)]
+pub(crate) fn decode_source(
+    source: &[u8],
+    dest: &mut [u8],
+    sentinel: u8,
+) -> (Result<usize, DecodeError>, usize)
+    requires some { 0 < length source.now }
+    requires room { length source.now ≤ length dest.old + 1 }
+    requires begins { slice_index source.now 0 ≢ sentinel }
+    ensures end { result.1 ≡ length (stretch (masked sentinel source.now)) }
+    ensures some { 0 < result.1 }
+    ensures within { result.1 ≤ length source.now }
+    ensures answer { result.0
+        ≡ decoded_into (length dest.old) (stretch (masked sentinel source.now)) }
+    ensures dest { dest.new
+        ≡ overwritten (part (stretch (masked sentinel source.now))) dest.old }
+{
+    let (Progress { state, len }, end) = take_source(source, dest, sentinel);
+    if state.left() == 0 {
+        (Ok(len), end)
+    } else {
+        (Err(DecodeError::InvalidFrame { decoded_bytes: len }), end)
     }
 }
 

@@ -12,7 +12,7 @@ use super::window::{
     FEW, WINDOW, before_by_call, copy, copy_run, decode_at_once, decode_window, put_zeros,
     same_by_64,
 };
-use crate::moves::{copy_block, move_down};
+use crate::moves::{copy_block, move_down, zero_over};
 
 // How far a frame was taken in, and how many bytes of its message were decided, also those that had no room.
 #[derive(Clone, Copy)]
@@ -100,7 +100,7 @@ impl Progress {
                 if left == 0 {
                     let ones = same_by_64(sentinel ^ 1, &piece[..room]);
                     if 0 < ones {
-                        buffer[len..len + ones].fill(0);
+                        zero_over(buffer, len, ones);
                         self.len = len + ones;
                         return ones;
                     }
@@ -139,7 +139,7 @@ impl Progress {
                 if left == 0 {
                     let row = same_by_64(sentinel ^ 1, bytes);
                     if 0 < row {
-                        buffer[len..len + row].fill(0);
+                        zero_over(buffer, len, row);
                         self.len = len + row;
                         return row;
                     }

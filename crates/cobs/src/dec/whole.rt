@@ -1,15 +1,15 @@
 //! A source that is there as a whole, decoded into a slice.
-ghost use Rattle.std.specs.Prelude.{◌≡◌, ◌≢◌, ℕ, ◌+◌, ◌<◌, ◌≤◌, List, [], length, take, IsTrue, IfOk, OnErr};
+ghost use Rattle.std.specs.Prelude.{◌≡◌, ◌≢◌, ℕ, ◌+◌, ◌<◌, ◌≤◌, List, [], length, take, slice_index, IsTrue, IfOk, OnErr, IfSome};
 ghost use Rattle.cobs.specs.Frames.{Frame, NoZero, part};
 ghost use Rattle.cobs.specs.Reports.{frame_size};
 ghost use Rattle.cobs.specs.InPlace.{stretch, overwritten};
 ghost use Rattle.cobs.specs.Sentinel.{masked};
 ghost use Rattle.cobs.specs.Whole.{unpadded, frame_in, decoded_from, decoded_into};
 
-use super::frames::{decode_counted, decode_whole};
+use super::frames::{decode_counted, decode_source, decode_whole};
 use super::progress::Progress;
 use super::report::{DecodeError, DecodeReport};
-use crate::finding::before_sentinel;
+use crate::finding::{before_by_64, before_few, before_sentinel};
 use crate::moves::are_all;
 
 // The bytes before the first one that is the sentinel.
@@ -18,6 +18,28 @@ pub(crate) fn before(bytes: &[u8], sentinel: u8) -> &[u8]
     ensures { masked sentinel result.now ≡ stretch (masked sentinel bytes.now) }
 {
     &bytes[..before_sentinel(bytes, sentinel)]
+}
+
+// The same of at most 64 bytes.
+#[inline(always)]
+fn before_end_few(bytes: &[u8], sentinel: u8) -> &[u8]
+    requires { length bytes.now ≤ 64 }
+    ensures frame { masked sentinel result.now ≡ stretch (masked sentinel bytes.now) }
+    ensures within { length result.now ≤ length bytes.now }
+{
+    &bytes[..before_few(bytes, sentinel)]
+}
+
+// The same of more bytes, where they are fewer than 256.
+#[inline(always)]
+fn near_frame(bytes: &[u8], sentinel: u8) -> Option<&[u8]>
+    requires { 64 < length bytes.now }
+    ensures frame { IfSome result
+        (λ f. masked sentinel f.now ≡ stretch (masked sentinel bytes.now)) }
+    ensures within { IfSome result (λ f. length f.now ≤ length bytes.now) }
+{
+    let end = before_by_64(&bytes[..bytes.len().min(256)], sentinel);
+    if end < 256 { Some(&bytes[..end]) } else { None }
 }
 
 // The bytes behind leading zeros.
@@ -65,21 +87,33 @@ fn decode_pushed(source: &[u8], dest: &mut [u8]) -> Result<DecodeReport, DecodeE
     }
 }
 
-// As `decode`.
+// The same, with an answer that isn't handed to a call: the quicker ways keep theirs in registers.
 #[inline(always)]
-fn decode_first(source: &[u8], dest: &mut [u8]) -> Result<DecodeReport, DecodeError>
+fn decode_pushed_apart(source: &[u8], dest: &mut [u8]) -> Result<DecodeReport, DecodeError>
     ensures answer { result ≡ decoded_from (length dest.old) source.now }
     ensures dest { dest.new ≡ overwritten (part (frame_in source.now)) dest.old }
 {
-    let rest = behind_zeros(source);
-    if rest.is_empty() {
-        return Err(DecodeError::EmptyFrame);
+    match decode_pushed(source, dest) {
+        Ok(DecodeReport { parsed, decoded }) => Ok(DecodeReport { parsed, decoded }),
+        Err(error) => Err(error),
     }
-    // A row of zeros is filled as it is met: a search for the frame's end would pass over it once more.
-    if 256 <= rest.len() && rest[0] == 1 && are_all(1, &rest[..64]) {
-        return decode_pushed(source, dest);
-    }
-    let frame = before(rest, 0);
+}
+
+// As `decode`, of a source whose frame, behind leading zeros, was found.
+#[inline(always)]
+fn decode_found(
+    source: &[u8],
+    rest: &[u8],
+    frame: &[u8],
+    dest: &mut [u8],
+) -> Result<DecodeReport, DecodeError>
+    requires rest { rest.now ≡ unpadded source.now }
+    requires within { length rest.now ≤ length source.now }
+    requires frame { masked 0 frame.now ≡ stretch rest.now }
+    requires front { length frame.now ≤ length rest.now }
+    ensures answer { result ≡ decoded_from (length dest.old) source.now }
+    ensures dest { dest.new ≡ overwritten (part (frame_in source.now)) dest.old }
+{
     if has_room(frame, dest.len()) {
         match decode_whole(frame, dest, 0) {
             Ok(decoded) => Ok(DecodeReport {
@@ -91,7 +125,103 @@ fn decode_first(source: &[u8], dest: &mut [u8]) -> Result<DecodeReport, DecodeEr
             Err(error) => Err(error),
         }
     } else {
-        decode_pushed(source, dest)
+        decode_pushed_apart(source, dest)
+    }
+}
+
+// As `decode`, of a source whose bytes behind leading zeros all have room, and don't begin with a zero.
+#[inline(always)]
+fn decode_long(source: &[u8], rest: &[u8], dest: &mut [u8]) -> Result<DecodeReport, DecodeError>
+    requires rest { rest.now ≡ unpadded source.now }
+    requires within { length rest.now ≤ length source.now }
+    requires some { 0 < length rest.now }
+    requires room { length rest.now ≤ length dest.old + 1 }
+    requires begins { slice_index rest.now 0 ≢ 0 }
+    ensures answer { result ≡ decoded_from (length dest.old) source.now }
+    ensures dest { dest.new ≡ overwritten (part (frame_in source.now)) dest.old }
+{
+    let (answer, end) = decode_source(rest, dest, 0);
+    match answer {
+        Ok(decoded) => Ok(DecodeReport {
+            parsed: source.len().min(source.len() - rest.len() + end + 1),
+            decoded,
+        }),
+        Err(error) => Err(error),
+    }
+}
+
+// As `decode`, by a search for the frame's end before it is decoded.
+#[inline(never)]
+fn decode_searched(source: &[u8], dest: &mut [u8]) -> Result<DecodeReport, DecodeError>
+    ensures answer { result ≡ decoded_from (length dest.old) source.now }
+    ensures dest { dest.new ≡ overwritten (part (frame_in source.now)) dest.old }
+{
+    let rest = behind_zeros(source);
+    if rest.is_empty() {
+        return Err(DecodeError::EmptyFrame);
+    }
+    let end = before_sentinel(rest, 0);
+    decode_found(source, rest, &rest[..end], dest)
+}
+
+// The same, with an answer that isn't handed to a call.
+#[inline(always)]
+fn decode_searched_apart(source: &[u8], dest: &mut [u8]) -> Result<DecodeReport, DecodeError>
+    ensures answer { result ≡ decoded_from (length dest.old) source.now }
+    ensures dest { dest.new ≡ overwritten (part (frame_in source.now)) dest.old }
+{
+    match decode_searched(source, dest) {
+        Ok(DecodeReport { parsed, decoded }) => Ok(DecodeReport { parsed, decoded }),
+        Err(error) => Err(error),
+    }
+}
+
+// Whether many bytes begin with many codes 01.
+#[inline(always)]
+fn begins_with_row(rest: &[u8]) -> bool
+    requires { 64 ≤ length rest.now }
+{
+    256 <= rest.len() && rest[0] == 1 && are_all(1, &rest[..64])
+}
+
+// As `decode`, of a source whose bytes behind leading zeros don't begin with one. The first 256 are searched for the frame's end,
+// those behind are searched as they are copied, where there is room.
+#[inline(always)]
+fn decode_begun(source: &[u8], rest: &[u8], dest: &mut [u8]) -> Result<DecodeReport, DecodeError>
+    requires rest { rest.now ≡ unpadded source.now }
+    requires within { length rest.now ≤ length source.now }
+    requires some { 0 < length rest.now }
+    requires begins { slice_index rest.now 0 ≢ 0 }
+    ensures answer { result ≡ decoded_from (length dest.old) source.now }
+    ensures dest { dest.new ≡ overwritten (part (frame_in source.now)) dest.old }
+{
+    if rest.len() <= 64 {
+        return decode_found(source, rest, before_end_few(rest, 0), dest);
+    }
+    // A row of zeros is filled as it is met: a search for the frame's end would pass over it once more.
+    if begins_with_row(rest) {
+        return decode_pushed_apart(source, dest);
+    }
+    if let Some(frame) = near_frame(rest, 0) {
+        return decode_found(source, rest, frame, dest);
+    }
+    if has_room(rest, dest.len()) {
+        decode_long(source, rest, dest)
+    } else {
+        decode_searched_apart(source, dest)
+    }
+}
+
+// As `decode`.
+#[inline(always)]
+fn decode_first(source: &[u8], dest: &mut [u8]) -> Result<DecodeReport, DecodeError>
+    ensures answer { result ≡ decoded_from (length dest.old) source.now }
+    ensures dest { dest.new ≡ overwritten (part (frame_in source.now)) dest.old }
+{
+    if source.is_empty() || source[0] == 0 {
+        decode_searched_apart(source, dest)
+    } else {
+        decode_begun(source, source, dest)
     }
 }
 
@@ -138,8 +268,16 @@ fn decode_stretch(source: &[u8], dest: &mut [u8], sentinel: u8) -> Result<usize,
         ≡ decoded_into (length dest.old) (stretch (masked sentinel source.now)) }
     ensures dest { dest.new ≡ overwritten (part (stretch (masked sentinel source.now))) dest.old }
 {
-    let frame = before(source, sentinel);
-    decode_clear(frame, dest, sentinel)
+    if source.len() <= 64 {
+        return decode_clear(before_end_few(source, sentinel), dest, sentinel);
+    }
+    match near_frame(source, sentinel) {
+        Some(frame) => decode_clear(frame, dest, sentinel),
+        None => {
+            let frame = before(source, sentinel);
+            decode_clear(frame, dest, sentinel)
+        }
+    }
 }
 
 /// Decodes the bytes before the first sentinel, or all where there is none, each XORed with the sentinel.

@@ -81,6 +81,7 @@ pub(crate) fn copy_run(bytes: &[u8], buffer: &mut [u8], place: usize, sentinel: 
 pub(crate) fn same_by_64(byte: u8, bytes: &[u8]) -> usize
     ensures within { result ≤ length bytes.now }
     ensures same { (k : ℕ) → k < result → slice_index bytes.now k ≡ byte }
+    ensures many { 0 < result → 64 ≤ result }
 {
     let mut end = 0;
     while 64 <= bytes.len() - end && are_all(byte, &bytes[end..end + 64]) {
@@ -99,13 +100,15 @@ pub(crate) fn put_zeros(out: &mut [u8], left: u8) -> DecoderState
 {
     let end = out.len();
     let mut at = left as usize;
+    let mut code = 0;
     while at < end {
-        let code = out[at];
+        code = out[at];
         out[at] = 0;
-        if code == u8::MAX {
-            return DecoderState::GrabChain((255 + at - end) as u8);
-        }
         at += code as usize;
+    }
+    // The block of a code 255 goes on behind the window, so that this code is the last one.
+    if code == u8::MAX {
+        return DecoderState::GrabChain((at - end) as u8);
     }
     DecoderState::Grab((at - end) as u8)
 }

@@ -15,10 +15,10 @@ returns c line ok ends =
     let wrote = sym (ap held c.into_inner-out.ensures) ∙ c.into_bytes-bytes.ensures in
     let comes = c.new-2.ensures.to_come ∙ ap Some c.deref.ensures.value in
     let v = c.args.reading.now in
-    let x = sent_in_part law v c.send-first.ensures.sent c.send-first.ensures.valid line in
-    let y = sent_whole law v c.send-second.ensures.sent c.send-second.ensures.valid ok in
-    let run = then_session c.new-sender.ensures.sentinel c.new-sender.ensures.clean (then_sent x.2 c.send-first.ensures.sentinel (then_sent y.1 c.send-second.ensures.sentinel none_sent)) no_session in
-    let told = heard_is c.alike.ensures (heard_of_line law _ _ _ _ _ _ _ _ run c.receive-answers.ensures.received (omega arith) empty wrote comes ends) in
+    let x = sent_in_part law v c.send-first.ensures.sent line in
+    let y = sent_whole law v c.send-second.ensures.sent ok in
+    let run = then_session c.new-sender.ensures.sentinel c.new-sender.ensures.clean (then_sent x.2 c.send-first.ensures.sent.sentinel (then_sent y.1 c.send-second.ensures.sent.sentinel none_sent)) no_session in
+    let told = heard_is c.alike.ensures (heard_of_line law _ _ _ _ _ run c.receive-answers.ensures.received (omega arith) empty wrote comes ends) in
     let alone = λ (answers : List (Answer Reading)). answers ++ [] in
     record {
       tree = x.0;

@@ -1,7 +1,6 @@
 //! How the message types of the module above are written and read.
 // Written by postcard_derive from their declarations: change those, and write this anew.
-ghost use Rattle.std.specs.Prelude.{◌≡◌};
-ghost use Rattle.postcard_tree.specs.ReadingLaws.{seen_as};
+ghost use Rattle.postcard_tree.specs.ReadingLaws.{form_as};
 ghost use Rattle.postcard_tree.specs.Shapes.{read_as_shape, written_as_shape};
 
 use super::{
@@ -32,22 +31,7 @@ impl Formed for Text {
 }
 
 impl Readable for Text {
-    ghost takes = { ⟦<ShapeOf<Self> as Readable>⟧.takes };
-
-    ghost reads = { λ t v. ⟦<ShapeOf<Self> as Readable>⟧.reads t (⟦<Self as Shaped>⟧.shape v) };
-
-    ghost refuses = { ⟦<ShapeOf<Self> as Readable>⟧.refuses };
-
-    ghost alike = { λ v w. ⟦<ShapeOf<Self> as Readable>⟧.alike (⟦<Self as Shaped>⟧.shape v)
-        (⟦<Self as Shaped>⟧.shape w) };
-
-    ghost growing = { ⟦<ShapeOf<Self> as Readable>⟧.growing };
-
-    ghost reading = { seen_as ⟦<Self as Shaped>⟧.shape ⟦<ShapeOf<Self> as Readable>⟧.reading };
-
-    fn grows() -> bool {
-        ShapeOf::<Self>::grows()
-    }
+    ghost form = { form_as ⟦<Self as Shaped>⟧.shape ⟦<ShapeOf<Self> as Readable>⟧.form };
 }
 
 impl ReadableShape for Text {
@@ -86,22 +70,7 @@ impl Formed for Letter {
 }
 
 impl Readable for Letter {
-    ghost takes = { ⟦<ShapeOf<Self> as Readable>⟧.takes };
-
-    ghost reads = { λ t v. ⟦<ShapeOf<Self> as Readable>⟧.reads t (⟦<Self as Shaped>⟧.shape v) };
-
-    ghost refuses = { ⟦<ShapeOf<Self> as Readable>⟧.refuses };
-
-    ghost alike = { λ v w. ⟦<ShapeOf<Self> as Readable>⟧.alike (⟦<Self as Shaped>⟧.shape v)
-        (⟦<Self as Shaped>⟧.shape w) };
-
-    ghost growing = { ⟦<ShapeOf<Self> as Readable>⟧.growing };
-
-    ghost reading = { seen_as ⟦<Self as Shaped>⟧.shape ⟦<ShapeOf<Self> as Readable>⟧.reading };
-
-    fn grows() -> bool {
-        ShapeOf::<Self>::grows()
-    }
+    ghost form = { form_as ⟦<Self as Shaped>⟧.shape ⟦<ShapeOf<Self> as Readable>⟧.form };
 }
 
 impl ReadableShape for Letter {
@@ -140,22 +109,7 @@ impl Formed for Mail {
 }
 
 impl Readable for Mail {
-    ghost takes = { ⟦<ShapeOf<Self> as Readable>⟧.takes };
-
-    ghost reads = { λ t v. ⟦<ShapeOf<Self> as Readable>⟧.reads t (⟦<Self as Shaped>⟧.shape v) };
-
-    ghost refuses = { ⟦<ShapeOf<Self> as Readable>⟧.refuses };
-
-    ghost alike = { λ v w. ⟦<ShapeOf<Self> as Readable>⟧.alike (⟦<Self as Shaped>⟧.shape v)
-        (⟦<Self as Shaped>⟧.shape w) };
-
-    ghost growing = { ⟦<ShapeOf<Self> as Readable>⟧.growing };
-
-    ghost reading = { seen_as ⟦<Self as Shaped>⟧.shape ⟦<ShapeOf<Self> as Readable>⟧.reading };
-
-    fn grows() -> bool {
-        ShapeOf::<Self>::grows()
-    }
+    ghost form = { form_as ⟦<Self as Shaped>⟧.shape ⟦<ShapeOf<Self> as Readable>⟧.form };
 }
 
 impl ReadableShape for Mail {
@@ -194,22 +148,7 @@ impl Formed for Point {
 }
 
 impl Readable for Point {
-    ghost takes = { ⟦<ShapeOf<Self> as Readable>⟧.takes };
-
-    ghost reads = { λ t v. ⟦<ShapeOf<Self> as Readable>⟧.reads t (⟦<Self as Shaped>⟧.shape v) };
-
-    ghost refuses = { ⟦<ShapeOf<Self> as Readable>⟧.refuses };
-
-    ghost alike = { λ v w. ⟦<ShapeOf<Self> as Readable>⟧.alike (⟦<Self as Shaped>⟧.shape v)
-        (⟦<Self as Shaped>⟧.shape w) };
-
-    ghost growing = { ⟦<ShapeOf<Self> as Readable>⟧.growing };
-
-    ghost reading = { seen_as ⟦<Self as Shaped>⟧.shape ⟦<ShapeOf<Self> as Readable>⟧.reading };
-
-    fn grows() -> bool {
-        ShapeOf::<Self>::grows()
-    }
+    ghost form = { form_as ⟦<Self as Shaped>⟧.shape ⟦<ShapeOf<Self> as Readable>⟧.form };
 }
 
 impl ReadableShape for Point {
@@ -253,22 +192,7 @@ impl Formed for Widths {
 }
 
 impl Readable for Widths {
-    ghost takes = { ⟦<ShapeOf<Self> as Readable>⟧.takes };
-
-    ghost reads = { λ t v. ⟦<ShapeOf<Self> as Readable>⟧.reads t (⟦<Self as Shaped>⟧.shape v) };
-
-    ghost refuses = { ⟦<ShapeOf<Self> as Readable>⟧.refuses };
-
-    ghost alike = { λ v w. ⟦<ShapeOf<Self> as Readable>⟧.alike (⟦<Self as Shaped>⟧.shape v)
-        (⟦<Self as Shaped>⟧.shape w) };
-
-    ghost growing = { ⟦<ShapeOf<Self> as Readable>⟧.growing };
-
-    ghost reading = { seen_as ⟦<Self as Shaped>⟧.shape ⟦<ShapeOf<Self> as Readable>⟧.reading };
-
-    fn grows() -> bool {
-        ShapeOf::<Self>::grows()
-    }
+    ghost form = { form_as ⟦<Self as Shaped>⟧.shape ⟦<ShapeOf<Self> as Readable>⟧.form };
 }
 
 impl ReadableShape for Widths {
@@ -311,22 +235,7 @@ impl Formed for Drawing {
 }
 
 impl Readable for Drawing {
-    ghost takes = { ⟦<ShapeOf<Self> as Readable>⟧.takes };
-
-    ghost reads = { λ t v. ⟦<ShapeOf<Self> as Readable>⟧.reads t (⟦<Self as Shaped>⟧.shape v) };
-
-    ghost refuses = { ⟦<ShapeOf<Self> as Readable>⟧.refuses };
-
-    ghost alike = { λ v w. ⟦<ShapeOf<Self> as Readable>⟧.alike (⟦<Self as Shaped>⟧.shape v)
-        (⟦<Self as Shaped>⟧.shape w) };
-
-    ghost growing = { ⟦<ShapeOf<Self> as Readable>⟧.growing };
-
-    ghost reading = { seen_as ⟦<Self as Shaped>⟧.shape ⟦<ShapeOf<Self> as Readable>⟧.reading };
-
-    fn grows() -> bool {
-        ShapeOf::<Self>::grows()
-    }
+    ghost form = { form_as ⟦<Self as Shaped>⟧.shape ⟦<ShapeOf<Self> as Readable>⟧.form };
 }
 
 impl ReadableShape for Drawing {
@@ -377,22 +286,7 @@ impl Formed for Holders {
 }
 
 impl Readable for Holders {
-    ghost takes = { ⟦<ShapeOf<Self> as Readable>⟧.takes };
-
-    ghost reads = { λ t v. ⟦<ShapeOf<Self> as Readable>⟧.reads t (⟦<Self as Shaped>⟧.shape v) };
-
-    ghost refuses = { ⟦<ShapeOf<Self> as Readable>⟧.refuses };
-
-    ghost alike = { λ v w. ⟦<ShapeOf<Self> as Readable>⟧.alike (⟦<Self as Shaped>⟧.shape v)
-        (⟦<Self as Shaped>⟧.shape w) };
-
-    ghost growing = { ⟦<ShapeOf<Self> as Readable>⟧.growing };
-
-    ghost reading = { seen_as ⟦<Self as Shaped>⟧.shape ⟦<ShapeOf<Self> as Readable>⟧.reading };
-
-    fn grows() -> bool {
-        ShapeOf::<Self>::grows()
-    }
+    ghost form = { form_as ⟦<Self as Shaped>⟧.shape ⟦<ShapeOf<Self> as Readable>⟧.form };
 }
 
 impl ReadableShape for Holders {
@@ -438,24 +332,7 @@ impl<T> Formed for Pair<T> {
 }
 
 impl<T: Readable> Readable for Pair<T> {
-    ghost takes = { ⟦<ShapeOf<Self> as Readable>⟧.takes };
-
-    ghost reads = { λ t v. ⟦<ShapeOf<Self> as Readable>⟧.reads t (⟦<Self as Shaped>⟧.shape v) };
-
-    ghost refuses = { ⟦<ShapeOf<Self> as Readable>⟧.refuses };
-
-    ghost alike = { λ v w. ⟦<ShapeOf<Self> as Readable>⟧.alike (⟦<Self as Shaped>⟧.shape v)
-        (⟦<Self as Shaped>⟧.shape w) };
-
-    ghost growing = { ⟦<ShapeOf<Self> as Readable>⟧.growing };
-
-    ghost reading = { seen_as ⟦<Self as Shaped>⟧.shape ⟦<ShapeOf<Self> as Readable>⟧.reading };
-
-    fn grows() -> bool
-        ensures { result ≡ ⟦<ShapeOf<Self> as Readable>⟧.growing }
-    {
-        ShapeOf::<Self>::grows()
-    }
+    ghost form = { form_as ⟦<Self as Shaped>⟧.shape ⟦<ShapeOf<Self> as Readable>⟧.form };
 }
 
 impl<T: Readable> ReadableShape for Pair<T> {
@@ -494,24 +371,7 @@ impl<'a> Formed for Lent<'a> {
 }
 
 impl<'a> Readable for Lent<'a> {
-    ghost takes = { ⟦<ShapeOf<Self> as Readable>⟧.takes };
-
-    ghost reads = { λ t v. ⟦<ShapeOf<Self> as Readable>⟧.reads t (⟦<Self as Shaped>⟧.shape v) };
-
-    ghost refuses = { ⟦<ShapeOf<Self> as Readable>⟧.refuses };
-
-    ghost alike = { λ v w. ⟦<ShapeOf<Self> as Readable>⟧.alike (⟦<Self as Shaped>⟧.shape v)
-        (⟦<Self as Shaped>⟧.shape w) };
-
-    ghost growing = { ⟦<ShapeOf<Self> as Readable>⟧.growing };
-
-    ghost reading = { seen_as ⟦<Self as Shaped>⟧.shape ⟦<ShapeOf<Self> as Readable>⟧.reading };
-
-    fn grows() -> bool
-        ensures { result ≡ ⟦<ShapeOf<Self> as Readable>⟧.growing }
-    {
-        ShapeOf::<Self>::grows()
-    }
+    ghost form = { form_as ⟦<Self as Shaped>⟧.shape ⟦<ShapeOf<Self> as Readable>⟧.form };
 }
 
 impl<'a> ReadableShape for Lent<'a> {
@@ -550,24 +410,7 @@ impl<'a> Formed for Borrower<'a> {
 }
 
 impl<'a> Readable for Borrower<'a> {
-    ghost takes = { ⟦<ShapeOf<Self> as Readable>⟧.takes };
-
-    ghost reads = { λ t v. ⟦<ShapeOf<Self> as Readable>⟧.reads t (⟦<Self as Shaped>⟧.shape v) };
-
-    ghost refuses = { ⟦<ShapeOf<Self> as Readable>⟧.refuses };
-
-    ghost alike = { λ v w. ⟦<ShapeOf<Self> as Readable>⟧.alike (⟦<Self as Shaped>⟧.shape v)
-        (⟦<Self as Shaped>⟧.shape w) };
-
-    ghost growing = { ⟦<ShapeOf<Self> as Readable>⟧.growing };
-
-    ghost reading = { seen_as ⟦<Self as Shaped>⟧.shape ⟦<ShapeOf<Self> as Readable>⟧.reading };
-
-    fn grows() -> bool
-        ensures { result ≡ ⟦<ShapeOf<Self> as Readable>⟧.growing }
-    {
-        ShapeOf::<Self>::grows()
-    }
+    ghost form = { form_as ⟦<Self as Shaped>⟧.shape ⟦<ShapeOf<Self> as Readable>⟧.form };
 }
 
 impl<'a> ReadableShape for Borrower<'a> {
@@ -603,22 +446,7 @@ impl Formed for Deep {
 }
 
 impl Readable for Deep {
-    ghost takes = { ⟦<ShapeOf<Self> as Readable>⟧.takes };
-
-    ghost reads = { λ t v. ⟦<ShapeOf<Self> as Readable>⟧.reads t (⟦<Self as Shaped>⟧.shape v) };
-
-    ghost refuses = { ⟦<ShapeOf<Self> as Readable>⟧.refuses };
-
-    ghost alike = { λ v w. ⟦<ShapeOf<Self> as Readable>⟧.alike (⟦<Self as Shaped>⟧.shape v)
-        (⟦<Self as Shaped>⟧.shape w) };
-
-    ghost growing = { ⟦<ShapeOf<Self> as Readable>⟧.growing };
-
-    ghost reading = { seen_as ⟦<Self as Shaped>⟧.shape ⟦<ShapeOf<Self> as Readable>⟧.reading };
-
-    fn grows() -> bool {
-        ShapeOf::<Self>::grows()
-    }
+    ghost form = { form_as ⟦<Self as Shaped>⟧.shape ⟦<ShapeOf<Self> as Readable>⟧.form };
 }
 
 impl ReadableShape for Deep {
@@ -691,22 +519,7 @@ impl Formed for Message {
 }
 
 impl Readable for Message {
-    ghost takes = { ⟦<ShapeOf<Self> as Readable>⟧.takes };
-
-    ghost reads = { λ t v. ⟦<ShapeOf<Self> as Readable>⟧.reads t (⟦<Self as Shaped>⟧.shape v) };
-
-    ghost refuses = { ⟦<ShapeOf<Self> as Readable>⟧.refuses };
-
-    ghost alike = { λ v w. ⟦<ShapeOf<Self> as Readable>⟧.alike (⟦<Self as Shaped>⟧.shape v)
-        (⟦<Self as Shaped>⟧.shape w) };
-
-    ghost growing = { ⟦<ShapeOf<Self> as Readable>⟧.growing };
-
-    ghost reading = { seen_as ⟦<Self as Shaped>⟧.shape ⟦<ShapeOf<Self> as Readable>⟧.reading };
-
-    fn grows() -> bool {
-        ShapeOf::<Self>::grows()
-    }
+    ghost form = { form_as ⟦<Self as Shaped>⟧.shape ⟦<ShapeOf<Self> as Readable>⟧.form };
 }
 
 impl ReadableShape for Message {

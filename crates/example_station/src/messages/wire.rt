@@ -1,8 +1,8 @@
 //! How the message types of the module above are written and read.
 // Written by postcard_derive from their declarations: change those, and write this anew.
-ghost use Rattle.std.specs.Prelude.{IfOk, ◌≡◌};
+ghost use Rattle.std.specs.Prelude.{IfOk};
 ghost use Rattle.schemas.specs.TypeSchemas.{BeginsWith, IsSchemaOf};
-ghost use Rattle.postcard_tree.specs.ReadingLaws.{seen_as};
+ghost use Rattle.postcard_tree.specs.ReadingLaws.{form_as};
 ghost use Rattle.postcard_tree.specs.Shapes.{read_as_shape, written_as_shape};
 
 use super::{
@@ -40,22 +40,7 @@ impl Formed for SensorReading {
 }
 
 impl Readable for SensorReading {
-    ghost takes = { ⟦<ShapeOf<Self> as Readable>⟧.takes };
-
-    ghost reads = { λ t v. ⟦<ShapeOf<Self> as Readable>⟧.reads t (⟦<Self as Shaped>⟧.shape v) };
-
-    ghost refuses = { ⟦<ShapeOf<Self> as Readable>⟧.refuses };
-
-    ghost alike = { λ v w. ⟦<ShapeOf<Self> as Readable>⟧.alike (⟦<Self as Shaped>⟧.shape v)
-        (⟦<Self as Shaped>⟧.shape w) };
-
-    ghost growing = { ⟦<ShapeOf<Self> as Readable>⟧.growing };
-
-    ghost reading = { seen_as ⟦<Self as Shaped>⟧.shape ⟦<ShapeOf<Self> as Readable>⟧.reading };
-
-    fn grows() -> bool {
-        ShapeOf::<Self>::grows()
-    }
+    ghost form = { form_as ⟦<Self as Shaped>⟧.shape ⟦<ShapeOf<Self> as Readable>⟧.form };
 }
 
 impl ReadableShape for SensorReading {
@@ -111,22 +96,7 @@ impl Formed for Level {
 }
 
 impl Readable for Level {
-    ghost takes = { ⟦<ShapeOf<Self> as Readable>⟧.takes };
-
-    ghost reads = { λ t v. ⟦<ShapeOf<Self> as Readable>⟧.reads t (⟦<Self as Shaped>⟧.shape v) };
-
-    ghost refuses = { ⟦<ShapeOf<Self> as Readable>⟧.refuses };
-
-    ghost alike = { λ v w. ⟦<ShapeOf<Self> as Readable>⟧.alike (⟦<Self as Shaped>⟧.shape v)
-        (⟦<Self as Shaped>⟧.shape w) };
-
-    ghost growing = { ⟦<ShapeOf<Self> as Readable>⟧.growing };
-
-    ghost reading = { seen_as ⟦<Self as Shaped>⟧.shape ⟦<ShapeOf<Self> as Readable>⟧.reading };
-
-    fn grows() -> bool {
-        ShapeOf::<Self>::grows()
-    }
+    ghost form = { form_as ⟦<Self as Shaped>⟧.shape ⟦<ShapeOf<Self> as Readable>⟧.form };
 }
 
 impl ReadableShape for Level {
@@ -180,22 +150,7 @@ impl Formed for LogRecord {
 }
 
 impl Readable for LogRecord {
-    ghost takes = { ⟦<ShapeOf<Self> as Readable>⟧.takes };
-
-    ghost reads = { λ t v. ⟦<ShapeOf<Self> as Readable>⟧.reads t (⟦<Self as Shaped>⟧.shape v) };
-
-    ghost refuses = { ⟦<ShapeOf<Self> as Readable>⟧.refuses };
-
-    ghost alike = { λ v w. ⟦<ShapeOf<Self> as Readable>⟧.alike (⟦<Self as Shaped>⟧.shape v)
-        (⟦<Self as Shaped>⟧.shape w) };
-
-    ghost growing = { ⟦<ShapeOf<Self> as Readable>⟧.growing };
-
-    ghost reading = { seen_as ⟦<Self as Shaped>⟧.shape ⟦<ShapeOf<Self> as Readable>⟧.reading };
-
-    fn grows() -> bool {
-        ShapeOf::<Self>::grows()
-    }
+    ghost form = { form_as ⟦<Self as Shaped>⟧.shape ⟦<ShapeOf<Self> as Readable>⟧.form };
 }
 
 impl ReadableShape for LogRecord {
@@ -237,22 +192,7 @@ impl Formed for Address {
 }
 
 impl Readable for Address {
-    ghost takes = { ⟦<ShapeOf<Self> as Readable>⟧.takes };
-
-    ghost reads = { λ t v. ⟦<ShapeOf<Self> as Readable>⟧.reads t (⟦<Self as Shaped>⟧.shape v) };
-
-    ghost refuses = { ⟦<ShapeOf<Self> as Readable>⟧.refuses };
-
-    ghost alike = { λ v w. ⟦<ShapeOf<Self> as Readable>⟧.alike (⟦<Self as Shaped>⟧.shape v)
-        (⟦<Self as Shaped>⟧.shape w) };
-
-    ghost growing = { ⟦<ShapeOf<Self> as Readable>⟧.growing };
-
-    ghost reading = { seen_as ⟦<Self as Shaped>⟧.shape ⟦<ShapeOf<Self> as Readable>⟧.reading };
-
-    fn grows() -> bool {
-        ShapeOf::<Self>::grows()
-    }
+    ghost form = { form_as ⟦<Self as Shaped>⟧.shape ⟦<ShapeOf<Self> as Readable>⟧.form };
 }
 
 impl ReadableShape for Address {
@@ -294,22 +234,7 @@ impl Formed for Ping {
 }
 
 impl Readable for Ping {
-    ghost takes = { ⟦<ShapeOf<Self> as Readable>⟧.takes };
-
-    ghost reads = { λ t v. ⟦<ShapeOf<Self> as Readable>⟧.reads t (⟦<Self as Shaped>⟧.shape v) };
-
-    ghost refuses = { ⟦<ShapeOf<Self> as Readable>⟧.refuses };
-
-    ghost alike = { λ v w. ⟦<ShapeOf<Self> as Readable>⟧.alike (⟦<Self as Shaped>⟧.shape v)
-        (⟦<Self as Shaped>⟧.shape w) };
-
-    ghost growing = { ⟦<ShapeOf<Self> as Readable>⟧.growing };
-
-    ghost reading = { seen_as ⟦<Self as Shaped>⟧.shape ⟦<ShapeOf<Self> as Readable>⟧.reading };
-
-    fn grows() -> bool {
-        ShapeOf::<Self>::grows()
-    }
+    ghost form = { form_as ⟦<Self as Shaped>⟧.shape ⟦<ShapeOf<Self> as Readable>⟧.form };
 }
 
 impl ReadableShape for Ping {
@@ -380,22 +305,7 @@ impl Formed for Command {
 }
 
 impl Readable for Command {
-    ghost takes = { ⟦<ShapeOf<Self> as Readable>⟧.takes };
-
-    ghost reads = { λ t v. ⟦<ShapeOf<Self> as Readable>⟧.reads t (⟦<Self as Shaped>⟧.shape v) };
-
-    ghost refuses = { ⟦<ShapeOf<Self> as Readable>⟧.refuses };
-
-    ghost alike = { λ v w. ⟦<ShapeOf<Self> as Readable>⟧.alike (⟦<Self as Shaped>⟧.shape v)
-        (⟦<Self as Shaped>⟧.shape w) };
-
-    ghost growing = { ⟦<ShapeOf<Self> as Readable>⟧.growing };
-
-    ghost reading = { seen_as ⟦<Self as Shaped>⟧.shape ⟦<ShapeOf<Self> as Readable>⟧.reading };
-
-    fn grows() -> bool {
-        ShapeOf::<Self>::grows()
-    }
+    ghost form = { form_as ⟦<Self as Shaped>⟧.shape ⟦<ShapeOf<Self> as Readable>⟧.form };
 }
 
 impl ReadableShape for Command {
@@ -459,22 +369,7 @@ impl Formed for Config {
 }
 
 impl Readable for Config {
-    ghost takes = { ⟦<ShapeOf<Self> as Readable>⟧.takes };
-
-    ghost reads = { λ t v. ⟦<ShapeOf<Self> as Readable>⟧.reads t (⟦<Self as Shaped>⟧.shape v) };
-
-    ghost refuses = { ⟦<ShapeOf<Self> as Readable>⟧.refuses };
-
-    ghost alike = { λ v w. ⟦<ShapeOf<Self> as Readable>⟧.alike (⟦<Self as Shaped>⟧.shape v)
-        (⟦<Self as Shaped>⟧.shape w) };
-
-    ghost growing = { ⟦<ShapeOf<Self> as Readable>⟧.growing };
-
-    ghost reading = { seen_as ⟦<Self as Shaped>⟧.shape ⟦<ShapeOf<Self> as Readable>⟧.reading };
-
-    fn grows() -> bool {
-        ShapeOf::<Self>::grows()
-    }
+    ghost form = { form_as ⟦<Self as Shaped>⟧.shape ⟦<ShapeOf<Self> as Readable>⟧.form };
 }
 
 impl ReadableShape for Config {
@@ -526,24 +421,7 @@ impl<'a> Formed for Packet<'a> {
 }
 
 impl<'a> Readable for Packet<'a> {
-    ghost takes = { ⟦<ShapeOf<Self> as Readable>⟧.takes };
-
-    ghost reads = { λ t v. ⟦<ShapeOf<Self> as Readable>⟧.reads t (⟦<Self as Shaped>⟧.shape v) };
-
-    ghost refuses = { ⟦<ShapeOf<Self> as Readable>⟧.refuses };
-
-    ghost alike = { λ v w. ⟦<ShapeOf<Self> as Readable>⟧.alike (⟦<Self as Shaped>⟧.shape v)
-        (⟦<Self as Shaped>⟧.shape w) };
-
-    ghost growing = { ⟦<ShapeOf<Self> as Readable>⟧.growing };
-
-    ghost reading = { seen_as ⟦<Self as Shaped>⟧.shape ⟦<ShapeOf<Self> as Readable>⟧.reading };
-
-    fn grows() -> bool
-        ensures { result ≡ ⟦<ShapeOf<Self> as Readable>⟧.growing }
-    {
-        ShapeOf::<Self>::grows()
-    }
+    ghost form = { form_as ⟦<Self as Shaped>⟧.shape ⟦<ShapeOf<Self> as Readable>⟧.form };
 }
 
 impl<'a> ReadableShape for Packet<'a> {
@@ -568,8 +446,8 @@ impl<'a> HasSchema for Packet<'a> {
     fn add_schema(alloc: Global, nodes: &mut Vec<schemas::Node>) -> Result<usize, AllocError>
         ensures kept { BeginsWith nodes.old.items nodes.new.items }
         ensures is_schema { IfOk result (λ place.
-            IsSchemaOf ⟦<ShapeOf<Self> as Readable>⟧.takes ⟦<ShapeOf<Self> as Readable>⟧.refuses
-            nodes.new.items place) }
+            IsSchemaOf ⟦<ShapeOf<Self> as Readable>⟧.form.takes
+            ⟦<ShapeOf<Self> as Readable>⟧.form.refuses nodes.new.items place) }
     {
         ShapeOf::<Self>::add_schema(alloc, nodes)
     }
@@ -611,22 +489,7 @@ impl Formed for Report {
 }
 
 impl Readable for Report {
-    ghost takes = { ⟦<ShapeOf<Self> as Readable>⟧.takes };
-
-    ghost reads = { λ t v. ⟦<ShapeOf<Self> as Readable>⟧.reads t (⟦<Self as Shaped>⟧.shape v) };
-
-    ghost refuses = { ⟦<ShapeOf<Self> as Readable>⟧.refuses };
-
-    ghost alike = { λ v w. ⟦<ShapeOf<Self> as Readable>⟧.alike (⟦<Self as Shaped>⟧.shape v)
-        (⟦<Self as Shaped>⟧.shape w) };
-
-    ghost growing = { ⟦<ShapeOf<Self> as Readable>⟧.growing };
-
-    ghost reading = { seen_as ⟦<Self as Shaped>⟧.shape ⟦<ShapeOf<Self> as Readable>⟧.reading };
-
-    fn grows() -> bool {
-        ShapeOf::<Self>::grows()
-    }
+    ghost form = { form_as ⟦<Self as Shaped>⟧.shape ⟦<ShapeOf<Self> as Readable>⟧.form };
 }
 
 impl ReadableShape for Report {
@@ -723,22 +586,7 @@ impl Formed for Event {
 }
 
 impl Readable for Event {
-    ghost takes = { ⟦<ShapeOf<Self> as Readable>⟧.takes };
-
-    ghost reads = { λ t v. ⟦<ShapeOf<Self> as Readable>⟧.reads t (⟦<Self as Shaped>⟧.shape v) };
-
-    ghost refuses = { ⟦<ShapeOf<Self> as Readable>⟧.refuses };
-
-    ghost alike = { λ v w. ⟦<ShapeOf<Self> as Readable>⟧.alike (⟦<Self as Shaped>⟧.shape v)
-        (⟦<Self as Shaped>⟧.shape w) };
-
-    ghost growing = { ⟦<ShapeOf<Self> as Readable>⟧.growing };
-
-    ghost reading = { seen_as ⟦<Self as Shaped>⟧.shape ⟦<ShapeOf<Self> as Readable>⟧.reading };
-
-    fn grows() -> bool {
-        ShapeOf::<Self>::grows()
-    }
+    ghost form = { form_as ⟦<Self as Shaped>⟧.shape ⟦<ShapeOf<Self> as Readable>⟧.form };
 }
 
 impl ReadableShape for Event {

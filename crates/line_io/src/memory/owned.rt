@@ -35,9 +35,9 @@ impl OwnedOut {
     /// After as many bytes as `fault` says, the next write of a nonempty piece is that fault, and then it goes on.
     pub fn new(bytes: Vec<u8>, each: usize, fault: Option<(usize, Fault)>) -> OwnedOut
         requires { 0 < each }
-        ensures written { ⟦<OwnedOut as Outlet>⟧.written result ≡ Some bytes.items }
-        ensures faults { ⟦<OwnedOut as Outlet>⟧.faults result ≡ 0 }
-        ensures calls { ⟦<OwnedOut as Outlet>⟧.calls_left result ≡ 2 ^ 64 - 1 }
+        ensures written { (⟦<OwnedOut as Outlet>⟧.line result).told ≡ Some bytes.items }
+        ensures faults { (⟦<OwnedOut as Outlet>⟧.line result).faults ≡ 0 }
+        ensures calls { (⟦<OwnedOut as Outlet>⟧.line result).calls_left ≡ 2 ^ 64 - 1 }
         ensures plan { owned_plan result ≡ record { each = each; fault = fault } }
     {
         OwnedOut {
@@ -51,7 +51,7 @@ impl OwnedOut {
 
     /// The bytes that it was given at first, and behind them those that it has taken.
     pub fn into_bytes(self) -> Vec<u8>
-        ensures { ⟦<OwnedOut as Outlet>⟧.written self ≡ Some result.items }
+        ensures { (⟦<OwnedOut as Outlet>⟧.line self).told ≡ Some result.items }
     {
         let OwnedOut {
             bytes,
@@ -65,18 +65,14 @@ impl OwnedOut {
 }
 
 impl Outlet for OwnedOut {
-    ghost use Rattle.line_io.specs.Memory.{owned_bytes, owned_plan, owned_faults, owned_calls};
+    ghost use Rattle.line_io.specs.Memory.{owned_bytes, owned_plan, owned_faults, owned_calls, owned_line};
 
-    ghost written = { λ s. Some (owned_bytes s) };
-
-    ghost faults = { owned_faults };
-
-    ghost calls_left = { owned_calls };
+    ghost line = { owned_line };
 
     fn write(&mut self, piece: &[u8]) -> Option<usize>
         ensures bound { IfSome result (λ n. n ≤ length piece.now) }
-        ensures bytes { Wrote (Some (owned_bytes self.old)) (Some (owned_bytes self.new))
-            (owned_faults self.old) (owned_faults self.new) (moved_front result piece.now) }
+        ensures bytes { Wrote (owned_line self.old) (owned_line self.new)
+            (moved_front result piece.now) }
         ensures faults { owned_faults self.new
             ≡ owned_faults self.old + write_faults (owned_calls self.old) result piece.now }
         ensures calls { owned_calls self.new ≡ owned_calls self.old - 1 }

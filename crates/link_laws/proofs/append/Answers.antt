@@ -4,4 +4,4 @@ use Rattle.link_laws.proofs.ProvedLemmas.{appends}
 use Rattle.link_laws.proofs.append.Goals as goal
 
 pub returns : goal.returns
-returns g c = record { ordinary = appends (Holds g.T.Readable.takes); strict = appends (HoldsExactly g.T.Readable.takes) }
+returns g c = record { ordinary = appends (Holds g.T.Readable.form.takes); strict = appends (HoldsExactly g.T.Readable.form.takes) }

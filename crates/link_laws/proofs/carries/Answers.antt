@@ -19,9 +19,9 @@ hears takes reads alike writes valid same holds told limit s run answers is of a
 
 pub returns : goal.returns
 returns g c =
-    let by = hears g.T.Readable.takes g.T.Readable.reads g.T.Readable.alike g.T.Serialize.writes g.T.Serialize.valid (λ v w t l e r. g.met.T.Readable.laws.one_value t v w (g.met.T.Lawful.reads_back v t l e) r) in
+    let by = hears g.T.Readable.form.takes g.T.Readable.form.reads g.T.Readable.form.alike g.T.Serialize.writes g.T.Serialize.valid (λ v w t l e r. g.T.Readable.form.laws.one_value t v w (g.met.T.Lawful.reads_back v t l e) r) in
     record {
-      taken = λ v t l e. g.met.T.Readable.laws.taken t v (g.met.T.Lawful.reads_back v t l e);
-      ordinary = by (Holds g.T.Readable.takes) c.told.ensures.ordinary;
-      strict = by (HoldsExactly g.T.Readable.takes) c.told.ensures.strict;
+      taken = λ v t l e. g.T.Readable.form.laws.taken t v (g.met.T.Lawful.reads_back v t l e);
+      ordinary = by (Holds g.T.Readable.form.takes) c.told.ensures.ordinary;
+      strict = by (HoldsExactly g.T.Readable.form.takes) c.told.ensures.strict;
     }

@@ -4,4 +4,4 @@ use Rattle.link_laws.proofs.RenewingLemmas.{set_anew}
 use Rattle.link_laws.proofs.set_anew.Goals as goal
 
 pub returns : goal.returns
-returns g c = record { ordinary = set_anew (Holds g.T.Readable.takes); strict = set_anew (HoldsExactly g.T.Readable.takes) }
+returns g c = record { ordinary = set_anew (Holds g.T.Readable.form.takes); strict = set_anew (HoldsExactly g.T.Readable.form.takes) }

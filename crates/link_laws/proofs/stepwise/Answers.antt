@@ -5,7 +5,7 @@ use Rattle.link_laws.proofs.stepwise.Goals as goal
 
 pub returns : goal.returns
 returns g c = record {
-  ordinary = λ limit. heard_stepwise (IsAnswer (Holds g.T.Readable.takes) limit);
-  strict = λ limit. heard_stepwise (IsAnswer (HoldsExactly g.T.Readable.takes) limit);
+  ordinary = λ limit. heard_stepwise (IsAnswer (Holds g.T.Readable.form.takes) limit);
+  strict = λ limit. heard_stepwise (IsAnswer (HoldsExactly g.T.Readable.form.takes) limit);
   unfinished = unfinished_part;
 }

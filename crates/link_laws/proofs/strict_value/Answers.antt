@@ -11,5 +11,5 @@ pub returns : goal.returns
 returns g c stretch t r =
     let w = g.met.T.Exact.writes_back t c.args.value.now r in (
       λ (h, e). (t, w, e),
-      λ (u, d, e). (g.met.T.Readable.laws.taken t c.args.value.now r, e ∙ ap (λ x. shortest_frame (short x)) (one_tree u t (sym d ∙ w))),
+      λ (u, d, e). (g.T.Readable.form.laws.taken t c.args.value.now r, e ∙ ap (λ x. shortest_frame (short x)) (one_tree u t (sym d ∙ w))),
     )

@@ -16,7 +16,7 @@ as_values takes holds reads answers limit s k run h = (
 )
 
 pub returns-clause-ordinary : goal.returns-clause-ordinary
-returns-clause-ordinary g c limit s = as_values g.T.Readable.takes _ g.T.Readable.reads c.args.answers.now limit s (c.told.ensures.ordinary limit s)
+returns-clause-ordinary g c limit s = as_values g.T.Readable.form.takes _ g.T.Readable.form.reads c.args.answers.now limit s (c.told.ensures.ordinary limit s)
 
 pub returns-clause-strict : goal.returns-clause-strict
-returns-clause-strict g c limit s = as_values g.T.Readable.takes _ g.T.Readable.reads c.args.answers.now limit s (c.told.ensures.strict limit s)
+returns-clause-strict g c limit s = as_values g.T.Readable.form.takes _ g.T.Readable.form.reads c.args.answers.now limit s (c.told.ensures.strict limit s)

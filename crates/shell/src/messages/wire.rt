@@ -1,9 +1,9 @@
 //! How the message types of the module above are written and read.
 // Written by postcard_derive from their declarations: change those, and write this anew.
-ghost use Rattle.postcard_tree.specs.ReadingLaws.{seen_as};
+ghost use Rattle.postcard_tree.specs.ReadingLaws.{form_as};
 ghost use Rattle.postcard_tree.specs.Shapes.{read_as_shape, written_as_shape};
 
-use super::{Command, Refusal, Report};
+use super::{Behind, Command, Refusal, Report};
 use postcard::ser_flavors::Flavor;
 use postcard::{
     AsShape, Formed, Last, Readable, ReadableShape, Serialize, SerializeShape, Serializer, ShapeOf,
@@ -48,22 +48,7 @@ impl Formed for Command {
 }
 
 impl Readable for Command {
-    ghost takes = { ⟦<ShapeOf<Self> as Readable>⟧.takes };
-
-    ghost reads = { λ t v. ⟦<ShapeOf<Self> as Readable>⟧.reads t (⟦<Self as Shaped>⟧.shape v) };
-
-    ghost refuses = { ⟦<ShapeOf<Self> as Readable>⟧.refuses };
-
-    ghost alike = { λ v w. ⟦<ShapeOf<Self> as Readable>⟧.alike (⟦<Self as Shaped>⟧.shape v)
-        (⟦<Self as Shaped>⟧.shape w) };
-
-    ghost growing = { ⟦<ShapeOf<Self> as Readable>⟧.growing };
-
-    ghost reading = { seen_as ⟦<Self as Shaped>⟧.shape ⟦<ShapeOf<Self> as Readable>⟧.reading };
-
-    fn grows() -> bool {
-        ShapeOf::<Self>::grows()
-    }
+    ghost form = { form_as ⟦<Self as Shaped>⟧.shape ⟦<ShapeOf<Self> as Readable>⟧.form };
 }
 
 impl ReadableShape for Command {
@@ -91,10 +76,10 @@ impl SerializeShape for Command {
     ghost written_as = { written_as_shape };
 }
 
-type ReportShape = Variant<(bool, u32, u32), Variant<(), Last<Refusal>>>;
+type ReportShape = Variant<(bool, u32, u32), Variant<(), Variant<Refusal, Last<Behind>>>>;
 
 impl Shaped for Report {
-    ghost use Rattle.shell.specs.declared.messages.Report.TheVariants.{State, Done, Refused};
+    ghost use Rattle.shell.specs.declared.messages.Report.TheVariants.{State, Done, Refused, Passed};
     ghost use Rattle.postcard_tree.specs.declared.variants.Variant.TheVariants.{This, Other};
     ghost use Rattle.postcard_tree.specs.declared.variants.Last.TheVariants.{Last};
 
@@ -103,14 +88,16 @@ impl Shaped for Report {
     ghost shape = { λ v. elim v [
       | State x0 x1 x2 ↦ This (x0, x1, x2)
       | Done ↦ Other (This tt)
-      | Refused x0 ↦ Other (Other (Last x0))
+      | Refused x0 ↦ Other (Other (This x0))
+      | Passed x0 ↦ Other (Other (Other (Last x0)))
     ] };
 
     fn from_shape(it: ReportShape) -> Report {
         match it {
             Variant::This((is_on, limit, used)) => Report::State { is_on, limit, used },
             Variant::Other(Variant::This(())) => Report::Done,
-            Variant::Other(Variant::Other(Last::Last(p0))) => Report::Refused(p0),
+            Variant::Other(Variant::Other(Variant::This(p0))) => Report::Refused(p0),
+            Variant::Other(Variant::Other(Variant::Other(Last::Last(p0)))) => Report::Passed(p0),
         }
     }
 }
@@ -120,22 +107,7 @@ impl Formed for Report {
 }
 
 impl Readable for Report {
-    ghost takes = { ⟦<ShapeOf<Self> as Readable>⟧.takes };
-
-    ghost reads = { λ t v. ⟦<ShapeOf<Self> as Readable>⟧.reads t (⟦<Self as Shaped>⟧.shape v) };
-
-    ghost refuses = { ⟦<ShapeOf<Self> as Readable>⟧.refuses };
-
-    ghost alike = { λ v w. ⟦<ShapeOf<Self> as Readable>⟧.alike (⟦<Self as Shaped>⟧.shape v)
-        (⟦<Self as Shaped>⟧.shape w) };
-
-    ghost growing = { ⟦<ShapeOf<Self> as Readable>⟧.growing };
-
-    ghost reading = { seen_as ⟦<Self as Shaped>⟧.shape ⟦<ShapeOf<Self> as Readable>⟧.reading };
-
-    fn grows() -> bool {
-        ShapeOf::<Self>::grows()
-    }
+    ghost form = { form_as ⟦<Self as Shaped>⟧.shape ⟦<ShapeOf<Self> as Readable>⟧.form };
 }
 
 impl ReadableShape for Report {
@@ -155,11 +127,51 @@ impl Serialize for Report {
             ),
             Report::Done => serializer.serialize_unit_variant(1),
             Report::Refused(p0) => serializer.serialize_newtype_variant(2, p0),
+            Report::Passed(p0) => serializer.serialize_newtype_variant(3, p0),
         }
     }
 }
 
 impl SerializeShape for Report {
+    ghost written_as = { written_as_shape };
+}
+
+type BehindShape = (u64, u64);
+
+impl Shaped for Behind {
+    type Shape = BehindShape;
+
+    ghost shape = { λ v. (v.number, v.last) };
+
+    fn from_shape(it: BehindShape) -> Behind {
+        let (number, last) = it;
+        Behind { number, last }
+    }
+}
+
+impl Formed for Behind {
+    type Form = AsShape;
+}
+
+impl Readable for Behind {
+    ghost form = { form_as ⟦<Self as Shaped>⟧.shape ⟦<ShapeOf<Self> as Readable>⟧.form };
+}
+
+impl ReadableShape for Behind {
+    ghost read_as = { read_as_shape };
+}
+
+impl Serialize for Behind {
+    ghost writes = { λ v. ⟦<ShapeOf<Self> as Serialize>⟧.writes (⟦<Self as Shaped>⟧.shape v) };
+
+    ghost valid = { λ v. ⟦<ShapeOf<Self> as Serialize>⟧.valid (⟦<Self as Shaped>⟧.shape v) };
+
+    fn serialize<F: Flavor>(&self, serializer: &mut Serializer<F>) -> postcard::Result<()> {
+        (&self.number, &self.last).serialize(serializer)
+    }
+}
+
+impl SerializeShape for Behind {
     ghost written_as = { written_as_shape };
 }
 
@@ -190,22 +202,7 @@ impl Formed for Refusal {
 }
 
 impl Readable for Refusal {
-    ghost takes = { ⟦<ShapeOf<Self> as Readable>⟧.takes };
-
-    ghost reads = { λ t v. ⟦<ShapeOf<Self> as Readable>⟧.reads t (⟦<Self as Shaped>⟧.shape v) };
-
-    ghost refuses = { ⟦<ShapeOf<Self> as Readable>⟧.refuses };
-
-    ghost alike = { λ v w. ⟦<ShapeOf<Self> as Readable>⟧.alike (⟦<Self as Shaped>⟧.shape v)
-        (⟦<Self as Shaped>⟧.shape w) };
-
-    ghost growing = { ⟦<ShapeOf<Self> as Readable>⟧.growing };
-
-    ghost reading = { seen_as ⟦<Self as Shaped>⟧.shape ⟦<ShapeOf<Self> as Readable>⟧.reading };
-
-    fn grows() -> bool {
-        ShapeOf::<Self>::grows()
-    }
+    ghost form = { form_as ⟦<Self as Shaped>⟧.shape ⟦<ShapeOf<Self> as Readable>⟧.form };
 }
 
 impl ReadableShape for Refusal {

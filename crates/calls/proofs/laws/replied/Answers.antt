@@ -1,10 +1,10 @@
-use Rattle.std.proofs.Common.{None, inl, inr}
+use Rattle.std.proofs.Common.{inl, inr}
 use Rattle.calls.proofs.RepliesLemmas.{found}
 use Rattle.calls.proofs.laws.replied.Goals as goal
 
 pub returns : goal.returns
-returns g c heard log out later n r served i =
-    elim (found None later heard log out served (n, r) i) [
-      | inl e ↦ absurd (cc)
-      | inr k ↦ (k.0, k.2, k.1)
+returns g c equal passes kept heard log out later n r small served i =
+    elim (found equal passes kept later heard log out served (n, r) small i) [
+      | inl k ↦ (k.0, k.2, inl k.1)
+      | inr k ↦ (k.0, k.1, inr k.2)
     ]

@@ -1,28 +1,21 @@
 use Rattle.std.proofs.Common.{sym, ap, ◌∙◌}
-use Rattle.postcard.specs.Frames.{Holds}
 use Rattle.line_io.specs.Memory.{in_bytes}
+use Rattle.link.specs.Senders.{writer_of, clean_of, sentinel_of}
 use Rattle.calls_laws.proofs.StepsLemmas.{serves_line, front_read, inside}
 use Rattle.calls_laws.proofs.sides.serve_all.Goals as goal
 
-pub new_with_sentinel-requires : goal.new_with_sentinel-requires
-new_with_sentinel-requires g c = (c.requires.server, c.requires.some)
-
-pub serve_with_sentinel-ended-requires : goal.serve_with_sentinel-ended-requires
-serve_with_sentinel-ended-requires g c = (c.requires.service, c.requires.receiver)
-
-pub into_inner-requires : goal.into_inner-requires
-into_inner-requires g c = c.requires.server
-
 pub returns : goal.returns
 returns g c =
-    let new = c.new_with_sentinel.ensures in
-    let told = g.W.Outlet.written in
-    let h = c.serve_with_sentinel-ended.ensures.served in
-    serves_line g.A.Application.executes (Holds _) _ _ _ g.row.N c.args.sentinel g.row.M c.args.replies_sentinel c.args.application _ _ _ _ _ c.args.requests.now c.into_taken.result.items h.0
-    (in_bytes c.serve_with_sentinel-ended.new.reader) c.serve_with_sentinel-ended.result h.2.answers h.2.heard h.2.so
-    (sym (inside c.new-reader.ensures.to_come) ∙ front_read c.serve_with_sentinel-ended.result _ _ _ _ _ h.0 h.1)
+    let made = c.new_with_sentinel-sender.ensures in
+    let new = c.new-server.ensures in
+    let judging = g.M.MessageReader.judging c.args.messages.now in
+    let told = λ (w : g.row.W.Denot). (g.W.Outlet.line w).told in
+    let h = c.serve_with-ended.ensures.served in
+    serves_line g.A.Application.executes g.Q.PartialEq.eq g.A.Application.passes judging.holds judging.reads _ _ g.row.N c.args.sentinel g.row.L c.args.back.sentinel c.args.application _ _ _ _ _ _ _ c.args.requests.now c.into_taken.result.items h.bytes
+    (in_bytes c.serve_with-ended.new.reader) c.serve_with-ended.result h.hands.answers h.hands.heard (h.hands.so g.row.N c.args.sentinel c.new_with_sentinel-receiver.ensures.after).0
+    (sym (inside c.new-reader.ensures.to_come) ∙ front_read c.serve_with-ended.result _ _ _ _ _ _ h.bytes h.read)
     new.kept
-    (ap told new.writer ∙ c.requires.empty)
-    new.clean
-    new.sentinel
+    (ap told (ap writer_of new.sender ∙ made.writer) ∙ c.requires.empty)
+    (ap clean_of new.sender ∙ made.clean)
+    (ap sentinel_of new.sender ∙ made.sentinel)
     (sym (ap told c.into_inner.ensures) ∙ c.into_taken.ensures)

@@ -10,11 +10,8 @@ counted : (sentinel : ℕ) (bytes : List ℕ) (n : ℕ) → n ≤ length bytes �
 counted s bytes n w none end =
     sym (length-take-le n bytes w) ∙ sym (masked_length s (take n bytes)) ∙ ap length (stretch_front s bytes n w none end)
 
-pub returns-then-bytes-lt8-clause-before : goal.returns-then-bytes-lt8-clause-before
-returns-then-bytes-lt8-clause-before c = counted c.args.sentinel c.args.bytes.now c.before_near.result c.before_near.ensures.within c.before_near.ensures.none c.before_near.ensures.end
-
 pub returns-then-bytes-le64-clause-before : goal.returns-then-bytes-le64-clause-before
-returns-then-bytes-le64-clause-before c = counted c.args.sentinel c.args.bytes.now c.before_of_64.result c.before_of_64.ensures.within c.before_of_64.ensures.none c.before_of_64.ensures.end
+returns-then-bytes-le64-clause-before c = counted c.args.sentinel c.args.bytes.now c.before_few.result c.before_few.ensures.within c.before_few.ensures.none c.before_few.ensures.end
 
 pub returns-else-bytes-le64-clause-before : goal.returns-else-bytes-le64-clause-before
 returns-else-bytes-le64-clause-before c = counted c.args.sentinel c.args.bytes.now c.before_many.result c.before_many.ensures.within c.before_many.ensures.none c.before_many.ensures.end

@@ -8,7 +8,7 @@ use Rattle.framed_lib.proofs.lines.put_escaped.Given as goal
 abbrev pub invariant-loop-run : goal.invariant-loop-run
 invariant-loop-run g l =
     (done : List ℕ) × (flat_map escape l.text ≡ done ++ flat_map escape l.rest)
-    × Puts g.W.Outlet.written g.W.Outlet.faults l.fn.outlet l.outlet l.fn.held.items l.held.items done
+    × Puts (g.W.Outlet.line l.fn.outlet) (g.W.Outlet.line l.outlet) l.fn.held.items l.held.items done
 
 abbrev pub decreases-loop-run : goal.decreases-loop-run
 decreases-loop-run g l = length l.rest

@@ -7,7 +7,7 @@ use Rattle.framed_lib.proofs.lines.put_value.Goals as goal
 
 pub returns-in_err-put-clause-err : goal.returns-in_err-put-clause-err
 returns-in_err-put-clause-err g c =
-    on_err _ (put-breaks _ (codes "value ") (flat_map escape c.args.text.now ++ 10 ∷ []) refl (put-none _ _ _) c.in_err-put.ensures.err)
+    on_err _ (put-breaks _ (codes "value ") (flat_map escape c.args.text.now ++ 10 ∷ []) refl (put-none _ _) c.in_err-put.ensures.err)
 
 pub returns-in_err-put_escaped-clause-err : goal.returns-in_err-put_escaped-clause-err
 returns-in_err-put_escaped-clause-err g c =

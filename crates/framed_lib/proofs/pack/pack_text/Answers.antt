@@ -7,7 +7,7 @@ pub returns-in_default : goal.returns-in_default
 returns-in_default g c =
     let sent = c.in-Ok.ensures.ok in
     unwritten c.args.hex c.args.sentinel c.args.text.now sent.0 sent.1 _
-    (Writing g.E.Outlet.written g.E.Outlet.faults g.E.Outlet.calls_left c.args.faults.now c.say_refusals.new.faults)
+    (Writing (g.E.Outlet.line c.args.faults.now) (g.E.Outlet.line c.say_refusals.new.faults))
     sent.3 (c.in_default.ensures.err sent.0 sent.1)
 
 pub returns-in-Err : goal.returns-in-Err

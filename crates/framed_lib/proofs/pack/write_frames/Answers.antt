@@ -6,7 +6,7 @@ use Rattle.framed_lib.proofs.FramesLemmas.{none-put, shown-more, line-broke, end
 use Rattle.framed_lib.proofs.pack.write_frames.Goals as goal
 
 pub loop-line-init : goal.loop-line-init
-loop-line-init g c = ([], Sent-none c.args.text.now, refl, rw c.new-held.ensures (none-put _ _ c.args.hex), c.requires)
+loop-line-init g c = ([], Sent-none c.args.text.now, refl, rw c.new-held.ensures (none-put _ c.args.hex), c.requires)
 
 pub frame_line-count-requires-clause-text : goal.frame_line-count-requires-clause-text
 frame_line-count-requires-clause-text g c = λ t. (c.in-Some.ensures.utf8 (c.loop-line.invariant.4 t)).0

@@ -11,7 +11,7 @@ use Rattle.framed_lib.proofs.pack.write_frames.Given as goal
 abbrev pub invariant-loop-line : goal.invariant-loop-line
 invariant-loop-line g l =
     (done : List Send) × Sent l.text l.rest done × (l.clean ≡ clean_after_all false done)
-    × Puts g.W.Outlet.written g.W.Outlet.faults l.fn.writer l.writer [] l.held.items (shown_of l.hex l.sentinel done)
+    × Puts (g.W.Outlet.line l.fn.writer) (g.W.Outlet.line l.writer) [] l.held.items (shown_of l.hex l.sentinel done)
     × (IsTrue l.is_text → IsUtf8 l.rest)
 
 abbrev pub decreases-loop-line : goal.decreases-loop-line

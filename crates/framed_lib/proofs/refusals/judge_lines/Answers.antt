@@ -13,8 +13,8 @@ returns-in_err-sendable-clause-err g c =
     on_err _
     (stops c.args.text.now c.loop-line.rest.now c.in-Some.line.now (lines_in c.in-Some.after.now) (c.loop-line.lines + 1) i.0 i.1
     cut.line.0 (let n = i.3 in omega arith)
-    (λ bytes. Writing g.E.Outlet.written g.E.Outlet.faults g.E.Outlet.calls_left c.loop-line.faults c.judge_line.new.faults broken (c.loop-line.held.items ++ bytes))
-    (λ bytes. Writing g.E.Outlet.written g.E.Outlet.faults g.E.Outlet.calls_left c.args.faults.now c.judge_line.new.faults broken bytes)
+    (λ bytes. Writing (g.E.Outlet.line c.loop-line.faults) (g.E.Outlet.line c.judge_line.new.faults) broken (c.loop-line.held.items ++ bytes))
+    (λ bytes. Writing (g.E.Outlet.line c.args.faults.now) (g.E.Outlet.line c.judge_line.new.faults) broken bytes)
     (λ x b. put-broke _ i.2 b)
     c.in_err-sendable.ensures.err)
 

@@ -10,7 +10,7 @@ use Rattle.framed_lib.proofs.refusals.judge_lines.Given as goal
 abbrev pub invariant-loop-line : goal.invariant-loop-line
 invariant-loop-line g l =
     (done : List Send) × Sent l.text l.rest done
-    × Puts g.E.Outlet.written g.E.Outlet.faults l.fn.faults l.faults [] l.held.items (refusals 1 done)
+    × Puts (g.E.Outlet.line l.fn.faults) (g.E.Outlet.line l.faults) [] l.held.items (refusals 1 done)
     × (l.lines ≡ length done) × (l.good ≡ list_all is_whole done) × (length done + length l.rest ≤ length l.text)
     × (IsTrue l.is_text → IsUtf8 l.rest)
 

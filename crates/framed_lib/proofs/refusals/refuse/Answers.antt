@@ -7,7 +7,7 @@ use Rattle.framed_lib.proofs.refusals.refuse.Goals as goal
 pub returns-in_err-put-clause-err : goal.returns-in_err-put-clause-err
 returns-in_err-put-clause-err g c =
     on_err _
-    (put-breaks _ (codes "line ") (decimal c.args.number ++ (codes ": refused" ++ 10 ∷ [])) refl (put-none _ _ _) c.in_err-put.ensures.err)
+    (put-breaks _ (codes "line ") (decimal c.args.number ++ (codes ": refused" ++ 10 ∷ [])) refl (put-none _ _) c.in_err-put.ensures.err)
 
 pub returns-in_err-put-2-clause-err : goal.returns-in_err-put-2-clause-err
 returns-in_err-put-2-clause-err g c =

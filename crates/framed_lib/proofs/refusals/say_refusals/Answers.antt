@@ -15,6 +15,6 @@ pub returns-in_err-write_all-clause-err : goal.returns-in_err-write_all-clause-e
 returns-in_err-write_all-clause-err g c =
     let sent = c.in_ok-good.ensures.ok in
     let h : (said : List ℕ) × SaysFirst c.args.text.now said
-    × Writing g.E.Outlet.written g.E.Outlet.faults g.E.Outlet.calls_left c.args.faults.now c.write_all.new.outlet broken said =
+    × Writing (g.E.Outlet.line c.args.faults.now) (g.E.Outlet.line c.write_all.new.outlet) broken said =
     (refusals 1 sent.0, all-first c.args.text.now sent.0 sent.1, put-flush {a = refusals 1 sent.0} sent.3 (rw c.as_slice.ensures.value at c.in_err-write_all.ensures.err)) in
     on_err _ h

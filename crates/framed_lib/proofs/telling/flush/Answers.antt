@@ -8,4 +8,4 @@ pub returns-clause-ok : goal.returns-clause-ok
 returns-clause-ok g c =
     let held : c.as_slice.result.now ≡ c.args.held.now.items = grind (arith, common_steps) in
     let kept : c.clear.new.self.items ≡ [] = grind (arith, common_steps) in
-    put-through held kept c.in_ok-write_all.ensures.ok (WentOut-none _ _)
+    put-through held kept c.in_ok-write_all.ensures.ok (WentOut-none _)

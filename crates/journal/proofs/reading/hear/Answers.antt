@@ -3,18 +3,18 @@ use Rattle.std.proofs.lemmas.List.{append-nil, length-append, length-take, lengt
 use Rattle.link.specs.Decoding.{in_array}
 use Rattle.link.specs.Receivers.{IsBehind}
 use Rattle.journal.specs.Reading.{numbering_of, IsReadTo}
-use Rattle.journal.proofs.HearingLemmas.{read_on, parts_on, heard_none}
+use Rattle.journal.proofs.HearingLemmas.{read_on, parts_on, heard_none, handed_more}
 use Rattle.journal.proofs.reading.hear.Goals as goal
 
 pub loop-rest-init : goal.loop-rest-init
-loop-rest-init g c = record { heard = λ first stream answers h. ([], refl, heard_none g.met.V.Visitor.laws first _ _ answers _ stream h); on = refl }
+loop-rest-init g c = record { heard = λ first stream answers h. ([], refl, heard_none g.met.V.Visitor.laws first _ _ answers _ stream h); so_far = ([], g.met.V.Visitor.laws.nothing _); on = refl }
 
 pub loop-rest-preserved : goal.loop-rest-preserved
 loop-rest-preserved g c =
     let rest = c.loop-rest.rest.now in
-    let used = c.push-used.result.used in
-    let fits : used ≤ length rest = c.push-used.ensures.within in
-    let some : 0 < used = c.push-used.ensures.forward (search rules) in
+    let used = c.push_with-used.result.used in
+    let fits : used ≤ length rest = c.push_with-used.ensures.within in
+    let some : 0 < used = c.push_with-used.ensures.forward (search rules) in
     let later = c.in_ok-count.count in
     let left : length c.split_at.result.1.now + used ≡ length rest = omega (arith, fits, ap length c.split_at.ensures.back ∙ length-drop used rest) in
     let heard_is : later.heard ≡ c.loop-rest.count.heard + used = c.in_ok-count.ensures.heard ∙ c.hear_on.ensures.heard in
@@ -22,9 +22,9 @@ loop-rest-preserved g c =
       heard = λ first stream answers h. (
           let k = c.loop-rest.invariant.heard first stream answers h in
           let step =
-          read_on g.J.Judging.holds g.T.Readable.reads g.row.N first (stream ++ k.0) rest used g.met.V.Visitor.laws answers k.2.more (numbering_of c.hear_on.result) (numbering_of later) c.push-used.result.stretch c.hear_on.result.heard
-          c.push-used.result.answer _ _ _ k.2.handed (subst (λ n. IsReadTo g.J.Judging.holds g.T.Readable.reads g.row.N first (answers ++ k.2.more) n (stream ++ k.0)) (sym c.hear_on.ensures.numbers) k.2.hears.read)
-          (c.push-used.ensures.answers (stream ++ k.0) k.2.hears.after) (c.push-used.ensures.stretch (stream ++ k.0) k.2.hears.after) some fits (c.hear_on.ensures.heard ∙ ap (λ n. n + used) k.2.hears.heard)
+          read_on (g.M.MessageReader.judging c.args.messages.now).holds (g.M.MessageReader.judging c.args.messages.now).reads g.row.N first (stream ++ k.0) rest used g.met.V.Visitor.laws answers k.2.more (numbering_of c.hear_on.result) (numbering_of later) c.push_with-used.result.stretch c.hear_on.result.heard
+          c.push_with-used.result.answer _ _ _ k.2.handed (subst (λ n. IsReadTo (g.M.MessageReader.judging c.args.messages.now).holds (g.M.MessageReader.judging c.args.messages.now).reads g.row.N first (answers ++ k.2.more) n (stream ++ k.0)) (sym c.hear_on.ensures.numbers) k.2.hears.read)
+          (c.push_with-used.ensures.answers _ 0 (stream ++ k.0) k.2.hears.after) (c.push_with-used.ensures.stretch _ 0 (stream ++ k.0) k.2.hears.after) some fits (c.hear_on.ensures.heard ∙ ap (λ n. n + used) k.2.hears.heard)
           c.in_ok-count.ensures.on in (
             k.0 ++ take used rest,
             parts_on c.args.piece.now k.0 rest used k.1 ∙ ap (λ x. (k.0 ++ take used rest) ++ x) (sym c.split_at.ensures.back),
@@ -32,7 +32,7 @@ loop-rest-preserved g c =
               more = step.0;
               handed = step.1;
               hears = record {
-                after = subst (λ x. IsBehind in_array g.row.N 0 c.push-used.new.receiver x) (append_assoc stream k.0 (take used rest)) (c.push-used.ensures.stands (stream ++ k.0) k.2.hears.after);
+                after = subst (λ x. IsBehind in_array g.row.N 0 c.push_with-used.new.self x) (append_assoc stream k.0 (take used rest)) (c.push_with-used.ensures.stands _ 0 (stream ++ k.0) k.2.hears.after);
                 read = rw (sym (append_assoc stream k.0 (take used rest))) step.2;
                 heard =
                     let long = length-append (stream ++ k.0) (take used rest) in
@@ -42,6 +42,9 @@ loop-rest-preserved g c =
               };
             },
           ));
+      so_far =
+          let so_far = c.loop-rest.invariant.so_far in
+          handed_more g.met.V.Visitor.laws c.push_with-used.result.answer _ _ _ _ _ _ _ so_far.0 so_far.1 c.in_ok-count.ensures.on;
       on = omega (arith, heard_is, left, c.loop-rest.invariant.on);
     }
 

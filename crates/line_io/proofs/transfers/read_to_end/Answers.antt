@@ -7,12 +7,12 @@ pub returns-then-is_err-clause-memory : goal.returns-then-is_err-clause-memory
 returns-then-is_err-clause-memory g c h =
     let i = c.loop-n.invariant in
     let same : c.extend_from_slice.new.self.items ≡ c.loop-n.bytes.items = grind (arith, common_steps) in
-    let some = read_some (g.R.Inlet.calls_left c.loop-n.inlet) c.in-Some.n in
+    let some = read_some (g.R.Inlet.line c.loop-n.inlet).calls_left c.in-Some.n in
     let quiet = rw some at c.in-Some.ensures.faults in (
       i.text,
       take c.in-Some.n c.read.new.room,
       same ∙ i.are,
-      (Gave-then _ _ _ _ _ _ _ _ i.gave c.in-Some.ensures.bytes, quiet ∙ (let e = i.quiet in omega arith)),
+      (Gave-then _ _ _ _ _ i.gave c.in-Some.ensures.bytes, quiet ∙ (let e = i.quiet in omega arith)),
     )
 
 pub returns-in-None-clause-ended : goal.returns-in-None-clause-ended

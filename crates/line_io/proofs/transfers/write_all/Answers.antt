@@ -12,7 +12,7 @@ loop-rest-preserved g c =
     let some : 0 < unwrap_or c.write.result 0 = rw (← c.unwrap_or-taken.ensures) (omega arith) in
     let moved : moved_front c.write.result c.loop-rest.rest.now ≡ front =
     moved_is c.write.result c.loop-rest.rest.now ∙ rw (← c.unwrap_or-taken.ensures) (sym c.split_at.ensures.front) in
-    let none = moved_no_fault (g.W.Outlet.calls_left c.loop-rest.outlet) c.write.result c.loop-rest.rest.now some in
+    let none = moved_no_fault (g.W.Outlet.line c.loop-rest.outlet).calls_left c.write.result c.loop-rest.rest.now some in
     let filled : length front ≡ unwrap_or c.write.result 0 = search rules in
     record {
       sent = i.sent ++ front;

@@ -6,9 +6,9 @@ abbrev pub invariant-loop-rest : goal.invariant-loop-rest
 invariant-loop-rest g l = record {
   sent : List ℕ;
   are : l.bytes ≡ sent ++ l.rest;
-  out : WentOut (g.W.Outlet.written l.fn.outlet) (g.W.Outlet.written l.outlet) (g.W.Outlet.faults l.fn.outlet) (g.W.Outlet.faults l.outlet) sent;
-  calls : g.W.Outlet.calls_left l.outlet ≤ g.W.Outlet.calls_left l.fn.outlet;
-  few : g.W.Outlet.calls_left l.fn.outlet ≤ g.W.Outlet.calls_left l.outlet + length sent;
+  out : WentOut (g.W.Outlet.line l.fn.outlet) (g.W.Outlet.line l.outlet) sent;
+  calls : (g.W.Outlet.line l.outlet).calls_left ≤ (g.W.Outlet.line l.fn.outlet).calls_left;
+  few : (g.W.Outlet.line l.fn.outlet).calls_left ≤ (g.W.Outlet.line l.outlet).calls_left + length sent;
 }
 
 abbrev pub decreases-loop-rest : goal.decreases-loop-rest

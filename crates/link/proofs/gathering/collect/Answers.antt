@@ -1,20 +1,20 @@
 use Rattle.std.proofs.Common.{[], ◌++◌, take, refl, sym, ◌∙◌}
-use Rattle.line_io.specs.Calls.{Gave-then}
+use Rattle.line_io.specs.Calls.{Gave-none, Gave-then}
 use Rattle.postcard.specs.Gathers.{sentinel_of}
-use Rattle.link.proofs.HearingLemmas.{on_ok, on_err, gave_none, read_quiet}
+use Rattle.link.proofs.HearingLemmas.{on_ok, on_err, read_quiet}
 use Rattle.link.proofs.HandingLemmas.{uses_none, uses_then, uses_read, uses_last, taken_some}
 use Rattle.link.proofs.FetchingLemmas.{gathers_no_bytes, gathers_more}
 use Rattle.link.proofs.gathering.collect.Goals as goal
 
 pub loop-n-init : goal.loop-n-init
-loop-n-init g c = (uses_none _ _ _, [], gave_none _ _, refl, gathers_no_bytes _ _ _ _ _ _ _, refl)
+loop-n-init g c = (uses_none _, [], Gave-none _, refl, gathers_no_bytes _ _ _ _ _ _ _, refl)
 
 pub returns-then-is_err-clause-gathered : goal.returns-then-is_err-clause-gathered
 returns-then-is_err-clause-gathered g c =
     let k = c.loop-n.invariant in
     let e = on_err c.gather.result _ (sym c.is_err.ensures.value ∙ c.if-is_err.true) c.gather.ensures.err in (
       k.1 ++ take c.in-Some.n c.read.new.room,
-      (Gave-then _ _ _ _ _ _ _ _ k.2 c.in-Some.ensures.bytes, read_quiet _ _ _ _ _ c.in-Some.ensures.faults k.3),
+      (Gave-then _ _ _ _ _ k.2 c.in-Some.ensures.bytes, read_quiet _ _ _ _ _ c.in-Some.ensures.faults k.3),
       (e.0, e.1, e.2, gathers_more _ _ _ _ _ _ _ k.1 (take c.in-Some.n c.read.new.room) _ _ _ _ _ (sentinel_of c.loop-n.accumulator) k.5 k.4 e.3),
     )
 
@@ -22,13 +22,13 @@ pub loop-n-preserved : goal.loop-n-preserved
 loop-n-preserved g c =
     let k = c.loop-n.invariant in
     let e = on_ok c.gather.result _ (sym c.is_err.ensures.value ∙ c.if-is_err.false) c.gather.ensures.ok in (
-      uses_then _ _ _ _ _ _ _ _ _ _ c.loop-n.invariant.0 (uses_read _ _ _ _ _ _ _ c.in-Some.ensures.bytes c.in-Some.ensures.calls (taken_some _ _ c.in-Some.n-test.1 c.in-Some.ensures.bound)),
+      uses_then _ _ _ _ c.loop-n.invariant.0 (uses_read _ _ _ c.in-Some.ensures.bytes c.in-Some.ensures.calls (taken_some _ _ c.in-Some.n-test.1 c.in-Some.ensures.bound)),
       k.1 ++ take c.in-Some.n c.read.new.room,
-      Gave-then _ _ _ _ _ _ _ _ k.2 c.in-Some.ensures.bytes,
+      Gave-then _ _ _ _ _ k.2 c.in-Some.ensures.bytes,
       read_quiet _ _ _ _ _ c.in-Some.ensures.faults k.3,
       gathers_more _ _ _ _ _ _ _ k.1 (take c.in-Some.n c.read.new.room) _ _ _ _ _ (sentinel_of c.loop-n.accumulator) k.5 k.4 e,
       c.gather.ensures.sentinel ∙ k.5,
     )
 
 pub returns-then-is_err-clause-calls : goal.returns-then-is_err-clause-calls
-returns-then-is_err-clause-calls g c = uses_then _ _ _ _ _ _ _ _ _ _ c.loop-n.invariant.0 (uses_last _ _ _ _ _ _ _ c.in-Some.ensures.bytes c.in-Some.ensures.calls)
+returns-then-is_err-clause-calls g c = uses_then _ _ _ _ c.loop-n.invariant.0 (uses_last _ _ _ c.in-Some.ensures.bytes c.in-Some.ensures.calls)

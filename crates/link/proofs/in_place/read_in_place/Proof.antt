@@ -56,8 +56,8 @@ read_in_place_spec 𝓤 𝓛 𝓜 𝓡 wired T L gd dd gr dr dx P met_d met_r me
     calls_at ! (framed 𝓤 H 𝓜 𝓣) G₁ (read_met.met 𝓤 𝓛 𝓜 𝓡 (code.calls-link::in_place::read_in_place_with_sentinel 𝓡.env wired) T L gd dd gr dr dx P₁ (λ κs' e. subst Bound (sym e) (met_d κs p)) met_r met_x) z₁
     (and_then ! (get ! refl) (and_then ! (get ! refl) (and_then ! (lit ! tt) (no_more !)))) (λ u.
     use1 𝓛 (later (some (λ (r : Res.Denot). ((t₀ ⊛ t₁ ⊛ ‵ ftrue) ⊛ ‵ (Res.own_val r (u ∷ []))) ⊛
-    some (λ (ls : Lasts E₁ z₁.0.0 z₁.0.3). ‵ (lasts E₁ z₁.0.0 z₁.0.3 ls) ⊛ raw (fact 𝓤 (IfSome r (λ q. ReadsNext gr.takes gr.reads (unpadded (masked 0 me.now)) q.0 (masked 0 q.1.now))))
-    ⊛ raw (fact 𝓤 (IfNone r (unpadded (masked 0 me.now) ≡ []))) ⊛ raw (fact 𝓤 (IfSome r (λ q. OnErr q.0 (gr.growing ≡ true)))) ⊛ ‵ (KeptUnlessEnded me r))))) (id⊢ 𝓤 _) $
+    some (λ (ls : Lasts E₁ z₁.0.0 z₁.0.3). ‵ (lasts E₁ z₁.0.0 z₁.0.3 ls) ⊛ raw (fact 𝓤 (IfSome r (λ q. ReadsNext gr.form.takes gr.form.reads (unpadded (masked 0 me.now)) q.0 (masked 0 q.1.now))))
+    ⊛ raw (fact 𝓤 (IfNone r (unpadded (masked 0 me.now) ≡ []))) ⊛ raw (fact 𝓤 (IfSome r (λ q. OnErr q.0 (gr.form.growing ≡ true)))) ⊛ ‵ (KeptUnlessEnded me r))))) (id⊢ 𝓤 _) $
     await ! tt $ pick ! (λ r. split ! $ move ! (1 ∷ []) $ pick ! (λ ls. split ! $ drop ! $ split ! $ heard ! _ (λ some'. split ! $ heard ! _ (λ none'. split ! $ heard ! _ (λ memory.
     move ! (1 ∷ []) $ split ! $ move ! (1 ∷ []) $
     -- [the answer; the tokens; what is lent]
@@ -65,8 +65,8 @@ read_in_place_spec 𝓤 𝓛 𝓜 𝓡 wired T L gd dd gr dr dx P met_d met_r me
     lands_as ! refl refl ((lawful_found 𝓛 α T L).typed r (u ∷ []) has).0 $ returns ! (look_at ! 0 refl) $ free_all ! refl $
     -- what is owed: the tokens, nothing of the parameters, the result, and the four clauses
     move ! (2 ∷ []) $
-    use0 𝓛 (raw (fact 𝓤 (IfSome r (λ q. OnErr q.0 (gr.growing ≡ true))))) (fact_i 𝓤 _ (emp 𝓤) memory) $ join ! $
+    use0 𝓛 (raw (fact 𝓤 (IfSome r (λ q. OnErr q.0 (gr.form.growing ≡ true))))) (fact_i 𝓤 _ (emp 𝓤) memory) $ join ! $
     use0 𝓛 (raw (fact 𝓤 (IfNone r (unpadded me.now ≡ [])))) (fact_i 𝓤 _ (emp 𝓤) (zero_blank me.now r none')) $ join ! $
-    use0 𝓛 (raw (fact 𝓤 (IfSome r (λ q. ReadsNext gr.takes gr.reads (unpadded me.now) q.0 q.1.now)))) (fact_i 𝓤 _ (emp 𝓤) (zero_reads gr.takes gr.reads me.now r some')) $ join ! $
+    use0 𝓛 (raw (fact 𝓤 (IfSome r (λ q. ReadsNext gr.form.takes gr.form.reads (unpadded me.now) q.0 q.1.now)))) (fact_i 𝓤 _ (emp 𝓤) (zero_reads gr.form.takes gr.form.reads me.now r some')) $ join ! $
     nothing ! $ nothing ! $ fjoin ! $ nothing ! $ fjoin ! $ keep ! (3 ∷ 0 ∷ 2 ∷ 1 ∷ []) $
     by ! (leaves 𝓛 En hs c y u r (tt, (tt, tt)) (tt, (tt, tt))))))))))))))

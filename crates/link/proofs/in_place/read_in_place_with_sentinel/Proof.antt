@@ -98,16 +98,16 @@ read_in_place_with_sentinel_spec 𝓤 𝓛 𝓜 𝓡 wired T L gd dd gr dr dx P 
     move ! (1 ∷ 0 ∷ []) $ join ! $ use1 𝓛 (raw (G₂.pre z₂)) (id⊢ 𝓤 _) $
     calls_at ! (framed 𝓤 H 𝓜 𝓣) G₂ (read_met.met 𝓤 𝓛 𝓜 𝓡 (code.calls-link::in_place::read_next 𝓡.env wired) T L gd dd gr dr dx P₂ (λ κs' e. subst Bound (sym e) (met_d κs p)) met_r met_x) z₂ (and_then ! (get ! refl) (and_then ! (get ! refl) (and_then ! (get ! refl) (and_then ! (get ! refl) (no_more !))))) (λ u.
     use1 𝓛 (later (some (λ (r : Res.Denot). ((t₀ ⊛ t₁ ⊛ ‵ ftrue) ⊛ ‵ (Res.own_val r (u ∷ []))) ⊛
-    some (λ (ls : Lasts E₂ z₂.0.0 z₂.0.3). ‵ (lasts E₂ z₂.0.0 z₂.0.3 ls) ⊛ raw (fact 𝓤 ((bytes : List ℕ) → IsNext sentinel x.0 bytes c₁ → AnswersNext gr.takes gr.reads gr.growing sentinel bytes r)))))) (id⊢ 𝓤 _) $
+    some (λ (ls : Lasts E₂ z₂.0.0 z₂.0.3). ‵ (lasts E₂ z₂.0.0 z₂.0.3 ls) ⊛ raw (fact 𝓤 ((bytes : List ℕ) → IsNext sentinel x.0 bytes c₁ → AnswersNext gr.form.takes gr.form.reads gr.form.growing sentinel bytes r)))))) (id⊢ 𝓤 _) $
     await ! tt $ pick ! (λ r. split ! $ move ! (1 ∷ []) $ pick ! (λ ls'. split ! $ drop ! $ heard ! _ (λ answers. split ! $ move ! (1 ∷ []) $
     -- [the answer; the tokens; nothing; what is lent]
     peeks ! Res _ (shows 𝓛 Res) r (u ∷ []) (λ has'.
-    let told : AnswersNext gr.takes gr.reads gr.growing sentinel me.now r = answers me.now next in
+    let told : AnswersNext gr.form.takes gr.form.reads gr.form.growing sentinel me.now r = answers me.now next in
     lands_as ! refl refl ((lawful_found 𝓛 α T L).typed r (u ∷ []) has').0 $ returns ! (look_at ! 0 refl) $ free_all ! refl $
     -- what is owed: the tokens, nothing of the parameters, the result, and the four clauses
-    move ! (3 ∷ []) $ use1 𝓛 (‵ (KeptUnlessEnded me r)) (kept_unless_ended 𝓛 gr.takes gr.reads gr.growing sentinel x.0 me x.1 same_bytes same_name c₁ r next told) $
-    use0 𝓛 (raw (fact 𝓤 (IfSome r (λ q. OnErr q.0 (gr.growing ≡ true))))) (fact_i 𝓤 _ (emp 𝓤) told.memory) $ join ! $
+    move ! (3 ∷ []) $ use1 𝓛 (‵ (KeptUnlessEnded me r)) (kept_unless_ended 𝓛 gr.form.takes gr.form.reads gr.form.growing sentinel x.0 me x.1 same_bytes same_name c₁ r next told) $
+    use0 𝓛 (raw (fact 𝓤 (IfSome r (λ q. OnErr q.0 (gr.form.growing ≡ true))))) (fact_i 𝓤 _ (emp 𝓤) told.memory) $ join ! $
     use0 𝓛 (raw (fact 𝓤 (IfNone r (unpadded (masked sentinel me.now) ≡ [])))) (fact_i 𝓤 _ (emp 𝓤) told.none) $ join ! $
-    use0 𝓛 (raw (fact 𝓤 (IfSome r (λ q. ReadsNext gr.takes gr.reads (unpadded (masked sentinel me.now)) q.0 (masked sentinel q.1.now))))) (fact_i 𝓤 _ (emp 𝓤) told.some) $ join ! $
+    use0 𝓛 (raw (fact 𝓤 (IfSome r (λ q. ReadsNext gr.form.takes gr.form.reads (unpadded (masked sentinel me.now)) q.0 (masked sentinel q.1.now))))) (fact_i 𝓤 _ (emp 𝓤) told.some) $ join ! $
     nothing ! $ nothing ! $ fjoin ! $ nothing ! $ fjoin ! $ nothing ! $ fjoin ! $ keep ! (3 ∷ 0 ∷ 2 ∷ 1 ∷ []) $
     by ! (leaves 𝓛 En hs c y u r (tt, (tt, (tt, tt))) (tt, (tt, (tt, tt))))))))))))))))))))))))))))

@@ -14,7 +14,7 @@ loop-i-preserved g c =
       sentinel = c.send_one.ensures.sentinel ∙ kept;
       sent =
           rw (take_more c.args.values.now i value c.loop-i-test.true ∙ ap (λ v. take i c.args.values.now ++ v ∷ []) (sym c.index-values-i.is), take_more_set c.loop-i.fates i c.send_one.result short)
-          (one_sent _ _ _ _ _ _ _ _ _ _ _ _ _ _ _ _ _ _ _ _ c.loop-i.invariant.sent one);
+          (one_sent _ _ _ _ _ _ _ _ _ _ _ _ _ _ c.loop-i.invariant.sent one);
     }
 
 pub loop-i-init : goal.loop-i-init

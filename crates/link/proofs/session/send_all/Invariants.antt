@@ -8,6 +8,5 @@ abbrev pub invariant-loop-i : goal.invariant-loop-i
 invariant-loop-i g l = record {
   sentinel : sentinel_of l.sender ≡ sentinel_of l.fn.sender;
   sent : SendsAll g.row.N (sentinel_of l.fn.sender) g.T.Serialize.writes g.T.Serialize.valid (clean_of l.fn.sender) (clean_of l.sender)
-      (g.W.Outlet.written (writer_of l.fn.sender)) (g.W.Outlet.written (writer_of l.sender)) (g.W.Outlet.faults (writer_of l.fn.sender)) (g.W.Outlet.faults (writer_of l.sender))
-      (g.W.Outlet.calls_left (writer_of l.fn.sender)) (g.W.Outlet.calls_left (writer_of l.sender)) (take l.i l.values) (take l.i l.fates);
+      (g.W.Outlet.line (writer_of l.fn.sender)) (g.W.Outlet.line (writer_of l.sender)) (take l.i l.values) (take l.i l.fates);
 }

@@ -15,13 +15,13 @@ loop-at-preserved g c =
       few = omega (arith, c.write.ensures.calls, c.loop-at.invariant.few, c.if-taken-eq0.false);
       calls = omega (arith, c.write.ensures.calls, c.loop-at.invariant.calls);
       quiet = quiet_write _ _ _ _ _ _ n c.unwrap_or-taken.ensures c.write.ensures.faults c.loop-at.invariant.quiet c.if-taken-eq0.false;
-      written = subst (λ b. Wrote (g.W.Outlet.written c.args.outlet.now) (g.W.Outlet.written c.write.new.self) (g.W.Outlet.faults c.args.outlet.now) (g.W.Outlet.faults c.write.new.self) b)
-          (moved_more bytes at n c.write.result c.unwrap_or-taken.ensures) (Wrote-then _ _ _ _ _ _ _ _ c.loop-at.invariant.written c.write.ensures.bytes);
+      written = subst (λ b. Wrote (g.W.Outlet.line c.args.outlet.now) (g.W.Outlet.line c.write.new.self) b)
+          (moved_more bytes at n c.write.result c.unwrap_or-taken.ensures) (Wrote-then _ _ _ _ _ c.loop-at.invariant.written c.write.ensures.bytes);
     }
 
 pub returns-then-taken-eq0-clause-once : goal.returns-then-taken-eq0-clause-once
 returns-then-taken-eq0-clause-once g c =
     let bytes = c.args.bytes.now in
     let at = c.loop-at.at in
-    let one = one_fault (g.W.Outlet.calls_left c.loop-at.outlet) c.write.result (take (length bytes - at) (drop at bytes)) in
+    let one = one_fault (g.W.Outlet.line c.loop-at.outlet).calls_left c.write.result (take (length bytes - at) (drop at bytes)) in
     omega (arith, c.write.ensures.faults, one, c.loop-at.invariant.quiet)

@@ -14,7 +14,7 @@ returns-then-k-bytes-clause-fewer g c =
     let l = c.lead_length.result in
     let led = c.put_lead.ensures.all c.if-not-put_lead.false in (
       omega (arith, length-append (lead s clean) bytes, c.lead_length.ensures s, c.if-k-bytes.true),
-      wrote_as _ _ _ _ _ _ (behind_lead s clean bytes k l (c.lead_length.ensures s)) (Wrote-then _ _ _ _ _ _ _ _ led.0 c.put-k.ensures.bytes),
+      wrote_as _ _ _ _ (behind_lead s clean bytes k l (c.lead_length.ensures s)) (Wrote-then _ _ _ _ _ led.0 c.put-k.ensures.bytes),
       elim (c.put-k.ensures.fault c.if-k-bytes.true) [ inl m ↦ inl (omega (arith, led.1)) | inr m ↦ inr m ],
     )
 
@@ -23,6 +23,6 @@ returns-clause-all g c =
     let s = c.args.sentinel in
     let clean = c.args.clean in
     let led = c.put_lead.ensures.all c.if-not-put_lead.false in (
-      wrote_as _ _ _ _ _ _ (ap (λ x. lead s clean ++ x) (take_all c.put-k.result c.args.bytes.now c.if-k-bytes.false)) (Wrote-then _ _ _ _ _ _ _ _ led.0 c.put-k.ensures.bytes),
+      wrote_as _ _ _ _ (ap (λ x. lead s clean ++ x) (take_all c.put-k.result c.args.bytes.now c.if-k-bytes.false)) (Wrote-then _ _ _ _ _ led.0 c.put-k.ensures.bytes),
       c.put-k.ensures.quiet c.if-k-bytes.false ∙ led.1,
     )

@@ -1,7 +1,6 @@
 use Rattle.tokio_util.specs.Codec.Framed.{framed_read}
-use Rattle.link_codec.specs.Decoders.{IsGiven}
 use Rattle.link_codec.proofs.FirstLemmas.{answered_so_far}
 use Rattle.link_codec.proofs.laws.answered_so_far.Goals as goal
 
 pub returns : goal.returns
-returns g c = answered_so_far IsGiven g.J.Judges.holds g.T.Readable.reads g.T.Readable.growing g.R.AsyncRead.reads g.R.AsyncRead.is_at_end g.R.AsyncRead.fails g.met.R.AsyncRead.reads_in_order (framed_read c.args.reader.now)
+returns g c = answered_so_far g.M.MessageReader.judging g.R.AsyncRead.reads g.R.AsyncRead.is_at_end g.R.AsyncRead.fails g.met.R.AsyncRead.reads_in_order (framed_read c.args.reader.now)

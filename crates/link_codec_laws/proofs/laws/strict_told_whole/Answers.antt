@@ -11,5 +11,5 @@ returns g c limit s items run is_run y =
     let all = c.answered_whole.ensures limit s items y.final y.begins y.oks y.yields in
     let heard = all.4 in
     let same = y.brings all.0 all.1 all.2 all.3 in
-    subst (λ vs. AllZip (Matches g.T.Readable.reads) (answers_of items) vs)
-    ((c.told.ensures.strict limit s run heard.verdicts is_run).0 (subst (λ x. Answers (HoldsExactly g.T.Readable.takes) limit s x heard.verdicts) same heard.all)) heard.matching
+    subst (λ vs. AllZip (Matches g.T.Readable.form.reads) (answers_of items) vs)
+    ((c.told.ensures.strict limit s run heard.verdicts is_run).0 (subst (λ x. Answers (HoldsExactly g.T.Readable.form.takes) limit s x heard.verdicts) same heard.all)) heard.matching

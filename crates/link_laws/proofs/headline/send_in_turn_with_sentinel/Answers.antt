@@ -11,9 +11,9 @@ send-second-requires g c = c.requires.sender
 pub returns : goal.returns
 returns g c =
     let law = c.carries.ensures in
-    let x = sent_somehow law c.args.first.now (rw (c.new_with_sentinel-one.ensures.writer, c.new_with_sentinel-one.ensures.clean, c.new_with_sentinel-one.ensures.sentinel) at c.send-first.ensures.sent) c.send-first.ensures.valid in
+    let x = sent_somehow law c.args.first.now (rw (c.new_with_sentinel-one.ensures.writer, c.new_with_sentinel-one.ensures.clean, c.new_with_sentinel-one.ensures.sentinel) at c.send-first.ensures.sent) in
     let y = sent_somehow law c.args.second.now
-    (rw (c.new_with_sentinel-other.ensures.writer, c.new_with_sentinel-other.ensures.clean, c.new_with_sentinel-other.ensures.sentinel, c.into_inner.ensures) at c.send-second.ensures.sent) c.send-second.ensures.valid in
+    (rw (c.new_with_sentinel-other.ensures.writer, c.new_with_sentinel-other.ensures.clean, c.new_with_sentinel-other.ensures.sentinel, c.into_inner.ensures) at c.send-second.ensures.sent) in
     record {
       one = x.0;
       other = y.0;

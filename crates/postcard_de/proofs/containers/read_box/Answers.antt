@@ -14,4 +14,4 @@ returns-in_err-value g c =
     rw (p.1, p.2) (fails_growing c.in_err-value.ensures)
 
 pub returns : goal.returns
-returns g c = no_memory g.T.Readable.refuses c.in_ok-value.ensures.gave
+returns g c = no_memory g.T.Readable.form.refuses c.in_ok-value.ensures.gave

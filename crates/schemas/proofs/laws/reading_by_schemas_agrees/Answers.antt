@@ -2,4 +2,4 @@ use Rattle.schemas.proofs.AgreeingLemmas.{schemas_agree}
 use Rattle.schemas.proofs.laws.reading_by_schemas_agrees.Goals as goal
 
 pub returns : goal.returns
-returns g c = schemas_agree g.met.T.Readable.laws
+returns g c = schemas_agree g.T.Readable.form.laws

@@ -16,6 +16,9 @@ decreases-put_list l = 4 * l.style.depth + 3
 abbrev pub decreases-put_items : goal.decreases-put_items
 decreases-put_items l = 4 * l.style.depth + 1
 
+abbrev pub decreases-put_elements : goal.decreases-put_elements
+decreases-put_elements l = 4 * l.style.depth + 2
+
 abbrev pub decreases-put_pairs : goal.decreases-put_pairs
 decreases-put_pairs l = 4 * l.style.depth + 2
 

@@ -9,6 +9,7 @@ loop-end-preserved c =
     let end = c.loop-end.end in
     record {
       within = omega arith;
+      many = λ _. omega arith;
       same = λ k l. elim (cases_lt k end) [
         | inl b ↦ c.loop-end.invariant.same k b
         | inr b ↦

@@ -1,32 +1,95 @@
 use Rattle.std.proofs.Common.{◌+◌, ◌*◌}
 use Rattle.declarations.proofs.builder.Builder.+types.Given as goal
 
+abbrev pub decreases-alias : goal.decreases-alias
+decreases-alias l = 16 * l.depth + 2
+
+abbrev pub decreases-arguments : goal.decreases-arguments
+decreases-arguments l = 16 * l.depth + 1
+
 abbrev pub decreases-array : goal.decreases-array
-decreases-array l = 4 * l.depth + 1
+decreases-array l = 16 * l.depth + 1
+
+abbrev pub decreases-choice : goal.decreases-choice
+decreases-choice l = 16 * l.depth + 6
+
+abbrev pub decreases-declaration : goal.decreases-declaration
+decreases-declaration l = 16 * l.depth + 7
+
+abbrev pub decreases-field : goal.decreases-field
+decreases-field l = 16 * l.depth + 2
+
+abbrev pub decreases-group : goal.decreases-group
+decreases-group l = 16 * l.depth + 4
 
 abbrev pub decreases-inner : goal.decreases-inner
-decreases-inner l = 4 * l.depth + 1
+decreases-inner l = 16 * l.depth + 1
+
+abbrev pub decreases-instance : goal.decreases-instance
+decreases-instance l = 16 * l.depth + 9
+
+abbrev pub decreases-known : goal.decreases-known
+decreases-known l = 16 * l.depth + 9
+
+abbrev pub decreases-lent : goal.decreases-lent
+decreases-lent l = 16 * l.depth + 1
 
 abbrev pub decreases-list : goal.decreases-list
-decreases-list l = 4 * l.depth + 1
+decreases-list l = 16 * l.depth + 1
 
 abbrev pub decreases-list_up_to : goal.decreases-list_up_to
-decreases-list_up_to l = 4 * l.depth + 1
+decreases-list_up_to l = 16 * l.depth + 1
 
 abbrev pub decreases-map : goal.decreases-map
-decreases-map l = 4 * l.depth + 2
+decreases-map l = 16 * l.depth + 3
+
+abbrev pub decreases-map_up_to : goal.decreases-map_up_to
+decreases-map_up_to l = 16 * l.depth + 3
+
+abbrev pub decreases-key_and_value : goal.decreases-key_and_value
+decreases-key_and_value l = 16 * l.depth + 1
+
+abbrev pub decreases-hashed : goal.decreases-hashed
+decreases-hashed l = 16 * l.depth + 1
+
+abbrev pub decreases-named : goal.decreases-named
+decreases-named l = 16 * l.depth + 11
+
+abbrev pub decreases-made : goal.decreases-made
+decreases-made l = 16 * l.depth + 8
+
+abbrev pub decreases-resolved : goal.decreases-resolved
+decreases-resolved l = 16 * l.depth + 10
 
 abbrev pub decreases-option : goal.decreases-option
-decreases-option l = 4 * l.depth + 2
+decreases-option l = 16 * l.depth + 2
 
 abbrev pub decreases-outcome : goal.decreases-outcome
-decreases-outcome l = 4 * l.depth + 2
+decreases-outcome l = 16 * l.depth + 2
 
 abbrev pub decreases-pair : goal.decreases-pair
-decreases-pair l = 4 * l.depth + 1
+decreases-pair l = 16 * l.depth + 1
+
+abbrev pub decreases-path : goal.decreases-path
+decreases-path l = 16 * l.depth + 12
+
+abbrev pub decreases-payload : goal.decreases-payload
+decreases-payload l = 16 * l.depth + 5
+
+abbrev pub decreases-phantom : goal.decreases-phantom
+decreases-phantom l = 16 * l.depth + 2
 
 abbrev pub decreases-place : goal.decreases-place
-decreases-place l = 4 * l.depth
+decreases-place l = 16 * l.depth
+
+abbrev pub decreases-places : goal.decreases-places
+decreases-places l = 16 * l.depth + 3
 
 abbrev pub decreases-tuple : goal.decreases-tuple
-decreases-tuple l = 4 * l.depth + 1
+decreases-tuple l = 16 * l.depth + 1
+
+abbrev pub decreases-whole : goal.decreases-whole
+decreases-whole l = 16 * l.depth + 1
+
+abbrev pub decreases-worded : goal.decreases-worded
+decreases-worded l = 16 * l.depth + 13

@@ -10,20 +10,20 @@ pub returns-in-Some-clause-goes : goal.returns-in-Some-clause-goes
 returns-in-Some-clause-goes g c limit bytes s =
     let after = c.skip_zeros.ensures.stands limit bytes s in
     let on = c.in_ok-stretch.ensures.goes limit bytes after.0 in
-    let k = found_from g.T.Readable.takes g.T.Readable.reads limit bytes c.args.self.now.at c.skip_zeros.new.self.at c.push.new.self.at c.in_ok-stretch.field-0 after.1 on.1 in
-    (on.0, subst (λ o. Found g.T.Readable.takes g.T.Readable.reads limit bytes c.args.self.now.at c.push.new.self.at o) c.in-Some.is k)
+    let k = found_from g.T.Readable.form.takes g.T.Readable.form.reads limit bytes c.args.self.now.at c.skip_zeros.new.self.at c.push.new.self.at c.in_ok-stretch.field-0 after.1 on.1 in
+    (on.0, subst (λ o. Found g.T.Readable.form.takes g.T.Readable.form.reads limit bytes c.args.self.now.at c.push.new.self.at o) c.in-Some.is k)
 
 pub returns-then-self-2-clause-goes : goal.returns-then-self-2-clause-goes
 returns-then-self-2-clause-goes g c limit bytes s =
     let after = c.skip_zeros.ensures.stands limit bytes s in
     let on = c.in_ok-stretch.ensures.goes limit bytes after.0 in
-    let k = found_from g.T.Readable.takes g.T.Readable.reads limit bytes c.args.self.now.at c.skip_zeros.new.self.at c.push.new.self.at c.in_ok-stretch.field-0 after.1 on.1 in
+    let k = found_from g.T.Readable.form.takes g.T.Readable.form.reads limit bytes c.args.self.now.at c.skip_zeros.new.self.at c.push.new.self.at c.in_ok-stretch.field-0 after.1 on.1 in
     let passed = c.pass-then-self-2.ensures.stands limit bytes on.0 in
-    (passed.0, found_from g.T.Readable.takes g.T.Readable.reads limit bytes c.args.self.now.at c.push.new.self.at c.pass-then-self-2.new.self.at c.pass-then-self-2.result (subst (λ o. Found g.T.Readable.takes g.T.Readable.reads limit bytes c.args.self.now.at c.push.new.self.at o) c.in-None.is k) passed.1)
+    (passed.0, found_from g.T.Readable.form.takes g.T.Readable.form.reads limit bytes c.args.self.now.at c.push.new.self.at c.pass-then-self-2.new.self.at c.pass-then-self-2.result (subst (λ o. Found g.T.Readable.form.takes g.T.Readable.form.reads limit bytes c.args.self.now.at c.push.new.self.at o) c.in-None.is k) passed.1)
 
 pub returns-else-self-2-clause-goes : goal.returns-else-self-2-clause-goes
 returns-else-self-2-clause-goes g c limit bytes s =
     let after = c.skip_zeros.ensures.stands limit bytes s in
     let on = c.in_ok-stretch.ensures.goes limit bytes after.0 in
-    let k = found_from g.T.Readable.takes g.T.Readable.reads limit bytes c.args.self.now.at c.skip_zeros.new.self.at c.push.new.self.at c.in_ok-stretch.field-0 after.1 on.1 in
-    (on.0, subst (λ o. Found g.T.Readable.takes g.T.Readable.reads limit bytes c.args.self.now.at c.push.new.self.at o) c.in-None.is k)
+    let k = found_from g.T.Readable.form.takes g.T.Readable.form.reads limit bytes c.args.self.now.at c.skip_zeros.new.self.at c.push.new.self.at c.in_ok-stretch.field-0 after.1 on.1 in
+    (on.0, subst (λ o. Found g.T.Readable.form.takes g.T.Readable.form.reads limit bytes c.args.self.now.at c.push.new.self.at o) c.in-None.is k)

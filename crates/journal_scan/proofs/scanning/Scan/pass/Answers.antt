@@ -32,6 +32,6 @@ returns-then-byte-eq0 g c = record {
       let inside : me.start < length room = search rules in
       let b = c.index-byte.result.now in
       let byte : get_or room me.start b ≡ 0 = get_or-take me.end me.room.items me.start b (omega arith) ∙ sym c.index-byte.ensures ∙ c.if-byte-eq0.true in
-      let next = stands_passed old.0 (HoldsExactly (takes_record g.T.Readable.takes)) (reads_record g.T.Readable.reads) c.restart.new.self (drop (me.start + 1) room) c.loop-self.invariant.past (drop_more room me.start b inside ∙ ap (λ x. x ∷ drop (me.start + 1) room) byte) (c.restart.ensures.anew limit 0 (take me.at bytes) old.0.behind) in
+      let next = stands_passed old.0 (HoldsExactly (takes_record g.T.Readable.form.takes)) (reads_record g.T.Readable.form.reads) c.restart.new.self (drop (me.start + 1) room) c.loop-self.invariant.past (drop_more room me.start b inside ∙ ap (λ x. x ∷ drop (me.start + 1) room) byte) (c.restart.ensures.anew limit 0 (take me.at bytes) old.0.behind) in
       (next.0, next_from old.1 next.1);
 }

@@ -12,10 +12,10 @@ pub returns-in_ok-cut_out-in-Some-clause-again : goal.returns-in_ok-cut_out-in-S
 returns-in_ok-cut_out-in-Some-clause-again c numbers t l = (λ e. absurd (never e), λ h. absurd (not_counted_late t c.in-Some.i c.args.number c.in-Some.ensures.0 c.in-Some.ensures.1 c.in-Some.ensures.2 h))
 
 pub returns-in-None-clause-put : goal.returns-in-None-clause-put
-returns-in-None-clause-put c numbers t = one_again t c.args.number c.if-number-self.true c.in-None.ensures
+returns-in-None-clause-put c numbers t = one_again t c.args.number c.if-number-self.true (c.in-None.ensures t.apart)
 
 pub returns-in-None-clause-again : goal.returns-in-None-clause-again
-returns-in-None-clause-again c numbers t l = (λ _. was_counted t c.args.number c.if-number-self.true c.in-None.ensures, λ _. refl)
+returns-in-None-clause-again c numbers t l = (λ _. was_counted t c.args.number c.if-number-self.true (c.in-None.ensures t.apart), λ _. refl)
 
 pub returns-clause-put : goal.returns-clause-put
 returns-clause-put c numbers t = counted_next t c.args.number _ _ c.if-number-self.false (search rules) c.saturating_add-self.ensures c.in_ok-pass_to.ensures.ahead

@@ -113,7 +113,7 @@ push_ref_spec 𝓤 𝓛 𝓜 𝓡 wired D T LD L gc dc gd dd gr dr dx P met_c me
     let Bound : Lft → Type 2 = λ κ. bound.Met 𝓛 𝓜 𝓡 𝓡.env T (shr_slice_field (record { mir = erased; lft = κ }) u8 tt).row gd dd gr dr bytes.ghosts bytes.dict in
     let E₂ = reads.ended T gd dd gr dr dx P₂ in
     let G₂ = triple_of 𝓛 (reads.signature T) (reads.spec T gd dd gr dr dx P₂ 𝓛 𝓜.mem 𝓡.returns) in
-    let Answered' : Res.Denot → Type 0 = λ r. AnswersBy gc.inside gr.takes gr.reads gr.growing me.now input.now r in
+    let Answered' : Res.Denot → Type 0 = λ r. AnswersBy gc.inside gr.form.takes gr.form.reads gr.form.growing me.now input.now r in
     qed 𝓛 (((t₀ ⊛ t₁ ⊛ t₂ ⊛ t₃ ⊛ ‵ ftrue) ⊛ ‵ ((MutRef (named 0) κs.0 R).own_val me us) ⊛ ‵ (Global.own_val alloc gs) ⊛ ‵ ((ShrSlice (named 1) κs.1.0 u8).own_val input is) ⊛ ‵ ftrue)
     ∷ (raw (fact 𝓤 (κs.1.1.0 ⊑ D.lives)) ⊛ raw (fact 𝓤 (κs.1.1.1.0 ⊑ T.lives)) ⊛ raw (fact 𝓤 (P κs)) ⊛ ‵ ftrue) ∷ []) ∵
     move ! (1 ∷ []) $ split ! $ heard ! _ (λ n_lives. split ! $ heard ! _ (λ t_lives. split ! $ heard ! _ (λ p. drop ! $
@@ -143,15 +143,15 @@ push_ref_spec 𝓤 𝓛 𝓜 𝓡 wired D T LD L gc dc gd dd gr dr dx P met_c me
     move ! (1 ∷ 0 ∷ []) $ join ! $ use1 𝓛 (raw (G₂.pre z₂)) (id⊢ 𝓤 _) $
     calls_at ! (framed 𝓤 H 𝓜 𝓣) G₂ (read_met.met 𝓤 𝓛 𝓜 𝓡 (code.calls-link::lent::pushed 𝓡.env wired) T L gd dd gr dr dx P₂ (λ κs' e. subst Bound (sym e) (met_d κs p)) met_r met_x) z₂ (and_then ! (get ! refl) (and_then ! (get ! refl) (no_more !))) (λ u.
     use1 𝓛 (later (some (λ (r : Res.Denot). ((t₀ ⊛ t₃ ⊛ ‵ ftrue) ⊛ ‵ (Res.own_val r (u ∷ []))) ⊛
-    some (λ (ls : Lasts E₂ z₂.0.0 z₂.0.3). ‵ (lasts E₂ z₂.0.0 z₂.0.3 ls) ⊛ raw (fact 𝓤 (ReadsLent gr.takes gr.reads gr.growing x r)))))) (id⊢ 𝓤 _) $
+    some (λ (ls : Lasts E₂ z₂.0.0 z₂.0.3). ‵ (lasts E₂ z₂.0.0 z₂.0.3 ls) ⊛ raw (fact 𝓤 (ReadsLent gr.form.takes gr.form.reads gr.form.growing x r)))))) (id⊢ 𝓤 _) $
     await ! tt $ pick ! (λ r. split ! $ move ! (1 ∷ []) $ pick ! (λ ls'. split ! $ drop ! $ heard ! _ (λ answers. split ! $ move ! (1 ∷ []) $
     -- [the answer; two tokens; a token; nothing; a token; what it ends as]
     peeks ! Res _ (shows 𝓛 Res) r (u ∷ []) (λ has'.
-    let stand = lent_stands gc.inside gr.takes gr.reads gr.growing me.now input.now x r stepped answers in
+    let stand = lent_stands gc.inside gr.form.takes gr.form.reads gr.form.growing me.now input.now x r stepped answers in
     lands_as ! refl refl ((lawful_pushed 𝓛 T L).typed r (u ∷ []) has').0 $ returns ! (look_at ! 0 refl) $ free_all ! refl $
     -- what is owed: the tokens, nothing of the parameters, the result, and the two clauses
     move ! (1 ∷ []) $ split ! $ move ! (1 ∷ []) $ move ! (3 ∷ 0 ∷ []) $ join ! $ move ! (4 ∷ 0 ∷ []) $ join ! $ move ! (1 ∷ 0 ∷ []) $ join ! $
     move ! (3 ∷ []) $ use1 𝓛 (‵ (Ends R me.ghost_name (λ m. StandsBy gc.inside me.now input.now r m))) (ends_as 𝓛 R me.ghost_name (λ m. Leads gc.inside me.now input.now m) (λ m. StandsBy gc.inside me.now input.now r m) stand) $
-    use0 𝓛 (raw (fact 𝓤 (Answered' r))) (fact_i 𝓤 _ (emp 𝓤) (lent_answers gc.inside gr.takes gr.reads gr.growing me.now input.now x r stepped answers)) $ join ! $
+    use0 𝓛 (raw (fact 𝓤 (Answered' r))) (fact_i 𝓤 _ (emp 𝓤) (lent_answers gc.inside gr.form.takes gr.form.reads gr.form.growing me.now input.now x r stepped answers)) $ join ! $
     nothing ! $ nothing ! $ fjoin ! $ nothing ! $ fjoin ! $ nothing ! $ fjoin ! $ keep ! (2 ∷ 0 ∷ 3 ∷ 1 ∷ []) $
     by ! (leaves 𝓛 En hs c y u r (tt, (tt, (tt, tt))) (tt, (tt, (tt, tt)))))))))))))))))))

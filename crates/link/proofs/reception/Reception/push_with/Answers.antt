@@ -1,8 +1,8 @@
 use Rattle.std.proofs.Common.{refl}
 use Rattle.link.specs.Stream.{begun}
 use Rattle.link.specs.Receivers.{IsAt}
-use Rattle.link.proofs.AnsweringLemmas.{behind_after, answered}
-use Rattle.link.proofs.SpanningLemmas.{stretch_of}
+use Rattle.link.specs.AnswerLaws.{behind_after, answered}
+use Rattle.link.specs.SpanLaws.{stretch_of}
 use Rattle.link.proofs.reception.Reception.push_with.Goals as goal
 
 pub returns-clause-stands : goal.returns-clause-stands
@@ -12,9 +12,9 @@ returns-clause-stands g c limit s stream h =
 pub returns-clause-answers : goal.returns-clause-answers
 returns-clause-answers g c limit s stream h =
     let t = c.take-taken.ensures.taken limit s (begun limit s stream) h in
-    answered (g.M.MessageReader.holds c.args.messages.now) limit s (begun limit s stream) c.args.piece.now stream refl (g.M.MessageReader.reads c.args.messages.now) _ _ t.used (c.read.ensures.replies limit _ (c.lend.ensures.same limit _ t))
+    answered (g.M.MessageReader.judging c.args.messages.now).holds limit s (begun limit s stream) c.args.piece.now stream refl (g.M.MessageReader.judging c.args.messages.now).reads _ _ t.used (c.read.ensures.replies limit _ (c.lend.ensures.same limit _ t))
 
 pub returns-clause-stretch : goal.returns-clause-stretch
 returns-clause-stretch g c limit s stream h =
     let t = c.take-taken.ensures.taken limit s (begun limit s stream) h in
-    stretch_of (g.M.MessageReader.holds c.args.messages.now) (g.M.MessageReader.reads c.args.messages.now) limit s stream c.args.piece.now _ _ _ t.used (c.read.ensures.replies limit _ (c.lend.ensures.same limit _ t)) t.span
+    stretch_of (g.M.MessageReader.judging c.args.messages.now).holds (g.M.MessageReader.judging c.args.messages.now).reads limit s stream c.args.piece.now _ _ _ t.used (c.read.ensures.replies limit _ (c.lend.ensures.same limit _ t)) t.span

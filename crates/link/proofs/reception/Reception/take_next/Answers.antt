@@ -9,7 +9,8 @@ use Rattle.link.proofs.FetchingLemmas.{has_bytes}
 use Rattle.link.specs.Finds.{front_of}
 use Rattle.link.proofs.SpanningLemmas.{limit_at, sentinel_at}
 use Rattle.link.proofs.ReceivingLemmas.{kept_is}
-use Rattle.link.proofs.RunsLemmas.{run_of, none_kept, span_at, past_brings, run_brings, whole_brings, sentinel_brings, sentinel_behind}
+use Rattle.link.specs.RunLaws.{run_of, none_kept, past_brings, run_brings, whole_brings, sentinel_brings, sentinel_behind}
+use Rattle.link.proofs.RunsLemmas.{span_at}
 use Rattle.link.proofs.reception.Reception.take_next.Goals as goal
 
 pub take_whole-requires : goal.take_whole-requires

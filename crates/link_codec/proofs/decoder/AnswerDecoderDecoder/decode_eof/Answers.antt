@@ -1,6 +1,5 @@
 use Rattle.std.proofs.Math.Logic.{∥∥₁_map}
-use Rattle.std.proofs.Common.{[]}
-use Rattle.link_codec.specs.Decoders.{IsGiven}
+use Rattle.std.proofs.Common.{[], refl}
 use Rattle.link_codec.proofs.DecodingLemmas.{decodes_end}
 use Rattle.link_codec.proofs.decoder.AnswerDecoderDecoder.decode_eof.Goals as goal
 
@@ -9,5 +8,5 @@ invariant_of-self g c = record { stands = ∥∥₁_map c.decode.new.self.stands
 
 pub returns-in-None : goal.returns-in-None
 returns-in-None g c =
-    decodes_end IsGiven g.J.Judges.holds g.T.Readable.reads g.T.Readable.growing _ c.decode.new.self _ _ _ _ (rw c.in-None.is at c.in_ok-answer.ensures.next) (rw c.in-None.is at c.in_ok-answer.ensures.all)
-    c.restart.ensures.anew c.restart.ensures.answer
+    decodes_end g.M.MessageReader.judging _ c.decode.new.self _ _ _ _ (rw c.in-None.is at c.in_ok-answer.ensures.next) (rw c.in-None.is at c.in_ok-answer.ensures.all)
+    c.restart.ensures.anew refl c.restart.ensures.answer

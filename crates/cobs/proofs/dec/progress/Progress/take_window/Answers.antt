@@ -1,5 +1,5 @@
-use Rattle.std.proofs.Common.{◌≡◌, ◌+◌, ◌-◌, ◌<◌, ◌≤◌, ℕ, List, true, length, take, drop, replicate, get_or, length-drop, refl, sym, ◌∙◌, ap, arith}
-use Rattle.std.proofs.lemmas.List.{length-take, length-take-le, get_or-take, take-take}
+use Rattle.std.proofs.Common.{◌≡◌, ◌<◌, ◌≤◌, ℕ, List, true, length, take, replicate, get_or, refl, sym, ◌∙◌, ap, arith}
+use Rattle.std.proofs.lemmas.List.{length-take-le, length-replicate, get_or-take, take-take}
 use Rattle.std.specs.Prelude.{bit_xor}
 use Rattle.cobs.specs.Feeding.{stands_by}
 use Rattle.cobs.specs.Frames.{part_from, after}
@@ -34,11 +34,10 @@ returns-then-ones-gt0-clause-front c p s =
     ∙ ap (bit_xor key) (sym (get_or-take most piece k 0 (omega (arith, l, few))) ∙ c.same_by_64-ones.ensures.same k l)
     ∙ xor_twice key 1 in
     let zeros = of_ones (take n bytes) (λ k l. ones k (omega (arith, l, long))) in
-    let room : length (take (len + n - len) (drop len old)) ≡ n = length-take (len + n - len) (drop len old) ∙ omega (arith, length-drop len old) in
-    let filled : c.fill.new.self ≡ replicate (length (take n bytes)) 0 = c.fill.ensures.after (λ y e. e) ∙ ap (λ k. replicate k 0) (room ∙ sym long) in
-    front_written p bytes old c.fill.new.self _ c.args.self.now n 0 true _ s at.0 at.1
-    (omega (arith, within, same)) (λ j l. omega (arith, ones j l)) (omega arith) (omega arith) (omega arith) (filled ∙ sym zeros.0) (c.fill.auto.self ∙ room)
-    (part_written old c.fill.new.self len _ (omega (arith, c.fill.auto.self, room))) (state ∙ sym (ap stands_by zeros.1))
+    let none : length (replicate n 0) ≡ n = length-replicate {A = ℕ} n 0 in
+    front_written p bytes old (replicate n 0) _ c.args.self.now n 0 true _ s at.0 at.1
+    (omega (arith, within, same)) (λ j l. omega (arith, ones j l)) (omega arith) (omega arith) (omega arith) (ap (λ k. replicate k 0) (sym long) ∙ sym zeros.0) none
+    c.zero_over.ensures (state ∙ sym (ap stands_by zeros.1))
 
 -- up to a sentinel
 pub decode_window-self-requires-clause-nonzero : goal.decode_window-self-requires-clause-nonzero

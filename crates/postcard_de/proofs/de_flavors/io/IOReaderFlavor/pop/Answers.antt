@@ -13,7 +13,7 @@ returns-then-not-fill-clause-reads g c =
     let s = c.args.self.now in
     let room = length (ahead_of s.buffer.span) in
     let one = c.fill.auto.buf in
-    less_came _ _ s.failed c.fill.new.failed room room s.limit 1 (length c.fill.new.buf) (c.fill.ensures.short c.if-not-fill.true) one (omega arith)
+    less_came _ _ s.failed c.fill.new.failed room room s.limit 1 (length c.fill.new.buf) (c.fill.ensures.short c.if-not-fill.true) one (omega arith) (omega arith)
 
 pub returns-clause-reads : goal.returns-clause-reads
 returns-clause-reads g c =
@@ -22,6 +22,6 @@ returns-clause-reads g c =
     let one = c.fill.auto.buf in
     record {
       taken = c.fill.new.buf;
-      gave = gave_filled _ _ s.failed c.fill.new.failed c.fill.new.buf room room s.limit 1 (c.fill.ensures.full c.if-not-fill.false) one (omega arith) (omega arith);
+      gave = gave_filled _ _ s.failed c.fill.new.failed c.fill.new.buf room room s.limit 1 (c.fill.ensures.full c.if-not-fill.false) one (omega arith) (omega arith) (omega arith);
       found = one_byte c.fill.new.buf one;
     }

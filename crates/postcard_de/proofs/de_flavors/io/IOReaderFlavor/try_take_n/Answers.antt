@@ -20,6 +20,9 @@ gone m n ct r = omega (arith, r)
 at_most : (m n ct : ℕ) → m ≡ ct + n → m ≤ n + ct
 at_most m n ct r = omega (arith, r)
 
+no_more : (m n ct : ℕ) → m ≡ ct + n → n ≤ m
+no_more m n ct r = omega (arith, r)
+
 less : (limit ct : ℕ) → ct ≤ limit → limit ≡ limit - ct + ct
 less limit ct p = omega (arith, p)
 
@@ -66,7 +69,7 @@ pub returns-then-not-fill-clause-reads : goal.returns-then-not-fill-clause-reads
 returns-then-not-fill-clause-reads g c =
     let s = c.args.self.now in
     let n : length c.fill.new.buf ≡ c.args.ct = c.fill.auto.buf ∙ c.take_n-front.ensures.front in
-    less_came _ _ s.failed c.fill.new.failed (length (ahead_of s.buffer.span)) (length (ahead_of c.take_n-front.new.self.span)) s.limit c.args.ct (length c.fill.new.buf) (c.fill.ensures.short c.if-not-fill.true) n c.if-self-ct.false
+    less_came _ _ s.failed c.fill.new.failed (length (ahead_of s.buffer.span)) (length (ahead_of c.take_n-front.new.self.span)) s.limit c.args.ct (length c.fill.new.buf) (c.fill.ensures.short c.if-not-fill.true) n c.if-self-ct.false (no_more _ _ _ c.take_n-front.ensures.rest)
 
 pub returns-clause-reads : goal.returns-clause-reads
 returns-clause-reads g c =
@@ -74,6 +77,6 @@ returns-clause-reads g c =
     let n : length c.fill.new.buf ≡ c.args.ct = c.fill.auto.buf ∙ c.take_n-front.ensures.front in
     record {
       taken = c.fill.new.buf;
-      gave = gave_filled _ _ s.failed c.fill.new.failed c.fill.new.buf (length (ahead_of s.buffer.span)) (length (ahead_of c.take_n-front.new.self.span)) s.limit c.args.ct (c.fill.ensures.full c.if-not-fill.false) n c.if-self-ct.false (at_most _ _ _ c.take_n-front.ensures.rest);
+      gave = gave_filled _ _ s.failed c.fill.new.failed c.fill.new.buf (length (ahead_of s.buffer.span)) (length (ahead_of c.take_n-front.new.self.span)) s.limit c.args.ct (c.fill.ensures.full c.if-not-fill.false) n c.if-self-ct.false (at_most _ _ _ c.take_n-front.ensures.rest) (no_more _ _ _ c.take_n-front.ensures.rest);
       found = (refl, n);
     }

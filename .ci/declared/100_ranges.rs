@@ -1,0 +1,2 @@
+#[derive(Serialize, Deserialize)]
+struct T { r: core::ops::Range<u8> }

@@ -1,0 +1,4 @@
+﻿// message
+pub struct A {
+    pub a: u8, // one
+}

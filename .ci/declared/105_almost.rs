@@ -1,0 +1,4 @@
+//message
+pub(crate) struct A { a: u8 }
+// message
+struct B { b: u8 }

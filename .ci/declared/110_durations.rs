@@ -1,0 +1,3 @@
+use core::time::Duration;
+#[derive(Serialize, Deserialize)]
+struct T { d: Duration, k: u8 }

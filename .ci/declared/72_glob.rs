@@ -1,0 +1,3 @@
+use crate::types::*;
+#[derive(Serialize, Deserialize)]
+struct T { buf: ByteBuf, name: String }

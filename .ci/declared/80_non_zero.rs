@@ -1,0 +1,3 @@
+use core::num::NonZeroU16;
+#[derive(Serialize, Deserialize)]
+struct T { id: NonZeroU16 }

@@ -1,0 +1,2 @@
+#[derive(Serialize, Deserialize)]
+struct T { at: std::net::Ipv4Addr }

@@ -1,0 +1,2 @@
+// message
+union U { a: u8, b: u16 }

@@ -1,0 +1,2 @@
+#[derive(Serialize, Deserialize)]
+enum E { A, #[serde(skip)] B, C }

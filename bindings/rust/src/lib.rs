@@ -1,0 +1,466 @@
+//! Messages as frames over a line that may break, by a static library whose code is proved: safe calls over its C functions.
+//!
+//! **What plain bytes don't promise**: where a send breaks off, a front of a *plain* message may be heard as a message that nobody
+//! sent. So messages are *counted* unless a call says `plain`: their length stands in front of them as `postcard` spells a `&[u8]`,
+//! and each that is heard was sent, whatever broke off. A byte that was changed on the line may still make another message: see
+//! [`seal`] and [`unseal`].
+//!
+//! No call takes memory, waits or panics. What a caller of the C functions owes, that pointers are good and nothing written overlaps,
+//! Rust's slices promise. This crate itself is tested, not proved.
+//!
+//! ```
+//! use frames::{Event, Receiver, Sender};
+//!
+//! let mut sender = Sender::new(0);
+//! let mut line = [0u8; 64];
+//! let n = sender.send(b"first", &mut line).unwrap();
+//! sender.sent(); // all of it went out
+//! let m = n + sender.send(b"breaks off", &mut line[n..]).unwrap() - 4; // not all of this
+//! let end = m + sender.send(b"behind it", &mut line[m..]).unwrap();
+//!
+//! let mut buffer = [0u8; 32];
+//! let mut receiver = Receiver::new(&mut buffer, 0);
+//! let mut heard = receiver.hear(&line[..end]);
+//! assert_eq!(heard.next(), Some(Event::Message(b"first")));
+//! assert_eq!(heard.next(), Some(Event::Damaged(9)));
+//! assert_eq!(heard.next(), Some(Event::Message(b"behind it")));
+//! assert_eq!(heard.next(), None);
+//! ```
+#![no_std]
+#![warn(missing_docs)]
+
+mod raw;
+
+use core::fmt;
+use core::mem::MaybeUninit;
+
+/// What is to be written doesn't fit.
+#[derive(Clone, Copy, PartialEq, Eq, Debug)]
+pub struct NoRoom;
+
+/// Why a frame was refused.
+#[derive(Clone, Copy, PartialEq, Eq, Debug)]
+pub enum DecodeError {
+    /// There is no byte but zeros.
+    Empty,
+    /// The bytes are no frame; so many bytes of a message they decide.
+    Invalid(usize),
+    /// The message doesn't fit.
+    NoRoom,
+}
+
+impl fmt::Display for NoRoom {
+    fn fmt(&self, f: &mut fmt::Formatter<'_>) -> fmt::Result {
+        f.write_str("no room")
+    }
+}
+
+impl fmt::Display for DecodeError {
+    fn fmt(&self, f: &mut fmt::Formatter<'_>) -> fmt::Result {
+        match self {
+            DecodeError::Empty => f.write_str("no frame"),
+            DecodeError::Invalid(decided) => {
+                write!(f, "no frame, behind {decided} bytes of a message")
+            }
+            DecodeError::NoRoom => f.write_str("no room"),
+        }
+    }
+}
+
+impl core::error::Error for NoRoom {}
+
+impl core::error::Error for DecodeError {}
+
+fn refused(status: u8, length: usize) -> DecodeError {
+    match status {
+        raw::NO_ROOM => DecodeError::NoRoom,
+        raw::EMPTY => DecodeError::Empty,
+        _ => DecodeError::Invalid(length),
+    }
+}
+
+fn written(written: raw::Written) -> Result<usize, NoRoom> {
+    if written.status == raw::OK {
+        Ok(written.length)
+    } else {
+        Err(NoRoom)
+    }
+}
+
+fn read(read: raw::Read) -> Result<(usize, usize), DecodeError> {
+    if read.status == raw::OK {
+        Ok((read.used, read.length))
+    } else {
+        Err(refused(read.status, read.length))
+    }
+}
+
+/// The most bytes that the frame of a message of so many bytes has; nothing where no message is so long.
+pub fn most_encoded_length(length: usize) -> Option<usize> {
+    match unsafe { raw::frames_c_most_encoded_length(length) } {
+        0 => None,
+        most => Some(most),
+    }
+}
+
+/// How many bytes the frame of a message has.
+pub fn encoded_length(message: &[u8]) -> usize {
+    unsafe { raw::frames_c_encoded_length(message.as_ptr(), message.len()) }
+}
+
+/// Writes the shortest frame of a message's bytes to the front of a buffer, each XORed with the sentinel, and answers its length. Where
+/// it doesn't fit the buffer stays as it is.
+///
+/// ```
+/// let mut frame = [0u8; 5];
+/// assert_eq!(frames::encode(&[10, 11, 0, 12], &mut frame, 0), Ok(5));
+/// assert_eq!(frame, [3, 10, 11, 2, 12]);
+/// ```
+pub fn encode(message: &[u8], dest: &mut [u8], sentinel: u8) -> Result<usize, NoRoom> {
+    written(unsafe {
+        raw::frames_c_encode_with_sentinel(
+            message.as_ptr(),
+            message.len(),
+            dest.as_mut_ptr(),
+            dest.len(),
+            sentinel,
+        )
+    })
+}
+
+/// Decodes the first frame of a source, behind any zeros: how many bytes were used, and how long the message is, which then stands
+/// in front of the buffer.
+pub fn decode(source: &[u8], dest: &mut [u8]) -> Result<(usize, usize), DecodeError> {
+    read(unsafe {
+        raw::frames_c_decode(source.as_ptr(), source.len(), dest.as_mut_ptr(), dest.len())
+    })
+}
+
+/// Decodes the bytes before the first sentinel, or all where there is none.
+pub fn decode_with_sentinel(
+    source: &[u8],
+    dest: &mut [u8],
+    sentinel: u8,
+) -> Result<usize, DecodeError> {
+    let read = unsafe {
+        raw::frames_c_decode_with_sentinel(
+            source.as_ptr(),
+            source.len(),
+            dest.as_mut_ptr(),
+            dest.len(),
+            sentinel,
+        )
+    };
+    if read.status == raw::OK {
+        Ok(read.length)
+    } else {
+        Err(refused(read.status, read.length))
+    }
+}
+
+/// The same over the bytes themselves: how many there were, and how long the message is, which then stands in front.
+pub fn decode_in_place(buffer: &mut [u8], sentinel: u8) -> Result<(usize, usize), DecodeError> {
+    read(unsafe { raw::frames_c_decode_in_place(buffer.as_mut_ptr(), buffer.len(), sentinel) })
+}
+
+/// The CRC-32 of bytes, as Ethernet, gzip and PNG have it.
+pub fn crc32(bytes: &[u8]) -> u32 {
+    unsafe { raw::frames_c_crc32(bytes.as_ptr(), bytes.len()) }
+}
+
+/// Puts the sum of the first bytes of a buffer behind them, as four bytes, the lowest first, and answers how many are to be sent.
+///
+/// ```
+/// let mut message = *b"hi____";
+/// assert_eq!(frames::seal(&mut message, 2), Ok(6));
+/// assert_eq!(frames::unseal(&message), Some(&b"hi"[..]));
+/// message[0] ^= 1;
+/// assert_eq!(frames::unseal(&message), None);
+/// ```
+pub fn seal(buffer: &mut [u8], length: usize) -> Result<usize, NoRoom> {
+    written(unsafe { raw::frames_c_seal(buffer.as_mut_ptr(), buffer.len(), length) })
+}
+
+/// The message before its sum; nothing where its last four bytes aren't that.
+pub fn unseal(message: &[u8]) -> Option<&[u8]> {
+    let sealed = unsafe { raw::frames_c_unseal(message.as_ptr(), message.len()) };
+    if sealed.status == raw::OK {
+        message.get(..sealed.length)
+    } else {
+        None
+    }
+}
+
+/// What became of a stretch.
+#[derive(Clone, Copy, PartialEq, Eq, Debug)]
+pub enum Event<'a> {
+    /// Its message.
+    Message(&'a [u8]),
+    /// It has so many bytes and is no frame, or its message isn't a counted one.
+    Damaged(usize),
+    /// It has more bytes than the buffer.
+    TooLong,
+}
+
+/// Receives messages from a stream that comes in pieces, over a buffer, which is its limit.
+pub struct Receiver<'a> {
+    state: raw::Receiver,
+    buffer: &'a mut [u8],
+    plain: bool,
+}
+
+impl<'a> Receiver<'a> {
+    /// Of counted messages, in frames that end in this byte.
+    pub fn new(buffer: &'a mut [u8], sentinel: u8) -> Receiver<'a> {
+        Receiver {
+            state: unsafe { raw::frames_c_receiver(sentinel) },
+            buffer,
+            plain: false,
+        }
+    }
+
+    /// Of plain messages.
+    pub fn plain(buffer: &'a mut [u8], sentinel: u8) -> Receiver<'a> {
+        Receiver {
+            plain: true,
+            ..Receiver::new(buffer, sentinel)
+        }
+    }
+
+    fn event(&self, event: raw::Event) -> Option<Event<'_>> {
+        match event.kind {
+            raw::MESSAGE => Some(Event::Message(
+                self.buffer
+                    .get(event.start..)
+                    .and_then(|rest| rest.get(..event.length))
+                    .unwrap_or(&[]),
+            )),
+            raw::DAMAGED => Some(Event::Damaged(event.stretch)),
+            raw::TOO_LONG => Some(Event::TooLong),
+            _ => None,
+        }
+    }
+
+    /// Takes bytes up to the first event, and answers how many, and that event, if any. Push the rest again.
+    pub fn push(&mut self, bytes: &[u8]) -> (usize, Option<Event<'_>>) {
+        let push = if self.plain {
+            raw::frames_c_push_plain
+        } else {
+            raw::frames_c_push
+        };
+        let event = unsafe {
+            push(
+                &mut self.state,
+                self.buffer.as_mut_ptr(),
+                self.buffer.len(),
+                bytes.as_ptr(),
+                bytes.len(),
+            )
+        };
+        (event.used, self.event(event))
+    }
+
+    /// Takes one byte, for an interrupt handler.
+    pub fn push_byte(&mut self, byte: u8) -> Option<Event<'_>> {
+        let push = if self.plain {
+            raw::frames_c_push_byte_plain
+        } else {
+            raw::frames_c_push_byte
+        };
+        let mut event = MaybeUninit::<raw::Event>::uninit();
+        let kind = unsafe {
+            push(
+                &mut self.state,
+                self.buffer.as_mut_ptr(),
+                self.buffer.len(),
+                byte,
+                event.as_mut_ptr(),
+            )
+        };
+        if kind == raw::MORE {
+            return None;
+        }
+        // it was told, since the receiver stands over its own buffer
+        let event = unsafe { event.assume_init() };
+        self.event(event)
+    }
+
+    /// What a piece brings about, one event after another. A message is lent until the next is asked for, so this isn't an `Iterator`;
+    /// `while let Some(event) = heard.next()` goes over it. What isn't asked for isn't taken.
+    pub fn hear<'r, 'p>(&'r mut self, piece: &'p [u8]) -> Heard<'r, 'a, 'p> {
+        Heard {
+            receiver: self,
+            rest: piece,
+        }
+    }
+
+    /// Hands on each event of a piece.
+    pub fn push_all(&mut self, piece: &[u8], mut hear: impl FnMut(Event<'_>)) {
+        let mut heard = self.hear(piece);
+        while let Some(event) = heard.next() {
+            hear(event);
+        }
+    }
+
+    /// How many bytes a begun stretch has so far.
+    pub fn begun(&self) -> usize {
+        unsafe { raw::frames_c_begun(&self.state) }
+    }
+
+    /// Ends the stream, and begins a new one: whether a stretch was cut off.
+    pub fn finish(&mut self) -> bool {
+        unsafe { raw::frames_c_finish(&mut self.state) }
+    }
+
+    /// Hears all that a source gives: hands on each event, to the source's end, and answers whether a stretch was cut off there. Where
+    /// the source fails the receiver stands behind what was read, and may be listened to again.
+    ///
+    /// ```
+    /// use frames::{Event, Receiver, Source};
+    ///
+    /// struct Wire<'a>(&'a [u8]);
+    /// impl Source for Wire<'_> {
+    ///     type Error = core::convert::Infallible;
+    ///     fn read(&mut self, room: &mut [u8]) -> Result<usize, Self::Error> {
+    ///         let n = room.len().min(self.0.len());
+    ///         room[..n].copy_from_slice(&self.0[..n]);
+    ///         self.0 = &self.0[n..];
+    ///         Ok(n)
+    ///     }
+    /// }
+    /// let mut buffer = [0u8; 16];
+    /// let mut receiver = Receiver::new(&mut buffer, 0);
+    /// let mut count = 0;
+    /// let cut = receiver.listen(&mut Wire(b"\x00\x04\x02hi\x00\x07"), &mut [0; 3], |event| {
+    ///     assert_eq!(event, Event::Message(b"hi"));
+    ///     count += 1;
+    /// });
+    /// assert_eq!((cut, count), (Ok(true), 1));
+    /// ```
+    pub fn listen<S: Source>(
+        &mut self,
+        source: &mut S,
+        room: &mut [u8],
+        mut hear: impl FnMut(Event<'_>),
+    ) -> Result<bool, S::Error> {
+        loop {
+            let n = source.read(room)?.min(room.len());
+            if n == 0 {
+                return Ok(self.finish());
+            }
+            self.push_all(&room[..n], &mut hear);
+        }
+    }
+}
+
+/// What gives bytes, as a serial port does: so many at the front of the room, none at its end.
+pub trait Source {
+    /// Why it failed.
+    type Error;
+
+    /// Reads what is there, and at least a byte where it hasn't ended.
+    fn read(&mut self, room: &mut [u8]) -> Result<usize, Self::Error>;
+}
+
+/// What takes bytes.
+pub trait Sink {
+    /// Why it failed.
+    type Error;
+
+    /// Takes all of these bytes, or fails.
+    fn write_all(&mut self, bytes: &[u8]) -> Result<(), Self::Error>;
+}
+
+/// What a piece brings about, one event after another.
+pub struct Heard<'r, 'a, 'p> {
+    receiver: &'r mut Receiver<'a>,
+    rest: &'p [u8],
+}
+
+impl Heard<'_, '_, '_> {
+    /// The next event; none where all bytes were taken.
+    #[allow(clippy::should_implement_trait)]
+    pub fn next(&mut self) -> Option<Event<'_>> {
+        let (used, event) = self.receiver.push(self.rest);
+        self.rest = self.rest.get(used..).unwrap_or(&[]);
+        event
+    }
+}
+
+/// Why a message didn't go out.
+#[derive(Clone, Copy, PartialEq, Eq, Debug)]
+pub enum SendError<E> {
+    /// It doesn't fit the room: nothing was written.
+    NoRoom,
+    /// The line failed: the next send begins with a sentinel.
+    Line(E),
+}
+
+/// Makes what goes out for each message.
+pub struct Sender {
+    state: raw::Sender,
+    plain: bool,
+}
+
+impl Sender {
+    /// Of counted messages. It hasn't written anything, and so begins with a sentinel.
+    pub fn new(sentinel: u8) -> Sender {
+        Sender {
+            state: unsafe { raw::frames_c_sender(sentinel) },
+            plain: false,
+        }
+    }
+
+    /// Of plain messages.
+    pub fn plain(sentinel: u8) -> Sender {
+        Sender {
+            plain: true,
+            ..Sender::new(sentinel)
+        }
+    }
+
+    /// Writes the bytes of one send to the front of a buffer, and answers how many. Call `sent` once all of them went out; where
+    /// they didn't, the next send begins with a sentinel.
+    ///
+    /// ```
+    /// let mut out = [0u8; 8];
+    /// let n = frames::Sender::new(0).send(b"hi", &mut out).unwrap();
+    /// assert_eq!(&out[..n], b"\x00\x04\x02hi\x00"); // a `&[u8]` of postcard's, in a frame
+    /// ```
+    pub fn send(&mut self, message: &[u8], dest: &mut [u8]) -> Result<usize, NoRoom> {
+        let send = if self.plain {
+            raw::frames_c_send_plain
+        } else {
+            raw::frames_c_send
+        };
+        written(unsafe {
+            send(
+                &mut self.state,
+                message.as_ptr(),
+                message.len(),
+                dest.as_mut_ptr(),
+                dest.len(),
+            )
+        })
+    }
+
+    /// Says that all bytes of the last send went out.
+    pub fn sent(&mut self) {
+        unsafe { raw::frames_c_sent(&mut self.state) }
+    }
+
+    /// Sends a message over a line, by way of a room.
+    pub fn send_over<S: Sink>(
+        &mut self,
+        message: &[u8],
+        room: &mut [u8],
+        line: &mut S,
+    ) -> Result<(), SendError<S::Error>> {
+        let n = self
+            .send(message, room)
+            .map_err(|NoRoom| SendError::NoRoom)?;
+        line.write_all(&room[..n]).map_err(SendError::Line)?;
+        self.sent();
+        Ok(())
+    }
+}

@@ -1,0 +1,51 @@
+-- What answers make of a client that waits.
+use Rattle.std.proofs.Common.{◌≡◌, ℕ, Bool, true, false, cond, eqb, List, [], ◌∷◌, Option, Some, None, refl, sym, ap, ◌∙◌}
+use Rattle.std.specs.Prelude.{is_none}
+use Rattle.link.specs.declared.receiver.Answer.{Answer}
+use Rattle.link.specs.declared.receiver.Answer.TheVariants.{Value, Damaged, TooLong, Cut}
+use Rattle.calls.specs.Asking.{number_of, stepped, ends}
+use Rattle.calls.specs.Waits.{Waiter, is_over, anew, after_reply, after_answers}
+
+module _ {Q R : Type 0} where
+  -- Once no call is pending none is later.
+  over_stays : (w : Waiter Q R) (answers : List (Answer (ℕ × R))) → w.asker.pending ≡ None → (after_answers w answers).asker.pending ≡ None
+  over_stays w [] e = e
+  over_stays w (Value p ∷ answers) e = over_stays (after_reply w w.asker.pending p.0 p.1) answers (by w.asker.pending e)
+    where
+      by : (o : Option (ℕ × Q)) → o ≡ None → (after_reply w o p.0 p.1).asker.pending ≡ None
+      by None f = e
+      by (Some q) f = absurd (cc)
+  over_stays w (Damaged ∷ answers) e = over_stays w answers e
+  over_stays w (TooLong ∷ answers) e = over_stays w answers e
+  over_stays w (Cut ∷ answers) e = over_stays w answers e
+
+  -- While a call is pending nothing was taken.
+  pub untaken : (w : Waiter Q R) (answers : List (Answer (ℕ × R))) → is_over (after_answers w answers).asker ≡ false → after_answers w answers ≡ w
+  untaken w [] h = refl
+  untaken w (Value p ∷ answers) h = by w.asker.pending (untaken w answers) h
+    where
+      over : Waiter Q R
+      over = record { asker = stepped w.asker ends; said = Some p.1 }
+
+      numbered : (b : Bool) → (is_over (after_answers w answers).asker ≡ false → after_answers w answers ≡ w)
+          → is_over (after_answers (cond b over w) answers).asker ≡ false → after_answers (cond b over w) answers ≡ w
+      numbered true later k = absurd (let e = over_stays over answers refl in let f : true ≡ false = sym (ap (λ (o : Option (ℕ × Q)). is_none (number_of o)) e) ∙ k in cc)
+      numbered false later k = later k
+
+      by : (o : Option (ℕ × Q)) → (is_over (after_answers w answers).asker ≡ false → after_answers w answers ≡ w)
+          → is_over (after_answers (after_reply w o p.0 p.1) answers).asker ≡ false → after_answers (after_reply w o p.0 p.1) answers ≡ w
+      by None later k = later k
+      by (Some q) later k = numbered (eqb p.0 q.0) later k
+  untaken w (Damaged ∷ answers) h = untaken w answers h
+  untaken w (TooLong ∷ answers) h = untaken w answers h
+  untaken w (Cut ∷ answers) h = untaken w answers h
+
+  -- So where one was pending at first too, nothing is said.
+  pub nothing_said : (w v : Waiter Q R) (answers : List (Answer (ℕ × R))) → v ≡ after_answers (anew w) answers → is_over w.asker ≡ false → is_over v.asker ≡ false → v.said ≡ None
+  nothing_said w v answers e pending still =
+      let stays : after_answers (anew w) answers ≡ anew w = untaken (anew w) answers (sym (ap (λ (u : Waiter Q R). is_over u.asker) e) ∙ still) in
+      ap (λ (u : Waiter Q R). u.said) (e ∙ stays) ∙ by (is_over w.asker) pending
+    where
+      by : (b : Bool) → b ≡ false → (cond b w (let u : Waiter Q R = record { asker = w.asker; said = None } in u)).said ≡ None
+      by true f = absurd (cc)
+      by false f = refl

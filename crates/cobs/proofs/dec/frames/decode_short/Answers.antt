@@ -1,0 +1,84 @@
+use Rattle.std.proofs.Common.{◌≡◌, ◌≢◌, ◌-◌, ◌<◌, ◌≤◌, ◌∷◌, ◌++◌, ℕ, List, true, refl, length, take, drop, get_or, length-drop, Ok, Err, sym, ◌∙◌, ap, arith}
+use Rattle.std.proofs.lemmas.List.{take_all, length-take-le}
+use Rattle.std.specs.Prelude.{bit_xor}
+use Rattle.std.proofs.lemmas.Nat.{xor_of_8}
+use Rattle.std.proofs.lemmas.Grind.{common_steps}
+use Rattle.cobs.specs.Feeding.{stands_by}
+use Rattle.cobs.specs.Frames.{part, part_from, after}
+use Rattle.cobs.specs.InPlace.{overwritten}
+use Rattle.cobs.specs.Sentinel.{masked}
+use Rattle.cobs.specs.Taking.{left_in}
+use Rattle.cobs.specs.Whole.{decoded_into}
+use Rattle.cobs.specs.declared.dec.report.DecodeError.TheVariants.{InvalidFrame}
+use Rattle.cobs.proofs.MaskingLemmas.{masked_length}
+use Rattle.cobs.proofs.ShortLemmas.{window_whole, window_broken, window_over, code_first, code_positive}
+use Rattle.cobs.proofs.dec.frames.decode_short.Goals as goal
+use Rattle.cobs.proofs.dec.frames.decode_short.Goals.{After-decode_at_once-state}
+
+pub decode_at_once-state-requires-clause-nonzero : goal.decode_at_once-state-requires-clause-nonzero
+decode_at_once-state-requires-clause-nonzero c = grind (arith, common_steps)
+
+-- the code, what is behind it, and what was made of that
+module _ (c : After-decode_at_once-state) where
+  abbrev key : ℕ
+  key = c.args.sentinel
+
+  abbrev rest : List ℕ
+  rest = drop 1 c.args.frame.now
+
+  abbrev code : ℕ
+  code = bit_xor key (get_or c.args.frame.now 0 0)
+
+  abbrev count : ℕ
+  count = length (take (length c.args.frame.now - 1) rest)
+
+  all : take (length c.args.frame.now - 1) rest ≡ rest
+  all = take_all (length c.args.frame.now - 1) rest (omega (arith, length-drop 1 c.args.frame.now))
+
+  first : masked key c.args.frame.now ≡ code ∷ masked key rest
+  first = code_first key c.args.frame.now c.requires.some
+
+  few : length (masked key rest) ≤ 254
+  few = omega (arith, masked_length key rest, length-drop 1 c.args.frame.now, c.requires.few)
+
+  some : 0 < code
+  some = code_positive key c.args.frame.now c.requires.some c.requires.clear
+
+  fits : code < 256
+  fits = xor_of_8 key (get_or c.args.frame.now 0 0) c.ranges.sentinel.fits (c.type_inv.frame 0).fits
+
+  same : length (masked key rest) ≡ count
+  same = masked_length key rest ∙ ap length (sym all)
+
+  room : count ≤ length c.args.dest.now
+  room = omega (arith, same, masked_length key rest, length-drop 1 c.args.frame.now, c.requires.room)
+
+  out : c.decode_at_once-state.new.out ≡ part_from (code - 1) true (masked key rest)
+  out = c.decode_at_once-state.ensures.out ∙ ap (λ b. part_from (code - 1) true (masked key b)) all
+
+  state : c.decode_at_once-state.result ≡ stands_by (after (code - 1) true (masked key rest))
+  state = c.decode_at_once-state.ensures.state ∙ ap (λ b. stands_by (after (code - 1) true (masked key b))) all
+
+  long : length c.decode_at_once-state.new.out ≡ count
+  long = omega (arith, c.decode_at_once-state.auto.out, length-take-le count c.args.dest.now room)
+
+  whole : left_in c.decode_at_once-state.result ≡ 0 → Ok count ≡ decoded_into (length c.args.dest.now) (masked key c.args.frame.now)
+  whole = window_whole (masked key c.args.frame.now) (masked key rest) code first few some fits c.decode_at_once-state.new.out c.args.dest.now count c.decode_at_once-state.result long room out state
+
+  broken : left_in c.decode_at_once-state.result ≢ 0 → Err (InvalidFrame count) ≡ decoded_into (length c.args.dest.now) (masked key c.args.frame.now)
+  broken = window_broken (masked key c.args.frame.now) (masked key rest) code first few some fits c.decode_at_once-state.new.out c.args.dest.now count c.decode_at_once-state.result long room out state
+
+  over : (new : List ℕ) → new ≡ c.decode_at_once-state.new.out ++ drop count c.args.dest.now → new ≡ overwritten (part (masked key c.args.frame.now)) c.args.dest.now
+  over = window_over (masked key c.args.frame.now) (masked key rest) code first few some fits c.decode_at_once-state.new.out c.args.dest.now count c.decode_at_once-state.result long room out state
+
+pub returns-then-left-eq0-clause-answer : goal.returns-then-left-eq0-clause-answer
+returns-then-left-eq0-clause-answer c = whole (goal.at.returns-then-left-eq0-clause-answer c).After-decode_at_once-state (sym c.left.ensures ∙ c.if-left-eq0.true)
+
+pub returns-else-left-eq0-clause-answer : goal.returns-else-left-eq0-clause-answer
+returns-else-left-eq0-clause-answer c = broken (goal.at.returns-else-left-eq0-clause-answer c).After-decode_at_once-state (λ e. c.if-left-eq0.false (c.left.ensures ∙ e))
+
+pub returns-then-left-eq0-clause-dest : goal.returns-then-left-eq0-clause-dest
+returns-then-left-eq0-clause-dest c = over (goal.at.returns-then-left-eq0-clause-dest c).After-decode_at_once-state _ refl
+
+pub returns-else-left-eq0-clause-dest : goal.returns-else-left-eq0-clause-dest
+returns-else-left-eq0-clause-dest c = over (goal.at.returns-else-left-eq0-clause-dest c).After-decode_at_once-state _ refl

@@ -1,0 +1,25 @@
+use Rattle.std.proofs.Common.{ℕ, ◌≢◌, ◌<◌, ◌≤◌, ◌-◌, get_or, length}
+use Rattle.cobs.specs.Sentinel.{masked}
+use Rattle.cobs.proofs.ShortLemmas.{Entering}
+use Rattle.cobs.proofs.dec.frames.take_source.Given as goal
+
+abbrev pub invariant-loop-read : goal.invariant-loop-read
+invariant-loop-read l = record {
+  begun : 0 < l.read;
+  inside : l.read ≤ length l.source;
+  entering : Entering (masked l.sentinel l.source) l.fn.dest l.dest l.read l.progress;
+  none : (k : ℕ) → k < l.read → get_or l.source k 0 ≢ l.sentinel;
+}
+
+abbrev pub decreases-loop-read : goal.decreases-loop-read
+decreases-loop-read l = length l.source - l.read
+
+abbrev pub invariant-loop-read-2 : goal.invariant-loop-read-2
+invariant-loop-read-2 l = record {
+  begun : 0 < l.read;
+  within : l.read ≤ l.end;
+  entering : Entering (masked l.sentinel l.source) l.fn.dest l.dest l.read l.progress;
+}
+
+abbrev pub decreases-loop-read-2 : goal.decreases-loop-read-2
+decreases-loop-read-2 l = l.end - l.read

@@ -1,0 +1,29 @@
+use Rattle.std.proofs.Common.{◌≡◌, ◌≢◌, ◌<◌, ◌≤◌, ℕ, List, inl, inr, length, take, get_or, length-take, sym, ◌∙◌, arith}
+use Rattle.std.proofs.lemmas.List.{get_or-take}
+use Rattle.std.proofs.lemmas.Bool.{cases_lt}
+use Rattle.cobs.specs.InPlace.{stretch}
+use Rattle.cobs.specs.Sentinel.{masked}
+use Rattle.cobs.proofs.SourcesLemmas.{stretch_front}
+use Rattle.cobs.proofs.dec.whole.near_frame.Goals as goal
+
+-- the end that is found in a front
+near : (s n m : ℕ) (bytes : List ℕ) → n < m → m ≤ length bytes → ((k : ℕ) → k < n → get_or (take m bytes) k 0 ≢ s) → (n < length (take m bytes) → get_or (take m bytes) n 0 ≡ s)
+    → masked s (take n bytes) ≡ stretch (masked s bytes)
+near s n m bytes l w none end =
+    stretch_front s bytes n (omega arith) (λ k q e. none k q (get_or-take m bytes k 0 (omega arith) ∙ e)) (λ q. sym (get_or-take m bytes n 0 l) ∙ end (omega (arith, length-take m bytes)))
+
+-- all of few bytes
+all : (s n m : ℕ) (bytes : List ℕ) → n ≡ m → m ≡ length bytes → ((k : ℕ) → k < n → get_or (take m bytes) k 0 ≢ s) → masked s (take n bytes) ≡ stretch (masked s bytes)
+all s n m bytes e w none =
+    stretch_front s bytes n (omega arith) (λ k q z. none k q (get_or-take m bytes k 0 (omega arith) ∙ z)) (λ q. absurd (omega arith))
+
+pub returns-then-end-lt256-clause-frame : goal.returns-then-end-lt256-clause-frame
+returns-then-end-lt256-clause-frame c =
+    let n = c.before_by_64-end.result in
+    let m = c.min.result in
+    let bytes = c.args.bytes.now in
+    let e = c.before_by_64-end.ensures in
+    elim (cases_lt n m) [
+      | inl l ↦ near c.args.sentinel n m bytes l (omega arith) e.none e.end
+      | inr l ↦ all c.args.sentinel n m bytes (omega (arith, l, e.within, length-take m bytes)) (omega (arith, l, c.if-end-lt256.true)) e.none
+    ]

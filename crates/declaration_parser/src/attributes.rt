@@ -1,0 +1,199 @@
+//! Attributes, as slices of tokens.
+use crate::declaration::Marks;
+use crate::tokens::{Token, is_among, is_comment_mark};
+
+/// The text of the first of these tokens; nothing where there is none.
+pub fn first_word(tokens: &[Token]) -> &str {
+    match tokens {
+        [token, ..] => token.text.as_str(),
+        _ => "",
+    }
+}
+
+/// The text of the last.
+pub fn last_word(tokens: &[Token]) -> &str {
+    match tokens {
+        [.., token] => token.text.as_str(),
+        _ => "",
+    }
+}
+
+/// Whether a word opens what another closes.
+pub fn opens(word: &str) -> bool {
+    matches!(word, "(" | "[" | "{")
+}
+
+/// Whether a word closes.
+pub fn closes(word: &str) -> bool {
+    matches!(word, ")" | "]" | "}")
+}
+
+/// What stands before the mark that closes what was opened before these tokens, and what stands behind that mark.
+pub fn closed(tokens: &[Token]) -> Option<(&[Token], &[Token])> {
+    let mut depth: usize = 0;
+    let mut rest = tokens;
+    for length in 0..tokens.len() {
+        let [token, behind @ ..] = rest else {
+            return None;
+        };
+        rest = behind;
+        let word = token.text.as_str();
+        if opens(word) {
+            depth = depth.saturating_add(1);
+        } else if closes(word) {
+            if depth == 0 {
+                return Some((tokens.get(..length)?, rest));
+            }
+            depth = depth.saturating_sub(1);
+        }
+    }
+    None
+}
+
+/// What stands between the brackets of the attribute at the front, which is of what stands behind it.
+pub fn attribute(tokens: &[Token]) -> Option<(&[Token], &[Token])> {
+    match tokens {
+        [hash, open, rest @ ..] if hash.text.as_str() == "#" && open.text.as_str() == "[" => closed(
+            rest,
+        ),
+        _ => None,
+    }
+}
+
+/// What a call of a macro, or an attribute of all that a file has, holds at the front, and what stands behind it. The
+/// words before what it holds have no brackets.
+pub fn passed_over(tokens: &[Token]) -> Option<(&[Token], &[Token])> {
+    let (second, rest) = match tokens {
+        [_, mark, second, rest @ ..] if mark.text.as_str() == "!" => (second, rest),
+        _ => return None,
+    };
+    if opens(second.text.as_str()) {
+        return closed(rest);
+    }
+    match rest {
+        [open, rest @ ..] if opens(open.text.as_str()) => closed(rest),
+        _ => None,
+    }
+}
+
+/// What stands in the parentheses behind the first word.
+pub fn held(words: &[Token]) -> &[Token] {
+    match words {
+        [_, open, rest @ ..] if open.text.as_str() == "(" => match closed(rest) {
+            Some((inside, _)) => inside,
+            None => &[],
+        },
+        _ => &[],
+    }
+}
+
+/// What stands before the first comma that nothing encloses, and what stands behind it.
+pub fn first_part(tokens: &[Token]) -> (&[Token], &[Token]) {
+    let mut depth: usize = 0;
+    let mut rest = tokens;
+    for length in 0..tokens.len() {
+        let [token, behind @ ..] = rest else {
+            break;
+        };
+        rest = behind;
+        let word = token.text.as_str();
+        if opens(word) {
+            depth = depth.saturating_add(1);
+        } else if closes(word) {
+            depth = depth.saturating_sub(1);
+        } else if word == "," && depth == 0 {
+            return (tokens.get(..length).unwrap_or(&[]), rest);
+        }
+    }
+    (tokens, &[])
+}
+
+/// Whether these are the same words.
+pub fn same_words(first: &[Token], second: &[Token]) -> bool {
+    if first.len() != second.len() {
+        return false;
+    }
+    for (one, other) in first.iter().zip(second) {
+        if one.text.as_str() != other.text.as_str() {
+            return false;
+        }
+    }
+    true
+}
+
+/// Whether one of these is a mark.
+pub fn has_mark(words: &[Token]) -> bool {
+    for token in words {
+        if is_comment_mark(token.text.as_str()) {
+            return true;
+        }
+    }
+    false
+}
+
+/// Whether a derive stands among these words that marks a declaration.
+pub fn has_derive(words: &[Token]) -> bool {
+    let mut is_derive = false;
+    for token in words {
+        let word = token.text.as_str();
+        if is_derive && matches!(word, "Serialize" | "Deserialize") {
+            return true;
+        }
+        is_derive = word == "derive" || (is_derive && word != ")" && word != "]");
+    }
+    false
+}
+
+/// Whether a derive's name is one of serde's, by what stands before it.
+fn is_of_serde(path: &[Token]) -> bool {
+    match path {
+        [_] => true,
+        [.., krate, _, _, _] => is_among(
+            krate.text.as_str(),
+            &["serde", "serde_derive", "serde_repr"],
+        ),
+        _ => false,
+    }
+}
+
+/// Adds what the derives of these names mark, and says whether one does.
+pub fn add_derived(names: &[Token], marks: &mut Marks) -> bool {
+    let mut derives = false;
+    let mut rest = names;
+    for _ in 0..names.len() {
+        let (part, behind) = first_part(rest);
+        let name = last_word(part);
+        let is_known = is_of_serde(part);
+        let writes = is_known && matches!(name, "Serialize" | "Serialize_repr");
+        let reads = is_known && matches!(name, "Deserialize" | "Deserialize_repr");
+        marks.written = marks.written || writes;
+        marks.read = marks.read || reads;
+        derives = derives || writes || reads;
+        rest = behind;
+    }
+    derives
+}
+
+/// Adds what an attribute marks, by its words; and says under which condition it does, if it does under one.
+pub fn add_marks<'a>(words: &'a [Token], marks: &mut Marks) -> Option<&'a [Token]> {
+    match first_word(words) {
+        "derive" => {
+            add_derived(held(words), marks);
+            None
+        }
+        "cfg_attr" => {
+            let (condition, attributes) = first_part(held(words));
+            let mut derives = false;
+            let mut rest = attributes;
+            for _ in 0..attributes.len() {
+                let (part, behind) = first_part(rest);
+                if first_word(part) == "derive" {
+                    derives = add_derived(held(part), marks) || derives;
+                }
+                rest = behind;
+            }
+            if derives { Some(condition) } else { None }
+        }
+        _ => None,
+    }
+}

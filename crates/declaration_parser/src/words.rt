@@ -1,0 +1,205 @@
+//! The words that the parser knows, and what is said of them.
+
+/// How many fields a struct or a variant can have.
+pub const MOST_FIELDS: usize = 36;
+
+/// What is said of more.
+pub const TOO_MANY: &str = "more than 36 fields: make some of them a struct";
+
+/// What is said of a mark for what isn't chosen.
+pub const HAS_BY_ITSELF: &str = "` is had by every type whose fields have it: leave it out";
+
+/// What is said of another word of a mark.
+pub const NO_MARK: &str =
+    "` marks nothing: a message is marked for `Serialize`, `Deserialize`, or both";
+
+/// What is said of a file without marks.
+pub const NO_MESSAGES_MARKED: &str =
+    "nothing is marked: write `// message` in a line of its own before a declaration\n";
+
+/// What is said of a comment that is almost a mark, before a declaration that isn't marked.
+pub const ALMOST: &str =
+    "` marks nothing: a line of its own does, `// message` or `// message: Serialize`\n";
+
+/// What is said of a mark among what is skipped.
+pub const HIDDEN_MARK: &str = "a mark `// message` stands in what is skipped here: take it out";
+
+/// What is said of a call of a macro that holds a mark.
+pub const IN_MACRO: &str =
+    "!` writes anew what it holds, where a mark marks nothing: write the declaration out, without the macro";
+
+/// What is said of a type that is written by hand on one side.
+pub const BY_HAND: &str =
+    "` is implemented by hand, so the bytes may be others than those of the fields: declare what is on the wire";
+
+/// What is said of a type that holds itself.
+pub const HOLDS_ITSELF: &str =
+    "` holds itself: write it by hand, as the crate `samples` shows of `Chain`";
+
+/// What is said of a word of a path.
+pub const IN_PATH: &str =
+    "` can't stand in the type of a field: write the last name of a path alone, and a `use` that brings it in";
+
+/// What is said of bounds, and of a parameter that is a length.
+pub const NO_BOUNDS: &str =
+    "` can't be implemented here: only lifetimes and types without bounds can be parameters; write the others by hand";
+
+/// What is said of a condition on a field or a variant.
+pub const ON_SOME_DEVICES: &str =
+    "` has this on some devices alone: take the attribute out where it is there, else what stands behind it";
+
+/// What is said of a condition that isn't that of the derive.
+pub const OTHER_CONDITION: &str =
+    "` changes the bytes under a condition that isn't the derive's: write the field as it is on the wire";
+
+/// What is said of a field that is left out on one side alone.
+pub const ONE_SIDE: &str =
+    "` leaves the field out on one side alone: the other side wants its bytes, so the device can't be read as it is";
+
+/// What is said of an attribute that this crate doesn't know.
+pub const UNKNOWN: &str =
+    "` isn't known here and may change the bytes: write the declaration as it is on the wire";
+
+/// What is said of what `serde_repr` derives.
+pub const REPR: &str =
+    "` sends the number of its `repr` alone: where it is a field, write that integer's type";
+
+/// What is said of a way to send a field.
+pub const OTHER_WAY: &str =
+    "` sends the field in ways not known here: write the type that is on the wire in its place";
+
+/// Words of serde's attributes that change no byte.
+pub const NO_BYTES: &[&str] = &[
+    "alias",
+    "borrow",
+    "bound",
+    "crate",
+    "default",
+    "deny_unknown_fields",
+    "expecting",
+    "rename",
+    "rename_all",
+    "rename_all_fields",
+    "transparent",
+];
+
+/// Words of serde's attributes that do, and what is said of each.
+pub const OF_SERDE: &[(&str, &str)] = &[
+    (
+        "flatten",
+        "` can't be sent by postcard, which has no names: write the fields themselves",
+    ),
+    (
+        "tag",
+        "` can't be read by postcard: it wants a number before a variant, so the device has to leave `tag` out",
+    ),
+    (
+        "content",
+        "` can't be read by postcard: it wants a number before a variant, so the device has to leave `content` out",
+    ),
+    (
+        "untagged",
+        "` can't be read by postcard: it wants a number before a variant, so the device has to leave `untagged` out",
+    ),
+    (
+        "other",
+        "` can't be read by postcard as the device sends it: declare each variant that there is",
+    ),
+    (
+        "skip_serializing_if",
+        "` leaves out bytes that the reader wants: the device has to send the field always",
+    ),
+    ("serialize_with", OTHER_WAY),
+    ("deserialize_with", OTHER_WAY),
+    ("with", OTHER_WAY),
+    (
+        "from",
+        "` sends another type's bytes: mark that type, and write it where this one is a field",
+    ),
+    (
+        "try_from",
+        "` sends another type's bytes: mark that type, and write it where this one is a field",
+    ),
+    (
+        "into",
+        "` sends another type's bytes: mark that type, and write it where this one is a field",
+    ),
+    (
+        "skip",
+        "` of a variant counts it on one side alone: take the variant out where it is the last",
+    ),
+];
+
+/// Attributes of declarations that change no byte: those of the language, and helpers of derives that are often met.
+pub const OF_ITEMS: &[&str] = &[
+    "allow",
+    "arg",
+    "automatically_derived",
+    "builder",
+    "clap",
+    "clippy",
+    "cfg",
+    "command",
+    "defmt",
+    "deny",
+    "deprecated",
+    "derive",
+    "diagnostic",
+    "display",
+    "doc",
+    "error",
+    "expect",
+    "forbid",
+    "max_size",
+    "must_use",
+    "non_exhaustive",
+    "postcard",
+    "repr",
+    "rustfmt",
+    "schemars",
+    "strum",
+    "warn",
+];
+
+/// The types of the language that a message can hold.
+pub const PLAIN: &[&str] = &[
+    "bool", "char", "str", "u8", "u16", "u32", "u64", "u128", "usize", "i8", "i16", "i32", "i64",
+    "i128", "isize",
+];
+
+/// Types of std that no message can hold.
+pub const NO_MESSAGES: &[&str] = &[
+    "HashMap",
+    "HashSet",
+    "BTreeSet",
+    "VecDeque",
+    "Rc",
+    "Arc",
+    "Cow",
+    "Cell",
+    "RefCell",
+    "PhantomData",
+    "Duration",
+    "Instant",
+    "Wrapping",
+];
+
+/// Names that are brought in beside the types.
+pub const OF_POSTCARD: &[&str] = &[
+    "AsShape",
+    "Flavor",
+    "Formed",
+    "Last",
+    "Readable",
+    "ReadableShape",
+    "Serialize",
+    "SerializeShape",
+    "Serializer",
+    "ShapeOf",
+    "Shaped",
+    "Variant",
+    "Variants4",
+];
+
+/// Names of type parameters in the implementations.
+pub const OF_IMPLEMENTATIONS: &[&str] = &["F", "Taken"];

@@ -1,0 +1,59 @@
+-- What is heard of plain messages that broke off, and what a counted one stands for.
+use Rattle.std.specs.Prelude.{◌^◌}
+use Rattle.std.proofs.Common.{◌≡◌, ℕ, ◌<◌, ◌≤◌, List, [], ◌∷◌, length, refl, sym, ap, ◌∙◌, subst, inl, inr, arith}
+use Rattle.cobs.specs.Frames.{shortest_frame}
+use Rattle.cobs.specs.FrameLaws.{HasOneMessage, HasOneShortest, FrontsBeginProperly}
+use Rattle.postcard_tree.specs.Tree.{bytes_of, count_of}
+use Rattle.postcard_tree.specs.Reading.{TakesByte, TakesAll, ReadsByte, ReadsAll}
+use Rattle.link.specs.Stream.{Verdict, value, damaged, too_long, cut, IsAnswer}
+use Rattle.frames.specs.Events.{HoldsPlain, plain_tree}
+use Rattle.frames.specs.PlainLaws.{IsHeardOfFront, IsHeardWhole}
+use Rattle.frames.specs.CountedLaws.{IsCountedOnce}
+
+pub heard_of_front : FrontsBeginProperly → HasOneShortest → IsHeardOfFront
+heard_of_front begins one message front rest limit (value t) e n l h =
+    let k = begins (shortest_frame message) message front rest h.1.0 (one message).0 e n h.1.2 in
+    inr (h.1.0, k.0, k.1, k.2, ap value h.1.1)
+heard_of_front begins one message front rest limit damaged e n l h = inl refl
+heard_of_front begins one message front rest limit too_long e n l h = absurd (omega (arith, l, h))
+heard_of_front begins one message front rest limit cut e n l h = absurd h
+
+whole_message : HasOneMessage → HasOneShortest → (message : List ℕ) (limit : ℕ) (answer : Verdict) → length (shortest_frame message) ≤ limit
+    → IsAnswer HoldsPlain limit (shortest_frame message) answer → answer ≡ value (plain_tree message)
+whole_message same one message limit (value t) l h =
+    let e : h.1.0 ≡ message = same (shortest_frame message) h.1.0 h.1.2 ∙ sym (same (shortest_frame message) message (one message).0.is_frame) in
+    ap value (h.1.1 ∙ ap plain_tree e)
+whole_message same one message limit damaged l h = absurd (h.1 (plain_tree message) (message, refl, (one message).0.is_frame))
+whole_message same one message limit too_long l h = absurd (omega (arith, l, h))
+whole_message same one message limit cut l h = absurd h
+
+pub heard_whole : HasOneMessage → HasOneShortest → IsHeardWhole
+heard_whole same one message limit answer l = (
+  whole_message same one message limit answer l,
+  λ e. subst (IsAnswer HoldsPlain limit (shortest_frame message)) (sym e) (l, (message, refl, (one message).0.is_frame)),
+)
+
+count_bytes : (m : List ℕ) → count_of (bytes_of m) ≡ length m
+count_bytes [] = refl
+count_bytes (b ∷ m) = let e = count_bytes m in omega (arith, e)
+
+takes_bytes : (m : List ℕ) → TakesAll TakesByte (bytes_of m)
+takes_bytes [] = tt
+takes_bytes (b ∷ m) = (tt, takes_bytes m)
+
+reads_itself : (m : List ℕ) → ReadsAll ReadsByte (bytes_of m) m
+reads_itself [] = tt
+reads_itself (b ∷ m) = (refl, reads_itself m)
+
+reads_alone : (m v : List ℕ) → ReadsAll ReadsByte (bytes_of m) v → v ≡ m
+reads_alone [] [] h = refl
+reads_alone [] (x ∷ v) h = absurd h
+reads_alone (b ∷ m) [] h = absurd h
+reads_alone (b ∷ m) (x ∷ v) h = let e : x ≡ b = h.0 in let f = reads_alone m v h.1 in cc
+
+pub counted_once : IsCountedOnce
+counted_once message l =
+    let n : count_of (bytes_of message) < 2 ^ 64 = omega (arith, l, count_bytes message) in (
+      (n, takes_bytes message),
+      λ v. (λ h. reads_alone message v h.1, λ e. (n, subst (ReadsAll ReadsByte (bytes_of message)) (sym e) (reads_itself message))),
+    )

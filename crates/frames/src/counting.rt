@@ -1,0 +1,87 @@
+//! Messages of bytes with their length in front, as postcard spells a byte string.
+ghost use Rattle.std.specs.Prelude.{◌≡◌, ℕ, ◌+◌, ◌<◌, ◌^◌, ◌≤◌, List, length, take, drop, Some, IfSome, IsNone};
+ghost use Rattle.cobs.specs.Frames.{Frame};
+ghost use Rattle.postcard_tree.specs.Tree.{Tree, text_of};
+ghost use Rattle.postcard_tree.specs.Reading.{NoFront, ReadsBytes};
+ghost use Rattle.postcard.specs.Answer.{ReadsFront};
+ghost use Rattle.link.specs.Steps.{Course};
+ghost use Rattle.frames.specs.Events.{TakesCounted, TakesFrame, IsInFront, IsInRoom, RepliesCounted, found};
+
+use crate::receiving::{FrameEvent, FramePush};
+use postcard::ser_flavors::Flavor;
+use postcard::{Serialize, Serializer, take_from_bytes};
+use std::alloc::Global;
+
+/// Bytes that are written with their count in front, at once.
+#[derive(Drop)]
+pub(crate) struct Counted<'a>(pub &'a [u8]);
+
+impl Serialize for Counted<'_> {
+    ghost writes = { λ v. Some (text_of v.0.now) };
+
+    ghost valid = { λ v. length v.0.now < 2 ^ 64 };
+
+    fn serialize<F: Flavor>(&self, serializer: &mut Serializer<F>) -> postcard::Result<()> {
+        serializer.serialize_bytes(self.0)
+    }
+}
+
+// Where the bytes of a counted message stand in it.
+fn counted_in(alloc: Global, message: &[u8]) -> Option<(usize, usize)>
+    ensures read { IfSome result (λ p. (rest : List ℕ)
+        × ReadsFront ReadsBytes message.now rest (take p.1 (drop p.0 message.now))) }
+    ensures within { IfSome result (λ p. p.0 + p.1 ≤ length message.now) }
+    ensures none { IsNone result → NoFront TakesCounted message.now }
+{
+    match take_from_bytes::<&[u8]>(alloc, message) {
+        Ok((bytes, rest)) => Some((message.len() - rest.len() - bytes.len(), bytes.len())),
+        Err(_) => None,
+    }
+}
+
+// What came about by counted messages, where a plain one stands in front of the buffer.
+fn counted_event(alloc: Global, event: FrameEvent, buffer: &[u8]) -> FrameEvent
+    requires front { IsInFront (Some event) }
+    requires within { IsInRoom (length buffer.now) (Some event) }
+    ensures replies { (limit used stretch : ℕ) (k : Course)
+        → TakesFrame limit k buffer.now (found used stretch (Some event))
+        → RepliesCounted limit k buffer.now (found used stretch (Some result)) }
+    ensures message { IsInRoom (length buffer.now) (Some result) }
+{
+    cobs::laws::message_of_a_frame();
+    match event {
+        FrameEvent::Message { start: _, length } => {
+            match counted_in(alloc, &buffer[..length]) {
+                Some((start, length)) => FrameEvent::Message { start, length },
+                None => FrameEvent::Damaged,
+            }
+        }
+        FrameEvent::Damaged => FrameEvent::Damaged,
+        FrameEvent::TooLong => FrameEvent::TooLong,
+    }
+}
+
+// The same of a push.
+pub(crate) fn as_counted(alloc: Global, push: FramePush, buffer: &[u8]) -> FramePush
+    requires front { IsInFront push.event }
+    requires within { IsInRoom (length buffer.now) push.event }
+    ensures replies { (limit : ℕ) (k : Course) → TakesFrame limit k buffer.now push
+        → RepliesCounted limit k buffer.now result }
+    ensures used { result.used ≡ push.used }
+    ensures message { IsInRoom (length buffer.now) result.event }
+{
+    let FramePush {
+        used,
+        stretch,
+        event,
+    } = push;
+    let event = match event {
+        None => None,
+        Some(event) => Some(counted_event(alloc, event, buffer)),
+    };
+    FramePush {
+        used,
+        stretch,
+        event,
+    }
+}

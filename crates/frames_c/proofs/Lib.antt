@@ -1,0 +1,2 @@
+mod PushedLemmas
+mod ReadLemmas

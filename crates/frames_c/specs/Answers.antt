@@ -1,0 +1,59 @@
+-- What calls answer, by numbers.
+use Rattle.std.specs.Prelude.{◌≡◌, ℕ, ◌==◌, if◌then◌else◌, Option, Some, None, Result, Ok, Err}
+use Rattle.cobs.specs.Reports.{parsed_size, frame_size}
+use Rattle.cobs.specs.declared.dec.report.DecodeReport.{DecodeReport}
+use Rattle.cobs.specs.declared.dec.report.DecodeError.{DecodeError}
+use Rattle.cobs.specs.declared.dec.report.DecodeError.TheVariants.{EmptyFrame, InvalidFrame, TargetBufTooSmall}
+use Rattle.cobs.specs.declared.enc.DestBufTooSmallError.{DestBufTooSmallError}
+use Rattle.frames.specs.declared.receiving.FrameEvent.{FrameEvent}
+use Rattle.frames.specs.declared.receiving.FrameEvent.TheVariants.{Message, Damaged, TooLong}
+use Rattle.frames.specs.declared.receiving.FramePush.{FramePush}
+use Rattle.frames.specs.declared.receiving.WrongBuffer.{WrongBuffer}
+use Rattle.frames_c.specs.declared.answers.FramesWritten.{FramesWritten}
+use Rattle.frames_c.specs.declared.answers.FramesEvent.{FramesEvent}
+use Rattle.frames_c.specs.Status.{done, no_room, invalid, empty, more, message, damaged, too_long, misused}
+
+-- a refusal: bytes that are no frame say how many bytes of a message they decide
+abbrev pub IsRefusedBy : DecodeError → ℕ → ℕ → Type 0
+IsRefusedBy EmptyFrame status size = status ≡ empty
+IsRefusedBy (InvalidFrame n) status size = (status ≡ invalid) × (size ≡ n)
+IsRefusedBy TargetBufTooSmall status size = status ≡ no_room
+
+-- an answer with how many bytes were used and how long the message is
+abbrev pub IsReport : Result DecodeReport DecodeError → ℕ → ℕ → ℕ → Type 0
+IsReport (Ok r) status used size = (status ≡ done) × (used ≡ parsed_size r) × (size ≡ frame_size r)
+IsReport (Err e) status used size = IsRefusedBy e status size
+
+-- one with the length of the message alone
+abbrev pub IsLength : Result ℕ DecodeError → ℕ → ℕ → Type 0
+IsLength (Ok n) status size = (status ≡ done) × (size ≡ n)
+IsLength (Err e) status size = IsRefusedBy e status size
+
+-- how many bytes were written, or that they have no room
+abbrev pub IsWritten : Result ℕ DestBufTooSmallError → FramesWritten → Type 0
+IsWritten (Ok n) w = (w.status ≡ done) × (w.length ≡ n)
+IsWritten (Err e) w = (w.status ≡ no_room) × (w.length ≡ 0)
+
+-- how many bytes stand before a sum, or that none does
+abbrev pub IsUnsealed : Option ℕ → FramesWritten → Type 0
+IsUnsealed (Some n) w = (w.status ≡ done) × (w.length ≡ n)
+IsUnsealed None w = (w.status ≡ invalid) × (w.length ≡ 0)
+
+-- what came about, by its number, its place and its length
+abbrev pub event_by : ℕ → ℕ → ℕ → Option FrameEvent
+event_by kind start size = if kind == message then Some (Message start size)
+    else (if kind == damaged then Some Damaged
+    else (if kind == too_long then Some TooLong else None))
+
+-- what a push gave, by its numbers
+abbrev pub push_by : FramesEvent → FramePush
+push_by e = record { used = e.used; stretch = e.stretch; event = event_by e.kind e.start e.length }
+
+-- what a push answers by numbers: what `frames` gives, or that the receiver can't stand over this buffer
+abbrev pub IsPushed : Result FramePush WrongBuffer → FramesEvent → Type 0
+IsPushed (Ok p) e = (push_by e ≡ p) × (e.kind ≡ misused → ⊥)
+IsPushed (Err x) e = (e.kind ≡ misused) × (e.used ≡ 0)
+
+-- what a push of one byte gave, by the number that it answers and the event that it told
+abbrev pub push_told : ℕ → FramesEvent → FramePush
+push_told kind e = if kind == more then record { used = 1; stretch = 0; event = None } else push_by e

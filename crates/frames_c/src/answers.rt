@@ -1,0 +1,204 @@
+//! Answers by numbers.
+ghost use Rattle.std.specs.Prelude.{◌≡◌, ◌≢◌, ◌<◌, ◌≤◌, None, IfOk, OnOk, OnErr};
+ghost use Rattle.frames_c.specs.Status.{message, misused, more};
+ghost use Rattle.frames_c.specs.Answers.{IsRefusedBy, IsReport, IsLength, IsWritten, IsUnsealed, IsPushed, event_by, push_told};
+
+use crate::status::{DAMAGED, DONE, EMPTY, INVALID, MESSAGE, MISUSED, MORE, NO_ROOM, TOO_LONG};
+use cobs::{DecodeError, DecodeReport, DestBufTooSmallError};
+use frames::{FrameEvent, FramePush, WrongBuffer};
+
+/// What a call that writes answers: how many bytes it wrote, 0 where it was refused.
+#[repr(C)]
+#[derive(Clone, Copy)]
+pub struct FramesWritten {
+    pub length: usize,
+    pub status: u8,
+}
+
+/// What a decoding answers: how many bytes of its source were used, and how long the message is; where the bytes are no frame, how
+/// many bytes of a message they decide.
+#[repr(C)]
+#[derive(Clone, Copy)]
+pub struct FramesRead {
+    pub used: usize,
+    pub length: usize,
+    pub status: u8,
+}
+
+/// What a push answers.
+#[repr(C)]
+#[derive(Clone, Copy)]
+pub struct FramesEvent {
+    /// How many bytes of the piece were used.
+    pub used: usize,
+    /// How many bytes of the answered stretch stand before the last byte that was used.
+    pub stretch: usize,
+    /// Where in the buffer the message begins.
+    pub start: usize,
+    /// How many bytes it has.
+    pub length: usize,
+    /// What was found.
+    pub kind: u8,
+}
+
+// What was written.
+pub(crate) fn written(outcome: Result<usize, DestBufTooSmallError>) -> FramesWritten
+    ensures { IsWritten outcome result }
+{
+    match outcome {
+        Ok(length) => FramesWritten {
+            length,
+            status: DONE,
+        },
+        Err(_) => FramesWritten {
+            length: 0,
+            status: NO_ROOM,
+        },
+    }
+}
+
+// What stands before a sum.
+pub(crate) fn unsealed(outcome: Option<usize>) -> FramesWritten
+    ensures { IsUnsealed outcome result }
+{
+    match outcome {
+        Some(length) => FramesWritten {
+            length,
+            status: DONE,
+        },
+        None => FramesWritten {
+            length: 0,
+            status: INVALID,
+        },
+    }
+}
+
+// A refusal.
+fn refused(error: DecodeError) -> FramesRead
+    ensures { IsRefusedBy error result.status result.length }
+{
+    match error {
+        DecodeError::EmptyFrame => FramesRead {
+            used: 0,
+            length: 0,
+            status: EMPTY,
+        },
+        DecodeError::InvalidFrame { decoded_bytes } => FramesRead {
+            used: 0,
+            length: decoded_bytes,
+            status: INVALID,
+        },
+        DecodeError::TargetBufTooSmall => FramesRead {
+            used: 0,
+            length: 0,
+            status: NO_ROOM,
+        },
+    }
+}
+
+// What was decoded.
+pub(crate) fn read(outcome: Result<DecodeReport, DecodeError>) -> FramesRead
+    ensures { IsReport outcome result.status result.used result.length }
+{
+    match outcome {
+        Ok(report) => FramesRead {
+            used: report.parsed_size(),
+            length: report.frame_size(),
+            status: DONE,
+        },
+        Err(error) => refused(error),
+    }
+}
+
+// The same, by the message's length alone.
+pub(crate) fn measured(outcome: Result<usize, DecodeError>) -> FramesWritten
+    ensures { IsLength outcome result.status result.length }
+{
+    match outcome {
+        Ok(length) => FramesWritten {
+            length,
+            status: DONE,
+        },
+        Err(error) => {
+            let FramesRead {
+                used: _,
+                length,
+                status,
+            } = refused(error);
+            FramesWritten { length, status }
+        }
+    }
+}
+
+// What came about, by its number, its place and its length.
+#[inline(always)]
+fn numbered(event: Option<FrameEvent>) -> (u8, usize, usize)
+    ensures event { event_by result.0 result.1 result.2 ≡ event }
+    ensures kind { result.0 < misused }
+    ensures more { event ≡ None → result.0 ≡ more }
+    ensures length { result.0 ≢ message → (result.1 ≡ 0) × (result.2 ≡ 0) }
+{
+    match event {
+        None => (MORE, 0, 0),
+        Some(FrameEvent::Message { start, length }) => (MESSAGE, start, length),
+        Some(FrameEvent::Damaged) => (DAMAGED, 0, 0),
+        Some(FrameEvent::TooLong) => (TOO_LONG, 0, 0),
+    }
+}
+
+// What a push gave.
+#[inline(always)]
+pub(crate) fn pushed(outcome: Result<FramePush, WrongBuffer>) -> FramesEvent
+    ensures gives { IsPushed outcome result }
+    ensures kind { result.kind ≤ misused }
+    ensures length { result.kind ≢ message → (result.start ≡ 0) × (result.length ≡ 0) }
+{
+    match outcome {
+        Ok(push) => {
+            let (kind, start, length) = numbered(push.event);
+            FramesEvent {
+                used: push.used,
+                stretch: push.stretch,
+                start,
+                length,
+                kind,
+            }
+        }
+        Err(_) => FramesEvent {
+            used: 0,
+            stretch: 0,
+            start: 0,
+            length: 0,
+            kind: MISUSED,
+        },
+    }
+}
+
+// What a push of one byte gave: the event is told where something came about.
+#[inline(always)]
+pub(crate) fn told(outcome: Result<FramePush, WrongBuffer>, event: &mut FramesEvent) -> u8
+    ensures ok { IfOk outcome (λ p. p.used ≡ 1 → (p.event ≡ None → p.stretch ≡ 0)
+        → push_told result event.new ≡ p) }
+    ensures wrong { OnErr outcome (result ≡ misused) }
+    ensures can_stand { OnOk outcome (result < misused) }
+    ensures more { result ≡ more → event.new ≡ event.old }
+    ensures misused { result ≡ misused → event.new ≡ event.old }
+{
+    match outcome {
+        Ok(push) => match push.event {
+            None => MORE,
+            some => {
+                let (kind, start, length) = numbered(some);
+                *event = FramesEvent {
+                    used: push.used,
+                    stretch: push.stretch,
+                    start,
+                    length,
+                    kind,
+                };
+                kind
+            }
+        },
+        Err(_) => MISUSED,
+    }
+}

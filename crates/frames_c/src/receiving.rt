@@ -1,0 +1,204 @@
+//! Receiving frames from a stream that comes in pieces, into a buffer of the caller's.
+ghost use Rattle.std.specs.Prelude.{◌≡◌, ◌≢◌, ℕ, ◌+◌, ◌<◌, ◌≤◌, List, [], ◌∷◌, ◌++◌, length, take};
+ghost use Rattle.link.specs.Stream.{begun};
+ghost use Rattle.link.specs.Pushes.{begun_length};
+ghost use Rattle.frames.specs.Standing.{is_cut, StandsBehind};
+ghost use Rattle.frames.specs.Events.{AnswersPlain, AnswersCounted};
+ghost use Rattle.frames_c.specs.Status.{message, misused, more};
+ghost use Rattle.frames_c.specs.Answers.{push_by, push_told};
+
+use crate::answers::{FramesEvent, pushed, told};
+use crate::status::MORE;
+use frames::FrameReceiver;
+use std::alloc::Global;
+
+/// A receiver between stretches, of frames that end in this byte, and whose bytes are each XORed with it.
+#[unsafe(no_mangle)]
+pub extern "C" fn frames_c_receiver(sentinel: u8) -> FrameReceiver
+    ensures { (buffer : List ℕ) → StandsBehind (length buffer) sentinel result buffer [] }
+{
+    FrameReceiver::new(sentinel)
+}
+
+/// Takes bytes of the piece up to the first event: through the sentinel of an ended stretch, or through the byte past the buffer's
+/// length; where there is none, all of them. The event is of the stretch as a whole, also where earlier pushes took its beginning.
+/// Messages are counted.
+///
+/// A message stands in the buffer until the next push. The caller owes that it hands in the same buffer at each call, and leaves its
+/// front alone between two calls. A receiver that can't stand over this buffer is misused: nothing changes then.
+#[unsafe(no_mangle)]
+pub extern "C" fn frames_c_push(
+    alloc: Global,
+    receiver: &mut FrameReceiver,
+    buffer: &mut [u8],
+    bytes: &[u8],
+) -> FramesEvent
+    ensures within { result.used ≤ length bytes.now }
+    ensures stands { (limit s : ℕ) (stream : List ℕ)
+        → StandsBehind limit s receiver.old buffer.old stream
+        → StandsBehind limit s receiver.new buffer.new (stream ++ take result.used bytes.now) }
+    ensures answers { (limit s : ℕ) (stream : List ℕ)
+        → StandsBehind limit s receiver.old buffer.old stream
+        → AnswersCounted limit s stream bytes.now buffer.new (push_by result) }
+    ensures message { result.start + result.length ≤ length buffer.new }
+    ensures length { result.kind ≢ message → (result.start ≡ 0) × (result.length ≡ 0) }
+    ensures kind { result.kind ≤ misused }
+    ensures forward { result.kind ≢ misused → 0 < length bytes.now → 0 < result.used }
+    ensures can_stand { receiver.old.count ≤ length buffer.old → result.kind ≢ misused }
+    ensures misused { length buffer.old < receiver.old.count → (result.kind ≡ misused)
+        × (result.used ≡ 0) × (receiver.new ≡ receiver.old) × (buffer.new ≡ buffer.old) }
+    ensures sentinel { receiver.new.sentinel ≡ receiver.old.sentinel }
+{
+    pushed(receiver.push(alloc, buffer, bytes))
+}
+
+/// The same of plain messages, which stand in front of the buffer.
+#[unsafe(no_mangle)]
+pub extern "C" fn frames_c_push_plain(
+    receiver: &mut FrameReceiver,
+    buffer: &mut [u8],
+    bytes: &[u8],
+) -> FramesEvent
+    ensures within { result.used ≤ length bytes.now }
+    ensures stands { (limit s : ℕ) (stream : List ℕ)
+        → StandsBehind limit s receiver.old buffer.old stream
+        → StandsBehind limit s receiver.new buffer.new (stream ++ take result.used bytes.now) }
+    ensures answers { (limit s : ℕ) (stream : List ℕ)
+        → StandsBehind limit s receiver.old buffer.old stream
+        → AnswersPlain limit s stream bytes.now buffer.new (push_by result) }
+    ensures front { result.start ≡ 0 }
+    ensures message { result.length ≤ length buffer.new }
+    ensures length { result.kind ≢ message → result.length ≡ 0 }
+    ensures kind { result.kind ≤ misused }
+    ensures forward { result.kind ≢ misused → 0 < length bytes.now → 0 < result.used }
+    ensures can_stand { receiver.old.count ≤ length buffer.old → result.kind ≢ misused }
+    ensures misused { length buffer.old < receiver.old.count → (result.kind ≡ misused)
+        × (result.used ≡ 0) × (receiver.new ≡ receiver.old) × (buffer.new ≡ buffer.old) }
+    ensures sentinel { receiver.new.sentinel ≡ receiver.old.sentinel }
+{
+    pushed(receiver.push_plain(buffer, bytes))
+}
+
+// The long way of a byte, which may bring something about.
+#[inline(never)]
+fn take_byte(
+    alloc: Global,
+    receiver: &mut FrameReceiver,
+    buffer: &mut [u8],
+    byte: u8,
+    event: &mut FramesEvent,
+) -> u8
+    ensures stands { (limit s : ℕ) (stream : List ℕ)
+        → StandsBehind limit s receiver.old buffer.old stream
+        → StandsBehind limit s receiver.new buffer.new (stream ++ (byte ∷ [])) }
+    ensures answers { (limit s : ℕ) (stream : List ℕ)
+        → StandsBehind limit s receiver.old buffer.old stream
+        → AnswersCounted limit s stream (byte ∷ []) buffer.new (push_told result event.new) }
+    ensures more { result ≡ more → event.new ≡ event.old }
+    ensures can_stand { receiver.old.count ≤ length buffer.old → result < misused }
+    ensures misused { length buffer.old < receiver.old.count → (result ≡ misused)
+        × (receiver.new ≡ receiver.old) × (buffer.new ≡ buffer.old) × (event.new ≡ event.old) }
+    ensures sentinel { receiver.new.sentinel ≡ receiver.old.sentinel }
+{
+    told(receiver.push_byte(alloc, buffer, byte), event)
+}
+
+/// One byte, as a push of it alone, for an interrupt handler. Answers what was found, and tells the event where that isn't `MORE`.
+#[unsafe(no_mangle)]
+pub extern "C" fn frames_c_push_byte(
+    alloc: Global,
+    receiver: &mut FrameReceiver,
+    buffer: &mut [u8],
+    byte: u8,
+    event: &mut FramesEvent,
+) -> u8
+    ensures stands { (limit s : ℕ) (stream : List ℕ)
+        → StandsBehind limit s receiver.old buffer.old stream
+        → StandsBehind limit s receiver.new buffer.new (stream ++ (byte ∷ [])) }
+    ensures answers { (limit s : ℕ) (stream : List ℕ)
+        → StandsBehind limit s receiver.old buffer.old stream
+        → AnswersCounted limit s stream (byte ∷ []) buffer.new (push_told result event.new) }
+    ensures more { result ≡ more → event.new ≡ event.old }
+    ensures can_stand { receiver.old.count ≤ length buffer.old → result < misused }
+    ensures misused { length buffer.old < receiver.old.count → (result ≡ misused)
+        × (receiver.new ≡ receiver.old) × (buffer.new ≡ buffer.old) × (event.new ≡ event.old) }
+    ensures sentinel { receiver.new.sentinel ≡ receiver.old.sentinel }
+{
+    if receiver.stores(buffer, byte) {
+        return MORE;
+    }
+    take_byte(alloc, receiver, buffer, byte, event)
+}
+
+// The long way of a byte, which may bring something about.
+#[inline(never)]
+fn take_byte_plain(
+    receiver: &mut FrameReceiver,
+    buffer: &mut [u8],
+    byte: u8,
+    event: &mut FramesEvent,
+) -> u8
+    ensures stands { (limit s : ℕ) (stream : List ℕ)
+        → StandsBehind limit s receiver.old buffer.old stream
+        → StandsBehind limit s receiver.new buffer.new (stream ++ (byte ∷ [])) }
+    ensures answers { (limit s : ℕ) (stream : List ℕ)
+        → StandsBehind limit s receiver.old buffer.old stream
+        → AnswersPlain limit s stream (byte ∷ []) buffer.new (push_told result event.new) }
+    ensures more { result ≡ more → event.new ≡ event.old }
+    ensures can_stand { receiver.old.count ≤ length buffer.old → result < misused }
+    ensures misused { length buffer.old < receiver.old.count → (result ≡ misused)
+        × (receiver.new ≡ receiver.old) × (buffer.new ≡ buffer.old) × (event.new ≡ event.old) }
+    ensures sentinel { receiver.new.sentinel ≡ receiver.old.sentinel }
+{
+    told(receiver.push_byte_plain(buffer, byte), event)
+}
+
+/// The same of plain messages.
+#[unsafe(no_mangle)]
+pub extern "C" fn frames_c_push_byte_plain(
+    receiver: &mut FrameReceiver,
+    buffer: &mut [u8],
+    byte: u8,
+    event: &mut FramesEvent,
+) -> u8
+    ensures stands { (limit s : ℕ) (stream : List ℕ)
+        → StandsBehind limit s receiver.old buffer.old stream
+        → StandsBehind limit s receiver.new buffer.new (stream ++ (byte ∷ [])) }
+    ensures answers { (limit s : ℕ) (stream : List ℕ)
+        → StandsBehind limit s receiver.old buffer.old stream
+        → AnswersPlain limit s stream (byte ∷ []) buffer.new (push_told result event.new) }
+    ensures more { result ≡ more → event.new ≡ event.old }
+    ensures can_stand { receiver.old.count ≤ length buffer.old → result < misused }
+    ensures misused { length buffer.old < receiver.old.count → (result ≡ misused)
+        × (receiver.new ≡ receiver.old) × (buffer.new ≡ buffer.old) × (event.new ≡ event.old) }
+    ensures sentinel { receiver.new.sentinel ≡ receiver.old.sentinel }
+{
+    if receiver.stores(buffer, byte) {
+        return MORE;
+    }
+    take_byte_plain(receiver, buffer, byte, event)
+}
+
+/// Ends the stream, and begins a new one. Whether a stretch was begun and not answered: it is cut.
+#[unsafe(no_mangle)]
+pub extern "C" fn frames_c_finish(receiver: &mut FrameReceiver) -> bool
+    ensures cut { (limit s : ℕ) (buffer stream : List ℕ)
+        → StandsBehind limit s receiver.old buffer stream
+        → result ≡ is_cut (begun limit s stream) }
+    ensures anew { (limit s : ℕ) (buffer stream : List ℕ)
+        → StandsBehind limit s receiver.old buffer stream
+        → StandsBehind limit s receiver.new buffer [] }
+    ensures sentinel { receiver.new.sentinel ≡ receiver.old.sentinel }
+{
+    receiver.finish()
+}
+
+/// How many bytes a begun stretch has so far: 0 where none is begun, and where it is too long.
+#[unsafe(no_mangle)]
+pub extern "C" fn frames_c_begun(receiver: &FrameReceiver) -> usize
+    ensures { (limit s : ℕ) (buffer stream : List ℕ)
+        → StandsBehind limit s receiver.now buffer stream
+        → result ≡ begun_length (begun limit s stream) }
+{
+    receiver.begun_bytes()
+}

@@ -1,0 +1,33 @@
+-- What opening a log by the records that count is.
+use Rattle.std.specs.Prelude.{◌≡◌, ℕ, Bool, false, List, [], ◌∷◌}
+use Rattle.line_io.specs.Device.{LineState, Wrote}
+use Rattle.postcard_tree.specs.Tree.{Tree}
+use Rattle.stores.specs.Store.{Settles}
+use Rattle.journal_scan.specs.Checks.{IsChecked}
+use Rattle.journal_scan.specs.Tallies.{IsTally, behind_greatest}
+use Rattle.journal_scan.specs.declared.scanning.Stretch.{Stretch}
+use Rattle.journal_scan.specs.declared.checking.Report.{Report}
+use Rattle.journal.specs.declared.reading.ReadError.{ReadError}
+use Rattle.journal.specs.declared.reading.ReadError.TheVariants.{Fault as ReadFault, NoMemory as ReadNoMemory, Halted as ReadHalted}
+use Rattle.journal_scan.specs.declared.scanning.ScanError.TheVariants.{Fault, NoMemory}
+use Rattle.journal_scan.specs.declared.checking.CheckError.{CheckError}
+use Rattle.journal_scan.specs.declared.checking.CheckError.TheVariants.{Read, Halted}
+
+-- A log was opened: a zero was put behind what the store held; no crash takes any of that; the watcher was told of all its stretches;
+-- and the next number is the one behind the greatest of the records that count.
+pub record IsOpenedBy {V W : Type 0}
+    (told : W → List (Stretch V) → W → Type 0) (counted : ℕ → V → Bool)
+    (takes : Tree → Type 0) (reads : Tree → V → Type 0) (limit : ℕ)
+    (old new : LineState) (settled : ℕ) (watcher later : W) (report : Report V) (next : ℕ) (spent : Bool) : Type 0 where
+  pub wrote : Wrote old new (0 ∷ [])
+  pub quiet : new.faults ≡ old.faults
+  pub settles : Settles new.told settled
+  pub checked : IsChecked told counted takes reads limit new.told watcher later report.tally report.unfinished
+  pub next_is : (numbers : List ℕ) → IsTally numbers report.tally → next ≡ behind_greatest numbers
+  pub ready : spent ≡ false
+
+-- a cause of a check, as reading a log says it
+abbrev pub IsReadErrorOf : CheckError → ReadError → Type 0
+IsReadErrorOf (Read Fault) e = e ≡ ReadFault
+IsReadErrorOf (Read NoMemory) e = e ≡ ReadNoMemory
+IsReadErrorOf Halted e = e ≡ ReadHalted

@@ -1,0 +1,69 @@
+//! Opening a log to be appended to, by the records that count.
+ghost use Rattle.std.specs.Prelude.{◌<◌, true, IfOk, IfErr};
+ghost use Rattle.line_io.specs.Transfers.{Failed};
+ghost use Rattle.link.specs.Listening.{ReceiverFitsInMemory};
+ghost use Rattle.journal.specs.Logs.{store_of, next_of, spent_of};
+ghost use Rattle.journal.specs.Reading.{HaltsBehind, OpenCause};
+ghost use Rattle.journal_scan.specs.Opening.{IsOpenedBy, IsReadErrorOf};
+
+use crate::checking::{CheckError, Report, check};
+use crate::scanning::ScanError;
+use crate::watching::Watcher;
+use journal::{Journal, OpenError, ReadError, Unopened};
+use postcard::{DeserializeOwned, Exact};
+use std::alloc::Global;
+use stores::{Store, put};
+
+// The same cause, as reading a log says it.
+fn read_error(e: CheckError) -> ReadError
+    ensures { IsReadErrorOf e result }
+{
+    match e {
+        CheckError::Read(ScanError::Fault) => ReadError::Fault,
+        CheckError::Read(ScanError::NoMemory) => ReadError::NoMemory,
+        CheckError::Halted => ReadError::Halted,
+    }
+}
+
+/// Opens a log as `Journal::open` does, but reads it once, as `check` does, by the records that count: the next number is the one
+/// behind the greatest of these, also where numbers are missing before it and the bytes that accounted for them are gone. A record
+/// that doesn't count moves nothing, whatever its number.
+///
+/// At an error the store is handed back; it may have got the zero.
+pub fn open_by<T: DeserializeOwned + Exact, S: Store, W: Watcher<T>, const N: usize>(
+    alloc: Global,
+    store: S,
+    watcher: &mut W,
+) -> Result<(Journal<S, N>, Report<T>), Unopened<S>>
+    requires some { 1 < N }
+    requires fits { ReceiverFitsInMemory N.row }
+    ensures opened { IfOk result (λ r. IsOpenedBy W.told W.counted T.form.takes T.form.reads N
+        (S.line store) (S.line (store_of r.0)) (S.settled (store_of r.0))
+        watcher.old watcher.new r.1 (next_of r.0) (spent_of r.0)) }
+    ensures cause { IfErr result (λ e. OpenCause (Failed (S.line store) (S.line e.store)) true
+        (HaltsBehind W.told W.halts watcher.old) e.cause) }
+{
+    let mut store = store;
+    if put(&mut store, &[0]) == 0 {
+        return Err(Unopened {
+            cause: OpenError::Line,
+            store,
+        });
+    }
+    if store.sync().is_err() {
+        return Err(Unopened {
+            cause: OpenError::Sync,
+            store,
+        });
+    }
+    match check::<T, S, W>(alloc, N, &mut store, watcher) {
+        Ok(report) => {
+            let next = report.tally.next();
+            Ok((Journal::resume(store, next), report))
+        }
+        Err(e) => Err(Unopened {
+            cause: OpenError::Read(read_error(e)),
+            store,
+        }),
+    }
+}

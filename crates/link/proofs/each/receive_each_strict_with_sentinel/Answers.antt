@@ -1,5 +1,0 @@
-use Rattle.link.proofs.HandingLemmas.{handed_first}
-use Rattle.link.proofs.each.receive_each_strict_with_sentinel.Goals as goal
-
-pub returns-clause-received : goal.returns-clause-received
-returns-clause-received g c = let h = c.receive_each_with.ensures.received _ c.args.sentinel c.new_with_sentinel-receiver.ensures.after in (h.0, h.1, handed_first _ _ _ _ _ h.2)

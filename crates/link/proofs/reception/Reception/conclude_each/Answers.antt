@@ -1,0 +1,30 @@
+use Rattle.std.proofs.Common.{[], ◌∷◌, ◌++◌, Ok, refl, sym, ◌∙◌, subst}
+use Rattle.std.proofs.lemmas.List.{append-nil}
+use Rattle.link.specs.Stream.{begun}
+use Rattle.link.specs.Listening.{KeepsAnswer, HasGiven, EndsAtLoss}
+use Rattle.link.proofs.EndingLemmas.{ended_by}
+use Rattle.link.proofs.HandingLemmas.{handed_none, handed_one, handed_paused}
+use Rattle.link.proofs.reception.Reception.conclude_each.Goals as goal
+
+pub returns-in-Some-clause-handed : goal.returns-in-Some-clause-handed
+returns-in-Some-clause-handed g c =
+    let a = c.in-Some.answer in
+    rw c.in-Ended.is (handed_paused g.H.Hearer.hears g.H.Hearer.laws _ _ _ _ (handed_one g.H.Hearer.hears g.H.Hearer.laws _ _ a _ c.hear.ensures (λ limit s stream given k.
+    ended_by (g.M.MessageReader.judging c.args.messages.now).holds limit s stream (g.M.MessageReader.judging c.args.messages.now).reads given (given ++ (a ∷ [])) (begun limit s stream) refl k.given
+    (subst (λ o. KeepsAnswer (Ok o) given (given ++ (a ∷ []))) (sym c.in-Some.is ∙ c.ending.ensures limit s stream k.after) refl))) c.pause.ensures.heard)
+
+pub returns-in-None-clause-handed : goal.returns-in-None-clause-handed
+returns-in-None-clause-handed g c =
+    rw c.in-Ended.is (handed_none g.H.Hearer.hears g.H.Hearer.laws _ _ (λ limit s stream given k.
+    ended_by (g.M.MessageReader.judging c.args.messages.now).holds limit s stream (g.M.MessageReader.judging c.args.messages.now).reads given (given ++ []) (begun limit s stream) refl k.given
+    (subst (λ o. KeepsAnswer (Ok o) given (given ++ [])) (sym c.in-None.is ∙ c.ending.ensures limit s stream k.after) (append-nil given))))
+
+pub returns-in-ReadFault-clause-handed : goal.returns-in-ReadFault-clause-handed
+returns-in-ReadFault-clause-handed g c =
+    rw c.in-ReadFault.is (handed_none g.H.Hearer.hears g.H.Hearer.laws _ _ (λ limit s stream given k.
+    subst (λ xs. HasGiven (g.M.MessageReader.judging c.args.messages.now).holds (g.M.MessageReader.judging c.args.messages.now).reads limit s xs stream) (sym (append-nil given)) k.given))
+
+pub returns-in-NoMemory-clause-handed : goal.returns-in-NoMemory-clause-handed
+returns-in-NoMemory-clause-handed g c =
+    rw c.in-NoMemory.is (handed_none g.H.Hearer.hears g.H.Hearer.laws _ _ (λ limit s stream given k.
+    subst (λ xs. EndsAtLoss (g.M.MessageReader.judging c.args.messages.now).holds (g.M.MessageReader.judging c.args.messages.now).reads limit s xs stream) (sym (append-nil given)) k.0))

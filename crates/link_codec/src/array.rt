@@ -1,0 +1,39 @@
+//! Decoders with a limit that is part of the type.
+ghost use Rattle.std.specs.Prelude.{[]};
+
+use crate::by_type::ByType;
+use crate::decoder::AnswerDecoder;
+use cobs::CobsDecoderHeapless;
+use link::{OfType, Ordinary, Receiver, Strict};
+
+/// Answers as `push` of a `Receiver<N>` does, with stretches of at most N bytes; N may be 0.
+pub type LinkDecoder<T, const N: usize> = AnswerDecoder<
+    T,
+    Ordinary<OfType>,
+    CobsDecoderHeapless<N>,
+>;
+
+/// Answers as `push_strict` of a `Receiver<N>` does, with stretches of at most N bytes; N may be 0.
+pub type StrictLinkDecoder<T, const N: usize> = AnswerDecoder<
+    T,
+    Strict<OfType>,
+    CobsDecoderHeapless<N>,
+>;
+
+impl<T, M: ByType, const N: usize> AnswerDecoder<T, M, CobsDecoderHeapless<N>> {
+    ghost use Rattle.link_codec.specs.Decoders.{IsGiven};
+
+    /// A decoder that was given nothing. Its sentinel is zero.
+    pub fn new() -> AnswerDecoder<T, M, CobsDecoderHeapless<N>>
+        ensures { IsGiven N 0 result [] }
+    {
+        AnswerDecoder::<T, M, CobsDecoderHeapless<N>>::new_with_sentinel(0)
+    }
+
+    /// A decoder that was given nothing, for a line with this sentinel.
+    pub fn new_with_sentinel(sentinel: u8) -> AnswerDecoder<T, M, CobsDecoderHeapless<N>>
+        ensures { IsGiven N sentinel result [] }
+    {
+        AnswerDecoder::with(Receiver::<N>::new_with_sentinel(sentinel), M::by_type())
+    }
+}

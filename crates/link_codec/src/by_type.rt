@@ -1,0 +1,20 @@
+//! Readers of messages that are made of nothing.
+use link::{OfType, Ordinary, Strict};
+
+/// A reader of messages that its own type determines, so that a decoder can be made without naming it.
+pub trait ByType {
+    /// The reader.
+    fn by_type() -> Self;
+}
+
+impl ByType for Ordinary<OfType> {
+    fn by_type() -> Ordinary<OfType> {
+        Ordinary(OfType)
+    }
+}
+
+impl ByType for Strict<OfType> {
+    fn by_type() -> Strict<OfType> {
+        Strict(OfType)
+    }
+}

@@ -1,0 +1,198 @@
+//! What stands where a value or a list found no memory, and what is heard behind it.
+//!
+//! The tests whose names begin with `said` are also run with each growth refused in turn, by `.ci/refusals`: then one answer is
+//! missing, and no more. In the gate none is refused, and none is missing.
+ghost use Rattle.std.specs.Prelude.{◌≡◌, ◌<◌, false, ⊤};
+ghost use Rattle.link.specs.Each.{HeardAnyhow, heard_anyhow};
+
+use crate::checks::check;
+use line_io::memory::In;
+use link::{Answer, End, Hearer, OfType, Ordinary, Receiver, receive, receive_by_accumulator};
+use std::alloc::Global;
+
+// Four vectors and their frames. In the longer two there stands the frame of a vector that nobody sent: whoever begins to listen
+// inside them hears it.
+const SENT: [&[u8]; 4] = [&[9], &[3, 1, 7], &[2], &[3, 1, 8]];
+
+const LINE: [u8; 20] = [3, 1, 9, 0, 5, 3, 3, 1, 7, 0, 3, 1, 2, 0, 5, 3, 3, 1, 8, 0];
+
+/// How many of the vectors were heard, in their order.
+#[derive(Drop)]
+struct Hearing {
+    heard: usize,
+    /// Where the next one may stand.
+    next: usize,
+    /// Whether nothing else was heard.
+    is_right: bool,
+}
+
+impl Hearing {
+    fn new() -> Hearing {
+        Hearing {
+            heard: 0,
+            next: 0,
+            is_right: true,
+        }
+    }
+}
+
+// Where a vector stands among those that were sent, from this place on.
+fn place_of(answer: &Answer<Vec<u8>>, from: usize) -> Option<usize> {
+    let Answer::Value(value) = answer else {
+        return None;
+    };
+    for (at, sent) in SENT.iter().enumerate() {
+        if from <= at && value.as_slice() == *sent {
+            return Some(at);
+        }
+    }
+    None
+}
+
+impl Hearer<Vec<u8>> for Hearing {
+    ghost hears = { HeardAnyhow };
+
+    ghost laws = { heard_anyhow };
+
+    ghost enough = { λ h. false };
+
+    ghost settled = { λ _. ⊤ };
+
+    fn hear(&mut self, answer: Answer<Vec<u8>>)
+        ensures { ⊤ }
+    {
+        match place_of(&answer, self.next) {
+            Some(at) => {
+                self.heard = self.heard.saturating_add(1);
+                self.next = at.saturating_add(1);
+            }
+            None => self.is_right = false,
+        }
+    }
+
+    fn pause(&mut self)
+        ensures heard { ⊤ }
+        ensures settles { ⊤ }
+    {}
+
+    fn has_enough(&self) -> bool
+        ensures { result ≡ false }
+    {
+        false
+    }
+}
+
+/// What one read of a line that idles has come to.
+#[derive(Clone, Copy, PartialEq, Eq, Drop)]
+enum Turn {
+    More,
+    Nothing,
+    Failed,
+    Lost,
+}
+
+fn listen(
+    alloc: Global,
+    receiver: &mut Receiver<16>,
+    reader: &mut In<'_>,
+    hearer: &mut Hearing,
+) -> Turn {
+    let mut room = [0u8; 64];
+    match receiver.listen_with(alloc, &Ordinary(OfType), reader, hearer, &mut room) {
+        // the answers of this read were handed on; there may be more
+        None => Turn::More,
+        // the read took nothing: the time is over, or the line has ended
+        Some(End::Ended) => Turn::Nothing,
+        // it failed, or was interrupted
+        Some(End::ReadFault) => Turn::Failed,
+        // a value found no memory: its answer alone is missing
+        Some(End::NoMemory) => Turn::Lost,
+    }
+}
+
+/// How many values found no memory until the line had ended.
+fn listen_out(
+    alloc: Global,
+    receiver: &mut Receiver<16>,
+    reader: &mut In<'_>,
+    hearer: &mut Hearing,
+) -> usize {
+    let mut lost = 0usize;
+    for _ in 0..32 {
+        match listen(alloc, receiver, reader, hearer) {
+            Turn::More => {}
+            Turn::Lost => lost = lost.saturating_add(1),
+            Turn::Nothing | Turn::Failed => break,
+        }
+    }
+    lost
+}
+
+/// Whoever listens on hears all but the lost one, and nothing else.
+fn is_heard_on(alloc: Global, each: usize) -> bool
+    requires { 0 < each }
+{
+    let mut receiver = Receiver::<16>::new();
+    let mut reader = In::new(&LINE, each, None);
+    let mut hearing = Hearing::new();
+    let lost = listen_out(alloc, &mut receiver, &mut reader, &mut hearing);
+    let whole = hearing.heard.saturating_add(lost) == 4;
+    hearing.is_right && whole && reader.moved() == 20 && receiver.is_between()
+}
+
+#[test]
+fn said_by_listening(rt: HostRuntime) {
+    check(&rt, is_heard_on(rt.alloc(), 1));
+    check(&rt, is_heard_on(rt.alloc(), 7));
+    check(&rt, is_heard_on(rt.alloc(), 20));
+}
+
+/// Where a reception ended at a lost value, the receiver stands behind all that was read: who listens on hears nothing else than was
+/// sent.
+fn is_behind(alloc: Global, each: usize) -> bool
+    requires { 0 < each }
+{
+    let mut receiver = Receiver::<16>::new();
+    let mut reader = In::new(&LINE, each, None);
+    let mut hearing = Hearing::new();
+    let end = receiver.receive_each_with(alloc, &Ordinary(OfType), &mut reader, &mut hearing);
+    let whole = end == Some(End::Ended) && hearing.heard == 4;
+    let lost = end == Some(End::NoMemory) && hearing.heard < 4;
+    let _ = listen_out(alloc, &mut receiver, &mut reader, &mut hearing);
+    hearing.is_right && (whole || lost) && reader.moved() == 20 && receiver.is_between()
+}
+
+#[test]
+fn said_by_receiving_each(rt: HostRuntime) {
+    check(&rt, is_behind(rt.alloc(), 1));
+    check(&rt, is_behind(rt.alloc(), 7));
+    check(&rt, is_behind(rt.alloc(), 20));
+}
+
+// The frames of six vectors of one byte: more than the first growth of a list has room for.
+const SIX: [u8; 24] = [
+    3, 1, 1, 0, 3, 1, 2, 0, 3, 1, 3, 0, 3, 1, 4, 0, 3, 1, 5, 0, 3, 1, 6, 0,
+];
+
+/// Byte by byte, so that a reception ends at the byte at which memory was wanting: each frame before that one is answered.
+#[test]
+fn said_by_lists(rt: HostRuntime) {
+    let got = receive::<Vec<u8>, _, 16>(rt.alloc(), In::new(&SIX, 1, None));
+    let missing = usize::from(got.end == End::NoMemory);
+    let answered = got.answers.len().saturating_add(missing);
+    check(&rt, answered == got.reader.moved() / 4);
+    check(&rt, missing == 1 || answered == 6);
+}
+
+/// The same of the accumulator's loop, which leaves a value without memory out, and ends where its list finds none.
+#[test]
+fn said_by_accumulating(rt: HostRuntime) {
+    let got = receive_by_accumulator::<Vec<u8>, _, 16>(rt.alloc(), In::new(&SIX, 1, None));
+    let frames = got.reader.moved() / 4;
+    let count = got.values.len();
+    match got.end {
+        End::NoMemory => check(&rt, count.saturating_add(1) == frames),
+        End::Ended => check(&rt, frames == 6 && 5 <= count && count <= 6),
+        End::ReadFault => check(&rt, false),
+    }
+}

@@ -1,0 +1,95 @@
+//! The files of declarations that a word names: one, several with commas between them, and all that folders have.
+use crate::stop::{Stop, no_file};
+use declarations::Source;
+use std::fs;
+use std::path::AsPath;
+
+/// How the names of files end that are taken from folders.
+const ENDING: &str = ".rs";
+
+/// Whether a path is that of a folder.
+fn is_folder(rt: &HostRuntime, path: &str) -> bool {
+    match fs::metadata(rt, path) {
+        Ok(metadata) => metadata.is_dir(),
+        Err(_) => false,
+    }
+}
+
+/// Whether a name is one of those that builds and tools make.
+fn is_made(name: &str) -> bool {
+    name.starts_with('.') || name == "target"
+}
+
+/// Adds the files that a folder has by itself to the files, and the folders in it to the folders.
+fn add_entries(
+    rt: &HostRuntime,
+    folder: &str,
+    folders: &mut Vec<String>,
+    files: &mut Vec<String>,
+) -> Result<(), Stop> {
+    let Ok(entries) = fs::read_dir(rt, folder) else {
+        return Err(no_file(rt, folder));
+    };
+    for entry in entries {
+        let Ok(entry) = entry else {
+            return Err(no_file(rt, folder));
+        };
+        let path = String::from_str(rt.alloc(), entry.path().path_text())?;
+        if is_made(entry.file_name()) {
+            continue;
+        }
+        if matches!(entry.file_type(), Ok(kind) if kind.is_dir()) {
+            folders.push(path)?;
+        } else if path.ends_with(ENDING) {
+            files.push(path)?;
+        }
+    }
+    Ok(())
+}
+
+/// Adds the files that a folder has, and those of the folders in it.
+fn add_folder(rt: &HostRuntime, folder: &str, files: &mut Vec<String>) -> Result<(), Stop> {
+    let mut folders = Vec::new(rt.alloc());
+    folders.push(String::from_str(rt.alloc(), folder)?)?;
+    for _ in 0..u64::MAX {
+        let Some(folder) = folders.pop() else {
+            break;
+        };
+        add_entries(rt, folder.as_str(), &mut folders, files)?;
+    }
+    Ok(())
+}
+
+/// Adds the files that a path names.
+fn add(rt: &HostRuntime, path: &str, files: &mut Vec<String>) -> Result<(), Stop> {
+    if is_folder(rt, path) {
+        return add_folder(rt, path, files);
+    }
+    Ok(files.push(String::from_str(rt.alloc(), path)?)?)
+}
+
+/// The text of a file.
+fn read(rt: &HostRuntime, file: String) -> Result<Source, Stop> {
+    match fs::read_to_string(rt, file.as_str()) {
+        Ok(text) => Ok(Source { file, text }),
+        Err(_) => Err(no_file(rt, file.as_str())),
+    }
+}
+
+/// The files that a word names, in the order of their names.
+pub fn sources_of(rt: &HostRuntime, word: &str) -> Result<Vec<Source>, Stop> {
+    let mut files = Vec::new(rt.alloc());
+    if fs::metadata(rt, word).is_ok() {
+        add(rt, word, &mut files)?;
+    } else {
+        for path in word.split(',') {
+            add(rt, path, &mut files)?;
+        }
+    }
+    files.sort()?;
+    let mut sources = Vec::new(rt.alloc());
+    for file in files {
+        sources.push(read(rt, file)?)?;
+    }
+    Ok(sources)
+}

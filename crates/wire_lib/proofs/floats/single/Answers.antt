@@ -1,0 +1,10 @@
+use Rattle.std.proofs.Common.{◌∙◌}
+use Rattle.std.proofs.lemmas.Bool.{le-ltb}
+use Rattle.std.proofs.lemmas.Float.{T_from_false}
+use Rattle.std.specs.Float.{binary32}
+use lib.Ieee.Bits.{nan_bits_above}
+use Rattle.wire_lib.proofs.floats.single.Goals as goal
+
+pub float_from_bits-result : goal.float_from_bits-result
+float_from_bits-result c =
+    T_from_false _ (nan_bits_above binary32 c.args.bits ∙ le-ltb _ _ c.if-bits-gt-EXPONENT.false)

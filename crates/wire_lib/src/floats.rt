@@ -1,0 +1,148 @@
+//! Floats that are no numbers as texts, and floats of JSON by their bits.
+use schemas::{Integer, IntegerType};
+use std::alloc::{AllocError, Global};
+use std::fmt::Write;
+
+/// How each text of a NaN begins that isn't the usual one; its bits stand behind.
+const BITS: &str = "NaN:";
+
+/// The sign of a float of 32 bits, and its exponent where it is no number.
+const SIGN: u32 = 0x8000_0000;
+
+const EXPONENT: u32 = 0x7f80_0000;
+
+/// The same of 64 bits.
+const DOUBLE_SIGN: u64 = 0x8000_0000_0000_0000;
+
+const DOUBLE_EXPONENT: u64 = 0x7ff0_0000_0000_0000;
+
+/// The float of these bits, unless they are a NaN's.
+pub fn single(bits: u32) -> Option<f32> {
+    if bits % SIGN > EXPONENT {
+        None
+    } else {
+        Some(f32::from_bits(bits))
+    }
+}
+
+/// The same of 64 bits.
+pub fn double(bits: u64) -> Option<f64> {
+    if bits % DOUBLE_SIGN > DOUBLE_EXPONENT {
+        None
+    } else {
+        Some(f64::from_bits(bits))
+    }
+}
+
+/// The text of a float of 32 bits that is no number: `Infinity`, `-Infinity`, `NaN`, or with its bits `NaN:7fc00001`.
+pub fn word_of(alloc: Global, bits: u32) -> Result<String, AllocError> {
+    match bits {
+        0x7f80_0000 => String::from_str(alloc, "Infinity"),
+        0xff80_0000 => String::from_str(alloc, "-Infinity"),
+        0x7fc0_0000 => String::from_str(alloc, "NaN"),
+        _ => {
+            let mut word = String::from_str(alloc, BITS)?;
+            if write!(word, "{bits:08x}").is_err() {
+                return Err(AllocError);
+            }
+            Ok(word)
+        }
+    }
+}
+
+/// The same of 64 bits.
+pub fn word_of_double(alloc: Global, bits: u64) -> Result<String, AllocError> {
+    match bits {
+        0x7ff0_0000_0000_0000 => String::from_str(alloc, "Infinity"),
+        0xfff0_0000_0000_0000 => String::from_str(alloc, "-Infinity"),
+        0x7ff8_0000_0000_0000 => String::from_str(alloc, "NaN"),
+        _ => {
+            let mut word = String::from_str(alloc, BITS)?;
+            if write!(word, "{bits:016x}").is_err() {
+                return Err(AllocError);
+            }
+            Ok(word)
+        }
+    }
+}
+
+/// The bits that stand as so many hexadecimal digits behind the word for a NaN.
+fn bits_of_nan(word: &str, digits: usize) -> Option<u64> {
+    let text = word.strip_prefix(BITS)?;
+    if text.len() != digits {
+        return None;
+    }
+    let mut bits: u64 = 0;
+    for character in text.chars() {
+        bits = bits
+            .checked_mul(16)?
+            .checked_add(u64::from(character.to_digit(16)?))?;
+    }
+    Some(bits)
+}
+
+/// The bits of a float of 32 bits by a text.
+fn bits_of_word(word: &str) -> Option<u32> {
+    match word {
+        "Infinity" => return Some(0x7f80_0000),
+        "-Infinity" => return Some(0xff80_0000),
+        "NaN" => return Some(0x7fc0_0000),
+        _ => {}
+    }
+    let bits = bits_of_nan(word, 8)?;
+    if bits % 0x8000_0000 <= 0x7f80_0000 {
+        return None;
+    }
+    u32::try_from(bits).ok()
+}
+
+/// The same of 64 bits.
+fn bits_of_word_of_double(word: &str) -> Option<u64> {
+    match word {
+        "Infinity" => return Some(0x7ff0_0000_0000_0000),
+        "-Infinity" => return Some(0xfff0_0000_0000_0000),
+        "NaN" => return Some(0x7ff8_0000_0000_0000),
+        _ => {}
+    }
+    let bits = bits_of_nan(word, 16)?;
+    if bits % 0x8000_0000_0000_0000 <= 0x7ff0_0000_0000_0000 {
+        return None;
+    }
+    Some(bits)
+}
+
+/// The bits of the float of 32 bits that is nearest to a number, unless that is an infinity.
+fn bits_of_number(text: &str) -> Option<u32> {
+    let number: f32 = fast_float::parse(text).ok()?;
+    if !number.is_finite() {
+        return None;
+    }
+    Some(number.to_bits())
+}
+
+/// The same of 64 bits.
+fn bits_of_double(text: &str) -> Option<u64> {
+    let number: f64 = fast_float::parse(text).ok()?;
+    if !number.is_finite() {
+        return None;
+    }
+    Some(number.to_bits())
+}
+
+/// The bits of a float of a width, by a number of JSON.
+pub fn float_of_number(of: IntegerType, text: &str) -> Option<Integer> {
+    match of {
+        IntegerType::U32 => Some(Integer::U32(bits_of_number(text)?)),
+        IntegerType::U64 => Some(Integer::U64(bits_of_double(text)?)),
+        _ => None,
+    }
+}
+
+/// The same by a text that stands for what is no number.
+pub fn float_of_word(of: IntegerType, word: &str) -> Option<Integer> {
+    match of {
+        IntegerType::U32 => Some(Integer::U32(bits_of_word(word)?)),
+        IntegerType::U64 => Some(Integer::U64(bits_of_word_of_double(word)?)),
+        _ => None,
+    }
+}
