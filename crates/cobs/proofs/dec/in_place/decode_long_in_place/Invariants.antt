@@ -1,0 +1,22 @@
+use Rattle.std.proofs.Common.{ℕ, ◌-◌, ◌<◌, ◌≤◌, get_or, length}
+use Rattle.cobs.proofs.ReadingLemmas.{Reading}
+use Rattle.cobs.proofs.dec.in_place.decode_long_in_place.Given as goal
+
+abbrev pub invariant-loop-buf : goal.invariant-loop-buf
+invariant-loop-buf l = record {
+  reading : Reading l.sentinel l.fn.buf l.buf l.read l.progress;
+  inside : l.read ≤ length l.buf;
+}
+
+abbrev pub decreases-loop-buf : goal.decreases-loop-buf
+decreases-loop-buf l = length l.buf - l.read
+
+abbrev pub invariant-loop-read : goal.invariant-loop-read
+invariant-loop-read l = record {
+  reading : Reading l.sentinel l.fn.buf l.buf l.read l.progress;
+  within : l.read ≤ l.end;
+  from : l.initial.read ≤ l.read;
+}
+
+abbrev pub decreases-loop-read : goal.decreases-loop-read
+decreases-loop-read l = l.end - l.read
