@@ -98,8 +98,8 @@ pub(crate) fn before_behind(bytes: &[u8], sentinel: u8) -> usize
     ensures none { (k : ℕ) → k < result → slice_index bytes.now k ≢ sentinel }
     ensures end { result < length bytes.now → slice_index bytes.now result ≡ sentinel }
 {
-    let (_front, rest) = bytes.split_at(256);
-    256 + memchr(sentinel, rest).unwrap_or(rest.len())
+    let (_front, behind) = bytes.split_at(256);
+    256 + memchr(sentinel, behind).unwrap_or(behind.len())
 }
 
 // The same of 8 bytes and more, by what is quicker.

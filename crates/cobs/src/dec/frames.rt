@@ -108,9 +108,10 @@ pub(crate) fn decode_whole(
 }
 
 // Takes in the bytes of a source before its first sentinel, each XORed with it: there is room for all of the source. They are
-// searched as they are copied, 255 at a time. Answers how many they are.
-#[inline(always)]
-fn take_source(source: &[u8], dest: &mut [u8], sentinel: u8) -> (Progress, usize)
+// searched as they are copied, 255 at a time. Answers how many they are. It is compiled once for each number: one copy is for the
+// sentinel zero alone, where no byte is XORed.
+#[inline(never)]
+fn take_source<const COPY: usize>(source: &[u8], dest: &mut [u8], sentinel: u8) -> (Progress, usize)
     requires some { 0 < length source.now }
     requires room { length source.now ≤ length dest.old + 1 }
     requires begins { slice_index source.now 0 ≢ sentinel }
@@ -159,36 +160,6 @@ fn take_source(source: &[u8], dest: &mut [u8], sentinel: u8) -> (Progress, usize
     (progress, end)
 }
 
-// The same for the sentinel zero, where no byte is XORed: compiled by itself.
-#[inline(never)]
-fn take_unmasked(source: &[u8], dest: &mut [u8]) -> (Progress, usize)
-    requires some { 0 < length source.now }
-    requires room { length source.now ≤ length dest.old + 1 }
-    requires begins { slice_index source.now 0 ≢ 0 }
-    ensures end { result.1 ≡ length (stretch (masked 0 source.now)) }
-    ensures some { 0 < result.1 }
-    ensures within { result.1 ≤ length source.now }
-    ensures stands { HasStreamed result.0 (stretch (masked 0 source.now)) }
-    ensures dest { dest.new ≡ overwritten (part (stretch (masked 0 source.now))) dest.old }
-{
-    take_source(source, dest, 0)
-}
-
-// The same for any sentinel.
-#[inline(never)]
-fn take_masked(source: &[u8], dest: &mut [u8], sentinel: u8) -> (Progress, usize)
-    requires some { 0 < length source.now }
-    requires room { length source.now ≤ length dest.old + 1 }
-    requires begins { slice_index source.now 0 ≢ sentinel }
-    ensures end { result.1 ≡ length (stretch (masked sentinel source.now)) }
-    ensures some { 0 < result.1 }
-    ensures within { result.1 ≤ length source.now }
-    ensures stands { HasStreamed result.0 (stretch (masked sentinel source.now)) }
-    ensures dest { dest.new ≡ overwritten (part (stretch (masked sentinel source.now))) dest.old }
-{
-    take_source(source, dest, sentinel)
-}
-
 // Decodes the bytes of a source before its first zero: it doesn't begin with one, and there is room for all of it. Also answers how
 // many they are.
 #[inline(always)]
@@ -203,7 +174,7 @@ pub(crate) fn decode_source(source: &[u8], dest: &mut [u8]) -> (Result<usize, De
         ≡ decoded_into (length dest.old) (stretch (masked 0 source.now)) }
     ensures dest { dest.new ≡ overwritten (part (stretch (masked 0 source.now))) dest.old }
 {
-    let (Progress { state, len }, end) = take_unmasked(source, dest);
+    let (Progress { state, len }, end) = take_source::<0>(source, dest, 0);
     if state.left() == 0 {
         (Ok(len), end)
     } else {
@@ -228,7 +199,7 @@ pub(crate) fn decode_source_masked(
         ≡ decoded_into (length dest.old) (stretch (masked sentinel source.now)) }
     ensures dest { dest.new ≡ overwritten (part (stretch (masked sentinel source.now))) dest.old }
 {
-    let (Progress { state, len }, end) = take_masked(source, dest, sentinel);
+    let (Progress { state, len }, end) = take_source::<1>(source, dest, sentinel);
     if state.left() == 0 {
         (Ok(len), end)
     } else {

@@ -1,5 +1,5 @@
 //! A buffer whose bytes are decoded over themselves.
-ghost use Rattle.std.specs.Prelude.{◌≡◌, ◌≢◌, ℕ, ◌<◌, ◌≤◌, false, List, [], length, take, drop, slice_index, IfOk, OnErr, IfSome, IsNone, IsTrue};
+ghost use Rattle.std.specs.Prelude.{◌≡◌, ◌≢◌, ℕ, ◌<◌, ◌≤◌, List, [], length, take, drop, slice_index, IfOk, OnErr, IfSome, IsNone};
 ghost use Rattle.cobs.specs.Frames.{Frame, part};
 ghost use Rattle.cobs.specs.Reports.{frame_size};
 ghost use Rattle.cobs.specs.InPlace.{stretch, in_place, in_place_length, overwritten};
@@ -68,14 +68,60 @@ fn decode_ended_in_place(
     decode_short_in_place(buf, end, sentinel)
 }
 
-// Whether the first bytes of more than 64 are a short frame, which ends there: rows of zeros are quicker filled.
-#[inline(always)]
-fn ends_near(bytes: &[u8], end: usize, sentinel: u8) -> bool
-    requires { 64 < length bytes.now }
-    ensures near { IsTrue result → end ≤ 255 }
-    ensures far { result ≡ false → 64 ≤ end }
+// The same of any number of bytes, where rows of zeros are quicker filled.
+#[inline(never)]
+fn decode_rows_in_place(
+    buf: &mut [u8],
+    end: usize,
+    sentinel: u8,
+) -> Result<DecodeReport, DecodeError>
+    requires some { 0 < end }
+    requires within { end ≤ length buf.old }
+    requires clear { (k : ℕ) → k < end → slice_index buf.old k ≢ sentinel }
+    requires end { end < length buf.old → slice_index buf.old end ≡ sentinel }
+    requires bytes { (k : ℕ) → slice_index buf.old k < 256 }
+    ensures answer { result ≡ in_place (stretch (masked sentinel buf.old)) }
+    ensures buffer { buf.new ≡ overwritten (part (stretch (masked sentinel buf.old))) buf.old }
 {
-    end < 64 || (end < 256 && bytes[0] != sentinel ^ 1)
+    let mut progress = Progress::new();
+    let code = sentinel ^ buf[0];
+    let _ = progress.take_in(buf, code);
+    let mut read: usize = 1;
+    while read < end {
+        let taken = progress.take_within(buf, read, end, sentinel);
+        if 0 < taken {
+            read += taken;
+            continue;
+        }
+        let byte = sentinel ^ buf[read];
+        let _ = progress.take_in(buf, byte);
+        read += 1;
+    }
+    let Progress { mut state, len } = progress;
+    match state.feed(0) {
+        Ok(_) => Ok(DecodeReport {
+            parsed: read,
+            decoded: len,
+        }),
+        Err(_) => Err(DecodeError::InvalidFrame { decoded_bytes: len }),
+    }
+}
+
+// The same, with an answer that isn't handed to a call.
+#[inline(always)]
+fn decode_rows_apart(buf: &mut [u8], end: usize, sentinel: u8) -> Result<DecodeReport, DecodeError>
+    requires some { 0 < end }
+    requires within { end ≤ length buf.old }
+    requires clear { (k : ℕ) → k < end → slice_index buf.old k ≢ sentinel }
+    requires end { end < length buf.old → slice_index buf.old end ≡ sentinel }
+    requires bytes { (k : ℕ) → slice_index buf.old k < 256 }
+    ensures answer { result ≡ in_place (stretch (masked sentinel buf.old)) }
+    ensures buffer { buf.new ≡ overwritten (part (stretch (masked sentinel buf.old))) buf.old }
+{
+    match decode_rows_in_place(buf, end, sentinel) {
+        Ok(DecodeReport { parsed, decoded }) => Ok(DecodeReport { parsed, decoded }),
+        Err(error) => Err(error),
+    }
 }
 
 // Where the first sentinel of more than 64 bytes is, if it is among the first 256. That a byte is below 256 nothing else says of a
@@ -84,6 +130,7 @@ fn ends_near(bytes: &[u8], end: usize, sentinel: u8) -> bool
 fn near_end(bytes: &[u8], sentinel: u8) -> usize
     requires { 64 < length bytes.now }
     ensures within { result ≤ length bytes.now }
+    ensures few { result ≤ 256 }
     ensures none { (k : ℕ) → k < result → slice_index bytes.now k ≢ sentinel }
     ensures end { result < 256 → result < length bytes.now
         → slice_index bytes.now result ≡ sentinel }
@@ -108,16 +155,22 @@ fn decode_near_in_place(buf: &mut [u8], sentinel: u8) -> Option<Result<DecodeRep
         return Some(decode_ended_in_place(buf, few, sentinel));
     }
     let end = near_end(buf, sentinel);
-    if ends_near(buf, end, sentinel) {
-        return Some(decode_ended_in_place(buf, end, sentinel));
+    if end == 256 {
+        return None;
     }
-    None
+    if 64 <= end && buf[0] == sentinel ^ 1 {
+        return Some(decode_rows_apart(buf, end, sentinel));
+    }
+    Some(decode_ended_in_place(buf, end, sentinel))
 }
 
 // As `decode_in_place_report_with_sentinel`, of a buffer that doesn't begin with the sentinel: 255 bytes are searched and moved at
-// a time.
-#[inline(always)]
-fn decode_long_in_place(buf: &mut [u8], sentinel: u8) -> Result<DecodeReport, DecodeError>
+// a time. It is compiled once for each number: one copy is for the sentinel zero alone, where no byte is XORed.
+#[inline(never)]
+fn decode_long_in_place<const COPY: usize>(
+    buf: &mut [u8],
+    sentinel: u8,
+) -> Result<DecodeReport, DecodeError>
     requires some { 0 < length buf.old }
     requires begins { slice_index buf.old 0 ≢ sentinel }
     requires bytes { (k : ℕ) → slice_index buf.old k < 256 }
@@ -174,30 +227,6 @@ fn decode_long_in_place(buf: &mut [u8], sentinel: u8) -> Result<DecodeReport, De
     }
 }
 
-// The same for the sentinel zero, where no byte is XORed: compiled by itself.
-#[inline(never)]
-fn decode_long_unmasked(buf: &mut [u8]) -> Result<DecodeReport, DecodeError>
-    requires some { 0 < length buf.old }
-    requires begins { slice_index buf.old 0 ≢ 0 }
-    requires bytes { (k : ℕ) → slice_index buf.old k < 256 }
-    ensures answer { result ≡ in_place (stretch (masked 0 buf.old)) }
-    ensures buffer { buf.new ≡ overwritten (part (stretch (masked 0 buf.old))) buf.old }
-{
-    decode_long_in_place(buf, 0)
-}
-
-// The same for any sentinel.
-#[inline(never)]
-fn decode_long_masked(buf: &mut [u8], sentinel: u8) -> Result<DecodeReport, DecodeError>
-    requires some { 0 < length buf.old }
-    requires begins { slice_index buf.old 0 ≢ sentinel }
-    requires bytes { (k : ℕ) → slice_index buf.old k < 256 }
-    ensures answer { result ≡ in_place (stretch (masked sentinel buf.old)) }
-    ensures buffer { buf.new ≡ overwritten (part (stretch (masked sentinel buf.old))) buf.old }
-{
-    decode_long_in_place(buf, sentinel)
-}
-
 // As `decode_in_place_report`.
 #[inline(always)]
 fn decode_unmasked(buf: &mut [u8]) -> Result<DecodeReport, DecodeError>
@@ -208,7 +237,7 @@ fn decode_unmasked(buf: &mut [u8]) -> Result<DecodeReport, DecodeError>
     if let Some(answer) = decode_near_in_place(buf, 0) {
         return answer;
     }
-    match decode_long_unmasked(buf) {
+    match decode_long_in_place::<0>(buf, 0) {
         Ok(DecodeReport { parsed, decoded }) => Ok(DecodeReport { parsed, decoded }),
         Err(error) => Err(error),
     }
@@ -224,7 +253,7 @@ fn decode_masked(buf: &mut [u8], sentinel: u8) -> Result<DecodeReport, DecodeErr
     if let Some(answer) = decode_near_in_place(buf, sentinel) {
         return answer;
     }
-    match decode_long_masked(buf, sentinel) {
+    match decode_long_in_place::<1>(buf, sentinel) {
         Ok(DecodeReport { parsed, decoded }) => Ok(DecodeReport { parsed, decoded }),
         Err(error) => Err(error),
     }

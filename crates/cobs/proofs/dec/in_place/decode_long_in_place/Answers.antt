@@ -71,11 +71,11 @@ ends_here s read m n read' source buffer buffer' d d' r r' e l w is end =
     sym (unread_byte s source buffer read d r (read + n) (omega arith) q) ∙ sym (get_or-drop read buffer n 0) ∙ sym (get_or-take m (drop read buffer) n 0 (omega (arith, few, count, r.long, e))) ∙ end few)
 
 pub take_in-requires : goal.take_in-requires
-take_in-requires c =
+take_in-requires g c =
     masked_positive c.args.sentinel (get_or c.args.buf.now 0 0) c.requires.begins
 
 pub loop-buf-init : goal.loop-buf-init
-loop-buf-init c =
+loop-buf-init g c =
     let s = c.args.sentinel in
     let source = c.args.buf.now in
     let fits : (j : ℕ) → bit_xor s (get_or source j 0) < 256 = λ j. xor_of_8 s (get_or source j 0) c.ranges.sentinel.fits (c.requires.bytes j) in
@@ -84,7 +84,7 @@ loop-buf-init c =
     record { reading = t; inside = omega (arith, t.long, c.requires.some) }
 
 pub take_in-requires-in-GrabChain-eq0 : goal.take_in-requires-in-GrabChain-eq0
-take_in-requires-in-GrabChain-eq0 c =
+take_in-requires-in-GrabChain-eq0 g c =
     let s = c.args.sentinel in
     let source = c.args.buf.now in
     let buf = c.loop-buf.buf in
@@ -95,7 +95,7 @@ take_in-requires-in-GrabChain-eq0 c =
     positive s source buf read c.loop-buf.progress r (clear read (omega arith) (omega arith)) (omega (arith, l, r.long))
 
 pub take_within-block-requires-clause-inside : goal.take_within-block-requires-clause-inside
-take_within-block-requires-clause-inside c =
+take_within-block-requires-clause-inside g c =
     let s = c.args.sentinel in
     let source = c.args.buf.now in
     let buf = c.loop-buf.buf in
@@ -108,7 +108,7 @@ take_within-block-requires-clause-inside c =
     omega (arith, l, r1.long, r.long)
 
 pub take_within-block-requires-clause-behind : goal.take_within-block-requires-clause-behind
-take_within-block-requires-clause-behind c =
+take_within-block-requires-clause-behind g c =
     let s = c.args.sentinel in
     let source = c.args.buf.now in
     let buf = c.loop-buf.buf in
@@ -121,7 +121,7 @@ take_within-block-requires-clause-behind c =
     omega (arith, shorter _ _ _ r1.reads)
 
 pub take_within-block-requires-clause-clear : goal.take_within-block-requires-clause-clear
-take_within-block-requires-clause-clear c =
+take_within-block-requires-clause-clear g c =
     let s = c.args.sentinel in
     let source = c.args.buf.now in
     let buf = c.loop-buf.buf in
@@ -135,7 +135,7 @@ take_within-block-requires-clause-clear c =
     λ k a b. later c.take_in-in-GrabChain-eq0.new.buffer (read + 1) c.take_in-in-GrabChain-eq0.new.self r1 (omega arith) k a b
 
 pub loop-buf-preserved-in-GrabChain-eq0 : goal.loop-buf-preserved-in-GrabChain-eq0
-loop-buf-preserved-in-GrabChain-eq0 c =
+loop-buf-preserved-in-GrabChain-eq0 g c =
     let s = c.args.sentinel in
     let source = c.args.buf.now in
     let buf = c.loop-buf.buf in
@@ -154,8 +154,8 @@ loop-buf-preserved-in-GrabChain-eq0 c =
     }
 
 -- the code of a full block
-full : (c : After-take_in-then-code) → Reading c.args.sentinel c.args.buf.now c.take_in-then-code.new.buffer (c.loop-buf.read + 1) c.take_in-then-code.new.self
-full c =
+full : (g : _) (c : After-take_in-then-code g) → Reading c.args.sentinel c.args.buf.now c.take_in-then-code.new.buffer (c.loop-buf.read + 1) c.take_in-then-code.new.self
+full g c =
     let s = c.args.sentinel in
     let source = c.args.buf.now in
     let buf = c.loop-buf.buf in
@@ -171,36 +171,36 @@ full c =
     (subst (λ b. (p : List ℕ) → HasStreamed c.loop-buf.progress p → c.take_in-then-code.new.buffer ≡ placed p b buf) code c.take_in-then-code.ensures.buffer)
 
 pub take_within-full-requires-clause-inside : goal.take_within-full-requires-clause-inside
-take_within-full-requires-clause-inside c =
-    let r1 = full (goal.at.take_within-full-requires-clause-inside c).After-take_in-then-code in
+take_within-full-requires-clause-inside g c =
+    let r1 = full g (goal.at.take_within-full-requires-clause-inside g c).After-take_in-then-code in
     omega (arith, c.loop-buf-test.true, c.loop-buf.invariant.inside, r1.long, c.loop-buf.invariant.reading.long)
 
 pub take_within-full-requires-clause-behind : goal.take_within-full-requires-clause-behind
-take_within-full-requires-clause-behind c =
-    let r1 = full (goal.at.take_within-full-requires-clause-behind c).After-take_in-then-code in
+take_within-full-requires-clause-behind g c =
+    let r1 = full g (goal.at.take_within-full-requires-clause-behind g c).After-take_in-then-code in
     omega (arith, shorter _ _ _ r1.reads)
 
 pub take_within-full-requires-clause-clear : goal.take_within-full-requires-clause-clear
-take_within-full-requires-clause-clear c =
+take_within-full-requires-clause-clear g c =
     let s = c.args.sentinel in
     let source = c.args.buf.now in
     let buf = c.loop-buf.buf in
     let read = c.loop-buf.read in
     let r = c.loop-buf.invariant.reading in
     let l : read + 255 ≤ length buf = omega (arith, c.loop-buf-test.true, c.loop-buf.invariant.inside) in
-    let r1 = full (goal.at.take_within-full-requires-clause-clear c).After-take_in-then-code in
+    let r1 = full g (goal.at.take_within-full-requires-clause-clear g c).After-take_in-then-code in
     let later = later_clear s source buf read c.loop-buf.progress r (read + 255 - read) 255 (many read buf l) (seen s read buf l (c.is_clear_255.ensures c.if-is_clear_255.true)) in
     λ k a b. later c.take_in-then-code.new.buffer (read + 1) c.take_in-then-code.new.self r1 (omega arith) k a b
 
 pub loop-buf-preserved-then-code : goal.loop-buf-preserved-then-code
-loop-buf-preserved-then-code c =
+loop-buf-preserved-then-code g c =
     let s = c.args.sentinel in
     let source = c.args.buf.now in
     let buf = c.loop-buf.buf in
     let read = c.loop-buf.read in
     let fits : (j : ℕ) → bit_xor s (get_or source j 0) < 256 = λ j. xor_of_8 s (get_or source j 0) c.ranges.sentinel.fits (c.requires.bytes j) in
     let l : read + 255 ≤ length buf = omega (arith, c.loop-buf-test.true, c.loop-buf.invariant.inside) in
-    let r1 = full (goal.at.loop-buf-preserved-then-code c).After-take_in-then-code in
+    let r1 = full g (goal.at.loop-buf-preserved-then-code g c).After-take_in-then-code in
     let n = c.take_within-full.result in
     let t = reading_front s source c.take_in-then-code.new.buffer (read + 1) c.take_in-then-code.new.self r1 (read + 255) n c.take_within-full.new.self c.take_within-full.new.buffer (omega arith) (omega (arith, l, r1.long, c.loop-buf.invariant.reading.long)) fits (c.take_within-full.ensures.front _ r1.reads.stands) in
     let same : read + 1 + n ≡ read + (1 + n) = omega arith in
@@ -210,12 +210,12 @@ loop-buf-preserved-then-code c =
     }
 
 pub take_within-front-requires-clause-behind : goal.take_within-front-requires-clause-behind
-take_within-front-requires-clause-behind c =
+take_within-front-requires-clause-behind g c =
     let r = c.loop-buf.invariant.reading in
     omega (arith, shorter _ _ _ r.reads)
 
 pub take_within-front-requires-clause-clear : goal.take_within-front-requires-clause-clear
-take_within-front-requires-clause-clear c =
+take_within-front-requires-clause-clear g c =
     let s = c.args.sentinel in
     let source = c.args.buf.now in
     let buf = c.loop-buf.buf in
@@ -226,7 +226,7 @@ take_within-front-requires-clause-clear c =
     λ k a b. later buf read c.loop-buf.progress r (omega arith) k a b
 
 pub loop-buf-preserved-then-front-gt0 : goal.loop-buf-preserved-then-front-gt0
-loop-buf-preserved-then-front-gt0 c =
+loop-buf-preserved-then-front-gt0 g c =
     let s = c.args.sentinel in
     let source = c.args.buf.now in
     let buf = c.loop-buf.buf in
@@ -238,7 +238,7 @@ loop-buf-preserved-then-front-gt0 c =
     record { reading = t; inside = omega (arith, t.reads.within, t.long, masked_length s source) }
 
 pub take_in-requires-in-loop-buf : goal.take_in-requires-in-loop-buf
-take_in-requires-in-loop-buf c =
+take_in-requires-in-loop-buf g c =
     let s = c.args.sentinel in
     let source = c.args.buf.now in
     let buf = c.loop-buf.buf in
@@ -251,7 +251,7 @@ take_in-requires-in-loop-buf c =
     positive s source c.take_within-front.new.buffer read c.take_within-front.new.self r1 (clear read (omega arith) (omega arith)) (omega (arith, l, r.long))
 
 pub loop-buf-preserved : goal.loop-buf-preserved
-loop-buf-preserved c =
+loop-buf-preserved g c =
     let s = c.args.sentinel in
     let source = c.args.buf.now in
     let buf = c.loop-buf.buf in
@@ -265,7 +265,7 @@ loop-buf-preserved c =
     record { reading = t; inside = omega (arith, t.reads.within, t.long, masked_length s source) }
 
 pub take_within-taken-requires-clause-inside : goal.take_within-taken-requires-clause-inside
-take_within-taken-requires-clause-inside c =
+take_within-taken-requires-clause-inside g c =
     let s = c.args.sentinel in
     let source = c.args.buf.now in
     let buf = c.loop-buf.buf in
@@ -279,12 +279,12 @@ take_within-taken-requires-clause-inside c =
     omega (arith, end, r2.long)
 
 pub take_within-taken-requires-clause-behind : goal.take_within-taken-requires-clause-behind
-take_within-taken-requires-clause-behind c =
+take_within-taken-requires-clause-behind g c =
     let r2 = c.loop-read.invariant.reading in
     omega (arith, shorter _ _ _ r2.reads)
 
 pub take_within-taken-requires-clause-clear : goal.take_within-taken-requires-clause-clear
-take_within-taken-requires-clause-clear c =
+take_within-taken-requires-clause-clear g c =
     let s = c.args.sentinel in
     let source = c.args.buf.now in
     let buf = c.loop-buf.buf in
@@ -298,7 +298,7 @@ take_within-taken-requires-clause-clear c =
     λ k a b. later buf2 read2 c.loop-read.progress r2 c.loop-read.invariant.from k a b
 
 pub loop-read-preserved-then-taken-gt0 : goal.loop-read-preserved-then-taken-gt0
-loop-read-preserved-then-taken-gt0 c =
+loop-read-preserved-then-taken-gt0 g c =
     let s = c.args.sentinel in
     let source = c.args.buf.now in
     let buf = c.loop-buf.buf in
@@ -317,7 +317,7 @@ loop-read-preserved-then-taken-gt0 c =
     }
 
 pub take_in-requires-in-loop-read : goal.take_in-requires-in-loop-read
-take_in-requires-in-loop-read c =
+take_in-requires-in-loop-read g c =
     let s = c.args.sentinel in
     let source = c.args.buf.now in
     let buf = c.loop-buf.buf in
@@ -334,7 +334,7 @@ take_in-requires-in-loop-read c =
     positive s source c.take_within-taken.new.buffer read2 c.take_within-taken.new.self r3 (clear read2 c.loop-read.invariant.from c.loop-read-test.true) (omega (arith, end, c.loop-read-test.true))
 
 pub loop-read-preserved : goal.loop-read-preserved
-loop-read-preserved c =
+loop-read-preserved g c =
     let s = c.args.sentinel in
     let source = c.args.buf.now in
     let buf = c.loop-buf.buf in
@@ -354,22 +354,22 @@ loop-read-preserved c =
       from = omega (arith, c.loop-read.invariant.from);
     }
 
-ends : (c : After-feed) → EndsAt c.args.sentinel c.loop-read.buf c.loop-read.read
-ends c =
+ends : (g : _) (c : After-feed g) → EndsAt c.args.sentinel c.loop-read.buf c.loop-read.read
+ends g c =
     let end : c.loop-read.read ≡ c.loop-buf.read + c.end_in.result = omega (arith, c.loop-read.invariant.within, c.loop-read-test.false) in
     ends_here c.args.sentinel c.loop-buf.read (length c.loop-buf.buf - c.loop-buf.read) c.end_in.result c.loop-read.read c.args.buf.now c.loop-buf.buf c.loop-read.buf c.loop-buf.progress c.loop-read.progress c.loop-buf.invariant.reading c.loop-read.invariant.reading
     (omega arith) c.loop-buf.invariant.inside c.end_in.ensures.within end c.end_in.ensures.end
 
 pub returns-in-Ok-clause-answer : goal.returns-in-Ok-clause-answer
-returns-in-Ok-clause-answer c =
-    whole (masked c.args.sentinel c.args.buf.now) _ _ (reading_done _ c.args.buf.now _ _ _ c.loop-read.invariant.reading (ends (goal.at.returns-in-Ok-clause-answer c).After-feed)) c.in-Ok.field-0 (sym c.feed.ensures.answer ∙ c.in-Ok.is)
+returns-in-Ok-clause-answer g c =
+    whole (masked c.args.sentinel c.args.buf.now) _ _ (reading_done _ c.args.buf.now _ _ _ c.loop-read.invariant.reading (ends g (goal.at.returns-in-Ok-clause-answer g c).After-feed)) c.in-Ok.field-0 (sym c.feed.ensures.answer ∙ c.in-Ok.is)
 
 pub returns-in-Ok-clause-buffer : goal.returns-in-Ok-clause-buffer
-returns-in-Ok-clause-buffer c = reading_holds _ _ _ _ _ c.loop-read.invariant.reading (ends (goal.at.returns-in-Ok-clause-buffer c).After-feed)
+returns-in-Ok-clause-buffer g c = reading_holds _ _ _ _ _ c.loop-read.invariant.reading (ends g (goal.at.returns-in-Ok-clause-buffer g c).After-feed)
 
 pub returns-in-Err-clause-answer : goal.returns-in-Err-clause-answer
-returns-in-Err-clause-answer c =
-    broken (masked c.args.sentinel c.args.buf.now) _ _ (reading_done _ c.args.buf.now _ _ _ c.loop-read.invariant.reading (ends (goal.at.returns-in-Err-clause-answer c).After-feed)) c.in-Err.field-0 (sym c.feed.ensures.answer ∙ c.in-Err.is)
+returns-in-Err-clause-answer g c =
+    broken (masked c.args.sentinel c.args.buf.now) _ _ (reading_done _ c.args.buf.now _ _ _ c.loop-read.invariant.reading (ends g (goal.at.returns-in-Err-clause-answer g c).After-feed)) c.in-Err.field-0 (sym c.feed.ensures.answer ∙ c.in-Err.is)
 
 pub returns-in-Err-clause-buffer : goal.returns-in-Err-clause-buffer
-returns-in-Err-clause-buffer c = reading_holds _ _ _ _ _ c.loop-read.invariant.reading (ends (goal.at.returns-in-Err-clause-buffer c).After-feed)
+returns-in-Err-clause-buffer g c = reading_holds _ _ _ _ _ c.loop-read.invariant.reading (ends g (goal.at.returns-in-Err-clause-buffer g c).After-feed)
