@@ -1,5 +1,5 @@
 //! A buffer whose bytes are decoded over themselves.
-ghost use Rattle.std.specs.Prelude.{◌≡◌, ◌≢◌, ℕ, ◌<◌, ◌≤◌, List, [], length, take, drop, slice_index, IfOk, OnErr, IfSome, IsNone};
+ghost use Rattle.std.specs.Prelude.{bit_xor, ◌≡◌, ◌≢◌, ℕ, ◌<◌, ◌≤◌, List, [], length, take, drop, slice_index, IfOk, OnErr, IfSome, IsNone};
 ghost use Rattle.cobs.specs.Frames.{Frame, part};
 ghost use Rattle.cobs.specs.Reports.{frame_size};
 ghost use Rattle.cobs.specs.InPlace.{stretch, in_place, in_place_length, overwritten};
@@ -8,7 +8,7 @@ ghost use Rattle.cobs.specs.Sentinel.{masked};
 use super::progress::Progress;
 use super::report::{DecodeError, DecodeReport};
 use super::state::DecoderState;
-use super::window::put_zeros;
+use super::window::{put_zeros, same_by_64};
 use crate::finding::{before_by_64, end_in, few_end};
 use crate::masks::mask;
 use crate::moves::{is_clear_255, move_down};
@@ -68,59 +68,35 @@ fn decode_ended_in_place(
     decode_short_in_place(buf, end, sentinel)
 }
 
-// The same of any number of bytes, where rows of zeros are quicker filled.
-#[inline(never)]
-fn decode_rows_in_place(
+// The same of bytes that begin with a code 01: each of a row of such codes is a zero, and 64 and more are filled at once.
+#[inline(always)]
+fn decode_row_in_place(
     buf: &mut [u8],
     end: usize,
     sentinel: u8,
 ) -> Result<DecodeReport, DecodeError>
     requires some { 0 < end }
+    requires few { end ≤ 255 }
     requires within { end ≤ length buf.old }
     requires clear { (k : ℕ) → k < end → slice_index buf.old k ≢ sentinel }
     requires end { end < length buf.old → slice_index buf.old end ≡ sentinel }
+    requires first { slice_index buf.old 0 ≡ bit_xor sentinel 1 }
     requires bytes { (k : ℕ) → slice_index buf.old k < 256 }
     ensures answer { result ≡ in_place (stretch (masked sentinel buf.old)) }
     ensures buffer { buf.new ≡ overwritten (part (stretch (masked sentinel buf.old))) buf.old }
 {
-    let mut progress = Progress::new();
-    let code = sentinel ^ buf[0];
-    let _ = progress.take_in(buf, code);
-    let mut read: usize = 1;
-    while read < end {
-        let taken = progress.take_within(buf, read, end, sentinel);
-        if 0 < taken {
-            read += taken;
-            continue;
-        }
-        let byte = sentinel ^ buf[read];
-        let _ = progress.take_in(buf, byte);
-        read += 1;
-    }
-    let Progress { mut state, len } = progress;
-    match state.feed(0) {
-        Ok(_) => Ok(DecodeReport {
-            parsed: read,
+    let len = end - 1;
+    let row = same_by_64(sentinel ^ 1, &buf[1..end]);
+    move_down(buf, 1 + row, len - row, row, sentinel);
+    let state = put_zeros(&mut buf[row..len], 0);
+    buf[..row].fill(0);
+    if state.left() == 0 {
+        Ok(DecodeReport {
+            parsed: end,
             decoded: len,
-        }),
-        Err(_) => Err(DecodeError::InvalidFrame { decoded_bytes: len }),
-    }
-}
-
-// The same, with an answer that isn't handed to a call.
-#[inline(always)]
-fn decode_rows_apart(buf: &mut [u8], end: usize, sentinel: u8) -> Result<DecodeReport, DecodeError>
-    requires some { 0 < end }
-    requires within { end ≤ length buf.old }
-    requires clear { (k : ℕ) → k < end → slice_index buf.old k ≢ sentinel }
-    requires end { end < length buf.old → slice_index buf.old end ≡ sentinel }
-    requires bytes { (k : ℕ) → slice_index buf.old k < 256 }
-    ensures answer { result ≡ in_place (stretch (masked sentinel buf.old)) }
-    ensures buffer { buf.new ≡ overwritten (part (stretch (masked sentinel buf.old))) buf.old }
-{
-    match decode_rows_in_place(buf, end, sentinel) {
-        Ok(DecodeReport { parsed, decoded }) => Ok(DecodeReport { parsed, decoded }),
-        Err(error) => Err(error),
+        })
+    } else {
+        Err(DecodeError::InvalidFrame { decoded_bytes: len })
     }
 }
 
@@ -159,7 +135,7 @@ fn decode_near_in_place(buf: &mut [u8], sentinel: u8) -> Option<Result<DecodeRep
         return None;
     }
     if 64 <= end && buf[0] == sentinel ^ 1 {
-        return Some(decode_rows_apart(buf, end, sentinel));
+        return Some(decode_row_in_place(buf, end, sentinel));
     }
     Some(decode_ended_in_place(buf, end, sentinel))
 }

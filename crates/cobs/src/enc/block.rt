@@ -55,36 +55,6 @@ pub(crate) fn put_few(dest: &mut [u8], at: Place, piece: &[u8], sentinel: u8) ->
     Place { code_at, len: end }
 }
 
-// The same as `put_run`, apart: the piece goes in by one step, and the place comes back in registers.
-#[inline(never)]
-fn put_run_apart(dest: &mut [u8], at: Place, piece: &[u8], sentinel: u8) -> Place
-    requires laid { Laid (masked sentinel dest.old) at.code_at at.len }
-    requires room { at.len + length piece.now ≤ length dest.old }
-    requires short { at.len + length piece.now ≤ at.code_at + 255 }
-    requires some { 0 < length piece.now }
-    ensures holds { GoesOnBy (masked sentinel dest.old) at.code_at at.len piece.now
-        (masked sentinel dest.new) result.code_at result.len }
-{
-    put_run(dest, at, piece, sentinel)
-}
-
-// The same, by what is quicker.
-#[inline(always)]
-fn put_open(dest: &mut [u8], at: Place, piece: &[u8], sentinel: u8) -> Place
-    requires laid { Laid (masked sentinel dest.old) at.code_at at.len }
-    requires room { at.len + length piece.now ≤ length dest.old }
-    requires short { at.len + length piece.now ≤ at.code_at + 255 }
-    requires some { 0 < length piece.now }
-    ensures holds { GoesOnBy (masked sentinel dest.old) at.code_at at.len piece.now
-        (masked sentinel dest.new) result.code_at result.len }
-{
-    if piece.len() < 8 {
-        put_few(dest, at, piece, sentinel)
-    } else {
-        put_run_apart(dest, at, piece, sentinel)
-    }
-}
-
 // Puts a front of the bytes behind the frame, as far as the last block goes, and answers how many. A full block is closed only
 // here, by the byte behind it, so that the buffer always begins with the shortest frame.
 fn put_front(dest: &mut [u8], at: Place, bytes: &[u8], sentinel: u8) -> Option<(Place, usize)>
@@ -142,7 +112,7 @@ fn put_blocks(dest: &mut [u8], at: &mut Place, bytes: &[u8], sentinel: u8) -> bo
     true
 }
 
-// Puts bytes behind the frame, if there is room for them all. Bytes that go into the open block take one step.
+// Puts bytes behind the frame, if there is room for them all. A few bytes that go into the open block take no call.
 #[inline(always)]
 pub(crate) fn put_all(dest: &mut [u8], at: Place, bytes: &[u8], sentinel: u8) -> Option<Place>
     requires { HoldsFrame (masked sentinel dest.old) at.code_at at.len }
@@ -157,10 +127,10 @@ pub(crate) fn put_all(dest: &mut [u8], at: Place, bytes: &[u8], sentinel: u8) ->
     if bytes.is_empty() {
         return Some(at);
     }
-    if bytes.len() <= 254 {
+    if bytes.len() < 8 {
         let end = at.len + bytes.len();
         if end <= dest.len() && end <= at.code_at + 255 {
-            return Some(put_open(dest, at, bytes, sentinel));
+            return Some(put_few(dest, at, bytes, sentinel));
         }
     }
     let mut place = at;

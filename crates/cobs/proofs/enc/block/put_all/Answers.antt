@@ -22,7 +22,7 @@ returns-then-is_empty-clause-pushed c =
     adds_nothing c.args.bytes.now _ none
 
 pub returns-then-end-at-clause-holds : goal.returns-then-end-at-clause-holds
-returns-then-end-at-clause-holds c = (c.put_open.ensures.holds (pushed (masked c.args.sentinel c.args.dest.now) c.args.at.len) c.requires.goes_on).0
+returns-then-end-at-clause-holds c = (c.put_few.ensures.holds (pushed (masked c.args.sentinel c.args.dest.now) c.args.at.len) c.requires.goes_on).0
 
 pub overflow_add-end : goal.overflow_add-end
 overflow_add-end c = grind (arith, common_steps)
