@@ -69,7 +69,7 @@ fn decode_ended_in_place(
 }
 
 // The same of bytes that begin with a code 01: each of a row of such codes is a zero, and 64 and more are filled at once.
-#[inline(always)]
+#[inline(never)]
 fn decode_row_in_place(
     buf: &mut [u8],
     end: usize,
@@ -97,6 +97,25 @@ fn decode_row_in_place(
         })
     } else {
         Err(DecodeError::InvalidFrame { decoded_bytes: len })
+    }
+}
+
+// The same, with an answer that isn't handed to a call.
+#[inline(always)]
+fn decode_row_apart(buf: &mut [u8], end: usize, sentinel: u8) -> Result<DecodeReport, DecodeError>
+    requires some { 0 < end }
+    requires few { end ≤ 255 }
+    requires within { end ≤ length buf.old }
+    requires clear { (k : ℕ) → k < end → slice_index buf.old k ≢ sentinel }
+    requires end { end < length buf.old → slice_index buf.old end ≡ sentinel }
+    requires first { slice_index buf.old 0 ≡ bit_xor sentinel 1 }
+    requires bytes { (k : ℕ) → slice_index buf.old k < 256 }
+    ensures answer { result ≡ in_place (stretch (masked sentinel buf.old)) }
+    ensures buffer { buf.new ≡ overwritten (part (stretch (masked sentinel buf.old))) buf.old }
+{
+    match decode_row_in_place(buf, end, sentinel) {
+        Ok(DecodeReport { parsed, decoded }) => Ok(DecodeReport { parsed, decoded }),
+        Err(error) => Err(error),
     }
 }
 
@@ -135,7 +154,7 @@ fn decode_near_in_place(buf: &mut [u8], sentinel: u8) -> Option<Result<DecodeRep
         return None;
     }
     if 64 <= end && buf[0] == sentinel ^ 1 {
-        return Some(decode_row_in_place(buf, end, sentinel));
+        return Some(decode_row_apart(buf, end, sentinel));
     }
     Some(decode_ended_in_place(buf, end, sentinel))
 }

@@ -1,4 +1,4 @@
-use Rattle.std.proofs.Common.{ℕ, ◌-◌, ◌<◌, ◌≤◌, get_or, length}
+use Rattle.std.proofs.Common.{◌-◌, ◌≤◌, length}
 use Rattle.cobs.proofs.ReadingLemmas.{Reading}
 use Rattle.cobs.proofs.dec.in_place.decode_long_in_place.Given as goal
 

@@ -1,4 +1,4 @@
-use Rattle.std.proofs.Common.{◌≡◌, ◌≢◌, ℕ, zero, suc, ◌+◌, ◌-◌, ◌<◌, ◌≤◌, List, true, [], ◌∷◌, ◌++◌, length, take, drop, replicate, get_or, length-drop, length-take, length-append, Ok, Err, refl, sym, ◌∙◌, ap, subst, arith}
+use Rattle.std.proofs.Common.{◌≡◌, ◌≢◌, ℕ, zero, suc, ◌+◌, ◌-◌, ◌<◌, ◌≤◌, List, true, [], ◌∷◌, ◌++◌, length, take, drop, replicate, get_or, length-drop, length-append, Ok, Err, refl, sym, ◌∙◌, ap, subst, arith}
 use Rattle.std.proofs.lemmas.List.{length-take-le, length-replicate, drop_at, get_or-take, get_or-drop, take-append-drop, drop-take, drop-drop, append_assoc}
 use Rattle.std.specs.Prelude.{bit_xor}
 use Rattle.cobs.specs.Feeding.{stands_by}
