@@ -35,7 +35,7 @@ pub fn serve_with<
 ) -> End
     ensures served { HearsOut D.inside (M.judging messages.now)
         (ServiceHears A.executes Q.eq A.passes W.line ⟦<(u64, R) as Serialize>⟧.writes
-        ⟦<(u64, R) as Serialize>⟧.valid)
+        ⟦<(u64, R) as Serialize>⟧.valid) (λ _. false)
         (I.line reader.old) (I.line reader.new) receiver.old receiver.new service.old service.new
         (Some result) }
     ensures memory { MayLackMemory (M.judging messages.now).growing (Some result) }

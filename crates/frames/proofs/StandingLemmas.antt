@@ -15,8 +15,8 @@ use Rattle.link.specs.Steps.{Event, event_at, begun_at, RunsOn, RunsPast}
 use Rattle.link.specs.Finds.{IsSpan}
 use Rattle.frames.specs.Standing.{HasBuffer, KeepsFront, StandsAt}
 use Rattle.frames.specs.declared.receiving.FrameReceiver.{FrameReceiver}
-use Rattle.link.specs.MaskLaws.{masked_length}
-use Rattle.link.specs.RunLaws.{over_on, runs_on, runs_past}
+use Rattle.link.specs.Lemmas.MaskLaws.{masked_length}
+use Rattle.link.specs.Lemmas.RunLaws.{over_on, runs_on, runs_past}
 
 -- a stretch
 pub stretch_of : (p : List ℕ) → NoZero p → stretch p ≡ p

@@ -1,4 +1,4 @@
-use Rattle.link.specs.Lengths.{has_room}
+use Rattle.link.specs.Lemmas.Lengths.{has_room}
 use Rattle.link.proofs.laws.room.Goals as goal
 
 pub returns : goal.returns

@@ -1,6 +1,6 @@
 use Rattle.std.proofs.Common.{◌≡◌, Bool, true, false}
-use Rattle.link.specs.Facts.{Facts, exactly_holds}
-use Rattle.link.specs.Lengths.{by_lengths}
+use Rattle.link.specs.Lemmas.Facts.{Facts, exactly_holds}
+use Rattle.link.specs.Lemmas.Lengths.{by_lengths}
 use Rattle.link.proofs.ReadingLemmas.{holds_none}
 use Rattle.link.proofs.SentnessLemmas.{sent_value, not_sent}
 use Rattle.link.proofs.judging.StrictMessageReader.read.Goals as goal

@@ -1,12 +1,10 @@
 -- What is begun behind a value that had no memory: nothing, so what comes is heard as behind nothing.
-use Rattle.std.proofs.Common.{◌≡◌, ℕ, List, [], ◌∷◌, ◌++◌, length, inl, inr, refl, sym, ap, ◌∙◌, subst, append_assoc}
-use Rattle.std.specs.Prelude.{nat_lt, if◌then◌else◌}
-use Rattle.std.proofs.lemmas.List.{append-nil}
+use Rattle.std.proofs.Common.{◌≡◌, ℕ, List, [], ◌∷◌, ◌++◌, length, inl, inr, sym, ap, ◌∙◌, subst, append_assoc, nat_lt, if◌then◌else◌, append-nil}
 use Rattle.postcard_tree.specs.Tree.{Tree}
 use Rattle.link.specs.Stream.{kept, over, begun}
 use Rattle.link.specs.Laws.{EndsBetween}
-use Rattle.link.specs.Pieces.{unfinished_behind}
-use Rattle.link.specs.Listening.{Loss, through, bytes_through}
+use Rattle.link.specs.Lemmas.Pieces.{unfinished_behind}
+use Rattle.link.specs.Listening.{Loss, through}
 
 -- behind a stream that ends between stretches what comes begins as behind nothing
 pub begun_on : (limit s : ℕ) (x y : List ℕ) → EndsBetween s x
@@ -23,8 +21,3 @@ module _ {V : Type 0} {holds : List ℕ → Tree → Type 0} {reads : Tree → V
   -- a stream ends between stretches behind such a value
   pub ends_through : (l : Loss holds reads limit s) → EndsBetween s (through l)
   ends_through l = inr (l.front ++ l.lost.front, ap (λ x. l.front ++ x) l.lost.bytes ∙ sym (append_assoc l.front l.lost.front (s ∷ [])))
-
-  -- and behind all of them
-  pub ends_through_all : (ls : List (Loss holds reads limit s)) → EndsBetween s (bytes_through ls)
-  ends_through_all [] = inl refl
-  ends_through_all (l ∷ ls) = ends_on s (through l) (bytes_through ls) (ends_through l) (ends_through_all ls)

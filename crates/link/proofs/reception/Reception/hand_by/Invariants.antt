@@ -4,7 +4,7 @@ use Rattle.link.specs.Each.{Handed}
 use Rattle.link.specs.Receivers.{SameTerms}
 use Rattle.link.specs.declared.receiver.Answer.{Answer}
 use Rattle.link.proofs.RecoveringLemmas.{HasLost}
-use Rattle.link.proofs.reception.Reception.hand_all.Given as goal
+use Rattle.link.proofs.reception.Reception.hand_by.Given as goal
 
 -- a value had no memory; what is left of the piece, and that the answers to what came before it were handed on, but for such values
 abbrev pub invariant-loop-left : goal.invariant-loop-left

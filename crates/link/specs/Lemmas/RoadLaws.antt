@@ -1,10 +1,9 @@
 -- The three ways to receive values give the same.
-use Rattle.std.proofs.Common.{◌≡◌, ◌≢◌, ℕ, zero, suc, ◌+◌, ◌-◌, ◌<◌, Bool, true, false, List, [], ◌∷◌, ◌++◌, length, map, drop, refl, sym, ap, ◌∙◌, subst, inl, inr, ◌⊎◌, arith, append_assoc, length-append}
+use Rattle.std.proofs.Common.{◌≡◌, ◌≢◌, ℕ, zero, suc, ◌+◌, ◌-◌, ◌<◌, Bool, true, false, List, [], ◌∷◌, ◌++◌, length, map, drop, refl, sym, ap, ◌∙◌, subst, inl, inr, ◌⊎◌, arith, append_assoc, length-append, bit_xor, ne_eqb, append-nil}
 use Rattle.std.specs.List.{AllZip, AllByRecursion}
-use Rattle.std.specs.Prelude.{bit_xor}
 use Rattle.std.specs.Int.Bits.{xor_zero_l, xor_self}
-use Rattle.std.proofs.lemmas.Bool.{ne_eqb, cases_lt}
-use Rattle.std.proofs.lemmas.List.{append-nil, map-append}
+use Rattle.std.proofs.lemmas.Bool.{cases_lt}
+use Rattle.std.proofs.lemmas.List.{map-append}
 use Rattle.cobs.specs.Frames.{NoZero}
 use Rattle.cobs.specs.InPlace.{stretch}
 use Rattle.cobs.specs.Sentinel.{masked}
@@ -12,9 +11,9 @@ use Rattle.postcard_tree.specs.Tree.{Tree}
 use Rattle.postcard.specs.Frames.{Holds}
 use Rattle.link.specs.Stream.{Verdict, value, damaged, too_long, cut, IsContent, IsAnswer, Heard, Answers, pieces, ended_of, unfinished_of, ended, unfinished, begun_answers, cut_answers}
 use Rattle.link.specs.Roads.{values_of, AllFit, ReadsInPlace, nothing, skipped, answered, unanswered, IsSameInPlace, Loops, done, stopped, used_up, consumed, overfull, failed, success, joined, AreValues, AreFirst, IsSameByAccumulator}
-use Rattle.link.specs.Facts.{some_bytes}
-use Rattle.link.specs.HeardLaws.{IsOne, zip_once, heard_of, heard_skip, heard_ended, heard_alone, at_end}
-use Rattle.link.specs.Pieces.{Parted, alone, more, parted, masked_twice, pieces_at, pieces_alone, ended_skip, ended_at, ended_alone}
+use Rattle.link.specs.Lemmas.Facts.{some_bytes}
+use Rattle.link.specs.Lemmas.HeardLaws.{IsOne, zip_once, heard_of, heard_skip, heard_ended, heard_alone, at_end}
+use Rattle.link.specs.Lemmas.Pieces.{Parted, alone, more, parted, masked_twice, pieces_at, pieces_alone, ended_skip, ended_at, ended_alone}
 
 values_joined : (us vs : List Verdict) → values_of vs ≡ [] → values_of (us ++ vs) ≡ values_of us
 values_joined [] vs e = e

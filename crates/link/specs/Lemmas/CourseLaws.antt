@@ -1,15 +1,13 @@
 -- What comes of a piece, byte by byte, is what it changes in what is given of the stream.
-use Rattle.std.proofs.Common.{◌≡◌, ℕ, zero, suc, ◌+◌, ◌<◌, ◌≤◌, List, [], ◌∷◌, ◌++◌, length, take, refl, sym, ap, ◌∙◌, subst, inl, inr, arith, add-one}
-use Rattle.std.specs.Prelude.{bit_xor}
-use Rattle.std.proofs.lemmas.List.{length-append}
-use Rattle.std.proofs.lemmas.Bool.{cases_eq, cases_lt, eq-eqb, ne_eqb, lt-ltb, le-ltb}
+use Rattle.std.proofs.Common.{◌≡◌, ℕ, zero, suc, ◌+◌, ◌<◌, ◌≤◌, List, [], ◌∷◌, ◌++◌, length, take, refl, sym, ap, ◌∙◌, subst, inl, inr, arith, add-one, bit_xor, length-append, eq-eqb, ne_eqb, lt-ltb, le-ltb}
+use Rattle.std.proofs.lemmas.Bool.{cases_eq, cases_lt}
 use Rattle.cobs.specs.Sentinel.{masked}
 use Rattle.postcard_tree.specs.Tree.{Tree}
 use Rattle.link.specs.Stream.{Verdict, too_long, IsAnswer, Begun, kept, over}
 use Rattle.link.specs.Steps.{Event, quiet, ended, passed, end_of, event_at, begun_at, Course, course_on, course_of}
-use Rattle.link.specs.MaskLaws.{mask_twice}
-use Rattle.link.specs.StretchLaws.{nonzero}
-use Rattle.link.specs.FeedLaws.{FeedsAnswers, feeds_nothing, feeds_then, feeds_bytes, feeds_past, feeds_over, feeds_skip, feeds_end, feeds_close}
+use Rattle.link.specs.Lemmas.MaskLaws.{mask_twice}
+use Rattle.link.specs.Lemmas.StretchLaws.{nonzero}
+use Rattle.link.specs.Lemmas.FeedLaws.{FeedsAnswers, feeds_nothing, feeds_then, feeds_bytes, feeds_past, feeds_over, feeds_skip, feeds_end, feeds_close}
 
 -- the answers that an event is about
 abbrev pub AnswersEvent : (List ℕ → Tree → Type 0) → ℕ → Event → List Verdict → Type 0

@@ -1,8 +1,6 @@
 -- What comes of runs without sentinels, and where they end.
-use Rattle.std.proofs.Common.{◌≡◌, ℕ, suc, ◌+◌, ◌-◌, ◌<◌, ◌≤◌, List, [], ◌∷◌, ◌++◌, length, take, drop, refl, sym, ap, ◌∙◌, subst, inl, inr, arith, append_assoc}
-use Rattle.std.specs.Prelude.{bit_xor}
-use Rattle.std.proofs.lemmas.Bool.{cases_eq, cases_lt, ne_eqb, eq-eqb, lt-ltb, le-ltb}
-use Rattle.std.proofs.lemmas.List.{append-nil, length-append, length-drop}
+use Rattle.std.proofs.Common.{◌≡◌, ℕ, suc, ◌+◌, ◌-◌, ◌<◌, ◌≤◌, List, [], ◌∷◌, ◌++◌, length, take, drop, refl, sym, ap, ◌∙◌, subst, inl, inr, arith, append_assoc, bit_xor, ne_eqb, eq-eqb, lt-ltb, le-ltb, append-nil, length-append, length-drop}
+use Rattle.std.proofs.lemmas.Bool.{cases_eq, cases_lt}
 use Rattle.cobs.specs.Frames.{NoZero}
 use Rattle.cobs.specs.InPlace.{stretch}
 use Rattle.cobs.specs.Sentinel.{masked}
@@ -12,9 +10,9 @@ use Rattle.link.specs.Finds.{Finds, IsSpan, BringsNothing, BringsAbout, Brings}
 use Rattle.link.specs.declared.reception.Found.{Found}
 use Rattle.link.specs.declared.reception.Found.TheVariants.{Nothing, Damaged, TooLong, Whole}
 use Rattle.link.specs.declared.reception.Taken.{Taken}
-use Rattle.link.specs.MaskLaws.{sentinel_is_zero, no_sentinel, masked_length}
-use Rattle.link.specs.StretchLaws.{nonzero as unlike}
-use Rattle.link.specs.TurnLaws.{nothing_found, some_found}
+use Rattle.link.specs.Lemmas.MaskLaws.{sentinel_is_zero, no_sentinel, masked_length}
+use Rattle.link.specs.Lemmas.StretchLaws.{nonzero as unlike}
+use Rattle.link.specs.Lemmas.TurnLaws.{nothing_found, some_found}
 
 pub above : (b : ℕ) → 0 < b → b ≡ 0 → ⊥
 above b l e = omega (arith, l, e)

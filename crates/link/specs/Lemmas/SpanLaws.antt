@@ -1,7 +1,6 @@
 -- How long the stretch was that an answer is about.
-use Rattle.std.proofs.Common.{◌≡◌, ℕ, ◌+◌, ◌-◌, ◌≤◌, List, [], ◌∷◌, ◌++◌, length, take, Option, Some, None, Result, Ok, Err, refl, sym, ap, ◌∙◌, subst, inl, inr, arith, add-one}
-use Rattle.std.proofs.lemmas.List.{length-append, length-take, take-take}
-use Rattle.std.proofs.lemmas.Bool.{cases_eq, cases_lt, eq-eqb, ne_eqb, lt-ltb}
+use Rattle.std.proofs.Common.{◌≡◌, ℕ, ◌+◌, ◌-◌, ◌≤◌, List, [], ◌∷◌, ◌++◌, length, take, Option, Some, None, Result, Ok, Err, refl, sym, ap, ◌∙◌, subst, inl, inr, arith, add-one, length-append, length-take, take-take, eq-eqb, ne_eqb, lt-ltb}
+use Rattle.std.proofs.lemmas.Bool.{cases_eq, cases_lt}
 use Rattle.postcard_tree.specs.Tree.{Tree}
 use Rattle.link.specs.Stream.{unfinished, Begun, kept, over, begun}
 use Rattle.link.specs.Pushes.{IsBegun, IsStretchOf}
@@ -9,10 +8,10 @@ use Rattle.link.specs.Steps.{Event, quiet, ended, passed, end_of, event_at, begu
 use Rattle.link.specs.Finds.{Replies, IsSpan}
 use Rattle.link.specs.declared.receiver.Answer.{Answer}
 use Rattle.link.specs.declared.receiver.NoMemory.{NoMemory}
-use Rattle.link.specs.FeedLaws.{FeedsAnswers, is_short, feeds_nothing, feeds_then}
-use Rattle.link.specs.CourseLaws.{quiet_step, course_ends, course_within}
+use Rattle.link.specs.Lemmas.FeedLaws.{FeedsAnswers, is_short, feeds_nothing, feeds_then}
+use Rattle.link.specs.Lemmas.CourseLaws.{quiet_step, course_ends, course_within}
 use Rattle.std.proofs.Math.Seq.{take-append_seam}
-use Rattle.link.specs.AnswerLaws.{Nothing, leads, end_begun}
+use Rattle.link.specs.Lemmas.AnswerLaws.{Nothing, leads, end_begun}
 
 module _ (limit s : ℕ) where
   -- a piece that goes past the limit: what stands before the byte past it led to a stretch that is as long as the limit at least

@@ -1,14 +1,12 @@
 -- What is heard of streams one behind another, and that it is one list: laws on which the proofs of this crate and of `link_laws`
 -- stand.
-use Rattle.std.proofs.Common.{◌≡◌, ℕ, ◌<◌, List, [], ◌∷◌, ◌++◌, length, refl, sym, ap, ◌∙◌, subst, arith, append_assoc}
+use Rattle.std.proofs.Common.{◌≡◌, ℕ, ◌<◌, List, [], ◌∷◌, ◌++◌, length, refl, sym, ap, ◌∙◌, subst, arith, append_assoc, le-ltb, append-nil}
 use Rattle.std.specs.List.{AllZip}
-use Rattle.std.proofs.lemmas.Bool.{le-ltb}
-use Rattle.std.proofs.lemmas.List.{append-nil}
 use Rattle.cobs.specs.Frames.{NoZero}
 use Rattle.cobs.specs.Sentinel.{masked}
 use Rattle.link.specs.Stream.{Verdict, ended, unfinished, Heard, begun_answers, cut_answers}
 use Rattle.link.specs.Laws.{EndsBetween}
-use Rattle.link.specs.Pieces.{ended_skip, unfinished_skip, ended_at, unfinished_at, ended_alone, unfinished_alone, ended_behind, unfinished_behind, none_unfinished}
+use Rattle.link.specs.Lemmas.Pieces.{ended_skip, unfinished_skip, ended_at, unfinished_at, ended_alone, unfinished_alone, ended_behind, unfinished_behind, none_unfinished}
 
 -- what holds place by place of lists holds of them one behind another
 pub zip_joined : {A B : Type 0} (R : A → B → Type 0) (xs ys : List A) (us vs : List B)

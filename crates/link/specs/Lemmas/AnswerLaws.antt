@@ -1,6 +1,5 @@
 -- What a receiver answers to a piece is what is added to the answers of the stream.
-use Rattle.std.proofs.Common.{◌≡◌, ℕ, ◌≤◌, List, [], ◌∷◌, ◌++◌, length, take, Option, Some, None, Result, Ok, Err, refl, sym, ap, ◌∙◌, subst, inl, inr, arith, append_assoc}
-use Rattle.std.proofs.lemmas.List.{append-nil}
+use Rattle.std.proofs.Common.{◌≡◌, ℕ, ◌≤◌, List, [], ◌∷◌, ◌++◌, length, take, Option, Some, None, Result, Ok, Err, refl, sym, ap, ◌∙◌, subst, inl, inr, arith, append_assoc, append-nil}
 use Rattle.std.proofs.lemmas.Bool.{cases_lt}
 use Rattle.cobs.specs.Frames.{Frame}
 use Rattle.postcard_tree.specs.Tree.{Tree}
@@ -13,10 +12,10 @@ use Rattle.link.specs.declared.receiver.Answer.{Answer}
 use Rattle.link.specs.declared.receiver.Answer.TheVariants.{Value, Damaged, TooLong, Cut}
 use Rattle.link.specs.declared.receiver.NoMemory.{NoMemory}
 use Rattle.link.specs.Relational.{AnswerEach}
-use Rattle.link.specs.Stepwise.{has_stretches, heard_stepwise, unfinished_is}
-use Rattle.link.specs.StretchLaws.{ends}
-use Rattle.link.specs.FeedLaws.{FeedsAnswers, is_short, begun_of, short_begun}
-use Rattle.link.specs.CourseLaws.{AnswersEvent, EndsStretch, course_feeds, course_least, course_ends, course_whole}
+use Rattle.link.specs.Lemmas.Stepwise.{has_stretches, heard_stepwise, unfinished_is}
+use Rattle.link.specs.Lemmas.StretchLaws.{ends}
+use Rattle.link.specs.Lemmas.FeedLaws.{FeedsAnswers, is_short, begun_of, short_begun}
+use Rattle.link.specs.Lemmas.CourseLaws.{AnswersEvent, EndsStretch, course_feeds, course_least, course_ends, course_whole}
 
 -- no stretch holds anything
 abbrev pub Nothing : List ℕ → Tree → Type 0

@@ -1,12 +1,11 @@
 -- A stream that goes on.
-use Rattle.std.proofs.Common.{◌≡◌, ℕ, zero, suc, ◌<◌, List, [], ◌∷◌, ◌++◌, refl, sym, ap, ◌∙◌, arith, append_assoc}
-use Rattle.std.specs.Prelude.{bit_xor}
+use Rattle.std.proofs.Common.{◌≡◌, ℕ, zero, suc, ◌<◌, List, [], ◌∷◌, ◌++◌, refl, sym, ap, ◌∙◌, arith, append_assoc, bit_xor}
 use Rattle.std.specs.Int.Bits.{xor_zero_r}
 use Rattle.std.proofs.lemmas.List.{map-append}
 use Rattle.cobs.specs.Frames.{NoZero}
 use Rattle.cobs.specs.Sentinel.{masked}
 use Rattle.link.specs.Relational.{Stretches}
-use Rattle.link.specs.MaskLaws.{mask_twice}
+use Rattle.link.specs.Lemmas.MaskLaws.{mask_twice}
 
 pub nonzero : (s b : ℕ) → (b ≡ s → ⊥) → 0 < bit_xor s b
 nonzero s b ne = go (bit_xor s b) refl

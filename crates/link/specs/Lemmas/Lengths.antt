@@ -1,6 +1,5 @@
 -- Two lengths tell what sending makes, and no stretch that holds a tree is shorter than the tree's frame.
-use Rattle.std.proofs.Common.{◌≡◌, ◌≢◌, ℕ, ◌+◌, ◌<◌, ◌≤◌, List, [], ◌∷◌, ◌++◌, length, Option, refl, sym, ap, ◌∙◌, subst, inl, inr, ◌⊎◌, arith, length-append}
-use Rattle.std.proofs.lemmas.List.{append-nil}
+use Rattle.std.proofs.Common.{◌≡◌, ◌≢◌, ℕ, ◌+◌, ◌<◌, ◌≤◌, List, [], ◌∷◌, ◌++◌, length, Option, refl, sym, ap, ◌∙◌, subst, inl, inr, ◌⊎◌, arith, length-append, append-nil}
 use Rattle.std.proofs.lemmas.Bool.{cases_eq}
 use Rattle.cobs.specs.Frames.{Frame, shortest_frame, most_length}
 use Rattle.cobs.specs.FrameLaws.{HasOneOther, GrowsWithItsBytes, IsWithinLengths}
@@ -11,7 +10,7 @@ use Rattle.postcard.specs.Greatest.{SizeWithin}
 use Rattle.postcard.specs.Spellings.{KeepsItsPattern}
 use Rattle.link.specs.Stream.{HoldsExactly}
 use Rattle.link.specs.Laws.{IsLeast, IsToldByLengths, HasRoom}
-use Rattle.link.specs.Facts.{Facts, is_frame}
+use Rattle.link.specs.Lemmas.Facts.{Facts, is_frame}
 
 same_or_not : (x y : List ℕ) → (x ≡ y) ⊎ (x ≢ y)
 same_or_not [] [] = inl refl

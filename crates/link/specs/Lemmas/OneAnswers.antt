@@ -3,8 +3,8 @@ use Rattle.std.proofs.Common.{◌≡◌, ℕ, List, ◌++◌, refl, sym, ap, ◌
 use Rattle.postcard_tree.specs.Tree.{Tree}
 use Rattle.postcard.specs.Frames.{Holds}
 use Rattle.link.specs.Stream.{too_long, cut, damaged, value, HoldsExactly, IsAnswer}
-use Rattle.link.specs.Facts.{Facts, exactly_holds}
-use Rattle.link.specs.HeardLaws.{IsOne}
+use Rattle.link.specs.Lemmas.Facts.{Facts, exactly_holds}
+use Rattle.link.specs.Lemmas.HeardLaws.{IsOne}
 
 -- a frame holds one tree at most
 pub one_tree : (takes : Tree → Type 0) → Facts takes → IsOne (Holds takes)

@@ -1,16 +1,15 @@
 -- How bytes at the end of a stream change what is given of it.
-use Rattle.std.proofs.Common.{◌≡◌, ℕ, ◌<◌, ◌≤◌, List, [], ◌∷◌, ◌++◌, length, nat_lt, if◌then◌else◌, refl, sym, ap, ◌∙◌, subst, inl, inr, arith, append_assoc, ltb}
-use Rattle.std.proofs.lemmas.List.{append-nil, length-append}
-use Rattle.std.proofs.lemmas.Bool.{le-ltb, lt-ltb, cond-false, cond-true, cases_lt}
+use Rattle.std.proofs.Common.{◌≡◌, ℕ, ◌<◌, ◌≤◌, List, [], ◌∷◌, ◌++◌, length, nat_lt, if◌then◌else◌, refl, sym, ap, ◌∙◌, subst, inl, inr, arith, append_assoc, ltb, append-nil, length-append, le-ltb, lt-ltb}
+use Rattle.std.proofs.lemmas.Bool.{cond-false, cond-true, cases_lt}
 use Rattle.postcard_tree.specs.Tree.{Tree}
 use Rattle.cobs.specs.Frames.{NoZero}
 use Rattle.cobs.specs.Sentinel.{masked}
 use Rattle.link.specs.Stream.{Verdict, too_long, IsAnswer, begun_answers, Given, Begun, kept, over}
 use Rattle.link.specs.Pushes.{IsBegun}
 use Rattle.link.specs.Relational.{Stretches, AnswerEach}
-use Rattle.link.specs.Stepwise.{heard_stepwise, unfinished_is}
-use Rattle.link.specs.StretchLaws.{goes_on, ends}
-use Rattle.link.specs.JoinLaws.{each_joined}
+use Rattle.link.specs.Lemmas.Stepwise.{heard_stepwise, unfinished_is}
+use Rattle.link.specs.Lemmas.StretchLaws.{goes_on, ends}
+use Rattle.link.specs.Lemmas.JoinLaws.{each_joined}
 
 -- Whatever stream came to b, the bytes x behind it lead to c and add these answers.
 pub record FeedsAnswers (holds : List ℕ → Tree → Type 0) (limit s : ℕ) (b : Begun) (x : List ℕ) (answers : List Verdict) (c : Begun) : Type 0 where

@@ -1,6 +1,5 @@
 -- What the laws of a link rest on: laws of frames, and of the trees that a type takes.
-use Rattle.std.proofs.Common.{◌≡◌, ◌≢◌, ℕ, ◌<◌, List, [], ◌∷◌, ◌++◌, length, sym, ap, subst, arith}
-use Rattle.std.proofs.lemmas.List.{append-nil}
+use Rattle.std.proofs.Common.{◌≡◌, ◌≢◌, ℕ, ◌<◌, List, [], ◌∷◌, ◌++◌, length, sym, ap, subst, arith, append-nil}
 use Rattle.cobs.specs.Frames.{NoZero, spelled, Frame, shortest_frame}
 use Rattle.cobs.specs.FrameLaws.{HasOneMessage, HasOneShortest, HoldsNoZero, FrontsBeginProperly}
 use Rattle.postcard_tree.specs.Tree.{Tree, IsTree}
