@@ -14,15 +14,18 @@ loop-alloc-init g c = (
 pub returns-in-Some-clause-heard : goal.returns-in-Some-clause-heard
 returns-in-Some-clause-heard g c =
     let k = c.loop-alloc.invariant.0 in
-    let e = c.in-Some.ensures.heard.0 in (record {
-      bytes = k.0 ++ e.bytes;
-      read = read_then _ _ _ k.0 e.bytes c.in-Some.end k.1 k.2 e.read;
-      few = few_then _ _ _ k.0 e.bytes 1 k.3 e.few;
-      adds = handed_next g.H.Hearer.hears g.H.Hearer.laws _ _ _ _ _ _ k.4 e.adds (λ ys adds limit s stream given h.
-          let heard = adds limit s (stream ++ k.0) (given ++ k.4.answers) (k.4.so limit s stream given h) in
-          subst (λ x. IsHeard g.D.Decoding.inside (g.M.MessageReader.judging c.args.messages.now).holds (g.M.MessageReader.judging c.args.messages.now).reads limit s c.args.goes_on c.in-Some.end c.listen_by.new.self (given ++ (k.4.answers ++ ys)) x) (append_assoc stream k.0 e.bytes)
-          (subst (λ xs. IsHeard g.D.Decoding.inside (g.M.MessageReader.judging c.args.messages.now).holds (g.M.MessageReader.judging c.args.messages.now).reads limit s c.args.goes_on c.in-Some.end c.listen_by.new.self xs ((stream ++ k.0) ++ e.bytes)) (append_assoc given k.4.answers ys) heard));
-    }, inr (was_asked g.D.Decoding.inside (g.M.MessageReader.judging c.args.messages.now) g.H.Hearer.hears g.H.Hearer.enough _ _ _ _ _ _ k.0 e.bytes e.adds.answers k.4 e.adds.heard (sym c.has_enough.ensures ∙ c.if-has_enough.false) (omega (arith, c.in-Some.ensures.heard.1))))
+    let e = c.in-Some.ensures.heard.0 in (
+      record {
+        bytes = k.0 ++ e.bytes;
+        read = read_then _ _ _ k.0 e.bytes c.in-Some.end k.1 k.2 e.read;
+        few = few_then _ _ _ k.0 e.bytes 1 k.3 e.few;
+        adds = handed_next g.H.Hearer.hears g.H.Hearer.laws _ _ _ _ _ _ k.4 e.adds (λ ys adds limit s stream given h.
+            let heard = adds limit s (stream ++ k.0) (given ++ k.4.answers) (k.4.so limit s stream given h) in
+            subst (λ x. IsHeard g.D.Decoding.inside (g.M.MessageReader.judging c.args.messages.now).holds (g.M.MessageReader.judging c.args.messages.now).reads limit s c.args.goes_on c.in-Some.end c.listen_by.new.self (given ++ (k.4.answers ++ ys)) x) (append_assoc stream k.0 e.bytes)
+            (subst (λ xs. IsHeard g.D.Decoding.inside (g.M.MessageReader.judging c.args.messages.now).holds (g.M.MessageReader.judging c.args.messages.now).reads limit s c.args.goes_on c.in-Some.end c.listen_by.new.self xs ((stream ++ k.0) ++ e.bytes)) (append_assoc given k.4.answers ys) heard));
+      },
+      inr (was_asked g.D.Decoding.inside (g.M.MessageReader.judging c.args.messages.now) g.H.Hearer.hears g.H.Hearer.enough _ _ _ _ _ _ k.0 e.bytes e.adds.answers k.4 e.adds.heard (sym c.has_enough.ensures ∙ c.if-has_enough.false) (omega (arith, c.in-Some.ensures.heard.1))),
+    )
 
 pub loop-alloc-preserved : goal.loop-alloc-preserved
 loop-alloc-preserved g c =
