@@ -5,9 +5,9 @@ use Rattle.link.proofs.HandingLemmas.{handed_as, handed_next}
 use Rattle.link.proofs.RecoveringLemmas.{HasLost, stopped_at, stopped_parts, lost_first, heard_anew, lost_next, recovered}
 use Rattle.link.proofs.reception.Reception.hand_by.Goals as goal
 
-pub returns-else-goes_on-clause-err : goal.returns-else-goes_on-clause-err
-returns-else-goes_on-clause-err g c =
-    rw c.if-goes_on.false (handed_as g.H.Hearer.hears g.H.Hearer.laws _ _ _ _ c.in-Err.ensures.err (λ more all limit s stream given h.
+pub returns-then-not-goes_on-clause-err : goal.returns-then-not-goes_on-clause-err
+returns-then-not-goes_on-clause-err g c =
+    rw c.if-not-goes_on.true (handed_as g.H.Hearer.hears g.H.Hearer.laws _ _ _ _ c.in-Err.ensures.err (λ more all limit s stream given h.
     let stops = all limit s stream given h in (
       stopped_at g.D.Decoding.inside (g.M.MessageReader.judging c.args.messages.now).holds (g.M.MessageReader.judging c.args.messages.now).reads limit s _ _ _ _ _ stops,
       subst (λ x. IsBehind g.D.Decoding.inside limit s c.pass_over.new.self x) (sym (stopped_parts g.D.Decoding.inside (g.M.MessageReader.judging c.args.messages.now).holds (g.M.MessageReader.judging c.args.messages.now).reads limit s _ _ _ _ _ stops))
@@ -45,7 +45,7 @@ loop-left-preserved g c =
 pub returns-in-Ok-hand_on-clause-err : goal.returns-in-Ok-hand_on-clause-err
 returns-in-Ok-hand_on-clause-err g c =
     let k = c.loop-left.invariant.2 in
-    rw c.if-goes_on.true (handed_next g.H.Hearer.hears g.H.Hearer.laws _ _ _ _ _ _ k c.in-Ok-hand_on.ensures.ok (λ ys adds limit s stream given h.
+    rw c.if-not-goes_on.false (handed_next g.H.Hearer.hears g.H.Hearer.laws _ _ _ _ _ _ k c.in-Ok-hand_on.ensures.ok (λ ys adds limit s stream given h.
     let m = k.so limit s stream given h in
     let heard = adds limit s [] [] (heard_anew g.D.Decoding.inside (g.M.MessageReader.judging c.args.messages.now).holds (g.M.MessageReader.judging c.args.messages.now).reads limit s _ _ _ m.2) in
     subst (λ x. Recovers g.D.Decoding.inside (g.M.MessageReader.judging c.args.messages.now).holds (g.M.MessageReader.judging c.args.messages.now).reads limit s c.hand_on-in-loop-left.new.self (given ++ (k.answers ++ ys)) x) (sym m.1)

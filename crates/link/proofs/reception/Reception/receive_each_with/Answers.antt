@@ -2,7 +2,7 @@ use Rattle.std.proofs.Common.{◌≡◌, ◌++◌, Some, [], refl}
 use Rattle.link.proofs.EndingLemmas.{none_given}
 use Rattle.link.proofs.PrefixesLemmas.{received, lost_value}
 use Rattle.link.proofs.EarlyLemmas.{early_of}
-use Rattle.link.proofs.HandingLemmas.{handed_as, stands_by, still_asked}
+use Rattle.link.proofs.HandingLemmas.{stands_by, still_asked}
 use Rattle.link.proofs.reception.Reception.receive_each_with.Goals as goal
 
 which : {A : Type 0} {x y : A} → Some x ≡ Some y → x ≡ y
@@ -37,8 +37,12 @@ returns-in-None-clause-received g c =
       bytes = h.bytes;
       read = h.read;
       few = h.few;
-      hands = handed_as g.H.Hearer.hears g.H.Hearer.laws _ _ _ _ h.adds (λ xs adds limit s new.
-          let heard = adds limit s [] [] (record { after = new; given = none_given (g.M.MessageReader.judging c.args.messages.now).holds (g.M.MessageReader.judging c.args.messages.now).reads limit s [] refl }) in
-          (heard.given, heard.after, λ e. cc));
+      hands = record {
+        answers = h.adds.answers;
+        heard = h.adds.heard;
+        so = λ limit s new.
+            let heard = h.adds.so limit s [] [] (record { after = new; given = none_given (g.M.MessageReader.judging c.args.messages.now).holds (g.M.MessageReader.judging c.args.messages.now).reads limit s [] refl }) in
+            (heard.given, heard.after, λ e. cc);
+      };
       asked = c.in-None.ensures.heard.1;
     }
