@@ -3,7 +3,12 @@ use Rattle.std.proofs.Common.{◌≡◌, ℕ, List, [], ◌∷◌, ◌++◌, len
 use Rattle.std.specs.List.{AllZip, AllByRecursion}
 use Rattle.std.proofs.Math.Seq.{take-append_seam}
 use Rattle.postcard_tree.specs.Tree.{Tree}
-use Rattle.link.specs.Link.{Verdict, value, damaged, too_long, cut, unfinished, cut_answers, Answers, Send, completed, refused, broken, line, told, IsRun, values_of, Matches, IsReceived, IsTold}
+use Rattle.link.specs.Stream.{Verdict, value, damaged, too_long, cut, unfinished, cut_answers, Answers}
+use Rattle.link.specs.Run.{Send, completed, refused, broken, line, told, IsRun}
+use Rattle.link.specs.Roads.{values_of}
+use Rattle.link.specs.Pushes.{Matches}
+use Rattle.link.specs.Listening.{IsReceived}
+use Rattle.link.specs.Laws.{IsTold}
 use Rattle.link_laws.specs.Answered.{Sends}
 use Rattle.link_laws.specs.Crashes.{tried_in, tried, Among, left, IsHeardBetween, IsLeft}
 use Rattle.link_laws.specs.Pieced.{AreOfTheWhole}

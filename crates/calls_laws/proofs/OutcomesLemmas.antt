@@ -1,10 +1,13 @@
 -- What one call over two lines makes of the application.
-use Rattle.std.proofs.Common.{◌≡◌, ◌<◌, ℕ, Bool, List, [], ◌∷◌, map, Option, Some, None, refl, sym, ap, ◌∙◌, subst, inl, inr, ◌⊎◌, arith, IfSome, append-nil}
+use Rattle.std.proofs.Common.{◌≡◌, ◌<◌, ℕ, Bool, List, [], ◌∷◌, map, Option, Some, None, refl, sym, ap, ◌∙◌, subst, inl, inr, ◌⊎◌, arith}
+use Rattle.std.specs.Prelude.{IfSome}
 use Rattle.std.specs.List.{AllByRecursion, AllZip, FoldsTo, zip}
 use Rattle.std.proofs.lemmas.Bool.{cases_lt}
+use Rattle.std.proofs.lemmas.List.{append-nil}
 use Rattle.postcard_tree.specs.Tree.{Tree}
 use Rattle.postcard_tree.specs.Alike.{AlikePairs}
-use Rattle.link.specs.Link.{Send, line, IsSendOf}
+use Rattle.link.specs.Run.{Send, line}
+use Rattle.link.specs.Fates.{IsSendOf}
 use Rattle.link.specs.declared.receiver.Answer.{Answer}
 use Rattle.link_laws.specs.Values.{runs_of, values_sent}
 use Rattle.link_laws.specs.Sessions.{all_sent, no_session, then_session, takes_run, all_written}

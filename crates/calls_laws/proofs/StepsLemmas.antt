@@ -1,16 +1,20 @@
 -- What each side of an exchange does, by what the calls say.
-use Rattle.std.proofs.Common.{◌≡◌, ◌<◌, ℕ, Bool, true, false, cond, eqb, List, [], ◌∷◌, ◌++◌, Option, Some, None, Result, Ok, Err, refl, sym, ap, ◌∙◌, subst, inl, inr, ◌⊎◌, IfSome, eqb-true}
+use Rattle.std.proofs.Common.{◌≡◌, ◌<◌, ℕ, Bool, true, false, cond, eqb, List, [], ◌∷◌, ◌++◌, Option, Some, None, Result, Ok, Err, refl, sym, ap, ◌∙◌, subst, inl, inr, ◌⊎◌, arith, append_assoc}
 use Rattle.std.specs.List.{AllByRecursion}
+use Rattle.std.specs.Prelude.{IfSome}
+use Rattle.std.proofs.lemmas.Bool.{eqb-true}
 use Rattle.postcard_tree.specs.Tree.{Tree}
 use Rattle.line_io.specs.Device.{LineState}
 use Rattle.line_io.specs.Transfers.{HasRead}
-use Rattle.link.specs.Link.{IsReceived, HasReadNow, IsReceivedNow, SenderPlace, HasSent}
+use Rattle.link.specs.Listening.{IsReceived}
+use Rattle.link.specs.Each.{HasReadNow, IsReceivedNow}
 use Rattle.link.specs.declared.sender.SendError.{SendError}
 use Rattle.link.specs.declared.receiver.Answer.{Answer}
 use Rattle.link.specs.declared.receiver.Answer.TheVariants.{Value, Damaged, TooLong, Cut}
 use Rattle.line_io.specs.declared.transfers.End.{End}
 use Rattle.line_io.specs.declared.transfers.End.TheVariants.{Ended, ReadFault, NoMemory}
 use Rattle.calls.specs.Calls.{Execution, no_call, In, ServesAll}
+use Rattle.link.specs.Senders.{SenderPlace, HasSent}
 use Rattle.calls.specs.Asking.{Asker, stepped, calls, ends, IsCalled, IsRepeated}
 use Rattle.calls.specs.Serving.{requests_of, Executes}
 use Rattle.calls.specs.ServedLaws.{says_none, says_one, says_then}

@@ -4,8 +4,9 @@ use Rattle.std.specs.Borrow.{RattleType}
 use Rattle.std.specs.List.{FoldsTo, AllByRecursion}
 use Rattle.std.specs.Mem.{FitsInMemory}
 use Rattle.postcard_tree.specs.Tree.{Tree}
-use Rattle.link.specs.Link.{IsReceived, ReceiverFitsInMemory, SenderPlace}
+use Rattle.link.specs.Listening.{IsReceived, ReceiverFitsInMemory}
 use Rattle.calls.specs.Calls.{Execution, no_call, ServesAll, In}
+use Rattle.link.specs.Senders.{SenderPlace}
 use Rattle.calls.specs.Places.{SaysAll}
 use Rattle.calls.specs.Serving.{Runs, requests_of}
 use Rattle.link.specs.declared.session.Fate.{Fate}

@@ -1,7 +1,8 @@
 -- What a reply says that came over two lines.
 use Rattle.std.specs.Prelude.{◌≡◌, ◌⊎◌, ◌<◌, ℕ, Bool, List, ◌++◌, Option}
 use Rattle.postcard_tree.specs.Tree.{Tree}
-use Rattle.link.specs.Link.{Send, IsRun, line, IsReceived}
+use Rattle.link.specs.Run.{Send, IsRun, line}
+use Rattle.link.specs.Listening.{IsReceived}
 use Rattle.link_laws.specs.Values.{runs_of, AreSends, values_sent}
 use Rattle.calls.specs.Calls.{Execution, next_of, no_call, ServesAll, KeptFor, Rises, In, OnePerNumber}
 use Rattle.calls.specs.Serving.{requests_of}

@@ -1,7 +1,8 @@
 -- What is heard by whoever was given a front of a line.
 use Rattle.std.specs.Prelude.{◌≡◌, ℕ, List, ◌++◌, Option}
 use Rattle.postcard_tree.specs.Tree.{Tree}
-use Rattle.link.specs.Link.{Send, IsRun, line, IsReceived}
+use Rattle.link.specs.Run.{Send, IsRun, line}
+use Rattle.link.specs.Listening.{IsReceived}
 use Rattle.link_laws.specs.Values.{runs_of, AreSends, values_sent}
 use Rattle.calls.specs.Calls.{In}
 use Rattle.calls.specs.Serving.{requests_of}

@@ -1,6 +1,7 @@
 //! What each side of an exchange does, over memory.
 ghost use Rattle.std.specs.Prelude.{◌≡◌, [], ◌<◌, Some, None, IfSome};
-ghost use Rattle.link.specs.Link.{ReceiverFitsInMemory, sender_place};
+ghost use Rattle.link.specs.Listening.{ReceiverFitsInMemory};
+ghost use Rattle.link.specs.Senders.{sender_place};
 ghost use Rattle.calls.specs.Asking.{asker_of, sender_of};
 ghost use Rattle.calls_laws.specs.Exchange.{AsksOnly, ServesLine, TakesReply, Repeats, ClientFitsInMemory, ServerFitsInMemory, ServiceFitsInMemory, WaitingFitsInMemory};
 

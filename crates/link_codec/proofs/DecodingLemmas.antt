@@ -1,13 +1,15 @@
 -- What a decoder answers, by what its receiver did.
-use Rattle.std.proofs.Common.{◌≡◌, ℕ, ◌+◌, ◌-◌, ◌≤◌, Bool, List, [], ◌∷◌, ◌++◌, length, take, drop, Option, Some, None, Result, Ok, Err, refl, sym, ap, ◌∙◌, subst, inl, inr, arith, length-append, append-nil, append_assoc, IfNone, take_all}
+use Rattle.std.proofs.Common.{◌≡◌, ℕ, ◌+◌, ◌-◌, ◌≤◌, Bool, List, [], ◌∷◌, ◌++◌, length, take, drop, Option, Some, None, Result, Ok, Err, refl, sym, ap, ◌∙◌, subst, inl, inr, arith, length-append, append-nil, append_assoc}
+use Rattle.std.specs.Prelude.{IfNone}
 use Rattle.std.specs.Coded.{Coded-set, coded_ℕ}
 use Rattle.std.proofs.Math.Logic.{∥∥₁_elim}
 use Rattle.std.proofs.lemmas.Bool.{cases_lt}
 use Rattle.std.proofs.Math.Seq.{take-append-add, drop-append-add}
-use Rattle.std.proofs.lemmas.List.{take-append-le, drop_all}
+use Rattle.std.proofs.lemmas.List.{take-append-le, take_all, drop_all}
 use Rattle.postcard_tree.specs.Tree.{Tree}
 use Rattle.link.specs.declared.decoding.Decoding.{Ghosts}
-use Rattle.link.specs.Link.{Judging, Verdict, Given, kept, begun}
+use Rattle.link.specs.Judged.{Judging}
+use Rattle.link.specs.Stream.{Verdict, Given, kept, begun}
 use Rattle.link.specs.Pushes.{IsPush, IsLost, IsLeast, IsBegun, Answered, listed, finished}
 use Rattle.link.specs.declared.receiver.Answer.{Answer}
 use Rattle.link.specs.declared.receiver.NoMemory.{NoMemory as NoAnswer}

@@ -1,16 +1,18 @@
 -- The items of a framed reader however it goes on: the answers given of a front of its bytes, or all answers.
-use Rattle.std.proofs.Common.{◌≡◌, ℕ, ◌⊎◌, Bool, true, List, [], ◌∷◌, ◌++◌, take, All, IsOk, is_ok, Option, Some, Result, Ok, Err, refl, sym, ap, ◌∙◌, subst, inl, inr, append-nil, append_assoc, take-append-drop}
+use Rattle.std.proofs.Common.{◌≡◌, ℕ, ◌⊎◌, Bool, true, List, [], ◌∷◌, ◌++◌, take, All, IsOk, is_ok, Option, Some, Result, Ok, Err, refl, sym, ap, ◌∙◌, subst, inl, inr, append-nil, append_assoc}
+use Rattle.std.proofs.lemmas.List.{take-append-drop}
 use Rattle.std.proofs.lemmas.List.Elements.{All-head, All-tail}
 use Rattle.std.specs.declared.io.Error.{Error}
 use Rattle.postcard_tree.specs.Tree.{Tree}
 use Rattle.link.specs.declared.decoding.Decoding.{Ghosts}
-use Rattle.link.specs.Link.{Judging, HasGiven}
+use Rattle.link.specs.Judged.{Judging}
+use Rattle.link.specs.Listening.{HasGiven}
 use Rattle.link.specs.declared.receiver.Answer.{Answer}
 use Rattle.link_codec.specs.declared.error.DecodeError.{DecodeError}
 use Rattle.link_codec.specs.Decoders.{IsGiven as Given, IsGivenTo, messages_in, gives_judged, judged_stable}
 use Rattle.link_codec.specs.declared.decoder.AnswerDecoder.{AnswerDecoder}
 use Rattle.link_codec.specs.Gives.{GivenBy, gives_answers}
-use Rattle.link_codec.specs.Whole.{answers_of, IsOfReader, IsHeardOf, IsAnsweredSoFar}
+use Rattle.link_codec.specs.Whole.{answers_of, IsOfReader, Begins, IsHeardOf, IsAnsweredSoFar}
 use Rattle.link_codec.proofs.KeptLemmas.{kept_given, none_given}
 use Rattle.link_codec.proofs.WholeLemmas.{none_decoded, none_ended, ended_on, as_judged}
 use Rattle.tokio.specs.Io.Moved.{Passes, PassesInOrder}

@@ -1,9 +1,11 @@
 -- How answers are kept, push by push, and what the end of a stream adds.
-use Rattle.std.proofs.Common.{◌≡◌, ℕ, List, [], ◌∷◌, ◌++◌, length, take, Option, Some, None, Result, Ok, Err, refl, sym, ap, ◌∙◌, subst, inl, inr, arith, append-nil, append_assoc, nat_lt, if◌then◌else◌, lt-ltb, le-ltb}
+use Rattle.std.proofs.Common.{◌≡◌, ℕ, ◌<◌, ◌≤◌, List, [], ◌∷◌, ◌++◌, length, take, Option, Some, None, Result, Ok, Err, refl, sym, ap, ◌∙◌, subst, inl, inr, arith, append-nil, append_assoc, nat_lt, ltb, if◌then◌else◌}
 use Rattle.std.specs.List.{AllZip}
-use Rattle.std.proofs.lemmas.Bool.{cases_lt}
+use Rattle.std.proofs.lemmas.Bool.{cases_lt, lt-ltb, le-ltb}
 use Rattle.postcard_tree.specs.Tree.{Tree}
-use Rattle.link.specs.Link.{Verdict, cut, begun_answers, cut_answers, unfinished, begun, kept, over, Given, Answers, listed, Matches, Answered, finished, HasGiven, HasAnswered, KeepsAnswer}
+use Rattle.link.specs.Stream.{Verdict, cut, too_long, begun_answers, cut_answers, unfinished, begun, kept, over, Given, Answers}
+use Rattle.link.specs.Pushes.{listed, Matches, Answered, finished}
+use Rattle.link.specs.Listening.{HasGiven, HasAnswered, KeepsAnswer}
 use Rattle.link.specs.declared.receiver.Answer.{Answer}
 use Rattle.link.specs.declared.receiver.Answer.TheVariants.{Cut}
 use Rattle.link.specs.declared.receiver.NoMemory.{NoMemory as NoAnswer}

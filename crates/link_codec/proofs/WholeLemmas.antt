@@ -1,10 +1,14 @@
 -- All items of a framed reader are the answers of all its bytes.
-use Rattle.std.proofs.Common.{◌≡◌, ℕ, Bool, true, List, [], ◌∷◌, ◌++◌, length, take, All, IsOk, is_ok, Option, Some, None, Result, Ok, Err, refl, sym, ap, ◌∙◌, subst, arith, append-nil, append_assoc, take_all, take-append-drop}
+use Rattle.std.proofs.Common.{◌≡◌, ℕ, Bool, true, List, [], ◌∷◌, ◌++◌, length, take, All, IsOk, is_ok, Option, Some, None, Result, Ok, Err, refl, sym, ap, ◌∙◌, subst, arith, append-nil, append_assoc}
+use Rattle.std.proofs.lemmas.List.{take_all, take-append-drop}
 use Rattle.std.proofs.lemmas.List.Elements.{All-head, All-tail}
 use Rattle.std.specs.declared.io.Error.{Error}
 use Rattle.postcard_tree.specs.Tree.{Tree}
 use Rattle.link.specs.declared.decoding.Decoding.{Ghosts}
-use Rattle.link.specs.Link.{Judging, kept, begun, IsPush, finished, HasGiven, HasAnswered, KeepsAnswer}
+use Rattle.link.specs.Judged.{Judging}
+use Rattle.link.specs.Stream.{kept, begun}
+use Rattle.link.specs.Pushes.{IsPush, finished}
+use Rattle.link.specs.Listening.{HasGiven, HasAnswered, KeepsAnswer}
 use Rattle.link.specs.declared.receiver.Answer.{Answer}
 use Rattle.link_codec.specs.declared.error.DecodeError.{DecodeError}
 use Rattle.link_codec.specs.Beside.{gives_beside, stable_beside}
@@ -13,7 +17,7 @@ use Rattle.link_codec.specs.declared.decoder.AnswerDecoder.{AnswerDecoder}
 use Rattle.link_codec.specs.Gives.{GivenBy, AddsNothing, Ends, gives_answers}
 use Rattle.link_codec.proofs.KeptLemmas.{none_begun, kept_given, ended_by, none_given}
 use Rattle.link_codec.specs.Laws.{no_push}
-use Rattle.link_codec.specs.Whole.{answers_of, IsOfReader, IsAnsweredWhole}
+use Rattle.link_codec.specs.Whole.{answers_of, IsOfReader, Begins, IsAnsweredWhole}
 use Rattle.link_codec.proofs.DecodingLemmas.{push_none}
 use Rattle.tokio.specs.Io.Moved.{Passes, PassesInOrder}
 use Rattle.tokio_util.specs.Codec.Next.{Next, Gives, decoded, at_end}

@@ -1,6 +1,6 @@
 -- A decoder beside something that decoding leaves as it is.
-use Rattle.std.specs.Prelude.{◌≡◌}
-use Rattle.tokio_util.specs.Codec.Next.{Gives, decoded, partial, at_end, IsStable, PartialHasNoFrame, EndIsPartial}
+use Rattle.std.specs.Prelude.{◌≡◌, ℕ, List, ◌++◌, Option, Some, None, Result, Ok, Err}
+use Rattle.tokio_util.specs.Codec.Next.{Next, Gives, decoded, partial, at_end, IsStable, PartialHasNoFrame, EndIsPartial}
 
 module _ {C D B T E : Type 0} (decoder_in : C → D) (beside : C → B) where
   -- as its decoder gives, with the rest as it was

@@ -1,7 +1,8 @@
 -- What a decoder was given, and what it gives.
-use Rattle.std.specs.Prelude.{◌≡◌, refl}
+use Rattle.std.specs.Prelude.{◌≡◌, ℕ, List, refl}
 use Rattle.std.proofs.Math.Logic.{∥∥₁_map}
-use Rattle.link.specs.Link.{Judging, IsBehind}
+use Rattle.link.specs.Judged.{Judging}
+use Rattle.link.specs.Receivers.{IsBehind}
 use Rattle.link.specs.declared.receiver.Answer.{Answer}
 use Rattle.link.specs.declared.decoding.Decoding.{Ghosts}
 use Rattle.link_codec.specs.declared.error.DecodeError.{DecodeError}

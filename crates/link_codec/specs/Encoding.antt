@@ -1,7 +1,8 @@
 -- What an encoder writes, by the definitions of link.
 use Rattle.std.specs.Prelude.{◌≡◌, ℕ, Bool, true, List, length, Option, Some}
 use Rattle.postcard_tree.specs.Tree.{Tree, IsTree}
-use Rattle.link.specs.Link.{completed, sent, written, IsSend, IsRefusal}
+use Rattle.link.specs.Run.{completed, sent, written, IsSend}
+use Rattle.link.specs.Senders.{IsRefusal}
 use Rattle.link_codec.specs.declared.encoder.LinkEncoder.{LinkEncoder}
 use Rattle.link_codec.specs.declared.error.EncodeError.{EncodeError}
 use Rattle.link_codec.specs.declared.error.EncodeError.TheVariants.{Refused, Io}

@@ -1,7 +1,8 @@
 -- What a decoder of answers gives, by the definitions of link.
 use Rattle.std.specs.Prelude.{◌≡◌, ℕ, ◌≤◌, Bool, true, List, [], ◌++◌, length, take, drop, Option, Some, None, Result, Ok, Err}
 use Rattle.postcard_tree.specs.Tree.{Tree}
-use Rattle.link.specs.Link.{begun, IsPush, IsLost, Answered, finished}
+use Rattle.link.specs.Stream.{begun}
+use Rattle.link.specs.Pushes.{IsPush, IsLost, Answered, finished}
 use Rattle.link.specs.declared.receiver.Answer.{Answer}
 use Rattle.link_codec.specs.declared.error.DecodeError.{DecodeError}
 use Rattle.link_codec.specs.declared.error.DecodeError.TheVariants.{NoMemory, Io}

@@ -2,7 +2,10 @@
 use Rattle.std.proofs.Common.{◌≡◌, ℕ, Bool, true, List, [], ◌∷◌, ◌++◌, map, Option, Some, refl, sym, ap, ◌∙◌, subst}
 use Rattle.std.specs.List.{AllZip}
 use Rattle.postcard_tree.specs.Tree.{Tree, IsTree}
-use Rattle.link.specs.Link.{value, Send, completed, refused, broken, IsSession, session_line, written, told_session, IsSendOf, Matches}
+use Rattle.link.specs.Stream.{value}
+use Rattle.link.specs.Run.{Send, completed, refused, broken, IsSession, session_line, written, told_session}
+use Rattle.link.specs.Fates.{IsSendOf}
+use Rattle.link.specs.Pushes.{Matches}
 use Rattle.link.specs.declared.receiver.Answer.{Answer}
 use Rattle.link.specs.declared.receiver.Answer.TheVariants.{Value, Damaged, TooLong, Cut}
 use Rattle.link_laws.specs.Values.{AlikeAnswers}

@@ -3,7 +3,8 @@ use Rattle.std.specs.Prelude.{◌≡◌, ℕ, false, List, All, IsOk, Option, So
 use Rattle.std.specs.List.{AllZip}
 use Rattle.std.specs.declared.io.Error.{Error}
 use Rattle.postcard_tree.specs.Tree.{Tree, IsTree}
-use Rattle.link.specs.Link.{Send, completed, IsRun, IsSession, line, told, session_line, Matches}
+use Rattle.link.specs.Run.{Send, completed, IsRun, IsSession, line, told, session_line}
+use Rattle.link.specs.Pushes.{Matches}
 use Rattle.link.specs.declared.receiver.Answer.{Answer}
 use Rattle.link.specs.declared.receiver.Answer.TheVariants.{Value}
 use Rattle.link_laws.specs.Values.{AlikeAnswers}

@@ -1,7 +1,8 @@
 use Rattle.std.proofs.Common.{◌≡◌, false, [], ◌∷◌, append-nil, sym, ap, ◌∙◌, subst}
 use Rattle.std.specs.List.{AllZip}
 use Rattle.postcard_tree.specs.Tree.{IsTree}
-use Rattle.link.specs.Link.{IsSession, session_line, line, told_session, Matches}
+use Rattle.link.specs.Run.{IsSession, session_line, line, told_session}
+use Rattle.link.specs.Pushes.{Matches}
 use Rattle.link_codec.specs.Encoding.{encoder_sentinel}
 use Rattle.link_codec.specs.Whole.{answers_of}
 use Rattle.link_codec_laws.proofs.SessionsLemmas.{sends_of_each, told_alike}

@@ -1,6 +1,8 @@
 use Rattle.std.proofs.Common.{subst}
 use Rattle.std.specs.List.{AllZip}
-use Rattle.link.specs.Link.{Matches, Answers, HoldsExactly}
+use Rattle.link.specs.Pushes.{Matches}
+use Rattle.link.specs.Stream.{Answers}
+use Rattle.link.specs.Stream.{HoldsExactly}
 use Rattle.link_codec.specs.Whole.{answers_of}
 use Rattle.link_codec_laws.proofs.laws.strict_told_whole.Goals as goal
 

@@ -1,6 +1,7 @@
 use Rattle.std.proofs.Common.{subst}
 use Rattle.std.specs.List.{AllZip}
-use Rattle.link.specs.Link.{Matches, Answers}
+use Rattle.link.specs.Pushes.{Matches}
+use Rattle.link.specs.Stream.{Answers}
 use Rattle.postcard.specs.Frames.{Holds}
 use Rattle.link_codec.specs.Whole.{answers_of}
 use Rattle.link_codec_laws.proofs.laws.told_whole.Goals as goal
