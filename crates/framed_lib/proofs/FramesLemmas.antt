@@ -1,9 +1,11 @@
 -- The frames of a text's lines, put some at a time.
-use Rattle.std.proofs.Common.{◌≡◌, ℕ, Bool, true, false, List, [], ◌∷◌, ◌++◌, length, refl, sym, ap, ◌∙◌, append_assoc, append-nil}
+use Rattle.std.proofs.Common.{◌≡◌, ℕ, Bool, true, false, List, [], ◌∷◌, ◌++◌, length, refl, sym, ap, ◌∙◌, append_assoc}
+use Rattle.std.proofs.lemmas.List.{append-nil}
 use Rattle.hex.specs.Hex.{encode_with}
 use Rattle.line_io.specs.Device.{LineState}
 use Rattle.line_io.specs.Transfers.{BrokeOff}
-use Rattle.link.specs.Link.{Send, written, session_line, clean_after_all}
+use Rattle.link.specs.Run.{Send, written, session_line}
+use Rattle.link.specs.Fates.{clean_after_all}
 use Rattle.framed_lib.specs.Output.{Puts}
 use Rattle.framed_lib.specs.Program.{framed_text, shown, shown_end}
 use Rattle.framed_lib.specs.Sending.{lines_in, AreSendsOf, IsSendOfLine, Sent}

@@ -1,13 +1,18 @@
 -- The lines of answers, and of the trees that they were read from.
 use Rattle.std.proofs.Math.Seq.{drop-cons, take-length}
-use Rattle.std.proofs.Common.{take, drop, get_or, add-one, ◌+◌, ◌-◌, ◌≡◌, ℕ, zero, suc, ◌<◌, ◌≤◌, ◌==◌, Bool, true, false, ◌&&◌, ◌||◌, if◌then◌else◌, arith, List, [], ◌∷◌, ◌++◌, length, refl, sym, ap, ◌∙◌, flat_map, string_bytes, Option, Some, None, eqb-true, ne_eqb, take-append-drop, length-drop, length-take}
+use Rattle.std.proofs.Common.{take, drop, get_or, add-one, ◌+◌, ◌-◌, ◌≡◌, ℕ, zero, suc, ◌<◌, ◌≤◌, ◌==◌, Bool, true, false, ◌&&◌, ◌||◌, if◌then◌else◌, arith, List, [], ◌∷◌, ◌++◌, length, refl, sym, ap, ◌∙◌}
 use Rattle.std.specs.List.{list_all, AllZip}
+use Rattle.std.specs.Prelude.{flat_map, string_bytes, Option, Some, None}
 use Rattle.std.specs.declared.string.String.{String}
 use Rattle.std.proofs.lemmas.Grind.{flat_map-append}
+use Rattle.std.proofs.lemmas.Bool.{eqb-true, ne_eqb}
+use Rattle.std.proofs.lemmas.List.{take-append-drop, length-drop, length-take}
 use Rattle.memchr.specs.Find.{is_byte2}
 use Rattle.postcard_tree.specs.Tree.{Tree, byte, number, character, sequence, group, Trees, end, part}
 use Rattle.postcard_tree.specs.Reading.{ReadsAll, ReadsByte, ReadsText}
-use Rattle.link.specs.Link.{Verdict, Matches, IsReceivedNow}
+use Rattle.link.specs.Stream.{Verdict}
+use Rattle.link.specs.Pushes.{Matches}
+use Rattle.link.specs.Each.{IsReceivedNow}
 use Rattle.link.specs.declared.receiver.Answer.{Answer}
 use Rattle.link.specs.declared.receiver.Answer.TheVariants.{Value, Damaged, TooLong, Cut}
 use Rattle.line_io.specs.declared.transfers.End.{End}

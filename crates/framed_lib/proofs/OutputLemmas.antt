@@ -1,5 +1,7 @@
 -- Bytes that are put one after another.
-use Rattle.std.proofs.Common.{◌≡◌, ℕ, List, [], ◌++◌, sym, ap, subst, ◌∙◌, append_assoc, append-nil, Result, Ok, Err, OnErr}
+use Rattle.std.proofs.Common.{◌≡◌, ℕ, List, [], ◌++◌, sym, ap, subst, ◌∙◌, append_assoc}
+use Rattle.std.proofs.lemmas.List.{append-nil}
+use Rattle.std.specs.Prelude.{Result, Ok, Err, OnErr}
 use Rattle.line_io.specs.Device.{LineState}
 use Rattle.line_io.specs.Transfers.{WentOut, BrokeOff}
 use Rattle.framed_lib.specs.Output.{Puts}

@@ -1,5 +1,6 @@
 -- How a run ends, from how its work and its last line ended.
-use Rattle.std.proofs.Common.{◌≡◌, ℕ, ◌<◌, ◌≤◌, inl, inr, Bool, true, false, List, ◌++◌, sym, subst, arith, if◌then◌else◌, Result, Ok, Err, Option}
+use Rattle.std.proofs.Common.{◌≡◌, ℕ, ◌<◌, ◌≤◌, inl, inr, Bool, true, false, List, ◌++◌, sym, subst, arith, if◌then◌else◌}
+use Rattle.std.specs.Prelude.{Result, Ok, Err, Option}
 use Rattle.framed_lib.specs.declared.arguments.Mode.{Mode}
 use Rattle.framed_lib.specs.declared.arguments.Mode.TheVariants.{Pack, Unpack, Strict}
 use Rattle.framed_lib.specs.declared.stop.Stop.{Stop}

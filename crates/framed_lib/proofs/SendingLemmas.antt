@@ -1,10 +1,12 @@
 -- The sends of a text's lines, line by line.
-use Rattle.std.proofs.Common.{◌≡◌, ℕ, ◌+◌, ◌<◌, ◌==◌, inl, inr, Bool, ◌&&◌, ◌||◌, true, false, List, [], ◌∷◌, ◌++◌, length, refl, sym, ap, ◌∙◌, arith, append_assoc, append-nil}
+use Rattle.std.proofs.Common.{◌≡◌, ℕ, ◌+◌, ◌<◌, ◌==◌, inl, inr, Bool, ◌&&◌, ◌||◌, true, false, List, [], ◌∷◌, ◌++◌, length, refl, sym, ap, ◌∙◌, arith, append_assoc}
 use Rattle.std.proofs.Math.Bool.{or-true, or-false}
+use Rattle.std.proofs.lemmas.List.{append-nil}
 use Rattle.std.specs.List.{list_all}
 use Rattle.std.proofs.lemmas.List.Folds.{list_all-append}
 use Rattle.std.proofs.lemmas.List.Splits.{slice_split_at, slice_split_none, length-slice_split}
-use Rattle.link.specs.Link.{Send, completed, refused, broken, written, clean_after, session_line, clean_after_all}
+use Rattle.link.specs.Run.{Send, completed, refused, broken, written, clean_after, session_line}
+use Rattle.link.specs.Fates.{clean_after_all}
 use Rattle.framed_lib.specs.Pieces.{LacksMark, pieces}
 use Rattle.framed_lib.specs.Program.{SaysFirst}
 use Rattle.framed_lib.specs.Sending.{filled, lines_in, IsSendOfLine, AreSendsOf, is_whole, said_of, refusals, Sent}

@@ -1,5 +1,6 @@
 -- Words that the program isn't called with.
-use Rattle.std.proofs.Common.{◌≡◌, ◌<◌, ℕ, Bool, true, false, List, [], ◌∷◌, ◌++◌, length, get_or, refl, ap, arith, Option, None, Some, inl, inr, codes, IfNone}
+use Rattle.std.proofs.Common.{◌≡◌, ◌<◌, ℕ, Bool, true, false, List, [], ◌∷◌, ◌++◌, length, get_or, refl, ap, arith, Option, None, Some, inl, inr}
+use Rattle.std.specs.Prelude.{codes, IfNone}
 use Rattle.framed_lib.specs.declared.arguments.Mode.{Mode}
 use Rattle.framed_lib.specs.Words.{hex_words, NamesSentinel, AreWordsFor}
 

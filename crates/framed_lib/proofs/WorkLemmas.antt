@@ -1,12 +1,16 @@
 -- How the work of a run ends, said of another reading or another way of saying.
-use Rattle.std.proofs.Common.{◌≡◌, ℕ, ◌+◌, ◌<◌, ◌⊎◌, inl, inr, Bool, ◌&&◌, true, false, List, [], ◌++◌, length, refl, sym, ap, ◌∙◌, subst, arith, if◌then◌else◌, Option, Some, None, append-nil, length-append, Result, Ok, Err, IsErr, OnOk, IfSome}
+use Rattle.std.proofs.Common.{◌≡◌, ℕ, ◌+◌, ◌<◌, ◌⊎◌, inl, inr, Bool, ◌&&◌, true, false, List, [], ◌++◌, length, refl, sym, ap, ◌∙◌, subst, arith, if◌then◌else◌, Option, Some, None}
+use Rattle.std.proofs.lemmas.List.{append-nil, length-append}
 use Rattle.std.specs.List.{list_all}
+use Rattle.std.specs.Prelude.{Result, Ok, Err, IsErr, OnOk, IfSome}
 use Rattle.line_io.specs.Device.{LineState, Came, Gave}
 use Rattle.line_io.specs.Transfers.{Fate, whole, broken}
 use Rattle.line_io.specs.declared.transfers.End.{End}
 use Rattle.line_io.specs.declared.transfers.End.TheVariants.{Ended, ReadFault, NoMemory}
 use Rattle.line_io.specs.declared.transfers.WriteFault.{WriteFault}
-use Rattle.link.specs.Link.{HasReadNow, UsesFew, last_call, Send, session_line, Verdict}
+use Rattle.link.specs.Each.{HasReadNow, UsesFew, last_call}
+use Rattle.link.specs.Run.{Send, session_line}
+use Rattle.link.specs.Stream.{Verdict}
 use Rattle.framed_lib.specs.declared.arguments.Mode.{Mode}
 use Rattle.framed_lib.specs.declared.arguments.Mode.TheVariants.{Pack}
 use Rattle.framed_lib.specs.declared.stop.Stop.{Stop}

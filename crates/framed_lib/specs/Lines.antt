@@ -4,7 +4,8 @@ use Rattle.std.specs.declared.string.String.{String}
 use Rattle.postcard_tree.specs.Tree.{Tree, byte, sequence, Trees, end, part}
 use Rattle.postcard_tree.specs.Reading.{TakesText, ReadsText}
 use Rattle.postcard.specs.Frames.{Holds}
-use Rattle.link.specs.Link.{AnswersBeginProperly, Verdict, value, damaged, too_long, cut, HoldsExactly, Given, Answers}
+use Rattle.link.specs.Listening.{AnswersBeginProperly}
+use Rattle.link.specs.Stream.{Verdict, value, damaged, too_long, cut, HoldsExactly, Given, Answers}
 use Rattle.link.specs.declared.receiver.Answer.{Answer}
 use Rattle.link.specs.declared.receiver.Answer.TheVariants.{Value, Damaged, TooLong, Cut}
 use Rattle.line_io.specs.declared.transfers.End.{End}

@@ -1,5 +1,6 @@
 -- Bytes that are held back before they are written.
-use Rattle.std.proofs.Common.{sym, ap, ◌∙◌, append_assoc, append-nil, ◌≡◌, ℕ, List, [], ◌++◌}
+use Rattle.std.specs.Prelude.{◌≡◌, ℕ, List, [], ◌++◌}
+use Rattle.std.proofs.Common.{sym, ap, ◌∙◌, append_assoc, append-nil}
 use Rattle.line_io.specs.Device.{LineState}
 use Rattle.line_io.specs.Transfers.{WentOut, BrokeOff}
 use Rattle.line_io.specs.Calls.{WentOut-none, WentOut-then, BrokeOff-then}

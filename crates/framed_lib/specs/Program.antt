@@ -5,7 +5,8 @@ use Rattle.hex.specs.Hex.{encode_lower, decode_of}
 use Rattle.line_io.specs.Transfers.{Fate, whole, broken}
 use Rattle.line_io.specs.declared.transfers.End.{End}
 use Rattle.line_io.specs.declared.transfers.End.TheVariants.{Ended, ReadFault, NoMemory}
-use Rattle.link.specs.Link.{Verdict, Send, session_line}
+use Rattle.link.specs.Stream.{Verdict}
+use Rattle.link.specs.Run.{Send, session_line}
 use Rattle.framed_lib.specs.declared.arguments.Mode.{Mode}
 use Rattle.framed_lib.specs.declared.arguments.Mode.TheVariants.{Pack, Unpack, Strict}
 use Rattle.framed_lib.specs.Lines.{AreAnswers, lines_of, is_value}

@@ -1,6 +1,7 @@
 ghost use Rattle.std.specs.Prelude.{ℕ, false, List, OnOk, OnErr, IsTrue, IsUtf8};
 ghost use Rattle.line_io.specs.Transfers.{Writing, whole, broken};
-ghost use Rattle.link.specs.Link.{HasReadNow, Send, session_line};
+ghost use Rattle.link.specs.Each.{HasReadNow};
+ghost use Rattle.link.specs.Run.{Send, session_line};
 ghost use Rattle.framed_lib.specs.Program.{framed_text};
 ghost use Rattle.framed_lib.specs.Sending.{lines_in, AreSendsOf};
 ghost use Rattle.framed_lib.specs.Working.{Worked, IsWhole};

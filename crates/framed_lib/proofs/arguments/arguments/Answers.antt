@@ -1,5 +1,6 @@
 use Rattle.std.proofs.lemmas.Grind.{common_steps}
-use Rattle.std.proofs.Common.{◌≡◌, ◌∷◌, ◌++◌, [], get_or, sym, subst, ap, ◌∙◌, arith, map, string_bytes}
+use Rattle.std.proofs.Common.{◌≡◌, ◌∷◌, ◌++◌, [], get_or, sym, subst, ap, ◌∙◌, arith}
+use Rattle.std.specs.Prelude.{map, string_bytes}
 use Rattle.framed_lib.specs.Words.{hex_words, NamesSentinel}
 use Rattle.framed_lib.proofs.WordsLemmas.{if-none, one-part, no-more}
 use Rattle.framed_lib.proofs.arguments.arguments.Goals as goal

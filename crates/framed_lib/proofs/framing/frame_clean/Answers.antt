@@ -1,5 +1,7 @@
 use Rattle.std.proofs.lemmas.Grind.{common_steps}
-use Rattle.std.proofs.Common.{◌≡◌, ◌+◌, ◌++◌, length, take, drop, refl, sym, arith, lt-ltb, length-set, length-take}
+use Rattle.std.proofs.Common.{◌≡◌, ◌+◌, ◌++◌, length, take, drop, refl, sym, arith}
+use Rattle.std.proofs.lemmas.Bool.{lt-ltb}
+use Rattle.std.proofs.lemmas.List.{length-set, length-take}
 use Rattle.postcard_tree.specs.Tree.{text_of}
 use Rattle.link.specs.Run.{completed, refused}
 use Rattle.framed_lib.proofs.FramingLemmas.{framed-line, unframed-line}

@@ -1,4 +1,5 @@
-use Rattle.std.proofs.Common.{◌≡◌, ◌<◌, ◌+◌, true, sym, ◌∙◌, arith, lt-ltb}
+use Rattle.std.proofs.Common.{◌≡◌, ◌<◌, ◌+◌, true, sym, ◌∙◌, arith}
+use Rattle.std.proofs.lemmas.Bool.{lt-ltb}
 use Rattle.framed_lib.specs.Sending.{is_whole}
 use Rattle.framed_lib.proofs.FramingLemmas.{led}
 use Rattle.framed_lib.proofs.framing.frame_line.Goals as goal

@@ -1,4 +1,5 @@
-use Rattle.std.proofs.Common.{◌++◌, [], sym, ap, ◌∙◌, append_assoc, rules, append-nil}
+use Rattle.std.proofs.Common.{◌++◌, [], sym, ap, ◌∙◌, append_assoc, rules}
+use Rattle.std.proofs.lemmas.List.{append-nil}
 use Rattle.std.proofs.lemmas.Result.{on_ok_weaker, on_err_weaker}
 use Rattle.framed_lib.proofs.OutputLemmas.{on_err, put-then, put-done, put-breaks}
 use Rattle.framed_lib.proofs.lines.put_escaped.Goals as goal

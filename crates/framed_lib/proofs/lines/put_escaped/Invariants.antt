@@ -1,4 +1,5 @@
-use Rattle.std.proofs.Common.{◌≡◌, ◌++◌, ℕ, List, length, flat_map}
+use Rattle.std.proofs.Common.{◌≡◌, ◌++◌, ℕ, List, length}
+use Rattle.std.specs.Prelude.{flat_map}
 use Rattle.framed_lib.specs.Lines.{escape}
 use Rattle.framed_lib.specs.Output.{Puts}
 use Rattle.framed_lib.proofs.lines.put_escaped.Given as goal

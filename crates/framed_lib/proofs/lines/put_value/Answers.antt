@@ -1,4 +1,5 @@
-use Rattle.std.proofs.Common.{◌++◌, [], ◌∷◌, refl, sym, append_assoc, flat_map, codes}
+use Rattle.std.proofs.Common.{◌++◌, [], ◌∷◌, refl, sym, append_assoc}
+use Rattle.std.specs.Prelude.{flat_map, codes}
 use Rattle.std.proofs.lemmas.Result.{on_ok_weaker, on_err_weaker}
 use Rattle.framed_lib.specs.Lines.{escape}
 use Rattle.framed_lib.proofs.OutputLemmas.{on_err, put-none, put-then, put-breaks}

@@ -1,5 +1,7 @@
-use Rattle.std.proofs.Common.{◌≡◌, false, List, [], length, IsTrue, IsUtf8}
-use Rattle.link.specs.Link.{Send, clean_after_all}
+use Rattle.std.proofs.Common.{◌≡◌, false, List, [], length}
+use Rattle.std.specs.Prelude.{IsTrue, IsUtf8}
+use Rattle.link.specs.Run.{Send}
+use Rattle.link.specs.Fates.{clean_after_all}
 use Rattle.framed_lib.specs.Output.{Puts}
 use Rattle.framed_lib.specs.Sending.{Sent}
 use Rattle.framed_lib.proofs.FramesLemmas.{shown_of}

@@ -1,4 +1,5 @@
-use Rattle.std.proofs.Common.{◌≡◌, ◌+◌, ◌∷◌, ◌++◌, [], length, ap, arith, length-append}
+use Rattle.std.proofs.Common.{◌≡◌, ◌+◌, ◌∷◌, ◌++◌, [], length, ap, arith}
+use Rattle.std.proofs.lemmas.List.{length-append}
 use Rattle.line_io.specs.Transfers.{Writing, broken}
 use Rattle.framed_lib.specs.Sending.{lines_in}
 use Rattle.framed_lib.proofs.OutputLemmas.{on_err, put-done, put-broke}

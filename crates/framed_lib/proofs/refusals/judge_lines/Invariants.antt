@@ -1,4 +1,5 @@
-use Rattle.std.proofs.Common.{◌≡◌, ◌≤◌, ◌+◌, List, [], length, IsTrue, IsUtf8}
+use Rattle.std.proofs.Common.{◌≡◌, ◌≤◌, ◌+◌, List, [], length}
+use Rattle.std.specs.Prelude.{IsTrue, IsUtf8}
 use Rattle.link.specs.Run.{Send}
 use Rattle.framed_lib.specs.Output.{Puts}
 use Rattle.std.specs.List.{list_all}
