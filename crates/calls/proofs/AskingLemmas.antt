@@ -1,5 +1,6 @@
 -- What a client sends.
-use Rattle.std.proofs.Common.{◌≡◌, ℕ, ◌<◌, ◌≤◌, List, [], ◌∷◌, ◌++◌, Option, Some, None, refl, sym, ap, ◌∙◌, subst, inl, inr, ◌⊎◌, arith, IfSome}
+use Rattle.std.proofs.Common.{◌≡◌, ℕ, ◌<◌, ◌≤◌, List, [], ◌∷◌, ◌++◌, Option, Some, None, refl, sym, ap, ◌∙◌, subst, inl, inr, ◌⊎◌, arith}
+use Rattle.std.specs.Prelude.{IfSome}
 use Rattle.calls.specs.Calls.{In, OnePerNumber}
 use Rattle.calls.specs.Asking.{Asker, Step, calls, repeats, ends, listed, stepped, all_tried, IsNumbered}
 

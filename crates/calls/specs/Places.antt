@@ -1,7 +1,8 @@
 -- What messages do to where a sender stands on its line.
 use Rattle.std.specs.Prelude.{ℕ, List, Option}
 use Rattle.postcard_tree.specs.Tree.{Tree}
-use Rattle.link.specs.Link.{SenderPlace, SendsAll}
+use Rattle.link.specs.Senders.{SenderPlace}
+use Rattle.link.specs.Fates.{SendsAll}
 use Rattle.link.specs.declared.session.Fate.{Fate}
 
 -- Messages were sent one after another, with these fates: they are one session of link's.

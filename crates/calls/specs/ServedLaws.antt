@@ -1,24 +1,29 @@
 -- What serving is, one request after another: laws of what a service owes as a hearer.
-use Rattle.std.proofs.Common.{◌≡◌, ℕ, length, ◌+◌, ◌<◌, ◌≤◌, Bool, true, false, cond, eqb, List, [], ◌∷◌, ◌++◌, map, Option, Some, None, Result, Ok, Err, refl, sym, ap, ◌∙◌, subst, inl, inr, arith, append_assoc, eq-eqb, eqb-true, append-nil}
+use Rattle.std.proofs.Common.{◌≡◌, ℕ, length, ◌+◌, ◌<◌, ◌≤◌, Bool, true, false, cond, eqb, List, [], ◌∷◌, ◌++◌, map, Option, Some, None, Result, Ok, Err, refl, sym, ap, ◌∙◌, subst, inl, inr, arith, append_assoc}
 use Rattle.std.specs.List.{FoldsTo, AllZip}
-use Rattle.std.proofs.lemmas.Bool.{cases_lt}
-use Rattle.std.proofs.lemmas.List.{map-append}
+use Rattle.std.proofs.lemmas.Bool.{cases_lt, eq-eqb, eqb-true}
+use Rattle.std.proofs.lemmas.List.{append-nil, map-append}
 use Rattle.line_io.specs.Calls.{Wrote-none, Wrote-then}
 use Rattle.line_io.specs.Device.{LineState}
 use Rattle.postcard_tree.specs.Tree.{Tree, IsTree}
-use Rattle.link.specs.Link.{Send, completed, refused, broken, written, clean_after, session_line, IsSession, IsSent, IsRefusal, IsSendOf, fate_of, broke, brokens, clean_after_all, Did, FewBroke, SendsAll, HearerLaws, SenderPlace, sender_place, HasSent}
+use Rattle.link.specs.Run.{Send, completed, refused, broken, written, clean_after, session_line, IsSession}
 use Rattle.line_io.specs.Transfers.{Failed}
+use Rattle.link.specs.Senders.{IsSent, IsRefusal}
 use Rattle.cobs.specs.Frames.{shortest_frame}
 use Rattle.postcard.specs.Written.{UnlessRefused}
 use Rattle.postcard_tree.specs.declared.error.Error.{Error}
+use Rattle.link.specs.Fates.{IsSendOf, fate_of, broke, brokens, clean_after_all, Did, FewBroke, SendsAll}
 use Rattle.link.specs.declared.sender.SendError.{SendError}
 use Rattle.link.specs.declared.sender.SendError.TheVariants.{Refused, Line}
 use Rattle.link.specs.declared.session.Fate.{Fate}
 use Rattle.link.specs.declared.receiver.Answer.{Answer}
 use Rattle.link.specs.declared.receiver.Answer.TheVariants.{Value, Damaged, TooLong, Cut}
+use Rattle.link.specs.Each.{HearerLaws}
 use Rattle.calls.specs.Calls.{Execution, call, next_of, no_call, notices, again, ServesAll, Rises}
+use Rattle.link.specs.Senders.{SenderPlace, sender_place, HasSent}
 use Rattle.calls.specs.Places.{SaysAll}
-use Rattle.calls.specs.Serving.{kept_of, sender_of, Runs, IsServed, IsPassed, IsReplied, Executes, TakesAnswer, ServiceHears, requests_of, unsent_by_result, unsent_by, unsent_by_fate, unsent_of}
+use Rattle.calls.specs.Serving.{kept_of, sender_of, Runs, IsStanding, IsServed, IsPassed, IsReplied, Executes, TakesAnswer, ServiceHears, requests_of, unsent_by_result, unsent_by, unsent_by_fate, unsent_of}
+use Rattle.calls.specs.declared.server.Standing.TheVariants.{Same, Changed}
 use Rattle.calls.specs.declared.service.Service.{Service}
 use Rattle.calls.specs.declared.server.Served.{Served}
 use Rattle.calls.specs.declared.server.Served.TheVariants.{Executed, Again, Other, Passed}

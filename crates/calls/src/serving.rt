@@ -1,6 +1,7 @@
 //! Serving all that a reader gives.
 ghost use Rattle.std.specs.Prelude.{◌≡◌, Some};
-ghost use Rattle.link.specs.Link.{SameTerms, HearsOut, MayLackMemory};
+ghost use Rattle.link.specs.Receivers.{SameTerms};
+ghost use Rattle.link.specs.Each.{HearsOut, MayLackMemory};
 ghost use Rattle.calls.specs.Serving.{ServiceHears};
 
 use crate::server::Application;

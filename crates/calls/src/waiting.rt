@@ -1,6 +1,7 @@
 //! Waiting for the reply to a call.
 ghost use Rattle.std.specs.Prelude.{◌≡◌, ◌<◌, [], ◌∷◌, length, None, Some, true, false, ⊤};
-ghost use Rattle.link.specs.Link.{SameTerms, Listens, MayLackMemory};
+ghost use Rattle.link.specs.Receivers.{SameTerms};
+ghost use Rattle.link.specs.Each.{Listens, MayLackMemory};
 ghost use Rattle.line_io.specs.declared.transfers.End.TheVariants.{ReadFault};
 ghost use Rattle.calls.specs.Asking.{asker_of, sender_of};
 ghost use Rattle.calls.specs.Waits.{waiter_of, is_over, anew, WaitingHears, WaitsAnew, waiting_laws};
