@@ -1,5 +1,5 @@
 //! Serving all that a reader gives.
-ghost use Rattle.std.specs.Prelude.{◌≡◌, Some};
+ghost use Rattle.std.specs.Prelude.{◌≡◌, Some, false};
 ghost use Rattle.link.specs.Receivers.{SameTerms};
 ghost use Rattle.link.specs.Each.{HearsOut, MayLackMemory};
 ghost use Rattle.calls.specs.Serving.{ServiceHears};
