@@ -3,24 +3,27 @@ ghost use Rattle.std.specs.Prelude.{◌≡◌, ℕ, ◌+◌, ◌<◌, ◌^◌, �
 ghost use Rattle.cobs.specs.Frames.{Frame};
 ghost use Rattle.postcard_tree.specs.Tree.{Tree, text_of};
 ghost use Rattle.postcard_tree.specs.Reading.{NoFront, ReadsBytes};
+ghost use Rattle.postcard_tree.specs.ReadingLaws.{only_written};
 ghost use Rattle.postcard.specs.Answer.{ReadsFront};
 ghost use Rattle.link.specs.Steps.{Course};
 ghost use Rattle.frames.specs.Events.{TakesCounted, TakesFrame, IsInFront, IsInRoom, RepliesCounted, found};
 
 use crate::receiving::{FrameEvent, FramePush};
 use postcard::ser_flavors::Flavor;
-use postcard::{Serialize, Serializer, take_from_bytes};
+use postcard::{Own, Readable, Serialize, Serializer, take_from_bytes};
 use std::alloc::Global;
 
 /// Bytes that are written with their count in front, at once.
 #[derive(Drop)]
 pub(crate) struct Counted<'a>(pub &'a [u8]);
 
+impl Readable for Counted<'_> {
+    type Form = Own;
+
+    ghost form = { only_written (λ v. Some (text_of v.0.now)) (λ v. length v.0.now < 2 ^ 64) };
+}
+
 impl Serialize for Counted<'_> {
-    ghost writes = { λ v. Some (text_of v.0.now) };
-
-    ghost valid = { λ v. length v.0.now < 2 ^ 64 };
-
     fn serialize<F: Flavor>(&self, serializer: &mut Serializer<F>) -> postcard::Result<()> {
         serializer.serialize_bytes(self.0)
     }
