@@ -188,12 +188,10 @@ pub const NO_MESSAGES: &[&str] = &[
 pub const OF_POSTCARD: &[&str] = &[
     "AsShape",
     "Flavor",
-    "Formed",
     "Last",
+    "MatchesShape",
     "Readable",
-    "ReadableShape",
     "Serialize",
-    "SerializeShape",
     "Serializer",
     "ShapeOf",
     "Shaped",
