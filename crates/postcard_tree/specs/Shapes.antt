@@ -1,20 +1,23 @@
--- What a message type owes its shape.
-use Rattle.std.specs.Prelude.{◌≡◌, ℕ, List, refl}
+-- What a message type owes its shape. It is said of the parts of both forms, since forms are long to compare as a whole.
+use Rattle.std.specs.Prelude.{◌≡◌, ℕ, List, Bool, Option, refl}
 use Rattle.postcard_tree.specs.declared.error.Error.{Error}
 use Rattle.postcard_tree.specs.Tree.{Tree}
-use Rattle.postcard_tree.specs.ReadingLaws.{WireForm, form_as}
 
--- a type with this view of its values is written and read as another, whose form comes first
-pub record FormMatches {A B : Type 0} (view : A → B) (form : WireForm B) (it : WireForm A) : Type 0 where
-  pub to : (t : Tree) (v : A) → it.reads t v → form.reads t (view v)
-  pub from : (t : Tree) (v : A) → form.reads t (view v) → it.reads t v
-  pub refused : (s : List ℕ) (e : Error) → form.refuses s e → it.refuses s e
-  pub grows : form.growing ≡ it.growing
-  pub written : (v : A) → it.writes v ≡ form.writes (view v)
-  pub shown : (v : A) → it.valid v → form.valid (view v)
+-- a type with this view of its values is written and read as another, whose writes, valid, reads, refuses and growing come first
+pub record FormMatches {A B : Type 0} (view : A → B) (writes : B → Option Tree) (valid : B → Type 0)
+    (reads : Tree → B → Type 0) (refuses : List ℕ → Error → Type 0) (growing : Bool)
+    (writes_it : A → Option Tree) (valid_it : A → Type 0) (reads_it : Tree → A → Type 0)
+    (refuses_it : List ℕ → Error → Type 0) (growing_it : Bool) : Type 0 where
+  pub to : (t : Tree) (v : A) → reads_it t v → reads t (view v)
+  pub from : (t : Tree) (v : A) → reads t (view v) → reads_it t v
+  pub refused : (s : List ℕ) (e : Error) → refuses s e → refuses_it s e
+  pub grows : growing ≡ growing_it
+  pub written : (v : A) → writes_it v ≡ writes (view v)
+  pub shown : (v : A) → valid_it v → valid (view v)
 
-pub form_matches : {A B : Type 0} {view : A → B} {form : WireForm B}
-    → FormMatches view form (form_as view form)
+pub form_matches : {A B : Type 0} {view : A → B} {W : B → Option Tree} {V : B → Type 0}
+    {R : Tree → B → Type 0} {F : List ℕ → Error → Type 0} {g : Bool}
+    → FormMatches view W V R F g (λ v. W (view v)) (λ v. V (view v)) (λ t v. R t (view v)) F g
 form_matches = record {
   to = λ t v h. h;
   from = λ t v h. h;
