@@ -26,8 +26,9 @@ impl Serialize for Counted<'_> {
     }
 }
 
-// Where the bytes of a counted message stand in it.
-fn counted_in(alloc: Global, message: &[u8]) -> Option<(usize, usize)>
+// Where the bytes of a counted message stand in it, by reading it as a value. It isn't inlined, so that the short way doesn't pay for it.
+#[inline(never)]
+fn counted_long(alloc: Global, message: &[u8]) -> Option<(usize, usize)>
     ensures read { IfSome result (λ p. (rest : List ℕ)
         × ReadsFront ReadsBytes message.now rest (take p.1 (drop p.0 message.now))) }
     ensures within { IfSome result (λ p. p.0 + p.1 ≤ length message.now) }
@@ -39,7 +40,26 @@ fn counted_in(alloc: Global, message: &[u8]) -> Option<(usize, usize)>
     }
 }
 
+// The same: a count below 128 is one byte, which is looked at here.
+#[inline(always)]
+fn counted_in(alloc: Global, message: &[u8]) -> Option<(usize, usize)>
+    ensures read { IfSome result (λ p. (rest : List ℕ)
+        × ReadsFront ReadsBytes message.now rest (take p.1 (drop p.0 message.now))) }
+    ensures within { IfSome result (λ p. p.0 + p.1 ≤ length message.now) }
+    ensures none { IsNone result → NoFront TakesCounted message.now }
+{
+    postcard_tree::laws::short_is_a_spelling();
+    if !message.is_empty() && message[0] < 128 {
+        let count = message[0] as usize;
+        if count < message.len() {
+            return Some((1, count));
+        }
+    }
+    counted_long(alloc, message)
+}
+
 // What came about by counted messages, where a plain one stands in front of the buffer.
+#[inline(always)]
 fn counted_event(alloc: Global, event: FrameEvent, buffer: &[u8]) -> FrameEvent
     requires front { IsInFront (Some event) }
     requires within { IsInRoom (length buffer.now) (Some event) }
@@ -62,6 +82,7 @@ fn counted_event(alloc: Global, event: FrameEvent, buffer: &[u8]) -> FrameEvent
 }
 
 // The same of a push.
+#[inline(always)]
 pub(crate) fn as_counted(alloc: Global, push: FramePush, buffer: &[u8]) -> FramePush
     requires front { IsInFront push.event }
     requires within { IsInRoom (length buffer.now) push.event }
