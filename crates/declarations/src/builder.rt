@@ -8,15 +8,15 @@ mod lengths;
 mod naming;
 mod types;
 
+use crate::index::{Index, Marked};
 use crate::{Error, Names};
 use declaration_parser::declaration::Declaration;
 use declaration_parser::faults::Faults;
 use declaration_parser::parser::plain_name;
 use declaration_parser::tokens::{Read, Token, is_among};
-use known::PRIMITIVE;
-use naming::declared_place;
+use known::{KNOWN_CRATES, PRIMITIVE};
 use schemas::Node;
-use std::alloc::Global;
+use std::alloc::{AllocError, Global};
 
 /// How deep the words of one type may nest, as `Vec<Option<u8>>` nests three deep.
 const DEEPEST: u32 = 64;
@@ -72,9 +72,9 @@ struct Builder<'a, 'b> {
     /// What parameters stand for: those of the type that is made stand behind so many.
     bound: Vec<Bound<'a>>,
     scope: usize,
-    /// All files, and the one whose words are read.
-    files: &'a [Read],
-    file: &'a Read,
+    /// The names of all files, and the place of the file whose words are read.
+    files: &'b [Index<'a>],
+    file: usize,
     at: At<'a>,
     /// The words of a type that aren't read yet, and the line of the last one that was.
     rest: &'a [Token],
@@ -85,6 +85,50 @@ struct Builder<'a, 'b> {
     faults: Faults<'a>,
     /// Whether something is wrong in the field that is read.
     is_wrong: bool,
+}
+
+/// The place of a file among all.
+fn place_of_file(files: &[Index<'_>], file: &Read) -> usize {
+    for (place, index) in files.iter().enumerate() {
+        if index.file.file == file.file {
+            return place;
+        }
+    }
+    0
+}
+
+/// The names of files, with those that are marked.
+fn indexed<'a>(
+    alloc: Global,
+    files: &'a [Read],
+    declared: &[Declaration<'a>],
+    generic: &[Declaration<'a>],
+) -> Result<Vec<Index<'a>>, AllocError> {
+    let mut indexes = Vec::new(alloc);
+    for file in files {
+        let index = Index::new(alloc, file, KNOWN_CRATES)?;
+        indexes.push(index)?;
+    }
+    for (place, it) in declared.iter().enumerate() {
+        mark(&mut indexes, it, Marked::Whole(place))?;
+    }
+    for (index, it) in generic.iter().enumerate() {
+        mark(&mut indexes, it, Marked::Generic(index))?;
+    }
+    Ok(indexes)
+}
+
+/// Adds a marked type to the names of its file.
+fn mark<'a>(
+    indexes: &mut [Index<'a>],
+    it: &Declaration<'a>,
+    marked: Marked,
+) -> Result<(), AllocError> {
+    let place = place_of_file(indexes, it.file);
+    match indexes.get_mut(place) {
+        Some(index) => index.mark(it.name, marked),
+        None => Ok(()),
+    }
 }
 
 impl<'a> Builder<'a, '_> {
@@ -150,9 +194,11 @@ impl<'a> Builder<'a, '_> {
     }
 
     /// Goes over to the words of a file.
-    fn turn_to(&mut self, file: &'a Read) {
+    fn turn_to(&mut self, file: usize) {
         self.file = file;
-        self.faults.turn_to(file.file.as_str());
+        if let Some(index) = self.files.get(file) {
+            self.faults.turn_to(index.file.file.as_str());
+        }
     }
 
     /// Takes this word, which must be next.
@@ -225,7 +271,7 @@ impl<'a> Builder<'a, '_> {
 
     /// Goes over to a declaration.
     fn begin(&mut self, it: &Declaration<'a>) {
-        self.turn_to(it.file);
+        self.turn_to(place_of_file(self.files, it.file));
         self.at = At {
             name: it.name,
             variant: "",
@@ -234,11 +280,13 @@ impl<'a> Builder<'a, '_> {
     }
 
     /// Refuses a name that another declaration of the file has.
-    fn check(&mut self, it: &Declaration<'a>, before: &[Declaration<'a>]) {
+    fn check(&mut self, it: &Declaration<'a>, own: Marked) {
         self.begin(it);
         self.is_wrong = false;
         self.line = it.line;
-        if declared_place(before, it.file, it.name).is_some() {
+        if let Some(index) = self.files.get(self.file)
+            && !index.is_first(it.name, own)
+        {
             self.wrong(&["the file declares this name twice"]);
         }
         if is_among(it.name, PRIMITIVE) {
@@ -248,12 +296,11 @@ impl<'a> Builder<'a, '_> {
 
     /// Makes the nodes of the declared types, in their order.
     fn declarations(&mut self) {
-        for (place, it) in self.generic.iter().enumerate() {
-            self.check(it, self.generic.get(..place).unwrap_or(&[]));
-            self.check(it, self.declared);
+        for (index, it) in self.generic.iter().enumerate() {
+            self.check(it, Marked::Generic(index));
         }
         for (place, it) in self.declared.iter().enumerate() {
-            self.check(it, self.declared.get(..place).unwrap_or(&[]));
+            self.check(it, Marked::Whole(place));
             let entry = self.declaration(it, DEEPEST);
             self.put(place, entry);
         }
@@ -273,9 +320,10 @@ pub fn table<'a>(
     ensures named { IfOk result (λ t. length t.1.items ≡ length t.0.items) }
     ensures declared { IfOk result (λ t. length declared.now ≤ length t.0.items) }
 {
-    let [file, ..] = files else {
+    if files.is_empty() {
         return Err(Error::Wrong(String::from_str(alloc, NO_FILE)?));
-    };
+    }
+    let indexes = indexed(alloc, files, declared, generic)?;
     let mut builder = Builder {
         alloc,
         declared,
@@ -283,8 +331,8 @@ pub fn table<'a>(
         instances: Vec::new(alloc),
         bound: Vec::new(alloc),
         scope: 0,
-        files,
-        file,
+        files: &indexes,
+        file: 0,
         at: At {
             name: "",
             variant: "",

@@ -4,7 +4,8 @@ ghost use Rattle.std.specs.Prelude.{◌≡◌, ◌≤◌, length, IfOk};
 use crate::builder::table;
 use crate::{Named, Schema};
 use declaration_parser::declaration::Declaration;
-use declaration_parser::parser::{Purpose, declarations};
+use declaration_parser::parser::Purpose;
+use declaration_parser::reading::declarations;
 use declaration_parser::tokens::{Read, is_lifetime, tokens_of};
 use std::alloc::{AllocError, Global};
 

@@ -18,7 +18,8 @@ mod text;
 
 use crate::printer::write_all;
 use crate::text::Text;
-use declaration_parser::parser::{Purpose, declarations};
+use declaration_parser::parser::Purpose;
+use declaration_parser::reading::declarations;
 use declaration_parser::tokens::{Read, tokens_of};
 use std::process::ExitCode;
 use std::{env, io};

@@ -71,6 +71,8 @@ impl SerializeShape for BasicEnum {
 }
 
 impl HasSchema for BasicEnum {
+    ghost kind = { ⟦<ShapeOf<Self> as HasSchema>⟧.kind };
+
     fn add_schema(alloc: Global, nodes: &mut Vec<Node>) -> std::result::Result<usize, AllocError> {
         ShapeOf::<Self>::add_schema(alloc, nodes)
     }
@@ -152,6 +154,8 @@ impl SerializeShape for DataEnum {
 }
 
 impl HasSchema for DataEnum {
+    ghost kind = { ⟦<ShapeOf<Self> as HasSchema>⟧.kind };
+
     fn add_schema(alloc: Global, nodes: &mut Vec<Node>) -> std::result::Result<usize, AllocError> {
         ShapeOf::<Self>::add_schema(alloc, nodes)
     }

@@ -5,3 +5,4 @@ mod PushedLemmas
 mod MapsLemmas
 mod TablesLemmas
 mod AgreeingLemmas
+mod KindsLemmas

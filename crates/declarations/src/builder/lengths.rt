@@ -1,6 +1,6 @@
 //! Lengths: digits, parameters and constants.
 use super::{Builder, DEEPEST, Given};
-use crate::definitions::{defined, literal};
+use crate::literals::literal;
 use declaration_parser::tokens::{Token, is_among};
 
 impl<'a> Builder<'a, '_> {
@@ -44,12 +44,14 @@ impl<'a> Builder<'a, '_> {
 
     /// What a constant is defined as: in this file, or else in one of the others, or each time the same.
     fn constant(&self, name: &str) -> Option<&'a [Token]> {
-        if let Some(words) = defined(&self.file.tokens, "const", name) {
+        if let Some(index) = self.files.get(self.file)
+            && let Some(words) = index.constant(name)
+        {
             return Some(words);
         }
         let mut found: Option<&'a [Token]> = None;
-        for file in self.files {
-            if let Some(words) = defined(&file.tokens, "const", name) {
+        for index in self.files {
+            if let Some(words) = index.constant(name) {
                 if found.is_some() {
                     return None;
                 }

@@ -1,10 +1,8 @@
 //! What a name stands for.
 use super::known::{EVERYWHERE, KNOWN_CRATES, SENT_AS, is_known};
 use super::{Builder, Given};
-use crate::definitions::{defined, has_glob, has_module, import_of, is_alias};
-use declaration_parser::declaration::Declaration;
-use declaration_parser::parser::is_declared;
-use declaration_parser::tokens::{Read, Token, is_among};
+use crate::index::{Import, Marked, Meaning};
+use declaration_parser::tokens::{Token, is_among};
 
 /// What is said of a type that the file declares but doesn't mark, or of none.
 const UNMARKED: &str = "` isn't declared and marked here";
@@ -29,88 +27,66 @@ pub(super) enum Found<'a> {
     /// The declared type at that place, or the type with parameters of that index.
     Declared(usize),
     Generic(usize),
-    /// What these words of a file say.
-    Alias(&'a [Token], &'a Read),
+    /// What these words of a file, by its place, say.
+    Alias(&'a [Token], usize),
     /// A known type by its own name.
     Known(&'a str),
     /// None, for this reason.
     Wrong(&'a str),
 }
 
-/// Whether these are one file.
-fn is_same_file(first: &Read, second: &Read) -> bool {
-    first.file == second.file
-}
-
-/// The place of the type of this name that a file declares.
-pub(super) fn declared_place(
-    declared: &[Declaration<'_>],
-    file: &Read,
-    name: &str,
-) -> Option<usize> {
-    for (place, it) in declared.iter().enumerate() {
-        if it.name == name && is_same_file(it.file, file) {
-            return Some(place);
-        }
+/// What a name stands for that this file, by its place, declares.
+fn found_as<'a>(it: Meaning<'a>, file: usize) -> Found<'a> {
+    match it {
+        Meaning::Marked(Marked::Whole(place)) => Found::Declared(place),
+        Meaning::Marked(Marked::Generic(index)) => Found::Generic(index),
+        Meaning::Alias(words) => Found::Alias(words, file),
+        Meaning::Unmarked => Found::Wrong(UNMARKED),
+        Meaning::NoAlias => Found::Wrong(NO_ALIAS),
     }
-    None
 }
 
 impl<'a> Builder<'a, '_> {
     /// What a name stands for: in the file that is read, by what that brings in, or everywhere.
     pub(super) fn found(&self, word: &'a str) -> Found<'a> {
-        if let Some(found) = self.found_in(self.file, word) {
-            return found;
+        let Some(index) = self.files.get(self.file) else {
+            return Found::Known(word);
+        };
+        if let Some(it) = index.meaning(word) {
+            return found_as(it, self.file);
         }
-        if let Some(import) = import_of(&self.file.tokens, KNOWN_CRATES, word) {
-            if is_among(import.root, KNOWN_CRATES) {
-                return Found::Known(import.name);
-            }
-            return self
-                .found_in_others(import.name)
-                .unwrap_or(Found::Wrong(BROUGHT_IN));
+        if let Some(import) = index.import(word) {
+            return self.imported(import);
         }
-        let has_glob = has_glob(&self.file.tokens, KNOWN_CRATES);
-        if has_glob || !is_known(word) {
+        if index.has_glob || !is_known(word) {
             if let Some(found) = self.found_in_others(word) {
                 return found;
             }
         }
-        if has_glob && !is_among(word, EVERYWHERE) {
+        if index.has_glob && !is_among(word, EVERYWHERE) {
             return Found::Wrong(BY_GLOB);
         }
         Found::Known(word)
     }
 
-    /// What a name stands for that a file declares, marked or not.
-    fn found_in(&self, file: &'a Read, word: &str) -> Option<Found<'a>> {
-        if let Some(place) = declared_place(self.declared, file, word) {
-            return Some(Found::Declared(place));
+    /// What a name stands for that is brought in: a known type, or what another of the files declares.
+    fn imported(&self, import: Import<'a>) -> Found<'a> {
+        if is_among(import.root, KNOWN_CRATES) {
+            return Found::Known(import.name);
         }
-        if let Some(index) = declared_place(self.generic, file, word) {
-            return Some(Found::Generic(index));
-        }
-        if let Some(words) = defined(&file.tokens, "type", word) {
-            return Some(Found::Alias(words, file));
-        }
-        if is_declared(&file.tokens, word) {
-            return Some(Found::Wrong(UNMARKED));
-        }
-        if is_alias(&file.tokens, word) {
-            return Some(Found::Wrong(NO_ALIAS));
-        }
-        None
+        self.found_in_others(import.name)
+            .unwrap_or(Found::Wrong(BROUGHT_IN))
     }
 
-    /// What a name stands for that one of the other files declares.
+    /// What a name stands for that one of the files declares.
     pub(super) fn found_in_others(&self, word: &str) -> Option<Found<'a>> {
         let mut only = None;
-        for file in self.files {
-            if let Some(found) = self.found_in(file, word) {
+        for (file, index) in self.files.iter().enumerate() {
+            if let Some(it) = index.meaning(word) {
                 if only.is_some() {
                     return Some(Found::Wrong(IN_TWO_FILES));
                 }
-                only = Some(found);
+                only = Some(found_as(it, file));
             }
         }
         only
@@ -129,9 +105,12 @@ impl<'a> Builder<'a, '_> {
 
     /// Whether the name at the end of a path stands in a module that is written in this file.
     pub(super) fn is_own_module(&self, root: &str, path: &[Token]) -> bool {
+        let Some(index) = self.files.get(self.file) else {
+            return false;
+        };
         match path {
-            [.., module, _, _, _] => has_module(&self.file.tokens, module.text.as_str()),
-            _ => has_module(&self.file.tokens, root),
+            [.., module, _, _, _] => index.has_module(module.text.as_str()),
+            _ => index.has_module(root),
         }
     }
 

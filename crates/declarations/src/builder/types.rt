@@ -5,7 +5,7 @@ use super::{Bound, Builder, Given, Made};
 use crate::Names;
 use declaration_parser::attributes::last_word;
 use declaration_parser::declaration::Declaration;
-use declaration_parser::tokens::{Read, Token, is_among, is_lifetime};
+use declaration_parser::tokens::{Token, is_among, is_lifetime};
 use schemas::{IntegerType, Node};
 
 /// How many nodes a table has at most, which parameters could make many.
@@ -143,7 +143,7 @@ impl<'a> Builder<'a, '_> {
 
     /// The place of the type that these words of a file say, which are an alias.
     #[cycle(types)]
-    fn alias(&mut self, words: &'a [Token], file: &'a Read, depth: u32) -> usize {
+    fn alias(&mut self, words: &'a [Token], file: usize, depth: u32) -> usize {
         let (scope, before) = (self.scope, self.file);
         self.scope = self.bound.len();
         self.turn_to(file);
