@@ -1,11 +1,14 @@
 -- Going over tokens, a declaration or a skipped stretch at a time.
-use Rattle.std.specs.Prelude.{◌≡◌, false, List, [], ◌∷◌, ◌++◌, refl, flat_map, string_bytes}
+use Rattle.std.specs.Prelude.{ℕ, ◌+◌, ◌<◌, ◌≤◌, length, take, drop, get_or, ◌||◌, ◌≡◌, false, List, [], ◌∷◌, ◌++◌, refl, flat_map, string_bytes}
 use Rattle.std.proofs.Common.{sym, ◌∙◌, ap, subst, append_assoc, append-nil}
+use Rattle.std.proofs.lemmas.Grind.{flat_map-append}
+use Rattle.std.proofs.lemmas.List.{take-append-drop, take_all, take_more}
 use Rattle.std.proofs.lemmas.List.Folds.{list_any-append}
+use Rattle.declaration_parser.specs.declared.tokens.Read.{Read}
 use Rattle.declaration_parser.specs.declared.declaration.Declaration.{Declaration}
 use Rattle.declaration_parser.specs.declared.tokens.Token.{Token}
 use Rattle.declaration_parser.specs.Marked.{NoMark, is_marking, marks_some}
-use Rattle.declaration_parser.specs.Standing.{StandsFirst, AreDeclaredIn, AreGoneOver, Accounts, GoneOver}
+use Rattle.declaration_parser.specs.Standing.{StandsFirst, AreDeclaredIn, AreGoneOver, Accounts, GoneOver, tokens_in}
 
 -- two stretches without marks have none together
 pub no_mark-append : (a b : List Token) → NoMark a → NoMark b → NoMark (a ++ b)
@@ -76,3 +79,22 @@ all_declared found tokens gone =
 -- before the first token
 pub none_gone_over : AreGoneOver [] []
 none_gone_over more rest h = h
+
+-- one file more was read
+pub one_file_more : (files : List Read) (i : ℕ) (d file : Read) (found more : List Declaration) → i < length files → file ≡ get_or files i d
+    → AreGoneOver found (tokens_in (take i files)) → Accounts found more file.tokens.items → AreGoneOver more (tokens_in (take (i + 1) files))
+one_file_more files i d file found more l e gone next =
+    let t : take (i + 1) files ≡ take i files ++ file ∷ [] = take_more files i d l ∙ ap (λ z. take i files ++ z ∷ []) (sym e) in
+    let w : tokens_in (take (i + 1) files) ≡ tokens_in (take i files) ++ file.tokens.items =
+    ap tokens_in t ∙ flat_map-append (λ f. f.tokens.items) (take i files) (file ∷ []) ∙ ap (λ z. tokens_in (take i files) ++ z) (append-nil file.tokens.items) in
+    subst (λ z. AreGoneOver more z) (sym w) (next (tokens_in (take i files)) gone)
+
+-- all files were read
+pub every_file : (files : List Read) (n : ℕ) (found : List Declaration) → length files ≤ n → AreGoneOver found (tokens_in (take n files)) → AreDeclaredIn found (tokens_in files)
+every_file files n found l gone =
+    subst (λ z. AreDeclaredIn found (tokens_in z)) (take_all n files l) (all_declared found (tokens_in (take n files)) gone)
+
+-- what stands before a stretch, the stretch and the rest
+pub parted : (tokens attributes behind rest : List Token) (n : ℕ) → attributes ++ behind ≡ tokens → rest ≡ drop n behind → tokens ≡ (attributes ++ take n behind) ++ rest
+parted tokens attributes behind rest n h e =
+    sym h ∙ ap (λ z. attributes ++ z) (sym (take-append-drop n behind) ∙ ap (λ z. take n behind ++ z) (sym e)) ∙ sym (append_assoc attributes (take n behind) rest)

@@ -1,5 +1,5 @@
 //! The marked declarations of files.
-ghost use Rattle.std.specs.Prelude.{◌≡◌, ◌≤◌, ◌<◌, ◌++◌, length, take, drop, string_bytes, IfOk, [], None};
+ghost use Rattle.std.specs.Prelude.{◌≡◌, ◌≤◌, ◌<◌, ◌++◌, length, take, drop, string_bytes, IfOk, IsTrue, [], None};
 ghost use Rattle.declaration_parser.specs.Marked.{NoMark};
 ghost use Rattle.declaration_parser.specs.Silent.{SaysNothing};
 ghost use Rattle.declaration_parser.specs.Standing.{Accounts, AreDeclaredIn, GoneOver, tokens_in};
@@ -10,7 +10,7 @@ use crate::faults::Faults;
 use crate::head::{Head, head_of};
 use crate::parser::{Parser, Purpose};
 use crate::tokens::{Read, Token, is_among, is_comment_mark};
-use crate::words::{ALMOST, HIDDEN_MARK, IN_MACRO, NO_MESSAGES_MARKED};
+use crate::words::{ALMOST, IN_MACRO, IN_WORDS, NO_MESSAGES_MARKED};
 use std::alloc::{AllocError, Global};
 
 /// Whether a struct or an enum stands at the front of these tokens.
@@ -71,23 +71,35 @@ fn is_marked_inside(name: &str, inside: &[Token]) -> bool {
     first_mark(inside).is_some() || (name != "macro_rules" && has_derive(inside))
 }
 
-/// How many tokens are passed over where nothing is marked: one, or a call of a macro with all that it holds. What is marked in
-/// that is wrong.
-fn call_length(tokens: &[Token], faults: &mut Faults<'_>) -> usize
+/// Refuses a call of a macro that holds something marked, and says whether it did.
+fn refuses_call(tokens: &[Token], faults: &mut Faults<'_>) -> bool
     ensures silent { SaysNothing faults.new → SaysNothing faults.old }
-    ensures within { result ≤ length tokens.now }
-    ensures some { 0 < length tokens.now → 0 < result }
+    ensures said { SaysNothing faults.new → ¬ IsTrue result }
 {
-    if let (Some((inside, behind)), [name, ..]) = (passed_over(tokens), tokens) {
+    if let (Some((inside, _)), [name, ..]) = (passed_over(tokens), tokens) {
         let word = name.text.as_str();
         if is_marked_inside(word, inside) {
             faults.put_line_number(name.line);
             faults.put_all(&["`", word, IN_MACRO]);
+            return true;
         }
-        let length = tokens.len().saturating_sub(behind.len());
-        return length.max(1);
     }
-    tokens.len().min(1)
+    false
+}
+
+/// How many tokens are passed over where nothing is marked: one, or a call of a macro with all that it holds.
+fn passed_length(tokens: &[Token]) -> usize
+    ensures within { result ≤ length tokens.now }
+    ensures some { 0 < length tokens.now → 0 < result }
+{
+    match passed_over(tokens) {
+        Some((_, behind)) => tokens
+            .len()
+            .saturating_sub(behind.len())
+            .max(1)
+            .min(tokens.len()),
+        None => tokens.len().min(1),
+    }
 }
 
 /// Passes over what isn't marked, and answers how many tokens behind its attributes are.
@@ -98,11 +110,13 @@ fn pass_over(head: &Head<'_>, faults: &mut Faults<'_>) -> usize
     ensures no_mark { SaysNothing faults.new
         → NoMark (head.now.attributes.now ++ take result head.now.behind.now) }
 {
-    refuse_almost(head, faults);
-    let length = call_length(head.behind, faults);
+    let length = passed_length(head.behind);
     let (passed, _) = head.behind.split_at(length);
+    refuse_almost(head, faults);
     refuse_mark(head.attributes, ALMOST, faults);
-    refuse_mark(passed, ALMOST, faults);
+    if !refuses_call(head.behind, faults) {
+        refuse_mark(passed, ALMOST, faults);
+    }
     length
 }
 
@@ -153,7 +167,7 @@ fn add_declaration<'a>(
     let (left, mut wrong) = parser.finished();
     let length = head.behind.len().saturating_sub(left.len());
     let (words, _) = head.behind.split_at(length);
-    refuse_mark(words, HIDDEN_MARK, &mut wrong);
+    refuse_mark(words, IN_WORDS, &mut wrong);
     keep(declaration, head.attributes, words, wrong, found, faults);
     length
 }
@@ -173,12 +187,13 @@ fn read_front<'a>(
         → GoneOver found.old.items found.new.items tokens.now result.now }
 {
     let head = head_of(tokens);
-    let length = if head.is_marked() {
-        add_declaration(alloc, purpose, file, &head, found, faults)
-    } else {
-        pass_over(&head, faults)
-    };
-    let (_, rest) = head.behind.split_at(length);
+    if head.is_marked() {
+        let taken = add_declaration(alloc, purpose, file, &head, found, faults);
+        let (_, rest) = head.behind.split_at(taken);
+        return rest;
+    }
+    let passed = pass_over(&head, faults);
+    let (_, rest) = head.behind.split_at(passed);
     rest
 }
 
@@ -202,6 +217,20 @@ fn add_declarations<'a>(
     }
 }
 
+/// Says that nothing is marked, where that is all that there is to say.
+fn refuse_nothing<'a>(files: &'a [Read], finds_none: bool, faults: &mut Faults<'a>)
+    ensures { SaysNothing faults.new → SaysNothing faults.old }
+{
+    if !finds_none || !faults.is_empty() {
+        return;
+    }
+    if let [file] = files {
+        faults.turn_to(file.file.as_str());
+    }
+    faults.put_line_number(1);
+    faults.put(NO_MESSAGES_MARKED);
+}
+
 /// The marked declarations of files, and what is wrong, a line each: in others, and that there are none.
 ///
 /// Where nothing is wrong each token of the files stands in a declaration, or was skipped; and then it is no mark.
@@ -218,13 +247,7 @@ pub fn declarations(
     for file in files {
         add_declarations(alloc, purpose, file, &mut found, &mut faults);
     }
-    if found.is_empty() && faults.is_empty() {
-        if let [file] = files {
-            faults.turn_to(file.file.as_str());
-        }
-        faults.put_line_number(1);
-        faults.put(NO_MESSAGES_MARKED);
-    }
+    refuse_nothing(files, found.is_empty(), &mut faults);
     let faults = faults.finished()?;
     Ok((found, faults))
 }

@@ -26,7 +26,11 @@ pub const HIDDEN_MARK: &str = "a mark `// message` stands in what is skipped her
 
 /// What is said of a call of a macro that holds a mark.
 pub const IN_MACRO: &str =
-    "!` writes anew what it holds, where a mark marks nothing: write the declaration out, without the macro";
+    "!` writes anew what it holds, where a mark marks nothing: write the declaration out, without the macro\n";
+
+/// What is said of a mark among the words of a declaration.
+pub const IN_WORDS: &str =
+    "` stands within a declaration, where it marks nothing: take it out, or close what stands before it\n";
 
 /// What is said of a type that is written by hand on one side.
 pub const BY_HAND: &str =

@@ -287,7 +287,7 @@ impl<'a> Builder<'a, '_> {
         if let Some(index) = self.files.get(self.file)
             && !index.is_first(it.name, own)
         {
-            self.wrong(&["the file declares this name twice"]);
+            self.wrong(&["the file declares this name twice: leave out what isn't on the wire"]);
         }
         if is_among(it.name, PRIMITIVE) {
             self.wrong(&["a type of the language has this name: call it otherwise"]);

@@ -131,7 +131,11 @@ impl<'a> Builder<'a, '_> {
         match integer_type(word) {
             Some(of) if order == "LE" => self.add(Node::LE(of), Names::Nothing),
             Some(of) => self.add(Node::BE(of), Names::Nothing),
-            None => self.wrong(&["`", word, "` isn't an integer of 16 to 128 bits"]),
+            None => self.wrong(&[
+                "`",
+                word,
+                "` isn't an integer of 16 to 128 bits: write one, or its bytes as an array",
+            ]),
         }
     }
 

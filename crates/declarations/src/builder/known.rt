@@ -1,4 +1,7 @@
 //! The types that are known by their words, and their nodes.
+ghost use Rattle.std.specs.Prelude.{ℕ, List, IfSome};
+ghost use Rattle.declarations.specs.TypeWords.{IsIntegerWord, IsWordOf};
+
 use declaration_parser::tokens::is_among;
 use schemas::{IntegerType, Node};
 
@@ -81,7 +84,9 @@ pub(super) const SENT_AS: &[(&str, &str)] = &[
 ];
 
 /// The node of a type that holds no other, by its word.
-pub(super) fn plain_node(word: &str) -> Option<Node> {
+pub(super) fn plain_node(word: &str) -> Option<Node>
+    ensures { IfSome result (λ node. IsWordOf node word.now) }
+{
     if let Some(of) = integer_type(word) {
         return Some(integer_node(of));
     }
@@ -92,7 +97,8 @@ pub(super) fn plain_node(word: &str) -> Option<Node> {
         "usize" => Node::U64,
         "isize" => Node::I64,
         "char" => Node::Char,
-        "str" | "String" => Node::Text,
+        "str" => Node::Text,
+        "String" => Node::Text,
         "ByteBuf" => Node::Bytes,
         _ => return None,
     })
@@ -103,30 +109,27 @@ pub(super) fn is_known(word: &str) -> bool {
     is_among(word, EVERYWHERE) || is_among(word, OF_LIBRARIES)
 }
 
-/// The integer types that may stand as their bytes, by their words.
-const INTEGERS: [(&str, IntegerType); 8] = [
-    ("u16", IntegerType::U16),
-    ("u32", IntegerType::U32),
-    ("u64", IntegerType::U64),
-    ("u128", IntegerType::U128),
-    ("i16", IntegerType::I16),
-    ("i32", IntegerType::I32),
-    ("i64", IntegerType::I64),
-    ("i128", IntegerType::I128),
-];
-
 /// An integer type that may stand as its bytes, by its word.
-pub(super) fn integer_type(word: &str) -> Option<IntegerType> {
-    for (known, of) in &INTEGERS {
-        if *known == word {
-            return Some(*of);
-        }
-    }
-    None
+pub(super) fn integer_type(word: &str) -> Option<IntegerType>
+    ensures { IfSome result (λ of. IsIntegerWord of word.now) }
+{
+    Some(match word {
+        "u16" => IntegerType::U16,
+        "u32" => IntegerType::U32,
+        "u64" => IntegerType::U64,
+        "u128" => IntegerType::U128,
+        "i16" => IntegerType::I16,
+        "i32" => IntegerType::I32,
+        "i64" => IntegerType::I64,
+        "i128" => IntegerType::I128,
+        _ => return None,
+    })
 }
 
 /// The node of such a type.
-fn integer_node(of: IntegerType) -> Node {
+fn integer_node(of: IntegerType) -> Node
+    ensures { (word : List ℕ) → IsIntegerWord of word → IsWordOf result word }
+{
     match of {
         IntegerType::U16 => Node::U16,
         IntegerType::U32 => Node::U32,

@@ -9,7 +9,7 @@ impl<'a> Builder<'a, '_> {
         let in_braces = self.take("{");
         let word = self.step();
         let Some(length) = self.length_of(word) else {
-            self.wrong(&["`", word, "` isn't a length in plain digits"]);
+            self.wrong(&["`", word, "` isn't a length in plain digits: write them"]);
             return 0;
         };
         if in_braces {

@@ -4,8 +4,13 @@ use super::{Builder, Given};
 use crate::index::{Import, Marked, Meaning};
 use declaration_parser::tokens::{Token, is_among};
 
-/// What is said of a type that the file declares but doesn't mark, or of none.
-const UNMARKED: &str = "` isn't declared and marked here";
+/// What is said of a type that isn't declared.
+const UNDECLARED: &str =
+    "` isn't declared and marked here: name the file of its declaration too, or write the type that is on the wire";
+
+/// What is said of a type that the file declares but doesn't mark.
+const UNMARKED: &str =
+    "` isn't declared and marked here: write `// message` before its declaration, if its fields are what is sent";
 
 /// What is said of an alias that has parameters, or is defined twice.
 const NO_ALIAS: &str =
@@ -121,7 +126,7 @@ impl<'a> Builder<'a, '_> {
                 return self.refuse_sent(word, sent);
             }
         }
-        self.refuse(word, UNMARKED)
+        self.refuse(word, UNDECLARED)
     }
 
     /// Refuses a type that is sent as another.

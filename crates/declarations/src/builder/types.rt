@@ -32,10 +32,14 @@ impl<'a> Builder<'a, '_> {
             return 0;
         }
         if depth == 0 {
-            return self.wrong(&["types nest more than 64 deep, or hold themselves by aliases"]);
+            return self.wrong(&[
+                "types nest more than 64 deep, or hold themselves by aliases: declare a type for a part",
+            ]);
         }
         if self.nodes.len() > MOST_NODES {
-            return self.wrong(&["the types have more than 100000 parts"]);
+            return self.wrong(&[
+                "the types have more than 100000 parts: read them from fewer files",
+            ]);
         }
         let word = self.step();
         match word {
@@ -136,7 +140,11 @@ impl<'a> Builder<'a, '_> {
                 return;
             }
             if word != "," && !is_lifetime(word) {
-                self.wrong(&["`", word, "` can't stand here, where lifetimes alone do"]);
+                self.wrong(&[
+                    "`",
+                    word,
+                    "` can't stand here, where lifetimes alone do: leave it out",
+                ]);
             }
         }
     }
@@ -274,7 +282,11 @@ impl<'a> Builder<'a, '_> {
         self.rest = words;
         let mut place = self.place(depth);
         if let [next, ..] = self.rest {
-            place = self.wrong(&["`", next.text.as_str(), "` can't stand behind a type"]);
+            place = self.wrong(&[
+                "`",
+                next.text.as_str(),
+                "` can't stand behind a type: write a known type, or one that is declared and marked",
+            ]);
         }
         if !self.is_wrong {
             self.rest = rest;
