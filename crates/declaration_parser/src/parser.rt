@@ -453,6 +453,7 @@ impl<'a> Parser<'a> {
             }
             ("skip_serializing", "") if is_field => said.not_written = true,
             ("skip_deserializing", "") if is_field => said.not_read = true,
+            ("skip_serializing_if", _) if is_field && !self.marks.written => {}
             _ => self.refuse_serde(name),
         }
     }

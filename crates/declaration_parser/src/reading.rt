@@ -4,13 +4,13 @@ ghost use Rattle.declaration_parser.specs.Marked.{NoMark};
 ghost use Rattle.declaration_parser.specs.Silent.{SaysNothing};
 ghost use Rattle.declaration_parser.specs.Standing.{Accounts, AreDeclaredIn, GoneOver, tokens_in};
 
-use crate::attributes::{closed, first_word, has_derive, passed_over};
+use crate::attributes::{closed, first_word, has_derive, passed_over, renamed_derive};
 use crate::declaration::Declaration;
 use crate::faults::Faults;
 use crate::head::{Head, head_of};
 use crate::parser::{Parser, Purpose};
 use crate::tokens::{Read, Token, is_among, is_comment_mark};
-use crate::words::{ALMOST, IN_MACRO, IN_WORDS, NO_MESSAGES_MARKED};
+use crate::words::{ALMOST, IN_MACRO, IN_WORDS, NO_MESSAGES_MARKED, RENAMES};
 use std::alloc::{AllocError, Global};
 
 /// Whether a struct or an enum stands at the front of these tokens.
@@ -197,6 +197,16 @@ fn read_front<'a>(
     rest
 }
 
+/// Refuses another name of a derive of serde's, by which a type would be marked that isn't found.
+fn refuse_renamed(tokens: &[Token], faults: &mut Faults<'_>)
+    ensures { SaysNothing faults.new → SaysNothing faults.old }
+{
+    if let Some(name) = renamed_derive(tokens) {
+        faults.put_line_number(name.line);
+        faults.put_all(&["`", name.text.as_str(), RENAMES]);
+    }
+}
+
 /// Reads the declarations of a file, behind those of others.
 fn add_declarations<'a>(
     alloc: Global,
@@ -211,6 +221,7 @@ fn add_declarations<'a>(
 {
     faults.put(file.faults.as_str());
     faults.turn_to(file.file.as_str());
+    refuse_renamed(&file.tokens, faults);
     let mut rest: &'a [Token] = &file.tokens;
     while !rest.is_empty() {
         rest = read_front(alloc, purpose, file, rest, found, faults);

@@ -28,6 +28,10 @@ pub const HIDDEN_MARK: &str = "a mark `// message` stands in what is skipped her
 pub const IN_MACRO: &str =
     "!` writes anew what it holds, where a mark marks nothing: write the declaration out, without the macro\n";
 
+/// What is said of another name of a derive.
+pub const RENAMES: &str =
+    "` is another name of serde's, by which a derive isn't found: derive `Serialize` and `Deserialize` by these names\n";
+
 /// What is said of a mark among the words of a declaration.
 pub const IN_WORDS: &str =
     "` stands within a declaration, where it marks nothing: take it out, or close what stands before it\n";
@@ -137,32 +141,65 @@ pub const OF_SERDE: &[(&str, &str)] = &[
 /// Attributes of declarations that change no byte: those of the language, and helpers of derives that are often met.
 pub const OF_ITEMS: &[&str] = &[
     "allow",
+    "arbitrary",
+    "archive",
+    "archive_attr",
     "arg",
     "automatically_derived",
+    "backtrace",
+    "br",
+    "brw",
     "builder",
+    "bw",
+    "cbor",
+    "cfg",
     "clap",
     "clippy",
-    "cfg",
     "command",
     "defmt",
+    "deku",
     "deny",
     "deprecated",
+    "deref",
+    "derivative",
     "derive",
     "diagnostic",
     "display",
     "doc",
+    "educe",
     "error",
     "expect",
+    "facet",
     "forbid",
+    "from",
+    "garde",
+    "get",
+    "getset",
+    "into",
     "max_size",
     "must_use",
+    "n",
     "non_exhaustive",
+    "num_enum",
     "postcard",
+    "proptest",
     "repr",
+    "rkyv",
     "rustfmt",
+    "schema",
     "schemars",
+    "set",
+    "source",
+    "specta",
     "strum",
+    "strum_discriminants",
+    "ts",
+    "tsify",
+    "typeshare",
+    "validate",
+    "value",
     "warn",
+    "zeroize",
 ];
 
 /// The types of the language that a message can hold.

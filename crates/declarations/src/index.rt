@@ -1,6 +1,6 @@
 //! The names of a file, each found at once: what it declares, defines and brings in.
 use declaration_parser::attributes::{closes, first_word, opens, same_words};
-use declaration_parser::tokens::{Read, Token, is_among};
+use declaration_parser::tokens::{Read, Token, is_among, is_lifetime};
 use std::alloc::{AllocError, Global};
 use std::collections::BTreeMap;
 
@@ -112,6 +112,31 @@ fn value_of(behind: &[Token]) -> &[Token] {
     behind_equals(words)
 }
 
+/// Whether an alias has no parameters but lifetimes, by its words behind `type`.
+fn is_plain_alias(behind: &[Token]) -> bool {
+    let mut is_open = false;
+    let mut rest = behind;
+    for _ in 0..behind.len() {
+        let [_, next @ ..] = rest else {
+            break;
+        };
+        rest = next;
+        let word = first_word(rest);
+        if word == "=" {
+            return !is_open;
+        }
+        let is_of_lifetimes = is_open && (word == "," || is_lifetime(word));
+        if word == "<" && !is_open {
+            is_open = true;
+        } else if word == ">" {
+            is_open = false;
+        } else if !is_of_lifetimes {
+            return false;
+        }
+    }
+    false
+}
+
 /// The text of a token.
 fn text_of(token: &Token) -> &str {
     token.text.as_str()
@@ -214,7 +239,7 @@ impl<'a> Index<'a> {
         match word {
             "struct" | "enum" | "union" => put(&mut self.unmarked, name, ()),
             "mod" if mark == "{" => put(&mut self.modules, name, ()),
-            "type" if at_top && mark == "=" => put_once(
+            "type" if at_top && is_plain_alias(behind) => put_once(
                 &mut self.aliases,
                 name,
                 Some(value_of(behind)),

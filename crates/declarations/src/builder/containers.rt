@@ -67,6 +67,7 @@ impl<'a> Builder<'a, '_> {
         let element = self.place(depth);
         if self.take(",") {
             let most = self.length();
+            self.skip_hasher();
             self.owe(">");
             return self.add(Node::ListUpTo(most, element), Names::Nothing);
         }
@@ -84,7 +85,7 @@ impl<'a> Builder<'a, '_> {
         self.add(Node::List(element), Names::Nothing)
     }
 
-    /// Takes the type that makes hashes, if there is one, which isn't sent.
+    /// Takes the type that makes hashes or counts the elements, if there is one, which isn't sent.
     fn skip_hasher(&mut self) {
         if self.peek() != "," {
             return;
@@ -111,6 +112,7 @@ impl<'a> Builder<'a, '_> {
         let element = self.place(depth);
         self.owe(",");
         let most = self.length();
+        self.skip_hasher();
         self.owe(">");
         self.add(Node::ListUpTo(most, element), Names::Nothing)
     }
@@ -119,6 +121,7 @@ impl<'a> Builder<'a, '_> {
     pub(super) fn text_up_to(&mut self) -> usize {
         self.owe("<");
         let most = self.length();
+        self.skip_hasher();
         self.owe(">");
         self.add(Node::TextUpTo(most), Names::Nothing)
     }

@@ -50,6 +50,7 @@ impl<'a> Builder<'a, '_> {
             }
             "(" => self.tuple(depth - 1),
             "[" => self.array(depth - 1),
+            "<" => self.wrong(&["`<..>::` isn't followed here: write the type that it stands for"]),
             _ => self.worded(word, depth - 1),
         }
     }
@@ -122,7 +123,10 @@ impl<'a> Builder<'a, '_> {
                 place
             }
             Found::Generic(index) => self.instance(index, depth),
-            Found::Alias(words, file) => self.alias(words, file, depth),
+            Found::Alias(words, file) => {
+                self.lifetimes();
+                self.alias(words, file, depth)
+            }
             Found::Known(name) => self.known(name, depth),
             Found::Wrong(why) => self.refuse(word, why),
         }
@@ -177,6 +181,12 @@ impl<'a> Builder<'a, '_> {
                     self.step();
                     self.take(",");
                 }
+            } else if self.peek() == ">" {
+                self.wrong(&[
+                    "`",
+                    name,
+                    "` is left out, and defaults aren't followed: write it",
+                ]);
             } else {
                 let it = if is_among(name, lengths) {
                     Given::Length(self.length())
@@ -253,7 +263,16 @@ impl<'a> Builder<'a, '_> {
     fn known(&mut self, word: &'a str, depth: u32) -> usize {
         match word {
             "String" if self.peek() == "<" => return self.text_up_to(),
-            "Box" | "Rc" | "Arc" | "Cell" | "RefCell" | "Wrapping" => return self.inner(depth),
+            "Box"
+            | "Rc"
+            | "Arc"
+            | "Cell"
+            | "RefCell"
+            | "Mutex"
+            | "RwLock"
+            | "Wrapping"
+            | "Saturating"
+            | "Reverse" => return self.inner(depth),
             "Cow" => return self.lent(depth),
             "Option" => return self.option(depth),
             "HashSet" => return self.hashed(depth),
