@@ -1,5 +1,5 @@
 //! What is wrong, a line each.
-ghost use Rattle.std.specs.Prelude.{◌≡◌, [], false, string_bytes, IfOk, IsTrue, Decides};
+ghost use Rattle.std.specs.Prelude.{◌≡◌, [], false, string_bytes, IfOk, IsTrue};
 
 use std::alloc::{AllocError, Global};
 use std::fmt::Write;

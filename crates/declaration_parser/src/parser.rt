@@ -84,6 +84,16 @@ pub fn plain_name(word: &str) -> &str {
     word.strip_prefix("r#").unwrap_or(word)
 }
 
+/// What is said of a type of std that no message can hold.
+fn no_message(word: &str) -> Option<&'static str> {
+    for (name, why) in NO_MESSAGES {
+        if *name == word {
+            return Some(*why);
+        }
+    }
+    None
+}
+
 /// Whether a word stands for no type: a lifetime, a number or a mark.
 fn is_no_type(word: &str) -> bool {
     match first_letter(word) {
@@ -521,14 +531,13 @@ impl<'a> Parser<'a> {
         if word == self.name && self.implements() {
             return Some(HOLDS_ITSELF);
         }
-        let is_refused = is_among(word, NO_MESSAGES) && !is_declared(&self.file.tokens, word);
         if is_small(word) || in_path {
             return Some(IN_PATH);
         }
-        if is_refused {
-            return Some("` can't stand in the type of a field");
+        match no_message(word) {
+            Some(why) if !is_declared(&self.file.tokens, word) => Some(why),
+            _ => None,
         }
-        None
     }
 
     /// Refuses a reference without a lifetime, and a word that can't stand in the type of a field.

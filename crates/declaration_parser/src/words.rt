@@ -208,21 +208,54 @@ pub const PLAIN: &[&str] = &[
     "i128", "isize",
 ];
 
-/// Types of std that no message can hold.
-pub const NO_MESSAGES: &[&str] = &[
-    "HashMap",
-    "HashSet",
-    "BTreeSet",
-    "VecDeque",
-    "Rc",
-    "Arc",
-    "Cow",
-    "Cell",
-    "RefCell",
-    "PhantomData",
-    "Duration",
-    "Instant",
-    "Wrapping",
+/// Types of std that no message can hold, and what is said of each.
+pub const NO_MESSAGES: &[(&str, &str)] = &[
+    (
+        "HashMap",
+        "` can't stand in the type of a field: write `BTreeMap`",
+    ),
+    (
+        "HashSet",
+        "` can't stand in the type of a field: write `Vec`",
+    ),
+    (
+        "BTreeSet",
+        "` can't stand in the type of a field: write `Vec`",
+    ),
+    (
+        "VecDeque",
+        "` can't stand in the type of a field: write `Vec`",
+    ),
+    ("Rc", "` can't stand in the type of a field: write `Box`"),
+    ("Arc", "` can't stand in the type of a field: write `Box`"),
+    (
+        "Cow",
+        "` can't stand in the type of a field: write `&'a str`, `String`, or what else it holds",
+    ),
+    (
+        "Cell",
+        "` can't stand in the type of a field: write the type that it holds",
+    ),
+    (
+        "RefCell",
+        "` can't stand in the type of a field: write the type that it holds",
+    ),
+    (
+        "PhantomData",
+        "` can't stand in the type of a field: leave the field out, which has no bytes",
+    ),
+    (
+        "Duration",
+        "` can't stand in the type of a field: write `(u64, u32)`",
+    ),
+    (
+        "Instant",
+        "` can't stand in the type of a field: write the number that is on the wire",
+    ),
+    (
+        "Wrapping",
+        "` can't stand in the type of a field: write the type that it holds",
+    ),
 ];
 
 /// Names that are brought in beside the types.
