@@ -22,7 +22,6 @@ const HEAD: &str = "//! How the message types of the module above are written an
 
 /// What ghost text brings in for tables of types with parameters.
 const OF_TABLES: &str = "ghost use Rattle.std.specs.Prelude.{IfOk};
-ghost use Rattle.schemas.specs.Kinds.{HasKind};
 ghost use Rattle.schemas.specs.TypeSchemas.{BeginsWith, IsSchemaOf};
 ";
 
@@ -56,8 +55,6 @@ impl%: Readable% ReadableShape for %Name% {
 /// How a type that is read is put into a table.
 const SCHEMA: &str = "
 impl%: HasSchema% HasSchema for %Name% {
-    ghost kind = { ⟦<ShapeOf<Self> as HasSchema>⟧.kind };
-
     fn add_schema(alloc: Global, nodes: &mut Vec<schemas::Node>) -> Result<usize, AllocError>";
 
 /// What a function of the trait promises, which is written again for a type with parameters.
@@ -66,8 +63,6 @@ const IS_SCHEMA: &str = "
         ensures is_schema { IfOk result (λ place.
             IsSchemaOf ⟦<ShapeOf<Self> as Readable>⟧.form.takes
             ⟦<ShapeOf<Self> as Readable>⟧.form.refuses nodes.new.items place) }
-        ensures kind { IfOk result (λ place.
-            HasKind ⟦<ShapeOf<Self> as HasSchema>⟧.kind nodes.new.items place) }
     {";
 
 /// What stands behind it.

@@ -71,8 +71,6 @@ impl SerializeShape for BasicEnum {
 }
 
 impl HasSchema for BasicEnum {
-    ghost kind = { ⟦<ShapeOf<Self> as HasSchema>⟧.kind };
-
     fn add_schema(alloc: Global, nodes: &mut Vec<Node>) -> std::result::Result<usize, AllocError> {
         ShapeOf::<Self>::add_schema(alloc, nodes)
     }
@@ -154,8 +152,6 @@ impl SerializeShape for DataEnum {
 }
 
 impl HasSchema for DataEnum {
-    ghost kind = { ⟦<ShapeOf<Self> as HasSchema>⟧.kind };
-
     fn add_schema(alloc: Global, nodes: &mut Vec<Node>) -> std::result::Result<usize, AllocError> {
         ShapeOf::<Self>::add_schema(alloc, nodes)
     }

@@ -2,7 +2,6 @@
 ghost use Rattle.std.specs.Prelude.{IfOk};
 ghost use Rattle.postcard_tree.specs.ReadingLaws.{form_as};
 ghost use Rattle.postcard_tree.specs.Shapes.{read_as_shape, written_as_shape};
-ghost use Rattle.schemas.specs.Kinds.{HasKind};
 ghost use Rattle.schemas.specs.TypeSchemas.{BeginsWith, IsSchemaOf};
 
 use postcard::ser_flavors::Flavor;
@@ -57,15 +56,11 @@ impl<'a> SerializeShape for RefStruct<'a> {
 }
 
 impl<'a> HasSchema for RefStruct<'a> {
-    ghost kind = { ⟦<ShapeOf<Self> as HasSchema>⟧.kind };
-
     fn add_schema(alloc: Global, nodes: &mut Vec<Node>) -> std::result::Result<usize, AllocError>
         ensures kept { BeginsWith nodes.old.items nodes.new.items }
         ensures is_schema { IfOk result (λ place.
             IsSchemaOf ⟦<ShapeOf<Self> as Readable>⟧.form.takes
             ⟦<ShapeOf<Self> as Readable>⟧.form.refuses nodes.new.items place) }
-        ensures kind { IfOk result (λ place.
-            HasKind ⟦<ShapeOf<Self> as HasSchema>⟧.kind nodes.new.items place) }
     {
         ShapeOf::<Self>::add_schema(alloc, nodes)
     }
@@ -112,8 +107,6 @@ impl SerializeShape for NewTypeStruct {
 }
 
 impl HasSchema for NewTypeStruct {
-    ghost kind = { ⟦<ShapeOf<Self> as HasSchema>⟧.kind };
-
     fn add_schema(alloc: Global, nodes: &mut Vec<Node>) -> std::result::Result<usize, AllocError> {
         ShapeOf::<Self>::add_schema(alloc, nodes)
     }
@@ -160,8 +153,6 @@ impl SerializeShape for TupleStruct {
 }
 
 impl HasSchema for TupleStruct {
-    ghost kind = { ⟦<ShapeOf<Self> as HasSchema>⟧.kind };
-
     fn add_schema(alloc: Global, nodes: &mut Vec<Node>) -> std::result::Result<usize, AllocError> {
         ShapeOf::<Self>::add_schema(alloc, nodes)
     }
@@ -211,8 +202,6 @@ impl SerializeShape for EnumStruct {
 }
 
 impl HasSchema for EnumStruct {
-    ghost kind = { ⟦<ShapeOf<Self> as HasSchema>⟧.kind };
-
     fn add_schema(alloc: Global, nodes: &mut Vec<Node>) -> std::result::Result<usize, AllocError> {
         ShapeOf::<Self>::add_schema(alloc, nodes)
     }

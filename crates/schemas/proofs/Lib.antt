@@ -5,4 +5,3 @@ mod PushedLemmas
 mod MapsLemmas
 mod TablesLemmas
 mod AgreeingLemmas
-mod KindsLemmas

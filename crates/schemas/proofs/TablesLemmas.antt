@@ -28,7 +28,7 @@ begins_more {a} {b} {c} h k = record { more = h.more ++ k.more; whole = k.whole 
 pub begins_added : {n : Node} {a b c : List Node} {place : ℕ} → BeginsWith a b → IsAdded n b c place → BeginsWith a c
 begins_added {n} {a} {b} {c} h k = begins_more h (record { more = n ∷ []; whole = k.behind })
 
-pub longer : {a b : List Node} → BeginsWith a b → (depth : ℕ) → length b ≤ depth → length a ≤ depth
+longer : {a b : List Node} → BeginsWith a b → (depth : ℕ) → length b ≤ depth → length a ≤ depth
 longer {a} {b} h depth l = let e : length b ≡ length a + length h.more = ap length h.whole ∙ length-append a h.more in omega (arith, e, l)
 
 -- a type stays one in a longer table
@@ -41,7 +41,7 @@ found : (old more : List Node) (n : Node) → slice_get ((old ++ n ∷ []) ++ mo
 found [] more n = refl
 found (x ∷ old) more n = found old more n
 
-pub here : {n : Node} {old new table : List Node} {place : ℕ} → IsAdded n old new place → BeginsWith new table → slice_get table place ≡ Some n
+here : {n : Node} {old new table : List Node} {place : ℕ} → IsAdded n old new place → BeginsWith new table → slice_get table place ≡ Some n
 here {n} {old} {new} {table} {place} h w =
     let e : table ≡ (old ++ n ∷ []) ++ w.more = w.whole ∙ ap (λ z. z ++ w.more) h.behind in
     subst (λ z. slice_get z place ≡ Some n) (sym e) (subst (λ z. slice_get ((old ++ n ∷ []) ++ w.more) z ≡ Some n) (sym h.there) (found old w.more n))

@@ -5,24 +5,19 @@ mod text;
 mod tuples;
 mod variants;
 
-ghost use Rattle.std.specs.Prelude.{ℕ, IfOk};
-ghost use Rattle.schemas.specs.declared.value.Value.{Value};
-ghost use Rattle.schemas.specs.Kinds.{HasKind, KindsAdded, LeafHas};
+ghost use Rattle.std.specs.Prelude.{IfOk};
 ghost use Rattle.schemas.specs.TypeSchemas.{BeginsWith, IsSchemaOf, PayloadsAdded, IsAdded, IsLeaf, LeafTakes, LeafRefuses};
 
 use crate::Node;
 use postcard_tree::{Readable, ReadableVariants};
 use std::alloc::{AllocError, Global};
 
-/// A type that is a type of a table: by its nodes it takes the same trees, as values of the same kinds, and refuses the same
-/// bytes.
+/// A type that is a type of a table: by its nodes it takes the same trees and refuses the same bytes.
 ///
 /// A message type has the schema of its shape:
 ///
 /// ```text
 /// impl HasSchema for Light {
-///     ghost kind = { ⟦<ShapeOf<Self> as HasSchema>⟧.kind };
-///
 ///     fn add_schema(alloc: Global, nodes: &mut Vec<Node>) -> Result<usize, AllocError> {
 ///         ShapeOf::<Light>::add_schema(alloc, nodes)
 ///     }
@@ -31,9 +26,6 @@ use std::alloc::{AllocError, Global};
 ///
 /// A type that holds itself has none: it would take every depth.
 pub trait HasSchema: Readable {
-    /// Which values of this crate are values of the type: those of a message type are those of its shape.
-    ghost kind: { Value → Type 0 };
-
     /// Puts the nodes of the type behind those of a table, and answers the type's place among them. When out of memory some
     /// of them may have been put.
     ///
@@ -41,15 +33,11 @@ pub trait HasSchema: Readable {
     fn add_schema(alloc: Global, nodes: &mut Vec<Node>) -> Result<usize, AllocError>
         ensures kept { BeginsWith nodes.old.items nodes.new.items }
         ensures is_schema { IfOk result (λ place.
-            IsSchemaOf Self.form.takes Self.form.refuses nodes.new.items place) }
-        ensures kind { IfOk result (λ place. HasKind Self.kind nodes.new.items place) };
+            IsSchemaOf Self.form.takes Self.form.refuses nodes.new.items place) };
 }
 
 /// Variants that are types of a table.
 pub trait HasPayloadSchemas: ReadableVariants {
-    /// Which values are values of what the variant of an index holds.
-    ghost kinds_at: { ℕ → Value → Type 0 };
-
     /// Puts the nodes of what the variants hold behind those of a table, and their places behind others. When out of memory
     /// some of them may have been put.
     fn add_payloads(
@@ -60,16 +48,12 @@ pub trait HasPayloadSchemas: ReadableVariants {
         ensures kept { BeginsWith nodes.old.items nodes.new.items }
         ensures are_schemas { IfOk result (λ _.
             PayloadsAdded Self.takes_at Self.refuses_at nodes.new.items
-            payloads.old.items payloads.new.items) }
-        ensures kinds { IfOk result (λ _.
-            KindsAdded Self.kinds_at nodes.new.items payloads.old.items payloads.new.items) };
+            payloads.old.items payloads.new.items) };
 }
 
 /// A table of the type alone, and the type's place in it.
 pub fn schema_of<T: HasSchema>(alloc: Global) -> Result<(Vec<Node>, usize), AllocError>
-    ensures is_schema { IfOk result (λ p.
-        IsSchemaOf T.form.takes T.form.refuses p.0.items p.1) }
-    ensures kind { IfOk result (λ p. HasKind T.kind p.0.items p.1) }
+    ensures { IfOk result (λ p. IsSchemaOf T.form.takes T.form.refuses p.0.items p.1) }
 {
     let mut nodes = Vec::new(alloc);
     let place = T::add_schema(alloc, &mut nodes)?;
@@ -92,7 +76,6 @@ fn add_leaf(nodes: &mut Vec<Node>, node: Node) -> Result<usize, AllocError>
     ensures kept { BeginsWith nodes.old.items nodes.new.items }
     ensures is_schema { IfOk result (λ place.
         IsSchemaOf (LeafTakes node) (LeafRefuses node) nodes.new.items place) }
-    ensures kind { IfOk result (λ place. HasKind (LeafHas node) nodes.new.items place) }
 {
     add_node(nodes, node)
 }

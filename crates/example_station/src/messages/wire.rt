@@ -1,7 +1,6 @@
 //! How the message types of the module above are written and read.
 // Written by postcard_derive from their declarations: change those, and write this anew.
 ghost use Rattle.std.specs.Prelude.{IfOk};
-ghost use Rattle.schemas.specs.Kinds.{HasKind};
 ghost use Rattle.schemas.specs.TypeSchemas.{BeginsWith, IsSchemaOf};
 ghost use Rattle.postcard_tree.specs.ReadingLaws.{form_as};
 ghost use Rattle.postcard_tree.specs.Shapes.{read_as_shape, written_as_shape};
@@ -63,8 +62,6 @@ impl SerializeShape for SensorReading {
 }
 
 impl HasSchema for SensorReading {
-    ghost kind = { ⟦<ShapeOf<Self> as HasSchema>⟧.kind };
-
     fn add_schema(alloc: Global, nodes: &mut Vec<schemas::Node>) -> Result<usize, AllocError> {
         ShapeOf::<Self>::add_schema(alloc, nodes)
     }
@@ -125,8 +122,6 @@ impl SerializeShape for Level {
 }
 
 impl HasSchema for Level {
-    ghost kind = { ⟦<ShapeOf<Self> as HasSchema>⟧.kind };
-
     fn add_schema(alloc: Global, nodes: &mut Vec<schemas::Node>) -> Result<usize, AllocError> {
         ShapeOf::<Self>::add_schema(alloc, nodes)
     }
@@ -177,8 +172,6 @@ impl SerializeShape for LogRecord {
 }
 
 impl HasSchema for LogRecord {
-    ghost kind = { ⟦<ShapeOf<Self> as HasSchema>⟧.kind };
-
     fn add_schema(alloc: Global, nodes: &mut Vec<schemas::Node>) -> Result<usize, AllocError> {
         ShapeOf::<Self>::add_schema(alloc, nodes)
     }
@@ -221,8 +214,6 @@ impl SerializeShape for Address {
 }
 
 impl HasSchema for Address {
-    ghost kind = { ⟦<ShapeOf<Self> as HasSchema>⟧.kind };
-
     fn add_schema(alloc: Global, nodes: &mut Vec<schemas::Node>) -> Result<usize, AllocError> {
         ShapeOf::<Self>::add_schema(alloc, nodes)
     }
@@ -265,8 +256,6 @@ impl SerializeShape for Ping {
 }
 
 impl HasSchema for Ping {
-    ghost kind = { ⟦<ShapeOf<Self> as HasSchema>⟧.kind };
-
     fn add_schema(alloc: Global, nodes: &mut Vec<schemas::Node>) -> Result<usize, AllocError> {
         ShapeOf::<Self>::add_schema(alloc, nodes)
     }
@@ -345,8 +334,6 @@ impl SerializeShape for Command {
 }
 
 impl HasSchema for Command {
-    ghost kind = { ⟦<ShapeOf<Self> as HasSchema>⟧.kind };
-
     fn add_schema(alloc: Global, nodes: &mut Vec<schemas::Node>) -> Result<usize, AllocError> {
         ShapeOf::<Self>::add_schema(alloc, nodes)
     }
@@ -411,8 +398,6 @@ impl SerializeShape for Config {
 }
 
 impl HasSchema for Config {
-    ghost kind = { ⟦<ShapeOf<Self> as HasSchema>⟧.kind };
-
     fn add_schema(alloc: Global, nodes: &mut Vec<schemas::Node>) -> Result<usize, AllocError> {
         ShapeOf::<Self>::add_schema(alloc, nodes)
     }
@@ -458,15 +443,11 @@ impl<'a> SerializeShape for Packet<'a> {
 }
 
 impl<'a> HasSchema for Packet<'a> {
-    ghost kind = { ⟦<ShapeOf<Self> as HasSchema>⟧.kind };
-
     fn add_schema(alloc: Global, nodes: &mut Vec<schemas::Node>) -> Result<usize, AllocError>
         ensures kept { BeginsWith nodes.old.items nodes.new.items }
         ensures is_schema { IfOk result (λ place.
             IsSchemaOf ⟦<ShapeOf<Self> as Readable>⟧.form.takes
             ⟦<ShapeOf<Self> as Readable>⟧.form.refuses nodes.new.items place) }
-        ensures kind { IfOk result (λ place.
-            HasKind ⟦<ShapeOf<Self> as HasSchema>⟧.kind nodes.new.items place) }
     {
         ShapeOf::<Self>::add_schema(alloc, nodes)
     }
@@ -534,8 +515,6 @@ impl SerializeShape for Report {
 }
 
 impl HasSchema for Report {
-    ghost kind = { ⟦<ShapeOf<Self> as HasSchema>⟧.kind };
-
     fn add_schema(alloc: Global, nodes: &mut Vec<schemas::Node>) -> Result<usize, AllocError> {
         ShapeOf::<Self>::add_schema(alloc, nodes)
     }
@@ -642,8 +621,6 @@ impl SerializeShape for Event {
 }
 
 impl HasSchema for Event {
-    ghost kind = { ⟦<ShapeOf<Self> as HasSchema>⟧.kind };
-
     fn add_schema(alloc: Global, nodes: &mut Vec<schemas::Node>) -> Result<usize, AllocError> {
         ShapeOf::<Self>::add_schema(alloc, nodes)
     }

@@ -1,7 +1,4 @@
 //! Nothing, options, results, boxes, sequences, arrays and maps.
-ghost use Rattle.schemas.specs.Kinds.{FirstKind, LastKind, NoValues, ValueThen};
-ghost use Rattle.schemas.specs.Schemas.{AtTop, EachHas, OfGroup, OfList, OfOption, OfVariant};
-
 use super::{HasSchema, add_node};
 use crate::Node;
 use arrayvec::ArrayVec;
@@ -9,16 +6,12 @@ use std::alloc::{AllocError, Global};
 use std::collections::BTreeMap;
 
 impl HasSchema for () {
-    ghost kind = { AtTop (OfGroup NoValues) };
-
     fn add_schema(alloc: Global, nodes: &mut Vec<Node>) -> Result<usize, AllocError> {
         add_node(nodes, Node::Struct(Vec::new(alloc)))
     }
 }
 
 impl<T: HasSchema> HasSchema for Option<T> {
-    ghost kind = { AtTop (OfOption T.kind) };
-
     fn add_schema(alloc: Global, nodes: &mut Vec<Node>) -> Result<usize, AllocError> {
         let inner = T::add_schema(alloc, nodes)?;
         add_node(nodes, Node::Option(inner))
@@ -26,8 +19,6 @@ impl<T: HasSchema> HasSchema for Option<T> {
 }
 
 impl<T: HasSchema, E: HasSchema> HasSchema for std::result::Result<T, E> {
-    ghost kind = { AtTop (OfVariant (FirstKind T.kind (LastKind E.kind))) };
-
     fn add_schema(alloc: Global, nodes: &mut Vec<Node>) -> Result<usize, AllocError> {
         let value = T::add_schema(alloc, nodes)?;
         let error = E::add_schema(alloc, nodes)?;
@@ -37,16 +28,12 @@ impl<T: HasSchema, E: HasSchema> HasSchema for std::result::Result<T, E> {
 }
 
 impl<T: HasSchema> HasSchema for Box<T> {
-    ghost kind = { T.kind };
-
     fn add_schema(alloc: Global, nodes: &mut Vec<Node>) -> Result<usize, AllocError> {
         T::add_schema(alloc, nodes)
     }
 }
 
 impl<'a, T: HasSchema> HasSchema for &'a T {
-    ghost kind = { T.kind };
-
     fn add_schema(alloc: Global, nodes: &mut Vec<Node>) -> Result<usize, AllocError> {
         T::add_schema(alloc, nodes)
     }
@@ -54,8 +41,6 @@ impl<'a, T: HasSchema> HasSchema for &'a T {
 
 /// Of `Vec<u8>` too: a list of bytes, which takes the same as `Bytes`.
 impl<T: HasSchema> HasSchema for Vec<T> {
-    ghost kind = { AtTop (OfList (EachHas T.kind)) };
-
     fn add_schema(alloc: Global, nodes: &mut Vec<Node>) -> Result<usize, AllocError> {
         let inner = T::add_schema(alloc, nodes)?;
         add_node(nodes, Node::List(inner))
@@ -63,8 +48,6 @@ impl<T: HasSchema> HasSchema for Vec<T> {
 }
 
 impl<T: HasSchema, const N: usize> HasSchema for ArrayVec<T, N> {
-    ghost kind = { AtTop (OfList (EachHas T.kind)) };
-
     fn add_schema(alloc: Global, nodes: &mut Vec<Node>) -> Result<usize, AllocError> {
         let inner = T::add_schema(alloc, nodes)?;
         add_node(nodes, Node::ListUpTo(N as u64, inner))
@@ -72,8 +55,6 @@ impl<T: HasSchema, const N: usize> HasSchema for ArrayVec<T, N> {
 }
 
 impl<T: HasSchema, const N: usize> HasSchema for [T; N] {
-    ghost kind = { AtTop (OfGroup (EachHas T.kind)) };
-
     fn add_schema(alloc: Global, nodes: &mut Vec<Node>) -> Result<usize, AllocError> {
         let inner = T::add_schema(alloc, nodes)?;
         add_node(nodes, Node::Array(N as u64, inner))
@@ -82,9 +63,6 @@ impl<T: HasSchema, const N: usize> HasSchema for [T; N] {
 
 /// A list of its pairs.
 impl<K: HasSchema + Ord, V: HasSchema> HasSchema for BTreeMap<K, V> {
-    ghost kind = { AtTop (OfList (EachHas (AtTop (OfGroup
-        (ValueThen K.kind (ValueThen V.kind NoValues)))))) };
-
     fn add_schema(alloc: Global, nodes: &mut Vec<Node>) -> Result<usize, AllocError> {
         let pair = <(K, V)>::add_schema(alloc, nodes)?;
         add_node(nodes, Node::List(pair))

@@ -1,8 +1,6 @@
 //! Characters, texts and byte strings.
 ghost use Rattle.std.specs.Prelude.{IfOk};
 ghost use Rattle.postcard_tree.specs.Reading.{TakesByte, TakesSequence, RefusesBytes, TakesText, RefusesText};
-ghost use Rattle.schemas.specs.Kinds.{HasKind};
-ghost use Rattle.schemas.specs.Schemas.{AtTop, OfBytes, OfChar, OfText};
 ghost use Rattle.schemas.specs.TypeSchemas.{BeginsWith, IsSchemaOf};
 
 use super::{HasSchema, add_leaf};
@@ -11,50 +9,38 @@ use arrayvec::ArrayString;
 use std::alloc::{AllocError, Global};
 
 impl HasSchema for char {
-    ghost kind = { AtTop OfChar };
-
     fn add_schema(_alloc: Global, nodes: &mut Vec<Node>) -> Result<usize, AllocError> {
         add_leaf(nodes, Node::Char)
     }
 }
 
 impl HasSchema for String {
-    ghost kind = { AtTop OfText };
-
     fn add_schema(_alloc: Global, nodes: &mut Vec<Node>) -> Result<usize, AllocError> {
         add_leaf(nodes, Node::Text)
     }
 }
 
 impl<const N: usize> HasSchema for ArrayString<N> {
-    ghost kind = { AtTop OfText };
-
     fn add_schema(_alloc: Global, nodes: &mut Vec<Node>) -> Result<usize, AllocError> {
         add_leaf(nodes, Node::TextUpTo(N as u64))
     }
 }
 
 impl<'de> HasSchema for &'de str {
-    ghost kind = { AtTop OfText };
-
     fn add_schema(_alloc: Global, nodes: &mut Vec<Node>) -> Result<usize, AllocError>
         ensures kept { BeginsWith nodes.old.items nodes.new.items }
         ensures is_schema { IfOk result (λ place.
             IsSchemaOf TakesText RefusesText nodes.new.items place) }
-        ensures kind { IfOk result (λ place. HasKind (AtTop OfText) nodes.new.items place) }
     {
         add_leaf(nodes, Node::Text)
     }
 }
 
 impl<'de> HasSchema for &'de [u8] {
-    ghost kind = { AtTop OfBytes };
-
     fn add_schema(_alloc: Global, nodes: &mut Vec<Node>) -> Result<usize, AllocError>
         ensures kept { BeginsWith nodes.old.items nodes.new.items }
         ensures is_schema { IfOk result (λ place.
             IsSchemaOf (TakesSequence TakesByte) RefusesBytes nodes.new.items place) }
-        ensures kind { IfOk result (λ place. HasKind (AtTop OfBytes) nodes.new.items place) }
     {
         add_leaf(nodes, Node::Bytes)
     }

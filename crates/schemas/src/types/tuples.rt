@@ -1,7 +1,5 @@
 //! Tuples of one to six parts.
 ghost use Rattle.std.specs.Prelude.{IfOk};
-ghost use Rattle.schemas.specs.Kinds.{NoValues, ValueThen};
-ghost use Rattle.schemas.specs.Schemas.{AtTop, OfGroup};
 ghost use Rattle.schemas.specs.TypeSchemas.{BeginsWith, IsStructAdded};
 
 use super::{HasSchema, add_node};
@@ -23,8 +21,6 @@ fn add_struct<const N: usize>(
 }
 
 impl<A: HasSchema> HasSchema for (A,) {
-    ghost kind = { AtTop (OfGroup (ValueThen A.kind NoValues)) };
-
     fn add_schema(alloc: Global, nodes: &mut Vec<Node>) -> Result<usize, AllocError> {
         let first = A::add_schema(alloc, nodes)?;
         add_struct(alloc, nodes, [first])
@@ -32,8 +28,6 @@ impl<A: HasSchema> HasSchema for (A,) {
 }
 
 impl<A: HasSchema, B: HasSchema> HasSchema for (A, B) {
-    ghost kind = { AtTop (OfGroup (ValueThen A.kind (ValueThen B.kind NoValues))) };
-
     fn add_schema(alloc: Global, nodes: &mut Vec<Node>) -> Result<usize, AllocError> {
         let first = A::add_schema(alloc, nodes)?;
         let second = B::add_schema(alloc, nodes)?;
@@ -42,9 +36,6 @@ impl<A: HasSchema, B: HasSchema> HasSchema for (A, B) {
 }
 
 impl<A: HasSchema, B: HasSchema, C: HasSchema> HasSchema for (A, B, C) {
-    ghost kind = { AtTop (OfGroup (ValueThen A.kind (ValueThen B.kind
-        (ValueThen C.kind NoValues)))) };
-
     fn add_schema(alloc: Global, nodes: &mut Vec<Node>) -> Result<usize, AllocError> {
         let first = A::add_schema(alloc, nodes)?;
         let second = B::add_schema(alloc, nodes)?;
@@ -54,9 +45,6 @@ impl<A: HasSchema, B: HasSchema, C: HasSchema> HasSchema for (A, B, C) {
 }
 
 impl<A: HasSchema, B: HasSchema, C: HasSchema, D: HasSchema> HasSchema for (A, B, C, D) {
-    ghost kind = { AtTop (OfGroup (ValueThen A.kind (ValueThen B.kind (ValueThen C.kind
-        (ValueThen D.kind NoValues))))) };
-
     fn add_schema(alloc: Global, nodes: &mut Vec<Node>) -> Result<usize, AllocError> {
         let first = A::add_schema(alloc, nodes)?;
         let second = B::add_schema(alloc, nodes)?;
@@ -68,9 +56,6 @@ impl<A: HasSchema, B: HasSchema, C: HasSchema, D: HasSchema> HasSchema for (A, B
 
 impl<A: HasSchema, B: HasSchema, C: HasSchema, D: HasSchema, E: HasSchema> HasSchema
     for (A, B, C, D, E) {
-    ghost kind = { AtTop (OfGroup (ValueThen A.kind (ValueThen B.kind (ValueThen C.kind
-        (ValueThen D.kind (ValueThen E.kind NoValues)))))) };
-
     fn add_schema(alloc: Global, nodes: &mut Vec<Node>) -> Result<usize, AllocError> {
         let first = A::add_schema(alloc, nodes)?;
         let second = B::add_schema(alloc, nodes)?;
@@ -83,9 +68,6 @@ impl<A: HasSchema, B: HasSchema, C: HasSchema, D: HasSchema, E: HasSchema> HasSc
 
 impl<A: HasSchema, B: HasSchema, C: HasSchema, D: HasSchema, E: HasSchema, F: HasSchema> HasSchema
     for (A, B, C, D, E, F) {
-    ghost kind = { AtTop (OfGroup (ValueThen A.kind (ValueThen B.kind (ValueThen C.kind
-        (ValueThen D.kind (ValueThen E.kind (ValueThen F.kind NoValues))))))) };
-
     fn add_schema(alloc: Global, nodes: &mut Vec<Node>) -> Result<usize, AllocError> {
         let first = A::add_schema(alloc, nodes)?;
         let second = B::add_schema(alloc, nodes)?;

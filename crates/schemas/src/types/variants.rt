@@ -1,15 +1,10 @@
 //! The variants of an enum, which are the shapes of message types.
-ghost use Rattle.schemas.specs.Kinds.{FirstKind, LastKind};
-ghost use Rattle.schemas.specs.Schemas.{AtTop, OfVariant};
-
 use super::{HasPayloadSchemas, HasSchema, add_node};
 use crate::Node;
 use postcard_tree::{Last, Variant, Variants4};
 use std::alloc::{AllocError, Global};
 
 impl<A: HasSchema> HasPayloadSchemas for Last<A> {
-    ghost kinds_at = { LastKind A.kind };
-
     fn add_payloads(
         alloc: Global,
         nodes: &mut Vec<Node>,
@@ -22,8 +17,6 @@ impl<A: HasSchema> HasPayloadSchemas for Last<A> {
 }
 
 impl<A: HasSchema> HasSchema for Last<A> {
-    ghost kind = { AtTop (OfVariant (LastKind A.kind)) };
-
     fn add_schema(alloc: Global, nodes: &mut Vec<Node>) -> Result<usize, AllocError> {
         let mut payloads = Vec::new(alloc);
         Self::add_payloads(alloc, nodes, &mut payloads)?;
@@ -32,8 +25,6 @@ impl<A: HasSchema> HasSchema for Last<A> {
 }
 
 impl<A: HasSchema, R: HasPayloadSchemas> HasPayloadSchemas for Variant<A, R> {
-    ghost kinds_at = { FirstKind A.kind R.kinds_at };
-
     fn add_payloads(
         alloc: Global,
         nodes: &mut Vec<Node>,
@@ -46,8 +37,6 @@ impl<A: HasSchema, R: HasPayloadSchemas> HasPayloadSchemas for Variant<A, R> {
 }
 
 impl<A: HasSchema, R: HasPayloadSchemas> HasSchema for Variant<A, R> {
-    ghost kind = { AtTop (OfVariant (FirstKind A.kind R.kinds_at)) };
-
     fn add_schema(alloc: Global, nodes: &mut Vec<Node>) -> Result<usize, AllocError> {
         let mut payloads = Vec::new(alloc);
         Self::add_payloads(alloc, nodes, &mut payloads)?;
@@ -57,9 +46,6 @@ impl<A: HasSchema, R: HasPayloadSchemas> HasSchema for Variant<A, R> {
 
 impl<A: HasSchema, B: HasSchema, C: HasSchema, D: HasSchema, R: HasPayloadSchemas> HasPayloadSchemas
     for Variants4<A, B, C, D, R> {
-    ghost kinds_at = { FirstKind A.kind
-        (FirstKind B.kind (FirstKind C.kind (FirstKind D.kind R.kinds_at))) };
-
     fn add_payloads(
         alloc: Global,
         nodes: &mut Vec<Node>,
@@ -71,9 +57,6 @@ impl<A: HasSchema, B: HasSchema, C: HasSchema, D: HasSchema, R: HasPayloadSchema
 
 impl<A: HasSchema, B: HasSchema, C: HasSchema, D: HasSchema, R: HasPayloadSchemas> HasSchema
     for Variants4<A, B, C, D, R> {
-    ghost kind = { AtTop (OfVariant
-        (FirstKind A.kind (FirstKind B.kind (FirstKind C.kind (FirstKind D.kind R.kinds_at))))) };
-
     fn add_schema(alloc: Global, nodes: &mut Vec<Node>) -> Result<usize, AllocError> {
         <Variant<A, Variant<B, Variant<C, Variant<D, R>>>>>::add_schema(alloc, nodes)
     }

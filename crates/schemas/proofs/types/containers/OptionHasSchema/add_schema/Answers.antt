@@ -1,5 +1,4 @@
 use Rattle.schemas.specs.declared.node.Node.TheVariants.{Option}
-use Rattle.schemas.proofs.KindsLemmas.{kind_as, option_kind}
 use Rattle.schemas.proofs.TablesLemmas.{added_as, begins_more, option_schema}
 use Rattle.schemas.proofs.types.containers.OptionHasSchema.add_schema.Goals as goal
 
@@ -9,7 +8,3 @@ returns-clause-is_schema g c =
 
 pub returns-clause-kept : goal.returns-clause-kept
 returns-clause-kept g c = begins_more c.in_ok-inner.ensures.kept c.add_node.ensures.kept
-
-pub returns-clause-kind : goal.returns-clause-kind
-returns-clause-kind g c =
-    kind_as c.add_node.result (Option c.in_ok-inner.inner) c.add_schema.new.nodes.items c.add_node.new.nodes.items (λ place h. option_kind c.in_ok-inner.ensures.kind h) c.add_node.ensures.added

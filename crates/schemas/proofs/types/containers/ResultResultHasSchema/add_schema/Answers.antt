@@ -1,5 +1,4 @@
 use Rattle.schemas.specs.declared.node.Node.TheVariants.{Enum}
-use Rattle.schemas.proofs.KindsLemmas.{enum_kind, first_kind, kind_as, last_kind, later_kind}
 use Rattle.schemas.proofs.TablesLemmas.{added_as, begins_more, enum_schema, later, payload_result}
 use Rattle.schemas.proofs.types.containers.ResultResultHasSchema.add_schema.Goals as goal
 
@@ -16,8 +15,3 @@ returns-in_err-payloads-clause-kept g c = begins_more c.in_ok-value.ensures.kept
 
 pub returns-clause-kept : goal.returns-clause-kept
 returns-clause-kept g c = begins_more (begins_more c.in_ok-value.ensures.kept c.in_ok-error.ensures.kept) c.add_node.ensures.kept
-
-pub returns-clause-kind : goal.returns-clause-kind
-returns-clause-kind g c =
-    let both = first_kind (later_kind c.in_ok-error.ensures.kept c.in_ok-value.ensures.kind) (last_kind c.in_ok-error.ensures.kind) in
-    kind_as c.add_node.result (Enum c.in_ok-payloads.payloads) c.add_schema-2.new.nodes.items c.add_node.new.nodes.items (λ place h. enum_kind c.in_ok-payloads.payloads c.in_ok-payloads.ensures.items both h) c.add_node.ensures.added

@@ -1,9 +1,5 @@
-use Rattle.schemas.proofs.KindsLemmas.{big_as}
 use Rattle.schemas.proofs.TablesLemmas.{as_wide}
 use Rattle.schemas.proofs.types.numbers.BEHasSchema.add_schema.Goals as goal
 
 pub returns-clause-is_schema : goal.returns-clause-is_schema
 returns-clause-is_schema g c = as_wide c.add_leaf.new.nodes.items c.integer_type.result g.T.HasIntegerType.which c.add_leaf.result c.integer_type.ensures g.met.T.HasIntegerType.wide c.add_leaf.ensures.is_schema
-
-pub returns-clause-kind : goal.returns-clause-kind
-returns-clause-kind g c = big_as c.add_leaf.new.nodes.items c.integer_type.result g.T.HasIntegerType.which c.add_leaf.result c.integer_type.ensures c.add_leaf.ensures.kind

@@ -1,4 +1,3 @@
-use Rattle.schemas.proofs.KindsLemmas.{kind_then, kinds_of_fields, no_kinds}
 use Rattle.schemas.proofs.TablesLemmas.{begins_more, field_then, fields_added, no_fields}
 use Rattle.schemas.proofs.types.tuples.Tuple1HasSchema.add_schema.Goals as goal
 
@@ -9,8 +8,3 @@ pub returns-clause-is_schema : goal.returns-clause-is_schema
 returns-clause-is_schema g c =
     let all = field_then c.in_ok-first.ensures.is_schema no_fields in
     fields_added c.add_struct.result c.add_struct.new.nodes.items all c.add_struct.ensures.added
-
-pub returns-clause-kind : goal.returns-clause-kind
-returns-clause-kind g c =
-    let all = kind_then c.in_ok-first.ensures.kind no_kinds in
-    kinds_of_fields c.add_struct.result c.add_struct.new.nodes.items all c.add_struct.ensures.added

@@ -1,4 +1,3 @@
-use Rattle.schemas.proofs.KindsLemmas.{kind_then, kinds_of_fields, later_kind, no_kinds}
 use Rattle.schemas.proofs.TablesLemmas.{begins_more, field_then, fields_added, later, no_fields}
 use Rattle.schemas.proofs.types.tuples.Tuple4HasSchema.add_schema.Goals as goal
 
@@ -21,11 +20,3 @@ returns-clause-is_schema g c =
     let kept-first = begins_more c.in_ok-second.ensures.kept kept-second in
     let all = field_then (later kept-first c.in_ok-first.ensures.is_schema) (field_then (later kept-second c.in_ok-second.ensures.is_schema) (field_then (later kept-third c.in_ok-third.ensures.is_schema) (field_then c.in_ok-fourth.ensures.is_schema no_fields))) in
     fields_added c.add_struct.result c.add_struct.new.nodes.items all c.add_struct.ensures.added
-
-pub returns-clause-kind : goal.returns-clause-kind
-returns-clause-kind g c =
-    let kept-third = c.in_ok-fourth.ensures.kept in
-    let kept-second = begins_more c.in_ok-third.ensures.kept kept-third in
-    let kept-first = begins_more c.in_ok-second.ensures.kept kept-second in
-    let all = kind_then (later_kind kept-first c.in_ok-first.ensures.kind) (kind_then (later_kind kept-second c.in_ok-second.ensures.kind) (kind_then (later_kind kept-third c.in_ok-third.ensures.kind) (kind_then c.in_ok-fourth.ensures.kind no_kinds))) in
-    kinds_of_fields c.add_struct.result c.add_struct.new.nodes.items all c.add_struct.ensures.added

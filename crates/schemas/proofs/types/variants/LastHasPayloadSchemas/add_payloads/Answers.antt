@@ -1,6 +1,5 @@
 use Rattle.std.proofs.Common.{◌≡◌, ◌++◌, ◌∷◌, [], arith}
 use Rattle.std.proofs.lemmas.Grind.{common_steps}
-use Rattle.schemas.proofs.KindsLemmas.{last_kind_added}
 use Rattle.schemas.proofs.TablesLemmas.{payloads_last}
 use Rattle.schemas.proofs.types.variants.LastHasPayloadSchemas.add_payloads.Goals as goal
 
@@ -8,8 +7,3 @@ pub returns-clause-are_schemas : goal.returns-clause-are_schemas
 returns-clause-are_schemas g c =
     let e : c.push.new.self.items ≡ c.args.payloads.now.items ++ c.in_ok-held.held ∷ [] = grind (arith, common_steps) in
     payloads_last c.in_ok-held.ensures.is_schema e
-
-pub returns-clause-kinds : goal.returns-clause-kinds
-returns-clause-kinds g c =
-    let e : c.push.new.self.items ≡ c.args.payloads.now.items ++ c.in_ok-held.held ∷ [] = grind (arith, common_steps) in
-    last_kind_added c.in_ok-held.ensures.kind e

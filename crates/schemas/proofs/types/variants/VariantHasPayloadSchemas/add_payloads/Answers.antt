@@ -1,6 +1,5 @@
 use Rattle.std.proofs.Common.{◌≡◌, ◌++◌, ◌∷◌, [], arith}
 use Rattle.std.proofs.lemmas.Grind.{common_steps}
-use Rattle.schemas.proofs.KindsLemmas.{first_kind_added, kinds_as}
 use Rattle.schemas.proofs.TablesLemmas.{begins_more, payloads_as, payloads_first}
 use Rattle.schemas.proofs.types.variants.VariantHasPayloadSchemas.add_payloads.Goals as goal
 
@@ -12,9 +11,3 @@ returns-clause-are_schemas g c =
 
 pub returns-clause-kept : goal.returns-clause-kept
 returns-clause-kept g c = begins_more c.in_ok-held.ensures.kept c.add_payloads.ensures.kept
-
-pub returns-clause-kinds : goal.returns-clause-kinds
-returns-clause-kinds g c =
-    let e : c.push.new.self.items ≡ c.args.payloads.now.items ++ c.in_ok-held.held ∷ [] = grind (arith, common_steps) in
-    kinds_as c.add_payloads.result c.add_payloads.new.nodes.items c.args.payloads.now.items c.push.new.self.items c.add_payloads.new.payloads.items
-    (λ h. first_kind_added c.in_ok-held.ensures.kind c.add_payloads.ensures.kept e h) c.add_payloads.ensures.kinds

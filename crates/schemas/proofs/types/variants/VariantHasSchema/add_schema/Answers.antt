@@ -1,5 +1,4 @@
 use Rattle.schemas.specs.declared.node.Node.TheVariants.{Enum}
-use Rattle.schemas.proofs.KindsLemmas.{enum_kind_added, kind_as}
 use Rattle.schemas.proofs.TablesLemmas.{added_as, begins_more, enum_added}
 use Rattle.schemas.proofs.types.variants.VariantHasSchema.add_schema.Goals as goal
 
@@ -9,7 +8,3 @@ returns-clause-is_schema g c =
 
 pub returns-clause-kept : goal.returns-clause-kept
 returns-clause-kept g c = begins_more c.in_ok-add_payloads.ensures.kept c.add_node.ensures.kept
-
-pub returns-clause-kind : goal.returns-clause-kind
-returns-clause-kind g c =
-    kind_as c.add_node.result (Enum c.add_payloads.new.payloads) c.add_payloads.new.nodes.items c.add_node.new.nodes.items (λ place h. enum_kind_added c.add_payloads.new.payloads c.new-payloads.ensures.items c.in_ok-add_payloads.ensures.kinds h) c.add_node.ensures.added
