@@ -34,6 +34,10 @@ type IntoBuffer = unsafe extern "C" fn(*const u8, usize, *mut u8, usize) -> Answ
 type InPlace = unsafe extern "C" fn(*mut u8, usize) -> Answer;
 type IntoBufferFor = unsafe extern "C" fn(*const u8, usize, *mut u8, usize, u8) -> Answer;
 type InPlaceFor = unsafe extern "C" fn(*mut u8, usize, u8) -> Answer;
+type Within = unsafe extern "C" fn(*mut u8, usize, usize, u8) -> usize;
+type Length = unsafe extern "C" fn(*const u8, usize) -> usize;
+type Before = unsafe extern "C" fn(*const u8, usize, u8) -> usize;
+type Bytes = unsafe extern "C" fn(*const u8, usize, *mut Found);
 type Stream = unsafe extern "C" fn(*const u8, usize, usize, *mut Found);
 type Write = unsafe extern "C" fn(
     u32,
@@ -60,6 +64,10 @@ pub struct Calls {
     push_for: IntoBufferFor,
     decode_for: IntoBufferFor,
     decode_in_place_for: InPlaceFor,
+    encode_in_place: Within,
+    encoded_length: Length,
+    before_sentinel: Before,
+    fed: Bytes,
     messages: Stream,
     write: Write,
     read: Read,
@@ -140,6 +148,35 @@ impl Calls {
         answered(unsafe { (self.decode_in_place_for)(buf.as_mut_ptr(), buf.len(), sentinel) })
     }
 
+    /// The frame of a message of n bytes, 254 at most, which stands behind the first byte.
+    #[inline]
+    pub fn encode_in_place(&self, buf: &mut [u8], n: usize) -> usize {
+        assert!(n <= 254 && n < buf.len());
+        // SAFETY: a slice by its pointer and its length, with what the call asks for.
+        unsafe { (self.encode_in_place)(buf.as_mut_ptr(), buf.len(), n, 0) }
+    }
+
+    #[inline]
+    pub fn encoded_length(&self, source: &[u8]) -> usize {
+        // SAFETY: a slice by its pointer and its length.
+        unsafe { (self.encoded_length)(source.as_ptr(), source.len()) }
+    }
+
+    /// How many bytes come before the first zero.
+    #[inline]
+    pub fn before_zero(&self, bytes: &[u8]) -> usize {
+        // SAFETY: a slice by its pointer and its length.
+        unsafe { (self.before_sentinel)(bytes.as_ptr(), bytes.len(), 0) }
+    }
+
+    /// The messages of a stream, by a decoder that is fed each byte by itself.
+    pub fn fed(&self, bytes: &[u8]) -> Found {
+        let mut found = Found::default();
+        // SAFETY: a slice by its pointer and its length, and a struct of C's layout.
+        unsafe { (self.fed)(bytes.as_ptr(), bytes.len(), &mut found) };
+        found
+    }
+
     /// The messages of a stream, by a decoder.
     pub fn messages(&self, bytes: &[u8], piece: usize) -> Found {
         stream(self.messages, bytes, piece)
@@ -204,6 +241,14 @@ macro_rules! calls {
                     -> Answer;
                 #[link_name = concat!($prefix, "cobs_c_decode_in_place_with_sentinel")]
                 fn decode_in_place_for(b: *mut u8, n: usize, sentinel: u8) -> Answer;
+                #[link_name = concat!($prefix, "cobs_c_encode_in_place")]
+                fn encode_in_place(b: *mut u8, m: usize, n: usize, sentinel: u8) -> usize;
+                #[link_name = concat!($prefix, "cobs_c_encoded_length")]
+                fn encoded_length(s: *const u8, n: usize) -> usize;
+                #[link_name = concat!($prefix, "cobs_c_before_sentinel")]
+                fn before_sentinel(s: *const u8, n: usize, sentinel: u8) -> usize;
+                #[link_name = concat!($prefix, "cobs_c_feed")]
+                fn fed(s: *const u8, n: usize, found: *mut Found);
                 #[link_name = concat!($prefix, "cobs_c_stream")]
                 fn messages(s: *const u8, n: usize, piece: usize, found: *mut Found);
                 #[link_name = concat!($prefix, "postcard_c_write")]
@@ -234,6 +279,10 @@ macro_rules! calls {
                 push_for,
                 decode_for,
                 decode_in_place_for,
+                encode_in_place,
+                encoded_length,
+                before_sentinel,
+                fed,
                 messages,
                 write,
                 read,

@@ -177,13 +177,20 @@ pub fn goal(call: &str, len: usize, kind: usize) -> f64 {
         ("decode", LARGE) => [1.2, 1.2, 0.9, 0.8][kind],
         ("decode", 1024) => 1.3,
         (_, 4) => 1.4,
+        ("decode_with_sentinel", 16 | 64) => [1.3, 1.3, 1.1, 1.3][kind],
+        ("decode_with_sentinel", _) => [1.6, 1.6, 1.1, 1.3][kind],
+        ("encode_in_place", _) => 1.3,
+        ("encoded_length", _) => 1.2,
+        ("before_sentinel", 16 | 64) => 1.3,
+        ("before_sentinel", _) => 1.5,
         ("decode", _) => 1.2,
         (_, _) if kind == 2 && len > 16 => 1.0,
         _ => 1.2,
     }
 }
 
-/// The same for a decoder's `push` of pieces of so many bytes, and for an accumulator's `feed`.
+/// The same for a decoder's `feed`, its `push` of pieces of so many bytes, and for an accumulator's `feed`.
+pub const FED: f64 = 1.1;
 pub const PUSHING: [(usize, f64); 3] = [(1, 1.1), (64, 0.7), (4096, 0.5)];
 pub const FEEDING: [(usize, f64); 3] = [(1, 0.9), (64, 0.8), (4096, 0.7)];
 

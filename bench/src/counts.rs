@@ -1,7 +1,7 @@
 //! Counts the instructions of calls, ours and the peers', by `valgrind --tool=callgrind`, and prints tables of them. No load of
 //! the machine changes them.
 use crate::calls::{Calls, Found, Parts, OURS};
-use crate::cases::{goal, room, FEEDING, LENGTHS, PUSHING, READING, WRITING};
+use crate::cases::{goal, room, FED, FEEDING, LENGTHS, PUSHING, READING, WRITING};
 use crate::data::{self, message, record, Record, KINDS};
 use crate::frames::{bytes, runs, wide, windows};
 use crate::peers::{records as by_hand, streams as pieces};
@@ -103,10 +103,32 @@ const OTHER_IN_PLACE: [(&str, &str, InPlace); 2] = [
     ("in_place_for", "zero", |b| OURS.decode_in_place_for(b, 0)),
     ("in_place_for", "another", |b| OURS.decode_in_place_for(b, 10)),
 ];
-const STREAMS: [(&str, &str, Taking); 6] = [
+/// What makes a frame where the message stands, and what counts bytes.
+type Within = fn(&mut [u8], usize) -> usize;
+type Counting = fn(&[u8]) -> usize;
+const STANDING: [(&str, &str, Within); 3] = [
+    ("encode_in_place", OURS_NAME, |b, n| OURS.encode_in_place(b, n)),
+    ("encode_in_place", "bytes", bytes::encode_in_place),
+    ("encode_in_place", "runs", runs::encode_in_place),
+];
+const COUNTERS: [(&str, &str, Counting); 6] = [
+    ("encoded_length", OURS_NAME, |s| OURS.encoded_length(s)),
+    ("encoded_length", "bytes", bytes::encoded_length),
+    ("encoded_length", "runs", runs::encoded_length),
+    ("before_sentinel", OURS_NAME, |s| OURS.before_zero(s)),
+    ("before_sentinel", "bytes", bytes::before_zero),
+    ("before_sentinel", "runs", runs::before_zero),
+];
+/// How long a message is that may stand where its frame is to be.
+const STANDING_LENGTHS: [usize; 4] = [4, 16, 64, 200];
+
+const STREAMS: [(&str, &str, Taking); 9] = [
     ("push", OURS_NAME, |s, n| OURS.messages(s, n)),
     ("push", "bytes", pieces::messages_by_bytes),
     ("push", "runs", pieces::messages_by_runs),
+    ("decoder's feed", OURS_NAME, |s, _| OURS.fed(s)),
+    ("decoder's feed", "bytes", pieces::messages_by_bytes),
+    ("decoder's feed", "runs", pieces::messages_by_runs),
     ("feed", OURS_NAME, |s, n| OURS.records(s, n)),
     ("feed", "accumulator", pieces::records_by_accumulator),
     ("feed", "runs", pieces::records_by_runs),
@@ -141,6 +163,32 @@ fn count_in_place(name: &str, call: InPlace, source: &[u8]) {
     });
 }
 
+fn count_bytes(name: &str, counting: Counting, bytes: &[u8]) {
+    let counting = black_box(counting);
+    count(name, || {
+        black_box(counting(black_box(bytes)));
+    });
+}
+
+/// Frames that are made where a message stands: it is copied anew before each call.
+fn count_standing(source: &[u8], kind: &str) {
+    let len = source.len();
+    let mut message = vec![0];
+    message.extend_from_slice(source);
+    let mut frames = Vec::new();
+    let nothing: Within = |buf, n| black_box(buf.len() + n);
+    for (call, whose, within) in STANDING.into_iter().chain([("nothing", "standing", nothing)]) {
+        let mut buf = message.clone();
+        let within = black_box(within);
+        count(&named(call, whose, len, kind), || {
+            buf.copy_from_slice(black_box(&message));
+            black_box(within(black_box(&mut buf), black_box(len)));
+        });
+        frames.push(buf);
+    }
+    assert!(frames[0] == frames[1] && frames[0] == frames[2], "frames where they stand");
+}
+
 fn count_messages(len: usize, kind: &str) {
     let source = message(kind, len);
     let mut frame = vec![0; room(len) + 1];
@@ -157,6 +205,19 @@ fn count_messages(len: usize, kind: &str) {
     for (call, whose, decode) in IN_PLACE {
         count_in_place(&named(call, whose, len, kind), decode, frame);
     }
+    if STANDING_LENGTHS.contains(&len) {
+        count_standing(&source, kind);
+    }
+    let answers = |call: &str, count: Counting, bytes: &[u8]| {
+        let all = COUNTERS.iter().filter(|way| way.0 == call);
+        assert!(all.map(|way| way.2(bytes)).all(|n| n == count(bytes)), "{call}");
+    };
+    for (call, whose, counting) in COUNTERS {
+        let bytes = if call == "encoded_length" { &source[..] } else { frame };
+        answers(call, counting, bytes);
+        count_bytes(&named(call, whose, len, kind), counting, bytes);
+    }
+    count_bytes(&named("nothing", "counting", len, kind), |bytes| black_box(bytes.len()), &source);
     let other: Vec<u8> = frame.iter().map(|byte| byte ^ 10).collect();
     let framed = |whose| if whose == "zero" { frame } else { &other };
     for (call, whose, code) in OTHER {
@@ -257,27 +318,58 @@ impl Counts {
     }
 
     /// Of a call on a message, and of the peer with the fewest, with their ratio and what is aimed at.
-    fn cell(&self, report: &mut Report, call: &str, peers: &[(&str, &str)], len: usize, kind: usize) -> String {
-        let (of, kind) = (goal(call, len, kind), KINDS[kind]);
-        let around = if call == "decode_in_place" { "within" } else { "into" };
-        let around = self.of("nothing", around, len, kind);
-        let ours = self.of(call, OURS_NAME, len, kind) - around;
-        let counted = peers.iter().map(|(call, whose)| (self.of(call, whose, len, kind) - around, whose));
+    fn cell(&self, report: &mut Report, grid: &Grid, len: usize, kind: usize) -> String {
+        let (of, kind) = (goal(grid.call, len, kind), KINDS[kind]);
+        let around = self.of("nothing", grid.around, len, kind);
+        let ours = self.of(grid.ours.0, grid.ours.1, len, kind) - around;
+        let counted = grid.peers.iter().map(|(call, whose)| (self.of(call, whose, len, kind) - around, whose));
         let best = counted.min_by(|a, b| a.0.total_cmp(&b.0)).expect("a peer");
-        let what = format!("`{call}`, {}, {kind}", size(len));
+        let what = format!("`{}`, {}, {kind}", grid.call, size(len));
         let ratio = report.figure(&what, ours / best.0, of);
         format!("{ours:.0} / {:.0} {}: {ratio}", best.0, &best.1)
     }
 }
 
-fn print_grid(counts: &Counts, report: &mut Report, call: &str, peers: &[(&str, &str)]) {
-    let title = format!("Instructions: `{call}` / the peer with the fewest: ratio (goal)");
+/// The table of a call: what it is counted as, what is around it, and its peers.
+struct Grid {
+    call: &'static str,
+    ours: (&'static str, &'static str),
+    around: &'static str,
+    peers: Vec<(&'static str, &'static str)>,
+    lengths: &'static [usize],
+}
+
+fn print_grid(counts: &Counts, report: &mut Report, grid: &Grid) {
+    let title = format!("Instructions: `{}` / the peer with the fewest: ratio (goal)", grid.call);
     head(&title, &["Bytes", KINDS[0], KINDS[1], KINDS[2], KINDS[3]]);
-    for len in LENGTHS {
+    for &len in grid.lengths {
         let mut cells = vec![size(len)];
-        cells.extend([0, 1, 2, 3].map(|kind| counts.cell(report, call, peers, len, kind)));
+        cells.extend([0, 1, 2, 3].map(|kind| counts.cell(report, grid, len, kind)));
         row(&cells);
     }
+}
+
+/// The tables of calls on messages.
+fn grids() -> Vec<Grid> {
+    let grid = |call, around, peers| Grid { call, ours: (call, OURS_NAME), around, peers, lengths: &LENGTHS };
+    let encoders: Vec<_> = ENCODERS[2..].iter().map(|way| (way.0, way.1)).collect();
+    let decoders: Vec<_> = DECODERS[1..].iter().map(|way| (way.0, way.1)).collect();
+    let within = IN_PLACE[1..].iter().map(|way| (way.0, way.1)).collect();
+    let standing = STANDING[1..].iter().map(|way| (way.0, way.1)).collect();
+    let counters = |call: &str| {
+        let peers = COUNTERS.iter().filter(|way| way.0 == call && way.1 != OURS_NAME);
+        peers.map(|way| (way.0, way.1)).collect()
+    };
+    vec![
+        grid("try_encode", "into", encoders.clone()),
+        grid("push", "into", encoders),
+        grid("decode", "into", decoders.clone()),
+        grid("decode_in_place", "within", within),
+        Grid { ours: ("decode_for", "zero"), ..grid("decode_with_sentinel", "into", decoders) },
+        Grid { lengths: &STANDING_LENGTHS, ..grid("encode_in_place", "standing", standing) },
+        grid("encoded_length", "counting", counters("encoded_length")),
+        grid("before_sentinel", "counting", counters("before_sentinel")),
+    ]
 }
 
 fn print_sentinels(counts: &Counts, report: &mut Report) {
@@ -302,8 +394,11 @@ fn print_sentinels(counts: &Counts, report: &mut Report) {
 fn print_streams(counts: &Counts, report: &mut Report, bytes: usize) {
     let title = "Instructions for a byte of a stream";
     head(title, &["Call", "Ours", "Peer", "Peer", "Ours / the fewest (goal)"]);
-    for (call, what, goals) in [("push", "decoder's `push`", PUSHING), ("feed", "accumulator's `feed`", FEEDING)] {
-        for (piece, goal) in goals {
+    let fed = [(1, FED)];
+    let rows: [(&str, &str, &[(usize, f64)]); 3] =
+        [("decoder's feed", "decoder's `feed`", &fed), ("push", "decoder's `push`", &PUSHING), ("feed", "accumulator's `feed`", &FEEDING)];
+    for (call, what, goals) in rows {
+        for &(piece, goal) in goals {
             let what = format!("{what}, pieces of {piece}");
             let each = |whose: &str| counts.of(call, whose, piece, "stream") / bytes as f64;
             let peers = STREAMS.iter().filter(|way| way.0 == call && way.1 != OURS_NAME);
@@ -332,14 +427,10 @@ fn print_record(counts: &Counts, report: &mut Report) {
 /// Counts, and prints what each call takes. What valgrind wrote stays in the folder.
 pub fn print(folder: &Path) {
     let counts = Counts(counted(folder));
-    let encoders = ENCODERS[2..].iter().map(|way| (way.0, way.1)).collect::<Vec<_>>();
-    let decoders = DECODERS[1..].iter().map(|way| (way.0, way.1)).collect::<Vec<_>>();
-    let within = IN_PLACE[1..].iter().map(|way| (way.0, way.1)).collect::<Vec<_>>();
     let mut report = Report::new();
-    print_grid(&counts, &mut report, "try_encode", &encoders);
-    print_grid(&counts, &mut report, "push", &encoders);
-    print_grid(&counts, &mut report, "decode", &decoders);
-    print_grid(&counts, &mut report, "decode_in_place", &within);
+    for grid in grids() {
+        print_grid(&counts, &mut report, &grid);
+    }
     print_sentinels(&counts, &mut report);
     print_streams(&counts, &mut report, data::stream(STREAM).len());
     print_record(&counts, &mut report);

@@ -1,67 +1,12 @@
-/* Times the library beside plain C that goes byte by byte, as is usual. Prints nanoseconds and ratios; a figure is the least of many
- * short samples, taken in turn. */
+/* Times the library beside the plain C of plain.h. Prints nanoseconds and ratios; a figure is the least of many short samples, taken
+ * in turn. With arguments it makes one kind of call so often, for a tool that counts instructions: tests/count. */
 #define _POSIX_C_SOURCE 200809L
 #include "frames.h"
+#include "plain.h"
 #include <stdio.h>
 #include <stdlib.h>
 #include <string.h>
 #include <time.h>
-
-static size_t plain_encode(const uint8_t *p, size_t n, uint8_t *out) {
-    size_t code_at = 0, at = 1;
-    uint8_t code = 1;
-    for (size_t i = 0; i < n; i++) {
-        if (code == 0xFF) {
-            out[code_at] = code;
-            code = 1;
-            code_at = at++;
-        }
-        if (p[i]) {
-            out[at++] = p[i];
-            code++;
-        } else {
-            out[code_at] = code;
-            code = 1;
-            code_at = at++;
-        }
-    }
-    out[code_at] = code;
-    return at;
-}
-
-/* A receiver that decodes as bytes come: a state machine that goes byte by byte, as is usual, in a function of its own. */
-struct plain {
-    uint8_t left, code;
-    size_t count;
-    bool over, begun;
-};
-enum { PLAIN_MORE, PLAIN_MESSAGE, PLAIN_DAMAGED };
-__attribute__((noinline, noclone)) static int plain_byte(struct plain *r, uint8_t *buffer, size_t room, uint8_t b, size_t *length) {
-    if (b == 0) {
-        int kind = !r->begun ? PLAIN_MORE : r->left == 0 && !r->over ? PLAIN_MESSAGE : PLAIN_DAMAGED;
-        *length = r->count;
-        memset(r, 0, sizeof *r);
-        return kind;
-    }
-    if (r->left == 0) {
-        if (r->begun && r->code != 0xFF) {
-            if (r->count < room)
-                buffer[r->count++] = 0;
-            else
-                r->over = true;
-        }
-        r->begun = true;
-        r->code = b;
-        r->left = (uint8_t)(b - 1);
-    } else {
-        if (r->count < room)
-            buffer[r->count++] = b;
-        else
-            r->over = true;
-        r->left--;
-    }
-    return PLAIN_MORE;
-}
 
 static uint8_t message[1 << 16], frame[1 << 17], out[1 << 17], line[1 << 20], buffer[1 << 17];
 static size_t n, w, line_length;
@@ -90,6 +35,23 @@ static void bytes_ours(void) {
     for (size_t i = 0; i < line_length; i++)
         if (frames_push_byte_plain(&r, buffer, room, line[i], &e) == FRAMES_MESSAGE)
             messages += e.length;
+    sink = messages;
+}
+static void counted_ours(void) {
+    struct frames_receiver r = frames_receiver(0);
+    struct frames_event e;
+    size_t messages = 0;
+    for (size_t i = 0; i < line_length; i++)
+        if (frames_push_byte(&r, buffer, room, line[i], &e) == FRAMES_MESSAGE)
+            messages += e.length;
+    sink = messages;
+}
+static void counted_plain(void) {
+    struct plain r = {0, 0, 0, false, false};
+    size_t messages = 0, start, length;
+    for (size_t i = 0; i < line_length; i++)
+        if (plain_counted_byte(&r, buffer, room, line[i], &start, &length) == PLAIN_MESSAGE)
+            messages += length;
     sink = messages;
 }
 static void receive_plain(void) {
@@ -126,28 +88,51 @@ static void compare(const char *what, size_t bytes, void (*ours)(void), void (*p
     printf("%-36s %10.1f %10.1f %6.2f\n", what, best, other, best / other);
 }
 
+/* A message of n bytes: none zero, any, or every third a zero; behind its count where it is to be counted. */
+static size_t make(uint8_t *to, char kind, bool is_counted) {
+    size_t at = 0;
+    if (is_counted) {
+        size_t count = n;
+        for (; count > 127; count >>= 7)
+            to[at++] = (uint8_t)(count | 128);
+        to[at++] = (uint8_t)count;
+    }
+    for (size_t i = 0; i < n; i++)
+        to[at++] = kind == 'n' ? (uint8_t)(1 + rand() % 255) : kind == 'r' ? (uint8_t)rand() : rand() % 3 ? (uint8_t)(1 + rand() % 255) : 0;
+    return at;
+}
+
+/* WHAT SIZE n|r|z TIMES [PIECE]: WHAT is a call by its letter, over 64 frames in a row where it receives. */
+static int count(char **argv, size_t piece) {
+    char what = argv[1][0];
+    n = strtoul(argv[2], NULL, 10);
+    srand(1);
+    for (int k = 0; k < 64; k++) {
+        size_t length = make(message, argv[3][0], what == 'c' || what == 'C');
+        w = plain_encode(message, length, line + line_length);
+        room = w > room ? w : room;
+        line_length += w;
+        line[line_length++] = 0;
+    }
+    step = piece;
+    for (int i = 0, times = atoi(argv[4]); i < times; i++)
+        switch (what) {
+        case 'e': encode_ours(); break;
+        case 'E': encode_plain(); break;
+        case 'b': bytes_ours(); break;
+        case 'B': receive_plain(); break;
+        case 'c': counted_ours(); break;
+        case 'C': counted_plain(); break;
+        default: receive_ours();
+        }
+    return 0;
+}
+
 int main(int argc, char **argv) {
     static const size_t sizes[] = {4, 16, 64, 200, 1024, 65536};
     static const char *const kinds[] = {"no zeros", "random", "one zero in ten"};
-    if (argc > 1) { /* one call, for a tool that counts: ours|plain|bytes|states|receive SIZE none|random TIMES [PIECE] */
-        n = strtoul(argv[2], NULL, 10);
-        for (size_t i = 0; i < n; i++)
-            message[i] = argv[3][0] == 'n' ? (uint8_t)(1 + i % 255) : (uint8_t)(i * 2654435761u >> 13);
-        w = plain_encode(message, n, line);
-        line[w] = 0;
-        line_length = w + 1;
-        room = w;
-        step = argc > 5 ? strtoul(argv[5], NULL, 10) : 64;
-        for (int i = 0, times = atoi(argv[4]); i < times; i++)
-            switch (argv[1][0]) {
-            case 'o': encode_ours(); break;
-            case 'p': encode_plain(); break;
-            case 'b': bytes_ours(); break;
-            case 's': receive_plain(); break;
-            default: receive_ours();
-            }
-        return 0;
-    }
+    if (argc > 4)
+        return count(argv, argc > 5 ? strtoul(argv[5], NULL, 10) : 4096);
     printf("%-36s %10s %10s %6s\n", "ns a call", "library", "plain C", "ratio");
     for (size_t k = 0; k < 3; k++)
         for (size_t s = 0; s < 6; s++) {

@@ -16,23 +16,18 @@ static int uart_write(uint8_t byte) { /* the line: it fails once it broke */
 }
 
 /* ---- as in the README ---- */
-/* Sends a message of at most 252 bytes, counted. Answers whether all of it went out; `clean` is whether all of the last one did. */
-static int clean;
-int send_message(const uint8_t *message, unsigned n) {
-    uint8_t frame[257] = {0}; /* a zero, then the frame, then a zero */
-    unsigned code = 1, at = 2;
-    for (int i = n < 128 ? -1 : -2; i < (int)n; i++) { /* the length in one byte or two, and the message */
-        uint8_t b = i >= 0 ? message[i] : i == -1 && n >= 128 ? 1 : (uint8_t)n;
-        if (b == 0)
-            frame[code] = (uint8_t)(at - code), code = at++;
-        else
-            frame[at++] = b;
+/* Sends a message of at most 127 bytes, counted. Answers whether all of it went out. */
+static uint8_t clean; /* whether all of the last one did */
+int send_message(const uint8_t *message, uint8_t n) {
+    uint8_t frame[131] = {0}, code = 1, at = 2, i = 0; /* a zero, the frame, a zero */
+    for (; i <= n; i++) {
+        uint8_t b = i ? message[i - 1] : n; /* the length, then the message */
+        if (b) frame[at++] = b;
+        else frame[code] = at - code, code = at++;
     }
-    frame[code] = (uint8_t)(at - code);
-    unsigned i = clean ? 1 : 0; /* the zero in front ends what broke off */
-    for (clean = 0; i <= at; i++)
-        if (!uart_write(frame[i]))
-            return 0;
+    frame[code] = at - code;
+    for (i = clean, clean = 0; i <= at; i++) /* the zero in front ends what broke off */
+        if (!uart_write(frame[i])) return 0;
     return clean = 1;
 }
 /* ---- */
@@ -49,13 +44,13 @@ int main(void) {
         size_t sizes[4];
         int whole[4]; /* whether all of its frame went out: then it is heard, also where its zero is that of the next send */
         for (int k = 0; k < 4; k++) {
-            sizes[k] = (size_t)(rand() % 3 ? rand() % 20 : rand() % 253);
+            sizes[k] = (size_t)(rand() % 3 ? rand() % 20 : rand() % 128);
             for (size_t i = 0; i < sizes[k]; i++)
                 sent[k][i] = message[i] = (uint8_t)(rand() % 4 ? rand() : 0);
             size_t before = length;
             struct frames_written want = frames_send(&sender, message, sizes[k], out, sizeof out);
             breaks = rand() % 3 || k == 3 ? 300 : (size_t)rand() % want.length;
-            int went = send_message(message, (unsigned)sizes[k]);
+            int went = send_message(message, (uint8_t)sizes[k]);
             whole[k] = length - before + 1 >= want.length;
             if (want.status != FRAMES_OK || memcmp(line + before, out, length - before) || went != (length - before == want.length)) {
                 printf("round %u: other bytes\n", round);

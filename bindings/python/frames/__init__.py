@@ -251,13 +251,8 @@ class Receiver:
         return Cut(begun) if library().frames_c_finish(byref(self._state)) else None
 
 
-def listen(source: Any, limit: int, sentinel: int = 0, plain: bool = False, ends: bool = True) -> Iterator[Event]:
-    """What is heard of a file object, a socket's file or a serial port, as it comes.
-
-    It reads what is there, and at least a byte. A read of nothing ends the stream, and `Cut` may then come last; with `ends=False`, for
-    a serial port with a timeout, it is read again.
-    """
-    receiver = Receiver(limit, sentinel, plain)
+def _pieces(source: Any, ends: bool) -> Iterator[bytes]:
+    """What a file object, a socket's file or a serial port gives, as it comes."""
     while True:
         if hasattr(source, "in_waiting"):  # a port of pyserial
             piece = source.read(max(1, source.in_waiting))
@@ -266,9 +261,20 @@ def listen(source: Any, limit: int, sentinel: int = 0, plain: bool = False, ends
         else:
             piece = source.read(4096)
         if piece:
-            yield from receiver.push(piece)
+            yield piece
         elif ends:
-            break
+            return
+
+
+def listen(source: Any, limit: int, sentinel: int = 0, plain: bool = False, ends: bool = True) -> Iterator[Event]:
+    """What is heard of a file object, a socket's file or a serial port, as it comes.
+
+    It reads what is there, and at least a byte. A read of nothing ends the stream, and `Cut` may then come last; with `ends=False`, for
+    a serial port with a timeout, it is read again.
+    """
+    receiver = Receiver(limit, sentinel, plain)
+    for piece in _pieces(source, ends):
+        yield from receiver.push(piece)
     cut = receiver.finish()
     if cut is not None:
         yield cut

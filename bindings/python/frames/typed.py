@@ -13,12 +13,22 @@ from __future__ import annotations
 import json
 import os
 import subprocess
+import tempfile
 import threading
-from typing import Any, BinaryIO, Dict, Iterable, Iterator, List, Optional
+from typing import IO, Any, Dict, Iterable, Iterator, List, Optional
+
+from . import _pieces
 
 
 def _wire(wire: Optional[str]) -> str:
     return wire or os.environ.get("WIRE") or "wire"
+
+
+def _closed(pipe: IO[bytes]) -> None:
+    try:
+        pipe.close()
+    except BrokenPipeError:
+        pass
 
 
 def write(declarations: str, type_name: str, values: Iterable[Any], sentinel: int = 0, wire: Optional[str] = None) -> bytes:
@@ -35,11 +45,18 @@ def write(declarations: str, type_name: str, values: Iterable[Any], sentinel: in
 
 
 class TypedReceiver:
-    """Hears the messages of a type, as dictionaries of what `wire read` prints: one answer each."""
+    """Hears the messages of a type, as dictionaries of what `wire read` prints: one answer each.
+
+    What the program says of its words, of the declarations or of a device is an `OSError`. It is told no later than `close`, which
+    leaving a `with` block calls.
+    """
 
     def __init__(self, declarations: str, type_name: str, sentinel: int = 0, strict: bool = False, wire: Optional[str] = None) -> None:
         words = [_wire(wire), "read", declarations, type_name] + (["strict"] if strict else []) + [f"sentinel={sentinel:02x}"]
-        self._process = subprocess.Popen(words, stdin=subprocess.PIPE, stdout=subprocess.PIPE, stderr=subprocess.PIPE)
+        self._said = tempfile.TemporaryFile()
+        self._feeder: Optional[threading.Thread] = None
+        self._failure: Optional[BaseException] = None
+        self._process = subprocess.Popen(words, stdin=subprocess.PIPE, stdout=subprocess.PIPE, stderr=self._said)
 
     def __enter__(self) -> "TypedReceiver":
         return self
@@ -47,44 +64,55 @@ class TypedReceiver:
     def __exit__(self, *_: object) -> None:
         self.close()
 
-    def listen(self, source: BinaryIO) -> Iterator[Dict[str, Any]]:
-        """The answers to all that a file object or a port gives, as they come; once."""
-        feeder = threading.Thread(target=self._feed, args=(source,), daemon=True)
-        feeder.start()
+    def listen(self, source: Any, ends: bool = True) -> Iterator[Dict[str, Any]]:
+        """The answers to all that a file object or a port gives, as they come; once.
+
+        What reading the source raises comes out behind the answers to what was read.
+        """
+        self._feeder = threading.Thread(target=self._feed, args=(source, ends), daemon=True)
+        self._feeder.start()
         assert self._process.stdout is not None
         for line in self._process.stdout:
             yield json.loads(line)
-        feeder.join()
+        self._process.wait()
+        self._feeder.join(timeout=1)  # where the program stopped by itself, a read of the source may still be waiting
         self.close()
+        if self._failure is not None:
+            raise self._failure
 
     def answers(self, stream: bytes) -> List[Dict[str, Any]]:
         """The answers to a whole stream."""
         out, _ = self._process.communicate(stream)
-        self._raise_for(self._process.returncode)
+        self.close()
         return [json.loads(line) for line in out.splitlines()]
 
     def close(self) -> None:
-        """Ends the process, and raises what it told of its words or of a device."""
-        if self._process.stdin is not None and not self._process.stdin.closed:
-            self._process.stdin.close()
-        self._raise_for(self._process.wait())
-        for pipe in (self._process.stdout, self._process.stderr):
-            if pipe is not None:
-                pipe.close()
+        """Ends the process, and raises what it told of its words or of a device. What wasn't answered yet isn't."""
+        process = self._process
+        assert process.stdin is not None and process.stdout is not None
+        if self._feeder is not None:
+            process.terminate()  # which does nothing to one that has ended
+        elif not process.stdout.closed:
+            _closed(process.stdin)
+            process.stdout.read()
+        status = process.wait()
+        _closed(process.stdout)
+        if not self._said.closed:
+            self._said.seek(0)
+            said = self._said.read().decode(errors="replace").strip()
+            self._said.close()
+            if status > 1:
+                raise OSError(said or f"wire ended with status {status}")
 
-    def _raise_for(self, status: int) -> None:
-        if status > 1:
-            told = self._process.stderr.read() if self._process.stderr is not None and not self._process.stderr.closed else b""
-            raise OSError(told.decode(errors="replace").strip() or f"wire ended with status {status}")
-
-    def _feed(self, source: BinaryIO) -> None:
-        read = getattr(source, "read1", source.read)
+    def _feed(self, source: Any, ends: bool) -> None:
         assert self._process.stdin is not None
         try:
-            while piece := read(4096):
+            for piece in _pieces(source, ends):
                 self._process.stdin.write(piece)
                 self._process.stdin.flush()
-        except BrokenPipeError:
+        except (BrokenPipeError, ValueError):  # it ended, or was closed
             pass
+        except BaseException as failure:
+            self._failure = failure
         finally:
-            self._process.stdin.close()
+            _closed(self._process.stdin)

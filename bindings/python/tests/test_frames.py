@@ -1,9 +1,14 @@
 """Tests of the package against an encoder of its own, its wheel, and typed messages. usage: test_frames.py [FOLDER]"""
+import fcntl
 import io
 import os
 import random
+import select
+import struct
 import subprocess
 import sys
+import termios
+import tty
 import zipfile
 
 import frames
@@ -93,6 +98,45 @@ def test_listen():
     assert list(frames.listen(io.BytesIO(b"\0\x04pay\0"), limit=8, plain=True)) == [b"pay"]
 
 
+class Port:
+    """A serial port as pyserial's `Serial` behaves with a timeout, over a terminal."""
+
+    def __init__(self, descriptor, timeout):
+        self.descriptor, self.timeout = descriptor, timeout
+
+    @property
+    def in_waiting(self):
+        return struct.unpack("I", fcntl.ioctl(self.descriptor, termios.FIONREAD, b"\0" * 4))[0]
+
+    def read(self, size=1):
+        out = b""
+        while len(out) < size and select.select([self.descriptor], [], [], self.timeout)[0]:
+            out += os.read(self.descriptor, size - len(out))
+        return out
+
+    def write(self, out):
+        return os.write(self.descriptor, out)
+
+    def flush(self):
+        termios.tcdrain(self.descriptor)
+
+
+def test_port():
+    here, there = os.openpty()
+    tty.setraw(here), tty.setraw(there)
+    device, host, sender = Port(there, 0.01), Port(here, 0.01), frames.Sender()
+    heard = frames.listen(host, limit=64, ends=False)
+    for message in (b"first", b"", bytes(range(32))):
+        sender.write(device, message)
+        assert next(heard) == message
+    device.write(sender.send(b"breaks off")[:6])
+    sender.write(device, b"behind it")
+    assert [next(heard), next(heard)] == [frames.Damaged(6), b"behind it"]
+    device.write(sender.send(b"at the end")[:4])
+    assert list(frames.listen(host, limit=64)) == [frames.Cut(4)]
+    os.close(here), os.close(there)
+
+
 def test_wheel(folder):
     here = os.path.dirname(os.path.dirname(os.path.abspath(__file__)))
     wheels, site = os.path.join(folder, "wheels"), os.path.join(folder, "site")
@@ -107,10 +151,22 @@ def test_wheel(folder):
     assert done.stdout == "036869\n"
 
 
+class Failing:
+    """A source that gives bytes, and then fails."""
+
+    def __init__(self, stream):
+        self.stream = stream
+
+    def read(self, size):
+        if not self.stream:
+            raise EOFError("the line is gone")
+        piece, self.stream = self.stream[:size], self.stream[size:]
+        return piece
+
+
 def test_typed(folder):
     wire = os.environ.get("WIRE")
     if not wire:
-        print("bindings: not run: typed messages, since crates/wire/out/wire isn't there")
         return
     path = os.path.join(folder, "lamp.rs")
     with open(path, "w", encoding="utf-8") as file:
@@ -124,10 +180,32 @@ def test_typed(folder):
     with typed.TypedReceiver(path, "Reading", wire=wire) as receiver:
         assert list(receiver.listen(io.BytesIO(stream))) == answers
     assert typed.TypedReceiver(path, "Reading", wire=wire).answers(stream) == answers
-    for call in (lambda: typed.write(path, "Reading", [{"level": 1}], wire=wire), lambda: typed.TypedReceiver(path, "No", wire=wire).answers(b"")):
+    # what the declarations are refused for is told, whichever call meets it; and a source's own failure comes behind what it gave
+    for call in (
+        lambda: typed.TypedReceiver(path, "No", wire=wire).answers(b""),
+        lambda: list(typed.TypedReceiver(path, "No", wire=wire).listen(io.BytesIO(stream))),
+        lambda: typed.TypedReceiver(path, "No", wire=wire).close(),
+    ):
         try:
             call()
-        except (ValueError, OSError):
+        except OSError as error:
+            assert "No" in str(error), error
+            continue
+        raise AssertionError("not refused")
+    heard = []
+    try:
+        for answer in typed.TypedReceiver(path, "Reading", wire=wire).listen(Failing(stream)):
+            heard.append(answer)
+    except EOFError:
+        assert heard == answers
+    else:
+        raise AssertionError("not raised")
+    with typed.TypedReceiver(path, "Reading", wire=wire) as receiver:  # left early
+        assert next(receiver.listen(io.BytesIO(stream * 20000))) == answers[0]
+    for call in (lambda: typed.write(path, "Reading", [{"level": 1}], wire=wire),):
+        try:
+            call()
+        except ValueError:
             continue
         raise AssertionError("not refused")
 
@@ -137,6 +215,7 @@ def main():
     test_codec(rng)
     test_line(rng)
     test_listen()
+    test_port()
     if len(sys.argv) > 1:
         test_wheel(sys.argv[1])
         test_typed(sys.argv[1])

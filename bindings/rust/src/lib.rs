@@ -285,13 +285,43 @@ impl<'a> Receiver<'a> {
         self.event(event)
     }
 
-    /// What a piece brings about, one event after another. A message is lent until the next is asked for, so this isn't an `Iterator`;
-    /// `while let Some(event) = heard.next()` goes over it. What isn't asked for isn't taken.
+    /// What a piece brings about, one event after another. A message is lent until the next is asked for, so this isn't an `Iterator`,
+    /// as [`Receiver::events`] is; `while let Some(event) = heard.next()` goes over it. What isn't asked for isn't taken.
     pub fn hear<'r, 'p>(&'r mut self, piece: &'p [u8]) -> Heard<'r, 'a, 'p> {
         Heard {
             receiver: self,
             rest: piece,
         }
+    }
+
+    /// An iterator over what a piece brings about. Each message is copied to the room, so that it stays while others are asked for. The
+    /// room is to have as many bytes as are begun and as the piece has, so that there is place for each; else nothing is taken. What
+    /// isn't asked for isn't taken.
+    ///
+    /// ```
+    /// use frames::{Event, Receiver};
+    ///
+    /// let line = b"\x00\x04\x02hi\x00\x09?\x00\x04\x02yo\x00";
+    /// let (mut buffer, mut room) = ([0u8; 8], [0u8; 32]);
+    /// let mut receiver = Receiver::new(&mut buffer, 0);
+    /// let messages = receiver.events(line, &mut room).unwrap().filter_map(|event| match event {
+    ///     Event::Message(message) => Some(message),
+    ///     _ => None,
+    /// });
+    /// assert!(messages.eq([b"hi", b"yo"]));
+    /// ```
+    pub fn events<'r, 'p, 'm>(
+        &'r mut self,
+        piece: &'p [u8],
+        room: &'m mut [u8],
+    ) -> Result<Events<'r, 'a, 'p, 'm>, NoRoom> {
+        if room.len().saturating_sub(self.begun()) < piece.len() {
+            return Err(NoRoom);
+        }
+        Ok(Events {
+            heard: self.hear(piece),
+            room,
+        })
     }
 
     /// Hands on each event of a piece.
@@ -384,6 +414,31 @@ impl Heard<'_, '_, '_> {
         let (used, event) = self.receiver.push(self.rest);
         self.rest = self.rest.get(used..).unwrap_or(&[]);
         event
+    }
+}
+
+/// The events of a piece, as an iterator.
+pub struct Events<'r, 'a, 'p, 'm> {
+    heard: Heard<'r, 'a, 'p>,
+    room: &'m mut [u8],
+}
+
+impl<'m> Iterator for Events<'_, '_, '_, 'm> {
+    type Item = Event<'m>;
+
+    fn next(&mut self) -> Option<Event<'m>> {
+        Some(match self.heard.next()? {
+            Event::Message(message) => {
+                // there is room: a message is shorter than its frame, and their frames lie in what was begun and the piece
+                let room = core::mem::take(&mut self.room);
+                let (place, rest) = room.split_at_mut(message.len().min(room.len()));
+                self.room = rest;
+                place.copy_from_slice(&message[..place.len()]);
+                Event::Message(place)
+            }
+            Event::Damaged(length) => Event::Damaged(length),
+            Event::TooLong => Event::TooLong,
+        })
     }
 }
 

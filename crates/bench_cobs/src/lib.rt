@@ -1,7 +1,7 @@
 //! The calls of `cobs` as C functions, for the benchmark in `bench/`.
 #![tactic(auto)]
 
-ghost use Rattle.std.specs.Prelude.{◌≡◌, ◌<◌, length, take, true, false, MatchResult};
+ghost use Rattle.std.specs.Prelude.{◌≡◌, ◌<◌, ◌≤◌, length, take, drop, true, false, MatchResult};
 ghost use Rattle.cobs.specs.Frames.{shortest_frame, part};
 ghost use Rattle.cobs.specs.InPlace.{stretch, in_place, in_place_length, overwritten};
 ghost use Rattle.cobs.specs.Reports.{frame_size};
@@ -155,6 +155,33 @@ pub extern "C" fn cobs_c_decode_in_place_with_sentinel(buf: &mut [u8], sentinel:
     }
 }
 
+/// As `cobs::encode_in_place`.
+#[unsafe(no_mangle)]
+pub extern "C" fn cobs_c_encode_in_place(buffer: &mut [u8], n: usize, sentinel: u8) -> usize
+    requires few { n ≤ 254 }
+    requires room { n < length buffer.old }
+    ensures length { result ≡ length (shortest_frame (take n (drop 1 buffer.old))) }
+    ensures frame { take result buffer.new ≡ frame_for sentinel (take n (drop 1 buffer.old)) }
+{
+    cobs::encode_in_place(buffer, n, sentinel)
+}
+
+/// As `cobs::encoded_length`.
+#[unsafe(no_mangle)]
+pub extern "C" fn cobs_c_encoded_length(source: &[u8]) -> usize
+    ensures { result ≡ length (shortest_frame source.now) }
+{
+    cobs::encoded_length(source)
+}
+
+/// As `cobs::before_sentinel`.
+#[unsafe(no_mangle)]
+pub extern "C" fn cobs_c_before_sentinel(bytes: &[u8], sentinel: u8) -> usize
+    ensures { result ≡ length (stretch (masked sentinel bytes.now)) }
+{
+    cobs::before_sentinel(bytes, sentinel)
+}
+
 /// What was found in a stream: how many messages, how many refusals, and how many bytes the messages have.
 #[repr(C)]
 #[derive(Clone, Copy)]
@@ -197,6 +224,29 @@ pub extern "C" fn cobs_c_stream(stream: &[u8], piece: usize, found: &mut Found) 
     if piece > 0 {
         for bytes in stream.chunks(piece) {
             push_piece(&mut decoder, bytes, &mut counts);
+        }
+    }
+    *found = counts;
+}
+
+/// The same, each byte by itself by `feed`.
+#[unsafe(no_mangle)]
+pub extern "C" fn cobs_c_feed(stream: &[u8], found: &mut Found) {
+    let mut buffer = [0u8; 512];
+    let mut decoder = CobsDecoder::new(&mut buffer);
+    let mut counts = Found {
+        values: 0,
+        refused: 0,
+        sum: 0,
+    };
+    for byte in stream {
+        match decoder.feed(*byte) {
+            Ok(None) => {}
+            Ok(Some(len)) => {
+                counts.values = counts.values.wrapping_add(1);
+                counts.sum = counts.sum.wrapping_add(len as u64);
+            }
+            Err(_) => counts.refused = counts.refused.wrapping_add(1),
         }
     }
     *found = counts;

@@ -7,7 +7,7 @@ ghost use Rattle.calls.specs.Asking.{asker_of, sender_of, number_of, stepped, en
 use crate::client::{CallError, Client};
 use line_io::Outlet;
 use link::{Answer, Sender};
-use postcard::Serialize;
+use postcard::{Readable, Serialize};
 
 impl<W: Outlet, Q: Serialize + Drop, const N: usize> Client<W, Q, N> {
     /// A client whose first call has this number, which is to be above those of all clients before it, and whose requests this
@@ -47,8 +47,8 @@ impl<W: Outlet, Q: Serialize + Drop, const N: usize> Client<W, Q, N> {
     pub fn call(&mut self, request: Q) -> Result<(), CallError>
         ensures called { IsCalled (asker_of self.old) (asker_of self.new) request result
             (sender_of self.new ≡ sender_of self.old)
-            (λ p r. HasSent N (⟦<(u64, Q) as Serialize>⟧.writes p)
-            (⟦<(u64, Q) as Serialize>⟧.valid p)
+            (λ p r. HasSent N (⟦<(u64, Q) as Readable>⟧.form.writes p)
+            (⟦<(u64, Q) as Readable>⟧.form.valid p)
             (sender_place W.line (sender_of self.old))
             (sender_place W.line (sender_of self.new)) r) }
     {
@@ -69,8 +69,8 @@ impl<W: Outlet, Q: Serialize + Drop, const N: usize> Client<W, Q, N> {
     pub fn again(&mut self) -> Result<(), CallError>
         ensures repeated { IsRepeated (asker_of self.old) (asker_of self.new) result
             (sender_of self.new ≡ sender_of self.old)
-            (λ p r. HasSent N (⟦<(u64, Q) as Serialize>⟧.writes p)
-            (⟦<(u64, Q) as Serialize>⟧.valid p)
+            (λ p r. HasSent N (⟦<(u64, Q) as Readable>⟧.form.writes p)
+            (⟦<(u64, Q) as Readable>⟧.form.valid p)
             (sender_place W.line (sender_of self.old))
             (sender_place W.line (sender_of self.new)) r) }
     {

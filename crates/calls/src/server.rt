@@ -6,7 +6,7 @@ ghost use Rattle.calls.specs.Serving.{kept_as, kept_of, sender_of, IsStanding, I
 
 use line_io::Outlet;
 use link::{SendError, Sender};
-use postcard::Serialize;
+use postcard::{Readable, Serialize};
 
 /// What a server is for.
 pub trait Application<Q, R> {
@@ -109,8 +109,8 @@ impl<W: Outlet, Q: PartialEq + Drop, R: Serialize + Drop, const N: usize> Server
         ensures served { IsServed A.executes Q.eq application.old application.new
             (kept_of self.old) (kept_of self.new) number request result }
         ensures replied { IsReplied A.passes (sender_of self.new ≡ sender_of self.old)
-            (λ p r. HasSent N (⟦<(u64, R) as Serialize>⟧.writes p)
-            (⟦<(u64, R) as Serialize>⟧.valid p)
+            (λ p r. HasSent N (⟦<(u64, R) as Readable>⟧.form.writes p)
+            (⟦<(u64, R) as Readable>⟧.form.valid p)
             (sender_place W.line (sender_of self.old))
             (sender_place W.line (sender_of self.new)) r)
             (kept_of self.new) number result }
@@ -152,8 +152,8 @@ impl<W: Outlet, Q: PartialEq + Drop, R: Serialize + Drop, const N: usize> Server
     // Sends the reply that is kept, where there is one.
     fn send_last(&mut self) -> Result<(), SendError>
         ensures sent { (e : Execution Q R) → kept_of self.old ≡ Some e
-            → HasSent N (⟦<(u64, R) as Serialize>⟧.writes (e.number, e.says))
-            (⟦<(u64, R) as Serialize>⟧.valid (e.number, e.says))
+            → HasSent N (⟦<(u64, R) as Readable>⟧.form.writes (e.number, e.says))
+            (⟦<(u64, R) as Readable>⟧.form.valid (e.number, e.says))
             (sender_place W.line (sender_of self.old))
             (sender_place W.line (sender_of self.new)) result }
         ensures kept { kept_of self.new ≡ kept_of self.old }
@@ -171,8 +171,8 @@ impl<W: Outlet, Q: PartialEq + Drop, R: Serialize + Drop, const N: usize> Server
         last: u64,
     ) -> Option<Result<(), SendError>>
         ensures passed { IsPassed (A.passes number last) (sender_of self.new ≡ sender_of self.old)
-            (λ p r. HasSent N (⟦<(u64, R) as Serialize>⟧.writes p)
-            (⟦<(u64, R) as Serialize>⟧.valid p)
+            (λ p r. HasSent N (⟦<(u64, R) as Readable>⟧.form.writes p)
+            (⟦<(u64, R) as Readable>⟧.form.valid p)
             (sender_place W.line (sender_of self.old))
             (sender_place W.line (sender_of self.new)) r) result }
         ensures kept { kept_of self.new ≡ kept_of self.old }

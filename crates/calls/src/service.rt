@@ -7,7 +7,7 @@ ghost use Rattle.calls.specs.ServedLaws.{service_laws};
 use crate::server::{Application, Served, Server};
 use line_io::Outlet;
 use link::{Answer, Hearer, SendError};
-use postcard::Serialize;
+use postcard::{Readable, Serialize};
 
 /// An application and the server that executes its requests.
 #[derive(Drop)]
@@ -53,8 +53,8 @@ impl<Q: PartialEq + Drop, R: Serialize + Drop, A, W: Outlet, const N: usize> Ser
         ensures { TakesAnswer A.executes Q.eq A.passes self.old.application self.new.application
             (kept_of self.old.server) (kept_of self.new.server) self.old.unsent self.new.unsent
             (sender_of self.new.server ≡ sender_of self.old.server)
-            (λ p r. HasSent N (⟦<(u64, R) as Serialize>⟧.writes p)
-            (⟦<(u64, R) as Serialize>⟧.valid p)
+            (λ p r. HasSent N (⟦<(u64, R) as Readable>⟧.form.writes p)
+            (⟦<(u64, R) as Readable>⟧.form.valid p)
             (sender_place W.line (sender_of self.old.server))
             (sender_place W.line (sender_of self.new.server)) r)
             answer }
@@ -74,10 +74,10 @@ impl<
     const N: usize,
 > Hearer<(u64, Q)> for Service<A, W, Q, R, N> {
     ghost hears = { λ old answers new. ServiceHears A.executes Q.eq A.passes W.line
-        ⟦<(u64, R) as Serialize>⟧.writes ⟦<(u64, R) as Serialize>⟧.valid old answers new };
+        ⟦<(u64, R) as Readable>⟧.form.writes ⟦<(u64, R) as Readable>⟧.form.valid old answers new };
 
     ghost laws = { service_laws A.executes Q.eq A.passes W.line
-        ⟦<(u64, R) as Serialize>⟧.writes ⟦<(u64, R) as Serialize>⟧.valid };
+        ⟦<(u64, R) as Readable>⟧.form.writes ⟦<(u64, R) as Readable>⟧.form.valid };
 
     ghost enough = { λ s. false };
 
@@ -85,7 +85,7 @@ impl<
 
     fn hear(&mut self, answer: Answer<(u64, Q)>)
         ensures { ServiceHears A.executes Q.eq A.passes W.line
-            ⟦<(u64, R) as Serialize>⟧.writes ⟦<(u64, R) as Serialize>⟧.valid self.old
+            ⟦<(u64, R) as Readable>⟧.form.writes ⟦<(u64, R) as Readable>⟧.form.valid self.old
             (answer ∷ []) self.new }
     {
         self.take(answer);
@@ -93,7 +93,8 @@ impl<
 
     fn pause(&mut self)
         ensures heard { ServiceHears A.executes Q.eq A.passes W.line
-            ⟦<(u64, R) as Serialize>⟧.writes ⟦<(u64, R) as Serialize>⟧.valid self.old [] self.new }
+            ⟦<(u64, R) as Readable>⟧.form.writes ⟦<(u64, R) as Readable>⟧.form.valid self.old []
+            self.new }
         ensures settles { ⊤ }
     {}
 

@@ -1,5 +1,5 @@
 //! Serving all that a reader gives.
-ghost use Rattle.std.specs.Prelude.{◌≡◌, Some};
+ghost use Rattle.std.specs.Prelude.{◌≡◌, Some, false};
 ghost use Rattle.link.specs.Receivers.{SameTerms};
 ghost use Rattle.link.specs.Each.{HearsOut, MayLackMemory};
 ghost use Rattle.calls.specs.Serving.{ServiceHears};
@@ -8,7 +8,7 @@ use crate::server::Application;
 use crate::service::Service;
 use line_io::{Inlet, Outlet};
 use link::{Decoding, End, MessageReader, Reception};
-use postcard::Serialize;
+use postcard::{Readable, Serialize};
 use std::alloc::Global;
 
 /// Serves the requests among all that a reader gives, to its end or first fault, each as soon as the byte that ends its frame was
@@ -34,8 +34,8 @@ pub fn serve_with<
     service: &mut Service<A, W, Q, R, N>,
 ) -> End
     ensures served { HearsOut D.inside (M.judging messages.now)
-        (ServiceHears A.executes Q.eq A.passes W.line ⟦<(u64, R) as Serialize>⟧.writes
-        ⟦<(u64, R) as Serialize>⟧.valid)
+        (ServiceHears A.executes Q.eq A.passes W.line ⟦<(u64, R) as Readable>⟧.form.writes
+        ⟦<(u64, R) as Readable>⟧.form.valid) (λ _. false)
         (I.line reader.old) (I.line reader.new) receiver.old receiver.new service.old service.new
         (Some result) }
     ensures memory { MayLackMemory (M.judging messages.now).growing (Some result) }

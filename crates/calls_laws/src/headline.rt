@@ -2,7 +2,7 @@
 ghost use Rattle.calls_laws.specs.Headline.{WentOver, RepliesAreRight};
 
 use crate::heard::SentReader;
-use postcard::{Lawful, Readable, Serialize};
+use postcard::{Lawful, Readable};
 
 /// Over two lines that bring a front of what was written, every send perhaps broken off at any byte: a reply with a call's number is,
 /// by `alike`, what the application said when it executed a request alike the one that was called, and it executed it once.
@@ -17,11 +17,11 @@ pub fn calls<Q: Lawful, R: Lawful, M: SentReader<(u64, Q)>, K: SentReader<(u64, 
 )
     ensures { RepliesAreRight Q.form.alike R.form.alike
         (WentOver ⟦<(u64, Q) as Readable>⟧.form.takes (M.judging requests_by.now).holds
-        (M.judging requests_by.now).reads ⟦<(u64, Q) as Serialize>⟧.writes
-        ⟦<(u64, Q) as Serialize>⟧.valid)
+        (M.judging requests_by.now).reads ⟦<(u64, Q) as Readable>⟧.form.writes
+        ⟦<(u64, Q) as Readable>⟧.form.valid)
         (WentOver ⟦<(u64, R) as Readable>⟧.form.takes (K.judging replies_by.now).holds
-        (K.judging replies_by.now).reads ⟦<(u64, R) as Serialize>⟧.writes
-        ⟦<(u64, R) as Serialize>⟧.valid) }
+        (K.judging replies_by.now).reads ⟦<(u64, R) as Readable>⟧.form.writes
+        ⟦<(u64, R) as Readable>⟧.form.valid) }
 {
     requests_by.show_sent();
     replies_by.show_sent();

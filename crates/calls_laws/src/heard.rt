@@ -10,9 +10,9 @@ use postcard::{DeserializeOwned, Exact, Lawful};
 /// at the reader's end, by a fault, or out of memory.
 pub fn heard_was_sent<T: Lawful>()
     ensures ordinary { HearsSent T.form.takes (Holds T.form.takes) T.form.reads T.form.alike
-        T.writes T.valid }
+        T.form.writes T.form.valid }
     ensures strict { HearsSent T.form.takes (HoldsExactly T.form.takes) T.form.reads T.form.alike
-        T.writes T.valid }
+        T.form.writes T.form.valid }
 {
     link_laws::told::<T>();
     link_laws::between::<T>();
@@ -25,7 +25,7 @@ pub trait SentReader<T: Lawful>: MessageReader<T> {
     /// Shows it. It does nothing.
     fn show_sent(&self)
         ensures { HearsSent T.form.takes (Self.judging self.now).holds (Self.judging self.now).reads
-            T.form.alike T.writes T.valid };
+            T.form.alike T.form.writes T.form.valid };
 }
 
 impl<T: Lawful + DeserializeOwned> SentReader<T> for Ordinary<OfType> {

@@ -10,7 +10,7 @@ use calls::{Application, Client, Server, Service, Waiting, serve_with};
 use line_io::Outlet;
 use line_io::memory::In;
 use link::{MessageReader, Receiver, Sender};
-use postcard::Serialize;
+use postcard::{Readable, Serialize};
 use std::alloc::Global;
 
 // Calls, and sends the call so often again.
@@ -20,8 +20,8 @@ fn repeat<Q: Serialize + Drop, W: Outlet, const N: usize>(
     again: usize,
 )
     requires { (asker_of client.old).pending ≡ None }
-    ensures { Repeats N ⟦<(u64, Q) as Serialize>⟧.writes
-        ⟦<(u64, Q) as Serialize>⟧.valid
+    ensures { Repeats N ⟦<(u64, Q) as Readable>⟧.form.writes
+        ⟦<(u64, Q) as Readable>⟧.form.valid
         ((asker_of client.old).next, request) (asker_of client.new).pending
         (sender_place W.line (sender_of client.old))
         (sender_place W.line (sender_of client.new)) }
@@ -44,8 +44,8 @@ pub(crate) fn ask_all<Q: Serialize + Drop, W: Kept, const N: usize>(
     requires some { 0 < N }
     requires empty { (W.line writer).told ≡ Some [] }
     requires client { ClientFitsInMemory W.row Q.row N.row }
-    ensures { AsksOnly N sentinel ⟦<(u64, Q) as Serialize>⟧.writes
-        ⟦<(u64, Q) as Serialize>⟧.valid
+    ensures { AsksOnly N sentinel ⟦<(u64, Q) as Readable>⟧.form.writes
+        ⟦<(u64, Q) as Readable>⟧.form.valid
         (number, request) (asker_of result.0).pending result.1.items }
 {
     let sender = Sender::new_with_sentinel(writer, sentinel);
@@ -82,7 +82,7 @@ pub(crate) fn serve_all<
     requires service { ServiceFitsInMemory A.row W.row Q.row R.row L.row }
     ensures { ServesLine A.executes Q.eq A.passes
         (M.judging messages.now).holds (M.judging messages.now).reads
-        ⟦<(u64, R) as Serialize>⟧.writes ⟦<(u64, R) as Serialize>⟧.valid
+        ⟦<(u64, R) as Readable>⟧.form.writes ⟦<(u64, R) as Readable>⟧.form.valid
         N sentinel L back.sentinel application result.0 requests.now result.1.items }
 {
     let sender = Sender::new_with_sentinel(back.writer, back.sentinel);

@@ -6,7 +6,8 @@ use Rattle.std.proofs.lemmas.Bool.Decides.{eqb_tells}
 use Rattle.std.specs.Prelude.{bit_xor}
 use Rattle.cobs.specs.Frames.{NoZero, part, part_from, after, missing}
 use Rattle.cobs.specs.Feeding.{stands_by, standing, at_zero, placed}
-use Rattle.cobs.specs.InPlace.{overwritten}
+use Rattle.cobs.specs.InPlace.{in_place, overwritten}
+use Rattle.cobs.specs.Reports.{report}
 use Rattle.cobs.specs.Sentinel.{masked}
 use Rattle.cobs.specs.Streaming.{HasStreamed}
 use Rattle.cobs.specs.Taking.{left_in, TakesFront}
@@ -93,6 +94,13 @@ module _ (frame bytes : List ℕ) (code : ℕ) (f : frame ≡ code ∷ bytes) (f
 
     pub window_broken : left_in state ≢ 0 → Err (InvalidFrame n) ≡ decoded_into (length old) frame
     window_broken z = rw (ne_eqb (missing frame) 0 (λ e. z (left ∙ e))) (ap (λ k. Err (InvalidFrame k)) (sym count))
+
+    -- the same as the answer of decoding in place
+    pub window_report : (end : ℕ) → end ≡ length frame → left_in state ≡ 0 → Ok (report end n) ≡ in_place frame
+    window_report end w z = rw (eq-eqb (missing frame) 0 (sym left ∙ z), w, count) refl
+
+    pub window_refused : left_in state ≢ 0 → Err (InvalidFrame n) ≡ in_place frame
+    window_refused z = rw (ne_eqb (missing frame) 0 (λ e. z (left ∙ e)), count) refl
 
     pub window_over : (new : List ℕ) → new ≡ out ++ drop n old → new ≡ overwritten (part frame) old
     window_over new put =

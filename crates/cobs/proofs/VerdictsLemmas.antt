@@ -1,12 +1,12 @@
 -- What an answer says of the frame: its message, or that it has none or one that is too long.
-use Rattle.std.proofs.Common.{◌≡◌, ◌≢◌, ℕ, zero, suc, ◌+◌, ◌-◌, ◌<◌, ◌≤◌, List, [], ◌∷◌, ◌++◌, length, take, get_or, Result, Some, Ok, Err, inl, inr, refl, ap, sym, subst, ◌∙◌, arith}
+use Rattle.std.proofs.Common.{◌≡◌, ◌≢◌, ℕ, zero, suc, ◌+◌, ◌-◌, ◌<◌, ◌≤◌, List, [], ◌∷◌, ◌++◌, length, take, drop, get_or, Result, Some, Ok, Err, inl, inr, refl, ap, sym, subst, ◌∙◌, arith}
 use Rattle.std.proofs.lemmas.Bool.{eq-eqb, ne_eqb, le-ltb, lt-ltb, cases_lt}
 use Rattle.std.proofs.lemmas.Bool.Decides.{eqb_tells}
 use Rattle.std.proofs.lemmas.Nat.{xor_of_8}
 use Rattle.std.specs.Prelude.{min, IfOk, IfErr, OnErr, MatchResult, ◌⊎◌}
 use Rattle.cobs.specs.Frames.{Frame, NoZero, part, missing, spelled}
 use Rattle.cobs.specs.Feeding.{at_zero}
-use Rattle.cobs.specs.InPlace.{stretch, overwritten}
+use Rattle.cobs.specs.InPlace.{stretch, in_place, overwritten}
 use Rattle.cobs.specs.Pieces.{first_answer}
 use Rattle.cobs.specs.Reports.{report, frame_size}
 use Rattle.cobs.specs.Sentinel.{masked}
@@ -19,8 +19,9 @@ use Rattle.cobs.specs.declared.dec.report.DecodeError.TheVariants.{EmptyFrame, I
 use Rattle.cobs.specs.declared.dec.report.DecodeReport.{DecodeReport}
 use Rattle.cobs.specs.declared.dec.report.DecodeVecError.{DecodeVecError}
 use Rattle.cobs.specs.declared.dec.report.DecodeVecError.TheVariants.{Decode, OutOfMemory}
-use Rattle.cobs.proofs.DecodingLemmas.{Stretch, stretch_frame, frame_reads, frame_ends}
-use Rattle.cobs.proofs.OverwritingLemmas.{front}
+use Rattle.cobs.proofs.DecodingLemmas.{Stretch, part_shorter, stretch_frame, frame_reads, frame_ends}
+use Rattle.cobs.proofs.MaskingLemmas.{masked_length}
+use Rattle.cobs.proofs.OverwritingLemmas.{front, rest}
 use Rattle.cobs.proofs.PassingLemmas.{refuses}
 use Rattle.cobs.proofs.PushingLemmas.{short_refused, short_whole}
 use Rattle.cobs.proofs.SourcesLemmas.{stretch_clear}
@@ -107,6 +108,43 @@ module _ (p old : List ℕ) where
     room = room;
     idle = idle;
   }
+
+-- what decoding in place answers, by frames, and what it leaves
+shorter_stretch : (bytes : List ℕ) → length (stretch bytes) ≤ length bytes
+shorter_stretch [] = omega arith
+shorter_stretch (b ∷ bytes) = elim (eqb_tells b 0) [
+  | inl t ↦ rw (eq-eqb b 0 t.1) (omega arith)
+  | inr t ↦ rw (ne_eqb b 0 t.1) (omega (arith, shorter_stretch bytes))
+]
+
+module _ (s : ℕ) (old new : List ℕ) (key : s < 256) (small : (k : ℕ) → get_or old k 0 < 256) (h : new ≡ overwritten (part (stretch (masked s old))) old) where
+  abbrev met : List ℕ
+  met = stretch (masked s old)
+
+  met_within : length met ≤ length old
+  met_within = omega (arith, shorter_stretch (masked s old), masked_length s old)
+
+  pub in_place_frame : (r : Result DecodeReport DecodeError) → r ≡ in_place met → IfOk r (λ q. met ≢ [] → Frame met (take (frame_size q) new))
+  in_place_frame (Err x) a = tt
+  in_place_frame (Ok q) a = λ some. elim (eqb_tells (missing met) 0) [
+    | inl t ↦
+        let is : ◌≡◌ {A = Result DecodeReport DecodeError} (Ok q) (Ok (report (length met) (length (part met)))) = a ∙ rw (eq-eqb (missing met) 0 t.1) refl in
+        let same : q ≡ report (length met) (length (part met)) = cc in
+        let n : frame_size q ≡ length (part met) = ap frame_size same in
+        subst (Frame met) (sym (ap (take (frame_size q)) h ∙ front old (part met) (frame_size q) n (omega (arith, n, part_shorter met, met_within)))) (stretch_frame met (stretch_masked s old key small) some t.1)
+    | inr t ↦
+        let is : ◌≡◌ {A = Result DecodeReport DecodeError} (Ok q) (Err (InvalidFrame (length (part met)))) = a ∙ rw (ne_eqb (missing met) 0 t.1) refl in
+        absurd (cc)
+  ]
+
+  pub in_place_no_frame : (r : Result DecodeReport DecodeError) → r ≡ in_place met → OnErr r ((m : List ℕ) → Frame met m → ⊥)
+  in_place_no_frame (Ok q) a = tt
+  in_place_no_frame (Err x) a = λ m f.
+      let is : ◌≡◌ {A = Result DecodeReport DecodeError} (Err x) (Ok (report (length met) (length (part met)))) = a ∙ rw (eq-eqb (missing met) 0 (frame_ends met m f)) refl in
+      absurd (cc)
+
+  pub in_place_rest : drop (length met) new ≡ drop (length met) old
+  in_place_rest = ap (drop (length met)) h ∙ rest old (part met) (length met) (omega (arith, part_shorter met)) met_within
 
 -- bytes without the sentinel, each XORed with it
 clear_bytes : (p : List ℕ) → NoZero p → ((k : ℕ) → get_or p k 0 < 256) → Stretch p

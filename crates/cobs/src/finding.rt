@@ -89,6 +89,19 @@ fn before_far(bytes: &[u8], sentinel: u8) -> usize
     256 + memchr(sentinel, rest).unwrap_or(rest.len())
 }
 
+// The same of many bytes whose first 256 hold none.
+#[inline(always)]
+pub(crate) fn before_behind(bytes: &[u8], sentinel: u8) -> usize
+    requires many { 256 ≤ length bytes.now }
+    requires clear { (k : ℕ) → k < 256 → slice_index bytes.now k ≢ sentinel }
+    ensures within { result ≤ length bytes.now }
+    ensures none { (k : ℕ) → k < result → slice_index bytes.now k ≢ sentinel }
+    ensures end { result < length bytes.now → slice_index bytes.now result ≡ sentinel }
+{
+    let (_front, behind) = bytes.split_at(256);
+    256 + memchr(sentinel, behind).unwrap_or(behind.len())
+}
+
 // The same of 8 bytes and more, by what is quicker.
 #[inline(always)]
 fn before_many(bytes: &[u8], sentinel: u8) -> usize
@@ -141,7 +154,19 @@ pub fn before_sentinel(bytes: &[u8], sentinel: u8) -> usize
     }
 }
 
-// The same, and that a byte is below 256, which nothing else says of a buffer that is lent on.
+// The same of at most 64 bytes, and that a byte is below 256, which nothing else says of a buffer that is lent on.
+#[inline(always)]
+pub(crate) fn few_end(bytes: &[u8], sentinel: u8) -> usize
+    requires { length bytes.now ≤ 64 }
+    ensures within { result ≤ length bytes.now }
+    ensures none { (k : ℕ) → k < result → slice_index bytes.now k ≢ sentinel }
+    ensures end { result < length bytes.now → slice_index bytes.now result ≡ sentinel }
+    ensures bytes { (k : ℕ) → slice_index bytes.now k < 256 }
+{
+    before_few(bytes, sentinel)
+}
+
+// The same of any number.
 #[inline(always)]
 pub(crate) fn end_in(bytes: &[u8], sentinel: u8) -> usize
     ensures within { result ≤ length bytes.now }

@@ -345,6 +345,8 @@ fn move_few(buffer: &mut [u8], from: usize, n: usize, place: usize, sentinel: u8
         move_ends::<16>(buffer, from, n, place, sentinel);
     } else if 8 <= n {
         move_ends::<8>(buffer, from, n, place, sentinel);
+    } else if 4 <= n {
+        move_ends::<4>(buffer, from, n, place, sentinel);
     } else {
         move_bytes(buffer, from, n, place, sentinel);
     }

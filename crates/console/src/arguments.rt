@@ -44,8 +44,8 @@ impl Options {
     }
 }
 
-// The words: options, each a name and a value, and a command behind them.
-fn arguments_of(rt: &HostRuntime, words: &[String]) -> Option<Arguments> {
+/// What the words say, where they are right: options, each a name and a value, and a command behind them.
+pub fn arguments_of(rt: &HostRuntime, words: &[String]) -> Option<Arguments> {
     let mut options = Options {
         numbers: None,
         again: 0,
@@ -67,11 +67,11 @@ fn arguments_of(rt: &HostRuntime, words: &[String]) -> Option<Arguments> {
     })
 }
 
-/// What the words say, where they are right and can be read.
-pub fn read_arguments(rt: &HostRuntime) -> Option<Arguments> {
+/// The words after the program's name, where they can be read.
+pub fn words_of(rt: &HostRuntime) -> Option<Vec<String>> {
     let mut words: Vec<String> = Vec::new(rt.alloc());
     for word in env::args(rt).ok()?.skip(1) {
         words.push(word).ok()?;
     }
-    arguments_of(rt, &words)
+    Some(words)
 }

@@ -2,12 +2,15 @@
 //! error. It is sent again, by the same number, where reading ends without a reply, as often as the caller allows.
 #![tactic(auto)]
 
+mod about;
 mod arguments;
 mod asking;
 mod numbers;
 
-use arguments::{Arguments, Numbers, read_arguments};
+use about::ABOUT;
+use arguments::{Arguments, Numbers, arguments_of, words_of};
 use asking::{Outcome, ask};
+use help::answer;
 use numbers::{skip_past, take_number};
 use std::fs::{File, OpenOptions};
 use std::io;
@@ -74,10 +77,9 @@ fn call(rt: &HostRuntime, arguments: &Arguments, number: u64) -> io::Result<u8> 
     }
 }
 
-// Does what the words after the program's name say; the status of the program.
-fn run(rt: &HostRuntime) -> io::Result<u8> {
-    let _streams = (hold_stream(rt)?, hold_stream(rt)?, hold_stream(rt)?);
-    let Some(arguments) = read_arguments(rt) else {
+// Does what the words say; the status of the program.
+fn run_by(rt: &HostRuntime, words: &[String]) -> io::Result<u8> {
+    let Some(arguments) = arguments_of(rt, words) else {
         eprintln!(rt; "{USAGE}")?;
         return Ok(2);
     };
@@ -90,6 +92,19 @@ fn run(rt: &HostRuntime) -> io::Result<u8> {
                 Ok(3)
             }
         },
+    }
+}
+
+// The same of the words after the program's name, or what they ask of the program itself.
+fn run(rt: &HostRuntime) -> io::Result<u8> {
+    let _streams = (hold_stream(rt)?, hold_stream(rt)?, hold_stream(rt)?);
+    let Some(words) = words_of(rt) else {
+        eprintln!(rt; "{USAGE}")?;
+        return Ok(2);
+    };
+    match answer(&mut rt.stdout(), ABOUT, &words) {
+        Some(status) => Ok(status),
+        None => run_by(rt, &words),
     }
 }
 

@@ -2,6 +2,9 @@
 use crate::declaration::Marks;
 use crate::tokens::{Token, is_among, is_comment_mark};
 
+/// What marks where it stands in a derive, or before a name there.
+const RENAMED: &[&str] = &["Deserialize", "Serialize", "serde", "serde_derive"];
+
 /// The text of the first of these tokens; nothing where there is none.
 pub fn first_word(tokens: &[Token]) -> &str {
     match tokens {
@@ -142,6 +145,38 @@ pub fn has_derive(words: &[Token]) -> bool {
         is_derive = word == "derive" || (is_derive && word != ")" && word != "]");
     }
     false
+}
+
+/// Whether a derive among these words has this name.
+fn is_derived(words: &[Token], name: &str) -> bool {
+    let mut is_derive = false;
+    for token in words {
+        let word = token.text.as_str();
+        if is_derive && word == name {
+            return true;
+        }
+        is_derive = word == "derive" || (is_derive && word != ")" && word != "]");
+    }
+    false
+}
+
+/// Another name of serde or of a derive of it, which a `use` brings in and a derive has.
+pub fn renamed_derive(tokens: &[Token]) -> Option<&Token> {
+    let mut rest = tokens;
+    for _ in 0..tokens.len() {
+        let [own, behind @ ..] = rest else {
+            break;
+        };
+        if let [by, name, ..] = behind
+            && by.text.as_str() == "as"
+            && is_among(own.text.as_str(), RENAMED)
+            && is_derived(tokens, name.text.as_str())
+        {
+            return Some(name);
+        }
+        rest = behind;
+    }
+    None
 }
 
 /// Whether a derive's name is one of serde's, by what stands before it.

@@ -74,6 +74,10 @@ pub struct Marks {
 /// A message type.
 #[derive(Drop)]
 pub struct Declaration<'a> {
+    /// Its comments and attributes.
+    pub attributes: &'a [Token],
+    /// The words behind these.
+    pub words: &'a [Token],
     pub name: &'a str,
     /// The file that it stands in.
     pub file: &'a Read,

@@ -1,4 +1,6 @@
 //! What is wrong, a line each.
+ghost use Rattle.std.specs.Prelude.{◌≡◌, [], false, string_bytes, IfOk, IsTrue};
+
 use std::alloc::{AllocError, Global};
 use std::fmt::Write;
 
@@ -13,8 +15,12 @@ pub struct Faults<'a> {
 }
 
 impl<'a> Faults<'a> {
+    ghost use Rattle.declaration_parser.specs.Silent.{SaysNothing};
+
     /// Nothing is wrong.
-    pub fn new(alloc: Global) -> Faults<'a> {
+    pub fn new(alloc: Global) -> Faults<'a>
+        ensures { SaysNothing result }
+    {
         Faults {
             whole: String::new(alloc),
             file: "",
@@ -23,31 +29,42 @@ impl<'a> Faults<'a> {
     }
 
     /// What is noted from now on is of this file.
-    pub fn turn_to(&mut self, file: &'a str) {
+    pub fn turn_to(&mut self, file: &'a str)
+        ensures { SaysNothing self.new → SaysNothing self.old }
+    {
         self.file = file;
     }
 
     /// Appends a piece.
-    pub fn put(&mut self, piece: &str) {
+    pub fn put(&mut self, piece: &str)
+        ensures silent { SaysNothing self.new → SaysNothing self.old }
+        ensures piece { SaysNothing self.new → piece.now ≡ [] }
+    {
         let failed = self.whole.push_str(piece).is_err();
         self.note(failed);
     }
 
     /// Appends these pieces.
-    pub fn put_all(&mut self, pieces: &[&str]) {
+    pub fn put_all(&mut self, pieces: &[&str])
+        ensures { SaysNothing self.new → SaysNothing self.old }
+    {
         for piece in pieces {
             self.put(piece);
         }
     }
 
     /// Appends a number.
-    pub fn put_number(&mut self, number: usize) {
+    pub fn put_number(&mut self, number: usize)
+        ensures { SaysNothing self.new → SaysNothing self.old }
+    {
         let failed = write!(self.whole, "{number}").is_err();
         self.note(failed);
     }
 
     /// Appends how what is said of a line begins: with its file, if that has a name.
-    pub fn put_line_number(&mut self, line: usize) {
+    pub fn put_line_number(&mut self, line: usize)
+        ensures { ¬ SaysNothing self.new }
+    {
         if !self.file.is_empty() {
             self.put(self.file);
             self.put(": ");
@@ -58,17 +75,33 @@ impl<'a> Faults<'a> {
     }
 
     /// Notes whether memory ran out for something.
-    pub fn note(&mut self, failed: bool) {
+    pub fn note(&mut self, failed: bool)
+        ensures silent { SaysNothing self.new → SaysNothing self.old }
+        ensures failed { SaysNothing self.new → failed ≡ false }
+    {
         self.failed = self.failed || failed;
     }
 
+    /// Appends what others say.
+    pub fn add(&mut self, others: Faults<'_>)
+        ensures silent { SaysNothing self.new → SaysNothing self.old }
+        ensures others { SaysNothing self.new → SaysNothing others.entry }
+    {
+        self.note(others.failed);
+        self.put(others.whole.as_str());
+    }
+
     /// Whether nothing is wrong.
-    pub fn is_empty(&self) -> bool {
+    pub fn is_empty(&self) -> bool
+        ensures { SaysNothing self.now → IsTrue result }
+    {
         self.whole.is_empty()
     }
 
     /// The lines, if there was memory for them.
-    pub fn finished(self) -> Result<String, AllocError> {
+    pub fn finished(self) -> Result<String, AllocError>
+        ensures { IfOk result (λ s. string_bytes s ≡ [] → SaysNothing self.entry) }
+    {
         if self.failed {
             return Err(AllocError);
         }

@@ -1,14 +1,16 @@
 //! Declarations of message types, read from Rust: those structs and enums that are marked, by a comment `// message` in a
 //! line before one, or by the names `Serialize` and `Deserialize` among its derives.
 //!
-//! [`tokens_of`](tokens::tokens_of) reads a text, [`declarations`](parser::declarations) what is declared; what can't be taken is
+//! [`tokens_of`](tokens::tokens_of) reads a text, [`declarations`](reading::declarations) what is declared; what can't be taken is
 //! said by its line.
 #![tactic(auto)]
 
 pub mod attributes;
 pub mod declaration;
 pub mod faults;
+mod head;
 mod marks;
 pub mod parser;
+pub mod reading;
 pub mod tokens;
 mod words;

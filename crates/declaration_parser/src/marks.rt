@@ -1,4 +1,7 @@
 //! Comments that mark a declaration, and those that seem meant to.
+ghost use Rattle.std.specs.Prelude.{◌≡◌};
+ghost use Rattle.declaration_parser.specs.Marked.{is_marking};
+
 use crate::tokens::is_of_word;
 
 /// What marks a declaration.
@@ -14,8 +17,10 @@ const COMMON: usize = 5;
 const LONGEST: usize = 9;
 
 /// Whether a line marks the declaration behind it.
-pub fn is_mark(line: &str) -> bool {
-    line == "// message" || line.starts_with("// message:")
+pub fn is_mark(line: &str) -> bool
+    ensures { result ≡ is_marking line.now }
+{
+    line.as_bytes() == b"// message".as_slice() || line.as_bytes().starts_with(b"// message:")
 }
 
 /// Whether a comment, which begins with its slashes, is almost a mark: it begins with a word like `message`, and behind that

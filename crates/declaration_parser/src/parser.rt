@@ -1,30 +1,17 @@
 //! From tokens to declarations.
 use crate::attributes::{
-    add_marks, attribute, closed, first_part, first_word, has_derive, has_mark, held, last_word,
-    opens, passed_over, same_words,
+    attribute, closed, first_part, first_word, has_mark, held, last_word, opens, same_words,
 };
 use crate::declaration::{Body, Declaration, Field, Fields, Form, Layout, Marks, VariantOf};
 use crate::faults::Faults;
+use crate::head::Head;
 use crate::tokens::{Read, Token, first_letter, is_among, is_comment_mark, is_lifetime};
 use crate::words::{
-    ALMOST, BY_HAND, HAS_BY_ITSELF, HIDDEN_MARK, HOLDS_ITSELF, IN_MACRO, IN_PATH, MOST_FIELDS,
-    NO_BOUNDS, NO_BYTES, NO_MARK, NO_MESSAGES, NO_MESSAGES_MARKED, OF_IMPLEMENTATIONS, OF_ITEMS,
-    OF_POSTCARD, OF_SERDE, ON_SOME_DEVICES, ONE_SIDE, OTHER_CONDITION, PLAIN, REPR, TOO_MANY,
-    UNKNOWN,
+    BY_HAND, HIDDEN_MARK, HOLDS_ITSELF, IN_PATH, MOST_FIELDS, NO_BOUNDS, NO_BYTES, NO_MESSAGES,
+    OF_IMPLEMENTATIONS, OF_ITEMS, OF_POSTCARD, OF_SERDE, ON_SOME_DEVICES, ONE_SIDE,
+    OTHER_CONDITION, PLAIN, REPR, TOO_MANY, UNKNOWN,
 };
-use std::alloc::{AllocError, Global};
-
-/// The marks of a declaration that is not marked.
-const UNMARKED: Marks = Marks {
-    written: false,
-    read: false,
-};
-
-/// The marks of a declaration that is written and read.
-const BOTH: Marks = Marks {
-    written: true,
-    read: true,
-};
+use std::alloc::Global;
 
 /// What declarations are read for.
 #[derive(Clone, Copy, Debug, PartialEq, Eq, Drop)]
@@ -35,10 +22,10 @@ pub enum Purpose {
     Schemas,
 }
 
-/// Reads declarations from the front of tokens. What is wrong is noted and hides the tokens behind it, so that the calls that
+/// Reads a declaration from the front of tokens. What is wrong is noted and hides the tokens behind it, so that the calls that
 /// follow take nothing and note nothing: so those who read need not ask after each step.
 #[derive(Drop)]
-struct Parser<'a> {
+pub struct Parser<'a> {
     alloc: Global,
     purpose: Purpose,
     rest: &'a [Token],
@@ -95,6 +82,16 @@ pub fn is_declared(tokens: &[Token], name: &str) -> bool {
 /// A name without what makes it one.
 pub fn plain_name(word: &str) -> &str {
     word.strip_prefix("r#").unwrap_or(word)
+}
+
+/// What is said of a type of std that no message can hold.
+fn no_message(word: &str) -> Option<&'static str> {
+    for (name, why) in NO_MESSAGES {
+        if *name == word {
+            return Some(*why);
+        }
+    }
+    None
 }
 
 /// Whether a word stands for no type: a lifetime, a number or a mark.
@@ -187,26 +184,50 @@ fn depth_behind(word: &str, depth: usize) -> Option<usize> {
     })
 }
 
+/// The line of the last of these tokens.
+fn last_line(tokens: &[Token]) -> usize {
+    match tokens {
+        [.., token] => token.line,
+        _ => 0,
+    }
+}
+
 impl<'a> Parser<'a> {
-    /// At the first token of a file, behind what is wrong in others.
-    fn new(alloc: Global, purpose: Purpose, file: &'a Read, faults: Faults<'a>) -> Parser<'a> {
-        Parser {
+    /// Behind what marks a declaration.
+    pub fn new(alloc: Global, purpose: Purpose, file: &'a Read, head: &Head<'a>) -> Parser<'a> {
+        let mut parser = Parser {
             alloc,
             purpose,
-            rest: &file.tokens,
-            line: 0,
+            rest: head.behind,
+            line: last_line(head.attributes),
             name: "",
-            marks: UNMARKED,
-            condition: &[],
-            is_derived: true,
+            marks: head.marking.marks,
+            condition: head.marking.condition,
+            is_derived: head.marking.is_derived,
             file,
             checks: purpose == Purpose::Implementations,
             variant: "",
             field: None,
-            faults,
+            faults: Faults::new(alloc),
             is_wrong: false,
             hidden: &[],
+        };
+        parser.faults.turn_to(file.file.as_str());
+        if let Some(mark) = head.marking.wrong {
+            parser.line = mark.line;
+            parser.refuse(mark.word, mark.why);
         }
+        parser
+    }
+
+    /// The tokens that weren't read, and what is wrong.
+    pub fn finished(self) -> (&'a [Token], Faults<'a>) {
+        let left = if self.is_wrong {
+            self.hidden
+        } else {
+            self.rest
+        };
+        (left, self.faults)
     }
 
     /// The next token, which stays; nothing at the end.
@@ -284,16 +305,6 @@ impl<'a> Parser<'a> {
     /// Notes why a word is wrong: what is said behind it.
     fn refuse(&mut self, word: &str, why: &str) {
         self.wrong(&["`", word, why]);
-    }
-
-    /// Goes on behind what was wrong, if anything was.
-    fn recover(&mut self) {
-        if self.is_wrong {
-            self.is_wrong = false;
-            self.rest = self.hidden;
-            self.variant = "";
-            self.field = None;
-        }
     }
 
     /// Appends to a list, unless something is wrong.
@@ -452,6 +463,7 @@ impl<'a> Parser<'a> {
             }
             ("skip_serializing", "") if is_field => said.not_written = true,
             ("skip_deserializing", "") if is_field => said.not_read = true,
+            ("skip_serializing_if", _) if is_field && !self.marks.written => {}
             _ => self.refuse_serde(name),
         }
     }
@@ -519,14 +531,13 @@ impl<'a> Parser<'a> {
         if word == self.name && self.implements() {
             return Some(HOLDS_ITSELF);
         }
-        let is_refused = is_among(word, NO_MESSAGES) && !is_declared(&self.file.tokens, word);
         if is_small(word) || in_path {
             return Some(IN_PATH);
         }
-        if is_refused {
-            return Some("` can't stand in the type of a field");
+        match no_message(word) {
+            Some(why) if !is_declared(&self.file.tokens, word) => Some(why),
+            _ => None,
         }
-        None
     }
 
     /// Refuses a reference without a lifetime, and a word that can't stand in the type of a field.
@@ -885,7 +896,7 @@ impl<'a> Parser<'a> {
     }
 
     /// Takes a declaration, behind its attributes.
-    fn declaration(&mut self, attributes: &'a [Token]) -> Declaration<'a> {
+    pub fn declaration(&mut self, attributes: &'a [Token]) -> Declaration<'a> {
         self.visibility();
         let is_enum = self.is_enum();
         let name = self.type_name();
@@ -895,6 +906,8 @@ impl<'a> Parser<'a> {
         let (parameters, lengths) = self.parameters();
         let body = self.body(is_enum);
         Declaration {
+            attributes,
+            words: &[],
             name,
             file: self.file,
             line,
@@ -916,151 +929,4 @@ impl<'a> Parser<'a> {
             self.refuse(by_hand, BY_HAND);
         }
     }
-
-    /// Takes a word behind `// message:`.
-    fn mark(&mut self, word: &str) {
-        match word {
-            "Serialize" => self.marks.written = true,
-            "Deserialize" => self.marks.read = true,
-            "MaxSize" | "MaxWritten" | "Exact" => self.refuse(word, HAS_BY_ITSELF),
-            _ => self.refuse(word, NO_MARK),
-        }
-    }
-
-    /// Takes the words of a token `// message`, which mark the next declaration.
-    fn marks(&mut self, token: &str) {
-        let Some((_, words)) = token.split_once(':') else {
-            self.marks = BOTH;
-            return;
-        };
-        for word in words.split(',') {
-            self.mark(word.trim());
-        }
-    }
-
-    /// Takes comments that mark and attributes, up to something else, and adds up what they mark; gives all of them.
-    fn item_marks(&mut self) -> &'a [Token] {
-        self.name = "";
-        self.marks = UNMARKED;
-        self.condition = &[];
-        self.is_derived = true;
-        let begun = self.rest;
-        for _ in 0..begun.len() {
-            let word = self.peek();
-            if let Some((words, behind)) = attribute(self.rest) {
-                if let Some(condition) = add_marks(words, &mut self.marks) {
-                    self.condition = condition;
-                }
-                self.step();
-                self.rest = behind;
-            } else if is_comment_mark(word) {
-                self.step();
-                self.marks(word);
-                self.is_derived = false;
-            } else if word.starts_with("//") {
-                self.step();
-            } else {
-                break;
-            }
-        }
-        let length = begun.len().saturating_sub(self.rest.len());
-        begun.get(..length).unwrap_or(&[])
-    }
-
-    /// Refuses a comment that is almost a mark, and a mark that is hidden in an attribute, before what isn't marked.
-    fn check_unmarked(&mut self, attributes: &'a [Token]) {
-        let is_declaration = begins_declaration(self.rest);
-        for token in attributes {
-            let word = token.text.as_str();
-            if is_comment_mark(word) || (is_declaration && word.starts_with("//")) {
-                self.faults.put_line_number(token.line);
-                self.faults.put_all(&["`", word, ALMOST]);
-            }
-        }
-    }
-
-    /// Takes tokens up to what is marked, and gives its attributes, if anything is.
-    fn finds_mark(&mut self) -> Option<&'a [Token]> {
-        for _ in 0..self.rest.len() {
-            let attributes = self.item_marks();
-            if self.marks.written || self.marks.read || self.is_wrong {
-                return Some(attributes);
-            }
-            self.check_unmarked(attributes);
-            self.pass_over();
-        }
-        None
-    }
-
-    /// Takes a token, or a call of a macro with all that it holds, where a mark marks nothing.
-    fn pass_over(&mut self) {
-        let group = passed_over(self.rest);
-        let word = self.step();
-        let Some((inside, behind)) = group else {
-            return;
-        };
-        self.rest = behind;
-        if has_mark(inside) || (word != "macro_rules" && has_derive(inside)) {
-            self.refuse(word, IN_MACRO);
-            self.recover();
-        }
-    }
-}
-
-/// Whether a struct or an enum stands at the front of these tokens.
-fn begins_declaration(tokens: &[Token]) -> bool {
-    let rest = match tokens {
-        [public, open, rest @ ..] if public.text.as_str() == "pub" && open.text.as_str() == "(" =>
-            match closed(rest) {
-                Some((_, behind)) => behind,
-                None => return false,
-            },
-        [public, rest @ ..] if public.text.as_str() == "pub" => rest,
-        _ => tokens,
-    };
-    is_among(first_word(rest), &["struct", "enum"])
-}
-
-/// The marked declarations of a file, behind those of others.
-fn add_declarations<'a>(
-    alloc: Global,
-    purpose: Purpose,
-    file: &'a Read,
-    found: &mut Vec<Declaration<'a>>,
-    faults: Faults<'a>,
-) -> Faults<'a> {
-    let mut parser = Parser::new(alloc, purpose, file, faults);
-    parser.faults.put(file.faults.as_str());
-    parser.faults.turn_to(file.file.as_str());
-    for _ in 0..file.tokens.len() {
-        let Some(attributes) = parser.finds_mark() else {
-            break;
-        };
-        let declaration = parser.declaration(attributes);
-        parser.keep(found, declaration);
-        parser.recover();
-    }
-    parser.faults
-}
-
-/// The marked declarations of files, and what is wrong, a line each: in others, and that there are none.
-pub fn declarations(
-    alloc: Global,
-    purpose: Purpose,
-    files: &[Read],
-) -> Result<(Vec<Declaration<'_>>, String), AllocError> {
-    let mut found = Vec::new(alloc);
-    let mut faults = Faults::new(alloc);
-    for file in files {
-        faults = add_declarations(alloc, purpose, file, &mut found, faults);
-    }
-    if found.is_empty() && faults.is_empty() {
-        if let [file] = files {
-            faults.turn_to(file.file.as_str());
-        }
-        faults.put_line_number(1);
-        faults.put(NO_MESSAGES_MARKED);
-    }
-    let faults = faults.finished()?;
-    Ok((found, faults))
 }

@@ -1,4 +1,7 @@
 //! The words and marks of a file.
+ghost use Rattle.std.specs.Prelude.{◌≡◌};
+ghost use Rattle.declaration_parser.specs.Marked.{is_marking};
+
 use crate::faults::Faults;
 use crate::marks::{is_almost_mark, is_mark};
 use std::alloc::{AllocError, Global};
@@ -88,7 +91,9 @@ pub fn is_lifetime(word: &str) -> bool {
 }
 
 /// Whether a token is a comment that marks a declaration.
-pub fn is_comment_mark(token: &str) -> bool {
+pub fn is_comment_mark(token: &str) -> bool
+    ensures { result ≡ is_marking token.now }
+{
     is_mark(token)
 }
 

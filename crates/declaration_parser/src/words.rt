@@ -26,7 +26,15 @@ pub const HIDDEN_MARK: &str = "a mark `// message` stands in what is skipped her
 
 /// What is said of a call of a macro that holds a mark.
 pub const IN_MACRO: &str =
-    "!` writes anew what it holds, where a mark marks nothing: write the declaration out, without the macro";
+    "!` writes anew what it holds, where a mark marks nothing: write the declaration out, without the macro\n";
+
+/// What is said of another name of a derive.
+pub const RENAMES: &str =
+    "` is another name of serde's, by which a derive isn't found: derive `Serialize` and `Deserialize` by these names\n";
+
+/// What is said of a mark among the words of a declaration.
+pub const IN_WORDS: &str =
+    "` stands within a declaration, where it marks nothing: take it out, or close what stands before it\n";
 
 /// What is said of a type that is written by hand on one side.
 pub const BY_HAND: &str =
@@ -133,32 +141,65 @@ pub const OF_SERDE: &[(&str, &str)] = &[
 /// Attributes of declarations that change no byte: those of the language, and helpers of derives that are often met.
 pub const OF_ITEMS: &[&str] = &[
     "allow",
+    "arbitrary",
+    "archive",
+    "archive_attr",
     "arg",
     "automatically_derived",
+    "backtrace",
+    "br",
+    "brw",
     "builder",
+    "bw",
+    "cbor",
+    "cfg",
     "clap",
     "clippy",
-    "cfg",
     "command",
     "defmt",
+    "deku",
     "deny",
     "deprecated",
+    "deref",
+    "derivative",
     "derive",
     "diagnostic",
     "display",
     "doc",
+    "educe",
     "error",
     "expect",
+    "facet",
     "forbid",
+    "from",
+    "garde",
+    "get",
+    "getset",
+    "into",
     "max_size",
     "must_use",
+    "n",
     "non_exhaustive",
+    "num_enum",
     "postcard",
+    "proptest",
     "repr",
+    "rkyv",
     "rustfmt",
+    "schema",
     "schemars",
+    "set",
+    "source",
+    "specta",
     "strum",
+    "strum_discriminants",
+    "ts",
+    "tsify",
+    "typeshare",
+    "validate",
+    "value",
     "warn",
+    "zeroize",
 ];
 
 /// The types of the language that a message can hold.
@@ -167,33 +208,64 @@ pub const PLAIN: &[&str] = &[
     "i128", "isize",
 ];
 
-/// Types of std that no message can hold.
-pub const NO_MESSAGES: &[&str] = &[
-    "HashMap",
-    "HashSet",
-    "BTreeSet",
-    "VecDeque",
-    "Rc",
-    "Arc",
-    "Cow",
-    "Cell",
-    "RefCell",
-    "PhantomData",
-    "Duration",
-    "Instant",
-    "Wrapping",
+/// Types of std that no message can hold, and what is said of each.
+pub const NO_MESSAGES: &[(&str, &str)] = &[
+    (
+        "HashMap",
+        "` can't stand in the type of a field: write `BTreeMap`",
+    ),
+    (
+        "HashSet",
+        "` can't stand in the type of a field: write `Vec`",
+    ),
+    (
+        "BTreeSet",
+        "` can't stand in the type of a field: write `Vec`",
+    ),
+    (
+        "VecDeque",
+        "` can't stand in the type of a field: write `Vec`",
+    ),
+    ("Rc", "` can't stand in the type of a field: write `Box`"),
+    ("Arc", "` can't stand in the type of a field: write `Box`"),
+    (
+        "Cow",
+        "` can't stand in the type of a field: write `&'a str`, `String`, or what else it holds",
+    ),
+    (
+        "Cell",
+        "` can't stand in the type of a field: write the type that it holds",
+    ),
+    (
+        "RefCell",
+        "` can't stand in the type of a field: write the type that it holds",
+    ),
+    (
+        "PhantomData",
+        "` can't stand in the type of a field: leave the field out, which has no bytes",
+    ),
+    (
+        "Duration",
+        "` can't stand in the type of a field: write `(u64, u32)`",
+    ),
+    (
+        "Instant",
+        "` can't stand in the type of a field: write the number that is on the wire",
+    ),
+    (
+        "Wrapping",
+        "` can't stand in the type of a field: write the type that it holds",
+    ),
 ];
 
 /// Names that are brought in beside the types.
 pub const OF_POSTCARD: &[&str] = &[
     "AsShape",
     "Flavor",
-    "Formed",
     "Last",
+    "MatchesShape",
     "Readable",
-    "ReadableShape",
     "Serialize",
-    "SerializeShape",
     "Serializer",
     "ShapeOf",
     "Shaped",

@@ -3,7 +3,8 @@
 #![tactic(auto)]
 
 mod builder;
-mod definitions;
+mod index;
+mod literals;
 mod read;
 mod schema;
 

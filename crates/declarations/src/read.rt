@@ -1,11 +1,12 @@
 //! From a text of declarations to a table.
 ghost use Rattle.std.specs.Prelude.{◌≡◌, ◌≤◌, length, IfOk};
 
-use crate::builder::{has_type_parameters, table};
+use crate::builder::table;
 use crate::{Named, Schema};
 use declaration_parser::declaration::Declaration;
-use declaration_parser::parser::{Purpose, declarations};
-use declaration_parser::tokens::{Read, tokens_of};
+use declaration_parser::parser::Purpose;
+use declaration_parser::reading::declarations;
+use declaration_parser::tokens::{Read, is_lifetime, tokens_of};
 use std::alloc::{AllocError, Global};
 
 /// A file of declarations.
@@ -49,6 +50,16 @@ fn named(alloc: Global, declared: &[Declaration<'_>]) -> Result<Vec<Named>, Allo
 
 /// Declared types that have a schema by themselves, and those that have parameters.
 type Parted<'a> = (Vec<Declaration<'a>>, Vec<Declaration<'a>>);
+
+/// Whether a declaration has other parameters than lifetimes.
+fn has_type_parameters(it: &Declaration<'_>) -> bool {
+    for parameter in &it.parameters {
+        if !is_lifetime(parameter) {
+            return true;
+        }
+    }
+    false
+}
 
 /// Parts those that have parameters from the others.
 fn parted<'a>(alloc: Global, declared: Vec<Declaration<'a>>) -> Result<Parted<'a>, AllocError> {

@@ -1,12 +1,18 @@
 //! The device: executes the commands that come over standard input, and replies over standard output, until its input ends.
 #![tactic(auto)]
 
+mod about;
+
+use about::ABOUT;
 use calls::{Checked, Numbered, Numbering, Server, Service};
+use help::answer;
 use line_io::{Reads, Writes};
 use link::{End, OfType, Ordinary, Receiver, Sender};
 use shell::{Command, Device, FRAME, Report};
-use std::io;
 use std::process::ExitCode;
+use std::{env, io};
+
+const USAGE: &str = "usage: device < LINE > LINE";
 
 // Serves all that comes; how the reading ended, and whether a reply wasn't sent whole.
 fn work(rt: &HostRuntime) -> (Option<End>, bool) {
@@ -31,8 +37,8 @@ fn work(rt: &HostRuntime) -> (Option<End>, bool) {
     (end, service.hearer.unsent)
 }
 
-// Says what failed; the status of the program.
-fn run(rt: &HostRuntime) -> io::Result<u8> {
+// Serves, and says what failed; the status of the program.
+fn serve(rt: &HostRuntime) -> io::Result<u8> {
     match work(rt) {
         (Some(End::Ended), false) => Ok(0),
         (Some(End::Ended), true) => {
@@ -42,6 +48,24 @@ fn run(rt: &HostRuntime) -> io::Result<u8> {
         _ => {
             eprintln!(rt; "device: reading failed")?;
             Ok(3)
+        }
+    }
+}
+
+// Serves where there are no words; the status of the program.
+fn run(rt: &HostRuntime) -> io::Result<u8> {
+    let mut words: Vec<String> = Vec::new(rt.alloc());
+    for word in env::args(rt)?.skip(1) {
+        words.push(word)?;
+    }
+    if words.is_empty() {
+        return serve(rt);
+    }
+    match answer(&mut rt.stdout(), ABOUT, &words) {
+        Some(status) => Ok(status),
+        None => {
+            eprintln!(rt; "{USAGE}")?;
+            Ok(2)
         }
     }
 }

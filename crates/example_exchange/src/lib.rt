@@ -12,7 +12,7 @@ mod reading;
 
 use line_io::memory::{Fault, In, OwnedOut};
 use link::{Answer, End, Received, SendError, Sender, receive};
-use postcard::{Readable, Serialize};
+use postcard::Readable;
 pub use reading::Reading;
 use std::alloc::Global;
 
@@ -47,7 +47,7 @@ pub fn exchange(
         → result.answers.items ≡ Value a.now ∷ Value b.now ∷ Value c.now ∷ [] }
     ensures broken { result.first ≡ Ok tt → result.second ≡ Err Line → result.third ≡ Ok tt
         → result.end ≡ Ended
-        → HeardByFront ⟦<Reading as Serialize>⟧.writes b.now result.answers.items
+        → HeardByFront ⟦<Reading as Readable>⟧.form.writes b.now result.answers.items
         (Value a.now ∷ Value c.now ∷ []) (Value a.now ∷ Damaged ∷ Value c.now ∷ [])
         (Value a.now ∷ Value b.now ∷ Value c.now ∷ []) }
 {
@@ -91,7 +91,7 @@ pub struct SentAgain {
 /// Where the first send breaks off and the second doesn't, the reading is heard once, or behind `Damaged`, or twice.
 pub fn send_again(alloc: Global, before: usize, reading: &Reading) -> SentAgain
     ensures { result.first ≡ Err Line → result.second ≡ Ok tt → result.end ≡ Ended
-        → HeardByFront ⟦<Reading as Serialize>⟧.writes reading.now result.answers.items
+        → HeardByFront ⟦<Reading as Readable>⟧.form.writes reading.now result.answers.items
         (Value reading.now ∷ []) (Damaged ∷ Value reading.now ∷ [])
         (Value reading.now ∷ Value reading.now ∷ []) }
 {

@@ -2,15 +2,12 @@
 #![tactic(auto)]
 
 ghost use Rattle.postcard_tree.specs.ReadingLaws.{form_as};
-ghost use Rattle.postcard_tree.specs.Shapes.{read_as_shape, written_as_shape};
+ghost use Rattle.postcard_tree.specs.Shapes.{form_matches};
 
 use line_io::memory::{Fault, In, Out};
 use link::{Sender, receive};
 use postcard::ser_flavors::Flavor;
-use postcard::{
-    AsShape, Formed, Readable, ReadableShape, Serialize, SerializeShape, Serializer, ShapeOf,
-    Shaped,
-};
+use postcard::{AsShape, MatchesShape, Readable, Serialize, Serializer, ShapeOf, Shaped};
 use std::io;
 
 /// A temperature, in tenths of a degree, and which sensor measured it.
@@ -34,29 +31,19 @@ impl Shaped for Reading {
 }
 
 impl Serialize for Reading {
-    ghost writes = { λ v. ⟦<ShapeOf<Self> as Serialize>⟧.writes (⟦<Self as Shaped>⟧.shape v) };
-
-    ghost valid = { λ v. ⟦<ShapeOf<Self> as Serialize>⟧.valid (⟦<Self as Shaped>⟧.shape v) };
-
     fn serialize<F: Flavor>(&self, serializer: &mut Serializer<F>) -> postcard::Result<()> {
         (&self.sensor, &self.temperature).serialize(serializer)
     }
 }
 
-impl Formed for Reading {
-    type Form = AsShape;
-}
-
 impl Readable for Reading {
+    type Form = AsShape;
+
     ghost form = { form_as ⟦<Self as Shaped>⟧.shape ⟦<ShapeOf<Self> as Readable>⟧.form };
 }
 
-impl ReadableShape for Reading {
-    ghost read_as = { read_as_shape };
-}
-
-impl SerializeShape for Reading {
-    ghost written_as = { written_as_shape };
+impl MatchesShape for Reading {
+    ghost matches = { form_matches };
 }
 
 fn main(rt: HostRuntime) -> io::Result<()> {

@@ -1,8 +1,8 @@
 //! The message type.
 ghost use Rattle.postcard_tree.specs.ReadingLaws.{form_as};
-ghost use Rattle.postcard_tree.specs.Shapes.{read_as_shape};
+ghost use Rattle.postcard_tree.specs.Shapes.{form_matches};
 
-use postcard::{AsShape, Formed, Readable, ReadableShape, ShapeOf, Shaped};
+use postcard::{AsShape, MatchesShape, Readable, ShapeOf, Shaped};
 
 /// A temperature, in tenths of a degree, and which sensor measured it.
 #[derive(Clone, Copy, Debug, PartialEq, Eq, Drop)]
@@ -24,14 +24,12 @@ impl Shaped for Reading {
     }
 }
 
-impl Formed for Reading {
-    type Form = AsShape;
-}
-
 impl Readable for Reading {
+    type Form = AsShape;
+
     ghost form = { form_as ⟦<Self as Shaped>⟧.shape ⟦<ShapeOf<Self> as Readable>⟧.form };
 }
 
-impl ReadableShape for Reading {
-    ghost read_as = { read_as_shape };
+impl MatchesShape for Reading {
+    ghost matches = { form_matches };
 }

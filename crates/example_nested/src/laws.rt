@@ -13,7 +13,7 @@ ghost use Rattle.example_nested.specs.declared.messages.Letter.{Letter as Letter
 use crate::messages::{Borrower, Deep, Drawing, Holders, Letter, Mail, Message, Pair, Text};
 use postcard::experimental::max_size::MaxSize;
 use postcard::laws::{round_trip, within_greatest};
-use postcard::{Exact, Readable, Result, Serialize, from_bytes, from_bytes_owned};
+use postcard::{Exact, Readable, Result, from_bytes, from_bytes_owned};
 use std::alloc::Global;
 
 /// A text and bytes, two levels deep.
@@ -108,20 +108,21 @@ pub fn drawing_size()
 
 /// No drawing is spelled in more bytes.
 pub fn drawing_within(v: &Drawing)
-    ensures { SizeWithin (⟦<Drawing as Serialize>⟧.writes v.now) ⟦<Drawing as MaxSize>⟧.greatest }
+    ensures { SizeWithin (⟦<Drawing as Readable>⟧.form.writes v.now)
+        ⟦<Drawing as MaxSize>⟧.greatest }
 {
     within_greatest(v);
 }
 
 /// What is read writes what was read, whichever type it has.
 fn read_as_written<T: Exact>()
-    ensures { (t : Tree) (v : _) → T.form.reads t v → T.writes v ≡ Some t }
+    ensures { (t : Tree) (v : _) → T.form.reads t v → T.form.writes v ≡ Some t }
 {}
 
 /// What is read as a drawing writes what was read.
 pub fn drawing_exact()
     ensures { (t : Tree) (v : Drawings) → ⟦<Drawing as Readable>⟧.form.reads t v
-        → ⟦<Drawing as Serialize>⟧.writes v ≡ Some t }
+        → ⟦<Drawing as Readable>⟧.form.writes v ≡ Some t }
 {
     read_as_written::<Drawing>();
 }
@@ -129,7 +130,7 @@ pub fn drawing_exact()
 /// What is read as a letter writes what was read.
 pub fn letter_exact()
     ensures { (t : Tree) (v : Letters) → ⟦<Letter as Readable>⟧.form.reads t v
-        → ⟦<Letter as Serialize>⟧.writes v ≡ Some t }
+        → ⟦<Letter as Readable>⟧.form.writes v ≡ Some t }
 {
     read_as_written::<Letter>();
 }

@@ -21,60 +21,60 @@ ghost use Rattle.example_station.specs.Trees.{reading_tree};
 use crate::messages::{
     Address, Command, Config, Event, Level, LogRecord, Packet, Ping, Report, SensorReading,
 };
-use postcard::Serialize;
+use postcard::Readable;
 use std::collections::BTreeMap;
 
 /// The sensor, the time, the hundredths of a degree, and whether they are valid.
 pub fn sensor_reading()
-    ensures { (v : Readings) → ⟦<SensorReading as Serialize>⟧.writes v ≡ reading_tree v }
+    ensures { (v : Readings) → ⟦<SensorReading as Readable>⟧.form.writes v ≡ reading_tree v }
 {}
 
 /// The variants by their numbers.
 pub fn level()
-    ensures error { ⟦<Level as Serialize>⟧.writes Error ≡ variant_of 0 (Some (group end)) }
-    ensures warning { ⟦<Level as Serialize>⟧.writes Warning ≡ variant_of 1 (Some (group end)) }
-    ensures info { ⟦<Level as Serialize>⟧.writes Info ≡ variant_of 2 (Some (group end)) }
+    ensures error { ⟦<Level as Readable>⟧.form.writes Error ≡ variant_of 0 (Some (group end)) }
+    ensures warning { ⟦<Level as Readable>⟧.form.writes Warning ≡ variant_of 1 (Some (group end)) }
+    ensures info { ⟦<Level as Readable>⟧.form.writes Info ≡ variant_of 2 (Some (group end)) }
 {}
 
 /// The level, the time, the text and the source.
 pub fn log_record()
-    ensures { (v : LogRecords) → ⟦<LogRecord as Serialize>⟧.writes v
-        ≡ group_of (parts (⟦<Level as Serialize>⟧.writes v.level ∷ Some (number 64 v.at)
+    ensures { (v : LogRecords) → ⟦<LogRecord as Readable>⟧.form.writes v
+        ≡ group_of (parts (⟦<Level as Readable>⟧.form.writes v.level ∷ Some (number 64 v.at)
         ∷ Some (text_of (string_bytes v.text))
         ∷ option_writes (λ n. Some (number 16 n)) v.source ∷ [])) }
 {}
 
 /// The number.
 pub fn address()
-    ensures { (v : Addresses) → ⟦<Address as Serialize>⟧.writes v ≡ Some (number 32 v.0) }
+    ensures { (v : Addresses) → ⟦<Address as Readable>⟧.form.writes v ≡ Some (number 32 v.0) }
 {}
 
 /// Nothing.
 pub fn ping()
-    ensures { (v : Pings) → ⟦<Ping as Serialize>⟧.writes v ≡ Some (group end) }
+    ensures { (v : Pings) → ⟦<Ping as Readable>⟧.form.writes v ≡ Some (group end) }
 {}
 
 /// The variants by their numbers, each before what it holds.
 pub fn command()
-    ensures stop { ⟦<Command as Serialize>⟧.writes Stop ≡ variant_of 0 (Some (group end)) }
+    ensures stop { ⟦<Command as Readable>⟧.form.writes Stop ≡ variant_of 0 (Some (group end)) }
     ensures sample { (v : Readings)
-        → ⟦<Command as Serialize>⟧.writes (Sample v) ≡ variant_of 1 (reading_tree v) }
-    ensures moved { (x y : ℤ) → ⟦<Command as Serialize>⟧.writes (Move x y) ≡ variant_of 2
+        → ⟦<Command as Readable>⟧.form.writes (Sample v) ≡ variant_of 1 (reading_tree v) }
+    ensures moved { (x y : ℤ) → ⟦<Command as Readable>⟧.form.writes (Move x y) ≡ variant_of 2
         (group_of (parts (Some (number 32 (zigzag x)) ∷ Some (number 32 (zigzag y)) ∷ []))) }
-    ensures both { (a b : ℕ) → ⟦<Command as Serialize>⟧.writes (Both a b)
+    ensures both { (a b : ℕ) → ⟦<Command as Readable>⟧.form.writes (Both a b)
         ≡ variant_of 3 (group_of (parts (Some (byte a) ∷ Some (number 16 b) ∷ []))) }
-    ensures say { (v : _) → ⟦<Command as Serialize>⟧.writes (Say v)
+    ensures say { (v : _) → ⟦<Command as Readable>⟧.form.writes (Say v)
         ≡ variant_of 4 (Some (text_of (string_bytes v))) }
-    ensures many { (v : _) → ⟦<Command as Serialize>⟧.writes (Many v)
+    ensures many { (v : _) → ⟦<Command as Readable>⟧.form.writes (Many v)
         ≡ variant_of 5 (sequence_of (parts (map reading_tree v.items))) }
 {}
 
 /// The name, the readings, the fallback, the gains and the labels.
 pub fn config()
-    ensures { (v : Configs) → ⟦<Config as Serialize>⟧.writes v
+    ensures { (v : Configs) → ⟦<Config as Readable>⟧.form.writes v
         ≡ group_of (parts (Some (text_of (string_bytes v.name))
         ∷ sequence_of (parts (map reading_tree v.readings.items))
-        ∷ option_writes ⟦<Level as Serialize>⟧.writes v.fallback
+        ∷ option_writes ⟦<Level as Readable>⟧.form.writes v.fallback
         ∷ group_of (parts (map (λ n. Some (number 16 n)) v.gains))
         ∷ sequence_of (parts (map (pair_writes (λ n. Some (number 16 n))
         (λ s. Some (text_of (string_bytes s)))) v.labels.entries)) ∷ [])) }
@@ -82,14 +82,14 @@ pub fn config()
 
 /// The address, the text and the bytes.
 pub fn packet<'a>()
-    ensures { (v : Packets) → ⟦<Packet<'a> as Serialize>⟧.writes v
+    ensures { (v : Packets) → ⟦<Packet<'a> as Readable>⟧.form.writes v
         ≡ group_of (parts (Some (number 32 v.to.0) ∷ Some (text_of v.text.now)
         ∷ sequence_of (parts (map (λ b. Some (byte b)) v.body.now)) ∷ [])) }
 {}
 
 /// Twelve fields, as two groups of six: a group has no bytes of its own.
 pub fn report()
-    ensures { (v : Reports) → ⟦<Report as Serialize>⟧.writes v
+    ensures { (v : Reports) → ⟦<Report as Readable>⟧.form.writes v
         ≡ group_of (parts (group_of (parts (Some (byte v.a) ∷ Some (number 16 v.b)
         ∷ Some (number 32 v.c) ∷ Some (number 64 v.d) ∷ Some (byte (cast_unsigned w8 v.e))
         ∷ Some (number 16 (zigzag v.f)) ∷ []))
@@ -101,25 +101,25 @@ pub fn report()
 
 /// The variants by their numbers, each before what it holds.
 pub fn event()
-    ensures started { ⟦<Event as Serialize>⟧.writes Started ≡ variant_of 0 (Some (group end)) }
-    ensures stopped { ⟦<Event as Serialize>⟧.writes Stopped ≡ variant_of 1 (Some (group end)) }
+    ensures started { ⟦<Event as Readable>⟧.form.writes Started ≡ variant_of 0 (Some (group end)) }
+    ensures stopped { ⟦<Event as Readable>⟧.form.writes Stopped ≡ variant_of 1 (Some (group end)) }
     ensures measured { (v : Readings)
-        → ⟦<Event as Serialize>⟧.writes (Measured v) ≡ variant_of 2 (reading_tree v) }
-    ensures moved { (x y : ℤ) → ⟦<Event as Serialize>⟧.writes (Moved x y) ≡ variant_of 3
+        → ⟦<Event as Readable>⟧.form.writes (Measured v) ≡ variant_of 2 (reading_tree v) }
+    ensures moved { (x y : ℤ) → ⟦<Event as Readable>⟧.form.writes (Moved x y) ≡ variant_of 3
         (group_of (parts (Some (number 32 (zigzag x)) ∷ Some (number 32 (zigzag y)) ∷ []))) }
-    ensures counted { (n : ℕ) → ⟦<Event as Serialize>⟧.writes (Counted n)
+    ensures counted { (n : ℕ) → ⟦<Event as Readable>⟧.form.writes (Counted n)
         ≡ variant_of 4 (Some (number 32 n)) }
-    ensures named { (c : ℕ) → ⟦<Event as Serialize>⟧.writes (Named c)
+    ensures named { (c : ℕ) → ⟦<Event as Readable>⟧.form.writes (Named c)
         ≡ variant_of 5 (Some (character c)) }
-    ensures pair { (a b : ℕ) → ⟦<Event as Serialize>⟧.writes (Pair a b)
+    ensures pair { (a b : ℕ) → ⟦<Event as Readable>⟧.form.writes (Pair a b)
         ≡ variant_of 6 (group_of (parts (Some (byte a) ∷ Some (byte b) ∷ []))) }
-    ensures failed { (l : Levels) → ⟦<Event as Serialize>⟧.writes (Failed l)
-        ≡ variant_of 7 (⟦<Level as Serialize>⟧.writes l) }
-    ensures retried { (n : Option ℕ) → ⟦<Event as Serialize>⟧.writes (Retried n)
+    ensures failed { (l : Levels) → ⟦<Event as Readable>⟧.form.writes (Failed l)
+        ≡ variant_of 7 (⟦<Level as Readable>⟧.form.writes l) }
+    ensures retried { (n : Option ℕ) → ⟦<Event as Readable>⟧.form.writes (Retried n)
         ≡ variant_of 8 (option_writes (λ k. Some (number 16 k)) n) }
-    ensures cleared { ⟦<Event as Serialize>⟧.writes Cleared ≡ variant_of 9 (Some (group end)) }
-    ensures paired { (a b : ℕ) → ⟦<Event as Serialize>⟧.writes (Paired (a, b))
+    ensures cleared { ⟦<Event as Readable>⟧.form.writes Cleared ≡ variant_of 9 (Some (group end)) }
+    ensures paired { (a b : ℕ) → ⟦<Event as Readable>⟧.form.writes (Paired (a, b))
         ≡ variant_of 10 (group_of (parts (Some (byte a) ∷ Some (number 16 b) ∷ []))) }
-    ensures reset { (b : Bool) → ⟦<Event as Serialize>⟧.writes (Reset b)
+    ensures reset { (b : Bool) → ⟦<Event as Readable>⟧.form.writes (Reset b)
         ≡ variant_of 11 (Some (byte (if b then 1 else 0))) }
 {}

@@ -16,7 +16,8 @@ pub fn hand_texts<R: Inlet, H: Hearer<String>>(
     reader: &mut R,
     hearer: &mut H,
 ) -> Option<End>
-    ensures received { (bytes : List ℕ) × HasReadNow (R.line reader.old) (R.line reader.new) result bytes
+    ensures received { (bytes : List ℕ)
+        × HasReadNow (R.line reader.old) (R.line reader.new) result bytes
         × Handed H.hears hearer.old hearer.new (λ answers. IsReceivedNow (holds_text strict)
         reads_text 1024 sentinel result answers bytes) }
     ensures enough { result ≡ None → H.enough hearer.new ≡ true }

@@ -50,7 +50,8 @@ fn tell_answers<R: Inlet, W: Outlet>(
     reader: &mut R,
     writer: W,
 ) -> Told<W>
-    ensures told { (bytes : List ℕ) × HasReadNow (R.line reader.old) (R.line reader.new) result.end bytes
+    ensures told { (bytes : List ℕ)
+        × HasReadNow (R.line reader.old) (R.line reader.new) result.end bytes
         × TellsAnswers strict sentinel result.end bytes result.good result.written
         (Writing (W.line writer) (W.line result.writer)) }
     ensures stopped { result.end ≡ None → (live ≡ true) × IsErr result.written }

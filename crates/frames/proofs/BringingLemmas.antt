@@ -6,8 +6,8 @@ use Rattle.cobs.specs.Sentinel.{masked}
 use Rattle.link.specs.Stream.{Begun, kept, over}
 use Rattle.link.specs.Steps.{Event, quiet, passed, event_at, begun_at, Course, course_on, course_of, ahead, RunsOn, RunsPast}
 use Rattle.link.specs.Finds.{IsSpan, BringsNothing}
-use Rattle.link.specs.MaskLaws.{masked_length}
-use Rattle.link.specs.RunLaws.{runs_on}
+use Rattle.link.specs.Lemmas.MaskLaws.{masked_length}
+use Rattle.link.specs.Lemmas.RunLaws.{runs_on}
 use Rattle.frames.specs.Events.{FindsFrame, BringsFrame, BringsBy}
 use Rattle.frames.specs.declared.receiving.FrameEvent.{FrameEvent}
 use Rattle.frames.specs.declared.receiving.FrameEvent.TheVariants.{TooLong}

@@ -1,12 +1,14 @@
 -- Counted messages: where their bytes stand, and what is answered to them.
-use Rattle.std.proofs.Common.{◌≡◌, ℕ, ◌+◌, ◌-◌, ◌≤◌, List, [], ◌∷◌, ◌++◌, length, take, drop, Some, None, Ok, refl, sym, ap, ◌∙◌, subst, arith, append_assoc}
-use Rattle.std.proofs.lemmas.List.{length-append, take-take, drop-take}
+use Rattle.std.proofs.Common.{◌≡◌, ℕ, ◌+◌, ◌-◌, ◌<◌, ◌≤◌, ◌^◌, List, [], ◌∷◌, ◌++◌, length, take, drop, get_or, Some, None, Ok, refl, sym, ap, ◌∙◌, subst, arith, append_assoc}
+use Rattle.std.proofs.lemmas.Bool.{lt-ltb}
+use Rattle.std.proofs.lemmas.List.{length-append, length-take-le, take-append-drop, take-take, drop-take}
 use Rattle.std.proofs.Math.Seq.{take-append_seam}
 use Rattle.std.specs.Borrow.{Bor}
 use Rattle.cobs.specs.Frames.{Frame}
 use Rattle.cobs.specs.FrameLaws.{HasOneMessage}
-use Rattle.postcard_tree.specs.Tree.{Tree, byte, sequence, Trees, end, part as part_then}
-use Rattle.postcard_tree.specs.Spelling.{Spells, SpellsAll}
+use Rattle.postcard_tree.specs.Tree.{Tree, byte, sequence, Trees, end, part as part_then, text_of, IsTree}
+use Rattle.postcard_tree.specs.Spelling.{Spells, SpellsAll, short, varint}
+use Rattle.postcard_tree.specs.Texts.{short_text, is_text}
 use Rattle.postcard_tree.specs.Reading.{NoFront, ReadsByte, ReadsAll, ReadsBytes}
 use Rattle.postcard_tree.specs.ReadingLaws.{bytes_laws}
 use Rattle.postcard.specs.Answer.{ReadsFront}
@@ -14,6 +16,7 @@ use Rattle.link.specs.Steps.{Event, quiet, ended, passed, Course}
 use Rattle.link.specs.Finds.{Replies}
 use Rattle.frames.specs.Events.{found, FindsFrame, TakesFrame, TakesCounted, HoldsCounted, answer_in, RepliesAs}
 use Rattle.frames.specs.declared.receiving.FrameEvent.TheVariants.{Message, Damaged, TooLong}
+use Rattle.frames.proofs.LawsLemmas.{counted_once}
 
 bytes_themselves : (ts : Trees) (v s : List ℕ) → SpellsAll ts s → ReadsAll ReadsByte ts v → s ≡ v
 unfolding SpellsAll
@@ -129,3 +132,28 @@ pub lengths_fit : (message rest v : List ℕ) → ReadsFront ReadsBytes message 
 lengths_fit message rest v r = let h = stand_behind message rest v r in
     let c = behind_count r.spelled.tree r.front v r.spelled.spells r.spelled.read in
     omega (arith, ap length r.whole, length-append r.front rest, ap length c.1, length-append c.0 v)
+
+count_short : (n : ℕ) → n < 128 → varint n ≡ n ∷ []
+unfolding varint
+count_short n l = rw (lt-ltb n 128 l) refl
+
+-- a count below 128 is one byte, and as many bytes stand behind it
+pub read_short : ((t : Tree) → IsTree t → Spells t (short t)) → (message : List ℕ) (n : ℕ) → n ≡ get_or message 0 0 → n < 128 → n < length message
+    → (rest : List ℕ) × ReadsFront ReadsBytes message rest (take n (drop 1 message))
+read_short spells [] n e s l = absurd (omega (arith, l))
+read_short spells (c ∷ m) n e s l =
+    let v = take n m in
+    let size : length v ≡ n = length-take-le n m (omega (arith, l)) in
+    let small : length v < 2 ^ 64 = omega (arith, size, s) in
+    let spelled : short (text_of v) ≡ c ∷ v = short_text v ∙ ap (λ k. varint k ++ v) size ∙ ap (λ x. x ++ v) (count_short n s) ∙ ap (λ k. k ∷ v) e in (
+      drop n m,
+      record {
+        front = c ∷ v;
+        whole = ap (λ x. c ∷ x) (sym (take-append-drop n m));
+        spelled = record {
+          tree = text_of v;
+          spells = subst (Spells (text_of v)) spelled (spells (text_of v) (is_text v small));
+          read = ((counted_once v small).1 v).1 refl;
+        };
+      },
+    )

@@ -6,3 +6,4 @@ mod BytesLemmas
 mod CountsLemmas
 mod LawsLemmas
 mod StoringLemmas
+mod DecodingLemmas

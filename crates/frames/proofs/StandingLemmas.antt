@@ -4,47 +4,24 @@ use Rattle.std.specs.Prelude.{bit_xor, ◌==◌}
 use Rattle.std.proofs.lemmas.Bool.{cases_eq, eq-eqb, ne_eqb}
 use Rattle.std.proofs.lemmas.List.{length-append, map-append, take-append-le, length-take, length-take-le, length-drop}
 use Rattle.std.proofs.Math.Seq.{take-append_seam}
-use Rattle.cobs.specs.Frames.{Frame, NoZero, part, missing}
-use Rattle.cobs.specs.FrameLaws.{DecidesLess}
-use Rattle.cobs.specs.InPlace.{stretch, in_place, overwritten}
-use Rattle.cobs.specs.Reports.{frame_size, report}
+use Rattle.cobs.specs.Frames.{Frame, NoZero}
+use Rattle.cobs.specs.InPlace.{stretch}
 use Rattle.cobs.specs.Sentinel.{masked}
-use Rattle.cobs.specs.declared.dec.report.DecodeReport.{DecodeReport}
 use Rattle.link.specs.Stream.{Begun, kept, over}
 use Rattle.link.specs.Steps.{Event, event_at, begun_at, RunsOn, RunsPast}
 use Rattle.link.specs.Finds.{IsSpan}
 use Rattle.frames.specs.Standing.{HasBuffer, KeepsFront, StandsAt}
 use Rattle.frames.specs.declared.receiving.FrameReceiver.{FrameReceiver}
-use Rattle.link.specs.MaskLaws.{masked_length}
-use Rattle.link.specs.RunLaws.{over_on, runs_on, runs_past}
+use Rattle.link.specs.Lemmas.MaskLaws.{masked_length}
+use Rattle.link.specs.Lemmas.RunLaws.{over_on, runs_on, runs_past}
 
 -- a stretch
 pub stretch_of : (p : List ℕ) → NoZero p → stretch p ≡ p
 stretch_of [] z = refl
 stretch_of (b ∷ p) z = rw (ne_eqb b 0 (λ e. omega (arith, z.0, e))) (ap (λ x. b ∷ x) (stretch_of p z.1))
 
-pub stretch_within : (x : List ℕ) → length (stretch x) ≤ length x
-stretch_within [] = omega arith
-stretch_within (b ∷ x) = elim (cases_eq b 0) [
-  | inl e ↦ rw (eq-eqb b 0 e) (omega arith)
-  | inr n ↦ rw (ne_eqb b 0 n) (omega (arith, stretch_within x))
-]
-
 pub some_bytes : (p : List ℕ) → 0 < length p → p ≢ []
 some_bytes p l e = omega (arith, l, ap length e)
-
--- how long a message is that was decoded in its place
-pub in_place_size : (x : List ℕ) (r : DecodeReport) → DecidesLess → Ok r ≡ in_place x → frame_size r ≤ length x
-in_place_size x r less e = elim (cases_eq (missing x) 0) [
-  | inl z ↦ (
-      let h : Ok r ≡ Ok (report (length x) (length (part x))) = e ∙ rw (eq-eqb (missing x) 0 z) refl in
-      let k : frame_size r ≡ length (part x) = cc in
-      omega (arith, k, less x))
-  | inr n ↦ (let h = rw (ne_eqb (missing x) 0 n) at e in cc)
-]
-
-pub overwritten_length : (message buffer : List ℕ) → length (overwritten message buffer) ≡ length buffer
-overwritten_length message buffer = omega (arith, length-append (take (length buffer) message) (drop (length message) buffer), length-take (length buffer) message, length-drop (length message) buffer)
 
 -- what is begun, by the receiver
 pub kept_is : (limit s : ℕ) (r : FrameReceiver) (buffer : List ℕ) (b : Begun) → r.past ≡ 0 → StandsAt limit s r buffer b
@@ -154,35 +131,25 @@ has_bytes [] b e f = let no : true ≡ false = sym e ∙ f in absurd (cc)
 has_bytes (x ∷ rest) b e f = omega arith
 
 -- a stretch that is decoded where it stands
-pub closed_within : (s : ℕ) (front decoded back : List ℕ) (r : DecodeReport) (size : ℕ) → DecidesLess → Ok r ≡ in_place (stretch (masked s front))
-    → decoded ≡ overwritten (part (stretch (masked s front))) front → size ≡ frame_size r → size ≤ length (decoded ++ back)
-closed_within s front decoded back r size less e d n =
-    let x = stretch (masked s front) in
-    omega (arith, in_place_size x r less e, stretch_within (masked s front), masked_length s front, n, ap length d, overwritten_length (part x) front, length-append decoded back)
+module _ (limit s : ℕ) (r later : FrameReceiver) (buffer p front decoded back : List ℕ) (i : StandsAt limit s r buffer (kept p)) (whole : length front + length back ≡ length buffer)
+    (is_front : front ≡ take r.count buffer) (now : later ≡ record { count = 0; past = r.past; sentinel = r.sentinel }) (long : length decoded ≡ length front) where
+  stretch_is : masked r.sentinel front ≡ p
+  stretch_is = ap (λ n. masked n front) i.terms.sentinel ∙ ap (masked s) is_front ∙ i.begun.1.stands
 
-module _ (limit s : ℕ) (r later : FrameReceiver) (buffer p front decoded back : List ℕ) (i : StandsAt limit s r buffer (kept p)) (some : 0 < length p)
-    (whole : length front + length back ≡ length buffer) (is_front : front ≡ take r.count buffer) (now : later ≡ record { count = 0; past = r.past; sentinel = r.sentinel })
-    (d : decoded ≡ overwritten (part (stretch (masked r.sentinel front))) front) where
-  stretch_is : stretch (masked r.sentinel front) ≡ p
-  stretch_is = ap (λ n. stretch (masked n front)) i.terms.sentinel ∙ ap (λ x. stretch (masked s x)) is_front ∙ ap stretch i.begun.1.stands ∙ stretch_of p i.begun.1.nonzero
+  clear : NoZero (masked r.sentinel front)
+  clear = subst NoZero (sym stretch_is) i.begun.1.nonzero
 
   pub closes : StandsAt limit s later (decoded ++ back) (kept [])
   closes = stands_between limit s later (decoded ++ back)
       (record {
-        room = omega (arith, length-append decoded back, ap length d, overwritten_length (part (stretch (masked r.sentinel front))) front, whole, i.terms.room);
+        room = omega (arith, length-append decoded back, long, whole, i.terms.room);
         sentinel = ap (λ (x : FrameReceiver). x.sentinel) now ∙ i.terms.sentinel;
       }) (ap (λ (x : FrameReceiver). x.past) now ∙ i.begun.0) (ap (λ (x : FrameReceiver). x.count) now)
 
   -- a frame
-  pub closes_frame : (rep : DecodeReport) (size : ℕ) → DecidesLess → Ok rep ≡ in_place (stretch (masked r.sentinel front)) → size ≡ frame_size rep
-      → (stretch (masked r.sentinel front) ≢ [] → Frame (stretch (masked r.sentinel front)) (take (frame_size rep) decoded))
-      → Frame p (take size (decoded ++ back))
-  closes_frame rep size less e n f =
-      let x = stretch (masked r.sentinel front) in
-      let small : size ≤ length decoded = omega (arith, in_place_size x rep less e, stretch_within (masked r.sentinel front), masked_length r.sentinel front, n, ap length d, overwritten_length (part x) front) in
-      let t : take size (decoded ++ back) ≡ take (frame_size rep) decoded = take-append-le size decoded back small ∙ ap (λ k. take k decoded) n in
-      subst (λ m. Frame p m) (sym t) (subst (λ y. Frame y (take (frame_size rep) decoded)) stretch_is (f (subst (λ y. y ≢ []) (sym stretch_is) (some_bytes p some))))
+  pub closes_frame : (size : ℕ) → size ≤ length decoded → (NoZero (masked r.sentinel front) → Frame (masked r.sentinel front) (take size decoded)) → Frame p (take size (decoded ++ back))
+  closes_frame size small f = subst (λ m. Frame p m) (sym (take-append-le size decoded back small)) (subst (λ y. Frame y (take size decoded)) stretch_is (f clear))
 
   -- no frame
-  pub closes_damaged : ((m : List ℕ) → Frame (stretch (masked r.sentinel front)) m → ⊥) → (m : List ℕ) → Frame p m → ⊥
-  closes_damaged f m g = f m (subst (λ y. Frame y m) (sym stretch_is) g)
+  pub closes_damaged : (NoZero (masked r.sentinel front) → (m : List ℕ) → Frame (masked r.sentinel front) m → ⊥) → (m : List ℕ) → Frame p m → ⊥
+  closes_damaged f m g = f clear m (subst (λ y. Frame y m) (sym stretch_is) g)

@@ -3,7 +3,7 @@ use Rattle.std.proofs.Common.{◌≡◌, ◌≢◌, ℕ, suc, ◌+◌, ◌<◌, 
 use Rattle.std.proofs.lemmas.List.{set_split, length-drop}
 use Rattle.link.specs.Stream.{Begun, begun}
 use Rattle.link.specs.Steps.{RunsOn, course_of}
-use Rattle.link.specs.AnswerLaws.{behind_after}
+use Rattle.link.specs.Lemmas.AnswerLaws.{behind_after}
 use Rattle.postcard_tree.specs.Reading.{ReadsBytes}
 use Rattle.frames.specs.Standing.{StandsAt, StandsBehind}
 use Rattle.frames.specs.Events.{HoldsPlain, ReadsPlain, HoldsCounted, AnswersAs, TakesFrame, found}

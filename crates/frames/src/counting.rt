@@ -3,31 +3,35 @@ ghost use Rattle.std.specs.Prelude.{◌≡◌, ℕ, ◌+◌, ◌<◌, ◌^◌, �
 ghost use Rattle.cobs.specs.Frames.{Frame};
 ghost use Rattle.postcard_tree.specs.Tree.{Tree, text_of};
 ghost use Rattle.postcard_tree.specs.Reading.{NoFront, ReadsBytes};
+ghost use Rattle.postcard_tree.specs.ReadingLaws.{only_written};
 ghost use Rattle.postcard.specs.Answer.{ReadsFront};
 ghost use Rattle.link.specs.Steps.{Course};
 ghost use Rattle.frames.specs.Events.{TakesCounted, TakesFrame, IsInFront, IsInRoom, RepliesCounted, found};
 
 use crate::receiving::{FrameEvent, FramePush};
 use postcard::ser_flavors::Flavor;
-use postcard::{Serialize, Serializer, take_from_bytes};
+use postcard::{Own, Readable, Serialize, Serializer, take_from_bytes};
 use std::alloc::Global;
 
 /// Bytes that are written with their count in front, at once.
 #[derive(Drop)]
 pub(crate) struct Counted<'a>(pub &'a [u8]);
 
+impl Readable for Counted<'_> {
+    type Form = Own;
+
+    ghost form = { only_written (λ v. Some (text_of v.0.now)) (λ v. length v.0.now < 2 ^ 64) };
+}
+
 impl Serialize for Counted<'_> {
-    ghost writes = { λ v. Some (text_of v.0.now) };
-
-    ghost valid = { λ v. length v.0.now < 2 ^ 64 };
-
     fn serialize<F: Flavor>(&self, serializer: &mut Serializer<F>) -> postcard::Result<()> {
         serializer.serialize_bytes(self.0)
     }
 }
 
-// Where the bytes of a counted message stand in it.
-fn counted_in(alloc: Global, message: &[u8]) -> Option<(usize, usize)>
+// Where the bytes of a counted message stand in it, by reading it as a value. It isn't inlined, so that the short way doesn't pay for it.
+#[inline(never)]
+fn counted_long(alloc: Global, message: &[u8]) -> Option<(usize, usize)>
     ensures read { IfSome result (λ p. (rest : List ℕ)
         × ReadsFront ReadsBytes message.now rest (take p.1 (drop p.0 message.now))) }
     ensures within { IfSome result (λ p. p.0 + p.1 ≤ length message.now) }
@@ -39,7 +43,26 @@ fn counted_in(alloc: Global, message: &[u8]) -> Option<(usize, usize)>
     }
 }
 
+// The same: a count below 128 is one byte, which is looked at here.
+#[inline(always)]
+fn counted_in(alloc: Global, message: &[u8]) -> Option<(usize, usize)>
+    ensures read { IfSome result (λ p. (rest : List ℕ)
+        × ReadsFront ReadsBytes message.now rest (take p.1 (drop p.0 message.now))) }
+    ensures within { IfSome result (λ p. p.0 + p.1 ≤ length message.now) }
+    ensures none { IsNone result → NoFront TakesCounted message.now }
+{
+    postcard_tree::laws::short_is_a_spelling();
+    if !message.is_empty() && message[0] < 128 {
+        let count = message[0] as usize;
+        if count < message.len() {
+            return Some((1, count));
+        }
+    }
+    counted_long(alloc, message)
+}
+
 // What came about by counted messages, where a plain one stands in front of the buffer.
+#[inline(always)]
 fn counted_event(alloc: Global, event: FrameEvent, buffer: &[u8]) -> FrameEvent
     requires front { IsInFront (Some event) }
     requires within { IsInRoom (length buffer.now) (Some event) }
@@ -62,6 +85,7 @@ fn counted_event(alloc: Global, event: FrameEvent, buffer: &[u8]) -> FrameEvent
 }
 
 // The same of a push.
+#[inline(always)]
 pub(crate) fn as_counted(alloc: Global, push: FramePush, buffer: &[u8]) -> FramePush
     requires front { IsInFront push.event }
     requires within { IsInRoom (length buffer.now) push.event }

@@ -17,6 +17,7 @@
 
 mod checksum;
 mod counting;
+mod decoding;
 pub mod laws;
 mod receiving;
 mod sending;

@@ -9,6 +9,7 @@ ghost use Rattle.frames.specs.Standing.{is_cut, StandsAt, StandsBehind, KeepsTer
 ghost use Rattle.frames.specs.Events.{FindsFrame, TakesFrame, BringsBy, IsInFront, IsInRoom, AnswersPlain, AnswersCounted, found};
 
 use crate::counting::as_counted;
+use crate::decoding::decode_kept;
 use cobs::before_sentinel;
 use std::alloc::Global;
 use thiserror::Error;
@@ -85,8 +86,10 @@ impl FrameReceiver {
     }
 
     // Ends a stretch, whose bytes stand in front of the buffer.
+    #[inline(always)]
     fn close(&mut self, buffer: &mut [u8]) -> Option<FrameEvent>
-        requires { self.old.count ≤ length buffer.old }
+        requires some { 0 < self.old.count }
+        requires within { self.old.count ≤ length buffer.old }
         ensures found { (limit s : ℕ) (p : List ℕ)
             → StandsAt limit s self.old buffer.old (kept p) → 0 < length p
             → StandsAt limit s self.new buffer.new (kept [])
@@ -96,19 +99,16 @@ impl FrameReceiver {
         ensures same { KeepsTerms self.old buffer.old self.new buffer.new }
         ensures count { self.new.count ≡ 0 }
     {
-        cobs::laws::shorter();
         let (front, _) = buffer.split_at_mut(self.count);
         self.count = 0;
-        match cobs::decode_in_place_report_with_sentinel(front, self.sentinel) {
-            Ok(report) => Some(FrameEvent::Message {
-                start: 0,
-                length: report.frame_size(),
-            }),
-            Err(_) => Some(FrameEvent::Damaged),
+        match decode_kept(front, self.sentinel) {
+            Some(length) => Some(FrameEvent::Message { start: 0, length }),
+            None => Some(FrameEvent::Damaged),
         }
     }
 
     // Takes a sentinel.
+    #[inline(always)]
     fn take_sentinel(&mut self, buffer: &mut [u8]) -> Option<FrameEvent>
         requires { self.old.count ≤ length buffer.old }
         ensures at { (limit s : ℕ) (b : Begun) → StandsAt limit s self.old buffer.old b

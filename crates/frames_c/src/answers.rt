@@ -189,13 +189,12 @@ pub(crate) fn told(outcome: Result<FramePush, WrongBuffer>, event: &mut FramesEv
             None => MORE,
             some => {
                 let (kind, start, length) = numbered(some);
-                *event = FramesEvent {
-                    used: push.used,
-                    stretch: push.stretch,
-                    start,
-                    length,
-                    kind,
-                };
+                // (one by one, since the bytes behind `kind` would be copied too)
+                event.used = push.used;
+                event.stretch = push.stretch;
+                event.start = start;
+                event.length = length;
+                event.kind = kind;
                 kind
             }
         },

@@ -11,6 +11,7 @@ use Rattle.std.proofs.Math.Seq.{take-add}
 use Rattle.postcard_tree.specs.Tree.{Tree}
 use Rattle.cobs.specs.declared.dec.heapless.CobsDecoderHeapless.{CobsDecoderHeapless}
 use Rattle.link.specs.Decoding.{in_array}
+use Rattle.link.specs.Lemmas.Givens.{kept_given}
 use Rattle.link.specs.Receivers.{IsBehind}
 use Rattle.link.specs.Pushes.{listed, Matches, Answered, IsStretchOf}
 use Rattle.link.specs.Listening.{HasGiven}
@@ -27,12 +28,6 @@ use Rattle.journal.specs.Visits.{VisitorLaws}
 use Rattle.journal.specs.Reading.{IsRead, IsReadTo, HearsLog, HearsMore, HandsOnBelieved, IsHandedTo, ReadCause, numbering_of}
 use Rattle.journal.specs.declared.reading.ReadError.{ReadError}
 use Rattle.journal.specs.declared.reading.ReadError.TheVariants.{Fault, NoMemory as NoMemoryFound, Halted}
-
-zip_one : {A B : Type 0} (R : A → B → Type 0) (xs : List A) (ys : List B) (x : A) (y : B) → AllZip R xs ys → R x y → AllZip R (xs ++ x ∷ []) (ys ++ y ∷ [])
-zip_one R [] [] x y h r = (r, tt)
-zip_one R [] (b ∷ ys) x y h r = absurd h
-zip_one R (a ∷ xs) [] x y h r = absurd h
-zip_one R (a ∷ xs) (b ∷ ys) x y h r = (h.0, zip_one R xs ys x y h.1 r)
 
 -- a record moves the next number by no more than there are bytes from the last one through it
 moves_by : (next first through later before n : ℕ) → next ≤ first + through → through < later → before < later → n ≤ next + (before - through) / 3
@@ -137,15 +132,9 @@ module _ {V : Type 0} (holds : List ℕ → Tree → Type 0) (reads : Tree → �
   -- a push that answered nothing
   pub read_quiet : (answers : List (Answer (ℕ × V))) (c : Numbering) → IsReadTo holds reads limit first answers c front
       → Answered holds reads limit 0 front rest used (Ok None) → IsReadTo holds reads limit first answers c (front ++ take used rest)
-  read_quiet answers c g (a, says, push) = record {
+  read_quiet answers c g h = record {
     located = g.located;
-    given = record {
-      verdicts = g.given.verdicts ++ listed a;
-      given = push.gives g.given.verdicts g.given.given;
-      matching =
-          subst (λ o. AllZip (Matches reads) (answers_in g.located) (g.given.verdicts ++ listed o)) (sym says)
-          (subst (λ x. AllZip (Matches reads) (answers_in g.located) x) (sym (append-nil g.given.verdicts)) g.given.matching);
-    };
+    given = kept_given holds reads limit 0 front rest (answers_in g.located) (answers_in g.located) used (Ok None) g.given h refl;
     places = located_longer holds reads limit front (take used rest) [] g.located g.places;
     handed_on = g.handed_on;
     numbers = g.numbers;
@@ -153,16 +142,7 @@ module _ {V : Type 0} (holds : List ℕ → Tree → Type 0) (reads : Tree → �
     so_far = omega (arith, g.so_far, length-append front (take used rest));
   }
 
-  -- one that answered: what was given
-  given_more : (answers : List (Answer (ℕ × V))) (x : Answer (ℕ × V)) → HasGiven holds reads limit 0 answers front
-      → Answered holds reads limit 0 front rest used (Ok (Some x)) → HasGiven holds reads limit 0 (answers ++ x ∷ []) (front ++ take used rest)
-  given_more answers x g (a, says, push) = record {
-    verdicts = g.verdicts ++ listed a;
-    given = push.gives g.verdicts g.given;
-    matching = subst (λ o. AllZip (Matches reads) (answers ++ x ∷ []) (g.verdicts ++ listed o)) (sym says.2) (zip_one (Matches reads) answers g.verdicts x says.0 g.matching says.1);
-  }
-
-  -- and where it stands
+  -- where one that answered stands
   located_at : (answers : List (Answer (ℕ × V))) (x : Answer (ℕ × V)) (stretch heard : ℕ) → HasGiven holds reads limit 0 answers front
       → Answered holds reads limit 0 front rest used (Ok (Some x)) → IsStretchOf 0 front rest used (Ok (Some x)) stretch → 0 < used → used ≤ length rest → heard ≡ length front + used
       → IsLocatedIn holds reads limit (front ++ take used rest) answers (record { before = (heard - 1) - stretch; through = heard; answer = x })
@@ -179,7 +159,7 @@ module _ {V : Type 0} (holds : List ℕ → Tree → Type 0) (reads : Tree → �
         rest = [];
         bytes_are = bytes ∙ sym (append-nil (all ++ byte ∷ []));
         not_yet = record { verdicts = g.verdicts; given = push.least.same g.verdicts g.given (used - 1) (omega (arith, some)); matching = g.matching };
-        now = subst (λ z. HasGiven holds reads limit 0 (answers ++ x ∷ []) z) bytes (given_more answers x g (a, says, push));
+        now = subst (λ z. HasGiven holds reads limit 0 (answers ++ x ∷ []) z) bytes (kept_given holds reads limit 0 front rest answers (answers ++ x ∷ []) used (Ok (Some x)) g (a, says, push) refl);
         before_is = omega (arith, st, long, e, some);
         through_is = omega (arith, long, e, some);
       }
@@ -195,7 +175,7 @@ module _ {V : Type 0} (holds : List ℕ → Tree → Type 0) (reads : Tree → �
       let to : (numbered_behind c heard (believed c before x)).through ≤ heard = moves_to c heard (believed c before x) (omega (arith, g.so_far, e)) in
       record {
         located = g.located ++ p ∷ [];
-        given = subst (λ z. HasGiven holds reads limit 0 z (front ++ take used rest)) (sym (answers_more g.located p)) (given_more (answers_in g.located) x g.given h);
+        given = subst (λ z. HasGiven holds reads limit 0 z (front ++ take used rest)) (sym (answers_more g.located p)) (kept_given holds reads limit 0 front rest (answers_in g.located) (answers_in g.located ++ x ∷ []) used (Ok (Some x)) g.given h refl);
         places =
             located_more holds reads limit (front ++ take used rest) [] g.located p (located_longer holds reads limit front (take used rest) [] g.located g.places)
             (located_at (answers_in g.located) x stretch heard g.given h st some fits e);

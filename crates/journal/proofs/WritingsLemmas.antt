@@ -53,8 +53,3 @@ module _ (number size n k : ℕ) (spent : Bool) (writes : Option Tree) (b : List
     is = (h.value, k, h.is, refl);
     wrote = subst (λ x. Wrote old new x) (ap (take k) h.bytes) w;
   }
-
--- what stands in front of a buffer is no longer than it
-pub within_buffer : (writes : Option Tree) (n : ℕ) (b : List ℕ) → WrittenWhole writes (λ bytes. (n ≡ length (shortest_frame bytes)) × (take n b ≡ frame_for 0 bytes)) → n ≤ length b
-within_buffer None n b h = absurd h
-within_buffer (Some v) n b h = omega (arith, h.1.0, ap length h.1.1, length-take n b, length-map (shortest_frame (short v)) (bit_xor 0))

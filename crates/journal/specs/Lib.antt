@@ -1,4 +1,5 @@
 pub mod Records
+pub mod Values
 pub mod Visits
 pub mod Places
 pub mod Reading

@@ -176,11 +176,12 @@ impl<S: Store, const N: usize> Journal<S, N> {
     /// goes out by one call where the store takes whole pieces. No crash takes it from the next `sync` on that is Ok.
     pub fn append<T: Serialize>(&mut self, value: &T) -> Result<u64, AppendError>
         ensures appended { Appended (N - 1) (spent_of self.old) (next_of self.old)
-            (T.writes value.now) result (S.line (store_of self.old)) (S.line (store_of self.new)) }
+            (T.form.writes value.now) result (S.line (store_of self.old))
+            (S.line (store_of self.new)) }
         ensures next { next_of self.new ≡ next_after (next_of self.old) result }
         ensures spent { spent_of self.new ≡ spent_after (spent_of self.old) result }
         ensures number { OnOk result (next_of self.old < 2 ^ 64 - 1) }
-        ensures valid { OnOk result (T.valid value.now) }
+        ensures valid { OnOk result (T.form.valid value.now) }
         ensures untouched { Unless result (store_of self.new ≡ store_of self.old) }
         ensures settled { S.settled (store_of self.new) ≡ S.settled (store_of self.old) }
         ensures quiet { OnOk result

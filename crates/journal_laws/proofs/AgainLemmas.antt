@@ -9,7 +9,7 @@ use Rattle.postcard_tree.specs.Tree.{Tree}
 use Rattle.link.specs.Stream.{Verdict, cut, damaged, too_long, value, ended, unfinished, IsAnswer, HoldsExactly, begun_answers, cut_answers, Answers}
 use Rattle.link.specs.Run.{completed, sent, session_line, line, IsFramed, IsRun}
 use Rattle.link.specs.Laws.{IsTold, HasOneAnswer}
-use Rattle.link.specs.Pieces.{ended_skip, unfinished_skip, ended_behind, ended_alone, ends_at}
+use Rattle.link.specs.Lemmas.Pieces.{ended_skip, unfinished_skip, ended_behind, ended_alone, ends_at}
 use Rattle.link.specs.Roads.{values_of}
 use Rattle.journal.specs.Records.{takes_record}
 use Rattle.journal_scan.specs.Repairs.{appended_anew, rewritten, AreReadIn, AreReadFirst}

@@ -70,7 +70,7 @@ pub fn append_each<T: Lawful, S: Store, const N: usize>(
     values: &[T],
 ) -> Result<(), AppendError>
     ensures all { OnOk result
-        (AppendsAll T.form.takes T.writes N (next_of journal.old) (next_of journal.new)
+        (AppendsAll T.form.takes T.form.writes N (next_of journal.old) (next_of journal.new)
         (S.line (store_of journal.old)) (S.line (store_of journal.new)) values.now) }
     ensures numbers { OnOk result (0 < length values.now → next_of journal.old < 2 ^ 64 - 1) }
 {
@@ -87,7 +87,7 @@ fn append_all<T: Lawful, S: Store + Drop, const N: usize>(
     values: &[T],
 ) -> Option<Journal<S, N>>
     ensures all { IfSome result
-        (λ j. AppendsAll T.form.takes T.writes N (next_of journal) (next_of j)
+        (λ j. AppendsAll T.form.takes T.form.writes N (next_of journal) (next_of j)
         (S.line (store_of journal)) (S.line (store_of j)) values.now) }
     ensures numbers { IfSome result (λ j. 0 < length values.now → next_of journal < 2 ^ 64 - 1) }
 {
@@ -109,7 +109,7 @@ pub fn session<T: Lawful + Drop, M: LogReader<T>, S: Store + Drop, V: Visitor<T>
 ) -> Option<Journal<S, N>>
     requires some { 1 < N }
     requires fits { ReceiverFitsInMemory N.row }
-    ensures { IfSome result (λ j. GoesOnFrom T.form.takes T.writes N
+    ensures { IfSome result (λ j. GoesOnFrom T.form.takes T.form.writes N
         (S.line store).told (S.line (store_of j)).told values.now) }
 {
     crate::laws::bytes::<(u64, T)>();

@@ -9,7 +9,7 @@ use Rattle.cobs.specs.declared.dec.owned.CobsDecoderOwned.{CobsDecoderOwned}
 use Rattle.postcard_tree.specs.Tree.{Tree}
 use Rattle.link.specs.Stream.{Verdict, value, damaged, too_long, cut, Begun, kept, over, begun, ended, unfinished, IsAnswer, HoldsExactly}
 use Rattle.link.specs.Laws.{EndsBetween}
-use Rattle.link.specs.Pieces.{none_unfinished, ended_skip}
+use Rattle.link.specs.Lemmas.Pieces.{none_unfinished, ended_skip}
 use Rattle.link.specs.Pushes.{IsPush, IsLost, Matches, Answered}
 use Rattle.link.specs.Decoding.{in_owner}
 use Rattle.link.specs.Receivers.{IsBehind, IsAt}

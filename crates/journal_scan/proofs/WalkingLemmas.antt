@@ -12,7 +12,7 @@ use Rattle.postcard_tree.specs.Tree.{Tree}
 use Rattle.link.specs.Stream.{Verdict, too_long, ended, unfinished, IsAnswer, Given, begun_answers}
 use Rattle.link.specs.Laws.{EndsBetween}
 use Rattle.link.specs.Pushes.{IsPush}
-use Rattle.link.specs.Pieces.{Parted, alone, more, parted, ends_at, ended_at, unfinished_at, ended_alone, unfinished_alone, ended_behind, unfinished_behind}
+use Rattle.link.specs.Lemmas.Pieces.{Parted, alone, more, parted, ends_at, ended_at, unfinished_at, ended_alone, unfinished_alone, ended_behind, unfinished_behind}
 
 pub plain : (bytes : List ℕ) → masked 0 bytes ≡ bytes
 plain [] = refl

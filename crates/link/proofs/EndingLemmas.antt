@@ -1,8 +1,6 @@
 -- What the end of a stream adds.
-use Rattle.std.proofs.Common.{◌≡◌, ℕ, ◌≤◌, List, [], ◌∷◌, ◌++◌, length, Ok, refl, sym, ap, ◌∙◌, subst, arith, append_assoc}
+use Rattle.std.proofs.Common.{◌≡◌, ℕ, ◌≤◌, List, [], ◌∷◌, ◌++◌, length, Ok, refl, sym, ap, ◌∙◌, subst, arith, append_assoc, append-nil, lt-ltb, le-ltb}
 use Rattle.std.specs.List.{AllZip}
-use Rattle.std.proofs.lemmas.List.{append-nil}
-use Rattle.std.proofs.lemmas.Bool.{lt-ltb, le-ltb}
 use Rattle.postcard_tree.specs.Tree.{Tree}
 use Rattle.link.specs.Stream.{Verdict, cut, IsAnswer, begun_answers, cut_answers, unfinished, Begun, kept, over, Given, Answers}
 use Rattle.link.specs.Pushes.{IsBegun}
@@ -10,9 +8,9 @@ use Rattle.link.specs.Pushes.{Matches, finished}
 use Rattle.link.specs.Listening.{HasGiven, HasAnswered, KeepsAnswer}
 use Rattle.link.specs.declared.receiver.Answer.{Answer}
 use Rattle.link.specs.declared.receiver.Answer.TheVariants.{Cut}
-use Rattle.link.specs.Stepwise.{heard_stepwise}
-use Rattle.link.specs.FeedLaws.{begun_of, is_short, is_long, short_answers}
-use Rattle.link.specs.Givens.{zip_one}
+use Rattle.link.specs.Lemmas.Stepwise.{heard_stepwise}
+use Rattle.link.specs.Lemmas.FeedLaws.{begun_of, is_short, is_long, short_answers}
+use Rattle.link.specs.Lemmas.Givens.{zip_one}
 
 module _ (holds : List ℕ → Tree → Type 0) (limit s : ℕ) (stream : List ℕ) where
   -- the answers so far are all where nothing or too much is begun

@@ -1,8 +1,7 @@
 -- The loop over an accumulator, feed by feed.
-use Rattle.std.proofs.Common.{◌≡◌, ℕ, ◌+◌, ◌-◌, ◌*◌, ◌<◌, ◌≤◌, Bool, true, false, Result, Ok, Err, List, [], ◌∷◌, ◌++◌, length, map, refl, sym, ap, ◌∙◌, subst, inl, inr, arith, append_assoc, length-drop}
-use Rattle.std.specs.Prelude.{bit_xor, is_err, is_ok, ◌==◌, if◌then◌else◌}
-use Rattle.std.proofs.lemmas.Bool.{cases_lt, ne_eqb}
-use Rattle.std.proofs.lemmas.List.{append-nil, length-map, map-append}
+use Rattle.std.proofs.Common.{◌≡◌, ℕ, ◌+◌, ◌-◌, ◌*◌, ◌<◌, ◌≤◌, Bool, true, false, Result, Ok, Err, List, [], ◌∷◌, ◌++◌, length, map, refl, sym, ap, ◌∙◌, subst, inl, inr, arith, append_assoc, length-drop, bit_xor, is_err, is_ok, ◌==◌, if◌then◌else◌, ne_eqb, append-nil}
+use Rattle.std.proofs.lemmas.Bool.{cases_lt}
+use Rattle.std.proofs.lemmas.List.{length-map, map-append}
 use Rattle.cobs.specs.InPlace.{stretch}
 use Rattle.cobs.specs.Sentinel.{masked}
 use Rattle.postcard_tree.specs.Tree.{Tree}
@@ -13,8 +12,8 @@ use Rattle.link.specs.Roads.{Loops, done, stopped, used_up, consumed, overfull, 
 use Rattle.line_io.specs.declared.transfers.End.{End}
 use Rattle.line_io.specs.declared.transfers.End.TheVariants.{Ended, ReadFault, NoMemory}
 use Rattle.link.specs.Gathering.{GathersPieces, GathersOnLine, HasGathered, AreThose, AreThoseFor, AreLooped, LoopsOver, AreSameByAccumulator, some_held}
-use Rattle.link.specs.Pieces.{masked_twice}
-use Rattle.link.specs.RoadLaws.{zeroed, whole_length, less_length}
+use Rattle.link.specs.Lemmas.Pieces.{masked_twice}
+use Rattle.link.specs.Lemmas.RoadLaws.{zeroed, whole_length, less_length}
 
 some_is : (held : List ℕ) → 0 < length held → some_held held ≡ 1
 some_is [] l = absurd (omega arith)
@@ -193,7 +192,18 @@ module _ {V : Type 0} (takes : Tree → Type 0) (reads : Tree → V → Type 0) 
   looped : (bytes kept : List ℕ) (new : List V) (end : End) → held ≡ [] → old ≡ [] → HasGathered takes reads growing room s held bytes kept old new end → AreLooped takes reads growing room s bytes new end
   looped bytes kept new Ended e n g = loops_over false bytes kept [] new e n done g
   looped bytes kept new ReadFault e n g = loops_over false bytes kept [] new e n done g
-  looped bytes kept new NoMemory e n g = (g.0, loops_over true bytes g.1 g.2 (new ++ g.0 ∷ []) e n (stopped refl) g.3)
+  looped bytes kept new NoMemory e n g = record {
+    lost = g.lost;
+    loops = loops_over true bytes g.now g.rest (new ++ g.lost ∷ []) e n (stopped refl) g.gathers;
+    before = g.before;
+    last = g.last;
+    parts = g.parts;
+    short = g.short;
+    early = g.early;
+    later = g.later;
+    said = g.said;
+    first = loops_over false g.before g.then [] g.early e n done g.first;
+  }
 
   pub looped_by : (t : ℕ) → t ≡ s → (bytes kept : List ℕ) (new : List V) (end : End) → held ≡ [] → old ≡ [] → HasGathered takes reads growing room t held bytes kept old new end → AreLooped takes reads growing room s bytes new end
   looped_by t is bytes kept new end e n g = looped bytes kept new end e n (subst (λ z. HasGathered takes reads growing room z held bytes kept old new end) is g)
@@ -212,4 +222,4 @@ module _ {V : Type 0} (takes : Tree → Type 0) (reads : Tree → V → Type 0) 
   pub by_loop : (values : List V) (end : End) → AreLooped takes reads growing room s bytes values end → AreThoseFor takes reads growing room s bytes values end
   by_loop values Ended g = those values g
   by_loop values ReadFault g = those values g
-  by_loop values NoMemory g = (g.0, first_of true (values ++ g.0 ∷ []) g.1)
+  by_loop values NoMemory g = (g.lost, first_of true (values ++ g.lost ∷ []) g.loops)

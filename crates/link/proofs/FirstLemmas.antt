@@ -1,22 +1,20 @@
 -- The first answers of a reception, where a list kept no more.
-use Rattle.std.proofs.Common.{◌≡◌, ℕ, Bool, true, false, List, [], ◌∷◌, ◌++◌, Option, Some, None, refl, sym, ap, ◌∙◌, subst, append_assoc}
-use Rattle.std.specs.Prelude.{◌≢◌}
+use Rattle.std.proofs.Common.{◌≡◌, ℕ, Bool, true, false, List, [], ◌∷◌, ◌++◌, Option, Some, None, refl, sym, ap, ◌∙◌, subst, append_assoc, ◌≢◌, append-nil}
 use Rattle.std.specs.List.{AllZip}
-use Rattle.std.proofs.lemmas.List.{append-nil}
 use Rattle.line_io.specs.Device.{LineState}
 use Rattle.postcard_tree.specs.Tree.{Tree}
 use Rattle.link.specs.Stream.{Verdict, IsAnswer, begun_answers, cut_answers, Answers}
 use Rattle.link.specs.Judged.{IsJudged}
 use Rattle.link.specs.Pushes.{Matches}
 use Rattle.line_io.specs.Transfers.{HasRead}
-use Rattle.link.specs.Listening.{HasGiven, HasAnswered, HasBegun, IsReceived}
+use Rattle.link.specs.Listening.{HasGiven, HasAnswered, HasAllButLast, HasBegun, IsReceived}
 use Rattle.link.specs.Each.{HasReadNow, IsReceivedNow}
 use Rattle.link.specs.Firsts.{KeepsFirst, listed_end}
 use Rattle.link.specs.declared.receiver.Answer.{Answer}
 use Rattle.line_io.specs.declared.transfers.End.{End}
 use Rattle.line_io.specs.declared.transfers.End.TheVariants.{Ended, ReadFault, NoMemory}
-use Rattle.link.specs.HeardLaws.{zip_parts, heard_once}
-use Rattle.link.specs.OneAnswers.{one_answer}
+use Rattle.link.specs.Lemmas.HeardLaws.{zip_parts, heard_once}
+use Rattle.link.specs.Lemmas.OneAnswers.{one_answer}
 use Rattle.link.proofs.PrefixesLemmas.{given_front}
 
 some_zip : {A B : Type 0} (R : A → B → Type 0) (xs : List A) (ys : List B) → xs ≢ [] → AllZip R xs ys → (y : B) × (more : List B) × (ys ≡ y ∷ more)
@@ -24,7 +22,7 @@ some_zip R [] ys n h = absurd (n refl)
 some_zip R (x ∷ xs) [] n h = absurd h
 some_zip R (x ∷ xs) (y ∷ ys) n h = (y, ys, refl)
 
-module _ {V : Type 0} (holds : List ℕ → Tree → Type 0) (judged : IsJudged holds) (reads : Tree → V → Type 0) (limit s : ℕ) (stream : List ℕ) (kept lost : List (Answer V)) where
+module _ {V : Type 0} (holds : List ℕ → Tree → Type 0) (judged : IsJudged holds) (reads : Tree → V → Type 0) (limit s : ℕ) (stream : List ℕ) (kept lost : List (Answer V)) (early : HasAllButLast holds reads limit s 1024 kept stream) where
   -- the verdicts of those that were kept, and at least one more
   record Apart (verdicts : List Verdict) : Type 0 where
     pub first : List Verdict
@@ -48,6 +46,7 @@ module _ {V : Type 0} (holds : List ℕ → Tree → Type 0) (judged : IsJudged 
             let t = given_front holds limit s (one_answer holds limit judged.one) stream [] g.verdicts all g.given (subst (λ x. Answers holds limit s x all) (sym (append-nil stream)) a) in
             (p.next, p.more ++ t.0, t.1 ∙ ap (λ y. y ++ t.0) p.parts ∙ append_assoc p.first (p.next ∷ p.more) t.0);
         matching = p.matching;
+        early = early;
       }
 
   of_answered : lost ≢ [] → HasAnswered holds reads limit s (kept ++ lost) stream → HasBegun holds reads limit s kept stream
@@ -57,6 +56,7 @@ module _ {V : Type 0} (holds : List ℕ → Tree → Type 0) (judged : IsJudged 
         verdicts = p.first;
         begins = λ all a. (p.next, p.more, heard_once (IsAnswer holds limit) (λ stretch. begun_answers limit stretch ++ cut_answers limit stretch) s (one_answer holds limit judged.one) stream all g.verdicts a g.all ∙ p.parts);
         matching = p.matching;
+        early = early;
       }
 
   of_begun : lost ≢ [] → HasBegun holds reads limit s (kept ++ lost) stream → HasBegun holds reads limit s kept stream
@@ -68,6 +68,7 @@ module _ {V : Type 0} (holds : List ℕ → Tree → Type 0) (judged : IsJudged 
             let t = g.begins all a in
             (p.next, p.more ++ t.0 ∷ t.1, t.2 ∙ ap (λ y. y ++ t.0 ∷ t.1) p.parts ∙ append_assoc p.first (p.next ∷ p.more) (t.0 ∷ t.1));
         matching = p.matching;
+        early = early;
       }
 
   by_end : (end : Option End) → lost ≢ [] → (end ≡ Some ReadFault → ⊥) → IsReceivedNow holds reads limit s end (kept ++ lost) stream → HasBegun holds reads limit s kept stream
@@ -79,14 +80,14 @@ module _ {V : Type 0} (holds : List ℕ → Tree → Type 0) (judged : IsJudged 
 no_both : (b : Bool) → b ≡ true → b ≡ false → ⊥
 no_both b e f = cc
 
-received_by : {V : Type 0} (holds : List ℕ → Tree → Type 0) (judged : IsJudged holds) (reads : Tree → V → Type 0) (limit s : ℕ) (stream : List ℕ) (end : Option End) (full : Bool) (old items answers : List (Answer V)) → old ≡ []
+received_by : {V : Type 0} (holds : List ℕ → Tree → Type 0) (judged : IsJudged holds) (reads : Tree → V → Type 0) (limit s : ℕ) (stream : List ℕ) (end : Option End) (full : Bool) (old items answers : List (Answer V)) → old ≡ [] → HasAllButLast holds reads limit s 1024 items stream
     → KeepsFirst old items false full answers → (end ≡ None → full ≡ true) → (end ≡ Some ReadFault → full ≡ false) → IsReceivedNow holds reads limit s end answers stream → IsReceived holds reads limit s (listed_end end full) items stream
-received_by holds judged reads limit s stream end true old items answers o k n m h =
+received_by holds judged reads limit s stream end true old items answers o early k n m h =
     let same : items ≡ k.kept = k.items ∙ ap (λ y. y ++ k.kept) o in
     subst (λ y. HasBegun holds reads limit s y stream) (sym same)
-    (by_end holds judged reads limit s stream k.kept k.lost end (k.missed refl refl) (λ e. absurd (no_both true refl (m e))) (subst (λ y. IsReceivedNow holds reads limit s end y stream) k.parts h))
-received_by holds judged reads limit s stream None false old items answers o k n m h = absurd (no_both false (n refl) refl)
-received_by holds judged reads limit s stream (Some end) false old items answers o k n m h =
+    (by_end holds judged reads limit s stream k.kept k.lost (subst (λ y. HasAllButLast holds reads limit s 1024 y stream) same early) end (k.missed refl refl) (λ e. absurd (no_both true refl (m e))) (subst (λ y. IsReceivedNow holds reads limit s end y stream) k.parts h))
+received_by holds judged reads limit s stream None false old items answers o early k n m h = absurd (no_both false (n refl) refl)
+received_by holds judged reads limit s stream (Some end) false old items answers o early k n m h =
     let same : answers ≡ items = k.parts ∙ ap (λ y. k.kept ++ y) (k.whole refl).1 ∙ append-nil k.kept ∙ sym (k.items ∙ ap (λ y. y ++ k.kept) o) in
     subst (λ y. IsReceived holds reads limit s end y stream) same h
 
@@ -100,10 +101,10 @@ read_by old new bytes None false n m h = absurd (no_both false (n refl) refl)
 read_by old new bytes (Some end) false n m h = h
 
 -- what a list keeps is what is received
-pub listed_received : {V : Type 0} (holds : List ℕ → Tree → Type 0) (judged : IsJudged holds) (reads : Tree → V → Type 0) (limit s : ℕ) (stream : List ℕ) (end : Option End) (full : Bool) (result : End) (old items answers : List (Answer V)) → result ≡ listed_end end full → old ≡ []
+pub listed_received : {V : Type 0} (holds : List ℕ → Tree → Type 0) (judged : IsJudged holds) (reads : Tree → V → Type 0) (limit s : ℕ) (stream : List ℕ) (end : Option End) (full : Bool) (result : End) (old items answers : List (Answer V)) → result ≡ listed_end end full → old ≡ [] → HasAllButLast holds reads limit s 1024 items stream
     → KeepsFirst old items false full answers → (end ≡ None → full ≡ true) → (end ≡ Some ReadFault → full ≡ false) → IsReceivedNow holds reads limit s end answers stream → IsReceived holds reads limit s result items stream
-listed_received holds judged reads limit s stream end full result old items answers e o k n m h =
-    subst (λ x. IsReceived holds reads limit s x items stream) (sym e) (received_by holds judged reads limit s stream end full old items answers o k n m h)
+listed_received holds judged reads limit s stream end full result old items answers e o early k n m h =
+    subst (λ x. IsReceived holds reads limit s x items stream) (sym e) (received_by holds judged reads limit s stream end full old items answers o early k n m h)
 
 -- and what was read
 pub listed_read : (old new : LineState) (bytes : List ℕ) (end : Option End) (full : Bool) (result : End) → result ≡ listed_end end full → (end ≡ None → full ≡ true) → (end ≡ Some ReadFault → full ≡ false)

@@ -1,6 +1,5 @@
 -- How answers are handed on, push by push.
-use Rattle.std.proofs.Common.{◌≡◌, ◌-◌, ◌<◌, ◌≤◌, ◌+◌, false, ℕ, arith, List, [], ◌∷◌, ◌++◌, length, take, Option, Some, None, Result, Ok, Err, sym, ap, ◌∙◌, subst}
-use Rattle.std.proofs.lemmas.List.{append-nil, length-append, length-take-le}
+use Rattle.std.proofs.Common.{◌≡◌, ◌-◌, ◌<◌, ◌≤◌, ◌+◌, Bool, false, ℕ, arith, List, [], ◌∷◌, ◌++◌, length, take, Option, Some, None, Result, Ok, Err, refl, sym, ap, ◌∙◌, subst, inl, inr, append_assoc, append-nil, length-append, length-take-le}
 use Rattle.line_io.specs.Device.{LineState, Gave}
 use Rattle.line_io.specs.Calls.{Gave-none, Gave-then, Failed-later}
 use Rattle.postcard_tree.specs.Tree.{Tree}
@@ -11,7 +10,8 @@ use Rattle.link.specs.Listening.{KeepsAnswer, Hears, IsHeard}
 use Rattle.line_io.specs.declared.transfers.End.{End}
 use Rattle.line_io.specs.declared.transfers.End.TheVariants.{Ended, ReadFault, NoMemory as NoneLeft}
 use Rattle.link.specs.declared.reception.Reception.{Reception}
-use Rattle.link.specs.Each.{Handed, HearerLaws, UsesFew, last_call}
+use Rattle.link.specs.Each.{Handed, HearerLaws, UsesFew, last_call, Adds, WasAsked, IsAsked}
+use Rattle.link.specs.Judged.{Judging}
 use Rattle.link.specs.declared.receiver.Answer.{Answer}
 use Rattle.link.specs.declared.receiver.NoMemory.{NoMemory}
 
@@ -35,16 +35,48 @@ module _ {H V : Type 0} (hears : H → List (Answer V) → H → Type 0) (laws :
   pub handed_as : (h k : H) (P Q : List (Answer V) → Type 0) → Handed hears h k P → ((xs : List (Answer V)) → P xs → Q xs) → Handed hears h k Q
   handed_as h k P Q p f = record { answers = p.answers; heard = p.heard; so = f p.answers p.so }
 
+module _ {D H V : Type 0} (inside : D → Inside) (judging : Judging V) (hears : H → List (Answer V) → H → Type 0) (enough : H → Bool) (room : ℕ) (r : Reception D) (h k : H) where
+  -- it was asked before a read
+  pub was_asked : (m : Reception D) (l : H) (a b : List ℕ) (more : List (Answer V)) (p : Adds inside judging hears a r m h k) → hears k more l → enough k ≡ false → length b ≤ room → WasAsked inside judging hears enough room r h l (p.answers ++ more) (a ++ b)
+  was_asked m l a b more p q n short = record {
+    before = a;
+    last = b;
+    parts = refl;
+    short = short;
+    early = p.answers;
+    later = more;
+    said = refl;
+    asked = k;
+    heard = p.heard;
+    wants = n;
+    hears_on = q;
+    given = λ limit s stream given x. (p.so limit s stream given x).given;
+  }
+
+  -- and the end added answers
+  pub still_asked : (laws : HearerLaws hears) (l : H) (a : List (Answer V)) (bytes : List ℕ) (more : List (Answer V)) → IsAsked inside judging hears enough room r h k a bytes → hears k more l → IsAsked inside judging hears enough room r h l (a ++ more) bytes
+  still_asked laws l a bytes more (inl e) q = inl e
+  still_asked laws l a bytes more (inr w) q = inr (record {
+    before = w.before;
+    last = w.last;
+    parts = w.parts;
+    short = w.short;
+    early = w.early;
+    later = w.later ++ more;
+    said = ap (λ x. x ++ more) w.said ∙ append_assoc w.early w.later more;
+    asked = w.asked;
+    heard = w.heard;
+    wants = w.wants;
+    hears_on = laws.more w.asked k l w.later more w.hears_on q;
+    given = w.given;
+  })
+
 -- where a receiver stands of which this is heard
 pub stands_by : {D V : Type 0} (inside : D → Inside) (holds : List ℕ → Tree → Type 0) (reads : Tree → V → Type 0) (limit s : ℕ) (end : End) (r : Reception D) (answers : List (Answer V)) (stream : List ℕ)
     → IsHeard inside holds reads limit s false end r answers stream → IsBehind inside limit s r stream
 stands_by inside holds reads limit s Ended r answers stream h = h.after
 stands_by inside holds reads limit s ReadFault r answers stream h = h.after
 stands_by inside holds reads limit s NoneLeft r answers stream h = h.1
-
--- the first of two facts
-pub handed_first : {H V : Type 0} (hears : H → List (Answer V) → H → Type 0) (h k : H) (P Q : List (Answer V) → Type 0) → Handed hears h k (λ xs. P xs × Q xs) → Handed hears h k P
-handed_first hears h k P Q p = record { answers = p.answers; heard = p.heard; so = p.so.0 }
 
 -- an answer that is kept behind none is kept behind others
 pub keeps_behind : {V : Type 0} (answer : Result (Option (Answer V)) NoMemory) (old more : List (Answer V)) → KeepsAnswer answer [] more → KeepsAnswer answer old (old ++ more)

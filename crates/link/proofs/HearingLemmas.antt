@@ -1,9 +1,7 @@
 -- How answers are kept, push by push.
 use Rattle.line_io.specs.Device.{LineState, read_faults}
 use Rattle.line_io.specs.Transfers.{Failed}
-use Rattle.std.proofs.Common.{◌≡◌, ℕ, zero, suc, ◌+◌, ◌-◌, ◌<◌, ◌⊎◌, arith, true, false, List, [], ◌++◌, take, drop, Option, Some, None, Result, Ok, Err, sym, ap, ◌∙◌, inl, inr, append_assoc}
-use Rattle.std.specs.Prelude.{is_err, IsErr, OnOk, OnErr}
-use Rattle.std.proofs.lemmas.List.{take-append-drop}
+use Rattle.std.proofs.Common.{◌≡◌, ℕ, zero, suc, ◌+◌, ◌-◌, ◌<◌, ◌⊎◌, arith, true, false, List, [], ◌++◌, take, drop, Option, Some, None, Result, Ok, Err, sym, ap, ◌∙◌, inl, inr, append_assoc, is_err, IsErr, OnOk, OnErr, take-append-drop}
 use Rattle.postcard_tree.specs.Tree.{Tree}
 use Rattle.link.specs.Pushes.{IsLost, Answered}
 use Rattle.link.specs.declared.receiver.Answer.{Answer}

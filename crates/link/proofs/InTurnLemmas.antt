@@ -1,8 +1,7 @@
 -- Reading in place, stretch after stretch.
-use Rattle.std.proofs.Common.{◌≡◌, ◌≢◌, ℕ, ◌+◌, List, [], ◌∷◌, ◌++◌, length, drop, Result, Ok, refl, sym, ap, ◌∙◌, subst, inl, inr, arith, length-append}
-use Rattle.std.specs.Prelude.{bit_xor}
+use Rattle.std.proofs.Common.{◌≡◌, ◌≢◌, ℕ, ◌+◌, List, [], ◌∷◌, ◌++◌, length, drop, Result, Ok, refl, sym, ap, ◌∙◌, subst, inl, inr, arith, length-append, bit_xor, eq-eqb, ne_eqb}
 use Rattle.std.specs.Int.Bits.{xor_self}
-use Rattle.std.proofs.lemmas.Bool.{cases_eq, eq-eqb, ne_eqb}
+use Rattle.std.proofs.lemmas.Bool.{cases_eq}
 use Rattle.std.proofs.lemmas.List.{map-append}
 use Rattle.cobs.specs.InPlace.{stretch}
 use Rattle.cobs.specs.Sentinel.{masked}
@@ -18,10 +17,10 @@ use Rattle.link.specs.Laws.{IsReadInTurn}
 use Rattle.link.specs.declared.receiver.Answer.{Answer}
 use Rattle.link.specs.declared.receiver.Answer.TheVariants as answers
 use Rattle.link.specs.declared.receiver.NoMemory.{NoMemory}
-use Rattle.link.specs.Pieces.{masked_twice}
-use Rattle.link.specs.MaskLaws.{mask_twice}
+use Rattle.link.specs.Lemmas.Pieces.{masked_twice}
+use Rattle.link.specs.Lemmas.MaskLaws.{mask_twice}
 use Rattle.link.proofs.ReadingLemmas.{unpadded_some}
-use Rattle.link.specs.RoadLaws.{zeroed, whole_length, less_length, stretch_nonzero}
+use Rattle.link.specs.Lemmas.RoadLaws.{zeroed, whole_length, less_length, stretch_nonzero}
 
 -- zero is masked to the sentinel
 zero_masked : (s : ℕ) → bit_xor s 0 ≡ s

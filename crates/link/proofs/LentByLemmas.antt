@@ -1,6 +1,5 @@
 -- What a receiver over any decoder lends.
-use Rattle.std.proofs.Common.{ℕ, ◌<◌, ◌≤◌, List, length, refl, sym, ◌∙◌, subst}
-use Rattle.std.specs.Prelude.{Bool}
+use Rattle.std.proofs.Common.{ℕ, ◌<◌, ◌≤◌, List, length, refl, sym, ◌∙◌, subst, Bool}
 use Rattle.std.specs.Borrow.{Bor}
 use Rattle.postcard_tree.specs.Tree.{Tree}
 use Rattle.postcard.specs.Frames.{Holds}
@@ -13,8 +12,8 @@ use Rattle.link.specs.declared.reception.Reception.{Reception}
 use Rattle.link.specs.declared.reception.Taken.{Taken}
 use Rattle.link.specs.declared.receiver.Pushed.{Pushed}
 use Rattle.link.specs.Finds.{IsSpan}
-use Rattle.link.specs.AnswerLaws.{behind_after, answered}
-use Rattle.link.specs.SpanLaws.{stretch_of}
+use Rattle.link.specs.Lemmas.AnswerLaws.{behind_after, answered}
+use Rattle.link.specs.Lemmas.SpanLaws.{stretch_of}
 
 module _ {D V : Type 0} (inside : D → Inside) (takes : Tree → Type 0) (reads : Tree → V → Type 0) (grows : Bool) (r : Reception D) (piece : List ℕ) (taken : Taken (Bor (List ℕ))) (result : Pushed V) (a : AdvancesToEvent inside r piece taken) (h : ReadsLent takes reads grows taken result) where
   -- what is lent is answered as a push is

@@ -19,3 +19,4 @@ pub mod FetchingLemmas
 pub mod RunsLemmas
 pub mod LentByLemmas
 pub mod InTurnLemmas
+pub mod EarlyLemmas

@@ -1,26 +1,25 @@
 -- What is given of a front of a stream are the first answers to the whole.
-use Rattle.std.proofs.Common.{◌≡◌, ℕ, ◌+◌, ◌<◌, ◌≤◌, List, [], ◌∷◌, ◌++◌, length, take, drop, Some, refl, sym, ap, ◌∙◌, subst, inl, inr, arith, append_assoc}
+use Rattle.std.proofs.Common.{◌≡◌, ℕ, ◌+◌, ◌<◌, ◌≤◌, List, [], ◌∷◌, ◌++◌, length, take, drop, Some, refl, sym, ap, ◌∙◌, subst, inl, inr, arith, append_assoc, append-nil, length-append, take-append-drop, length-take, take-take, lt-ltb, le-ltb, bit_xor}
 use Rattle.std.specs.List.{AllZip}
-use Rattle.std.proofs.lemmas.List.{append-nil, length-append, take-append-drop, length-take, take-take, take-append-le}
-use Rattle.std.proofs.lemmas.Bool.{cases_lt, lt-ltb, le-ltb}
+use Rattle.std.proofs.lemmas.List.{take-append-le}
+use Rattle.std.proofs.lemmas.Bool.{cases_lt}
 use Rattle.cobs.specs.Frames.{Frame, spelled, block}
 use Rattle.std.proofs.Math.Seq.{take-length}
 use Rattle.cobs.specs.Sentinel.{masked}
 use Rattle.postcard_tree.specs.Tree.{Tree}
 use Rattle.std.proofs.lemmas.List.{map-append}
-use Rattle.std.specs.Prelude.{bit_xor}
-use Rattle.link.specs.Stream.{Verdict, too_long, cut, IsAnswer, begun_answers, cut_answers, Given, Answers, ended, unfinished, kept}
+use Rattle.link.specs.Stream.{Verdict, too_long, IsAnswer, begun_answers, cut_answers, Given, Answers, ended, unfinished, kept}
 use Rattle.link.specs.Relational.{Stretches}
-use Rattle.link.specs.Pushes.{IsBegun, IsPush, IsLost, Matches}
-use Rattle.link.specs.Listening.{IsDue, AnswersBeginProperly, EndsAtLoss, IsKeptDue, IsReceived}
+use Rattle.link.specs.Pushes.{IsLost, Matches}
+use Rattle.link.specs.Listening.{AnswersBeginProperly, HasAllButLast, EndsAtLoss, IsKeptDue, IsReceived}
 use Rattle.link.specs.declared.receiver.Answer.{Answer}
 use Rattle.line_io.specs.declared.transfers.End.{End}
 use Rattle.line_io.specs.declared.transfers.End.TheVariants.{Ended, ReadFault, NoMemory}
-use Rattle.link.specs.Stepwise.{filled, has_stretches, ended_is, unfinished_is}
-use Rattle.link.specs.StretchLaws.{NoZero-append, goes_on}
-use Rattle.link.specs.FeedLaws.{is_short}
+use Rattle.link.specs.Lemmas.Stepwise.{filled, has_stretches, ended_is, unfinished_is}
+use Rattle.link.specs.Lemmas.StretchLaws.{NoZero-append, goes_on}
+use Rattle.link.specs.Lemmas.FeedLaws.{is_short}
 use Rattle.link.specs.Judged.{IsJudged}
-use Rattle.link.specs.OneAnswers.{one_answer}
+use Rattle.link.specs.Lemmas.OneAnswers.{one_answer}
 
 spelled_some : (first : List ℕ) (others : List (List ℕ)) → 0 < length (spelled first others)
 spelled_some first [] = omega arith
@@ -148,30 +147,7 @@ module _ (holds : List ℕ → Tree → Type 0) (judged : IsJudged holds) (limit
   one : (p : List ℕ) (v w : Verdict) → IsAnswer holds limit p v → IsAnswer holds limit p w → v ≡ w
   one = one_answer holds limit judged.one
 
-  by_push : (used : ℕ) (a : Verdict) → IsPush holds limit s front rest used (Some a) → AnswersBeginProperly holds limit s (front ++ rest) vs
-  by_push used a p all h =
-      let parts : front ++ rest ≡ (front ++ take used rest) ++ drop used rest = ap (λ b. front ++ b) (sym (take-append-drop used rest)) ∙ sym (append_assoc front (take used rest) (drop used rest)) in
-      let t = given_front holds limit s one (front ++ take used rest) (drop used rest) (vs ++ a ∷ []) all (p.gives vs g) (subst (λ b. Answers holds limit s b all) parts h) in
-      (a, t.0, t.1 ∙ append_assoc vs (a ∷ []) t.0)
-
-  by_end : (b : ℕ) (p : List ℕ) → rest ≡ [] → IsBegun limit s front (kept (b ∷ p)) → AnswersBeginProperly holds limit s (front ++ rest) vs
-  by_end b p e i all h =
-      let k = is_short limit (unfinished s front) (b ∷ p) i in
-      let a = subst (λ y. Answers holds limit s y all) (ap (λ y. front ++ y) e ∙ append-nil front) h in
-      let r = split_front (IsAnswer holds limit) one (ended s front) [] g.done a.done g.each (subst (λ y. AllZip (IsAnswer holds limit) y a.done) (sym (append-nil (ended s front))) a.each) in
-      let long : length (b ∷ p) ≤ limit = subst (λ y. length y ≤ limit) k.0 k.1 in
-      let last : cut_answers limit (unfinished s front) ≡ cut ∷ [] = ap (cut_answers limit) k.0 ∙ rw (le-ltb limit (length (b ∷ p)) long) refl in
-      let none : vs ≡ g.done = g.whole ∙ ap (λ y. g.done ++ y) (short_said limit (unfinished s front) k.1) ∙ append-nil g.done in (
-        cut,
-        [],
-        a.whole ∙ ap (λ y. a.done ++ (y ++ cut_answers limit (unfinished s front))) (short_said limit (unfinished s front) k.1) ∙ ap (λ y. a.done ++ y) last
-            ∙ ap (λ y. y ++ (cut ∷ [])) (r.whole ∙ ap (λ y. g.done ++ y) (left_none r.tail r.each) ∙ append-nil g.done ∙ sym none),
-      )
-    where
-      left_none : (tail : List Verdict) → AllZip (IsAnswer holds limit) [] tail → tail ≡ []
-      left_none [] h = refl
-      left_none (x ∷ tail) h = absurd h
-
+  -- where a value is lost, the answers so far are a proper beginning of all
   by_loss : (used : ℕ) → IsLost holds limit s front rest used → AnswersBeginProperly holds limit s (front ++ rest) vs
   by_loss used l all h =
       let n = length l.front in
@@ -183,21 +159,16 @@ module _ (holds : List ℕ → Tree → Type 0) (judged : IsJudged holds) (limit
       let k = is_short limit (unfinished s (front ++ l.front)) l.stretch l.begun in
       given_ended holds limit s one (front ++ l.front) (drop used rest) vs all (omega (arith, ap length k.0, frame_some l.stretch l.message l.frame)) k.1 given (subst (λ y. Answers holds limit s y all) parts h)
 
-  -- where a further answer is due, those so far are a proper beginning of all
-  pub due_begins : IsDue holds limit s front rest → AnswersBeginProperly holds limit s (front ++ rest) vs
-  due_begins (inl (used, a, p)) = by_push used a p
-  due_begins (inr (inl (used, l))) = by_loss used l
-  due_begins (inr (inr (b, p, e, i))) = by_end b p e i
-
 -- what was kept is what is received
-pub received : {V : Type 0} (holds : List ℕ → Tree → Type 0) → IsJudged holds → (reads : Tree → V → Type 0) (limit s : ℕ) (end : End) (answers : List (Answer V)) (stream : List ℕ) → IsKeptDue holds reads limit s end answers stream → IsReceived holds reads limit s end answers stream
-received holds judged reads limit s Ended answers stream h = h
-received holds judged reads limit s ReadFault answers stream h = h
-received holds judged reads limit s NoMemory answers stream h =
+pub received : {V : Type 0} (holds : List ℕ → Tree → Type 0) → IsJudged holds → (reads : Tree → V → Type 0) (limit s : ℕ) (end : End) (answers : List (Answer V)) (stream : List ℕ) → HasAllButLast holds reads limit s 1024 answers stream → IsKeptDue holds reads limit s end answers stream → IsReceived holds reads limit s end answers stream
+received holds judged reads limit s Ended answers stream l h = h
+received holds judged reads limit s ReadFault answers stream l h = h
+received holds judged reads limit s NoMemory answers stream early h =
     let l = h.loss in record {
       verdicts = l.given.verdicts;
-      begins = subst (λ x. AnswersBeginProperly holds limit s x l.given.verdicts) (sym h.parts) (due_begins holds judged limit s l.front l.rest l.given.verdicts l.given.given (inr (inl (l.used, l.lost))));
+      begins = subst (λ x. AnswersBeginProperly holds limit s x l.given.verdicts) (sym h.parts) (by_loss holds judged limit s l.front l.rest l.given.verdicts l.given.given l.used l.lost);
       matching = subst (λ xs. AllZip (Matches reads) xs l.given.verdicts) (sym h.said) l.given.matching;
+      early = early;
     }
 
 -- and which value was lost

@@ -1,9 +1,7 @@
 -- What one byte does to a receiver.
-use Rattle.std.proofs.Common.{◌≡◌, ℕ, ◌<◌, ◌≤◌, Bool, true, false, List, [], ◌∷◌, length, take, min, Option, Some, None, Ok, Err, refl, sym, ap, subst, inl, inr, arith}
-use Rattle.std.specs.Prelude.{bit_xor, Result, IfSome}
+use Rattle.std.proofs.Common.{◌≡◌, ℕ, ◌<◌, ◌≤◌, Bool, true, false, List, [], ◌∷◌, length, take, min, Option, Some, None, Ok, Err, refl, sym, ap, subst, inl, inr, arith, bit_xor, Result, IfSome, take_all, eq-eqb, ne_eqb, lt-ltb, le-ltb}
 use Rattle.std.specs.List.{AllByRecursion}
-use Rattle.std.proofs.lemmas.List.{take_all}
-use Rattle.std.proofs.lemmas.Bool.{cases_eq, cases_lt, eq-eqb, ne_eqb, lt-ltb, le-ltb}
+use Rattle.std.proofs.lemmas.Bool.{cases_eq, cases_lt}
 use Rattle.cobs.specs.Frames.{Frame, part, missing}
 use Rattle.cobs.specs.FrameLaws.{HasOneMessage, IsFrameAtBlockEnd, DecidesLess}
 use Rattle.cobs.specs.DecodingLaws.{AnswersFrames}
@@ -16,7 +14,7 @@ use Rattle.cobs.specs.declared.dec.report.DecodeError.TheVariants.{InvalidFrame}
 use Rattle.link.specs.Stream.{Begun, kept, over}
 use Rattle.link.specs.Decoding.{Inside}
 use Rattle.link.specs.Receivers.{Has, IsAtBy, IsAtWith}
-use Rattle.link.specs.MaskLaws.{zero_of}
+use Rattle.link.specs.Lemmas.MaskLaws.{zero_of}
 
 module _ (limit s : ℕ) (inside : Inside) (count : ℕ) (past : Bool) where
   pub kept_is : (b : Begun) → past ≡ false → IsAtBy limit s inside count past b → (p : List ℕ) × (b ≡ kept p) × Has limit s inside count p

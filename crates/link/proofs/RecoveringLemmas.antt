@@ -1,17 +1,16 @@
 -- What is heard behind a value that had no memory.
-use Rattle.std.proofs.Common.{◌≡◌, ℕ, List, [], ◌∷◌, ◌++◌, take, drop, refl, sym, ap, ◌∙◌, subst, arith, append_assoc}
-use Rattle.std.proofs.lemmas.List.{append-nil, take-append-drop}
+use Rattle.std.proofs.Common.{◌≡◌, ℕ, List, [], ◌∷◌, ◌++◌, take, drop, refl, sym, ap, ◌∙◌, subst, arith, append_assoc, append-nil, take-append-drop}
 use Rattle.postcard_tree.specs.Tree.{Tree}
 use Rattle.link.specs.Decoding.{Inside}
 use Rattle.link.specs.Stream.{kept, begun}
 use Rattle.link.specs.Laws.{EndsBetween}
-use Rattle.link.specs.Losses.{begun_on, ends_on, ends_through}
+use Rattle.link.specs.Lemmas.Losses.{begun_on, ends_on, ends_through}
 use Rattle.link.specs.Receivers.{IsAt}
 use Rattle.link.specs.Listening.{Loss, through, answers_before, bytes_through, EndsAtLoss, StopsAt, Hears, Recovers}
 use Rattle.link.specs.declared.receiver.Answer.{Answer}
 use Rattle.link.specs.declared.reception.Reception.{Reception}
-use Rattle.link.specs.Stepwise.{unfinished_is}
-use Rattle.link.specs.FeedLaws.{begun_of, short_begun}
+use Rattle.link.specs.Lemmas.Stepwise.{unfinished_is}
+use Rattle.link.specs.Lemmas.FeedLaws.{begun_of, short_begun}
 use Rattle.link.proofs.EndingLemmas.{none_given}
 
 begun_none : (limit s : ℕ) → begun limit s [] ≡ kept []

@@ -1,9 +1,7 @@
 -- What runs without sentinels do to a receiver.
-use Rattle.std.proofs.Common.{◌≡◌, ℕ, suc, ◌+◌, ◌<◌, ◌≤◌, Bool, true, false, List, [], ◌∷◌, ◌++◌, length, get_or, Option, None, Result, Ok, refl, sym, ap, ◌∙◌, subst, arith, append_assoc}
+use Rattle.std.proofs.Common.{◌≡◌, ℕ, suc, ◌+◌, ◌<◌, ◌≤◌, Bool, true, false, List, [], ◌∷◌, ◌++◌, length, get_or, Option, None, Result, Ok, refl, sym, ap, ◌∙◌, subst, arith, append_assoc, ne_eqb, eq-eqb, le-ltb, append-nil, length-append}
 use Rattle.std.specs.List.{AllByRecursion}
 use Rattle.std.proofs.lemmas.Nat.{xor_lt}
-use Rattle.std.proofs.lemmas.Bool.{ne_eqb, eq-eqb, le-ltb}
-use Rattle.std.proofs.lemmas.List.{append-nil, length-append}
 use Rattle.cobs.specs.Frames.{NoZero, part}
 use Rattle.cobs.specs.FrameLaws.{DecidesLess}
 use Rattle.cobs.specs.Pieces.{frame_left, ended}
@@ -18,8 +16,8 @@ use Rattle.link.specs.Steps.{event_at, RunsOn}
 use Rattle.link.specs.Decoding.{Inside}
 use Rattle.link.specs.Receivers.{Has, IsAtBy}
 use Rattle.link.specs.Finds.{IsSpan}
-use Rattle.link.specs.MaskLaws.{masked_length}
-use Rattle.link.specs.RunLaws.{above, over_on}
+use Rattle.link.specs.Lemmas.MaskLaws.{masked_length}
+use Rattle.link.specs.Lemmas.RunLaws.{above, over_on}
 
 -- what a decoder keeps of a run
 all_joined : (P : ℕ → Type 0) (p x : List ℕ) → AllByRecursion P p → AllByRecursion P x → AllByRecursion P (p ++ x)

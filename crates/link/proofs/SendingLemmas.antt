@@ -1,7 +1,6 @@
 -- What goes out of a frame.
-use Rattle.std.proofs.Common.{◌≡◌, ℕ, ◌+◌, ◌-◌, ◌<◌, ◌≤◌, Bool, List, [], ◌∷◌, ◌++◌, length, take, drop, Option, Some, None, refl, sym, ap, ◌∙◌, subst, arith, append_assoc}
-use Rattle.std.specs.Prelude.{unwrap_or, IfSome, bit_xor, zero, suc}
-use Rattle.std.proofs.lemmas.List.{append-nil, length-append, length-drop, length-map, length-take, take_all, take-append-le}
+use Rattle.std.proofs.Common.{◌≡◌, ℕ, ◌+◌, ◌-◌, ◌<◌, ◌≤◌, Bool, List, [], ◌∷◌, ◌++◌, length, take, drop, Option, Some, None, refl, sym, ap, ◌∙◌, subst, arith, append_assoc, unwrap_or, IfSome, bit_xor, zero, suc, append-nil, length-append, length-drop, length-take, take_all}
+use Rattle.std.proofs.lemmas.List.{length-map, take-append-le}
 use Rattle.std.proofs.Math.Seq.{take-add, take-append-add}
 use Rattle.line_io.specs.Device.{LineState, moved_front, write_faults, Wrote}
 use Rattle.line_io.specs.Calls.{moved_no_fault}

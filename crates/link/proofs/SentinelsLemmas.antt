@@ -1,12 +1,10 @@
 -- Where the first stretch of bytes on a line begins, by its sentinel.
-use Rattle.std.proofs.Common.{◌≡◌, ℕ, ◌+◌, ◌<◌, List, [], ◌∷◌, length, drop, get_or, refl, sym, ap, ◌∙◌, arith}
-use Rattle.std.specs.Prelude.{bit_xor}
+use Rattle.std.proofs.Common.{◌≡◌, ℕ, ◌+◌, ◌<◌, List, [], ◌∷◌, length, drop, get_or, refl, sym, ap, ◌∙◌, arith, bit_xor, ne_eqb, eq-eqb}
 use Rattle.std.specs.Int.Bits.{xor_self}
-use Rattle.std.proofs.lemmas.Bool.{ne_eqb, eq-eqb}
 use Rattle.std.proofs.lemmas.List.{drop-map, drop_more}
 use Rattle.cobs.specs.Sentinel.{masked}
 use Rattle.cobs.specs.Whole.{unpadded}
-use Rattle.link.specs.StretchLaws.{nonzero}
+use Rattle.link.specs.Lemmas.StretchLaws.{nonzero}
 
 -- at the sentinel zero bytes stand on the line as they are
 pub masked_zero : (p : List ℕ) → masked 0 p ≡ p

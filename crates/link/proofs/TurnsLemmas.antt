@@ -1,13 +1,13 @@
 -- Sends one after another.
-use Rattle.std.proofs.Common.{◌≡◌, ℕ, ◌+◌, ◌≤◌, Bool, List, [], ◌∷◌, ◌++◌, map, Option, refl, sym, ap, ◌∙◌, subst, inl, inr, arith, append_assoc}
-use Rattle.std.proofs.lemmas.List.{append-nil, map-append}
+use Rattle.std.proofs.Common.{◌≡◌, ℕ, ◌+◌, ◌≤◌, Bool, List, [], ◌∷◌, ◌++◌, map, Option, refl, sym, ap, ◌∙◌, subst, inl, inr, arith, append_assoc, append-nil}
+use Rattle.std.proofs.lemmas.List.{map-append}
 use Rattle.line_io.specs.Device.{LineState}
 use Rattle.line_io.specs.Calls.{Wrote-none, Wrote-then}
 use Rattle.postcard_tree.specs.Tree.{Tree, IsTree}
 use Rattle.link.specs.Run.{Send, written, clean_after, session_line, IsSend, IsSession}
 use Rattle.link.specs.Fates.{IsSendOf, fate_of, broke, brokens, clean_after_all, Did, FewBroke, SendsOne, SendsAll}
 use Rattle.link.specs.declared.session.Fate.{Fate}
-use Rattle.link.specs.Givens.{zip_one}
+use Rattle.link.specs.Lemmas.Givens.{zip_one}
 
 clean_more : (clean : Bool) (xs : List Send) (x : Send) → clean_after_all clean (xs ++ x ∷ []) ≡ clean_after (clean_after_all clean xs) x
 clean_more clean [] x = refl

@@ -1,5 +1,5 @@
 -- What is handed on while a stream is read.
-use Rattle.std.specs.Prelude.{◌≡◌, ℕ, ◌+◌, ◌≤◌, List, [], ◌++◌, length, Bool, true, Option, Some, None, Result, IsErr}
+use Rattle.std.specs.Prelude.{◌≡◌, ℕ, ◌+◌, ◌≤◌, ◌⊎◌, List, [], ◌++◌, length, Bool, true, false, Option, Some, None, Result, IsErr}
 use Rattle.line_io.specs.Device.{LineState, Gave}
 use Rattle.postcard_tree.specs.Tree.{Tree}
 use Rattle.link.specs.Decoding.{Inside}
@@ -122,9 +122,33 @@ module _ {D H V : Type 0} (inside : D → Inside) (judging : Judging V)
       → Type 0
   Listens line later r s h k end = ListensBy true line later r s h k end
 
+  -- A hearer was asked before the last read, of at most so many bytes: it hadn't had enough, and what it had been handed are the
+  -- answers that the bytes before that read add.
+  pub record WasAsked (enough : H → Bool) (room : ℕ) (r : Reception D) (h k : H)
+      (answers : List (Answer V)) (bytes : List ℕ) : Type 0 where
+    pub before : List ℕ
+    pub last : List ℕ
+    pub parts : bytes ≡ before ++ last
+    pub short : length last ≤ room
+    pub early : List (Answer V)
+    pub later : List (Answer V)
+    pub said : answers ≡ early ++ later
+    pub asked : H
+    pub heard : hears h early asked
+    pub wants : enough asked ≡ false
+    pub hears_on : hears asked later k
+    pub given : (limit z : ℕ) (stream : List ℕ) (given : List (Answer V))
+        → Hears inside judging.holds judging.reads limit z r given stream
+        → HasGiven judging.holds judging.reads limit z (given ++ early) (stream ++ before)
+
+  -- so of each read: nothing was read, or it was asked before the last
+  abbrev pub IsAsked : (H → Bool) → ℕ → Reception D → H → H → List (Answer V) → List ℕ → Type 0
+  IsAsked enough room r h k answers bytes =
+      (bytes ≡ []) ⊎ WasAsked enough room r h k answers bytes
+
   -- The same of a receiver that was given nothing: what was handed on are the answers to the bytes, with what the end adds; or those to
-  -- what stands before a value that had no memory.
-  pub record HearsOut (line later : LineState) (r s : Reception D) (h k : H)
+  -- what stands before a value that had no memory. The hearer was asked before each read of 1024 bytes.
+  pub record HearsOut (enough : H → Bool) (line later : LineState) (r s : Reception D) (h k : H)
       (end : Option End) : Type 0 where
     pub bytes : List ℕ
     pub read : HasReadNow line later end bytes
@@ -133,6 +157,7 @@ module _ {D H V : Type 0} (inside : D → Inside) (judging : Judging V)
         → IsReceivedNow judging.holds judging.reads limit z end answers bytes
         × IsBehind inside limit z s bytes
         × (end ≡ Some NoMemory → EndsAtLoss judging.holds judging.reads limit z answers bytes))
+    pub asked : IsAsked enough 1024 r h k hands.answers bytes
 
 -- what a reader gave, however the reading ended
 pub gave_now : (line later : LineState) (end : Option End) (bytes : List ℕ)

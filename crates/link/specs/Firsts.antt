@@ -1,6 +1,5 @@
 -- What a list keeps of the answers that it hears, as long as it finds memory.
-use Rattle.std.specs.Prelude.{◌≡◌, ◌≢◌, Bool, true, false, List, [], ◌∷◌, ◌++◌, Option, Some, None, refl}
-use Rattle.std.proofs.Common.{sym, ◌∙◌, ap, append_assoc, append-nil}
+use Rattle.std.proofs.Common.{sym, ◌∙◌, ap, append_assoc, append-nil, ◌≡◌, ◌≢◌, Bool, true, false, List, [], ◌∷◌, ◌++◌, Option, Some, None, refl}
 use Rattle.link.specs.Each.{HearerLaws}
 use Rattle.link.specs.declared.receiver.Answer.{Answer}
 use Rattle.line_io.specs.declared.transfers.End.{End}

@@ -1,5 +1,5 @@
 -- What the loop over an accumulator does with pieces, each byte of which is XORed with the sentinel.
-use Rattle.std.specs.Prelude.{◌≡◌, ℕ, Bool, true, false, List, [], ◌∷◌, ◌++◌, map}
+use Rattle.std.specs.Prelude.{◌≡◌, ℕ, ◌≤◌, Bool, true, false, List, [], ◌∷◌, ◌++◌, length, map}
 use Rattle.std.specs.Borrow.{RattleType}
 use Rattle.std.specs.Mem.{FitsInMemory}
 use Rattle.cobs.specs.Sentinel.{masked}
@@ -25,11 +25,11 @@ pub record GathersPieces {V : Type 0} (takes : Tree → Type 0) (reads : Tree �
       → Loops takes reads growing may_stop room kept (rest ++ later) vs
       → Loops takes reads growing may_stop room held (pieces ++ later) (got ++ vs)
 
--- A further value came, which had no place in the list.
+-- A further value came, which had no place in the list behind these.
 abbrev pub LacksPlace : {V : Type 0} → (Tree → Type 0) → (Tree → V → Type 0)
     → Bool → ℕ → List ℕ → List (List ℕ) → List V → List V → Type 0
 LacksPlace {V} takes reads growing room held pieces old new =
-    (lost : V) × (kept : List ℕ) × (rest : List (List ℕ))
+    (lost : V) × (kept : List ℕ) × (rest : List (List ℕ)) × (more : List V) × (new ≡ old ++ more)
     × GathersPieces takes reads growing room held pieces kept rest old (new ++ lost ∷ [])
 
 -- `roads`' law of an accumulator, of any values
@@ -50,12 +50,28 @@ pub record GathersOnLine {V : Type 0} (takes : Tree → Type 0) (reads : Tree �
   pub are : joined pieces ≡ bytes
   pub gathers : GathersPieces takes reads growing room held (map (masked s) pieces) kept rest old new
 
+-- A further value had no place in the list, which has all values of the bytes before the last read of at most 1024.
+pub record FindsNoPlace {V : Type 0} (takes : Tree → Type 0) (reads : Tree → V → Type 0) (growing : Bool)
+    (room s : ℕ) (held bytes : List ℕ) (old new : List V) : Type 0 where
+  pub lost : V
+  pub now : List ℕ
+  pub rest : List (List ℕ)
+  pub gathers : GathersOnLine takes reads growing room s held bytes now rest old (new ++ lost ∷ [])
+  pub before : List ℕ
+  pub last : List ℕ
+  pub parts : bytes ≡ before ++ last
+  pub short : length last ≤ 1024
+  pub then : List ℕ
+  pub early : List V
+  pub later : List V
+  pub said : new ≡ early ++ later
+  pub first : GathersOnLine takes reads growing room s held before then [] old early
+
 -- what was gathered, by how the reading ended
 abbrev pub HasGathered : {V : Type 0} → (Tree → Type 0) → (Tree → V → Type 0) → Bool → ℕ → ℕ → List ℕ
     → List ℕ → List ℕ → List V → List V → End → Type 0
-HasGathered {V} takes reads growing room s held bytes kept old new NoMemory =
-    (lost : V) × (now : List ℕ) × (rest : List (List ℕ))
-    × GathersOnLine takes reads growing room s held bytes now rest old (new ++ lost ∷ [])
+HasGathered takes reads growing room s held bytes kept old new NoMemory =
+    FindsNoPlace takes reads growing room s held bytes old new
 HasGathered takes reads growing room s held bytes kept old new _ =
     GathersOnLine takes reads growing room s held bytes kept [] old new
 
@@ -84,10 +100,24 @@ pub record LoopsOver {V : Type 0} (takes : Tree → Type 0) (reads : Tree → V 
   pub are : joined pieces ≡ bytes
   pub loops : Loops takes reads growing may_stop room [] (map (masked s) pieces) values
 
--- by how the reading ended: when out of memory one more value had no place in the list
+-- One more value had no place in the list, which has all values of the bytes before the last read of at most 1024.
+pub record LoopsToLoss {V : Type 0} (takes : Tree → Type 0) (reads : Tree → V → Type 0)
+    (growing : Bool) (room s : ℕ) (bytes : List ℕ) (values : List V) : Type 0 where
+  pub lost : V
+  pub loops : LoopsOver takes reads growing true room s bytes (values ++ lost ∷ [])
+  pub before : List ℕ
+  pub last : List ℕ
+  pub parts : bytes ≡ before ++ last
+  pub short : length last ≤ 1024
+  pub early : List V
+  pub later : List V
+  pub said : values ≡ early ++ later
+  pub first : LoopsOver takes reads growing false room s before early
+
+-- by how the reading ended
 abbrev pub AreLooped : {V : Type 0} → (Tree → Type 0) → (Tree → V → Type 0)
     → Bool → ℕ → ℕ → List ℕ → List V → End → Type 0
-AreLooped {V} takes reads growing room s bytes values NoMemory =
-    (lost : V) × LoopsOver takes reads growing true room s bytes (values ++ lost ∷ [])
+AreLooped takes reads growing room s bytes values NoMemory =
+    LoopsToLoss takes reads growing room s bytes values
 AreLooped takes reads growing room s bytes values _ =
     LoopsOver takes reads growing false room s bytes values

@@ -1,10 +1,10 @@
 //! Receiving where each answer is handed on as soon as the byte that ends its stretch was read.
-ghost use Rattle.std.specs.Prelude.{◌≡◌, ℕ, ◌-◌, ◌<◌, Bool, true, false, List, [], ◌∷◌, ◌++◌, length, Some, None, OnOk, OnErr, IfErr};
+ghost use Rattle.std.specs.Prelude.{◌≡◌, ℕ, ◌-◌, ◌<◌, ◌≤◌, Bool, true, false, List, [], ◌∷◌, ◌++◌, length, Some, None, OnOk, OnErr, IfErr};
 ghost use Rattle.link.specs.Steps.{Course};
 ghost use Rattle.link.specs.Finds.{IsTaken, lent_message};
 ghost use Rattle.link.specs.Receivers.{IsBehind, SameTerms};
 ghost use Rattle.link.specs.Listening.{Hears, StopsAt};
-ghost use Rattle.link.specs.Each.{Handed, HandsOn, Withholds, HearerLaws, Adds, AddsBy, ListensBy, Listens, HearsOut, IsHeardNow, IsKeptNow, MayLackMemory};
+ghost use Rattle.link.specs.Each.{Handed, HandsOn, Withholds, HearerLaws, Adds, AddsBy, ListensBy, Listens, IsAsked, HearsOut, IsHeardNow, IsKeptNow, MayLackMemory};
 ghost use Rattle.link.specs.declared.receiver.Answer.{Answer};
 ghost use Rattle.line_io.specs.declared.transfers.End.TheVariants.{ReadFault, NoMemory as LacksMemory};
 
@@ -118,58 +118,7 @@ impl<D: Decoding> Reception<D> {
         Ok(())
     }
 
-    // The same until the piece is used up: behind a value that found no memory none is handed on.
-    fn hand_first<V, M: MessageReader<V>, H: Hearer<V>>(
-        &mut self,
-        alloc: Global,
-        messages: &M,
-        piece: &[u8],
-        hearer: &mut H,
-    ) -> Result<(), NoMemory>
-        ensures ok { OnOk result (Adds D.inside (M.judging messages.now) H.hears piece.now
-            self.old self.new hearer.old hearer.new) }
-        ensures err { OnErr result (AddsBy D.inside (M.judging messages.now) H.hears false piece.now
-            self.old self.new hearer.old hearer.new (Some LacksMemory)) }
-        ensures memory { OnErr result ((M.judging messages.now).growing ≡ true) }
-        ensures same { SameTerms D.inside self.old self.new }
-    {
-        match self.hand_on(alloc, messages, piece, hearer) {
-            Ok(()) => Ok(()),
-            Err(left) => {
-                self.pass_over(left);
-                Err(NoMemory)
-            }
-        }
-    }
-
-    // The same, and goes on behind such values.
-    fn hand_all<V, M: MessageReader<V>, H: Hearer<V>>(
-        &mut self,
-        alloc: Global,
-        messages: &M,
-        piece: &[u8],
-        hearer: &mut H,
-    ) -> Result<(), NoMemory>
-        ensures ok { OnOk result (Adds D.inside (M.judging messages.now) H.hears piece.now
-            self.old self.new hearer.old hearer.new) }
-        ensures err { OnErr result (AddsBy D.inside (M.judging messages.now) H.hears true piece.now
-            self.old self.new hearer.old hearer.new (Some LacksMemory)) }
-        ensures memory { OnErr result ((M.judging messages.now).growing ≡ true) }
-        ensures same { SameTerms D.inside self.old self.new }
-    {
-        let mut rest = match self.hand_on(alloc, messages, piece, hearer) {
-            Ok(()) => return Ok(()),
-            Err(left) => left,
-        };
-        loop {
-            match self.hand_on(alloc, messages, rest, hearer) {
-                Ok(()) => return Err(NoMemory),
-                Err(left) => rest = left,
-            }
-        }
-    }
-
-    // One of both.
+    // The same until the piece is used up. Behind a value that found no memory it goes on, or hands none on.
     fn hand_by<V, M: MessageReader<V>, H: Hearer<V>>(
         &mut self,
         goes_on: bool,
@@ -185,10 +134,20 @@ impl<D: Decoding> Reception<D> {
         ensures memory { OnErr result ((M.judging messages.now).growing ≡ true) }
         ensures same { SameTerms D.inside self.old self.new }
     {
-        if goes_on {
-            return self.hand_all(alloc, messages, piece, hearer);
+        let mut rest = match self.hand_on(alloc, messages, piece, hearer) {
+            Ok(()) => return Ok(()),
+            Err(left) => left,
+        };
+        if !goes_on {
+            self.pass_over(rest);
+            return Err(NoMemory);
         }
-        self.hand_first(alloc, messages, piece, hearer)
+        loop {
+            match self.hand_on(alloc, messages, rest, hearer) {
+                Ok(()) => return Err(NoMemory),
+                Err(left) => rest = left,
+            }
+        }
     }
 
     // Reads once into a room, and hands on the answers that the bytes bring about.
@@ -202,8 +161,9 @@ impl<D: Decoding> Reception<D> {
         room: &mut [u8],
     ) -> Option<End>
         requires { 0 < length room.old }
-        ensures heard { ListensBy D.inside (M.judging messages.now) H.hears goes_on
-            (R.line reader.old) (R.line reader.new) self.old self.new hearer.old hearer.new result }
+        ensures heard { (l : ListensBy D.inside (M.judging messages.now) H.hears goes_on
+            (R.line reader.old) (R.line reader.new) self.old self.new hearer.old hearer.new result)
+            × (length l.bytes ≤ length room.old) }
         ensures calls { (R.line reader.new).calls_left ≡ (R.line reader.old).calls_left - 1 }
         ensures spent { (R.line reader.old).calls_left ≡ 0 → result ≡ Some ReadFault }
         ensures memory { MayLackMemory (M.judging messages.now).growing result }
@@ -238,8 +198,10 @@ impl<D: Decoding> Reception<D> {
         room: &mut [u8],
     ) -> Option<End>
         requires { 0 < length room.old }
-        ensures heard { ListensBy D.inside (M.judging messages.now) H.hears goes_on
-            (R.line reader.old) (R.line reader.new) self.old self.new hearer.old hearer.new result }
+        ensures heard { (l : ListensBy D.inside (M.judging messages.now) H.hears goes_on
+            (R.line reader.old) (R.line reader.new) self.old self.new hearer.old hearer.new result)
+            × IsAsked D.inside (M.judging messages.now) H.hears H.enough (length room.old)
+            self.old hearer.old hearer.new l.adds.answers l.bytes }
         ensures enough { result ≡ None → H.enough hearer.new ≡ true }
         ensures fault { result ≡ Some ReadFault → H.enough hearer.new ≡ false }
         ensures settled { H.settled hearer.old → H.settled hearer.new }
@@ -349,8 +311,8 @@ impl<D: Decoding> Reception<D> {
     /// where the hearer had enough before the reader's end: what was handed on then is what the bytes that were read give.
     ///
     /// The end is `NoMemory` only at a value: what was handed on then are the answers to all that stands before it, and the receiver
-    /// stands behind all that was read. At `ReadFault` the hearer hadn't had enough. No more calls of the reader are used than bytes
-    /// were read, and one that ends the reading. It reads into a room of its own of 1024 bytes.
+    /// stands behind all that was read. The hearer is asked before each read, of at most 1024 bytes: before the last it hadn't had
+    /// enough. No more calls of the reader are used than bytes were read, and one that ends the reading.
     pub fn receive_each_with<V, M: MessageReader<V>, R: Inlet, H: Hearer<V>>(
         &mut self,
         alloc: Global,
@@ -358,7 +320,7 @@ impl<D: Decoding> Reception<D> {
         reader: &mut R,
         hearer: &mut H,
     ) -> Option<End>
-        ensures received { HearsOut D.inside (M.judging messages.now) H.hears
+        ensures received { HearsOut D.inside (M.judging messages.now) H.hears H.enough
             (R.line reader.old) (R.line reader.new) self.old self.new hearer.old hearer.new result }
         ensures enough { result ≡ None → H.enough hearer.new ≡ true }
         ensures fault { result ≡ Some ReadFault → H.enough hearer.new ≡ false }

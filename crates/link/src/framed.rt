@@ -104,11 +104,11 @@ impl<'a> Flavor for Framed<'a> {
 /// Where both hold, either cause may be named.
 pub fn frame_into<T: Serialize>(value: &T, buffer: &mut [u8]) -> Result<usize>
     requires { 0 < length buffer.old }
-    ensures ok { IfOk result (λ n. WrittenWhole (T.writes value.now)
+    ensures ok { IfOk result (λ n. WrittenWhole (T.form.writes value.now)
         (λ bytes. (n ≡ length (shortest_frame bytes)) × (take n buffer.new ≡ frame_for 0 bytes))) }
-    ensures err { IfErr result (λ e. UnlessRefused (T.writes value.now) (λ bytes.
+    ensures err { IfErr result (λ e. UnlessRefused (T.form.writes value.now) (λ bytes.
         (e ≡ SerializeBufferFull) × (length buffer.old < length (shortest_frame bytes)))) }
-    ensures valid { OnOk result (T.valid value.now) }
+    ensures valid { OnOk result (T.form.valid value.now) }
 {
     frame_into_with_sentinel(value, buffer, 0)
 }
@@ -120,11 +120,11 @@ pub fn frame_into_with_sentinel<T: Serialize>(
     sentinel: u8,
 ) -> Result<usize>
     requires { 0 < length buffer.old }
-    ensures ok { IfOk result (λ n. WrittenWhole (T.writes value.now) (λ bytes.
+    ensures ok { IfOk result (λ n. WrittenWhole (T.form.writes value.now) (λ bytes.
         (n ≡ length (shortest_frame bytes)) × (take n buffer.new ≡ frame_for sentinel bytes))) }
-    ensures err { IfErr result (λ e. UnlessRefused (T.writes value.now) (λ bytes.
+    ensures err { IfErr result (λ e. UnlessRefused (T.form.writes value.now) (λ bytes.
         (e ≡ SerializeBufferFull) × (length buffer.old < length (shortest_frame bytes)))) }
-    ensures valid { OnOk result (T.valid value.now) }
+    ensures valid { OnOk result (T.form.valid value.now) }
 {
     match spell_block(value, buffer) {
         Some(n) => Ok(encode_in_place(buffer, n, sentinel)),
@@ -136,11 +136,11 @@ pub fn frame_into_with_sentinel<T: Serialize>(
 // it stands, which costs less than to frame each of its pieces. Nothing is said of why it isn't spelled.
 fn spell_block<T: Serialize>(value: &T, buffer: &mut [u8]) -> Option<usize>
     requires { 0 < length buffer.old }
-    ensures spelled { IfSome result (λ n. WrittenWhole (T.writes value.now)
+    ensures spelled { IfSome result (λ n. WrittenWhole (T.form.writes value.now)
         (λ bytes. take n (drop 1 buffer.new) ≡ bytes)) }
     ensures few { IfSome result (λ n. n ≤ 254) }
     ensures room { IfSome result (λ n. n < length buffer.new) }
-    ensures valid { IsSome result → T.valid value.now }
+    ensures valid { IsSome result → T.form.valid value.now }
 {
     let end = buffer.len().min(255);
     spell_into(value, &mut buffer[1..end])
@@ -148,10 +148,10 @@ fn spell_block<T: Serialize>(value: &T, buffer: &mut [u8]) -> Option<usize>
 
 // Spells a value at the front of a room, where that has room for it, and answers how many bytes that takes.
 fn spell_into<T: Serialize>(value: &T, room: &mut [u8]) -> Option<usize>
-    ensures spelled { IfSome result (λ n. WrittenWhole (T.writes value.now)
+    ensures spelled { IfSome result (λ n. WrittenWhole (T.form.writes value.now)
         (λ bytes. take n room.new ≡ bytes)) }
     ensures within { IfSome result (λ n. n ≤ length room.new) }
-    ensures valid { IsSome result → T.valid value.now }
+    ensures valid { IsSome result → T.form.valid value.now }
 {
     let (_, spelled) = spell_and_return(value, room);
     spelled
@@ -163,10 +163,10 @@ fn spell_and_return<'a, T: Serialize>(
     room: &'a mut [u8],
 ) -> (&'a mut [u8], Option<usize>)
     ensures same_reference { result.0.ghost_name ≡ room.entry.ghost_name }
-    ensures spelled { IfSome result.1 (λ n. WrittenWhole (T.writes value.now)
+    ensures spelled { IfSome result.1 (λ n. WrittenWhole (T.form.writes value.now)
         (λ bytes. take n result.0.now ≡ bytes)) }
     ensures within { IfSome result.1 (λ n. n ≤ length result.0.now) }
-    ensures valid { IsSome result.1 → T.valid value.now }
+    ensures valid { IsSome result.1 → T.form.valid value.now }
 {
     let mut spelling = Slice::new(room);
     let mut serializer = Serializer {
@@ -184,11 +184,11 @@ fn spell_and_return<'a, T: Serialize>(
 // The same as `frame_into_with_sentinel`, by framing each piece that the value pushes.
 fn frame_pushed<T: Serialize>(value: &T, buffer: &mut [u8], sentinel: u8) -> Result<usize>
     requires { 0 < length buffer.old }
-    ensures ok { IfOk result (λ n. WrittenWhole (T.writes value.now) (λ bytes.
+    ensures ok { IfOk result (λ n. WrittenWhole (T.form.writes value.now) (λ bytes.
         (n ≡ length (shortest_frame bytes)) × (take n buffer.new ≡ frame_for sentinel bytes))) }
-    ensures err { IfErr result (λ e. UnlessRefused (T.writes value.now) (λ bytes.
+    ensures err { IfErr result (λ e. UnlessRefused (T.form.writes value.now) (λ bytes.
         (e ≡ SerializeBufferFull) × (length buffer.old < length (shortest_frame bytes)))) }
-    ensures valid { OnOk result (T.valid value.now) }
+    ensures valid { OnOk result (T.form.valid value.now) }
 {
     cobs::laws::longer();
     let mut framed = Framed::new_with_sentinel(buffer, sentinel);

@@ -103,7 +103,8 @@ fn gathered_alike<T: Readable>()
 ///
 /// What isn't a value is left out, and nothing tells of it. Where the stretches fit, the values are those among the answers of
 /// `receive`; but a value for which no memory was found is left out too, so a type that can ask for memory may lack some. At
-/// `NoMemory` the list itself found none: the values before it stand.
+/// `NoMemory` the list itself found none: the values before it stand, and none is missing of those of the bytes before the last
+/// read of up to 1024.
 pub fn receive_by_accumulator<T: DeserializeOwned, R: Inlet, const N: usize>(
     alloc: Global,
     reader: R,

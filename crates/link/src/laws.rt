@@ -9,7 +9,7 @@ use postcard::experimental::max_size::MaxWritten;
 /// A value that doesn't refuse itself has a frame within every limit that is at least as long as the longest frame of its
 /// type's greatest size.
 pub fn room<T: MaxWritten>(value: &T)
-    ensures { HasRoom T.greatest (T.writes value.now) }
+    ensures { HasRoom T.greatest (T.form.writes value.now) }
 {
     postcard::laws::within_greatest(value);
     cobs::laws::lengths();

@@ -23,8 +23,8 @@ pub struct Received<T, R> {
     /// The answers, in the order of their stretches.
     ///
     /// At `Ended` they are those of all bytes that were read, with `Cut` for a stretch that no sentinel ended. At `ReadFault`
-    /// they are these without `Cut`. At `NoMemory` they are the first of them, and at least one is missing; where there was none
-    /// for a receiver of `receive_owned`, nothing was read.
+    /// they are these without `Cut`. At `NoMemory` they are the first of them, and at least one is missing, though none of those of
+    /// the bytes before the last read of up to 1024; where there was none for a receiver of `receive_owned`, nothing was read.
     pub answers: Vec<Answer<T>>,
     /// How the reception ended: at `NoMemory` none was found for a value, for the list, or for a receiver whose limit is a value.
     pub end: End,

@@ -107,7 +107,7 @@ impl<W: Outlet, const N: usize> Sender<W, N> {
     /// The frame is whole in the sender's own buffer before its first byte goes out. No memory is taken, and nothing is tried
     /// twice: after `Line` the caller may send the value again, and a receiver may then hear it twice.
     pub fn send<T: Serialize>(&mut self, value: &T) -> Result<(), SendError>
-        ensures sent { HasSent N (T.writes value.now) (T.valid value.now)
+        ensures sent { HasSent N (T.form.writes value.now) (T.form.valid value.now)
             (sender_place W.line self.old) (sender_place W.line self.new) result }
         ensures refused { OnRefusal result (writer_of self.new ≡ writer_of self.old) }
     {

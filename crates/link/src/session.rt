@@ -20,7 +20,8 @@ pub enum Fate {
 
 // Sends a value.
 fn send_one<T: Serialize, W: Outlet, const N: usize>(sender: &mut Sender<W, N>, value: &T) -> Fate
-    ensures one { SendsOne N (sentinel_of sender.old) (T.writes value.now) (T.valid value.now)
+    ensures one { SendsOne N (sentinel_of sender.old) (T.form.writes value.now)
+        (T.form.valid value.now)
         (clean_of sender.old) (clean_of sender.new)
         (W.line (writer_of sender.old)) (W.line (writer_of sender.new)) result }
     ensures sentinel { sentinel_of sender.new ≡ sentinel_of sender.old }
@@ -41,7 +42,7 @@ fn send_all<T: Serialize, W: Outlet, const N: usize>(
     fates: &mut [Fate],
 )
     requires { length values.now ≡ length fates.old }
-    ensures { SendsAll N (sentinel_of sender.old) T.writes T.valid
+    ensures { SendsAll N (sentinel_of sender.old) T.form.writes T.form.valid
         (clean_of sender.old) (clean_of sender.new)
         (W.line (writer_of sender.old)) (W.line (writer_of sender.new))
         values.now fates.new }
@@ -64,7 +65,7 @@ pub fn send_each<T: Serialize, W: Outlet, const N: usize>(
     requires places { length values.now ≡ length fates.old }
     requires some { 0 < N }
     requires fits { SenderFitsInMemory W.row N.row }
-    ensures { (later : Bool) × SendsAll N 0 T.writes T.valid false later
+    ensures { (later : Bool) × SendsAll N 0 T.form.writes T.form.valid false later
         (W.line writer) (W.line result) values.now fates.new }
 {
     send_each_with_sentinel::<T, W, N>(writer, values, fates, 0)
@@ -80,7 +81,7 @@ pub fn send_each_with_sentinel<T: Serialize, W: Outlet, const N: usize>(
     requires places { length values.now ≡ length fates.old }
     requires some { 0 < N }
     requires fits { SenderFitsInMemory W.row N.row }
-    ensures { (later : Bool) × SendsAll N sentinel T.writes T.valid false later
+    ensures { (later : Bool) × SendsAll N sentinel T.form.writes T.form.valid false later
         (W.line writer) (W.line result) values.now fates.new }
 {
     let mut sender = Sender::<W, N>::new_with_sentinel(writer, sentinel);

@@ -48,10 +48,10 @@ impl<T: Serialize + Drop, C, const N: usize> Encoder<T> for LinkCodec<C, N> {
     type Error = EncodeError;
 
     ghost encodes = { λ s item frame t.
-        Encodes s.encoder (T.writes item) (T.valid item) frame t.encoder
+        Encodes s.encoder (T.form.writes item) (T.form.valid item) frame t.encoder
         × (t.decoder ≡ s.decoder) };
 
-    ghost refuses = { λ s item spare e. RefusesValue s.encoder (T.writes item) spare e };
+    ghost refuses = { λ s item spare e. RefusesValue s.encoder (T.form.writes item) spare e };
 
     fn encode(&mut self, item: T, dst: &mut BytesMut) -> Result<(), EncodeError> {
         self.encoder.encode(item, dst)

@@ -76,9 +76,10 @@ impl<T: Serialize + Drop, const N: usize> Encoder<T> for LinkEncoder<N> {
 
     type Error = EncodeError;
 
-    ghost encodes = { λ s item frame t. Encodes s (T.writes item) (T.valid item) frame t };
+    ghost encodes = { λ s item frame t. Encodes s (T.form.writes item) (T.form.valid item)
+        frame t };
 
-    ghost refuses = { λ s item spare e. RefusesValue s (T.writes item) spare e };
+    ghost refuses = { λ s item spare e. RefusesValue s (T.form.writes item) spare e };
 
     fn encode(&mut self, item: T, dst: &mut BytesMut) -> Result<(), EncodeError> {
         let mut buffer = [0u8; N];

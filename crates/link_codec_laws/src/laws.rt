@@ -38,7 +38,7 @@ pub fn strict_told_whole<T: DeserializeOwned + Exact, D: Decoding, R: AsyncRead>
 
 /// The bytes that an encoder writes for values one after another are those of a session of one sender, all of whose sends completed.
 pub fn session_of<T: Serialize, const N: usize>(encoder: &LinkEncoder<N>, values: &[T])
-    ensures { IsSessionOf encoder.now T.writes T.valid values.now }
+    ensures { IsSessionOf encoder.now T.form.writes T.form.valid values.now }
 {}
 
 /// What an encoder that hadn't written anything wrote for values one after another, as `FramedWrite` says what it wrote: from a reader
@@ -52,7 +52,7 @@ pub fn carried_whole<T: Lawful + DeserializeOwned, R: AsyncRead, const N: usize,
     requires { N ≤ L }
     ensures { IsCarriedWhole R.reads R.is_at_end R.fails IsGiven
         (gives_judged ⟦<Ordinary<OfType> as MessageReader<T>>⟧.judging)
-        T.writes T.valid T.form.alike encoder.now values.now L (framed_read reader.now) }
+        T.form.writes T.form.valid T.form.alike encoder.now values.now L (framed_read reader.now) }
 {
     session_of(encoder, values);
     link_laws::carried(values);

@@ -6,7 +6,7 @@ use Rattle.link.specs.Stream.{Verdict, unfinished, IsAnswer, begun_answers, cut_
 use Rattle.link.specs.Roads.{joined}
 use Rattle.link.specs.Pushes.{listed}
 use Rattle.link_laws.specs.Pieced.{PushesPieces, done, used_up, pushed, AreOfTheWhole}
-use Rattle.link.specs.HeardLaws.{heard_of, heard_alone}
+use Rattle.link.specs.Lemmas.HeardLaws.{heard_of, heard_alone}
 use Rattle.link_laws.proofs.ProvedLemmas.{none_begun}
 
 module _ (holds : List ℕ → Tree → Type 0) (limit s : ℕ) where

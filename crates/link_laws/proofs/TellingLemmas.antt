@@ -10,8 +10,8 @@ use Rattle.cobs.specs.Frames.{NoZero, shortest_frame}
 use Rattle.cobs.specs.Sentinel.{masked, frame_for}
 use Rattle.link.specs.Stream.{Verdict, cut, damaged, value, IsAnswer, Answers}
 use Rattle.link.specs.Run.{Send, completed, refused, broken, sent, session_line, line, IsFramed, IsSession, IsRun, told_broken, told_session, told}
-use Rattle.link.specs.Facts.{Facts, Breaking, has_no_zero, has_bytes, front_holds_nothing}
-use Rattle.link.specs.HeardLaws.{heard_skip, heard_ended, heard_alone, heard_unskip, heard_nothing, heard_of, at_end, empty_ending}
+use Rattle.link.specs.Lemmas.Facts.{Facts, Breaking, has_no_zero, has_bytes, front_holds_nothing}
+use Rattle.link.specs.Lemmas.HeardLaws.{heard_skip, heard_ended, heard_alone, heard_unskip, heard_nothing, heard_of, at_end, empty_ending}
 
 NoZero-take : (n : ℕ) (p : List ℕ) → NoZero p → NoZero (take n p)
 NoZero-take zero p z = tt

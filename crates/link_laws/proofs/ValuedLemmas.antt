@@ -11,7 +11,7 @@ use Rattle.link_laws.specs.Answered.{Sends}
 use Rattle.link_laws.specs.Values.{sends_of, runs_of, answer_of, told_values_session, told_values, AlikeAnswers, AreSends, AllCompleted, values_sent}
 use Rattle.link.specs.declared.receiver.Answer.{Answer}
 use Rattle.link.specs.declared.receiver.Answer.TheVariants.{Value, Damaged, TooLong, Cut}
-use Rattle.link.specs.HeardLaws.{zip_joined}
+use Rattle.link.specs.Lemmas.HeardLaws.{zip_joined}
 
 -- the tree of each value that is told is t
 abbrev IsOf : Tree → List Verdict → Type 0

@@ -72,7 +72,7 @@ pub fn receive_values<T: Lawful + DeserializeOwned, R: Inlet, const N: usize>(
     reader: R,
 ) -> Received<T, R>
     requires { ReceiverFitsInMemory N.row }
-    ensures { HearsValues N 0 T.form.takes T.form.reads T.form.alike T.writes T.valid
+    ensures { HearsValues N 0 T.form.takes T.form.reads T.form.alike T.form.writes T.form.valid
         (R.line reader).told result.end result.answers.items }
 {
     receive_values_with_sentinel::<T, R, N>(alloc, reader, 0)
@@ -85,7 +85,8 @@ pub fn receive_values_with_sentinel<T: Lawful + DeserializeOwned, R: Inlet, cons
     sentinel: u8,
 ) -> Received<T, R>
     requires { ReceiverFitsInMemory N.row }
-    ensures { HearsValues N sentinel T.form.takes T.form.reads T.form.alike T.writes T.valid
+    ensures { HearsValues N sentinel T.form.takes T.form.reads T.form.alike T.form.writes
+        T.form.valid
         (R.line reader).told result.end result.answers.items }
 {
     crate::carries::<T>();
@@ -112,7 +113,7 @@ pub fn send_in_turn<T: Lawful, W: Outlet, const N: usize>(
 ) -> InTurn<W>
     requires some { 0 < N }
     requires sender { SenderFitsInMemory W.row N.row }
-    ensures { LeavesTwo T.form.takes T.writes T.valid N 0 (W.line writer)
+    ensures { LeavesTwo T.form.takes T.form.writes T.form.valid N 0 (W.line writer)
         (W.line result.writer) first.now second.now result.first result.second }
 {
     send_in_turn_with_sentinel::<T, W, N>(writer, first, second, 0)
@@ -127,7 +128,7 @@ pub fn send_in_turn_with_sentinel<T: Lawful, W: Outlet, const N: usize>(
 ) -> InTurn<W>
     requires some { 0 < N }
     requires sender { SenderFitsInMemory W.row N.row }
-    ensures { LeavesTwo T.form.takes T.writes T.valid N sentinel
+    ensures { LeavesTwo T.form.takes T.form.writes T.form.valid N sentinel
         (W.line writer) (W.line result.writer)
         first.now second.now result.first result.second }
 {
@@ -157,7 +158,7 @@ pub fn send_each_in_turn<T: Lawful, W: Outlet, const N: usize>(
     requires second_places { length seconds.now ≡ length second_fates.old }
     requires some { 0 < N }
     requires sender { SenderFitsInMemory W.row N.row }
-    ensures { LeavesSessions T.form.takes T.writes T.valid N 0
+    ensures { LeavesSessions T.form.takes T.form.writes T.form.valid N 0
         (W.line writer) (W.line result)
         firsts.now seconds.now first_fates.new second_fates.new }
 {
@@ -184,7 +185,7 @@ pub fn send_each_in_turn_with_sentinel<T: Lawful, W: Outlet, const N: usize>(
     requires second_places { length seconds.now ≡ length second_fates.old }
     requires some { 0 < N }
     requires sender { SenderFitsInMemory W.row N.row }
-    ensures { LeavesSessions T.form.takes T.writes T.valid N sentinel
+    ensures { LeavesSessions T.form.takes T.form.writes T.form.valid N sentinel
         (W.line writer) (W.line result)
         firsts.now seconds.now first_fates.new second_fates.new }
 {

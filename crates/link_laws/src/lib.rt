@@ -57,9 +57,11 @@ pub fn told_as<T: Readable>(answers: &[Answer<T>])
 /// The same of a run of a lawful type's values: a receiver's answers are, one by one, alike what is to be told of them.
 pub fn told_by_values<T: Lawful>(answers: &[Answer<T>])
     ensures ordinary { (limit s : ℕ) → IsToldByValues T.form.takes
-        (Holds T.form.takes) T.form.reads T.form.alike T.writes T.valid answers.now limit s }
+        (Holds T.form.takes) T.form.reads T.form.alike T.form.writes T.form.valid answers.now
+        limit s }
     ensures strict { (limit s : ℕ) → IsToldByValues T.form.takes
-        (HoldsExactly T.form.takes) T.form.reads T.form.alike T.writes T.valid answers.now limit s }
+        (HoldsExactly T.form.takes) T.form.reads T.form.alike T.form.writes T.form.valid answers.now
+        limit s }
 {
     told_as(answers);
 }
@@ -67,22 +69,24 @@ pub fn told_by_values<T: Lawful>(answers: &[Answer<T>])
 /// Of a run of a lawful type's values whose sends all completed, a receiver's answers are values, one by one alike those sent.
 pub fn given_back<T: Lawful>(answers: &[Answer<T>])
     ensures ordinary { (limit s : ℕ) → AreGivenBack T.form.takes
-        (Holds T.form.takes) T.form.reads T.form.alike T.writes T.valid answers.now limit s }
+        (Holds T.form.takes) T.form.reads T.form.alike T.form.writes T.form.valid answers.now
+        limit s }
     ensures strict { (limit s : ℕ) → AreGivenBack T.form.takes
-        (HoldsExactly T.form.takes) T.form.reads T.form.alike T.writes T.valid answers.now limit s }
+        (HoldsExactly T.form.takes) T.form.reads T.form.alike T.form.writes T.form.valid answers.now
+        limit s }
 {
     told_by_values(answers);
 }
 
 /// A session of a lawful type's values is one of trees that the type takes, as `told` wants it.
 pub fn carried<T: Lawful>(values: &[T])
-    ensures { IsCarried T.form.takes T.writes T.valid values.now }
+    ensures { IsCarried T.form.takes T.form.writes T.form.valid values.now }
 {}
 
 /// A line carries a lawful type's values: its type takes what its valid values write, and what is answered to the line of a run of
 /// them is, one by one, alike what is to be told of it. The laws of `specs/Sessions.antt` start from this one.
 pub fn carries<T: Lawful>()
-    ensures { CarriesValues T.form.takes T.form.reads T.form.alike T.writes T.valid }
+    ensures { CarriesValues T.form.takes T.form.reads T.form.alike T.form.writes T.form.valid }
 {
     told::<T>();
 }
@@ -167,15 +171,15 @@ pub fn fronts_damaged<T: Readable>()
 
 /// What is answered where a valid value was sent is alike that value.
 pub fn as_sent<T: Lawful>(sent: &T, answered: &T)
-    requires { T.valid sent.now }
-    ensures { (t : Tree) → T.writes sent.now ≡ Some t
+    requires { T.form.valid sent.now }
+    ensures { (t : Tree) → T.form.writes sent.now ≡ Some t
         → T.form.reads t answered.now → T.form.alike sent.now answered.now }
 {}
 
 /// Strictly a stretch holds what a value of an exact type is read from exactly where it is the frame of that value.
 pub fn strict_value<T: Exact>(value: &T)
     ensures { (stretch : List ℕ) (t : Tree) → T.form.reads t value.now
-        → HoldsExactly T.form.takes stretch t ↔ IsFrameOf (T.writes value.now) stretch }
+        → HoldsExactly T.form.takes stretch t ↔ IsFrameOf (T.form.writes value.now) stretch }
 {}
 
 /// Streams without a leading sentinel or two in a row, each empty or ending in one, all of whose strict answers are values
@@ -210,7 +214,7 @@ pub fn stepwise<T: Readable>()
 
 /// The frame that postcard's own flavor makes of a value, and the one that sending makes.
 pub fn sender_roads<T: Serialize>(value: &T)
-    ensures { DiffersByBlock (T.writes value.now) }
+    ensures { DiffersByBlock (T.form.writes value.now) }
 {
     cobs::laws::frames_of_a_message();
 }

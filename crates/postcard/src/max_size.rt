@@ -12,11 +12,11 @@ mod numbers;
 mod tuples;
 
 use postcard_ser::Serialize;
-use postcard_tree::Formed;
+use postcard_tree::Readable;
 use postcard_tree::varint::varint_usize;
 
 /// A type whose values have a greatest size.
-pub trait MaxSize {
+pub trait MaxSize: Readable {
     /// The greatest size in bytes; none where it doesn't fit `usize`.
     ghost greatest: { Option ℕ };
 
@@ -28,7 +28,8 @@ pub trait MaxSize {
 /// A type none of whose values is spelled longer than its greatest size.
 pub trait MaxWritten: MaxSize + Serialize {
     /// No valid value is spelled in more bytes.
-    ghost longest: { (v : Self) → Self.valid v → SizeWithin (Self.writes v) Self.greatest };
+    ghost longest: { (v : Self) → Self.form.valid v → SizeWithin (Self.form.writes v)
+        Self.greatest };
 }
 
 /// How a type has [`MaxSize`], by its form.
@@ -41,7 +42,7 @@ pub trait MaxSizeForm<M> {
         ensures { result ≡ form_greatest };
 }
 
-impl<M: Formed> MaxSize for M
+impl<M: Readable> MaxSize for M
 where
     M::Form: MaxSizeForm<M>,
 {
@@ -55,10 +56,11 @@ where
 /// How a type has [`MaxWritten`], by its form.
 pub trait MaxWrittenForm<M: Serialize>: MaxSizeForm<M> {
     /// No valid value is spelled in more bytes.
-    ghost form_longest: { (v : M) → M.valid v → SizeWithin (M.writes v) Self.form_greatest };
+    ghost form_longest: { (v : M) → M.form.valid v → SizeWithin (M.form.writes v)
+        Self.form_greatest };
 }
 
-impl<M: Formed + Serialize> MaxWritten for M
+impl<M: Serialize> MaxWritten for M
 where
     M::Form: MaxWrittenForm<M>,
 {

@@ -3,8 +3,8 @@ ghost use Rattle.std.proofs.Common.{sym, subst};
 ghost use Rattle.postcard.specs.Greatest.{SizeWithin};
 
 use crate::max_size::{MaxSize, MaxSizeForm, MaxWritten, MaxWrittenForm};
-use postcard_ser::SerializeShape;
-use postcard_tree::{AsShape, Own, Shaped};
+use postcard_ser::Serialize;
+use postcard_tree::{AsShape, MatchesShape, Own, Shaped};
 
 impl<M: Shaped> MaxSizeForm<M> for AsShape
 where
@@ -17,13 +17,13 @@ where
     }
 }
 
-impl<M: SerializeShape> MaxWrittenForm<M> for AsShape
+impl<M: MatchesShape + Serialize> MaxWrittenForm<M> for AsShape
 where
     M::Shape: MaxWritten,
 {
     ghost form_longest = { λ v h.
-        subst (λ z. SizeWithin z M.Shape.greatest) (sym (M.written_as.same v))
-        (M.Shape.longest (M.shape v) (M.written_as.shown v h)) };
+        subst (λ z. SizeWithin z M.Shape.greatest) (sym (M.matches.written v))
+        (M.Shape.longest (M.shape v) (M.matches.shown v h)) };
 }
 
 impl<'a, T: MaxSize> MaxSizeForm<&'a T> for Own {

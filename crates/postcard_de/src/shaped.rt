@@ -7,9 +7,9 @@ use crate::de_flavors::{Bytes, Flavor};
 use crate::deserialize::{
     Borrowing, Deserialize, DeserializeForm, DeserializeOwned, DeserializeOwnedForm, Owning, Reads,
 };
-use postcard_tree::{AsShape, Readable, ReadableShape, Result};
+use postcard_tree::{AsShape, MatchesShape, Readable, Result};
 
-fn read_shape<W: Reads<M::Shape, F>, M: ReadableShape + Drop, F: Flavor>(
+fn read_shape<W: Reads<M::Shape, F>, M: MatchesShape + Drop, F: Flavor>(
     d: &mut Deserializer<F>,
 ) -> Result<M>
 where
@@ -21,7 +21,7 @@ where
     Ok(M::from_shape(it))
 }
 
-impl<B: Bytes, M: ReadableShape + Drop> DeserializeForm<B, M> for AsShape
+impl<B: Bytes, M: MatchesShape + Drop> DeserializeForm<B, M> for AsShape
 where
     M::Shape: Deserialize<B>,
 {
@@ -30,7 +30,7 @@ where
     }
 }
 
-impl<M: ReadableShape + Drop> DeserializeOwnedForm<M> for AsShape
+impl<M: MatchesShape + Drop> DeserializeOwnedForm<M> for AsShape
 where
     M::Shape: DeserializeOwned,
 {

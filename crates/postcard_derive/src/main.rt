@@ -9,6 +9,7 @@
 //! the ghost line says.
 #![tactic(auto)]
 
+mod about;
 mod enums;
 mod names;
 mod parts;
@@ -16,12 +17,17 @@ mod printer;
 mod structs;
 mod text;
 
+use crate::about::ABOUT;
 use crate::printer::write_all;
 use crate::text::Text;
-use declaration_parser::parser::{Purpose, declarations};
+use declaration_parser::parser::Purpose;
+use declaration_parser::reading::declarations;
 use declaration_parser::tokens::{Read, tokens_of};
+use help::answer;
 use std::process::ExitCode;
 use std::{env, io};
+
+const USAGE: &str = "usage: postcard_derive CRATE [MODULE].. [--schemas]";
 
 /// What the words behind the program ask for.
 #[derive(Drop)]
@@ -33,11 +39,9 @@ struct Asked {
 }
 
 /// What is asked for, where the words are right.
-fn read_words(rt: &HostRuntime) -> io::Result<Option<Asked>> {
+fn asked_by(rt: &HostRuntime, words: &[String]) -> io::Result<Option<Asked>> {
     let mut path = Text::new(rt.alloc());
     let mut with_schemas = false;
-    let mut words = env::args(rt)?;
-    words.next();
     for word in words {
         match word.as_str() {
             "--schemas" if !with_schemas && !path.is_empty() => with_schemas = true,
@@ -72,11 +76,23 @@ fn run(rt: &HostRuntime, asked: &Asked) -> io::Result<bool> {
     Ok(true)
 }
 
-fn main(rt: HostRuntime) -> io::Result<ExitCode> {
-    let Some(asked) = read_words(&rt)? else {
-        eprintln!(rt; "usage: postcard_derive CRATE [MODULE].. [--schemas]")?;
-        return Ok(ExitCode::from(2));
+/// Does what the words say; the status.
+fn run_by(rt: &HostRuntime, words: &[String]) -> io::Result<u8> {
+    let Some(asked) = asked_by(rt, words)? else {
+        eprintln!(rt; "{USAGE}")?;
+        return Ok(2);
     };
-    let is_written = run(&rt, &asked)?;
-    Ok(ExitCode::from(if is_written { 0 } else { 1 }))
+    Ok(if run(rt, &asked)? { 0 } else { 1 })
+}
+
+fn main(rt: HostRuntime) -> io::Result<ExitCode> {
+    let mut words: Vec<String> = Vec::new(rt.alloc());
+    for word in env::args(&rt)?.skip(1) {
+        words.push(word)?;
+    }
+    let status = match answer(&mut rt.stdout(), ABOUT, &words) {
+        Some(status) => status,
+        None => run_by(&rt, &words)?,
+    };
+    Ok(ExitCode::from(status))
 }

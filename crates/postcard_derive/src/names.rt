@@ -26,7 +26,6 @@ impl Module {
 #[derive(Clone, Copy)]
 enum User {
     Each,
-    Read,
     Written,
     Enum,
     /// An enum of more than four variants.
@@ -36,15 +35,13 @@ enum User {
 }
 
 /// The names of `postcard`, and what uses them.
-const OF_POSTCARD: [(User, &str); 12] = [
+const OF_POSTCARD: [(User, &str); 10] = [
     (User::Each, "AsShape"),
-    (User::Each, "Formed"),
+    (User::Each, "MatchesShape"),
+    (User::Each, "Readable"),
     (User::Each, "ShapeOf"),
     (User::Each, "Shaped"),
-    (User::Read, "Readable"),
-    (User::Read, "ReadableShape"),
     (User::Written, "Serialize"),
-    (User::Written, "SerializeShape"),
     (User::Written, "Serializer"),
     (User::Enum, "Last"),
     (User::OfFours, "Variants4"),
@@ -60,7 +57,6 @@ impl User {
         };
         match self {
             User::Each => true,
-            User::Read => it.marks.read,
             User::Written => it.marks.written,
             User::Enum => count > 0,
             User::OfFours => count > 4,

@@ -20,6 +20,12 @@ const HEAD: &str = "//! How the message types of the module above are written an
 // Written by postcard_derive from their declarations: change those, and write this anew.
 ";
 
+/// What ghost text brings in.
+const LEMMAS: &str = "ghost use Rattle.postcard_tree.specs.ReadingLaws.{form_as};
+ghost use Rattle.postcard_tree.specs.Shapes.{form_matches};
+
+";
+
 /// What ghost text brings in for tables of types with parameters.
 const OF_TABLES: &str = "ghost use Rattle.std.specs.Prelude.{IfOk};
 ghost use Rattle.schemas.specs.TypeSchemas.{BeginsWith, IsSchemaOf};
@@ -34,21 +40,16 @@ use std::alloc::{AllocError, Global};
 pub const FROM_SHAPE: &str = "
     fn from_shape(";
 
-/// That a type's laws and its reading come from its shape.
-const FORMED: &str = "
-impl%% Formed for %Name% {
-    type Form = AsShape;
-}
-";
-
-/// What a type that is read takes from its shape.
-const READ: &str = "
+/// What a type takes from its shape.
+const OF_ITS_SHAPE: &str = "
 impl%: Readable% Readable for %Name% {
+    type Form = AsShape;
+
     ghost form = { form_as ⟦<Self as Shaped>⟧.shape ⟦<ShapeOf<Self> as Readable>⟧.form };
 }
 
-impl%: Readable% ReadableShape for %Name% {
-    ghost read_as = { read_as_shape };
+impl%: Readable% MatchesShape for %Name% {
+    ghost matches = { form_matches };
 }
 ";
 
@@ -75,18 +76,7 @@ const OF_SHAPE: &str = "
 /// How the writing of a value begins.
 pub const WRITTEN: &str = "
 impl%: Serialize% Serialize for %Name% {
-    ghost writes = { λ v. ⟦<ShapeOf<Self> as Serialize>⟧.writes (⟦<Self as Shaped>⟧.shape v) };
-
-    ghost valid = { λ v. ⟦<ShapeOf<Self> as Serialize>⟧.valid (⟦<Self as Shaped>⟧.shape v) };
-
     fn serialize<F: Flavor>(&self, serializer: &mut Serializer<F>) -> postcard::Result<()> {
-";
-
-/// What stands behind it.
-const WRITTEN_AS_SHAPE: &str = "
-impl%: Serialize% SerializeShape for %Name% {
-    ghost written_as = { written_as_shape };
-}
 ";
 
 impl Text {
@@ -313,22 +303,7 @@ impl Text {
         if used.stated && used.put_in_tables {
             self.put(OF_TABLES);
         }
-        if used.read {
-            self.line(
-                0,
-                "ghost use Rattle.postcard_tree.specs.ReadingLaws.{form_as};",
-            );
-        }
-        let names = match (used.read, used.written) {
-            (true, true) => "read_as_shape, written_as_shape",
-            (true, false) => "read_as_shape",
-            _ => "written_as_shape",
-        };
-        self.put_all(&[
-            "ghost use Rattle.postcard_tree.specs.Shapes.{",
-            names,
-            "};\n\n",
-        ]);
+        self.put(LEMMAS);
     }
 
     /// Writes what stands before the implementations.
@@ -352,10 +327,7 @@ impl Text {
             Body::Struct(fields) => self.struct_shape(it, fields),
             Body::Enum(variants) => self.enum_shape(it, variants, path),
         }
-        self.fill(it, FORMED);
-        if it.marks.read {
-            self.fill(it, READ);
-        }
+        self.fill(it, OF_ITS_SHAPE);
         if it.marks.written {
             self.written(it);
         }
@@ -377,15 +349,13 @@ impl Text {
             Body::Enum(variants) => self.enum_written(it.name, variants),
         }
         self.put("    }\n}\n");
-        self.fill(it, WRITTEN_AS_SHAPE);
     }
 }
 
-/// How types are used: whether one is written, one is read, one that is read has parameters, and one is put into tables.
+/// How types are used: whether one is written, one that is read has parameters, and one is put into tables.
 #[derive(Clone, Copy, Drop)]
 struct Uses {
     written: bool,
-    read: bool,
     stated: bool,
     put_in_tables: bool,
 }
@@ -394,13 +364,11 @@ struct Uses {
 fn uses_of(all: &[Declaration], with_schemas: bool) -> Uses {
     let mut used = Uses {
         written: false,
-        read: false,
         stated: false,
         put_in_tables: false,
     };
     for it in all {
         used.written = used.written || it.marks.written;
-        used.read = used.read || it.marks.read;
         used.stated = used.stated || (it.marks.read && !it.parameters.is_empty());
         used.put_in_tables = used.put_in_tables || (it.marks.read && with_schemas);
     }

@@ -4,9 +4,8 @@
 ghost use Rattle.std.specs.Prelude.{◌≡◌, false};
 
 use crate::fixint::{BE, FixInt, LE};
-use crate::formed::{AsShape, Formed, Own};
-use crate::readable::Readable;
-use crate::shaped::ReadableShape;
+use crate::readable::{AsShape, Own, Readable};
+use crate::shaped::MatchesShape;
 use crate::variants::{Last, ReadableVariants, Variant, Variants4};
 use arrayvec::{ArrayString, ArrayVec};
 use std::collections::BTreeMap;
@@ -26,7 +25,7 @@ pub trait GrowsForm<M: Readable> {
         ensures { result ≡ M.form.growing };
 }
 
-impl<M: Formed + Readable> Grows for M
+impl<M: Readable> Grows for M
 where
     M::Form: GrowsForm<M>,
 {
@@ -35,7 +34,7 @@ where
     }
 }
 
-impl<M: ReadableShape> GrowsForm<M> for AsShape
+impl<M: MatchesShape> GrowsForm<M> for AsShape
 where
     M::Shape: Grows,
 {

@@ -16,6 +16,7 @@
 //! and 4 where no memory was found.
 #![tactic(auto)]
 
+mod about;
 mod appending;
 mod checking;
 mod entries;
@@ -23,11 +24,13 @@ mod settling;
 mod showing;
 mod words;
 
+use crate::about::ABOUT;
 use crate::appending::append;
 use crate::checking::{check, mend};
 use crate::entries::hold_descriptors;
 use crate::showing::{follow, show};
 use crate::words::wanted_by;
+use help::answer;
 use std::process::ExitCode;
 use std::{env, io};
 
@@ -81,7 +84,10 @@ fn run(rt: &HostRuntime) -> io::Result<u8> {
     for word in env::args(rt)?.skip(1) {
         words.push(word)?;
     }
-    run_on(rt, &words)
+    match answer(&mut rt.stdout(), ABOUT, &words) {
+        Some(status) => Ok(status),
+        None => run_on(rt, &words),
+    }
 }
 
 fn main(rt: HostRuntime) -> ExitCode {

@@ -24,7 +24,7 @@ impl Settled {
         entry: &T,
     ) -> Result<Settled, Unsettled>
         ensures appended { IfOk result (λ s. Appended (N - 1) (spent_of journal.old)
-            (next_of journal.old) (T.writes entry.now) (Ok (number_of s))
+            (next_of journal.old) (T.form.writes entry.now) (Ok (number_of s))
             (S.line (store_of journal.old)) (S.line (store_of journal.new))) }
         ensures settled { OnOk result
             (Settles (S.line (store_of journal.new)).told (S.settled (store_of journal.new))) }

@@ -1,12 +1,12 @@
 //! Enums are the variant's index and what the variant holds.
 ghost use Rattle.postcard_tree.specs.ReadingLaws.{form_as};
-ghost use Rattle.postcard_tree.specs.Shapes.{read_as_shape, written_as_shape};
+ghost use Rattle.postcard_tree.specs.Shapes.{form_matches};
 
 use crate::structs::EnumStruct;
 use postcard::ser_flavors::Flavor;
 use postcard::{
-    AsShape, Formed, Last, Readable, ReadableShape, Result, Serialize, SerializeShape, Serializer,
-    ShapeOf, Shaped, Variant, Variants4,
+    AsShape, Last, MatchesShape, Readable, Result, Serialize, Serializer, ShapeOf, Shaped, Variant,
+    Variants4,
 };
 use schemas::{HasSchema, Node};
 use std::alloc::{AllocError, Global};
@@ -40,23 +40,17 @@ impl Shaped for BasicEnum {
     }
 }
 
-impl Formed for BasicEnum {
-    type Form = AsShape;
-}
-
 impl Readable for BasicEnum {
+    type Form = AsShape;
+
     ghost form = { form_as ⟦<Self as Shaped>⟧.shape ⟦<ShapeOf<Self> as Readable>⟧.form };
 }
 
-impl ReadableShape for BasicEnum {
-    ghost read_as = { read_as_shape };
+impl MatchesShape for BasicEnum {
+    ghost matches = { form_matches };
 }
 
 impl Serialize for BasicEnum {
-    ghost writes = { λ v. ⟦<ShapeOf<Self> as Serialize>⟧.writes (⟦<Self as Shaped>⟧.shape v) };
-
-    ghost valid = { λ v. ⟦<ShapeOf<Self> as Serialize>⟧.valid (⟦<Self as Shaped>⟧.shape v) };
-
     fn serialize<F: Flavor>(&self, serializer: &mut Serializer<F>) -> Result<()> {
         match self {
             BasicEnum::Bib => serializer.serialize_unit_variant(0),
@@ -64,10 +58,6 @@ impl Serialize for BasicEnum {
             BasicEnum::Bap => serializer.serialize_unit_variant(2),
         }
     }
-}
-
-impl SerializeShape for BasicEnum {
-    ghost written_as = { written_as_shape };
 }
 
 impl HasSchema for BasicEnum {
@@ -118,23 +108,17 @@ impl Shaped for DataEnum {
     }
 }
 
-impl Formed for DataEnum {
-    type Form = AsShape;
-}
-
 impl Readable for DataEnum {
+    type Form = AsShape;
+
     ghost form = { form_as ⟦<Self as Shaped>⟧.shape ⟦<ShapeOf<Self> as Readable>⟧.form };
 }
 
-impl ReadableShape for DataEnum {
-    ghost read_as = { read_as_shape };
+impl MatchesShape for DataEnum {
+    ghost matches = { form_matches };
 }
 
 impl Serialize for DataEnum {
-    ghost writes = { λ v. ⟦<ShapeOf<Self> as Serialize>⟧.writes (⟦<Self as Shaped>⟧.shape v) };
-
-    ghost valid = { λ v. ⟦<ShapeOf<Self> as Serialize>⟧.valid (⟦<Self as Shaped>⟧.shape v) };
-
     fn serialize<F: Flavor>(&self, serializer: &mut Serializer<F>) -> Result<()> {
         match self {
             DataEnum::Bib(number) => serializer.serialize_newtype_variant(0, number),
@@ -145,10 +129,6 @@ impl Serialize for DataEnum {
             DataEnum::Sho(a, b) => serializer.serialize_newtype_variant(5, &(a, b)),
         }
     }
-}
-
-impl SerializeShape for DataEnum {
-    ghost written_as = { written_as_shape };
 }
 
 impl HasSchema for DataEnum {

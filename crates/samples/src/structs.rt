@@ -1,14 +1,11 @@
 //! Structs are their fields in order.
 ghost use Rattle.std.specs.Prelude.{IfOk};
 ghost use Rattle.postcard_tree.specs.ReadingLaws.{form_as};
-ghost use Rattle.postcard_tree.specs.Shapes.{read_as_shape, written_as_shape};
+ghost use Rattle.postcard_tree.specs.Shapes.{form_matches};
 ghost use Rattle.schemas.specs.TypeSchemas.{BeginsWith, IsSchemaOf};
 
 use postcard::ser_flavors::Flavor;
-use postcard::{
-    AsShape, Formed, Readable, ReadableShape, Result, Serialize, SerializeShape, Serializer,
-    ShapeOf, Shaped,
-};
+use postcard::{AsShape, MatchesShape, Readable, Result, Serialize, Serializer, ShapeOf, Shaped};
 use schemas::{HasSchema, Node};
 use std::alloc::{AllocError, Global};
 
@@ -29,30 +26,20 @@ impl<'a> Shaped for RefStruct<'a> {
     }
 }
 
-impl<'a> Formed for RefStruct<'a> {
-    type Form = AsShape;
-}
-
 impl<'a> Readable for RefStruct<'a> {
+    type Form = AsShape;
+
     ghost form = { form_as ⟦<Self as Shaped>⟧.shape ⟦<ShapeOf<Self> as Readable>⟧.form };
 }
 
-impl<'a> ReadableShape for RefStruct<'a> {
-    ghost read_as = { read_as_shape };
+impl<'a> MatchesShape for RefStruct<'a> {
+    ghost matches = { form_matches };
 }
 
 impl<'a> Serialize for RefStruct<'a> {
-    ghost writes = { λ v. ⟦<ShapeOf<Self> as Serialize>⟧.writes (⟦<Self as Shaped>⟧.shape v) };
-
-    ghost valid = { λ v. ⟦<ShapeOf<Self> as Serialize>⟧.valid (⟦<Self as Shaped>⟧.shape v) };
-
     fn serialize<F: Flavor>(&self, serializer: &mut Serializer<F>) -> Result<()> {
         (&self.bytes, &self.text).serialize(serializer)
     }
-}
-
-impl<'a> SerializeShape for RefStruct<'a> {
-    ghost written_as = { written_as_shape };
 }
 
 impl<'a> HasSchema for RefStruct<'a> {
@@ -80,30 +67,20 @@ impl Shaped for NewTypeStruct {
     }
 }
 
-impl Formed for NewTypeStruct {
-    type Form = AsShape;
-}
-
 impl Readable for NewTypeStruct {
+    type Form = AsShape;
+
     ghost form = { form_as ⟦<Self as Shaped>⟧.shape ⟦<ShapeOf<Self> as Readable>⟧.form };
 }
 
-impl ReadableShape for NewTypeStruct {
-    ghost read_as = { read_as_shape };
+impl MatchesShape for NewTypeStruct {
+    ghost matches = { form_matches };
 }
 
 impl Serialize for NewTypeStruct {
-    ghost writes = { λ v. ⟦<ShapeOf<Self> as Serialize>⟧.writes (⟦<Self as Shaped>⟧.shape v) };
-
-    ghost valid = { λ v. ⟦<ShapeOf<Self> as Serialize>⟧.valid (⟦<Self as Shaped>⟧.shape v) };
-
     fn serialize<F: Flavor>(&self, serializer: &mut Serializer<F>) -> Result<()> {
         self.0.serialize(serializer)
     }
-}
-
-impl SerializeShape for NewTypeStruct {
-    ghost written_as = { written_as_shape };
 }
 
 impl HasSchema for NewTypeStruct {
@@ -126,30 +103,20 @@ impl Shaped for TupleStruct {
     }
 }
 
-impl Formed for TupleStruct {
-    type Form = AsShape;
-}
-
 impl Readable for TupleStruct {
+    type Form = AsShape;
+
     ghost form = { form_as ⟦<Self as Shaped>⟧.shape ⟦<ShapeOf<Self> as Readable>⟧.form };
 }
 
-impl ReadableShape for TupleStruct {
-    ghost read_as = { read_as_shape };
+impl MatchesShape for TupleStruct {
+    ghost matches = { form_matches };
 }
 
 impl Serialize for TupleStruct {
-    ghost writes = { λ v. ⟦<ShapeOf<Self> as Serialize>⟧.writes (⟦<Self as Shaped>⟧.shape v) };
-
-    ghost valid = { λ v. ⟦<ShapeOf<Self> as Serialize>⟧.valid (⟦<Self as Shaped>⟧.shape v) };
-
     fn serialize<F: Flavor>(&self, serializer: &mut Serializer<F>) -> Result<()> {
         (&self.0, &self.1).serialize(serializer)
     }
-}
-
-impl SerializeShape for TupleStruct {
-    ghost written_as = { written_as_shape };
 }
 
 impl HasSchema for TupleStruct {
@@ -175,30 +142,20 @@ impl Shaped for EnumStruct {
     }
 }
 
-impl Formed for EnumStruct {
-    type Form = AsShape;
-}
-
 impl Readable for EnumStruct {
+    type Form = AsShape;
+
     ghost form = { form_as ⟦<Self as Shaped>⟧.shape ⟦<ShapeOf<Self> as Readable>⟧.form };
 }
 
-impl ReadableShape for EnumStruct {
-    ghost read_as = { read_as_shape };
+impl MatchesShape for EnumStruct {
+    ghost matches = { form_matches };
 }
 
 impl Serialize for EnumStruct {
-    ghost writes = { λ v. ⟦<ShapeOf<Self> as Serialize>⟧.writes (⟦<Self as Shaped>⟧.shape v) };
-
-    ghost valid = { λ v. ⟦<ShapeOf<Self> as Serialize>⟧.valid (⟦<Self as Shaped>⟧.shape v) };
-
     fn serialize<F: Flavor>(&self, serializer: &mut Serializer<F>) -> Result<()> {
         (&self.eight, &self.sixt).serialize(serializer)
     }
-}
-
-impl SerializeShape for EnumStruct {
-    ghost written_as = { written_as_shape };
 }
 
 impl HasSchema for EnumStruct {

@@ -7,7 +7,7 @@ use Rattle.postcard_tree.specs.Tree.{Tree, Trees, number, sequence, group, end, 
 use Rattle.postcard_tree.specs.Spelling.{short, short_all, varint}
 use Rattle.postcard_ser.specs.Flavor.{FlavorLaws, RefusedAs, Pushes}
 use Rattle.postcard_ser.specs.Writing.{Writes, WritesAll}
-use Rattle.postcard_ser.specs.FixedTree.{little_tree, big_tree}
+use Rattle.postcard_tree.specs.FixedTree.{little_tree, big_tree}
 use Rattle.schemas.specs.declared.value.Value.{Value, Variant}
 use Rattle.schemas.specs.Integers.{little_group, big_group}
 use Rattle.schemas.specs.Values.{tree_of, trees_in, parts_as}

@@ -6,7 +6,8 @@ use Rattle.std.specs.declared.alloc.AllocError.{AllocError}
 use Rattle.std.proofs.Common.{sym, ◌∙◌, ap, subst, arith, append_assoc, append-nil, length-append, Vec}
 use Rattle.postcard_tree.specs.declared.error.Error.{Error}
 use Rattle.postcard_tree.specs.Tree.{Tree, Trees}
-use Rattle.postcard_tree.specs.Reading.{TakesOption, RefusesOption, TakesSequence, RefusesSequence, IsShort, TakesUpTo, RefusesUpTo, TakesArray, RefusesEach, NoParts, RefusesNoParts, PartThen, RefusesPartThen, GroupOf, TakesVariant, RefusesVariant, TakesResult, RefusesResult}
+use Rattle.postcard_tree.specs.ByteSlices.{bytes_each}
+use Rattle.postcard_tree.specs.Reading.{TakesByte, RefusesByte, RefusesBytes, TakesOption, RefusesOption, TakesSequence, RefusesSequence, IsShort, TakesUpTo, RefusesUpTo, TakesArray, RefusesEach, NoParts, RefusesNoParts, PartThen, RefusesPartThen, GroupOf, TakesVariant, RefusesVariant, TakesResult, RefusesResult}
 use Rattle.postcard_tree.specs.Variants.{TakesLast, RefusesLast, TakesFirst, RefusesFirst}
 use Rattle.postcard_tree.specs.Fixed.{TakesFixed}
 use Rattle.schemas.specs.declared.integer.IntegerType.{IntegerType}
@@ -105,6 +106,19 @@ leaf_schema n l h = node_schema n h (λ depth table m w. same_leaf (SchemaTakes 
 pub as_wide : {size : ℕ} (nodes : List Node) (k m : IntegerType) (r : Result ℕ AllocError) → k ≡ m → width_of m ≡ size
     → IfOk r (λ place. IsSchemaOf (TakesFixed (width_of k)) (IsShort (width_of k)) nodes place) → IfOk r (λ place. IsSchemaOf (TakesFixed size) (IsShort size) nodes place)
 as_wide nodes k m r e w h = subst (λ z. IfOk r (λ place. IsSchemaOf (TakesFixed z) (IsShort z) nodes place)) (ap width_of e ∙ w) h
+
+-- bytes that are read one by one are refused as those that are read at once
+pub bytes_schema : (r : Result ℕ AllocError) (nodes : List Node) → IfOk r (λ place. IsSchemaOf (TakesSequence TakesByte) RefusesBytes nodes place)
+    → IfOk r (λ place. IsSchemaOf (TakesSequence TakesByte) (RefusesSequence TakesByte RefusesByte) nodes place)
+bytes_schema (Ok place) nodes h = record {
+  same = λ depth table l b. let t = h.same depth table l b in record {
+    to = t.to;
+    from = t.from;
+    refused_to = λ s e k. (bytes_each s e).1 (t.refused_to s e k);
+    refused_from = λ s e k. t.refused_from s e ((bytes_each s e).0 k);
+  };
+}
+bytes_schema (Err e) nodes h = h
 
 pub option_schema : {P : Tree → Type 0} {F : List ℕ → Error → Type 0} {i : ℕ} {old new : List Node} {place : ℕ}
     → IsSchemaOf P F old i → IsAdded (node.Option i) old new place → IsSchemaOf (TakesOption P) (RefusesOption F) new place

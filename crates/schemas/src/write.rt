@@ -1,6 +1,7 @@
 //! Writing a value.
 ghost use Rattle.std.specs.Prelude.{Some, ⊤};
 ghost use Rattle.postcard_tree.specs.Tree.{byte, number, sequence, group, end, part};
+ghost use Rattle.postcard_tree.specs.ReadingLaws.{only_written};
 ghost use Rattle.postcard_ser.specs.Writing.{Writes, WritesAll};
 ghost use Rattle.schemas.specs.Integers.{little_group, big_group, little_tree_of, big_tree_of};
 ghost use Rattle.schemas.specs.Values.{tree_of, trees_in};
@@ -8,15 +9,17 @@ ghost use Rattle.schemas.specs.Values.{tree_of, trees_in};
 use crate::{Integer, Value};
 use postcard_ser::ser_flavors::Flavor;
 use postcard_ser::{Serialize, Serializer};
-use postcard_tree::Result;
 use postcard_tree::fixint::{BE, FixInt, LE};
+use postcard_tree::{Own, Readable, Result};
 
-/// A value is written as the tree that it stands for; its type isn't asked.
+/// A value is written as the tree that it stands for; its type isn't asked. It is read by a schema alone.
+impl Readable for Value {
+    type Form = Own;
+
+    ghost form = { only_written (λ v. Some (tree_of v)) (λ _. ⊤) };
+}
+
 impl Serialize for Value {
-    ghost writes = { λ v. Some (tree_of v) };
-
-    ghost valid = { λ _. ⊤ };
-
     fn serialize<F: Flavor>(&self, serializer: &mut Serializer<F>) -> Result<()> {
         write_value(self, serializer)
     }

@@ -7,7 +7,7 @@ use Rattle.postcard_tree.specs.Spelling.{short}
 use Rattle.postcard_tree.specs.Fixed.{little_endian}
 use Rattle.postcard_ser.specs.Flavor.{FlavorLaws}
 use Rattle.postcard_ser.specs.Writing.{Writes}
-use Rattle.postcard_ser.specs.FixedTree.{little_tree, little_tree_is}
+use Rattle.postcard_tree.specs.FixedTree.{little_tree, little_tree_is}
 use Rattle.sealed.specs.Checksum.{sum_of_bytes}
 use Rattle.sealed.specs.Seals.{seal_of, writes_sealed}
 

@@ -23,4 +23,4 @@ mod table;
 mod value;
 
 pub use checksum::crc32;
-pub use value::Sealed;
+pub use value::{AsSealed, Sealed};

@@ -6,17 +6,19 @@ ghost use Rattle.sealed.specs.Checksum.{sum_of_bytes};
 
 use crate::checksum::FIRST;
 use crate::summing::{Nowhere, Summing};
-use crate::value::Sealed;
+use crate::value::{AsSealed, Sealed};
 use postcard::de_flavors::{Bytes, Flavor};
 use postcard::fixint::LE;
 use postcard::{
-    Deserialize, DeserializeOwned, Deserializer, Error, Exact, Result, Serialize, Serializer,
+    Deserialize, DeserializeForm, DeserializeOwned, DeserializeOwnedForm, Deserializer, Error,
+    Exact, Result, Serialize, Serializer,
 };
 
 // The sum of what a value writes; an error where it refuses itself.
 fn sum_of<T: Serialize>(value: &T) -> Result<u32>
-    ensures ok { IfOk result (λ n. IfSome (T.writes value.now) (λ t. n ≡ sum_of_bytes (short t))) }
-    ensures err { IfErr result (λ e. IfSome (T.writes value.now) (λ t. ⊥)) }
+    ensures ok { IfOk result (λ n. IfSome (T.form.writes value.now)
+        (λ t. n ≡ sum_of_bytes (short t))) }
+    ensures err { IfErr result (λ e. IfSome (T.form.writes value.now) (λ t. ⊥)) }
 {
     let mut serializer = Serializer {
         output: Summing {
@@ -31,8 +33,8 @@ fn sum_of<T: Serialize>(value: &T) -> Result<u32>
 // A value with a number behind it, where that is the sum of what the value writes.
 fn sealed_with<T: Serialize + Drop>(value: T, sum: u32) -> Result<Sealed<T>>
     ensures ok { IfOk result (λ v. (v.0 ≡ value)
-        × IfSome (T.writes value) (λ t. sum ≡ sum_of_bytes (short t))) }
-    ensures err { IfErr result (λ e. (e ≡ DeserializeBadCrc) × IfSome (T.writes value) (λ t.
+        × IfSome (T.form.writes value) (λ t. sum ≡ sum_of_bytes (short t))) }
+    ensures err { IfErr result (λ e. (e ≡ DeserializeBadCrc) × IfSome (T.form.writes value) (λ t.
         (sum_of_bytes (short t) < 2 ^ 32) × (sum ≡ sum_of_bytes (short t) → ⊥))) }
 {
     match sum_of(&value) {
@@ -47,8 +49,8 @@ fn sealed_with<T: Serialize + Drop>(value: T, sum: u32) -> Result<Sealed<T>>
     }
 }
 
-impl<B: Bytes, T: Deserialize<B> + Exact> Deserialize<B> for Sealed<T> {
-    fn deserialize<F: Flavor<Taken = B>>(d: &mut Deserializer<F>) -> Result<Sealed<T>> {
+impl<B: Bytes, T: Deserialize<B> + Exact> DeserializeForm<B, Sealed<T>> for AsSealed {
+    fn deserialize_form<F: Flavor<Taken = B>>(d: &mut Deserializer<F>) -> Result<Sealed<T>> {
         match <(T, LE<u32>) as Deserialize<B>>::deserialize(d) {
             Ok(pair) => {
                 let (value, LE(sum)) = pair;
@@ -59,8 +61,8 @@ impl<B: Bytes, T: Deserialize<B> + Exact> Deserialize<B> for Sealed<T> {
     }
 }
 
-impl<T: DeserializeOwned + Exact> DeserializeOwned for Sealed<T> {
-    fn deserialize_owned<F: Flavor>(d: &mut Deserializer<F>) -> Result<Sealed<T>> {
+impl<T: DeserializeOwned + Exact> DeserializeOwnedForm<Sealed<T>> for AsSealed {
+    fn deserialize_owned_form<F: Flavor>(d: &mut Deserializer<F>) -> Result<Sealed<T>> {
         match <(T, LE<u32>) as DeserializeOwned>::deserialize_owned(d) {
             Ok(pair) => {
                 let (value, LE(sum)) = pair;

@@ -2,13 +2,13 @@
 ghost use Rattle.std.specs.Prelude.{Some};
 ghost use Rattle.postcard.specs.Greatest.{sum_of};
 
-use crate::value::Sealed;
-use postcard::experimental::max_size::{MaxSize, MaxWritten};
+use crate::value::{AsSealed, Sealed};
+use postcard::experimental::max_size::{MaxSize, MaxSizeForm, MaxWritten, MaxWrittenForm};
 
-impl<T: MaxSize> MaxSize for Sealed<T> {
-    ghost greatest = { sum_of T.greatest (Some 4) };
+impl<T: MaxSize> MaxSizeForm<Sealed<T>> for AsSealed {
+    ghost form_greatest = { sum_of T.greatest (Some 4) };
 
-    fn postcard_max_size() -> Option<usize> {
+    fn form_max_size() -> Option<usize> {
         match T::postcard_max_size() {
             Some(size) => size.checked_add(4),
             None => None,
@@ -16,8 +16,8 @@ impl<T: MaxSize> MaxSize for Sealed<T> {
     }
 }
 
-impl<T: MaxWritten> MaxWritten for Sealed<T> {
+impl<T: MaxWritten> MaxWrittenForm<Sealed<T>> for AsSealed {
     ghost use Rattle.sealed.specs.Sizes.{sealed_within};
 
-    ghost longest = { λ v h. sealed_within (T.writes v.0) T.greatest (T.longest v.0 h) };
+    ghost form_longest = { λ v h. sealed_within (T.form.writes v.0) T.greatest (T.longest v.0 h) };
 }

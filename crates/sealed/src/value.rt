@@ -10,7 +10,9 @@ use crate::checksum::FIRST;
 use crate::summing::Summing;
 use postcard::fixint::LE;
 use postcard::ser_flavors::Flavor;
-use postcard::{Exact, Grows, Lawful, Readable, Result, Serialize, Serializer};
+use postcard::{
+    Exact, ExactForm, Grows, GrowsForm, Lawful, LawfulForm, Readable, Result, Serialize, Serializer,
+};
 
 /// A value with the CRC-32 of its spelling behind it.
 ///
@@ -20,8 +22,15 @@ use postcard::{Exact, Grows, Lawful, Readable, Result, Serialize, Serializer};
 #[derive(PartialEq, Drop)]
 pub struct Sealed<T>(pub T);
 
+/// The form of [`Sealed`], by which it has what is done by the form of a type.
+pub struct AsSealed;
+
 impl<T: Readable> Readable for Sealed<T> {
+    type Form = AsSealed;
+
     ghost form = { record {
+      writes = λ v. writes_sealed (T.form.writes v.0);
+      valid = λ v. T.form.valid v.0;
       takes = TakesSealed T.form.takes;
       reads = λ t v. ReadsSealed T.form.reads t v.0;
       refuses = RefusesSealed T.form.takes T.form.refuses;
@@ -31,8 +40,8 @@ impl<T: Readable> Readable for Sealed<T> {
     } };
 }
 
-impl<T: Grows> Grows for Sealed<T> {
-    fn grows() -> bool {
+impl<T: Grows> GrowsForm<Sealed<T>> for AsSealed {
+    fn form_grows() -> bool {
         T::grows()
     }
 }
@@ -42,12 +51,12 @@ fn write_summed<'b, T: Serialize, F: Flavor>(
     value: &T,
     output: &'b mut F,
 ) -> (Result<u32>, &'b mut F)
-    ensures writes { Writes F.took F.refused output.entry.now (T.writes value.now) result.0
+    ensures writes { Writes F.took F.refused output.entry.now (T.form.writes value.now) result.0
         result.1.now }
     ensures sum { IfOk result.0
-        (λ n. IfSome (T.writes value.now) (λ t. n ≡ sum_of_bytes (short t))) }
+        (λ n. IfSome (T.form.writes value.now) (λ t. n ≡ sum_of_bytes (short t))) }
     ensures same { F.same output.entry.now result.1.now }
-    ensures valid { OnOk result.0 (T.valid value.now) }
+    ensures valid { OnOk result.0 (T.form.valid value.now) }
     ensures same_reference { result.1.ghost_name ≡ output.entry.ghost_name }
 {
     let mut serializer = Serializer {
@@ -66,10 +75,6 @@ fn write_summed<'b, T: Serialize, F: Flavor>(
 }
 
 impl<T: Serialize> Serialize for Sealed<T> {
-    ghost writes = { λ v. writes_sealed (T.writes v.0) };
-
-    ghost valid = { λ v. T.valid v.0 };
-
     fn serialize<F: Flavor>(&self, serializer: &mut Serializer<F>) -> Result<()> {
         let (written, _) = write_summed(&self.0, &mut serializer.output);
         match written {
@@ -79,11 +84,12 @@ impl<T: Serialize> Serialize for Sealed<T> {
     }
 }
 
-impl<T: Lawful> Lawful for Sealed<T> {
-    ghost reads_back = { λ v t h e. sealed_back T.form.reads v.0 (T.writes v.0) t
+impl<T: Lawful> LawfulForm<Sealed<T>> for AsSealed {
+    ghost form_reads_back = { λ v t h e. sealed_back T.form.reads v.0 (T.form.writes v.0) t
         (λ u k. T.reads_back v.0 u h k) e };
 }
 
-impl<T: Exact> Exact for Sealed<T> {
-    ghost writes_back = { λ t v h. sealed_written T.form.reads T.writes T.writes_back t v.0 h };
+impl<T: Exact> ExactForm<Sealed<T>> for AsSealed {
+    ghost form_writes_back = { λ t v h. sealed_written T.form.reads T.form.writes T.writes_back t
+        v.0 h };
 }

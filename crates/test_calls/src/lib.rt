@@ -12,4 +12,6 @@ mod seals;
 #[cfg(test)]
 mod served;
 #[cfg(test)]
+mod waiting;
+#[cfg(test)]
 mod whole;

@@ -2,8 +2,8 @@
 use crate::checks::{check, check_all, fails, is_vector};
 use postcard::ser_flavors::Flavor;
 use postcard::{
-    DeserializeOwned, Deserializer, Error, Serialize, Serializer, from_bytes_owned, from_io,
-    to_slice, to_slice_cobs, to_stdvec, to_vec,
+    DeserializeOwned, Deserializer, Error, Own, Readable, Serialize, Serializer, from_bytes_owned,
+    from_io, to_slice, to_slice_cobs, to_stdvec, to_vec,
 };
 use std::alloc::{AllocError, Global};
 use std::collections::BTreeMap;
@@ -96,13 +96,16 @@ fn a_map_of_three_hundred(rt: HostRuntime) {
 #[derive(Drop)]
 struct Refusing(Error);
 
-impl Serialize for Refusing {
+impl Readable for Refusing {
     ghost use Rattle.std.specs.Prelude.{None};
+    ghost use Rattle.postcard_tree.specs.ReadingLaws.{only_written};
 
-    ghost writes = { λ _. None };
+    type Form = Own;
 
-    ghost valid = { λ _. Unit {0} };
+    ghost form = { only_written (λ _. None) (λ _. Unit {0}) };
+}
 
+impl Serialize for Refusing {
     fn serialize<F: Flavor>(&self, _serializer: &mut Serializer<F>) -> postcard::Result<()> {
         Err(self.0)
     }

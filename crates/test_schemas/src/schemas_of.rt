@@ -192,27 +192,27 @@ fn kinds(rt: HostRuntime) {
 const WRONG: [Row; 9] = [
     (
         "// message\nstruct A(B);\n\n// message\nstruct C(\n    D,\n);",
-        "line 2: `A.0`: `B` isn't declared and marked here\nline 6: `C.0`: `D` isn't declared and marked here\n",
+        "line 2: `A.0`: `B` isn't declared and marked here: name the file of its declaration too, or write the type that is on the wire\nline 6: `C.0`: `D` isn't declared and marked here: name the file of its declaration too, or write the type that is on the wire\n",
     ),
     (
         "// message\nstruct A(u8);\n// message\nenum A { B }",
-        "line 4: `A`: the file declares this name twice\n",
+        "line 4: `A`: the file declares this name twice: leave out what isn't on the wire\n",
     ),
     (
         "// message\nstruct A<T>(T);\n// message\nstruct B(A<C>);",
-        "line 4: `B.0`: `C` isn't declared and marked here\n",
+        "line 4: `B.0`: `C` isn't declared and marked here: name the file of its declaration too, or write the type that is on the wire\n",
     ),
     (
         "// message\nstruct A([u8; N]);",
-        "line 2: `A.0`: `N` isn't a length in plain digits\n",
+        "line 2: `A.0`: `N` isn't a length in plain digits: write them\n",
     ),
     (
         "// message\nstruct A(ArrayVec<u8, N>);",
-        "line 2: `A.0`: `N` isn't a length in plain digits\n",
+        "line 2: `A.0`: `N` isn't a length in plain digits: write them\n",
     ),
     (
         "// message\nstruct A(LE<u8>);",
-        "line 2: `A.0`: `u8` isn't an integer of 16 to 128 bits\n",
+        "line 2: `A.0`: `u8` isn't an integer of 16 to 128 bits: write one, or its bytes as an array\n",
     ),
     (
         "// message\nstruct A(Option);",

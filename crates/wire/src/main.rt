@@ -5,12 +5,15 @@
 //! The work is that of `wire_lib`.
 #![tactic(auto)]
 
+mod about;
 mod sources;
 mod stop;
 
+use crate::about::ABOUT;
 use crate::sources::sources_of;
 use crate::stop::{Stop, wrong};
 use declarations::{Error, Schema, read_sources};
+use help::answer;
 use std::env;
 use std::io::{Read, Write};
 use std::process::ExitCode;
@@ -314,10 +317,17 @@ fn report(rt: &HostRuntime, ran: Ran) -> u8 {
     if said.is_ok() { status } else { 3 }
 }
 
+/// Answers words about the program, or does what they say; the status.
+fn status_of(rt: &HostRuntime, words: &[String]) -> u8 {
+    match answer(&mut rt.stdout(), ABOUT, words) {
+        Some(status) => status,
+        None => report(rt, run(rt, words)),
+    }
+}
+
 fn main(rt: HostRuntime) -> ExitCode {
-    let ran = match words_of(&rt) {
-        Some(words) => run(&rt, &words),
-        None => Err(Stop::NoMemory),
-    };
-    ExitCode::from(report(&rt, ran))
+    ExitCode::from(match words_of(&rt) {
+        Some(words) => status_of(&rt, &words),
+        None => report(&rt, Err(Stop::NoMemory)),
+    })
 }

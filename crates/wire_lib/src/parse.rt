@@ -526,6 +526,21 @@ fn has_name(names: &[String], wanted: &str) -> bool {
     false
 }
 
+/// The first name that stands twice.
+fn doubled<'a>(members: &[(&'a str, Json<'a>)]) -> Option<&'a str> {
+    let mut rest = members;
+    for _ in 0..members.len() {
+        let [(name, _), behind @ ..] = rest else {
+            return None;
+        };
+        if named(behind, name).is_some() {
+            return Some(name);
+        }
+        rest = behind;
+    }
+    None
+}
+
 /// Refuses a member that is none of the fields, or stands twice.
 fn check_members(alloc: Global, names: &Names, json: &Json<'_>) -> Result<(), ParseError> {
     let (Names::Fields(names), Json::Object(members)) = (names, json) else {
@@ -539,7 +554,10 @@ fn check_members(alloc: Global, names: &Names, json: &Json<'_>) -> Result<(), Pa
             return Err(inside(alloc, key, refusal("the type has no such field")));
         }
     }
-    Err(refusal("a field stands twice"))
+    match doubled(members) {
+        Some(name) => Err(inside(alloc, name, refusal("the field stands twice"))),
+        None => Ok(()),
+    }
 }
 
 /// Whether what stands for a struct without fields is right.
@@ -636,7 +654,7 @@ fn variant(
         return Err(refusal("a variant is wanted"));
     };
     let Some(index) = index_of(names, name) else {
-        return Err(refusal("the type has no such variant"));
+        return Err(inside(alloc, name, refusal("the type has no such variant")));
     };
     if index as usize >= payloads.len() {
         return Err(refusal(NO_TYPE));

@@ -37,9 +37,23 @@ pub fn refusal(why: &'static str) -> ParseError {
     ParseError::Wrong(Wrong { path: None, why })
 }
 
+/// Appends a name, what would end the line or move on it as Rust writes it.
+fn push_name(path: &mut String, name: &str) -> Result<(), AllocError> {
+    for character in name.chars() {
+        match character {
+            '\n' => path.push_str("\\n")?,
+            '\r' => path.push_str("\\r")?,
+            '\t' => path.push_str("\\t")?,
+            _ => path.push(character)?,
+        }
+    }
+    Ok(())
+}
+
 /// The way to a part of what has this name.
 fn joined(alloc: Global, name: &str, path: &Option<String>) -> Result<String, AllocError> {
-    let mut whole = String::from_str(alloc, name)?;
+    let mut whole = String::new(alloc);
+    push_name(&mut whole, name)?;
     if let Some(path) = path {
         if !path.starts_with('[') {
             whole.push('.')?;

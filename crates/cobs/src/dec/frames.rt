@@ -108,9 +108,10 @@ pub(crate) fn decode_whole(
 }
 
 // Takes in the bytes of a source before its first sentinel, each XORed with it: there is room for all of the source. They are
-// searched as they are copied, 255 at a time. Answers how many they are.
+// searched as they are copied, 255 at a time. Answers how many they are. It is compiled once for each number: one copy is for the
+// sentinel zero alone, where no byte is XORed.
 #[inline(never)]
-fn take_source(source: &[u8], dest: &mut [u8], sentinel: u8) -> (Progress, usize)
+fn take_source<const COPY: usize>(source: &[u8], dest: &mut [u8], sentinel: u8) -> (Progress, usize)
     requires some { 0 < length source.now }
     requires room { length source.now ≤ length dest.old + 1 }
     requires begins { slice_index source.now 0 ≢ sentinel }
@@ -159,10 +160,31 @@ fn take_source(source: &[u8], dest: &mut [u8], sentinel: u8) -> (Progress, usize
     (progress, end)
 }
 
-// As `decode_with_sentinel`, of a source that doesn't begin with the sentinel, for all of which there is room. Also answers how
-// many bytes come before the sentinel.
+// Decodes the bytes of a source before its first zero: it doesn't begin with one, and there is room for all of it. Also answers how
+// many they are.
 #[inline(always)]
-pub(crate) fn decode_source(
+pub(crate) fn decode_source(source: &[u8], dest: &mut [u8]) -> (Result<usize, DecodeError>, usize)
+    requires some { 0 < length source.now }
+    requires room { length source.now ≤ length dest.old + 1 }
+    requires begins { slice_index source.now 0 ≢ 0 }
+    ensures end { result.1 ≡ length (stretch (masked 0 source.now)) }
+    ensures some { 0 < result.1 }
+    ensures within { result.1 ≤ length source.now }
+    ensures answer { result.0
+        ≡ decoded_into (length dest.old) (stretch (masked 0 source.now)) }
+    ensures dest { dest.new ≡ overwritten (part (stretch (masked 0 source.now))) dest.old }
+{
+    let (Progress { state, len }, end) = take_source::<0>(source, dest, 0);
+    if state.left() == 0 {
+        (Ok(len), end)
+    } else {
+        (Err(DecodeError::InvalidFrame { decoded_bytes: len }), end)
+    }
+}
+
+// The same of the bytes before the first sentinel, each XORed with it.
+#[inline(always)]
+pub(crate) fn decode_source_masked(
     source: &[u8],
     dest: &mut [u8],
     sentinel: u8,
@@ -175,10 +197,9 @@ pub(crate) fn decode_source(
     ensures within { result.1 ≤ length source.now }
     ensures answer { result.0
         ≡ decoded_into (length dest.old) (stretch (masked sentinel source.now)) }
-    ensures dest { dest.new
-        ≡ overwritten (part (stretch (masked sentinel source.now))) dest.old }
+    ensures dest { dest.new ≡ overwritten (part (stretch (masked sentinel source.now))) dest.old }
 {
-    let (Progress { state, len }, end) = take_source(source, dest, sentinel);
+    let (Progress { state, len }, end) = take_source::<1>(source, dest, sentinel);
     if state.left() == 0 {
         (Ok(len), end)
     } else {

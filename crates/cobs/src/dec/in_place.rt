@@ -1,5 +1,5 @@
 //! A buffer whose bytes are decoded over themselves.
-ghost use Rattle.std.specs.Prelude.{◌≡◌, ◌≢◌, ℕ, List, [], length, take, drop, IfOk, OnErr};
+ghost use Rattle.std.specs.Prelude.{bit_xor, ◌≡◌, ◌≢◌, ℕ, ◌<◌, ◌≤◌, List, [], length, take, drop, slice_index, IfOk, OnErr, IfSome, IsNone};
 ghost use Rattle.cobs.specs.Frames.{Frame, part};
 ghost use Rattle.cobs.specs.Reports.{frame_size};
 ghost use Rattle.cobs.specs.InPlace.{stretch, in_place, in_place_length, overwritten};
@@ -7,8 +7,265 @@ ghost use Rattle.cobs.specs.Sentinel.{masked};
 
 use super::progress::Progress;
 use super::report::{DecodeError, DecodeReport};
-use crate::finding::end_in;
+use super::state::DecoderState;
+use super::window::{put_zeros, same_by_64};
+use crate::finding::{before_by_64, end_in, few_end};
 use crate::masks::mask;
+use crate::moves::{is_clear_255, move_down};
+
+// Decodes the bytes in front of a buffer that are of a frame, each XORed with the sentinel, over themselves: those of one window.
+// Behind the code of a full block there is none that isn't its.
+#[inline(always)]
+fn decode_short_in_place(
+    buf: &mut [u8],
+    end: usize,
+    sentinel: u8,
+) -> Result<DecodeReport, DecodeError>
+    requires some { 0 < end }
+    requires few { end ≤ 255 }
+    requires within { end ≤ length buf.old }
+    requires clear { (k : ℕ) → k < end → slice_index buf.old k ≢ sentinel }
+    requires end { end < length buf.old → slice_index buf.old end ≡ sentinel }
+    requires bytes { (k : ℕ) → slice_index buf.old k < 256 }
+    ensures answer { result ≡ in_place (stretch (masked sentinel buf.old)) }
+    ensures buffer { buf.new ≡ overwritten (part (stretch (masked sentinel buf.old))) buf.old }
+{
+    let code = sentinel ^ buf[0];
+    let len = end - 1;
+    move_down(buf, 1, len, 0, sentinel);
+    let state = put_zeros(&mut buf[..len], code - 1);
+    if state.left() == 0 {
+        Ok(DecodeReport {
+            parsed: end,
+            decoded: len,
+        })
+    } else {
+        Err(DecodeError::InvalidFrame { decoded_bytes: len })
+    }
+}
+
+// The same where there may be no such bytes.
+#[inline(always)]
+fn decode_ended_in_place(
+    buf: &mut [u8],
+    end: usize,
+    sentinel: u8,
+) -> Result<DecodeReport, DecodeError>
+    requires few { end ≤ 255 }
+    requires within { end ≤ length buf.old }
+    requires clear { (k : ℕ) → k < end → slice_index buf.old k ≢ sentinel }
+    requires end { end < length buf.old → slice_index buf.old end ≡ sentinel }
+    requires bytes { (k : ℕ) → slice_index buf.old k < 256 }
+    ensures answer { result ≡ in_place (stretch (masked sentinel buf.old)) }
+    ensures buffer { buf.new ≡ overwritten (part (stretch (masked sentinel buf.old))) buf.old }
+{
+    if end == 0 {
+        return Ok(DecodeReport {
+            parsed: 0,
+            decoded: 0,
+        });
+    }
+    decode_short_in_place(buf, end, sentinel)
+}
+
+// The same of bytes that begin with a code 01: each of a row of such codes is a zero, and 64 and more are filled at once.
+#[inline(never)]
+fn decode_row_in_place(
+    buf: &mut [u8],
+    end: usize,
+    sentinel: u8,
+) -> Result<DecodeReport, DecodeError>
+    requires some { 0 < end }
+    requires few { end ≤ 255 }
+    requires within { end ≤ length buf.old }
+    requires clear { (k : ℕ) → k < end → slice_index buf.old k ≢ sentinel }
+    requires end { end < length buf.old → slice_index buf.old end ≡ sentinel }
+    requires first { slice_index buf.old 0 ≡ bit_xor sentinel 1 }
+    requires bytes { (k : ℕ) → slice_index buf.old k < 256 }
+    ensures answer { result ≡ in_place (stretch (masked sentinel buf.old)) }
+    ensures buffer { buf.new ≡ overwritten (part (stretch (masked sentinel buf.old))) buf.old }
+{
+    let len = end - 1;
+    let row = same_by_64(sentinel ^ 1, &buf[1..end]);
+    move_down(buf, 1 + row, len - row, row, sentinel);
+    let state = put_zeros(&mut buf[row..len], 0);
+    buf[..row].fill(0);
+    if state.left() == 0 {
+        Ok(DecodeReport {
+            parsed: end,
+            decoded: len,
+        })
+    } else {
+        Err(DecodeError::InvalidFrame { decoded_bytes: len })
+    }
+}
+
+// The same, with an answer that isn't handed to a call.
+#[inline(always)]
+fn decode_row_apart(buf: &mut [u8], end: usize, sentinel: u8) -> Result<DecodeReport, DecodeError>
+    requires some { 0 < end }
+    requires few { end ≤ 255 }
+    requires within { end ≤ length buf.old }
+    requires clear { (k : ℕ) → k < end → slice_index buf.old k ≢ sentinel }
+    requires end { end < length buf.old → slice_index buf.old end ≡ sentinel }
+    requires first { slice_index buf.old 0 ≡ bit_xor sentinel 1 }
+    requires bytes { (k : ℕ) → slice_index buf.old k < 256 }
+    ensures answer { result ≡ in_place (stretch (masked sentinel buf.old)) }
+    ensures buffer { buf.new ≡ overwritten (part (stretch (masked sentinel buf.old))) buf.old }
+{
+    match decode_row_in_place(buf, end, sentinel) {
+        Ok(DecodeReport { parsed, decoded }) => Ok(DecodeReport { parsed, decoded }),
+        Err(error) => Err(error),
+    }
+}
+
+// Where the first sentinel of more than 64 bytes is, if it is among the first 256. That a byte is below 256 nothing else says of a
+// buffer that is lent on.
+#[inline(always)]
+fn near_end(bytes: &[u8], sentinel: u8) -> usize
+    requires { 64 < length bytes.now }
+    ensures within { result ≤ length bytes.now }
+    ensures few { result ≤ 256 }
+    ensures none { (k : ℕ) → k < result → slice_index bytes.now k ≢ sentinel }
+    ensures end { result < 256 → result < length bytes.now
+        → slice_index bytes.now result ≡ sentinel }
+    ensures bytes { (k : ℕ) → slice_index bytes.now k < 256 }
+{
+    before_by_64(&bytes[..bytes.len().min(256)], sentinel)
+}
+
+// As `decode_in_place_report_with_sentinel`, where the frame is a short one; else nothing.
+#[inline(always)]
+fn decode_near_in_place(buf: &mut [u8], sentinel: u8) -> Option<Result<DecodeReport, DecodeError>>
+    ensures answer { IfSome result (λ r. r ≡ in_place (stretch (masked sentinel buf.old))) }
+    ensures buffer { IfSome result
+        (λ _. buf.new ≡ overwritten (part (stretch (masked sentinel buf.old))) buf.old) }
+    ensures unchanged { IsNone result → buf.new ≡ buf.old }
+    ensures some { IsNone result → 0 < length buf.old }
+    ensures begins { IsNone result → slice_index buf.old 0 ≢ sentinel }
+    ensures bytes { (k : ℕ) → slice_index buf.old k < 256 }
+{
+    if buf.len() <= 64 {
+        let few = few_end(buf, sentinel);
+        return Some(decode_ended_in_place(buf, few, sentinel));
+    }
+    let end = near_end(buf, sentinel);
+    if end == 256 {
+        return None;
+    }
+    if 64 <= end && buf[0] == sentinel ^ 1 {
+        return Some(decode_row_apart(buf, end, sentinel));
+    }
+    Some(decode_ended_in_place(buf, end, sentinel))
+}
+
+// As `decode_in_place_report_with_sentinel`, of a buffer that doesn't begin with the sentinel: 255 bytes are searched and moved at
+// a time. It is compiled once for each number: one copy is for the sentinel zero alone, where no byte is XORed.
+#[inline(never)]
+fn decode_long_in_place<const COPY: usize>(
+    buf: &mut [u8],
+    sentinel: u8,
+) -> Result<DecodeReport, DecodeError>
+    requires some { 0 < length buf.old }
+    requires begins { slice_index buf.old 0 ≢ sentinel }
+    requires bytes { (k : ℕ) → slice_index buf.old k < 256 }
+    ensures answer { result ≡ in_place (stretch (masked sentinel buf.old)) }
+    ensures buffer { buf.new ≡ overwritten (part (stretch (masked sentinel buf.old))) buf.old }
+{
+    let mut progress = Progress::new();
+    let code = sentinel ^ buf[0];
+    let _ = progress.take_in(buf, code);
+    let mut read: usize = 1;
+    while 255 <= buf.len() - read && is_clear_255(&buf[read..read + 255], sentinel) {
+        if let DecoderState::GrabChain(0) = progress.state {
+            let code = sentinel ^ buf[read];
+            // By its code that is known, so that what is kept between full blocks is known too.
+            if code == u8::MAX {
+                let _ = progress.take_in(buf, u8::MAX);
+                let full = progress.take_within(buf, read + 1, read + 255, sentinel);
+                read += 1 + full;
+                continue;
+            }
+            let _ = progress.take_in(buf, code);
+            let block = progress.take_within(buf, read + 1, read + 255, sentinel);
+            read += 1 + block;
+            continue;
+        }
+        let front = progress.take_within(buf, read, read + 255, sentinel);
+        if 0 < front {
+            read += front;
+            continue;
+        }
+        let byte = sentinel ^ buf[read];
+        let _ = progress.take_in(buf, byte);
+        read += 1;
+    }
+    let end = read + end_in(&buf[read..], sentinel);
+    while read < end {
+        let taken = progress.take_within(buf, read, end, sentinel);
+        if 0 < taken {
+            read += taken;
+            continue;
+        }
+        let byte = sentinel ^ buf[read];
+        let _ = progress.take_in(buf, byte);
+        read += 1;
+    }
+    let Progress { mut state, len } = progress;
+    let parsed = read;
+    match state.feed(0) {
+        Ok(_) => Ok(DecodeReport {
+            parsed,
+            decoded: len,
+        }),
+        Err(_) => Err(DecodeError::InvalidFrame { decoded_bytes: len }),
+    }
+}
+
+// As `decode_in_place_report`.
+#[inline(always)]
+fn decode_unmasked(buf: &mut [u8]) -> Result<DecodeReport, DecodeError>
+    ensures answer { result ≡ in_place (stretch (masked 0 buf.old)) }
+    ensures buffer { buf.new ≡ overwritten (part (stretch (masked 0 buf.old))) buf.old }
+    ensures bytes { (k : ℕ) → slice_index buf.old k < 256 }
+{
+    if let Some(answer) = decode_near_in_place(buf, 0) {
+        return answer;
+    }
+    match decode_long_in_place::<0>(buf, 0) {
+        Ok(DecodeReport { parsed, decoded }) => Ok(DecodeReport { parsed, decoded }),
+        Err(error) => Err(error),
+    }
+}
+
+// As `decode_in_place_report_with_sentinel`.
+#[inline(always)]
+fn decode_masked(buf: &mut [u8], sentinel: u8) -> Result<DecodeReport, DecodeError>
+    ensures answer { result ≡ in_place (stretch (masked sentinel buf.old)) }
+    ensures buffer { buf.new ≡ overwritten (part (stretch (masked sentinel buf.old))) buf.old }
+    ensures bytes { (k : ℕ) → slice_index buf.old k < 256 }
+{
+    if let Some(answer) = decode_near_in_place(buf, sentinel) {
+        return answer;
+    }
+    match decode_long_in_place::<1>(buf, sentinel) {
+        Ok(DecodeReport { parsed, decoded }) => Ok(DecodeReport { parsed, decoded }),
+        Err(error) => Err(error),
+    }
+}
+
+// The same, where the sentinel may well be zero.
+#[inline(always)]
+pub(crate) fn decode_either(buf: &mut [u8], sentinel: u8) -> Result<DecodeReport, DecodeError>
+    ensures answer { result ≡ in_place (stretch (masked sentinel buf.old)) }
+    ensures buffer { buf.new ≡ overwritten (part (stretch (masked sentinel buf.old))) buf.old }
+{
+    if sentinel == 0 {
+        decode_unmasked(buf)
+    } else {
+        decode_masked(buf, sentinel)
+    }
+}
 
 /// Decodes the bytes before the first zero, or all where there is none, over themselves.
 ///
@@ -26,7 +283,7 @@ pub fn decode_in_place_report(buf: &mut [u8]) -> Result<DecodeReport, DecodeErro
     ensures rest { drop (length (stretch buf.old)) buf.new
         ≡ drop (length (stretch buf.old)) buf.old }
 {
-    decode_in_place_report_with_sentinel(buf, 0)
+    decode_unmasked(buf)
 }
 
 /// As `decode_in_place_report`, of the bytes before the first sentinel, or all where there is none, each XORed with the
@@ -54,35 +311,7 @@ pub fn decode_in_place_report_with_sentinel(
     ensures rest { let n = length (stretch (masked sentinel buf.old)) in
         drop n buf.new ≡ drop n buf.old }
 {
-    let end = end_in(buf, sentinel);
-    if end == 0 {
-        return Ok(DecodeReport {
-            parsed: 0,
-            decoded: 0,
-        });
-    }
-    let mut progress = Progress::new();
-    let code = sentinel ^ buf[0];
-    let _ = progress.take_in(buf, code);
-    let mut read: usize = 1;
-    while read < end {
-        let taken = progress.take_within(buf, read, end, sentinel);
-        if 0 < taken {
-            read += taken;
-            continue;
-        }
-        let byte = sentinel ^ buf[read];
-        let _ = progress.take_in(buf, byte);
-        read += 1;
-    }
-    let Progress { mut state, len } = progress;
-    match state.feed(0) {
-        Ok(_) => Ok(DecodeReport {
-            parsed: read,
-            decoded: len,
-        }),
-        Err(_) => Err(DecodeError::InvalidFrame { decoded_bytes: len }),
-    }
+    decode_masked(buf, sentinel)
 }
 
 /// As `decode_in_place_report`, with the length of the message alone.

@@ -9,7 +9,7 @@ use super::report::{DecodeError, DecodeReport};
 use super::state::{DecoderState, told_by};
 use super::whole::decode_clear;
 use super::window::{
-    FEW, WINDOW, before_by_call, copy, copy_run, decode_at_once, decode_window, put_zeros,
+    FEW, ROW, WINDOW, before_by_call, copy, copy_run, decode_at_once, decode_window, put_zeros,
     same_by_64,
 };
 use crate::moves::{copy_block, move_down, zero_over};
@@ -98,7 +98,7 @@ impl Progress {
             DecoderState::Idle => 0,
             DecoderState::Grab(left) => {
                 if left == 0 {
-                    let ones = same_by_64(sentinel ^ 1, &piece[..room]);
+                    let ones = same_by_64(sentinel ^ 1, &piece[..room.min(ROW)]);
                     if 0 < ones {
                         zero_over(buffer, len, ones);
                         self.len = len + ones;

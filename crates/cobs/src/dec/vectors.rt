@@ -6,7 +6,7 @@ ghost use Rattle.cobs.specs.Sentinel.{masked};
 ghost use Rattle.cobs.specs.Whole.{frame_in, message_of_stretch, message_of_frame, RefusesWhole};
 ghost use Rattle.cobs.specs.declared.dec.report.DecodeVecError.TheVariants.{OutOfMemory};
 
-use super::in_place::decode_in_place_report_with_sentinel;
+use super::in_place::decode_either;
 use super::report::{DecodeError, DecodeVecError};
 use super::whole::{before, behind_zeros};
 use std::alloc::Global;
@@ -19,7 +19,7 @@ fn decode_vector(bytes: Vec<u8>, sentinel: u8) -> Result<Vec<u8>, DecodeVecError
         (λ e. RefusesWhole e (message_of_stretch (stretch (masked sentinel bytes.items)))) }
 {
     let mut bytes = bytes;
-    match decode_in_place_report_with_sentinel(bytes.as_mut_slice(), sentinel) {
+    match decode_either(bytes.as_mut_slice(), sentinel) {
         Ok(report) => {
             bytes.truncate(report.frame_size());
             Ok(bytes)

@@ -1,15 +1,15 @@
 //! A source that is there as a whole, decoded into a slice.
-ghost use Rattle.std.specs.Prelude.{◌≡◌, ◌≢◌, ℕ, ◌+◌, ◌<◌, ◌≤◌, List, [], length, take, slice_index, IsTrue, IfOk, OnErr, IfSome};
+ghost use Rattle.std.specs.Prelude.{◌≡◌, ◌≢◌, ℕ, ◌+◌, ◌<◌, ◌≤◌, List, [], length, take, slice_index, IsTrue, IfOk, OnErr, IfSome, IsNone};
 ghost use Rattle.cobs.specs.Frames.{Frame, NoZero, part};
 ghost use Rattle.cobs.specs.Reports.{frame_size};
 ghost use Rattle.cobs.specs.InPlace.{stretch, overwritten};
 ghost use Rattle.cobs.specs.Sentinel.{masked};
 ghost use Rattle.cobs.specs.Whole.{unpadded, frame_in, decoded_from, decoded_into};
 
-use super::frames::{decode_counted, decode_source, decode_whole};
+use super::frames::{decode_counted, decode_source, decode_source_masked, decode_whole};
 use super::progress::Progress;
 use super::report::{DecodeError, DecodeReport};
-use crate::finding::{before_by_64, before_few, before_sentinel};
+use crate::finding::{before_behind, before_by_64, before_few, before_sentinel};
 use crate::moves::are_all;
 
 // The bytes before the first one that is the sentinel.
@@ -30,13 +30,26 @@ fn before_end_few(bytes: &[u8], sentinel: u8) -> &[u8]
     &bytes[..before_few(bytes, sentinel)]
 }
 
-// The same of more bytes, where they are fewer than 256.
+// The same of many bytes whose first 256 hold none.
+#[inline(always)]
+fn far_frame(bytes: &[u8], sentinel: u8) -> &[u8]
+    requires many { 256 ≤ length bytes.now }
+    requires clear { (k : ℕ) → k < 256 → slice_index bytes.now k ≢ sentinel }
+    ensures frame { masked sentinel result.now ≡ stretch (masked sentinel bytes.now) }
+    ensures within { length result.now ≤ length bytes.now }
+{
+    &bytes[..before_behind(bytes, sentinel)]
+}
+
+// The same of more than 64 bytes, where they are fewer than 256.
 #[inline(always)]
 fn near_frame(bytes: &[u8], sentinel: u8) -> Option<&[u8]>
     requires { 64 < length bytes.now }
     ensures frame { IfSome result
         (λ f. masked sentinel f.now ≡ stretch (masked sentinel bytes.now)) }
     ensures within { IfSome result (λ f. length f.now ≤ length bytes.now) }
+    ensures many { IsNone result → 256 ≤ length bytes.now }
+    ensures clear { IsNone result → (k : ℕ) → k < 256 → slice_index bytes.now k ≢ sentinel }
 {
     let end = before_by_64(&bytes[..bytes.len().min(256)], sentinel);
     if end < 256 { Some(&bytes[..end]) } else { None }
@@ -140,7 +153,7 @@ fn decode_long(source: &[u8], rest: &[u8], dest: &mut [u8]) -> Result<DecodeRepo
     ensures answer { result ≡ decoded_from (length dest.old) source.now }
     ensures dest { dest.new ≡ overwritten (part (frame_in source.now)) dest.old }
 {
-    let (answer, end) = decode_source(rest, dest, 0);
+    let (answer, end) = decode_source(rest, dest);
     match answer {
         Ok(decoded) => Ok(DecodeReport {
             parsed: source.len().min(source.len() - rest.len() + end + 1),
@@ -171,6 +184,39 @@ fn decode_searched_apart(source: &[u8], dest: &mut [u8]) -> Result<DecodeReport,
     ensures dest { dest.new ≡ overwritten (part (frame_in source.now)) dest.old }
 {
     match decode_searched(source, dest) {
+        Ok(DecodeReport { parsed, decoded }) => Ok(DecodeReport { parsed, decoded }),
+        Err(error) => Err(error),
+    }
+}
+
+// As `decode`, of a source whose first 256 bytes behind leading zeros hold no zero.
+#[inline(never)]
+fn decode_far(source: &[u8], rest: &[u8], dest: &mut [u8]) -> Result<DecodeReport, DecodeError>
+    requires rest { rest.now ≡ unpadded source.now }
+    requires within { length rest.now ≤ length source.now }
+    requires many { 256 ≤ length rest.now }
+    requires clear { (k : ℕ) → k < 256 → slice_index rest.now k ≢ 0 }
+    ensures answer { result ≡ decoded_from (length dest.old) source.now }
+    ensures dest { dest.new ≡ overwritten (part (frame_in source.now)) dest.old }
+{
+    decode_found(source, rest, far_frame(rest, 0), dest)
+}
+
+// The same, with an answer that isn't handed to a call.
+#[inline(always)]
+fn decode_far_apart(
+    source: &[u8],
+    rest: &[u8],
+    dest: &mut [u8],
+) -> Result<DecodeReport, DecodeError>
+    requires rest { rest.now ≡ unpadded source.now }
+    requires within { length rest.now ≤ length source.now }
+    requires many { 256 ≤ length rest.now }
+    requires clear { (k : ℕ) → k < 256 → slice_index rest.now k ≢ 0 }
+    ensures answer { result ≡ decoded_from (length dest.old) source.now }
+    ensures dest { dest.new ≡ overwritten (part (frame_in source.now)) dest.old }
+{
+    match decode_far(source, rest, dest) {
         Ok(DecodeReport { parsed, decoded }) => Ok(DecodeReport { parsed, decoded }),
         Err(error) => Err(error),
     }
@@ -208,7 +254,7 @@ fn decode_begun(source: &[u8], rest: &[u8], dest: &mut [u8]) -> Result<DecodeRep
     if has_room(rest, dest.len()) {
         decode_long(source, rest, dest)
     } else {
-        decode_searched_apart(source, dest)
+        decode_far_apart(source, rest, dest)
     }
 }
 
@@ -261,6 +307,21 @@ pub(crate) fn decode_clear(
     }
 }
 
+// As `decode_with_sentinel`, of a source whose first 256 bytes hold no sentinel.
+#[inline(never)]
+fn decode_far_stretch(source: &[u8], dest: &mut [u8], sentinel: u8) -> Result<usize, DecodeError>
+    requires many { 256 ≤ length source.now }
+    requires clear { (k : ℕ) → k < 256 → slice_index source.now k ≢ sentinel }
+    ensures answer { result
+        ≡ decoded_into (length dest.old) (stretch (masked sentinel source.now)) }
+    ensures dest { dest.new ≡ overwritten (part (stretch (masked sentinel source.now))) dest.old }
+{
+    if has_room(source, dest.len()) {
+        return decode_source_masked(source, dest, sentinel).0;
+    }
+    decode_clear(far_frame(source, sentinel), dest, sentinel)
+}
+
 // As `decode_with_sentinel`.
 #[inline(always)]
 fn decode_stretch(source: &[u8], dest: &mut [u8], sentinel: u8) -> Result<usize, DecodeError>
@@ -273,10 +334,7 @@ fn decode_stretch(source: &[u8], dest: &mut [u8], sentinel: u8) -> Result<usize,
     }
     match near_frame(source, sentinel) {
         Some(frame) => decode_clear(frame, dest, sentinel),
-        None => {
-            let frame = before(source, sentinel);
-            decode_clear(frame, dest, sentinel)
-        }
+        None => decode_far_stretch(source, dest, sentinel),
     }
 }
 

@@ -13,6 +13,9 @@ use memchr::memchr;
 // How many bytes are copied at once: what lies behind the code of a full block among them is of that block.
 pub(crate) const WINDOW: usize = 254;
 
+// How many codes 01 are looked at and filled at once: the fill of more goes byte by byte in the processor.
+pub(crate) const ROW: usize = 1024;
+
 // How many bytes are searched and copied by a loop, since a call costs more.
 pub(crate) const FEW: usize = 8;
 

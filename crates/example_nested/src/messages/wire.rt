@@ -1,7 +1,7 @@
 //! How the message types of the module above are written and read.
 // Written by postcard_derive from their declarations: change those, and write this anew.
 ghost use Rattle.postcard_tree.specs.ReadingLaws.{form_as};
-ghost use Rattle.postcard_tree.specs.Shapes.{read_as_shape, written_as_shape};
+ghost use Rattle.postcard_tree.specs.Shapes.{form_matches};
 
 use super::{
     BE, BTreeMap, Borrower, Deep, Drawing, Holders, LE, Lent, Letter, Mail, Message, Pair, Point,
@@ -9,8 +9,8 @@ use super::{
 };
 use postcard::ser_flavors::Flavor;
 use postcard::{
-    AsShape, Formed, Last, Readable, ReadableShape, Serialize, SerializeShape, Serializer, ShapeOf,
-    Shaped, Variant, Variants4,
+    AsShape, Last, MatchesShape, Readable, Serialize, Serializer, ShapeOf, Shaped, Variant,
+    Variants4,
 };
 
 type TextShape = (String, u8);
@@ -26,30 +26,20 @@ impl Shaped for Text {
     }
 }
 
-impl Formed for Text {
-    type Form = AsShape;
-}
-
 impl Readable for Text {
+    type Form = AsShape;
+
     ghost form = { form_as ⟦<Self as Shaped>⟧.shape ⟦<ShapeOf<Self> as Readable>⟧.form };
 }
 
-impl ReadableShape for Text {
-    ghost read_as = { read_as_shape };
+impl MatchesShape for Text {
+    ghost matches = { form_matches };
 }
 
 impl Serialize for Text {
-    ghost writes = { λ v. ⟦<ShapeOf<Self> as Serialize>⟧.writes (⟦<Self as Shaped>⟧.shape v) };
-
-    ghost valid = { λ v. ⟦<ShapeOf<Self> as Serialize>⟧.valid (⟦<Self as Shaped>⟧.shape v) };
-
     fn serialize<F: Flavor>(&self, serializer: &mut Serializer<F>) -> postcard::Result<()> {
         (&self.text, &self.kind).serialize(serializer)
     }
-}
-
-impl SerializeShape for Text {
-    ghost written_as = { written_as_shape };
 }
 
 type LetterShape = (Text, Vec<u8>);
@@ -65,30 +55,20 @@ impl Shaped for Letter {
     }
 }
 
-impl Formed for Letter {
-    type Form = AsShape;
-}
-
 impl Readable for Letter {
+    type Form = AsShape;
+
     ghost form = { form_as ⟦<Self as Shaped>⟧.shape ⟦<ShapeOf<Self> as Readable>⟧.form };
 }
 
-impl ReadableShape for Letter {
-    ghost read_as = { read_as_shape };
+impl MatchesShape for Letter {
+    ghost matches = { form_matches };
 }
 
 impl Serialize for Letter {
-    ghost writes = { λ v. ⟦<ShapeOf<Self> as Serialize>⟧.writes (⟦<Self as Shaped>⟧.shape v) };
-
-    ghost valid = { λ v. ⟦<ShapeOf<Self> as Serialize>⟧.valid (⟦<Self as Shaped>⟧.shape v) };
-
     fn serialize<F: Flavor>(&self, serializer: &mut Serializer<F>) -> postcard::Result<()> {
         (&self.text, &self.data).serialize(serializer)
     }
-}
-
-impl SerializeShape for Letter {
-    ghost written_as = { written_as_shape };
 }
 
 type MailShape = (Letter, BTreeMap<u16, String>);
@@ -104,30 +84,20 @@ impl Shaped for Mail {
     }
 }
 
-impl Formed for Mail {
-    type Form = AsShape;
-}
-
 impl Readable for Mail {
+    type Form = AsShape;
+
     ghost form = { form_as ⟦<Self as Shaped>⟧.shape ⟦<ShapeOf<Self> as Readable>⟧.form };
 }
 
-impl ReadableShape for Mail {
-    ghost read_as = { read_as_shape };
+impl MatchesShape for Mail {
+    ghost matches = { form_matches };
 }
 
 impl Serialize for Mail {
-    ghost writes = { λ v. ⟦<ShapeOf<Self> as Serialize>⟧.writes (⟦<Self as Shaped>⟧.shape v) };
-
-    ghost valid = { λ v. ⟦<ShapeOf<Self> as Serialize>⟧.valid (⟦<Self as Shaped>⟧.shape v) };
-
     fn serialize<F: Flavor>(&self, serializer: &mut Serializer<F>) -> postcard::Result<()> {
         (&self.letter, &self.names).serialize(serializer)
     }
-}
-
-impl SerializeShape for Mail {
-    ghost written_as = { written_as_shape };
 }
 
 type PointShape = (i16, bool);
@@ -143,30 +113,20 @@ impl Shaped for Point {
     }
 }
 
-impl Formed for Point {
-    type Form = AsShape;
-}
-
 impl Readable for Point {
+    type Form = AsShape;
+
     ghost form = { form_as ⟦<Self as Shaped>⟧.shape ⟦<ShapeOf<Self> as Readable>⟧.form };
 }
 
-impl ReadableShape for Point {
-    ghost read_as = { read_as_shape };
+impl MatchesShape for Point {
+    ghost matches = { form_matches };
 }
 
 impl Serialize for Point {
-    ghost writes = { λ v. ⟦<ShapeOf<Self> as Serialize>⟧.writes (⟦<Self as Shaped>⟧.shape v) };
-
-    ghost valid = { λ v. ⟦<ShapeOf<Self> as Serialize>⟧.valid (⟦<Self as Shaped>⟧.shape v) };
-
     fn serialize<F: Flavor>(&self, serializer: &mut Serializer<F>) -> postcard::Result<()> {
         (&self.x, &self.is_seen).serialize(serializer)
     }
-}
-
-impl SerializeShape for Point {
-    ghost written_as = { written_as_shape };
 }
 
 type WidthsShape = (LE<u16>, BE<u32>, u128, LE<u128>);
@@ -187,30 +147,20 @@ impl Shaped for Widths {
     }
 }
 
-impl Formed for Widths {
-    type Form = AsShape;
-}
-
 impl Readable for Widths {
+    type Form = AsShape;
+
     ghost form = { form_as ⟦<Self as Shaped>⟧.shape ⟦<ShapeOf<Self> as Readable>⟧.form };
 }
 
-impl ReadableShape for Widths {
-    ghost read_as = { read_as_shape };
+impl MatchesShape for Widths {
+    ghost matches = { form_matches };
 }
 
 impl Serialize for Widths {
-    ghost writes = { λ v. ⟦<ShapeOf<Self> as Serialize>⟧.writes (⟦<Self as Shaped>⟧.shape v) };
-
-    ghost valid = { λ v. ⟦<ShapeOf<Self> as Serialize>⟧.valid (⟦<Self as Shaped>⟧.shape v) };
-
     fn serialize<F: Flavor>(&self, serializer: &mut Serializer<F>) -> postcard::Result<()> {
         (&self.short, &self.word, &self.whole, &self.long).serialize(serializer)
     }
-}
-
-impl SerializeShape for Widths {
-    ghost written_as = { written_as_shape };
 }
 
 type DrawingShape = ([Point; 3], Option<Point>, Widths);
@@ -230,30 +180,20 @@ impl Shaped for Drawing {
     }
 }
 
-impl Formed for Drawing {
-    type Form = AsShape;
-}
-
 impl Readable for Drawing {
+    type Form = AsShape;
+
     ghost form = { form_as ⟦<Self as Shaped>⟧.shape ⟦<ShapeOf<Self> as Readable>⟧.form };
 }
 
-impl ReadableShape for Drawing {
-    ghost read_as = { read_as_shape };
+impl MatchesShape for Drawing {
+    ghost matches = { form_matches };
 }
 
 impl Serialize for Drawing {
-    ghost writes = { λ v. ⟦<ShapeOf<Self> as Serialize>⟧.writes (⟦<Self as Shaped>⟧.shape v) };
-
-    ghost valid = { λ v. ⟦<ShapeOf<Self> as Serialize>⟧.valid (⟦<Self as Shaped>⟧.shape v) };
-
     fn serialize<F: Flavor>(&self, serializer: &mut Serializer<F>) -> postcard::Result<()> {
         (&self.corners, &self.center, &self.widths).serialize(serializer)
     }
-}
-
-impl SerializeShape for Drawing {
-    ghost written_as = { written_as_shape };
 }
 
 type HoldersShape = (
@@ -281,23 +221,17 @@ impl Shaped for Holders {
     }
 }
 
-impl Formed for Holders {
-    type Form = AsShape;
-}
-
 impl Readable for Holders {
+    type Form = AsShape;
+
     ghost form = { form_as ⟦<Self as Shaped>⟧.shape ⟦<ShapeOf<Self> as Readable>⟧.form };
 }
 
-impl ReadableShape for Holders {
-    ghost read_as = { read_as_shape };
+impl MatchesShape for Holders {
+    ghost matches = { form_matches };
 }
 
 impl Serialize for Holders {
-    ghost writes = { λ v. ⟦<ShapeOf<Self> as Serialize>⟧.writes (⟦<Self as Shaped>⟧.shape v) };
-
-    ghost valid = { λ v. ⟦<ShapeOf<Self> as Serialize>⟧.valid (⟦<Self as Shaped>⟧.shape v) };
-
     fn serialize<F: Flavor>(&self, serializer: &mut Serializer<F>) -> postcard::Result<()> {
         (
             &self.texts,
@@ -308,10 +242,6 @@ impl Serialize for Holders {
         )
             .serialize(serializer)
     }
-}
-
-impl SerializeShape for Holders {
-    ghost written_as = { written_as_shape };
 }
 
 type PairShape<T> = (T, Option<T>);
@@ -327,30 +257,20 @@ impl<T> Shaped for Pair<T> {
     }
 }
 
-impl<T> Formed for Pair<T> {
-    type Form = AsShape;
-}
-
 impl<T: Readable> Readable for Pair<T> {
+    type Form = AsShape;
+
     ghost form = { form_as ⟦<Self as Shaped>⟧.shape ⟦<ShapeOf<Self> as Readable>⟧.form };
 }
 
-impl<T: Readable> ReadableShape for Pair<T> {
-    ghost read_as = { read_as_shape };
+impl<T: Readable> MatchesShape for Pair<T> {
+    ghost matches = { form_matches };
 }
 
 impl<T: Serialize> Serialize for Pair<T> {
-    ghost writes = { λ v. ⟦<ShapeOf<Self> as Serialize>⟧.writes (⟦<Self as Shaped>⟧.shape v) };
-
-    ghost valid = { λ v. ⟦<ShapeOf<Self> as Serialize>⟧.valid (⟦<Self as Shaped>⟧.shape v) };
-
     fn serialize<F: Flavor>(&self, serializer: &mut Serializer<F>) -> postcard::Result<()> {
         (&self.first, &self.second).serialize(serializer)
     }
-}
-
-impl<T: Serialize> SerializeShape for Pair<T> {
-    ghost written_as = { written_as_shape };
 }
 
 type LentShape<'a> = (&'a str, u8);
@@ -366,30 +286,20 @@ impl<'a> Shaped for Lent<'a> {
     }
 }
 
-impl<'a> Formed for Lent<'a> {
-    type Form = AsShape;
-}
-
 impl<'a> Readable for Lent<'a> {
+    type Form = AsShape;
+
     ghost form = { form_as ⟦<Self as Shaped>⟧.shape ⟦<ShapeOf<Self> as Readable>⟧.form };
 }
 
-impl<'a> ReadableShape for Lent<'a> {
-    ghost read_as = { read_as_shape };
+impl<'a> MatchesShape for Lent<'a> {
+    ghost matches = { form_matches };
 }
 
 impl<'a> Serialize for Lent<'a> {
-    ghost writes = { λ v. ⟦<ShapeOf<Self> as Serialize>⟧.writes (⟦<Self as Shaped>⟧.shape v) };
-
-    ghost valid = { λ v. ⟦<ShapeOf<Self> as Serialize>⟧.valid (⟦<Self as Shaped>⟧.shape v) };
-
     fn serialize<F: Flavor>(&self, serializer: &mut Serializer<F>) -> postcard::Result<()> {
         (&self.text, &self.kind).serialize(serializer)
     }
-}
-
-impl<'a> SerializeShape for Lent<'a> {
-    ghost written_as = { written_as_shape };
 }
 
 type BorrowerShape<'a> = (Lent<'a>, Vec<Lent<'a>>, Text);
@@ -405,30 +315,20 @@ impl<'a> Shaped for Borrower<'a> {
     }
 }
 
-impl<'a> Formed for Borrower<'a> {
-    type Form = AsShape;
-}
-
 impl<'a> Readable for Borrower<'a> {
+    type Form = AsShape;
+
     ghost form = { form_as ⟦<Self as Shaped>⟧.shape ⟦<ShapeOf<Self> as Readable>⟧.form };
 }
 
-impl<'a> ReadableShape for Borrower<'a> {
-    ghost read_as = { read_as_shape };
+impl<'a> MatchesShape for Borrower<'a> {
+    ghost matches = { form_matches };
 }
 
 impl<'a> Serialize for Borrower<'a> {
-    ghost writes = { λ v. ⟦<ShapeOf<Self> as Serialize>⟧.writes (⟦<Self as Shaped>⟧.shape v) };
-
-    ghost valid = { λ v. ⟦<ShapeOf<Self> as Serialize>⟧.valid (⟦<Self as Shaped>⟧.shape v) };
-
     fn serialize<F: Flavor>(&self, serializer: &mut Serializer<F>) -> postcard::Result<()> {
         (&self.lent, &self.all, &self.own).serialize(serializer)
     }
-}
-
-impl<'a> SerializeShape for Borrower<'a> {
-    ghost written_as = { written_as_shape };
 }
 
 impl Shaped for Deep {
@@ -441,30 +341,20 @@ impl Shaped for Deep {
     }
 }
 
-impl Formed for Deep {
-    type Form = AsShape;
-}
-
 impl Readable for Deep {
+    type Form = AsShape;
+
     ghost form = { form_as ⟦<Self as Shaped>⟧.shape ⟦<ShapeOf<Self> as Readable>⟧.form };
 }
 
-impl ReadableShape for Deep {
-    ghost read_as = { read_as_shape };
+impl MatchesShape for Deep {
+    ghost matches = { form_matches };
 }
 
 impl Serialize for Deep {
-    ghost writes = { λ v. ⟦<ShapeOf<Self> as Serialize>⟧.writes (⟦<Self as Shaped>⟧.shape v) };
-
-    ghost valid = { λ v. ⟦<ShapeOf<Self> as Serialize>⟧.valid (⟦<Self as Shaped>⟧.shape v) };
-
     fn serialize<F: Flavor>(&self, serializer: &mut Serializer<F>) -> postcard::Result<()> {
         self.0.serialize(serializer)
     }
-}
-
-impl SerializeShape for Deep {
-    ghost written_as = { written_as_shape };
 }
 
 type MessageShape = Variants4<
@@ -514,23 +404,17 @@ impl Shaped for Message {
     }
 }
 
-impl Formed for Message {
-    type Form = AsShape;
-}
-
 impl Readable for Message {
+    type Form = AsShape;
+
     ghost form = { form_as ⟦<Self as Shaped>⟧.shape ⟦<ShapeOf<Self> as Readable>⟧.form };
 }
 
-impl ReadableShape for Message {
-    ghost read_as = { read_as_shape };
+impl MatchesShape for Message {
+    ghost matches = { form_matches };
 }
 
 impl Serialize for Message {
-    ghost writes = { λ v. ⟦<ShapeOf<Self> as Serialize>⟧.writes (⟦<Self as Shaped>⟧.shape v) };
-
-    ghost valid = { λ v. ⟦<ShapeOf<Self> as Serialize>⟧.valid (⟦<Self as Shaped>⟧.shape v) };
-
     fn serialize<F: Flavor>(&self, serializer: &mut Serializer<F>) -> postcard::Result<()> {
         match self {
             Message::Text(p0) => serializer.serialize_newtype_variant(0, p0),
@@ -546,8 +430,4 @@ impl Serialize for Message {
             Message::Numbers(p0, p1, p2) => serializer.serialize_newtype_variant(7, &(p0, p1, p2)),
         }
     }
-}
-
-impl SerializeShape for Message {
-    ghost written_as = { written_as_shape };
 }

@@ -3,7 +3,7 @@
 ghost use Rattle.std.specs.Prelude.{IfOk};
 ghost use Rattle.schemas.specs.TypeSchemas.{BeginsWith, IsSchemaOf};
 ghost use Rattle.postcard_tree.specs.ReadingLaws.{form_as};
-ghost use Rattle.postcard_tree.specs.Shapes.{read_as_shape, written_as_shape};
+ghost use Rattle.postcard_tree.specs.Shapes.{form_matches};
 
 use super::{
     Address, BTreeMap, Command, Config, Event, Level, LogRecord, Packet, Ping, Report,
@@ -11,8 +11,8 @@ use super::{
 };
 use postcard::ser_flavors::Flavor;
 use postcard::{
-    AsShape, Formed, Last, Readable, ReadableShape, Serialize, SerializeShape, Serializer, ShapeOf,
-    Shaped, Variant, Variants4,
+    AsShape, Last, MatchesShape, Readable, Serialize, Serializer, ShapeOf, Shaped, Variant,
+    Variants4,
 };
 use schemas::HasSchema;
 use std::alloc::{AllocError, Global};
@@ -35,30 +35,20 @@ impl Shaped for SensorReading {
     }
 }
 
-impl Formed for SensorReading {
-    type Form = AsShape;
-}
-
 impl Readable for SensorReading {
+    type Form = AsShape;
+
     ghost form = { form_as ⟦<Self as Shaped>⟧.shape ⟦<ShapeOf<Self> as Readable>⟧.form };
 }
 
-impl ReadableShape for SensorReading {
-    ghost read_as = { read_as_shape };
+impl MatchesShape for SensorReading {
+    ghost matches = { form_matches };
 }
 
 impl Serialize for SensorReading {
-    ghost writes = { λ v. ⟦<ShapeOf<Self> as Serialize>⟧.writes (⟦<Self as Shaped>⟧.shape v) };
-
-    ghost valid = { λ v. ⟦<ShapeOf<Self> as Serialize>⟧.valid (⟦<Self as Shaped>⟧.shape v) };
-
     fn serialize<F: Flavor>(&self, serializer: &mut Serializer<F>) -> postcard::Result<()> {
         (&self.sensor, &self.at, &self.celsius, &self.valid).serialize(serializer)
     }
-}
-
-impl SerializeShape for SensorReading {
-    ghost written_as = { written_as_shape };
 }
 
 impl HasSchema for SensorReading {
@@ -91,23 +81,17 @@ impl Shaped for Level {
     }
 }
 
-impl Formed for Level {
-    type Form = AsShape;
-}
-
 impl Readable for Level {
+    type Form = AsShape;
+
     ghost form = { form_as ⟦<Self as Shaped>⟧.shape ⟦<ShapeOf<Self> as Readable>⟧.form };
 }
 
-impl ReadableShape for Level {
-    ghost read_as = { read_as_shape };
+impl MatchesShape for Level {
+    ghost matches = { form_matches };
 }
 
 impl Serialize for Level {
-    ghost writes = { λ v. ⟦<ShapeOf<Self> as Serialize>⟧.writes (⟦<Self as Shaped>⟧.shape v) };
-
-    ghost valid = { λ v. ⟦<ShapeOf<Self> as Serialize>⟧.valid (⟦<Self as Shaped>⟧.shape v) };
-
     fn serialize<F: Flavor>(&self, serializer: &mut Serializer<F>) -> postcard::Result<()> {
         match self {
             Level::Error => serializer.serialize_unit_variant(0),
@@ -115,10 +99,6 @@ impl Serialize for Level {
             Level::Info => serializer.serialize_unit_variant(2),
         }
     }
-}
-
-impl SerializeShape for Level {
-    ghost written_as = { written_as_shape };
 }
 
 impl HasSchema for Level {
@@ -145,30 +125,20 @@ impl Shaped for LogRecord {
     }
 }
 
-impl Formed for LogRecord {
-    type Form = AsShape;
-}
-
 impl Readable for LogRecord {
+    type Form = AsShape;
+
     ghost form = { form_as ⟦<Self as Shaped>⟧.shape ⟦<ShapeOf<Self> as Readable>⟧.form };
 }
 
-impl ReadableShape for LogRecord {
-    ghost read_as = { read_as_shape };
+impl MatchesShape for LogRecord {
+    ghost matches = { form_matches };
 }
 
 impl Serialize for LogRecord {
-    ghost writes = { λ v. ⟦<ShapeOf<Self> as Serialize>⟧.writes (⟦<Self as Shaped>⟧.shape v) };
-
-    ghost valid = { λ v. ⟦<ShapeOf<Self> as Serialize>⟧.valid (⟦<Self as Shaped>⟧.shape v) };
-
     fn serialize<F: Flavor>(&self, serializer: &mut Serializer<F>) -> postcard::Result<()> {
         (&self.level, &self.at, &self.text, &self.source).serialize(serializer)
     }
-}
-
-impl SerializeShape for LogRecord {
-    ghost written_as = { written_as_shape };
 }
 
 impl HasSchema for LogRecord {
@@ -187,30 +157,20 @@ impl Shaped for Address {
     }
 }
 
-impl Formed for Address {
-    type Form = AsShape;
-}
-
 impl Readable for Address {
+    type Form = AsShape;
+
     ghost form = { form_as ⟦<Self as Shaped>⟧.shape ⟦<ShapeOf<Self> as Readable>⟧.form };
 }
 
-impl ReadableShape for Address {
-    ghost read_as = { read_as_shape };
+impl MatchesShape for Address {
+    ghost matches = { form_matches };
 }
 
 impl Serialize for Address {
-    ghost writes = { λ v. ⟦<ShapeOf<Self> as Serialize>⟧.writes (⟦<Self as Shaped>⟧.shape v) };
-
-    ghost valid = { λ v. ⟦<ShapeOf<Self> as Serialize>⟧.valid (⟦<Self as Shaped>⟧.shape v) };
-
     fn serialize<F: Flavor>(&self, serializer: &mut Serializer<F>) -> postcard::Result<()> {
         self.0.serialize(serializer)
     }
-}
-
-impl SerializeShape for Address {
-    ghost written_as = { written_as_shape };
 }
 
 impl HasSchema for Address {
@@ -229,30 +189,20 @@ impl Shaped for Ping {
     }
 }
 
-impl Formed for Ping {
-    type Form = AsShape;
-}
-
 impl Readable for Ping {
+    type Form = AsShape;
+
     ghost form = { form_as ⟦<Self as Shaped>⟧.shape ⟦<ShapeOf<Self> as Readable>⟧.form };
 }
 
-impl ReadableShape for Ping {
-    ghost read_as = { read_as_shape };
+impl MatchesShape for Ping {
+    ghost matches = { form_matches };
 }
 
 impl Serialize for Ping {
-    ghost writes = { λ v. ⟦<ShapeOf<Self> as Serialize>⟧.writes (⟦<Self as Shaped>⟧.shape v) };
-
-    ghost valid = { λ v. ⟦<ShapeOf<Self> as Serialize>⟧.valid (⟦<Self as Shaped>⟧.shape v) };
-
     fn serialize<F: Flavor>(&self, serializer: &mut Serializer<F>) -> postcard::Result<()> {
         ().serialize(serializer)
     }
-}
-
-impl SerializeShape for Ping {
-    ghost written_as = { written_as_shape };
 }
 
 impl HasSchema for Ping {
@@ -300,23 +250,17 @@ impl Shaped for Command {
     }
 }
 
-impl Formed for Command {
-    type Form = AsShape;
-}
-
 impl Readable for Command {
+    type Form = AsShape;
+
     ghost form = { form_as ⟦<Self as Shaped>⟧.shape ⟦<ShapeOf<Self> as Readable>⟧.form };
 }
 
-impl ReadableShape for Command {
-    ghost read_as = { read_as_shape };
+impl MatchesShape for Command {
+    ghost matches = { form_matches };
 }
 
 impl Serialize for Command {
-    ghost writes = { λ v. ⟦<ShapeOf<Self> as Serialize>⟧.writes (⟦<Self as Shaped>⟧.shape v) };
-
-    ghost valid = { λ v. ⟦<ShapeOf<Self> as Serialize>⟧.valid (⟦<Self as Shaped>⟧.shape v) };
-
     fn serialize<F: Flavor>(&self, serializer: &mut Serializer<F>) -> postcard::Result<()> {
         match self {
             Command::Stop => serializer.serialize_unit_variant(0),
@@ -327,10 +271,6 @@ impl Serialize for Command {
             Command::Many(p0) => serializer.serialize_newtype_variant(5, p0),
         }
     }
-}
-
-impl SerializeShape for Command {
-    ghost written_as = { written_as_shape };
 }
 
 impl HasSchema for Command {
@@ -364,23 +304,17 @@ impl Shaped for Config {
     }
 }
 
-impl Formed for Config {
-    type Form = AsShape;
-}
-
 impl Readable for Config {
+    type Form = AsShape;
+
     ghost form = { form_as ⟦<Self as Shaped>⟧.shape ⟦<ShapeOf<Self> as Readable>⟧.form };
 }
 
-impl ReadableShape for Config {
-    ghost read_as = { read_as_shape };
+impl MatchesShape for Config {
+    ghost matches = { form_matches };
 }
 
 impl Serialize for Config {
-    ghost writes = { λ v. ⟦<ShapeOf<Self> as Serialize>⟧.writes (⟦<Self as Shaped>⟧.shape v) };
-
-    ghost valid = { λ v. ⟦<ShapeOf<Self> as Serialize>⟧.valid (⟦<Self as Shaped>⟧.shape v) };
-
     fn serialize<F: Flavor>(&self, serializer: &mut Serializer<F>) -> postcard::Result<()> {
         (
             &self.name,
@@ -391,10 +325,6 @@ impl Serialize for Config {
         )
             .serialize(serializer)
     }
-}
-
-impl SerializeShape for Config {
-    ghost written_as = { written_as_shape };
 }
 
 impl HasSchema for Config {
@@ -416,30 +346,20 @@ impl<'a> Shaped for Packet<'a> {
     }
 }
 
-impl<'a> Formed for Packet<'a> {
-    type Form = AsShape;
-}
-
 impl<'a> Readable for Packet<'a> {
+    type Form = AsShape;
+
     ghost form = { form_as ⟦<Self as Shaped>⟧.shape ⟦<ShapeOf<Self> as Readable>⟧.form };
 }
 
-impl<'a> ReadableShape for Packet<'a> {
-    ghost read_as = { read_as_shape };
+impl<'a> MatchesShape for Packet<'a> {
+    ghost matches = { form_matches };
 }
 
 impl<'a> Serialize for Packet<'a> {
-    ghost writes = { λ v. ⟦<ShapeOf<Self> as Serialize>⟧.writes (⟦<Self as Shaped>⟧.shape v) };
-
-    ghost valid = { λ v. ⟦<ShapeOf<Self> as Serialize>⟧.valid (⟦<Self as Shaped>⟧.shape v) };
-
     fn serialize<F: Flavor>(&self, serializer: &mut Serializer<F>) -> postcard::Result<()> {
         (&self.to, &self.text, &self.body).serialize(serializer)
     }
-}
-
-impl<'a> SerializeShape for Packet<'a> {
-    ghost written_as = { written_as_shape };
 }
 
 impl<'a> HasSchema for Packet<'a> {
@@ -484,23 +404,17 @@ impl Shaped for Report {
     }
 }
 
-impl Formed for Report {
-    type Form = AsShape;
-}
-
 impl Readable for Report {
+    type Form = AsShape;
+
     ghost form = { form_as ⟦<Self as Shaped>⟧.shape ⟦<ShapeOf<Self> as Readable>⟧.form };
 }
 
-impl ReadableShape for Report {
-    ghost read_as = { read_as_shape };
+impl MatchesShape for Report {
+    ghost matches = { form_matches };
 }
 
 impl Serialize for Report {
-    ghost writes = { λ v. ⟦<ShapeOf<Self> as Serialize>⟧.writes (⟦<Self as Shaped>⟧.shape v) };
-
-    ghost valid = { λ v. ⟦<ShapeOf<Self> as Serialize>⟧.valid (⟦<Self as Shaped>⟧.shape v) };
-
     fn serialize<F: Flavor>(&self, serializer: &mut Serializer<F>) -> postcard::Result<()> {
         (
             (&self.a, &self.b, &self.c, &self.d, &self.e, &self.f),
@@ -508,10 +422,6 @@ impl Serialize for Report {
         )
             .serialize(serializer)
     }
-}
-
-impl SerializeShape for Report {
-    ghost written_as = { written_as_shape };
 }
 
 impl HasSchema for Report {
@@ -581,23 +491,17 @@ impl Shaped for Event {
     }
 }
 
-impl Formed for Event {
-    type Form = AsShape;
-}
-
 impl Readable for Event {
+    type Form = AsShape;
+
     ghost form = { form_as ⟦<Self as Shaped>⟧.shape ⟦<ShapeOf<Self> as Readable>⟧.form };
 }
 
-impl ReadableShape for Event {
-    ghost read_as = { read_as_shape };
+impl MatchesShape for Event {
+    ghost matches = { form_matches };
 }
 
 impl Serialize for Event {
-    ghost writes = { λ v. ⟦<ShapeOf<Self> as Serialize>⟧.writes (⟦<Self as Shaped>⟧.shape v) };
-
-    ghost valid = { λ v. ⟦<ShapeOf<Self> as Serialize>⟧.valid (⟦<Self as Shaped>⟧.shape v) };
-
     fn serialize<F: Flavor>(&self, serializer: &mut Serializer<F>) -> postcard::Result<()> {
         match self {
             Event::Started => serializer.serialize_unit_variant(0),
@@ -614,10 +518,6 @@ impl Serialize for Event {
             Event::Reset(p0) => serializer.serialize_newtype_variant(11, p0),
         }
     }
-}
-
-impl SerializeShape for Event {
-    ghost written_as = { written_as_shape };
 }
 
 impl HasSchema for Event {

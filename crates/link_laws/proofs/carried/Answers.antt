@@ -19,4 +19,4 @@ module _ {V : Type 0} (takes : Tree → Type 0) (writes : V → Option Tree) (va
 
 pub returns : goal.returns
 returns g c limit s clean xs h k =
-    session g.T.Readable.form.takes g.T.Serialize.writes g.T.Serialize.valid (λ v t l e. g.T.Readable.form.laws.taken t v (g.met.T.Lawful.reads_back v t l e)) limit s c.args.values.now xs clean h k
+    session g.T.Readable.form.takes g.T.Readable.form.writes g.T.Readable.form.valid (λ v t l e. g.T.Readable.form.laws.taken t v (g.met.T.Lawful.reads_back v t l e)) limit s c.args.values.now xs clean h k

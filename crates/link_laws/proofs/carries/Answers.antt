@@ -19,7 +19,7 @@ hears takes reads alike writes valid same holds told limit s run answers is of a
 
 pub returns : goal.returns
 returns g c =
-    let by = hears g.T.Readable.form.takes g.T.Readable.form.reads g.T.Readable.form.alike g.T.Serialize.writes g.T.Serialize.valid (λ v w t l e r. g.T.Readable.form.laws.one_value t v w (g.met.T.Lawful.reads_back v t l e) r) in
+    let by = hears g.T.Readable.form.takes g.T.Readable.form.reads g.T.Readable.form.alike g.T.Readable.form.writes g.T.Readable.form.valid (λ v w t l e r. g.T.Readable.form.laws.one_value t v w (g.met.T.Lawful.reads_back v t l e) r) in
     record {
       taken = λ v t l e. g.T.Readable.form.laws.taken t v (g.met.T.Lawful.reads_back v t l e);
       ordinary = by (Holds g.T.Readable.form.takes) c.told.ensures.ordinary;

@@ -1,4 +1,4 @@
-use Rattle.link.specs.Lengths.{is_least}
+use Rattle.link.specs.Lemmas.Lengths.{is_least}
 use Rattle.link_laws.proofs.least.Goals as goal
 
 pub returns : goal.returns

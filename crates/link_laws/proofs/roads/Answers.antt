@@ -1,6 +1,6 @@
 use Rattle.postcard.specs.Frames.{Holds}
-use Rattle.link.specs.OneAnswers.{one_tree}
-use Rattle.link.specs.RoadLaws.{same_in_place, same_by_accumulator}
+use Rattle.link.specs.Lemmas.OneAnswers.{one_tree}
+use Rattle.link.specs.Lemmas.RoadLaws.{same_in_place, same_by_accumulator}
 use Rattle.link_laws.proofs.roads.Goals as goal
 
 pub returns-clause-in_place : goal.returns-clause-in_place

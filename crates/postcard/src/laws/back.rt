@@ -8,9 +8,9 @@ use postcard_ser::Lawful;
 ///
 /// `round_trip` says this of one call; here the bytes may have gone anywhere between the two.
 pub fn read_back<T: Lawful>(v: &T)
-    requires { T.valid v.now }
-    ensures alike { IsReadBack T.form.reads T.form.alike (T.writes v.now) v.now }
-    ensures memory { IsNotRefused T.form.takes T.form.reads T.form.growing (T.writes v.now) }
+    requires { T.form.valid v.now }
+    ensures alike { IsReadBack T.form.reads T.form.alike (T.form.writes v.now) v.now }
+    ensures memory { IsNotRefused T.form.takes T.form.reads T.form.growing (T.form.writes v.now) }
 {
     postcard_tree::laws::short_is_a_spelling();
 }

@@ -21,7 +21,7 @@ impl<T: MaxSize> MaxSizeForm<Option<T>> for Own {
 }
 
 impl<T: MaxWritten> MaxWrittenForm<Option<T>> for Own {
-    ghost form_longest = { option_within T.valid T.writes T.greatest T.longest };
+    ghost form_longest = { option_within T.form.valid T.form.writes T.greatest T.longest };
 }
 
 impl<T: MaxSize, E: MaxSize> MaxSizeForm<Result<T, E>> for Own {
@@ -36,7 +36,7 @@ impl<T: MaxSize, E: MaxSize> MaxSizeForm<Result<T, E>> for Own {
 }
 
 impl<T: MaxWritten, E: MaxWritten> MaxWrittenForm<Result<T, E>> for Own {
-    ghost form_longest = { result_within T.valid E.valid T.writes E.writes
+    ghost form_longest = { result_within T.form.valid E.form.valid T.form.writes E.form.writes
         T.greatest E.greatest T.longest E.longest };
 }
 
@@ -49,7 +49,8 @@ impl<T: MaxSize, const N: usize> MaxSizeForm<[T; N]> for Own {
 }
 
 impl<T: MaxWritten, const N: usize> MaxWrittenForm<[T; N]> for Own {
-    ghost form_longest = { λ v h. array_within T.valid T.writes T.greatest N T.longest v h.0 h.1 };
+    ghost form_longest = { λ v h. array_within T.form.valid T.form.writes T.greatest N T.longest v
+        h.0 h.1 };
 }
 
 impl<T: MaxSize, const N: usize> MaxSizeForm<ArrayVec<T, N>> for Own {
@@ -62,7 +63,7 @@ impl<T: MaxSize, const N: usize> MaxSizeForm<ArrayVec<T, N>> for Own {
 
 impl<T: MaxWritten, const N: usize> MaxWrittenForm<ArrayVec<T, N>> for Own {
     ghost form_longest = { λ v h.
-        sequence_within T.valid T.writes T.greatest N T.longest v.items h.0 h.2 };
+        sequence_within T.form.valid T.form.writes T.greatest N T.longest v.items h.0 h.2 };
 }
 
 impl<const N: usize> MaxSizeForm<ArrayString<N>> for Own {

@@ -5,7 +5,7 @@ ghost use Rattle.std.proofs.Common.{sym, subst};
 ghost use Rattle.postcard_tree.specs.Tree.{zigzag};
 ghost use Rattle.postcard_tree.specs.Fixed.{little_endian, big_endian};
 ghost use Rattle.postcard_tree.specs.FixedOnce.{length_little, length_big};
-ghost use Rattle.postcard_ser.specs.FixedTree.{little_tree_is, big_tree_is};
+ghost use Rattle.postcard_tree.specs.FixedTree.{little_tree_is, big_tree_is};
 ghost use Rattle.postcard.specs.Greatest.{SizeWithin, byte_within, within_16, within_32, within_64, within_128, character_within, end_within, fixed_within};
 
 use crate::max_size::{MaxSizeForm, MaxWrittenForm};

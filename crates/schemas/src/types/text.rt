@@ -1,6 +1,6 @@
 //! Characters, texts and byte strings.
 ghost use Rattle.std.specs.Prelude.{IfOk};
-ghost use Rattle.postcard_tree.specs.Reading.{TakesByte, TakesSequence, RefusesBytes, TakesText, RefusesText};
+ghost use Rattle.postcard_tree.specs.Reading.{TakesByte, TakesSequence, RefusesByte, RefusesSequence, TakesText, RefusesText};
 ghost use Rattle.schemas.specs.TypeSchemas.{BeginsWith, IsSchemaOf};
 
 use super::{HasSchema, add_leaf};
@@ -40,7 +40,8 @@ impl<'de> HasSchema for &'de [u8] {
     fn add_schema(_alloc: Global, nodes: &mut Vec<Node>) -> Result<usize, AllocError>
         ensures kept { BeginsWith nodes.old.items nodes.new.items }
         ensures is_schema { IfOk result (λ place.
-            IsSchemaOf (TakesSequence TakesByte) RefusesBytes nodes.new.items place) }
+            IsSchemaOf (TakesSequence TakesByte) (RefusesSequence TakesByte RefusesByte)
+            nodes.new.items place) }
     {
         add_leaf(nodes, Node::Bytes)
     }

@@ -1,13 +1,13 @@
 //! How the message types of the module above are written and read.
 // Written by postcard_derive from their declarations: change those, and write this anew.
 ghost use Rattle.postcard_tree.specs.ReadingLaws.{form_as};
-ghost use Rattle.postcard_tree.specs.Shapes.{read_as_shape, written_as_shape};
+ghost use Rattle.postcard_tree.specs.Shapes.{form_matches};
 
 use super::{Behind, Command, Refusal, Report};
 use postcard::ser_flavors::Flavor;
 use postcard::{
-    AsShape, Formed, Last, Readable, ReadableShape, Serialize, SerializeShape, Serializer, ShapeOf,
-    Shaped, Variant, Variants4,
+    AsShape, Last, MatchesShape, Readable, Serialize, Serializer, ShapeOf, Shaped, Variant,
+    Variants4,
 };
 
 type CommandShape = Variants4<(), (), (), u32, Variant<u32, Last<()>>>;
@@ -43,23 +43,17 @@ impl Shaped for Command {
     }
 }
 
-impl Formed for Command {
-    type Form = AsShape;
-}
-
 impl Readable for Command {
+    type Form = AsShape;
+
     ghost form = { form_as ⟦<Self as Shaped>⟧.shape ⟦<ShapeOf<Self> as Readable>⟧.form };
 }
 
-impl ReadableShape for Command {
-    ghost read_as = { read_as_shape };
+impl MatchesShape for Command {
+    ghost matches = { form_matches };
 }
 
 impl Serialize for Command {
-    ghost writes = { λ v. ⟦<ShapeOf<Self> as Serialize>⟧.writes (⟦<Self as Shaped>⟧.shape v) };
-
-    ghost valid = { λ v. ⟦<ShapeOf<Self> as Serialize>⟧.valid (⟦<Self as Shaped>⟧.shape v) };
-
     fn serialize<F: Flavor>(&self, serializer: &mut Serializer<F>) -> postcard::Result<()> {
         match self {
             Command::Show => serializer.serialize_unit_variant(0),
@@ -70,10 +64,6 @@ impl Serialize for Command {
             Command::Reset => serializer.serialize_unit_variant(5),
         }
     }
-}
-
-impl SerializeShape for Command {
-    ghost written_as = { written_as_shape };
 }
 
 type ReportShape = Variant<(bool, u32, u32), Variant<(), Variant<Refusal, Last<Behind>>>>;
@@ -102,23 +92,17 @@ impl Shaped for Report {
     }
 }
 
-impl Formed for Report {
-    type Form = AsShape;
-}
-
 impl Readable for Report {
+    type Form = AsShape;
+
     ghost form = { form_as ⟦<Self as Shaped>⟧.shape ⟦<ShapeOf<Self> as Readable>⟧.form };
 }
 
-impl ReadableShape for Report {
-    ghost read_as = { read_as_shape };
+impl MatchesShape for Report {
+    ghost matches = { form_matches };
 }
 
 impl Serialize for Report {
-    ghost writes = { λ v. ⟦<ShapeOf<Self> as Serialize>⟧.writes (⟦<Self as Shaped>⟧.shape v) };
-
-    ghost valid = { λ v. ⟦<ShapeOf<Self> as Serialize>⟧.valid (⟦<Self as Shaped>⟧.shape v) };
-
     fn serialize<F: Flavor>(&self, serializer: &mut Serializer<F>) -> postcard::Result<()> {
         match self {
             Report::State { is_on, limit, used } => serializer.serialize_newtype_variant(
@@ -130,10 +114,6 @@ impl Serialize for Report {
             Report::Passed(p0) => serializer.serialize_newtype_variant(3, p0),
         }
     }
-}
-
-impl SerializeShape for Report {
-    ghost written_as = { written_as_shape };
 }
 
 type BehindShape = (u64, u64);
@@ -149,30 +129,20 @@ impl Shaped for Behind {
     }
 }
 
-impl Formed for Behind {
-    type Form = AsShape;
-}
-
 impl Readable for Behind {
+    type Form = AsShape;
+
     ghost form = { form_as ⟦<Self as Shaped>⟧.shape ⟦<ShapeOf<Self> as Readable>⟧.form };
 }
 
-impl ReadableShape for Behind {
-    ghost read_as = { read_as_shape };
+impl MatchesShape for Behind {
+    ghost matches = { form_matches };
 }
 
 impl Serialize for Behind {
-    ghost writes = { λ v. ⟦<ShapeOf<Self> as Serialize>⟧.writes (⟦<Self as Shaped>⟧.shape v) };
-
-    ghost valid = { λ v. ⟦<ShapeOf<Self> as Serialize>⟧.valid (⟦<Self as Shaped>⟧.shape v) };
-
     fn serialize<F: Flavor>(&self, serializer: &mut Serializer<F>) -> postcard::Result<()> {
         (&self.number, &self.last).serialize(serializer)
     }
-}
-
-impl SerializeShape for Behind {
-    ghost written_as = { written_as_shape };
 }
 
 type RefusalShape = Variant<(), Last<()>>;
@@ -197,31 +167,21 @@ impl Shaped for Refusal {
     }
 }
 
-impl Formed for Refusal {
-    type Form = AsShape;
-}
-
 impl Readable for Refusal {
+    type Form = AsShape;
+
     ghost form = { form_as ⟦<Self as Shaped>⟧.shape ⟦<ShapeOf<Self> as Readable>⟧.form };
 }
 
-impl ReadableShape for Refusal {
-    ghost read_as = { read_as_shape };
+impl MatchesShape for Refusal {
+    ghost matches = { form_matches };
 }
 
 impl Serialize for Refusal {
-    ghost writes = { λ v. ⟦<ShapeOf<Self> as Serialize>⟧.writes (⟦<Self as Shaped>⟧.shape v) };
-
-    ghost valid = { λ v. ⟦<ShapeOf<Self> as Serialize>⟧.valid (⟦<Self as Shaped>⟧.shape v) };
-
     fn serialize<F: Flavor>(&self, serializer: &mut Serializer<F>) -> postcard::Result<()> {
         match self {
             Refusal::IsOff => serializer.serialize_unit_variant(0),
             Refusal::OverLimit => serializer.serialize_unit_variant(1),
         }
     }
-}
-
-impl SerializeShape for Refusal {
-    ghost written_as = { written_as_shape };
 }

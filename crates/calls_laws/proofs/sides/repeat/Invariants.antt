@@ -8,6 +8,6 @@ use Rattle.calls_laws.proofs.sides.repeat.Given as goal
 -- what was sent so far is this message alone
 abbrev pub invariant-loop : goal.invariant-loop
 invariant-loop g l =
-    Repeats {Q = g.row.Q.Denot} g.row.N (λ v. group_of (parts (Some (number 64 v.0) ∷ g.Q.Serialize.writes v.1 ∷ []))) (λ v. (v.0 < 2 ^ 64) × g.Q.Serialize.valid v.1)
+    Repeats {Q = g.row.Q.Denot} g.row.N (λ v. group_of (parts (Some (number 64 v.0) ∷ g.Q.Readable.form.writes v.1 ∷ []))) (λ v. (v.0 < 2 ^ 64) × g.Q.Readable.form.valid v.1)
     (l.fn.client.next, l.fn.request) l.client.pending
     (sender_place g.W.Outlet.line (sender_of l.fn.client)) (sender_place g.W.Outlet.line (sender_of l.client))

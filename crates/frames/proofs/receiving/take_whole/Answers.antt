@@ -1,7 +1,7 @@
 use Rattle.std.proofs.Common.{◌≡◌, ◌<◌, [], length, take, arith, sym, ap, subst}
 use Rattle.cobs.specs.Frames.{Frame}
 use Rattle.cobs.specs.Sentinel.{masked}
-use Rattle.link.specs.MaskLaws.{masked_length}
+use Rattle.link.specs.Lemmas.MaskLaws.{masked_length}
 use Rattle.frames.proofs.StandingLemmas.{stretch_of, some_bytes}
 use Rattle.frames.proofs.receiving.take_whole.Goals as goal
 

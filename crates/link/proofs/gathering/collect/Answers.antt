@@ -1,4 +1,4 @@
-use Rattle.std.proofs.Common.{[], ◌++◌, take, refl, sym, ◌∙◌}
+use Rattle.std.proofs.Common.{[], ◌++◌, take, refl, sym, ◌∙◌, arith, length-take-le}
 use Rattle.line_io.specs.Calls.{Gave-none, Gave-then}
 use Rattle.postcard.specs.Gathers.{sentinel_of}
 use Rattle.link.proofs.HearingLemmas.{on_ok, on_err, read_quiet}
@@ -15,7 +15,21 @@ returns-then-is_err-clause-gathered g c =
     let e = on_err c.gather.result _ (sym c.is_err.ensures.value ∙ c.if-is_err.true) c.gather.ensures.err in (
       k.1 ++ take c.in-Some.n c.read.new.room,
       (Gave-then _ _ _ _ _ k.2 c.in-Some.ensures.bytes, read_quiet _ _ _ _ _ c.in-Some.ensures.faults k.3),
-      (e.0, e.1, e.2, gathers_more _ _ _ _ _ _ _ k.1 (take c.in-Some.n c.read.new.room) _ _ _ _ _ (sentinel_of c.loop-n.accumulator) k.5 k.4 e.3),
+      record {
+        lost = e.0;
+        now = e.1;
+        rest = e.2;
+        gathers = gathers_more _ _ _ _ _ _ _ k.1 (take c.in-Some.n c.read.new.room) _ _ _ _ _ (sentinel_of c.loop-n.accumulator) k.5 k.4 e.5;
+        before = k.1;
+        last = take c.in-Some.n c.read.new.room;
+        parts = refl;
+        short = omega (arith, c.read.auto.room, c.in-Some.ensures.bound, length-take-le c.in-Some.n c.read.new.room c.in-Some.ensures.bound);
+        then = _;
+        early = c.loop-n.values.items;
+        later = e.3;
+        said = e.4;
+        first = k.4;
+      },
     )
 
 pub loop-n-preserved : goal.loop-n-preserved

@@ -1,5 +1,5 @@
-use Rattle.link.specs.OneAnswers.{one_tree}
-use Rattle.link.specs.RoadLaws.{same_by_accumulator}
+use Rattle.link.specs.Lemmas.OneAnswers.{one_tree}
+use Rattle.link.specs.Lemmas.RoadLaws.{same_by_accumulator}
 use Rattle.link.proofs.gathering.gathered_alike.Goals as goal
 
 pub returns : goal.returns

@@ -1,5 +1,4 @@
-use Rattle.std.proofs.Common.{length, take, drop, ◌-◌, arith, subst}
-use Rattle.std.proofs.lemmas.List.{length-drop, length-take}
+use Rattle.std.proofs.Common.{length, take, drop, ◌-◌, arith, subst, length-drop, length-take}
 use Rattle.line_io.specs.Device.{Wrote}
 use Rattle.line_io.specs.Calls.{Wrote-then}
 use Rattle.link.proofs.SendingLemmas.{moved_bound, moved_more, one_fault, quiet_write}

@@ -1,5 +1,4 @@
-use Rattle.std.proofs.Common.{◌++◌, ◌∷◌, [], inl, inr, take, length, ◌∙◌, ap, sym, arith, length-append}
-use Rattle.std.proofs.lemmas.List.{take_all}
+use Rattle.std.proofs.Common.{◌++◌, ◌∷◌, [], inl, inr, take, length, ◌∙◌, ap, sym, arith, length-append, take_all}
 use Rattle.line_io.specs.Calls.{Wrote-then}
 use Rattle.link.specs.Run.{lead}
 use Rattle.link.proofs.SendingLemmas.{wrote_as, fewer_out, front_out, none_out, all_out, front_behind}

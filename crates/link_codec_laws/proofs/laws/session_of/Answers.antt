@@ -2,4 +2,4 @@ use Rattle.link_codec_laws.proofs.SessionsLemmas.{session_of}
 use Rattle.link_codec_laws.proofs.laws.session_of.Goals as goal
 
 pub returns : goal.returns
-returns g c = session_of g.T.Serialize.writes g.T.Serialize.valid c.args.values.now c.args.encoder.now
+returns g c = session_of g.T.Readable.form.writes g.T.Readable.form.valid c.args.values.now c.args.encoder.now

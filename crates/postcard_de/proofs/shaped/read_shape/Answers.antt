@@ -22,5 +22,5 @@ fails {a = a} {F = F} {G = G} {e = e} h same p = record {
 pub returns-in_err-it : goal.returns-in_err-it
 returns-in_err-it g c =
     let p = err_from_is_err_and c.from_residual.result c.from_residual.ensures.1 in
-    let shape = g.met.M.ReadableShape.read_as in
+    let shape = g.met.M.MatchesShape.matches in
     rw (p.1, p.2) (fails shape.refused shape.grows c.in_err-it.ensures)

@@ -95,7 +95,7 @@ module _ (s read n : ℕ) (source : List ℕ) (l : read ≤ length source) (befo
       (λ q. sym (get_or-drop read source n 0) ∙ sym (get_or-take (length source - read) (drop read source) n 0 (omega (arith, q))) ∙ end (omega (arith, q, long)))
 
 pub loop-read-init : goal.loop-read-init
-loop-read-init c =
+loop-read-init g c =
     let s = c.args.sentinel in
     let source = c.args.source.now in
     record {
@@ -106,12 +106,12 @@ loop-read-init c =
     }
 
 pub take_in-requires-in-GrabChain-eq0 : goal.take_in-requires-in-GrabChain-eq0
-take_in-requires-in-GrabChain-eq0 c =
+take_in-requires-in-GrabChain-eq0 g c =
     let read = c.loop-read.read in
     masked_positive c.args.sentinel (get_or c.args.source.now read 0) (clear_on c.args.sentinel read c.args.source.now c.loop-read.invariant.none (omega (arith, c.loop-read-test.true, c.loop-read.invariant.inside)) (c.is_clear_255.ensures c.if-is_clear_255.true) read (omega arith))
 
 pub take_clear-block-requires-clause-room : goal.take_clear-block-requires-clause-room
-take_clear-block-requires-clause-room c =
+take_clear-block-requires-clause-room g c =
     let s = c.args.sentinel in
     let source = c.args.source.now in
     let read = c.loop-read.read in
@@ -121,13 +121,13 @@ take_clear-block-requires-clause-room c =
     part_fits s (read + 1) (read + 255 - (read + 1)) source c.args.dest.now c.take_in-in-GrabChain-eq0.new.buffer c.take_in-in-GrabChain-eq0.new.self r (omega arith) (omega arith) (omega (arith, fits)) c.requires.room
 
 pub take_clear-block-requires-clause-clear : goal.take_clear-block-requires-clause-clear
-take_clear-block-requires-clause-clear c =
+take_clear-block-requires-clause-clear g c =
     let read = c.loop-read.read in
     let none = clear_on c.args.sentinel read c.args.source.now c.loop-read.invariant.none (omega (arith, c.loop-read-test.true, c.loop-read.invariant.inside)) (c.is_clear_255.ensures c.if-is_clear_255.true) in
     none_in c.args.sentinel (read + 1) (read + 255 - (read + 1)) c.args.source.now (λ k l. none k (omega (arith, l)))
 
 pub loop-read-preserved-in-GrabChain-eq0 : goal.loop-read-preserved-in-GrabChain-eq0
-loop-read-preserved-in-GrabChain-eq0 c =
+loop-read-preserved-in-GrabChain-eq0 g c =
     let s = c.args.sentinel in
     let source = c.args.source.now in
     let old = c.args.dest.now in
@@ -154,7 +154,7 @@ full_code s read source old dest dest' d d' r l full stands put =
     entering_byte (masked s source) old dest read d r d' dest' 255 (omega (arith, l, masked_length s source)) (masked_get s source read l ∙ full) (omega arith) stands put
 
 pub take_clear-full-requires-clause-room : goal.take_clear-full-requires-clause-room
-take_clear-full-requires-clause-room c =
+take_clear-full-requires-clause-room g c =
     let s = c.args.sentinel in
     let source = c.args.source.now in
     let read = c.loop-read.read in
@@ -163,13 +163,13 @@ take_clear-full-requires-clause-room c =
     part_fits s (read + 1) (read + 255 - (read + 1)) source c.args.dest.now c.take_in-then-sentinel-source.new.buffer c.take_in-then-sentinel-source.new.self r (omega arith) (omega arith) (omega (arith, fits)) c.requires.room
 
 pub take_clear-full-requires-clause-clear : goal.take_clear-full-requires-clause-clear
-take_clear-full-requires-clause-clear c =
+take_clear-full-requires-clause-clear g c =
     let read = c.loop-read.read in
     let none = clear_on c.args.sentinel read c.args.source.now c.loop-read.invariant.none (omega (arith, c.loop-read-test.true, c.loop-read.invariant.inside)) (c.is_clear_255.ensures c.if-is_clear_255.true) in
     none_in c.args.sentinel (read + 1) (read + 255 - (read + 1)) c.args.source.now (λ k l. none k (omega (arith, l)))
 
 pub loop-read-preserved-then-sentinel-source : goal.loop-read-preserved-then-sentinel-source
-loop-read-preserved-then-sentinel-source c =
+loop-read-preserved-then-sentinel-source g c =
     let s = c.args.sentinel in
     let source = c.args.source.now in
     let old = c.args.dest.now in
@@ -190,18 +190,18 @@ loop-read-preserved-then-sentinel-source c =
     }
 
 pub take_clear-taken-requires-clause-room : goal.take_clear-taken-requires-clause-room
-take_clear-taken-requires-clause-room c =
+take_clear-taken-requires-clause-room g c =
     let read = c.loop-read.read in
     part_fits c.args.sentinel read (read + 255 - read) c.args.source.now c.args.dest.now c.loop-read.dest c.loop-read.progress c.loop-read.invariant.entering c.loop-read.invariant.begun (omega arith) (omega (arith, c.loop-read-test.true, c.loop-read.invariant.inside)) c.requires.room
 
 pub take_clear-taken-requires-clause-clear : goal.take_clear-taken-requires-clause-clear
-take_clear-taken-requires-clause-clear c =
+take_clear-taken-requires-clause-clear g c =
     let read = c.loop-read.read in
     let none = clear_on c.args.sentinel read c.args.source.now c.loop-read.invariant.none (omega (arith, c.loop-read-test.true, c.loop-read.invariant.inside)) (c.is_clear_255.ensures c.if-is_clear_255.true) in
     none_in c.args.sentinel read (read + 255 - read) c.args.source.now (λ k l. none k (omega (arith, l)))
 
 pub loop-read-preserved-then-taken-gt0 : goal.loop-read-preserved-then-taken-gt0
-loop-read-preserved-then-taken-gt0 c =
+loop-read-preserved-then-taken-gt0 g c =
     let s = c.args.sentinel in
     let source = c.args.source.now in
     let read = c.loop-read.read in
@@ -217,12 +217,12 @@ loop-read-preserved-then-taken-gt0 c =
     }
 
 pub take_in-requires-in-loop-read : goal.take_in-requires-in-loop-read
-take_in-requires-in-loop-read c =
+take_in-requires-in-loop-read g c =
     let read = c.loop-read.read in
     masked_positive c.args.sentinel (get_or c.args.source.now read 0) (clear_on c.args.sentinel read c.args.source.now c.loop-read.invariant.none (omega (arith, c.loop-read-test.true, c.loop-read.invariant.inside)) (c.is_clear_255.ensures c.if-is_clear_255.true) read (omega arith))
 
 pub loop-read-preserved : goal.loop-read-preserved
-loop-read-preserved c =
+loop-read-preserved g c =
     let s = c.args.sentinel in
     let source = c.args.source.now in
     let old = c.args.dest.now in
@@ -239,7 +239,7 @@ loop-read-preserved c =
     }
 
 pub take_clear-last-requires-clause-room : goal.take_clear-last-requires-clause-room
-take_clear-last-requires-clause-room c =
+take_clear-last-requires-clause-room g c =
     let source = c.args.source.now in
     let read = c.loop-read.read in
     let whole = long c.args.sentinel read c.before_sentinel.result source c.loop-read.invariant.inside c.loop-read.invariant.none c.before_sentinel.ensures.within c.before_sentinel.ensures.none in
@@ -247,13 +247,13 @@ take_clear-last-requires-clause-room c =
     (omega (arith, c.loop-read-2.invariant.within, c.before_sentinel.ensures.within, whole, c.loop-read.invariant.inside)) c.requires.room
 
 pub take_clear-last-requires-clause-clear : goal.take_clear-last-requires-clause-clear
-take_clear-last-requires-clause-clear c =
+take_clear-last-requires-clause-clear g c =
     let read = c.loop-read.read in
     let none = none_before c.args.sentinel read c.before_sentinel.result c.args.source.now c.loop-read.invariant.inside c.loop-read.invariant.none c.before_sentinel.ensures.within c.before_sentinel.ensures.none in
     none_in c.args.sentinel c.loop-read-2.read (read + c.before_sentinel.result - c.loop-read-2.read) c.args.source.now (λ k l. none k (omega (arith, l, c.loop-read-2.invariant.within)))
 
 pub loop-read-2-preserved-then-last-gt0 : goal.loop-read-2-preserved-then-last-gt0
-loop-read-2-preserved-then-last-gt0 c =
+loop-read-2-preserved-then-last-gt0 g c =
     let source = c.args.source.now in
     let read = c.loop-read-2.read in
     let m : ℕ = c.loop-read.read + c.before_sentinel.result - read in
@@ -264,12 +264,12 @@ loop-read-2-preserved-then-last-gt0 c =
     }
 
 pub take_in-requires-in-loop-read-2 : goal.take_in-requires-in-loop-read-2
-take_in-requires-in-loop-read-2 c =
+take_in-requires-in-loop-read-2 g c =
     let none = none_before c.args.sentinel c.loop-read.read c.before_sentinel.result c.args.source.now c.loop-read.invariant.inside c.loop-read.invariant.none c.before_sentinel.ensures.within c.before_sentinel.ensures.none in
     masked_positive c.args.sentinel (get_or c.args.source.now c.loop-read-2.read 0) (none c.loop-read-2.read (omega (arith, c.loop-read-2-test.true)))
 
 pub loop-read-2-preserved : goal.loop-read-2-preserved
-loop-read-2-preserved c =
+loop-read-2-preserved g c =
     let s = c.args.sentinel in
     let source = c.args.source.now in
     let old = c.args.dest.now in
@@ -285,32 +285,32 @@ loop-read-2-preserved c =
     }
 
 -- all before the sentinel was taken in
-all : (c : After-loop-read-2) → take c.loop-read-2.read (masked c.args.sentinel c.args.source.now) ≡ stretch (masked c.args.sentinel c.args.source.now)
-all c =
+all : (g : _) (c : After-loop-read-2 g) → take c.loop-read-2.read (masked c.args.sentinel c.args.source.now) ≡ stretch (masked c.args.sentinel c.args.source.now)
+all g c =
     let source = c.args.source.now in
     let end : c.loop-read-2.read ≡ c.loop-read.read + c.before_sentinel.result = omega (arith, c.loop-read-2.invariant.within, c.loop-read-2-test.false) in
     masked_take c.args.sentinel c.loop-read-2.read source ∙ ap (λ j. masked c.args.sentinel (take j source)) end
     ∙ stretch_is c.args.sentinel c.loop-read.read c.before_sentinel.result source c.loop-read.invariant.inside c.loop-read.invariant.none c.before_sentinel.ensures.within c.before_sentinel.ensures.none c.before_sentinel.ensures.end
 
 pub returns-clause-end : goal.returns-clause-end
-returns-clause-end c =
+returns-clause-end g c =
     let source = c.args.source.now in
     let whole = long c.args.sentinel c.loop-read.read c.before_sentinel.result source c.loop-read.invariant.inside c.loop-read.invariant.none c.before_sentinel.ensures.within c.before_sentinel.ensures.none in
     let read = c.loop-read-2.read in
     let inside : read ≤ length source = omega (arith, c.loop-read-2.invariant.within, c.before_sentinel.ensures.within, whole, c.loop-read.invariant.inside) in
     let count : length (take read (masked c.args.sentinel source)) ≡ read = length-take-le read (masked c.args.sentinel source) (omega (arith, inside, masked_length c.args.sentinel source)) in
-    omega (arith, count, ap length (all c), c.loop-read-2.invariant.within, c.loop-read-2-test.false)
+    omega (arith, count, ap length (all g c), c.loop-read-2.invariant.within, c.loop-read-2-test.false)
 
 pub returns-clause-stands : goal.returns-clause-stands
-returns-clause-stands c = subst (HasStreamed c.loop-read-2.progress) (all c) c.loop-read-2.invariant.entering.stands
+returns-clause-stands g c = subst (HasStreamed c.loop-read-2.progress) (all g c) c.loop-read-2.invariant.entering.stands
 
 pub returns-clause-dest : goal.returns-clause-dest
-returns-clause-dest c = c.loop-read-2.invariant.entering.holds ∙ ap (λ p. overwritten (part p) c.args.dest.now) (all c)
+returns-clause-dest g c = c.loop-read-2.invariant.entering.holds ∙ ap (λ p. overwritten (part p) c.args.dest.now) (all g c)
 
 pub returns-clause-some : goal.returns-clause-some
-returns-clause-some c = omega (arith, c.loop-read-2.invariant.begun, c.loop-read-2.invariant.within)
+returns-clause-some g c = omega (arith, c.loop-read-2.invariant.begun, c.loop-read-2.invariant.within)
 
 pub returns-clause-within : goal.returns-clause-within
-returns-clause-within c =
+returns-clause-within g c =
     let whole = long c.args.sentinel c.loop-read.read c.before_sentinel.result c.args.source.now c.loop-read.invariant.inside c.loop-read.invariant.none c.before_sentinel.ensures.within c.before_sentinel.ensures.none in
     omega (arith, c.before_sentinel.ensures.within, whole, c.loop-read.invariant.inside)

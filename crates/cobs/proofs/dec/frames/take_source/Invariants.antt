@@ -4,7 +4,7 @@ use Rattle.cobs.proofs.ShortLemmas.{Entering}
 use Rattle.cobs.proofs.dec.frames.take_source.Given as goal
 
 abbrev pub invariant-loop-read : goal.invariant-loop-read
-invariant-loop-read l = record {
+invariant-loop-read g l = record {
   begun : 0 < l.read;
   inside : l.read ≤ length l.source;
   entering : Entering (masked l.sentinel l.source) l.fn.dest l.dest l.read l.progress;
@@ -12,14 +12,14 @@ invariant-loop-read l = record {
 }
 
 abbrev pub decreases-loop-read : goal.decreases-loop-read
-decreases-loop-read l = length l.source - l.read
+decreases-loop-read g l = length l.source - l.read
 
 abbrev pub invariant-loop-read-2 : goal.invariant-loop-read-2
-invariant-loop-read-2 l = record {
+invariant-loop-read-2 g l = record {
   begun : 0 < l.read;
   within : l.read ≤ l.end;
   entering : Entering (masked l.sentinel l.source) l.fn.dest l.dest l.read l.progress;
 }
 
 abbrev pub decreases-loop-read-2 : goal.decreases-loop-read-2
-decreases-loop-read-2 l = l.end - l.read
+decreases-loop-read-2 g l = l.end - l.read

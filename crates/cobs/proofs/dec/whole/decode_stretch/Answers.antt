@@ -9,6 +9,3 @@ decode_clear-requires c = subst NoZero (sym c.before_end_few.ensures.frame) (str
 
 pub decode_clear-requires-in-Some : goal.decode_clear-requires-in-Some
 decode_clear-requires-in-Some c = subst NoZero (sym c.in-Some.ensures.frame) (stretch_clear (masked c.args.sentinel c.args.source.now))
-
-pub decode_clear-requires-in-None : goal.decode_clear-requires-in-None
-decode_clear-requires-in-None c = subst NoZero (sym c.before-frame.ensures) (stretch_clear (masked c.args.sentinel c.args.source.now))

@@ -1,6 +1,6 @@
 use Rattle.std.proofs.Common.{[], ◌∷◌, sym, ◌∙◌}
 use Rattle.link.specs.Stream.{begun}
-use Rattle.link.specs.AnswerLaws.{behind_after}
+use Rattle.link.specs.Lemmas.AnswerLaws.{behind_after}
 use Rattle.frames.specs.Standing.{StandsAt}
 use Rattle.postcard_tree.specs.Reading.{ReadsBytes}
 use Rattle.frames.specs.Events.{HoldsCounted}

@@ -1,5 +1,5 @@
 use Rattle.link.specs.Stream.{begun}
-use Rattle.link.specs.AnswerLaws.{behind_after}
+use Rattle.link.specs.Lemmas.AnswerLaws.{behind_after}
 use Rattle.frames.specs.Standing.{StandsAt}
 use Rattle.frames.proofs.EventsLemmas.{plain_answers}
 use Rattle.frames.proofs.receiving.FrameReceiver.push_plain.Goals as goal

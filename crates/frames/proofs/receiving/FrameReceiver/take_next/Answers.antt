@@ -7,7 +7,7 @@ use Rattle.link.specs.Steps.{Event}
 use Rattle.frames.specs.Standing.{StandsAt}
 use Rattle.frames.specs.Events.{FindsFrame}
 use Rattle.frames.proofs.StandingLemmas.{kept_is, stands_between, has_bytes, sentinel_span}
-use Rattle.link.specs.RunLaws.{run_of, none_kept, sentinel_behind}
+use Rattle.link.specs.Lemmas.RunLaws.{run_of, none_kept, sentinel_behind}
 use Rattle.frames.proofs.BringingLemmas.{past_brings, run_brings, whole_brings, sentinel_brings}
 use Rattle.frames.proofs.receiving.FrameReceiver.take_next.Goals as goal
 

@@ -1,6 +1,6 @@
 use Rattle.std.proofs.Common.{◌≡◌, Bool, true, false}
-use Rattle.link.specs.Facts.{Facts, exactly_holds}
-use Rattle.link.specs.Lengths.{by_lengths}
+use Rattle.link.specs.Lemmas.Facts.{Facts, exactly_holds}
+use Rattle.link.specs.Lemmas.Lengths.{by_lengths}
 use Rattle.link.proofs.ReadingLemmas.{holds_none}
 use Rattle.link.proofs.SentnessLemmas.{sent_value, not_sent}
 use Rattle.link.proofs.judging.StrictMessageReader.read.Goals as goal
@@ -20,7 +20,7 @@ returns-then-is_sent-clause-value g c =
       spells = c.short_is_a_spelling.ensures;
     } in
     let lengths = by_lengths (g.F.FrontReader.takes r) facts c.frames_of_a_message.ensures.other c.short_is_the_shortest.ensures in
-    sent_value (g.F.FrontReader.takes r) (g.F.FrontReader.reads r) g.V.Serialize.writes facts lengths laws.taken (g.met.F.ExactReader.writes_back r) c.args.message.now _ c.in-Ok.value c.args.stretch c.in-Ok.ensures.value.1 _ c.is_sent.ensures c.if-is_sent.true
+    sent_value (g.F.FrontReader.takes r) (g.F.FrontReader.reads r) g.V.Readable.form.writes facts lengths laws.taken (g.met.F.ExactReader.writes_back r) c.args.message.now _ c.in-Ok.value c.args.stretch c.in-Ok.ensures.value.1 _ c.is_sent.ensures c.if-is_sent.true
 
 pub returns-then-is_sent-clause-memory : goal.returns-then-is_sent-clause-memory
 returns-then-is_sent-clause-memory g c = tt
@@ -37,7 +37,7 @@ returns-else-is_sent-clause-value g c =
       spells = c.short_is_a_spelling.ensures;
     } in
     let lengths = by_lengths (g.F.FrontReader.takes r) facts c.frames_of_a_message.ensures.other c.short_is_the_shortest.ensures in
-    not_sent (g.F.FrontReader.takes r) (g.F.FrontReader.reads r) g.V.Serialize.writes facts lengths laws.taken (g.met.F.ExactReader.writes_back r) c.args.message.now _ c.in-Ok.value c.args.stretch c.in-Ok.ensures.value.1 _ c.is_sent.ensures (λ x. not_both c.is_sent.result c.if-is_sent.false x)
+    not_sent (g.F.FrontReader.takes r) (g.F.FrontReader.reads r) g.V.Readable.form.writes facts lengths laws.taken (g.met.F.ExactReader.writes_back r) c.args.message.now _ c.in-Ok.value c.args.stretch c.in-Ok.ensures.value.1 _ c.is_sent.ensures (λ x. not_both c.is_sent.result c.if-is_sent.false x)
 
 pub returns-in_ok-had_memory-in-Err-clause-value : goal.returns-in_ok-had_memory-in-Err-clause-value
 returns-in_ok-had_memory-in-Err-clause-value g c p f e t h =

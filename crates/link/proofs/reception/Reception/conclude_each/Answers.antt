@@ -1,5 +1,4 @@
-use Rattle.std.proofs.Common.{[], ◌∷◌, ◌++◌, Ok, refl, sym, ◌∙◌, subst}
-use Rattle.std.proofs.lemmas.List.{append-nil}
+use Rattle.std.proofs.Common.{[], ◌∷◌, ◌++◌, Ok, refl, sym, ◌∙◌, subst, append-nil}
 use Rattle.link.specs.Stream.{begun}
 use Rattle.link.specs.Listening.{KeepsAnswer, HasGiven, EndsAtLoss}
 use Rattle.link.proofs.EndingLemmas.{ended_by}

@@ -1,11 +1,10 @@
-use Rattle.std.proofs.Common.{◌≡◌, ℕ, ◌<◌, List, [], ◌∷◌, ◌++◌, length, take, refl, sym, ◌∙◌, ap, subst, append_assoc, arith, rules}
-use Rattle.std.proofs.lemmas.List.{append-nil}
+use Rattle.std.proofs.Common.{◌≡◌, ℕ, ◌<◌, List, [], ◌∷◌, ◌++◌, length, take, refl, sym, ◌∙◌, ap, subst, append_assoc, arith, rules, append-nil}
 use Rattle.link.specs.Stream.{begun}
 use Rattle.link.specs.Receivers.{IsAt, IsBehind}
 use Rattle.link.specs.Listening.{Hears, HasGiven}
-use Rattle.link.specs.Givens.{kept_given}
+use Rattle.link.specs.Lemmas.Givens.{kept_given}
 use Rattle.link.proofs.HearingLemmas.{on_err, on_ok, lost_by, parts_on}
-use Rattle.link.specs.AnswerLaws.{behind_after, answered}
+use Rattle.link.specs.Lemmas.AnswerLaws.{behind_after, answered}
 use Rattle.link.proofs.HandingLemmas.{handed_none, handed_next, handed_as, keeps_behind}
 use Rattle.link.proofs.reception.Reception.hand_on.Goals as goal
 

@@ -1,12 +1,12 @@
-use Rattle.std.proofs.Common.{[], ◌++◌, refl, ◌∙◌, subst, append_assoc, arith}
+use Rattle.std.proofs.Common.{[], ◌++◌, refl, sym, ◌∙◌, subst, append_assoc, arith, inl, inr}
 use Rattle.line_io.specs.Calls.{Gave-none, Gave-then}
 use Rattle.link.specs.Listening.{Hears, IsHeard}
-use Rattle.link.proofs.HandingLemmas.{handed_none, handed_next, nothing_more, read_then, few_then}
+use Rattle.link.proofs.HandingLemmas.{handed_none, nothing_more, read_then, few_then, was_asked}
 use Rattle.link.proofs.reception.Reception.listen_each.Goals as goal
 
 pub loop-alloc-init : goal.loop-alloc-init
 loop-alloc-init g c = (
-  ([], Gave-none _, refl, omega arith, handed_none g.H.Hearer.hears g.H.Hearer.laws _ _ (λ limit s stream given h. nothing_more g.D.Decoding.inside (g.M.MessageReader.judging c.args.messages.now).holds (g.M.MessageReader.judging c.args.messages.now).reads limit s c.args.self.now given stream [] refl h)),
+  ([], Gave-none _, refl, omega arith, handed_none g.H.Hearer.hears g.H.Hearer.laws _ _ (λ limit s stream given h. nothing_more g.D.Decoding.inside (g.M.MessageReader.judging c.args.messages.now).holds (g.M.MessageReader.judging c.args.messages.now).reads limit s c.args.self.now given stream [] refl h), inl refl),
   (refl, refl),
   λ h. h,
 )
@@ -14,29 +14,43 @@ loop-alloc-init g c = (
 pub returns-in-Some-clause-heard : goal.returns-in-Some-clause-heard
 returns-in-Some-clause-heard g c =
     let k = c.loop-alloc.invariant.0 in
-    let e = c.in-Some.ensures.heard in record {
-      bytes = k.0 ++ e.bytes;
-      read = read_then _ _ _ k.0 e.bytes c.in-Some.end k.1 k.2 e.read;
-      few = few_then _ _ _ k.0 e.bytes 1 k.3 e.few;
-      adds = handed_next g.H.Hearer.hears g.H.Hearer.laws _ _ _ _ _ _ k.4 e.adds (λ ys adds limit s stream given h.
-          let heard = adds limit s (stream ++ k.0) (given ++ k.4.answers) (k.4.so limit s stream given h) in
-          subst (λ x. IsHeard g.D.Decoding.inside (g.M.MessageReader.judging c.args.messages.now).holds (g.M.MessageReader.judging c.args.messages.now).reads limit s c.args.goes_on c.in-Some.end c.listen_by.new.self (given ++ (k.4.answers ++ ys)) x) (append_assoc stream k.0 e.bytes)
-          (subst (λ xs. IsHeard g.D.Decoding.inside (g.M.MessageReader.judging c.args.messages.now).holds (g.M.MessageReader.judging c.args.messages.now).reads limit s c.args.goes_on c.in-Some.end c.listen_by.new.self xs ((stream ++ k.0) ++ e.bytes)) (append_assoc given k.4.answers ys) heard));
-    }
+    let e = c.in-Some.ensures.heard.0 in
+    let judging = g.M.MessageReader.judging c.args.messages.now in (
+      record {
+        bytes = k.0 ++ e.bytes;
+        read = read_then _ _ _ k.0 e.bytes c.in-Some.end k.1 k.2 e.read;
+        few = few_then _ _ _ k.0 e.bytes 1 k.3 e.few;
+        adds = record {
+          answers = k.4.answers ++ e.adds.answers;
+          heard = g.H.Hearer.laws.more _ _ _ k.4.answers e.adds.answers k.4.heard e.adds.heard;
+          so = λ limit s stream given h.
+              let heard = e.adds.so limit s (stream ++ k.0) (given ++ k.4.answers) (k.4.so limit s stream given h) in
+              subst (λ x. IsHeard g.D.Decoding.inside judging.holds judging.reads limit s c.args.goes_on c.in-Some.end c.listen_by.new.self (given ++ (k.4.answers ++ e.adds.answers)) x) (append_assoc stream k.0 e.bytes)
+              (subst (λ xs. IsHeard g.D.Decoding.inside judging.holds judging.reads limit s c.args.goes_on c.in-Some.end c.listen_by.new.self xs ((stream ++ k.0) ++ e.bytes)) (append_assoc given k.4.answers e.adds.answers) heard);
+        };
+      },
+      inr (was_asked g.D.Decoding.inside judging g.H.Hearer.hears g.H.Hearer.enough _ _ _ _ _ _ k.0 e.bytes e.adds.answers k.4 e.adds.heard (sym c.has_enough.ensures ∙ c.if-has_enough.false) (omega (arith, c.in-Some.ensures.heard.1))),
+    )
 
 pub loop-alloc-preserved : goal.loop-alloc-preserved
 loop-alloc-preserved g c =
     let k = c.loop-alloc.invariant.0 in
-    let e = c.in_default.ensures.heard in (
+    let e = c.in_default.ensures.heard.0 in
+    let judging = g.M.MessageReader.judging c.args.messages.now in (
       (
         k.0 ++ e.bytes,
         Gave-then _ _ _ _ _ k.1 e.read.0,
         e.read.1 ∙ k.2,
         few_then _ _ _ k.0 e.bytes 0 k.3 e.few,
-        handed_next g.H.Hearer.hears g.H.Hearer.laws _ _ _ _ _ _ k.4 e.adds (λ ys adds limit s stream given h.
-            let heard = adds limit s (stream ++ k.0) (given ++ k.4.answers) (k.4.so limit s stream given h) in
-            subst (λ x. Hears g.D.Decoding.inside (g.M.MessageReader.judging c.args.messages.now).holds (g.M.MessageReader.judging c.args.messages.now).reads limit s c.listen_by.new.self (given ++ (k.4.answers ++ ys)) x) (append_assoc stream k.0 e.bytes)
-            (subst (λ xs. Hears g.D.Decoding.inside (g.M.MessageReader.judging c.args.messages.now).holds (g.M.MessageReader.judging c.args.messages.now).reads limit s c.listen_by.new.self xs ((stream ++ k.0) ++ e.bytes)) (append_assoc given k.4.answers ys) heard)),
+        record {
+          answers = k.4.answers ++ e.adds.answers;
+          heard = g.H.Hearer.laws.more _ _ _ k.4.answers e.adds.answers k.4.heard e.adds.heard;
+          so = λ limit s stream given h.
+              let heard = e.adds.so limit s (stream ++ k.0) (given ++ k.4.answers) (k.4.so limit s stream given h) in
+              subst (λ x. Hears g.D.Decoding.inside judging.holds judging.reads limit s c.listen_by.new.self (given ++ (k.4.answers ++ e.adds.answers)) x) (append_assoc stream k.0 e.bytes)
+              (subst (λ xs. Hears g.D.Decoding.inside judging.holds judging.reads limit s c.listen_by.new.self xs ((stream ++ k.0) ++ e.bytes)) (append_assoc given k.4.answers e.adds.answers) heard);
+        },
+        inr (was_asked g.D.Decoding.inside judging g.H.Hearer.hears g.H.Hearer.enough _ _ _ _ _ _ k.0 e.bytes e.adds.answers k.4 e.adds.heard (sym c.has_enough.ensures ∙ c.if-has_enough.false) (omega (arith, c.in_default.ensures.heard.1))),
       ),
       (c.listen_by.ensures.same.0 ∙ c.loop-alloc.invariant.1.0, c.listen_by.ensures.same.1 ∙ c.loop-alloc.invariant.1.1),
       λ h. c.listen_by.ensures.settled (c.loop-alloc.invariant.2 h),
@@ -46,4 +60,4 @@ loop-alloc-preserved g c =
 pub returns-then-has_enough-clause-heard : goal.returns-then-has_enough-clause-heard
 returns-then-has_enough-clause-heard g c =
     let k = c.loop-alloc.invariant.0 in
-    record { bytes = k.0; read = (k.1, k.2); few = k.3; adds = k.4 }
+    (record { bytes = k.0; read = (k.1, k.2); few = k.3; adds = k.4 }, k.5)

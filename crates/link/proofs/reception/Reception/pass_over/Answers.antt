@@ -1,9 +1,8 @@
-use Rattle.std.proofs.Common.{◌≡◌, ℕ, List, [], ◌∷◌, ◌++◌, length, take, refl, sym, ◌∙◌, ap, subst, append_assoc, arith, rules}
-use Rattle.std.proofs.lemmas.List.{append-nil}
+use Rattle.std.proofs.Common.{◌≡◌, ℕ, List, [], ◌∷◌, ◌++◌, length, take, refl, sym, ◌∙◌, ap, subst, append_assoc, arith, rules, append-nil}
 use Rattle.link.specs.Stream.{begun}
 use Rattle.link.specs.Receivers.{IsAt, IsBehind}
 use Rattle.link.proofs.HearingLemmas.{parts_on}
-use Rattle.link.specs.AnswerLaws.{behind_after}
+use Rattle.link.specs.Lemmas.AnswerLaws.{behind_after}
 use Rattle.link.proofs.reception.Reception.pass_over.Goals as goal
 
 pub loop-rest-init : goal.loop-rest-init

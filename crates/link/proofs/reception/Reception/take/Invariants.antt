@@ -1,7 +1,7 @@
 use Rattle.std.proofs.Common.{ℕ, ◌-◌, ◌≤◌, length}
 use Rattle.link.specs.Stream.{Begun}
 use Rattle.link.specs.Receivers.{IsAt, SameTerms}
-use Rattle.link.specs.TurnLaws.{Turn}
+use Rattle.link.specs.Lemmas.TurnLaws.{Turn}
 use Rattle.link.proofs.reception.Reception.take.Given as goal
 
 abbrev pub invariant-loop-at : goal.invariant-loop-at

@@ -1,6 +1,5 @@
-use Rattle.std.proofs.Common.{◌≡◌, ◌<◌, ◌≤◌, [], length, ◌++◌, drop, arith, sym, ap, ◌∙◌, subst}
+use Rattle.std.proofs.Common.{◌≡◌, ◌<◌, ◌≤◌, [], length, ◌++◌, drop, arith, sym, ap, ◌∙◌, subst, take-append-drop}
 use Rattle.cobs.specs.Frames.{NoZero}
-use Rattle.std.proofs.lemmas.List.{take-append-drop}
 use Rattle.cobs.specs.InPlace.{stretch}
 use Rattle.cobs.specs.Sentinel.{masked}
 use Rattle.link.specs.Stream.{kept, over}
@@ -9,7 +8,7 @@ use Rattle.link.proofs.FetchingLemmas.{has_bytes}
 use Rattle.link.specs.Finds.{front_of}
 use Rattle.link.proofs.SpanningLemmas.{limit_at, sentinel_at}
 use Rattle.link.proofs.ReceivingLemmas.{kept_is}
-use Rattle.link.specs.RunLaws.{run_of, none_kept, past_brings, run_brings, whole_brings, sentinel_brings, sentinel_behind}
+use Rattle.link.specs.Lemmas.RunLaws.{run_of, none_kept, past_brings, run_brings, whole_brings, sentinel_brings, sentinel_behind}
 use Rattle.link.proofs.RunsLemmas.{span_at}
 use Rattle.link.proofs.reception.Reception.take_next.Goals as goal
 

@@ -2,7 +2,7 @@ use Rattle.std.proofs.lemmas.Grind.{common_steps}
 use Rattle.std.proofs.Common.{length, sym, ap, ◌∙◌, subst, arith}
 use Rattle.cobs.specs.Frames.{Frame}
 use Rattle.cobs.specs.Sentinel.{masked}
-use Rattle.link.specs.MaskLaws.{masked_length}
+use Rattle.link.specs.Lemmas.MaskLaws.{masked_length}
 use Rattle.link.proofs.ReceivingLemmas.{take_nothing}
 use Rattle.link.proofs.reception.Reception.take_whole.Goals as goal
 

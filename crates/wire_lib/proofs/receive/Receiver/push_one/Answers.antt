@@ -2,7 +2,7 @@ use Rattle.std.proofs.Common.{◌&&◌, [], ◌∷◌, ◌++◌, Ok, Some, None,
 use Rattle.std.proofs.lemmas.List.{append-nil}
 use Rattle.link.specs.Decoding.{in_owner}
 use Rattle.link.specs.Pushes.{Answered}
-use Rattle.link.specs.Givens.{heard_behind}
+use Rattle.link.specs.Lemmas.Givens.{heard_behind}
 use Rattle.wire_lib.specs.Received.{held_by, read_by, are_all_values}
 use Rattle.wire_lib.proofs.ToldLemmas.{all_then}
 use Rattle.wire_lib.proofs.receive.Receiver.push_one.Goals as goal

@@ -15,7 +15,7 @@ use Rattle.cobs.proofs.dec.progress.Progress.take_window.Goals as goal
 pub returns-then-ones-gt0-clause-front : goal.returns-then-ones-gt0-clause-front
 returns-then-ones-gt0-clause-front c p s =
     let n = c.same_by_64-ones.result in
-    let most = c.min-room.result in
+    let most = c.min.result in
     let key = c.args.sentinel in
     let piece = c.args.piece.now in
     let bytes : List ℕ = masked key piece in
@@ -43,7 +43,7 @@ returns-then-ones-gt0-clause-front c p s =
 pub decode_window-self-requires-clause-nonzero : goal.decode_window-self-requires-clause-nonzero
 decode_window-self-requires-clause-nonzero c =
     let n = c.before_by_call-n.result in
-    let most = c.min.result in
+    let most = c.min-in-Grab.result in
     let piece = c.args.piece.now in
     let inside : most ≤ length piece = omega arith in
     let few : n ≤ most = omega (arith, length-take-le most piece inside, c.before_by_call-n.ensures.within) in
@@ -52,7 +52,7 @@ decode_window-self-requires-clause-nonzero c =
 pub returns-after-left-eq0-clause-front : goal.returns-after-left-eq0-clause-front
 returns-after-left-eq0-clause-front c p s =
     let n = c.before_by_call-n.result in
-    let most = c.min.result in
+    let most = c.min-in-Grab.result in
     let key = c.args.sentinel in
     let piece = c.args.piece.now in
     let left = c.in-Grab.left in

@@ -1,0 +1,3 @@
+pub mod Marked
+pub mod Silent
+pub mod Standing

@@ -1,0 +1,264 @@
+//! The marked declarations of files.
+ghost use Rattle.std.specs.Prelude.{◌≡◌, ◌≤◌, ◌<◌, ◌++◌, length, take, string_bytes, IfOk, IsTrue, [], None};
+ghost use Rattle.declaration_parser.specs.Marked.{NoMark};
+ghost use Rattle.declaration_parser.specs.Silent.{SaysNothing};
+ghost use Rattle.declaration_parser.specs.Standing.{Accounts, AreDeclaredIn, GoneOver, tokens_in};
+
+use crate::attributes::{closed, first_word, has_derive, passed_over, renamed_derive};
+use crate::declaration::Declaration;
+use crate::faults::Faults;
+use crate::head::{Head, head_of};
+use crate::parser::{Parser, Purpose};
+use crate::tokens::{Read, Token, is_among, is_comment_mark};
+use crate::words::{ALMOST, IN_MACRO, IN_WORDS, NO_MESSAGES_MARKED, RENAMES};
+use std::alloc::{AllocError, Global};
+
+/// Whether a struct or an enum stands at the front of these tokens.
+fn begins_declaration(tokens: &[Token]) -> bool {
+    let rest = match tokens {
+        [public, open, rest @ ..] if public.text.as_str() == "pub" && open.text.as_str() == "(" =>
+            match closed(rest) {
+                Some((_, behind)) => behind,
+                None => return false,
+            },
+        [public, rest @ ..] if public.text.as_str() == "pub" => rest,
+        _ => tokens,
+    };
+    is_among(first_word(rest), &["struct", "enum"])
+}
+
+/// Refuses comments that are almost marks, before a declaration that isn't marked.
+fn refuse_almost(head: &Head<'_>, faults: &mut Faults<'_>)
+    ensures { SaysNothing faults.new → SaysNothing faults.old }
+{
+    if !begins_declaration(head.behind) {
+        return;
+    }
+    for token in head.attributes {
+        let word = token.text.as_str();
+        if word.starts_with("//") && !is_comment_mark(word) {
+            faults.put_line_number(token.line);
+            faults.put_all(&["`", word, ALMOST]);
+        }
+    }
+}
+
+/// The first mark among tokens.
+fn first_mark(tokens: &[Token]) -> Option<&Token>
+    ensures { result ≡ None → NoMark tokens.now }
+{
+    for token in tokens {
+        if is_comment_mark(token.text.as_str()) {
+            return Some(token);
+        }
+    }
+    None
+}
+
+/// Refuses a mark among these tokens, for this reason.
+fn refuse_mark(tokens: &[Token], why: &str, faults: &mut Faults<'_>)
+    ensures silent { SaysNothing faults.new → SaysNothing faults.old }
+    ensures no_mark { SaysNothing faults.new → NoMark tokens.now }
+{
+    if let Some(token) = first_mark(tokens) {
+        faults.put_line_number(token.line);
+        faults.put_all(&["`", token.text.as_str(), why]);
+    }
+}
+
+/// Whether what a call of a macro holds is marked; of one that is defined only by comments.
+fn is_marked_inside(name: &str, inside: &[Token]) -> bool {
+    first_mark(inside).is_some() || (name != "macro_rules" && has_derive(inside))
+}
+
+/// Refuses a call of a macro that holds something marked, and says whether it did.
+fn refuses_call(tokens: &[Token], faults: &mut Faults<'_>) -> bool
+    ensures silent { SaysNothing faults.new → SaysNothing faults.old }
+    ensures said { SaysNothing faults.new → ¬ IsTrue result }
+{
+    if let (Some((inside, _)), [name, ..]) = (passed_over(tokens), tokens) {
+        let word = name.text.as_str();
+        if is_marked_inside(word, inside) {
+            faults.put_line_number(name.line);
+            faults.put_all(&["`", word, IN_MACRO]);
+            return true;
+        }
+    }
+    false
+}
+
+/// How many tokens are passed over where nothing is marked: one, or a call of a macro with all that it holds.
+fn passed_length(tokens: &[Token]) -> usize
+    ensures within { result ≤ length tokens.now }
+    ensures some { 0 < length tokens.now → 0 < result }
+{
+    match passed_over(tokens) {
+        Some((_, behind)) => tokens
+            .len()
+            .saturating_sub(behind.len())
+            .max(1)
+            .min(tokens.len()),
+        None => tokens.len().min(1),
+    }
+}
+
+/// Passes over what isn't marked, and answers how many tokens behind its attributes are.
+fn pass_over(head: &Head<'_>, faults: &mut Faults<'_>) -> usize
+    ensures silent { SaysNothing faults.new → SaysNothing faults.old }
+    ensures within { result ≤ length head.now.behind.now }
+    ensures some { 0 < length head.now.behind.now → 0 < result }
+    ensures no_mark { SaysNothing faults.new
+        → NoMark (head.now.attributes.now ++ take result head.now.behind.now) }
+{
+    let length = passed_length(head.behind);
+    let (passed, _) = head.behind.split_at(length);
+    refuse_almost(head, faults);
+    refuse_mark(head.attributes, ALMOST, faults);
+    if !refuses_call(head.behind, faults) {
+        refuse_mark(passed, ALMOST, faults);
+    }
+    length
+}
+
+/// Keeps a declaration, with its attributes and the words behind them, unless something is wrong with it.
+fn keep<'a>(
+    mut declaration: Declaration<'a>,
+    attributes: &'a [Token],
+    words: &'a [Token],
+    wrong: Faults<'a>,
+    found: &mut Vec<Declaration<'a>>,
+    faults: &mut Faults<'a>,
+)
+    ensures silent { SaysNothing faults.new → SaysNothing faults.old }
+    ensures wrong { SaysNothing faults.new → SaysNothing wrong.entry }
+    ensures stands { SaysNothing faults.new → NoMark words.now
+        → Accounts found.old.items found.new.items (attributes.now ++ words.now) }
+{
+    if !wrong.is_empty() {
+        faults.add(wrong);
+        return;
+    }
+    declaration.attributes = attributes;
+    declaration.words = words;
+    if found.push(declaration).is_err() {
+        faults.note(true);
+        return;
+    }
+    faults.add(wrong);
+}
+
+/// Reads what is marked, and answers how many tokens behind its attributes it takes. What is wrong hides the tokens behind it
+/// that were not read.
+fn add_declaration<'a>(
+    alloc: Global,
+    purpose: Purpose,
+    file: &'a Read,
+    head: &Head<'a>,
+    found: &mut Vec<Declaration<'a>>,
+    faults: &mut Faults<'a>,
+) -> usize
+    ensures silent { SaysNothing faults.new → SaysNothing faults.old }
+    ensures within { result ≤ length head.now.behind.now }
+    ensures stands { SaysNothing faults.new → Accounts found.old.items found.new.items
+        (head.now.attributes.now ++ take result head.now.behind.now) }
+{
+    let mut parser = Parser::new(alloc, purpose, file, head);
+    let declaration = parser.declaration(head.attributes);
+    let (left, mut wrong) = parser.finished();
+    let length = head.behind.len().saturating_sub(left.len());
+    let (words, _) = head.behind.split_at(length);
+    refuse_mark(words, IN_WORDS, &mut wrong);
+    keep(declaration, head.attributes, words, wrong, found, faults);
+    length
+}
+
+/// Reads what stands at the front of tokens: a declaration, or what is passed over. Answers the tokens behind it.
+fn read_front<'a>(
+    alloc: Global,
+    purpose: Purpose,
+    file: &'a Read,
+    tokens: &'a [Token],
+    found: &mut Vec<Declaration<'a>>,
+    faults: &mut Faults<'a>,
+) -> &'a [Token]
+    ensures silent { SaysNothing faults.new → SaysNothing faults.old }
+    ensures fewer { 0 < length tokens.now → length result.now < length tokens.now }
+    ensures stands { SaysNothing faults.new
+        → GoneOver found.old.items found.new.items tokens.now result.now }
+{
+    let head = head_of(tokens);
+    if head.is_marked() {
+        let taken = add_declaration(alloc, purpose, file, &head, found, faults);
+        let (_, rest) = head.behind.split_at(taken);
+        return rest;
+    }
+    let passed = pass_over(&head, faults);
+    let (_, rest) = head.behind.split_at(passed);
+    rest
+}
+
+/// Refuses another name of a derive of serde's, by which a type would be marked that isn't found.
+fn refuse_renamed(tokens: &[Token], faults: &mut Faults<'_>)
+    ensures { SaysNothing faults.new → SaysNothing faults.old }
+{
+    if let Some(name) = renamed_derive(tokens) {
+        faults.put_line_number(name.line);
+        faults.put_all(&["`", name.text.as_str(), RENAMES]);
+    }
+}
+
+/// Reads the declarations of a file, behind those of others.
+fn add_declarations<'a>(
+    alloc: Global,
+    purpose: Purpose,
+    file: &'a Read,
+    found: &mut Vec<Declaration<'a>>,
+    faults: &mut Faults<'a>,
+)
+    ensures silent { SaysNothing faults.new → SaysNothing faults.old }
+    ensures accounts { SaysNothing faults.new
+        → Accounts found.old.items found.new.items file.now.tokens.items }
+{
+    faults.put(file.faults.as_str());
+    faults.turn_to(file.file.as_str());
+    refuse_renamed(&file.tokens, faults);
+    let mut rest: &'a [Token] = &file.tokens;
+    while !rest.is_empty() {
+        rest = read_front(alloc, purpose, file, rest, found, faults);
+    }
+}
+
+/// Says that nothing is marked, where that is all that there is to say.
+fn refuse_nothing<'a>(files: &'a [Read], finds_none: bool, faults: &mut Faults<'a>)
+    ensures { SaysNothing faults.new → SaysNothing faults.old }
+{
+    if !finds_none || !faults.is_empty() {
+        return;
+    }
+    if let [file] = files {
+        faults.turn_to(file.file.as_str());
+    }
+    faults.put_line_number(1);
+    faults.put(NO_MESSAGES_MARKED);
+}
+
+/// The marked declarations of files, and what is wrong, a line each: in others, and that there are none.
+///
+/// Where nothing is wrong each token of the files stands in a declaration, or was skipped; and then it is no mark.
+pub fn declarations(
+    alloc: Global,
+    purpose: Purpose,
+    files: &[Read],
+) -> Result<(Vec<Declaration<'_>>, String), AllocError>
+    ensures accounted { IfOk result (λ r. string_bytes r.1 ≡ []
+        → AreDeclaredIn r.0.items (tokens_in files.now)) }
+{
+    let mut found = Vec::new(alloc);
+    let mut faults = Faults::new(alloc);
+    for file in files {
+        add_declarations(alloc, purpose, file, &mut found, &mut faults);
+    }
+    refuse_nothing(files, found.is_empty(), &mut faults);
+    let faults = faults.finished()?;
+    Ok((found, faults))
+}

@@ -1,0 +1,35 @@
+-- Which words stand for types that hold no other.
+use Rattle.std.specs.Prelude.{◌≡◌, ◌⊎◌, ℕ, List, codes}
+use Rattle.schemas.specs.declared.integer.IntegerType.{IntegerType}
+use Rattle.schemas.specs.declared.integer.IntegerType.TheVariants as types
+use Rattle.schemas.specs.declared.node.Node.{Node}
+use Rattle.schemas.specs.declared.node.Node.TheVariants as node
+
+-- the word of an integer type of 16 bits or more
+abbrev pub IsIntegerWord : IntegerType → List ℕ → Type 0
+IsIntegerWord types.U16 word = word ≡ codes "u16"
+IsIntegerWord types.U32 word = word ≡ codes "u32"
+IsIntegerWord types.U64 word = word ≡ codes "u64"
+IsIntegerWord types.U128 word = word ≡ codes "u128"
+IsIntegerWord types.I16 word = word ≡ codes "i16"
+IsIntegerWord types.I32 word = word ≡ codes "i32"
+IsIntegerWord types.I64 word = word ≡ codes "i64"
+IsIntegerWord types.I128 word = word ≡ codes "i128"
+
+-- a word of the node's type
+abbrev pub IsWordOf : Node → List ℕ → Type 0
+IsWordOf node.Bool word = word ≡ codes "bool"
+IsWordOf node.U8 word = word ≡ codes "u8"
+IsWordOf node.I8 word = word ≡ codes "i8"
+IsWordOf node.U16 word = word ≡ codes "u16"
+IsWordOf node.U32 word = word ≡ codes "u32"
+IsWordOf node.U64 word = (word ≡ codes "u64") ⊎ (word ≡ codes "usize")
+IsWordOf node.U128 word = word ≡ codes "u128"
+IsWordOf node.I16 word = word ≡ codes "i16"
+IsWordOf node.I32 word = word ≡ codes "i32"
+IsWordOf node.I64 word = (word ≡ codes "i64") ⊎ (word ≡ codes "isize")
+IsWordOf node.I128 word = word ≡ codes "i128"
+IsWordOf node.Char word = word ≡ codes "char"
+IsWordOf node.Text word = (word ≡ codes "str") ⊎ (word ≡ codes "String")
+IsWordOf node.Bytes word = word ≡ codes "ByteBuf"
+IsWordOf _ word = ⊥

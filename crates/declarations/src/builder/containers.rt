@@ -1,0 +1,222 @@
+//! The places of types that hold others in brackets.
+use super::Builder;
+use super::known::{integer_type, list_node};
+use crate::Names;
+use declaration_parser::tokens::is_lifetime;
+use schemas::Node;
+use std::alloc::Global;
+
+impl<'a> Builder<'a, '_> {
+    /// Behind `Cow`: what is lent or owned.
+    #[cycle(types)]
+    pub(super) fn lent(&mut self, depth: u32) -> usize {
+        self.owe("<");
+        self.lifetime();
+        self.owe(",");
+        let place = self.place(depth);
+        self.owe(">");
+        place
+    }
+
+    /// Behind `PhantomData`, whose type isn't sent.
+    #[cycle(types)]
+    pub(super) fn phantom(&mut self, depth: u32) -> usize {
+        self.inner(depth);
+        self.add(Node::Struct(Vec::new(self.alloc)), Names::Unit)
+    }
+
+    /// Behind `&`: takes a lifetime, if there is one.
+    pub(super) fn lifetime(&mut self) {
+        if is_lifetime(self.peek()) {
+            self.step();
+        }
+    }
+
+    /// The one type in angle brackets.
+    #[cycle(types)]
+    pub(super) fn inner(&mut self, depth: u32) -> usize {
+        self.owe("<");
+        let place = self.place(depth);
+        self.owe(">");
+        place
+    }
+
+    /// The two types in angle brackets.
+    #[cycle(types)]
+    fn pair(&mut self, depth: u32) -> (usize, usize) {
+        self.owe("<");
+        let first = self.place(depth);
+        self.owe(",");
+        let second = self.place(depth);
+        self.owe(">");
+        (first, second)
+    }
+
+    /// Behind `Option`.
+    #[cycle(types)]
+    pub(super) fn option(&mut self, depth: u32) -> usize {
+        let inner = self.inner(depth);
+        self.add(Node::Option(inner), Names::Nothing)
+    }
+
+    /// Behind `Vec`. Of bytes it is a buffer; with a length behind the type a list of at most so many.
+    #[cycle(types)]
+    pub(super) fn list(&mut self, depth: u32) -> usize {
+        self.owe("<");
+        let is_byte = self.peek() == "u8";
+        let element = self.place(depth);
+        if self.take(",") {
+            let most = self.length();
+            self.skip_hasher();
+            self.owe(">");
+            return self.add(Node::ListUpTo(most, element), Names::Nothing);
+        }
+        self.owe(">");
+        self.add(list_node(is_byte, element), Names::Nothing)
+    }
+
+    /// Behind `HashSet`.
+    #[cycle(types)]
+    pub(super) fn hashed(&mut self, depth: u32) -> usize {
+        self.owe("<");
+        let element = self.place(depth);
+        self.skip_hasher();
+        self.owe(">");
+        self.add(Node::List(element), Names::Nothing)
+    }
+
+    /// Takes the type that makes hashes or counts the elements, if there is one, which isn't sent.
+    fn skip_hasher(&mut self) {
+        if self.peek() != "," {
+            return;
+        }
+        let mut open: usize = 0;
+        for _ in 0..self.rest.len() {
+            let word = self.peek();
+            if word == ">" && open == 0 {
+                break;
+            }
+            if word == "<" {
+                open = open.saturating_add(1);
+            } else if word == ">" {
+                open = open.saturating_sub(1);
+            }
+            self.step();
+        }
+    }
+
+    /// Behind `ArrayVec`: a list of a type, and its greatest length.
+    #[cycle(types)]
+    pub(super) fn list_up_to(&mut self, depth: u32) -> usize {
+        self.owe("<");
+        let element = self.place(depth);
+        self.owe(",");
+        let most = self.length();
+        self.skip_hasher();
+        self.owe(">");
+        self.add(Node::ListUpTo(most, element), Names::Nothing)
+    }
+
+    /// Behind `ArrayString`: the greatest length of a text.
+    pub(super) fn text_up_to(&mut self) -> usize {
+        self.owe("<");
+        let most = self.length();
+        self.skip_hasher();
+        self.owe(">");
+        self.add(Node::TextUpTo(most), Names::Nothing)
+    }
+
+    /// Behind `LE` or `BE`: an integer whose bytes stand in this order.
+    pub(super) fn ordered(&mut self, order: &str) -> usize {
+        self.owe("<");
+        let word = self.step();
+        self.owe(">");
+        match integer_type(word) {
+            Some(of) if order == "LE" => self.add(Node::LE(of), Names::Nothing),
+            Some(of) => self.add(Node::BE(of), Names::Nothing),
+            None => self.wrong(&[
+                "`",
+                word,
+                "` isn't an integer of 16 to 128 bits: write one, or its bytes as an array",
+            ]),
+        }
+    }
+
+    /// Behind `[`: an array, or what is lent as a slice.
+    #[cycle(types)]
+    pub(super) fn array(&mut self, depth: u32) -> usize {
+        let is_byte = self.peek() == "u8";
+        let element = self.place(depth);
+        if self.take("]") {
+            return self.add(list_node(is_byte, element), Names::Nothing);
+        }
+        self.owe(";");
+        let count = self.length();
+        self.owe("]");
+        self.add(Node::Array(count, element), Names::Nothing)
+    }
+
+    /// Behind `(`: a tuple, or a type in parentheses.
+    #[cycle(types)]
+    pub(super) fn tuple(&mut self, depth: u32) -> usize {
+        let mut places = Vec::new(self.alloc);
+        let mut ends_in_comma = true;
+        for _ in 0..self.rest.len() {
+            if self.peek() == ")" {
+                break;
+            }
+            let place = self.place(depth);
+            self.keep(&mut places, place);
+            ends_in_comma = self.take(",");
+            if !ends_in_comma {
+                break;
+            }
+        }
+        self.owe(")");
+        match places.as_slice() {
+            [] => self.add(Node::Struct(places), Names::Unit),
+            [only] if !ends_in_comma => *only,
+            _ => self.add(Node::Struct(places), Names::Tuple),
+        }
+    }
+
+    /// Behind `Result`: an enum of its value and its error.
+    #[cycle(types)]
+    pub(super) fn outcome(&mut self, depth: u32) -> usize {
+        let (value, error) = self.pair(depth);
+        let payloads = self.both(value, error);
+        let names = self.owned(&["Ok", "Err"]);
+        self.add(Node::Enum(payloads), Names::Variants(names))
+    }
+
+    /// Behind `BTreeMap` or `HashMap`: a list of pairs.
+    #[cycle(types)]
+    pub(super) fn map(&mut self, depth: u32) -> usize {
+        self.owe("<");
+        let pair = self.key_and_value(depth);
+        self.skip_hasher();
+        self.owe(">");
+        self.add(Node::List(pair), Names::Map)
+    }
+
+    /// Behind a map of heapless's: at most so many pairs.
+    #[cycle(types)]
+    pub(super) fn map_up_to(&mut self, depth: u32) -> usize {
+        self.owe("<");
+        let pair = self.key_and_value(depth);
+        self.owe(",");
+        let most = self.length();
+        self.owe(">");
+        self.add(Node::ListUpTo(most, pair), Names::Map)
+    }
+
+    /// The place of a pair of two types.
+    #[cycle(types)]
+    fn key_and_value(&mut self, depth: u32) -> usize {
+        let key = self.place(depth);
+        self.owe(",");
+        let value = self.place(depth);
+        let fields = self.both(key, value);
+        self.add(Node::Struct(fields), Names::Tuple)
+    }
+}

@@ -1,0 +1,316 @@
+//! The places of types, by their words.
+use super::known::{KNOWN_CRATES, PRIMITIVE, plain_node};
+use super::naming::Found;
+use super::{Bound, Builder, Given, Made};
+use crate::Names;
+use declaration_parser::attributes::last_word;
+use declaration_parser::declaration::Declaration;
+use declaration_parser::tokens::{Token, is_among, is_lifetime};
+use schemas::{IntegerType, Node};
+
+/// How many nodes a table has at most, which parameters could make many.
+const MOST_NODES: usize = 100_000;
+
+/// Whether parameters stand for the same.
+fn is_same(first: &[Bound<'_>], second: &[Bound<'_>]) -> bool {
+    if first.len() != second.len() {
+        return false;
+    }
+    for (one, other) in first.iter().zip(second) {
+        if one.given != other.given {
+            return false;
+        }
+    }
+    true
+}
+
+impl<'a> Builder<'a, '_> {
+    /// The place of the type at the front of the words, which are taken. It may nest in so many words.
+    #[cycle(types)]
+    pub(super) fn place(&mut self, depth: u32) -> usize {
+        if self.is_wrong {
+            return 0;
+        }
+        if depth == 0 {
+            return self.wrong(&[
+                "types nest more than 64 deep, or hold themselves by aliases: declare a type for a part",
+            ]);
+        }
+        if self.nodes.len() > MOST_NODES {
+            return self.wrong(&[
+                "the types have more than 100000 parts: read them from fewer files",
+            ]);
+        }
+        let word = self.step();
+        match word {
+            "&" => {
+                self.lifetime();
+                self.take("mut");
+                self.place(depth - 1)
+            }
+            "(" => self.tuple(depth - 1),
+            "[" => self.array(depth - 1),
+            "<" => self.wrong(&["`<..>::` isn't followed here: write the type that it stands for"]),
+            _ => self.worded(word, depth - 1),
+        }
+    }
+
+    /// The place of a type that begins with this word.
+    #[cycle(types)]
+    fn worded(&mut self, word: &'a str, depth: u32) -> usize {
+        if word == ":" || self.peek() == ":" {
+            return self.path(word, depth);
+        }
+        self.named(word, depth)
+    }
+
+    /// The place of a type by a path that begins with this word.
+    #[cycle(types)]
+    fn path(&mut self, word: &'a str, depth: u32) -> usize {
+        let root = if word == ":" {
+            self.owe(":");
+            self.step()
+        } else {
+            word
+        };
+        let path = self.segments();
+        let last = last_word(path);
+        if is_among(root, KNOWN_CRATES) {
+            return self.known(last, depth);
+        }
+        if (root == "self" && path.len() == 3) || self.is_own_module(root, path) {
+            return self.named(last, depth);
+        }
+        match self.found_in_others(last) {
+            Some(found) if self.files.len() > 1 => self.resolved(found, last, depth),
+            _ => self.refuse_path(root, last),
+        }
+    }
+
+    /// Takes what a path has behind its first word.
+    fn segments(&mut self) -> &'a [Token] {
+        let begun = self.rest;
+        for _ in 0..begun.len() {
+            if !self.take(":") {
+                break;
+            }
+            self.owe(":");
+            self.step();
+        }
+        let length = begun.len().saturating_sub(self.rest.len());
+        begun.get(..length).unwrap_or(&[])
+    }
+
+    /// The place of a type by its name: a parameter, one that the file declares, or one that is known.
+    #[cycle(types)]
+    fn named(&mut self, word: &'a str, depth: u32) -> usize {
+        if let Some(Given::Type(place)) = self.given(word) {
+            return place;
+        }
+        if is_among(word, PRIMITIVE) {
+            return self.known(word, depth);
+        }
+        let found = self.found(word);
+        self.resolved(found, word, depth)
+    }
+
+    /// The place of what a name stands for.
+    #[cycle(types)]
+    fn resolved(&mut self, found: Found<'a>, word: &'a str, depth: u32) -> usize {
+        match found {
+            Found::Declared(place) => {
+                self.lifetimes();
+                place
+            }
+            Found::Generic(index) => self.instance(index, depth),
+            Found::Alias(words, file) => {
+                self.lifetimes();
+                self.alias(words, file, depth)
+            }
+            Found::Known(name) => self.known(name, depth),
+            Found::Wrong(why) => self.refuse(word, why),
+        }
+    }
+
+    /// Behind a declared type: takes its lifetimes, if it has any.
+    fn lifetimes(&mut self) {
+        if self.peek() != "<" {
+            return;
+        }
+        self.step();
+        for _ in 0..self.rest.len() {
+            let word = self.step();
+            if word == ">" {
+                return;
+            }
+            if word != "," && !is_lifetime(word) {
+                self.wrong(&[
+                    "`",
+                    word,
+                    "` can't stand here, where lifetimes alone do: leave it out",
+                ]);
+            }
+        }
+    }
+
+    /// The place of the type that these words of a file say, which are an alias.
+    #[cycle(types)]
+    fn alias(&mut self, words: &'a [Token], file: usize, depth: u32) -> usize {
+        let (scope, before) = (self.scope, self.file);
+        self.scope = self.bound.len();
+        self.turn_to(file);
+        let place = self.whole(words, depth);
+        self.turn_to(before);
+        self.scope = scope;
+        place
+    }
+
+    /// What stands in angle brackets for the parameters of a type.
+    #[cycle(types)]
+    fn arguments(
+        &mut self,
+        parameters: &[&'a str],
+        lengths: &[&'a str],
+        depth: u32,
+    ) -> Vec<Bound<'a>> {
+        let mut given = Vec::new(self.alloc);
+        self.owe("<");
+        for name in parameters {
+            if is_lifetime(name) {
+                if is_lifetime(self.peek()) {
+                    self.step();
+                    self.take(",");
+                }
+            } else if self.peek() == ">" {
+                self.wrong(&[
+                    "`",
+                    name,
+                    "` is left out, and defaults aren't followed: write it",
+                ]);
+            } else {
+                let it = if is_among(name, lengths) {
+                    Given::Length(self.length())
+                } else {
+                    Given::Type(self.place(depth))
+                };
+                if self.peek() != ">" {
+                    self.owe(",");
+                }
+                let failed = given.push(Bound { name, given: it }).is_err();
+                self.faults.note(failed);
+            }
+        }
+        self.owe(">");
+        given
+    }
+
+    /// The place of a type that was made of the same.
+    fn made_before(&self, index: usize, of: &[Bound<'a>]) -> Option<usize> {
+        for it in &self.instances {
+            if it.index == index && is_same(&it.of, of) {
+                return Some(it.place);
+            }
+        }
+        None
+    }
+
+    /// The place of a type with parameters, of what stands in angle brackets behind it.
+    #[cycle(types)]
+    fn instance(&mut self, index: usize, depth: u32) -> usize {
+        let generic = self.generic;
+        let Some(it) = generic.get(index) else {
+            return 0;
+        };
+        let of = self.arguments(&it.parameters, &it.lengths, depth);
+        if self.is_wrong {
+            return 0;
+        }
+        if let Some(place) = self.made_before(index, &of) {
+            return place;
+        }
+        self.made(index, it, of, depth)
+    }
+
+    /// The place of a type that is made of what stands for its parameters.
+    #[cycle(types)]
+    fn made(
+        &mut self,
+        index: usize,
+        it: &Declaration<'a>,
+        of: Vec<Bound<'a>>,
+        depth: u32,
+    ) -> usize {
+        let place = self.add(Node::Bool, Names::Nothing);
+        let (at, scope, file) = (self.at, self.scope, self.file);
+        self.scope = self.bound.len();
+        for bound in &of {
+            let failed = self.bound.push(*bound).is_err();
+            self.faults.note(failed);
+        }
+        let failed = self.instances.push(Made { index, of, place }).is_err();
+        self.faults.note(failed);
+        let entry = self.declaration(it, depth);
+        self.put(place, entry);
+        self.bound.truncate(self.scope);
+        self.at = at;
+        self.scope = scope;
+        self.turn_to(file);
+        place
+    }
+
+    /// The place of a known type by its name.
+    #[cycle(types)]
+    fn known(&mut self, word: &'a str, depth: u32) -> usize {
+        match word {
+            "String" if self.peek() == "<" => return self.text_up_to(),
+            "Box"
+            | "Rc"
+            | "Arc"
+            | "Cell"
+            | "RefCell"
+            | "Mutex"
+            | "RwLock"
+            | "Wrapping"
+            | "Saturating"
+            | "Reverse" => return self.inner(depth),
+            "Cow" => return self.lent(depth),
+            "Option" => return self.option(depth),
+            "HashSet" => return self.hashed(depth),
+            "Vec" | "BTreeSet" | "VecDeque" => return self.list(depth),
+            "ArrayVec" | "Deque" | "FnvIndexSet" => return self.list_up_to(depth),
+            "Result" => return self.outcome(depth),
+            "BTreeMap" | "HashMap" => return self.map(depth),
+            "FnvIndexMap" | "LinearMap" => return self.map_up_to(depth),
+            "ArrayString" => return self.text_up_to(),
+            "LE" | "BE" => return self.ordered(word),
+            "PhantomData" => return self.phantom(depth),
+            "f32" => return self.add(Node::LE(IntegerType::U32), Names::Float),
+            "f64" => return self.add(Node::LE(IntegerType::U64), Names::Float),
+            _ => {}
+        }
+        match plain_node(word) {
+            Some(node) => self.add(node, Names::Nothing),
+            None => self.unknown(word),
+        }
+    }
+
+    /// The place of the type that these words say, and nothing behind it.
+    #[cycle(types)]
+    pub(super) fn whole(&mut self, words: &'a [Token], depth: u32) -> usize {
+        let (rest, line) = (self.rest, self.line);
+        self.rest = words;
+        let mut place = self.place(depth);
+        if let [next, ..] = self.rest {
+            place = self.wrong(&[
+                "`",
+                next.text.as_str(),
+                "` can't stand behind a type: write a known type, or one that is declared and marked",
+            ]);
+        }
+        if !self.is_wrong {
+            self.rest = rest;
+        }
+        self.line = line;
+        place
+    }
+}

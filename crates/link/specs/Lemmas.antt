@@ -1,0 +1,19 @@
+-- What serves the proofs of several crates, and no contract cites.
+pub mod AnswerLaws
+pub mod CourseLaws
+pub mod FeedLaws
+pub mod HeardLaws
+pub mod JoinLaws
+pub mod MaskLaws
+pub mod StretchLaws
+pub mod TurnLaws
+pub mod RunLaws
+pub mod SpanLaws
+pub mod RoadLaws
+pub mod Lengths
+pub mod Losses
+pub mod Givens
+pub mod Facts
+pub mod OneAnswers
+pub mod Stepwise
+pub mod Pieces

@@ -1,0 +1,16 @@
+//! What the program says of itself.
+use crate::USAGE;
+use help::About;
+
+/// What it answers to `--help` and `--version`.
+pub const ABOUT: About = About {
+    name: "postcard_derive",
+    text: "writes how message types are sent and read
+
+Reads declarations of Rust or Rattle on standard input, and writes the implementations for those that
+are marked by a line `// message` or a derive. CRATE and MODULE say where the declarations stand;
+with --schemas the types have schemas too. Status: 0 where they are written, 1 where a declaration
+can't be, 2 at wrong words.
+",
+    usage: USAGE,
+};

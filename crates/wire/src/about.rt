@@ -1,0 +1,19 @@
+//! What the program says of itself.
+use crate::USAGE;
+use help::About;
+
+/// What it answers to `--help` and `--version`.
+pub const ABOUT: About = About {
+    name: "wire",
+    text: "a device's messages as lines of JSON, by their declarations in Rust
+
+  read    makes a line of each frame on standard input
+  write   makes a frame of each line of JSON on standard input
+  check   lists the types with their greatest sizes
+
+FILES is a file, several with commas between them, or a folder. Status: 0 where all were messages, 1
+at damage or a line that isn't of the type, 2 at wrong words or declarations, 3 where a device or a
+file failed, 4 out of memory.
+",
+    usage: USAGE,
+};
