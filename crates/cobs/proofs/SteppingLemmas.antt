@@ -1,6 +1,6 @@
 -- How bytes are copied into the open block and coded, at most 64 at a time.
 use Rattle.std.proofs.Common.{◌≡◌, ℕ, suc, ◌+◌, ◌<◌, ◌≤◌, List, [], ◌∷◌, ◌++◌, length, take, drop, get_or, refl, ap, sym, ◌∙◌, arith, append_assoc, length-append}
-use Rattle.std.proofs.lemmas.List.{append-nil, take_at}
+use Rattle.std.proofs.lemmas.List.{append-nil, take_at, take-append-drop}
 use Rattle.cobs.specs.Frames.{shortest_frame}
 use Rattle.cobs.specs.Held.{Laid, GoesOnFromBlock, last_run}
 use Rattle.cobs.specs.Codes.{Coding, Coded, Open, Stepped}
@@ -92,3 +92,29 @@ stepped_clear s dest copied piece code_at at some begins short room c clear =
       later = omega arith;
       coding = λ m more h. all_at (masked s copied) code_at at (at + length piece) m piece more clear refl h;
     })
+
+-- bytes behind the open run are anything
+open_again : (bytes new : List ℕ) (code_at at : ℕ) (m : List ℕ) → take at new ≡ take at bytes → Open bytes code_at at m → Open new code_at at m
+open_again bytes new code_at at m e o =
+    let front : List ℕ = o.closed ++ (o.code ∷ o.run) in
+    let long : length front ≡ at = length-append o.closed (o.code ∷ o.run) ∙ sym o.ends in
+    let split : bytes ≡ front ++ o.tail = o.spells ∙ sym (append_assoc o.closed (o.code ∷ o.run) o.tail) in
+    record {
+      closed = o.closed;
+      code = o.code;
+      run = o.run;
+      tail = drop at new;
+      spells = sym (take-append-drop at new) ∙ ap (λ x. x ++ drop at new) (e ∙ ap (take at) split ∙ take_at front o.tail at long) ∙ append_assoc o.closed (o.code ∷ o.run) (drop at new);
+      begins = o.begins;
+      ends = o.ends;
+      short = o.short;
+      goes_on = o.goes_on;
+    }
+
+-- they may have been written before
+pub stepped_again : (sentinel : ℕ) (dest again buffer piece : List ℕ) (code_at at last : ℕ) → take at again ≡ take at dest → Stepped (masked sentinel again) code_at at piece buffer last → Stepped (masked sentinel dest) code_at at piece buffer last
+stepped_again s dest again buffer piece code_at at last e step = record {
+  begins = step.begins;
+  later = step.later;
+  coding = λ m o. step.coding m (open_again (masked s dest) (masked s again) code_at at m (masked_take s at again ∙ ap (masked s) e ∙ sym (masked_take s at dest)) o);
+}

@@ -1,6 +1,6 @@
 -- Bytes that are written over a buffer one behind the other, and over one another.
 use Rattle.std.proofs.Common.{◌≡◌, ℕ, ◌+◌, ◌-◌, ◌<◌, ◌≤◌, List, ◌++◌, length, take, drop, set, get_or, ap, sym, ◌∙◌, arith, append_assoc, length-append, length-drop}
-use Rattle.std.proofs.lemmas.List.{take-append-le, take-append-drop, take_all, take-take, drop-take, length-take-le, drop-drop, drop_more}
+use Rattle.std.proofs.lemmas.List.{take-append-le, take-append-drop, take_all, take_at, take-take, drop-take, length-take-le, drop-drop, drop_more}
 use Rattle.std.proofs.Math.Seq.{take-append-add, drop-append-add}
 use Rattle.std.specs.Prelude.{bit_xor}
 use Rattle.cobs.specs.InPlace.{written_over}
@@ -103,3 +103,24 @@ moved_byte s from place moved at here old new e d r k a h =
     one_written new at (bit_xor s (get_or new here 0)) (omega (arith, k, a, d, r))
     ∙ ap (λ b. written_over at (masked s b) new) (ap (take 1) (sym (drop_more new here 0 (omega (arith, h, k, r)))))
     ∙ moved_on s from place moved 1 at here old new e d (omega (arith, r)) a h
+
+-- the next of some bytes that are copied part by part; they may begin among those before them
+pub written_next : (sentinel place j k n at : ℕ) (m part old new : List ℕ) → new ≡ written_over place (masked sentinel (take j m)) old → part ≡ take n (drop k m) → k ≤ j → j ≤ k + n → k + n ≤ length m → place + length m ≤ length old → at ≡ place + k
+    → written_over at (masked sentinel part) new ≡ written_over place (masked sentinel (take (k + n) m)) old
+written_next s place j k n at m part old new e p l r q room a =
+    let first = masked s (take j m) in
+    let next = masked s (take n (drop k m)) in
+    let fl : length first ≡ j = masked_length s (take j m) ∙ length-take-le j m (omega (arith, r, q)) in
+    let nl : length next ≡ n = masked_length s (take n (drop k m)) ∙ length-take-le n (drop k m) (omega (arith, length-drop k m, q)) in
+    ap (λ x. written_over at (masked s x) new) p
+    ∙ ap (written_over at next) e
+    ∙ written_twice place k at first next old (omega (arith, fl, l)) (omega (arith, fl, nl, r)) (omega (arith, nl, q, room)) a
+    ∙ ap (λ x. written_over place x old) (
+    ap (λ x. x ++ next) (masked_take s k (take j m) ∙ ap (masked s) (take-take k j m l))
+    ∙ sym (masked_append s (take k m) (take n (drop k m)))
+    ∙ ap (masked s) (ap (λ i. take k m ++ take i (drop k m)) (omega arith) ∙ front_then k (k + n) m (omega arith))
+    )
+
+-- what is in front of them is as it was
+pub written_front : (place : ℕ) (bytes old : List ℕ) → place ≤ length old → take place (written_over place bytes old) ≡ take place old
+written_front place bytes old l = take_at (take place old) (bytes ++ drop (place + length bytes) old) place (length-take-le place old l)

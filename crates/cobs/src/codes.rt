@@ -6,11 +6,10 @@
 ghost use Rattle.std.specs.Prelude.{◌≡◌, ◌≢◌, ℕ, ◌+◌, ◌<◌, ◌≤◌, List, length, take, drop, slice_index, true};
 ghost use Rattle.std.specs.Int.{bit_at};
 ghost use Rattle.cobs.specs.Codes.{InBlock, Coded, Marks, Stepped};
+ghost use Rattle.cobs.specs.InPlace.{written_over};
 ghost use Rattle.cobs.specs.Sentinel.{masked};
 
-use crate::moves::{
-    copy_64, copy_block, copy_few, is_clear, least_of_64, lesser, zeros_of, zeros_of_few,
-};
+use crate::moves::{copy_64, copy_clear, copy_few, is_clear, ones_64, zeros_of, zeros_of_few};
 use std::simd::prelude::*;
 
 // Writes a code at each zero of bytes that stand in the open block, from a place on, and answers where the last code is to be.
@@ -107,6 +106,26 @@ fn put_codes_of_zeros(
     end - 1
 }
 
+// The same of 64.
+#[inline(always)]
+fn put_codes_of_64_zeros(
+    dest: &mut [u8],
+    code_at: usize,
+    from: usize,
+    bytes: &[u8],
+    sentinel: u8,
+) -> usize
+    requires block { InBlock dest.old code_at from bytes.now }
+    requires long { length bytes.now ≡ 64 }
+    requires zeros { (k : ℕ) → k < length bytes.now → slice_index bytes.now k ≡ 0 }
+    ensures { Coded (masked sentinel dest.old) code_at from bytes.now
+        (masked sentinel dest.new) result }
+{
+    dest[code_at] = sentinel ^ (from - code_at) as u8;
+    ones_64(dest, from, sentinel);
+    from + 63
+}
+
 // The same as `put_codes_near`, of 64 bytes.
 #[inline(always)]
 fn put_codes_of_64(
@@ -124,7 +143,7 @@ fn put_codes_of_64(
 {
     let marks = zeros_of_64(bytes);
     if marks == u64::MAX {
-        put_codes_of_zeros(dest, code_at, from, bytes, sentinel)
+        put_codes_of_64_zeros(dest, code_at, from, bytes, sentinel)
     } else {
         put_codes_marked(dest, code_at, from, bytes.len(), marks, sentinel)
     }
@@ -245,27 +264,24 @@ fn put_bytes(dest: &mut [u8], code_at: usize, from: usize, bytes: &[u8], sentine
     put_short(dest, code, at, rest, sentinel)
 }
 
-// Whether the bytes are as many as a full block has, and none of them is zero.
+// Copies bytes over the buffer, from a place on, where they are as many as a full block has. Answers whether it did so, and none of
+// them is zero.
 #[inline(always)]
-fn is_full_block(bytes: &[u8]) -> bool
-    ensures { result ≡ true → (k : ℕ) → k < length bytes.now → 0 < slice_index bytes.now k }
+fn put_full_block(dest: &mut [u8], from: usize, bytes: &[u8], sentinel: u8) -> bool
+    requires room { from + length bytes.now ≤ length dest.old }
+    ensures front { take from dest.new ≡ take from dest.old }
+    ensures long { length dest.new ≡ length dest.old }
+    ensures copied { result ≡ true
+        → dest.new ≡ written_over from (masked sentinel bytes.now) dest.old }
+    ensures clear { result ≡ true → (k : ℕ) → k < length bytes.now → 0 < slice_index bytes.now k }
 {
     if bytes.len() != 254 {
         return false;
     }
-    let first = lesser(
-        least_of_64(&bytes[..64], 0),
-        least_of_64(&bytes[63..127], 0),
-    );
-    let second = lesser(
-        least_of_64(&bytes[127..191], 0),
-        least_of_64(&bytes[190..254], 0),
-    );
-    let least = lesser(first, second);
-    least.simd_eq(u8x16::splat(0)).to_bitmask() == 0
+    copy_clear(bytes, dest, from, sentinel)
 }
 
-// The same as `put_bytes`, of the bytes of a block: those of a full one are copied at once.
+// The same as `put_bytes`, of the bytes of a block: those of a full one are copied as they are looked at.
 #[inline(always)]
 pub(crate) fn put_block(
     dest: &mut [u8],
@@ -279,8 +295,7 @@ pub(crate) fn put_block(
     ensures { Stepped (masked sentinel dest.old) code_at from bytes.now
         (masked sentinel dest.new) result }
 {
-    if is_full_block(bytes) {
-        copy_block(bytes, dest, from, sentinel);
+    if put_full_block(dest, from, bytes, sentinel) {
         code_at
     } else {
         put_bytes(dest, code_at, from, bytes, sentinel)

@@ -108,6 +108,15 @@ pub(crate) fn zero_over(buffer: &mut [u8], place: usize, n: usize)
     zero_64(buffer, place + (n - 64));
 }
 
+// Puts 64 codes 01 over a buffer, from a place on, each XORed with the sentinel.
+#[inline(always)]
+pub(crate) fn ones_64(buffer: &mut [u8], place: usize, sentinel: u8)
+    requires { place + 64 ≤ length buffer.old }
+    ensures { buffer.new ≡ written_over place (masked sentinel (replicate 64 1)) buffer.old }
+{
+    store::<64>(Simd::<u8, 64>::splat(1), buffer, place, sentinel);
+}
+
 // Copies any number of bytes over a buffer, from a place on.
 #[inline(always)]
 pub(crate) fn copy_over(bytes: &[u8], buffer: &mut [u8], place: usize, sentinel: u8)
@@ -196,6 +205,52 @@ pub(crate) fn least_of_64(bytes: &[u8], sentinel: u8) -> u8x16
         load_masked(bytes, 48, sentinel),
     );
     lesser(first, second)
+}
+
+// Copies 64 bytes over a buffer, from a place on, each XORed with the sentinel. Answers the least of them, as they were, in each of
+// the 16 places of a vector.
+#[inline(always)]
+fn copy_least(bytes: &[u8], buffer: &mut [u8], place: usize, sentinel: u8) -> u8x16
+    requires count { length bytes.now ≡ 64 }
+    requires room { place + 64 ≤ length buffer.old }
+    ensures copied { buffer.new ≡ written_over place (masked sentinel bytes.now) buffer.old }
+    ensures long { length result ≡ 16 }
+    ensures lanes { (j : ℕ) → j < 16
+        → (slice_index result j ≤ slice_index (take 16 (drop 0 bytes.now)) j)
+        × (slice_index result j ≤ slice_index (take 16 (drop 16 bytes.now)) j)
+        × (slice_index result j ≤ slice_index (take 16 (drop 32 bytes.now)) j)
+        × (slice_index result j ≤ slice_index (take 16 (drop 48 bytes.now)) j) }
+{
+    let a = load::<16>(bytes, 0);
+    let b = load::<16>(bytes, 16);
+    let c = load::<16>(bytes, 32);
+    let d = load::<16>(bytes, 48);
+    store::<16>(a, buffer, place, sentinel);
+    store::<16>(b, buffer, place + 16, sentinel);
+    store::<16>(c, buffer, place + 32, sentinel);
+    store::<16>(d, buffer, place + 48, sentinel);
+    let first = lesser(a, b);
+    let second = lesser(c, d);
+    lesser(first, second)
+}
+
+// Copies the bytes of a full block over a buffer, from a place on, each XORed with the sentinel. Answers whether none of them is
+// zero; it is only told where that is seen at once.
+#[inline(always)]
+pub(crate) fn copy_clear(bytes: &[u8], buffer: &mut [u8], place: usize, sentinel: u8) -> bool
+    requires count { length bytes.now ≡ 254 }
+    requires room { place + 254 ≤ length buffer.old }
+    ensures copied { buffer.new ≡ written_over place (masked sentinel bytes.now) buffer.old }
+    ensures clear { result ≡ true → (k : ℕ) → k < 254 → 0 < slice_index bytes.now k }
+{
+    let first = copy_least(&bytes[..64], buffer, place, sentinel);
+    let second = copy_least(&bytes[64..128], buffer, place + 64, sentinel);
+    let third = copy_least(&bytes[128..192], buffer, place + 128, sentinel);
+    let fourth = copy_least(&bytes[190..254], buffer, place + 190, sentinel);
+    let front = lesser(first, second);
+    let back = lesser(third, fourth);
+    let least = lesser(front, back);
+    least.simd_eq(u8x16::splat(0)).to_bitmask() == 0
 }
 
 // Whether none of 255 bytes, a code and as many as a full block has, is the sentinel; it is only told where that is seen at once.

@@ -55,6 +55,19 @@ pub(crate) fn put_few(dest: &mut [u8], at: Place, piece: &[u8], sentinel: u8) ->
     Place { code_at, len: end }
 }
 
+// The same of a first piece, which opens the frame: compiled by itself, since its places are known.
+#[inline(never)]
+pub(crate) fn put_first(dest: &mut [u8], piece: &[u8], sentinel: u8) -> Place
+    requires laid { Laid (masked sentinel dest.old) 0 1 }
+    requires room { length piece.now < length dest.old }
+    requires short { length piece.now ≤ 254 }
+    requires some { 0 < length piece.now }
+    ensures holds { GoesOnBy (masked sentinel dest.old) 0 1 piece.now
+        (masked sentinel dest.new) result.code_at result.len }
+{
+    put_run(dest, Place { code_at: 0, len: 1 }, piece, sentinel)
+}
+
 // Puts a front of the bytes behind the frame, as far as the last block goes, and answers how many. A full block is closed only
 // here, by the byte behind it, so that the buffer always begins with the shortest frame.
 fn put_front(dest: &mut [u8], at: Place, bytes: &[u8], sentinel: u8) -> Option<(Place, usize)>
@@ -88,9 +101,15 @@ fn put_front(dest: &mut [u8], at: Place, bytes: &[u8], sentinel: u8) -> Option<(
     }
 }
 
-// Puts bytes behind the frame, block by block, and moves the place; false where there isn't room for them all.
+// Puts bytes behind the frame, block by block, and moves the place; false where there isn't room for them all. It is compiled once
+// for each number: one copy is for the sentinel zero alone, where no byte is XORed.
 #[inline(never)]
-fn put_blocks(dest: &mut [u8], at: &mut Place, bytes: &[u8], sentinel: u8) -> bool
+fn put_blocks<const COPY: usize>(
+    dest: &mut [u8],
+    at: &mut Place,
+    bytes: &[u8],
+    sentinel: u8,
+) -> bool
     requires { HoldsFrame (masked sentinel dest.old) at.old.code_at at.old.len }
     ensures holds { IsTrue result
         → HoldsFrame (masked sentinel dest.new) at.new.code_at at.new.len }
@@ -112,7 +131,25 @@ fn put_blocks(dest: &mut [u8], at: &mut Place, bytes: &[u8], sentinel: u8) -> bo
     true
 }
 
-// Puts bytes behind the frame, if there is room for them all. A few bytes that go into the open block take no call.
+// The same by the copy for the sentinel.
+#[inline(always)]
+fn put_blocks_for(dest: &mut [u8], at: &mut Place, bytes: &[u8], sentinel: u8) -> bool
+    requires { HoldsFrame (masked sentinel dest.old) at.old.code_at at.old.len }
+    ensures holds { IsTrue result
+        → HoldsFrame (masked sentinel dest.new) at.new.code_at at.new.len }
+    ensures pushed { IsTrue result → pushed (masked sentinel dest.new) at.new.len
+        ≡ pushed (masked sentinel dest.old) at.old.len ++ bytes.now }
+    ensures none { result ≡ false → length dest.old
+        < length (shortest_frame (pushed (masked sentinel dest.old) at.old.len ++ bytes.now)) }
+{
+    if sentinel == 0 {
+        return put_blocks::<0>(dest, at, bytes, 0);
+    }
+    put_blocks::<1>(dest, at, bytes, sentinel)
+}
+
+// Puts bytes behind the frame, if there is room for them all. A few bytes that go into the open block take no call, and a first
+// piece of one block takes a short one.
 #[inline(always)]
 pub(crate) fn put_all(dest: &mut [u8], at: Place, bytes: &[u8], sentinel: u8) -> Option<Place>
     requires { HoldsFrame (masked sentinel dest.old) at.code_at at.len }
@@ -133,8 +170,11 @@ pub(crate) fn put_all(dest: &mut [u8], at: Place, bytes: &[u8], sentinel: u8) ->
             return Some(put_few(dest, at, bytes, sentinel));
         }
     }
+    if at.len == 1 && bytes.len() <= 254 && bytes.len() < dest.len() {
+        return Some(put_first(dest, bytes, sentinel));
+    }
     let mut place = at;
-    if put_blocks(dest, &mut place, bytes, sentinel) {
+    if put_blocks_for(dest, &mut place, bytes, sentinel) {
         Some(place)
     } else {
         None

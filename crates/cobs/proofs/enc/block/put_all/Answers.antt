@@ -1,5 +1,5 @@
 use Rattle.std.proofs.lemmas.Grind.{common_steps}
-use Rattle.std.proofs.Common.{◌≡◌, ℕ, List, [], ◌∷◌, ◌++◌, length, refl, sym, arith, rules}
+use Rattle.std.proofs.Common.{◌≡◌, ℕ, List, [], ◌∷◌, ◌++◌, length, refl, ap, sym, ◌∙◌, arith, rules}
 use Rattle.std.proofs.lemmas.List.{append-nil}
 use Rattle.cobs.specs.Held.{pushed}
 use Rattle.cobs.specs.Sentinel.{masked}
@@ -26,3 +26,19 @@ returns-then-end-at-clause-holds c = (c.put_few.ensures.holds (pushed (masked c.
 
 pub overflow_add-end : goal.overflow_add-end
 overflow_add-end c = grind (arith, common_steps)
+
+pub put_first-requires-clause-laid : goal.put_first-requires-clause-laid
+put_first-requires-clause-laid c =
+    let zero : c.args.at.code_at ≡ 0 = omega (arith, c.requires.laid.begins, c.if-at-eq1.true) in
+    rw (zero, c.if-at-eq1.true) at c.requires.laid
+
+pub returns-then-bytes-dest-clause-holds : goal.returns-then-bytes-dest-clause-holds
+returns-then-bytes-dest-clause-holds c =
+    let zero : c.args.at.code_at ≡ 0 = omega (arith, c.requires.laid.begins, c.if-at-eq1.true) in
+    (c.put_first.ensures.holds (pushed (masked c.args.sentinel c.args.dest.now) 1) (rw (zero, c.if-at-eq1.true) at c.requires.goes_on)).0
+
+pub returns-then-bytes-dest-clause-pushed : goal.returns-then-bytes-dest-clause-pushed
+returns-then-bytes-dest-clause-pushed c =
+    let zero : c.args.at.code_at ≡ 0 = omega (arith, c.requires.laid.begins, c.if-at-eq1.true) in
+    (c.put_first.ensures.holds (pushed (masked c.args.sentinel c.args.dest.now) 1) (rw (zero, c.if-at-eq1.true) at c.requires.goes_on)).1
+    ∙ ap (λ n. pushed (masked c.args.sentinel c.args.dest.now) n ++ c.args.bytes.now) (sym c.if-at-eq1.true)
