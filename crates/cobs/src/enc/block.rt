@@ -70,7 +70,13 @@ pub(crate) fn put_first(dest: &mut [u8], piece: &[u8], sentinel: u8) -> Place
 
 // Puts a front of the bytes behind the frame, as far as the last block goes, and answers how many. A full block is closed only
 // here, by the byte behind it, so that the buffer always begins with the shortest frame.
-fn put_front(dest: &mut [u8], at: Place, bytes: &[u8], sentinel: u8) -> Option<(Place, usize)>
+#[inline(always)]
+fn put_front<const COPY: usize>(
+    dest: &mut [u8],
+    at: Place,
+    bytes: &[u8],
+    sentinel: u8,
+) -> Option<(Place, usize)>
     requires holds { HoldsFrame (masked sentinel dest.old) at.code_at at.len }
     requires some { 0 < length bytes.now }
     ensures holds { IfSome result
@@ -121,7 +127,7 @@ fn put_blocks<const COPY: usize>(
     let mut place = *at;
     let mut rest = bytes;
     while !rest.is_empty() {
-        let Some((next, n)) = put_front(dest, place, rest, sentinel) else {
+        let Some((next, n)) = put_front::<COPY>(dest, place, rest, sentinel) else {
             return false;
         };
         place = next;

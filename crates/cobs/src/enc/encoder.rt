@@ -57,6 +57,7 @@ impl<'a> CobsEncoder<'a> {
     /// Puts a piece, which may be empty, behind the message. It is refused exactly where the shortest frame of all the bytes so
     /// far and these doesn't fit the buffer. The encoder is then spent: it refuses every later push, an empty one too. An empty
     /// piece leaves the buffer as it is.
+    #[inline(always)]
     pub fn push(&mut self, data: &[u8]) -> Result<(), DestBufTooSmallError>
         ensures ok { OnOk result ((is_spent self.old ≡ false) × (is_spent self.new ≡ false)
             × (message_of self.new ≡ message_of self.old ++ «data».now)

@@ -45,6 +45,7 @@ impl FrameFront {
     }
 
     /// As [`CobsEncoder::push`].
+    #[inline(always)]
     pub fn push(&mut self, dest: &mut [u8], data: &[u8]) -> Result<(), DestBufTooSmallError>
         requires { StandsIn dest.old self.old }
         ensures stands { StandsIn dest.new self.new }
