@@ -1,9 +1,7 @@
 -- The pending call, by its number.
 use Rattle.std.proofs.Common.{◌≡◌, ℕ, Option, Some, None, ap}
 use Rattle.calls.specs.Asking.{number_of}
-
-which : {A : Type 0} {x y : A} → Some x ≡ Some y → x ≡ y
-which e = cc
+use Rattle.calls.specs.ServedLaws.{which}
 
 pub numbered : {Q : Type 0} (o : Option (ℕ × Q)) (n : ℕ) → number_of o ≡ Some n → (q : Q) × (o ≡ Some (n, q))
 numbered None n e = absurd (cc)

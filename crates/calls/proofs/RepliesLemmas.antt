@@ -2,7 +2,7 @@
 use Rattle.std.proofs.Common.{◌≡◌, ℕ, ◌+◌, ◌<◌, ◌≤◌, Bool, true, false, cond, eqb, List, [], ◌∷◌, ◌++◌, Option, Some, None, refl, sym, ap, ◌∙◌, subst, inl, inr, ◌⊎◌, arith}
 use Rattle.std.proofs.lemmas.Bool.{cases_lt, eqb-true}
 use Rattle.calls.specs.Calls.{Execution, call, next_of, no_call, notices, again, Serves, ServesAll, KeptFor, Rises, In, Among}
-use Rattle.calls.specs.ServedLaws.{rises}
+use Rattle.calls.specs.ServedLaws.{in_joined, in_before, in_first, rises}
 
 pub in_some : {A : Type 0} (x : A) (xs ys : List A) → Among xs ys → In x xs → In x ys
 in_some x [] ys a i = absurd i
@@ -11,26 +11,9 @@ in_some x (y ∷ xs) (z ∷ ys) (inl a) (inl i) = inl (i ∙ a.0)
 in_some x (y ∷ xs) (z ∷ ys) (inl a) (inr i) = inr (in_some x xs ys a.1 i)
 in_some x (y ∷ xs) (z ∷ ys) (inr a) i = inr (in_some x (y ∷ xs) ys a i)
 
-in_joined : {A : Type 0} (x : A) (xs ys : List A) → In x (xs ++ ys) → In x xs ⊎ In x ys
-in_joined x [] ys i = inr i
-in_joined x (y ∷ xs) ys (inl e) = inl (inl e)
-in_joined x (y ∷ xs) ys (inr i) = elim (in_joined x xs ys i) [
-  | inl k ↦ inl (inr k)
-  | inr k ↦ inr k
-]
-
-in_before : {A : Type 0} (x : A) (xs ys : List A) → In x ys → In x (xs ++ ys)
-in_before x [] ys i = i
-in_before x (y ∷ xs) ys i = inr (in_before x xs ys i)
-
 alone : {A : Type 0} (x y : A) → In y (x ∷ []) → y ≡ x
 alone x y (inl e) = e
 alone x y (inr e) = absurd e
-
-in_first : {A : Type 0} (x : A) (xs ys : List A) → In x xs → In x (xs ++ ys)
-in_first x [] ys i = absurd i
-in_first x (y ∷ xs) ys (inl e) = inl e
-in_first x (y ∷ xs) ys (inr i) = inr (in_first x xs ys i)
 
 -- a notice goes out by the greatest number
 noticed : {R : Type 0} (said : Option R) (p : ℕ × R) → In p (notices said) → p.0 ≡ no_call

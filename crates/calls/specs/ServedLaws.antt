@@ -1,18 +1,18 @@
 -- What serving is, one request after another: laws of what a service owes as a hearer.
-use Rattle.std.proofs.Common.{◌≡◌, ℕ, length, ◌+◌, ◌<◌, ◌≤◌, Bool, true, false, cond, eqb, List, [], ◌∷◌, ◌++◌, map, Option, Some, None, Result, Ok, Err, refl, sym, ap, ◌∙◌, subst, inl, inr, arith, append_assoc}
-use Rattle.std.specs.List.{FoldsTo, AllZip}
+use Rattle.std.proofs.Common.{◌≡◌, ℕ, length, ◌+◌, ◌<◌, ◌≤◌, Bool, true, false, cond, eqb, ◌⊎◌, List, [], ◌∷◌, ◌++◌, Option, Some, None, Result, Ok, Err, refl, sym, ap, ◌∙◌, subst, inl, inr, arith, append_assoc}
+use Rattle.std.specs.List.{FoldsTo}
 use Rattle.std.proofs.lemmas.Bool.{cases_lt, eq-eqb, eqb-true}
-use Rattle.std.proofs.lemmas.List.{append-nil, map-append}
-use Rattle.line_io.specs.Calls.{Wrote-none, Wrote-then}
+use Rattle.std.proofs.lemmas.List.{append-nil}
 use Rattle.line_io.specs.Device.{LineState}
-use Rattle.postcard_tree.specs.Tree.{Tree, IsTree}
-use Rattle.link.specs.Run.{Send, completed, refused, broken, written, clean_after, session_line, IsSession}
+use Rattle.postcard_tree.specs.Tree.{Tree}
+use Rattle.link.specs.Run.{Send, completed, refused, broken, written}
 use Rattle.line_io.specs.Transfers.{Failed}
 use Rattle.link.specs.Senders.{IsSent, IsRefusal}
 use Rattle.cobs.specs.Frames.{shortest_frame}
 use Rattle.postcard.specs.Written.{UnlessRefused}
 use Rattle.postcard_tree.specs.declared.error.Error.{Error}
-use Rattle.link.specs.Fates.{IsSendOf, fate_of, broke, brokens, clean_after_all, Did, FewBroke, SendsAll}
+use Rattle.link.specs.Fates.{IsSendOf, fate_of, broke, Did, FewBroke, SendsAll}
+use Rattle.link.specs.Lemmas.SendLaws.{none_sent, sends_then}
 use Rattle.link.specs.declared.sender.SendError.{SendError}
 use Rattle.link.specs.declared.sender.SendError.TheVariants.{Refused, Line}
 use Rattle.link.specs.declared.session.Fate.{Fate}
@@ -22,48 +22,28 @@ use Rattle.link.specs.Each.{HearerLaws}
 use Rattle.calls.specs.Calls.{Execution, call, next_of, no_call, notices, again, ServesAll, Rises}
 use Rattle.link.specs.Senders.{SenderPlace, sender_place, HasSent}
 use Rattle.calls.specs.Places.{SaysAll}
-use Rattle.calls.specs.Serving.{kept_of, sender_of, Runs, IsStanding, IsServed, IsPassed, IsReplied, Executes, TakesAnswer, ServiceHears, requests_of, unsent_by_result, unsent_by, unsent_by_fate, unsent_of}
-use Rattle.calls.specs.declared.server.Standing.TheVariants.{Same, Changed}
+use Rattle.calls.specs.Serving.{kept_of, sender_of, Runs, IsServed, IsPassed, IsReplied, Executes, TakesAnswer, ServiceHears, requests_of, unsent_by_result, unsent_by, unsent_by_fate, unsent_of}
 use Rattle.calls.specs.declared.service.Service.{Service}
 use Rattle.calls.specs.declared.server.Served.{Served}
 use Rattle.calls.specs.declared.server.Served.TheVariants.{Executed, Again, Other, Passed}
 
--- Sessions of one sender, one behind the other, are a session.
-clean_then : (clean : Bool) (xs ys : List Send) → clean_after_all clean (xs ++ ys) ≡ clean_after_all (clean_after_all clean xs) ys
-clean_then clean [] ys = refl
-clean_then clean (x ∷ xs) ys = clean_then (clean_after clean x) xs ys
+-- What is in lists one behind the other.
+pub in_joined : {A : Type 0} (x : A) (xs ys : List A) → In x (xs ++ ys) → In x xs ⊎ In x ys
+in_joined x [] ys i = inr i
+in_joined x (y ∷ xs) ys (inl e) = inl (inl e)
+in_joined x (y ∷ xs) ys (inr i) = elim (in_joined x xs ys i) [
+  | inl k ↦ inl (inr k)
+  | inr k ↦ inr k
+]
 
-brokens_then : (xs ys : List Send) → brokens (xs ++ ys) ≡ brokens xs + brokens ys
-brokens_then [] ys = omega arith
-brokens_then (x ∷ xs) ys = omega (arith, brokens_then xs ys)
+pub in_before : {A : Type 0} (x : A) (xs ys : List A) → In x ys → In x (xs ++ ys)
+in_before x [] ys i = i
+in_before x (y ∷ xs) ys i = inr (in_before x xs ys i)
 
-line_then : (s : ℕ) (clean : Bool) (xs ys : List Send) → session_line s clean (xs ++ ys) ≡ session_line s clean xs ++ session_line s (clean_after_all clean xs) ys
-line_then s clean [] ys = refl
-line_then s clean (x ∷ xs) ys = ap (λ b. written s clean x ++ b) (line_then s (clean_after clean x) xs ys)
-    ∙ sym (append_assoc (written s clean x) (session_line s (clean_after clean x) xs) (session_line s (clean_after_all (clean_after clean x) xs) ys))
-
-session_then : (limit s : ℕ) (clean : Bool) (xs ys : List Send) → IsSession IsTree limit s clean xs → IsSession IsTree limit s (clean_after_all clean xs) ys → IsSession IsTree limit s clean (xs ++ ys)
-session_then limit s clean [] ys h k = k
-session_then limit s clean (x ∷ xs) ys h k = (h.0, session_then limit s (clean_after clean x) xs ys h.1 k)
-
-zip_then : {A B : Type 0} (R : A → B → Type 0) (xs : List A) (ys : List B) (more : List A) (others : List B) → AllZip R xs ys → AllZip R more others → AllZip R (xs ++ more) (ys ++ others)
-zip_then R [] [] more others h k = k
-zip_then R [] (y ∷ ys) more others h k = absurd h
-zip_then R (x ∷ xs) [] more others h k = absurd h
-zip_then R (x ∷ xs) (y ∷ ys) more others h k = (h.0, zip_then R xs ys more others h.1 k)
-
-few_then : (u v w : LineState) (m n k : ℕ) → FewBroke u v m → FewBroke v w n → w.calls_left ≤ v.calls_left → v.faults ≤ w.faults → k ≡ m + n → FewBroke u w k
-few_then u v w m n k (inl p) (inl q) l z e = inl (omega arith)
-few_then u v w m n k (inl p) (inr q) l z e = inr q
-few_then u v w m n k (inr p) q l z e = inr (omega arith)
-
-did_then : (u v w : LineState) (a b : List ℕ) (m n : ℕ) → Did u v a m → Did v w b n → Did u w (a ++ b) (m + n)
-did_then u v w a b m n p q = record {
-  wrote = Wrote-then u v w a b p.wrote q.wrote;
-  few = few_then u v w m n (m + n) p.few q.few q.calls q.wrote.more refl;
-  once = omega (arith, p.once, q.once);
-  calls = omega (arith, p.calls, q.calls);
-}
+pub in_first : {A : Type 0} (x : A) (xs ys : List A) → In x xs → In x (xs ++ ys)
+in_first x [] ys i = absurd i
+in_first x (y ∷ xs) ys (inl e) = inl e
+in_first x (y ∷ xs) ys (inr i) = inr (in_first x xs ys i)
 
 -- A refusal by any name is one.
 refusal : (limit : ℕ) (o : Option Tree) (e : Error) → IsRefusal limit o e → UnlessRefused o (λ bytes. limit < length (shortest_frame bytes))
@@ -78,26 +58,12 @@ one_failed old new (inr z) = inr z
 module _ {V : Type 0} (limit : ℕ) (writes : V → Option Tree) (valid : V → Type 0) where
   -- no message
   pub says_none : (old : SenderPlace) → SaysAll limit writes valid old old [] []
-  says_none old = record { sends = []; are = tt; of = tt; fated = refl; did = record { wrote = Wrote-none old.line; few = inl (omega arith); once = omega arith; calls = omega arith }; then = refl }
+  says_none old = none_sent limit old.sentinel writes valid old.clean old.line
 
   -- messages, and then messages
   pub says_then : (old mid new : SenderPlace) (vs ws : List V) (fs gs : List Fate) → mid.sentinel ≡ old.sentinel → SaysAll limit writes valid old mid vs fs → SaysAll limit writes valid mid new ws gs → SaysAll limit writes valid old new (vs ++ ws) (fs ++ gs)
   says_then old mid new vs ws fs gs same p k =
-      let s = old.sentinel in
-      let q = subst (λ z. SendsAll limit z writes valid mid.clean new.clean mid.line new.line ws gs) same k in
-      let xs = p.sends in
-      let ys = q.sends in
-      let line = line_then s old.clean xs ys ∙ ap (λ z. session_line s old.clean xs ++ session_line s z ys) (sym p.then) in
-      record {
-        sends = xs ++ ys;
-        are = session_then limit s old.clean xs ys p.are (subst (λ z. IsSession IsTree limit s z ys) p.then q.are);
-        of = zip_then (λ v x. IsSendOf limit (writes v) (valid v) x) vs xs ws ys p.of q.of;
-        fated = ap (λ l. l ++ gs) p.fated ∙ ap (λ l. map fate_of xs ++ l) q.fated ∙ sym (map-append fate_of xs ys);
-        did = subst (λ n. Did old.line new.line (session_line s old.clean (xs ++ ys)) n) (sym (brokens_then xs ys))
-            (subst (λ b. Did old.line new.line b (brokens xs + brokens ys)) (sym line)
-            (did_then _ _ _ (session_line s old.clean xs) (session_line s mid.clean ys) (brokens xs) (brokens ys) p.did q.did));
-        then = q.then ∙ ap (λ z. clean_after_all z ys) p.then ∙ sym (clean_then old.clean xs ys);
-      }
+      sends_then limit old.sentinel writes valid old.clean mid.clean new.clean old.line mid.line new.line vs ws fs gs p (subst (λ z. SendsAll limit z writes valid mid.clean new.clean mid.line new.line ws gs) same k)
 
   -- which send of a message it was
   said_of : (v : V) (old new : SenderPlace) (r : Result (Unit {0}) SendError) (x : Send) → IsSent limit (writes v) r x → HasSent limit (writes v) (valid v) old new r → old.line.faults ≤ new.line.faults
@@ -168,7 +134,7 @@ requests_then (Damaged ∷ xs) ys = requests_then xs ys
 requests_then (TooLong ∷ xs) ys = requests_then xs ys
 requests_then (Cut ∷ xs) ys = requests_then xs ys
 
-which : {A : Type 0} {x y : A} → Some x ≡ Some y → x ≡ y
+pub which : {A : Type 0} {x y : A} → Some x ≡ Some y → x ≡ y
 which e = cc
 
 module _ {Q R : Type 0} (equal : Q → Q → Bool) (passes : ℕ → ℕ → Option R) where

@@ -16,7 +16,7 @@ use Rattle.calls.specs.Serving.{Runs, requests_of}
 use Rattle.calls_laws.specs.Heard.{HearsSent}
 use Rattle.calls_laws.specs.Headline.{WentOver, WasExecuted, RepliesAreRight}
 use Rattle.calls_laws.specs.Exchange.{ExecutedOnce, ExecutedAtMostOnce, LeftBy, HeardFront, AsksOnly, ServesLine, TakesReply}
-use Rattle.calls_laws.proofs.FrontsLemmas.{in_parts}
+use Rattle.calls.specs.ServedLaws.{in_joined as in_parts}
 
 -- the values of a session are its messages
 values_beside : {V : Type 0} (P : V → Send → Type 0) (values : List V) (xs : List Send) → AllZip P values xs → map (λ (c : V × Send). c.0) (zip values xs) ≡ values
@@ -33,7 +33,7 @@ module _ {V : Type 0} (takes : Tree → Type 0) (holds : List ℕ → Tree → T
       let left = takes_run taken (then_session l.sentinel l.fresh (all_sent l.said) no_session) in
       let there = line s (runs_of (calls ∷ [])) in
       let whole : bytes ≡ there = all_written l.start.line l.stop.line bytes there l.empty l.told left.wrote in
-      record { is = left.is; of = left.of; front = h.front; rest = h.rest; parts = sym whole ∙ h.parts; end = h.end; received = h.received }
+      record { is = left.is; of = left.of; front = h.front; rest = h.rest; parts = sym whole ∙ h.parts; heard = h.heard }
 
   pub sent_are : (messages : List V) (bytes : List ℕ) (l : LeftBy limit s writes valid messages bytes) → values_sent (zip messages l.said.sends ∷ []) ≡ messages
   sent_are messages bytes l =
@@ -80,7 +80,7 @@ module _ {A Q R : Type 0} (executes : A → Q → R → A → Type 0) (equal : Q
   heard_alike : (w : ℕ × Q) → In w (requests_of serves.heard) → (x.0 ≡ w.0) × alike_asked x.1 w.1
   heard_alike w i =
       let over = went_over takes holds reads writes valid taken limit s asks.messages requests serves.heard asks.left serves.over in
-      let v = hears limit s (zip asks.messages asks.left.said.sends ∷ []) over.end serves.heard over.front over.rest over.is over.of over.parts over.received w i in
+      let v = hears limit s (zip asks.messages asks.left.said.sends ∷ []) serves.heard over.front over.rest over.is over.of over.parts over.heard w i in
       let same : v.0 ≡ x = in_only x asks.messages asks.only v.0 (subst (In v.0) (sent_are takes holds reads writes valid taken limit s asks.messages requests asks.left) v.1) in
       (sym (ap (λ p. p.0) same) ∙ v.2.0, subst (λ p. alike_asked p.1 w.1) same v.2.1)
 

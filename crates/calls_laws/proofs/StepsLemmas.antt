@@ -1,13 +1,15 @@
 -- What each side of an exchange does, by what the calls say.
-use Rattle.std.proofs.Common.{◌≡◌, ◌<◌, ℕ, Bool, true, false, cond, eqb, List, [], ◌∷◌, ◌++◌, Option, Some, None, Result, Ok, Err, refl, sym, ap, ◌∙◌, subst, inl, inr, ◌⊎◌, arith, append_assoc}
+use Rattle.std.proofs.Common.{◌≡◌, ◌<◌, ℕ, Bool, true, false, cond, eqb, if◌then◌else◌, List, [], ◌∷◌, ◌++◌, Option, Some, None, Result, Ok, Err, refl, sym, ap, ◌∙◌, subst, inl, inr, ◌⊎◌}
 use Rattle.std.specs.List.{AllByRecursion}
 use Rattle.std.specs.Prelude.{IfSome}
 use Rattle.std.proofs.lemmas.Bool.{eqb-true}
 use Rattle.postcard_tree.specs.Tree.{Tree}
 use Rattle.line_io.specs.Device.{LineState}
 use Rattle.line_io.specs.Transfers.{HasRead}
-use Rattle.link.specs.Listening.{IsReceived}
-use Rattle.link.specs.Each.{HasReadNow, IsReceivedNow}
+use Rattle.link.specs.Decoding.{Inside}
+use Rattle.link.specs.Listening.{IsReceived, HasGiven}
+use Rattle.link.specs.Each.{HasReadNow, IsHeardNow}
+use Rattle.link.specs.declared.reception.Reception.{Reception}
 use Rattle.link.specs.declared.sender.SendError.{SendError}
 use Rattle.link.specs.declared.receiver.Answer.{Answer}
 use Rattle.link.specs.declared.receiver.Answer.TheVariants.{Value, Damaged, TooLong, Cut}
@@ -17,15 +19,12 @@ use Rattle.calls.specs.Calls.{Execution, no_call, In, ServesAll}
 use Rattle.link.specs.Senders.{SenderPlace, HasSent}
 use Rattle.calls.specs.Asking.{Asker, stepped, calls, ends, IsCalled, IsRepeated}
 use Rattle.calls.specs.Serving.{requests_of, Executes}
-use Rattle.calls.specs.ServedLaws.{says_none, says_one, says_then}
-use Rattle.calls.specs.Waits.{Waiter, after_reply, after_answers}
+use Rattle.calls.specs.ServedLaws.{in_first, which as inside, says_none, says_one, says_then}
+use Rattle.calls.specs.Waits.{Waiter, is_over, anew, after_reply, after_answers}
 use Rattle.calls.specs.declared.client.CallError.{CallError}
 use Rattle.calls.specs.declared.client.CallError.TheVariants.{Full, Idle, Unsent}
+use Rattle.calls_laws.specs.Heard.{HeardOn}
 use Rattle.calls_laws.specs.Exchange.{HeardFront, Repeats, AsksOnly, ServesLine, TakesReply}
-use Rattle.calls_laws.proofs.FrontsLemmas.{in_first}
-
-pub inside : {A : Type 0} {x y : A} → Some x ≡ Some y → x ≡ y
-inside e = cc
 
 module _ {Q : Type 0} (limit : ℕ) (writes : ℕ × Q → Option Tree) (valid : ℕ × Q → Type 0) where
   one_sent : (old new : Asker Q) (q : Q) (P P' : SenderPlace) (r : Result (Unit {0}) SendError) → new ≡ stepped old (calls q) → old.next < no_call → HasSent limit (writes (old.next, q)) (valid (old.next, q)) P P' r
@@ -95,13 +94,26 @@ front_read Ended old new f g c d bytes h = h.0.came
 front_read ReadFault old new f g c d bytes h = h.0.came
 front_read NoMemory old new f g c d bytes h = h.0.came
 
--- What was heard, of a reader that tells what comes.
-pub heard_of : {V : Type 0} (holds : List ℕ → Tree → Type 0) (reads : Tree → V → Type 0) (limit s : ℕ) (result : Option End) (all old new : List ℕ) (f g c d : ℕ) (bytes : List ℕ) (answers : List (Answer V)) → old ≡ all
-    → HasReadNow (telling old f c) (telling new g d) result bytes → IsReceivedNow holds reads limit s result answers bytes → HeardFront holds reads limit s all answers
-heard_of holds reads limit s None all old new f g c d bytes answers e k h =
-    record { front = bytes; rest = new; parts = sym e ∙ k.0.came; end = ReadFault; received = h }
-heard_of holds reads limit s (Some end) all old new f g c d bytes answers e k h =
-    record { front = bytes; rest = new; parts = sym e ∙ front_read end old new f g c d bytes k; end = end; received = h }
+-- the same where there may be more
+front_so_far : (end : Option End) (old new : List ℕ) (f g c d : ℕ) (bytes : List ℕ) → HasReadNow (telling old f c) (telling new g d) end bytes → old ≡ bytes ++ new
+front_so_far None old new f g c d bytes h = h.0.came
+front_so_far (Some end) old new f g c d bytes h = front_read end old new f g c d bytes h
+
+module _ {D V : Type 0} (inside : D → Inside) (holds : List ℕ → Tree → Type 0) (reads : Tree → V → Type 0) (limit s : ℕ) (r : Reception D) (bytes : List ℕ) (answers : List (Answer V)) where
+  -- nothing was lost
+  none_lost : HasGiven holds reads limit s answers bytes → HeardOn holds reads limit s answers bytes
+  none_lost h = record { losses = []; later = answers; rest = bytes; said = refl; parts = refl; given = h }
+
+  heard_on : (end : Option End) → IsHeardNow inside holds reads limit s true end r answers bytes → HeardOn holds reads limit s answers bytes
+  heard_on None h = none_lost h.given
+  heard_on (Some Ended) h = none_lost h.given
+  heard_on (Some ReadFault) h = none_lost h.given
+  heard_on (Some NoMemory) h = record { losses = h.first ∷ h.others; later = h.later; rest = h.rest; said = h.said; parts = h.parts; given = h.hears.given }
+
+  -- What was heard, of a reader that tells what comes.
+  pub heard_of : (end : Option End) (all old new : List ℕ) (f g c d : ℕ) → old ≡ all
+      → HasReadNow (telling old f c) (telling new g d) end bytes → IsHeardNow inside holds reads limit s true end r answers bytes → HeardFront holds reads limit s all answers
+  heard_of end all old new f g c d e k h = record { front = bytes; rest = new; parts = sym e ∙ front_so_far end old new f g c d bytes k; heard = inr (heard_on end h) }
 
 module _ {Q R : Type 0} where
   -- a reply was said to a client that waits: before these answers, or by one of them to its pending call
@@ -148,7 +160,7 @@ pub serves_line : {A Q R : Type 0} (executes : A → Q → R → A → Type 0) (
     → ServesLine executes equal passes holds reads writes valid limit s limit' s' old new requests replies
 serves_line executes equal passes holds reads writes valid limit s limit' s' old new kept later u v start stop requests replies bytes rest end heard e received parts none empty fresh sentinel told = record {
   heard = heard;
-  over = record { front = bytes; rest = rest; parts = parts; end = end; received = received };
+  over = record { front = bytes; rest = rest; parts = parts; heard = inl (end, received) };
   log = e.log;
   out = e.out;
   later = later;
@@ -157,14 +169,22 @@ serves_line executes equal passes holds reads writes valid limit s limit' s' old
   left = record { start = start; stop = stop; fates = e.fates; said = e.replied; empty = empty; fresh = fresh; sentinel = sentinel; told = told };
 }
 
+-- a client that has taken none has none to let go
+same_anew : {Q R : Type 0} (w : Waiter Q R) → w.said ≡ None → anew w ≡ w
+same_anew {Q} {R} w none = by (is_over w.asker)
+  where
+    by : (b : Bool) → (if b then w else (let v : Waiter Q R = record { asker = w.asker; said = None } in v)) ≡ w
+    by true = refl
+    by false = ap (λ o. let v : Waiter Q R = record { asker = w.asker; said = o } in v) (sym none)
+
 -- what a client took as its reply that had taken none before
 pub takes_reply : {Q R : Type 0} (holds : List ℕ → Tree → Type 0) (reads : Tree → ℕ × R → Type 0) (limit s : ℕ) (w w' : Waiter Q R) (replies : List ℕ) (heard : List (Answer (ℕ × R)))
-    → w.said ≡ None → w' ≡ after_answers w heard → HeardFront holds reads limit s replies heard → IfSome w'.said (TakesReply holds reads limit s w.asker.pending replies)
+    → w.said ≡ None → w' ≡ after_answers (anew w) heard → HeardFront holds reads limit s replies heard → IfSome w'.said (TakesReply holds reads limit s w.asker.pending replies)
 takes_reply {Q} {R} holds reads limit s w w' replies heard none after over = by w'.said refl
   where
     by : (o : Option R) → w'.said ≡ o → IfSome o (TakesReply holds reads limit s w.asker.pending replies)
     by None e = tt
-    by (Some r) e = elim (said_to w heard r (sym (ap (λ (v : Waiter Q R). v.said) after) ∙ e)) [
+    by (Some r) e = elim (said_to w heard r (sym (ap (λ (v : Waiter Q R). v.said) (after ∙ ap (λ v. after_answers v heard) (same_anew w none))) ∙ e)) [
       | inl f ↦ absurd (let no : ◌≡◌ {A = Option R} None (Some r) = sym none ∙ f in cc)
       | inr k ↦ record { heard = heard; over = over; number = k.0; asked = k.1; is_pending = k.2; said = k.3 }
     ]

@@ -4,14 +4,14 @@ use Rattle.std.specs.Borrow.{RattleType}
 use Rattle.std.specs.List.{FoldsTo, AllByRecursion}
 use Rattle.std.specs.Mem.{FitsInMemory}
 use Rattle.postcard_tree.specs.Tree.{Tree}
-use Rattle.link.specs.Listening.{IsReceived, ReceiverFitsInMemory}
+use Rattle.link.specs.Listening.{ReceiverFitsInMemory}
 use Rattle.calls.specs.Calls.{Execution, no_call, ServesAll, In}
 use Rattle.link.specs.Senders.{SenderPlace}
 use Rattle.calls.specs.Places.{SaysAll}
 use Rattle.calls.specs.Serving.{Runs, requests_of}
 use Rattle.link.specs.declared.session.Fate.{Fate}
 use Rattle.link.specs.declared.receiver.Answer.{Answer}
-use Rattle.line_io.specs.declared.transfers.End.{End}
+use Rattle.calls_laws.specs.Heard.{WasHeard}
 use Rattle.calls.specs.contracts.client.Client as client
 use Rattle.calls.specs.contracts.server.Server as server
 use Rattle.calls.specs.contracts.service.Service as service
@@ -41,13 +41,13 @@ pub record LeftBy {V : Type 0} (limit s : ℕ) (writes : V → Option Tree) (val
   pub sentinel : start.sentinel ≡ s
   pub told : stop.line.told ≡ Some bytes
 
--- A new receiver was given a front of these bytes, and its reading ended anyhow: these were its answers.
+-- A new receiver was given a front of these bytes, and its reading ended anyhow, or went on behind values that had no memory: these were
+-- its answers.
 pub record HeardFront {V : Type 0} (holds : List ℕ → Tree → Type 0) (reads : Tree → V → Type 0) (limit s : ℕ) (bytes : List ℕ) (answers : List (Answer V)) : Type 0 where
   pub front : List ℕ
   pub rest : List ℕ
   pub parts : bytes ≡ front ++ rest
-  pub end : End
-  pub received : IsReceived holds reads limit s end answers front
+  pub heard : WasHeard holds reads limit s answers front
 
 -- What a client sends that calls and sends the call again: this message alone; and its call is pending, where one is.
 pub record Repeats {Q : Type 0} (limit : ℕ) (writes : ℕ × Q → Option Tree) (valid : ℕ × Q → Type 0) (asked : ℕ × Q) (pending : Option (ℕ × Q)) (start stop : SenderPlace) : Type 0 where

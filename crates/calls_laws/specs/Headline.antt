@@ -2,23 +2,22 @@
 use Rattle.std.specs.Prelude.{◌≡◌, ◌⊎◌, ◌<◌, ℕ, Bool, List, ◌++◌, Option}
 use Rattle.postcard_tree.specs.Tree.{Tree}
 use Rattle.link.specs.Run.{Send, IsRun, line}
-use Rattle.link.specs.Listening.{IsReceived}
 use Rattle.link_laws.specs.Values.{runs_of, AreSends, values_sent}
 use Rattle.calls.specs.Calls.{Execution, next_of, no_call, ServesAll, KeptFor, Rises, In, OnePerNumber}
 use Rattle.calls.specs.Serving.{requests_of}
 use Rattle.link.specs.declared.receiver.Answer.{Answer}
-use Rattle.line_io.specs.declared.transfers.End.{End}
+use Rattle.calls_laws.specs.Heard.{WasHeard}
 
 -- Values of a type went over a line: senders left the line of this run of them, each send perhaps broken off at any byte, and these
--- are the answers of a receiver that was given a front of that line, perhaps all of it, and whose reading ended anyhow.
+-- are the answers of a receiver that was given a front of that line, perhaps all of it, and whose reading ended anyhow, or went on
+-- behind values that had no memory.
 pub record WentOver {V : Type 0} (takes : Tree → Type 0) (holds : List ℕ → Tree → Type 0) (reads : Tree → V → Type 0) (writes : V → Option Tree) (valid : V → Type 0) (limit s : ℕ) (run : List (List (V × Send))) (answers : List (Answer V)) : Type 0 where
   pub is : IsRun takes limit s (runs_of run)
   pub of : AreSends writes valid run
   pub front : List ℕ
   pub rest : List ℕ
   pub parts : line s (runs_of run) ≡ front ++ rest
-  pub end : End
-  pub received : IsReceived holds reads limit s end answers front
+  pub heard : WasHeard holds reads limit s answers front
 
 -- By this number, one request was executed, once, alike the one that was called, and what was said then is alike the reply.
 pub record WasExecuted {Q R : Type 0} (alike_asked : Q → Q → Type 0) (alike_said : R → R → Type 0) (least : ℕ) (log : List (Execution Q R)) (n : ℕ) (asked : Q) (taken : R) : Type 0 where

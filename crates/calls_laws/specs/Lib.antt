@@ -1,3 +1,3 @@
-pub mod Exchange
 pub mod Heard
 pub mod Headline
+pub mod Exchange

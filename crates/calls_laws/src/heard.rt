@@ -7,7 +7,7 @@ use link::{MessageReader, OfType, Ordinary, Strict};
 use postcard::{DeserializeOwned, Exact, Lawful};
 
 /// Whoever was given a front of a line, perhaps all of it, heard only values that are alike those sent, however the reading ended:
-/// at the reader's end, by a fault, or out of memory.
+/// at the reader's end, by a fault, or out of memory; and so whoever listened on behind values that found no memory.
 pub fn heard_was_sent<T: Lawful>()
     ensures ordinary { HearsSent T.form.takes (Holds T.form.takes) T.form.reads T.form.alike
         T.form.writes T.form.valid }
@@ -18,6 +18,8 @@ pub fn heard_was_sent<T: Lawful>()
     link_laws::between::<T>();
     link_laws::left::<T>();
     link_laws::over_pieces::<T>();
+    link_laws::one_answer::<T>();
+    link_laws::start_anywhere::<T>();
 }
 
 /// A reader of messages by which whoever was given a front of a line heard only what was sent.

@@ -6,7 +6,7 @@ ghost use Rattle.calls.specs.Asking.{asker_of, sender_of};
 ghost use Rattle.calls_laws.specs.Exchange.{AsksOnly, ServesLine, TakesReply, Repeats, ClientFitsInMemory, ServerFitsInMemory, ServiceFitsInMemory, WaitingFitsInMemory};
 
 use crate::exchange::{Kept, Way};
-use calls::{Application, Client, Server, Service, Waiting, serve_with};
+use calls::{Application, Client, Server, Service, Waiting, serve_with, wait_with};
 use line_io::Outlet;
 use line_io::memory::In;
 use link::{MessageReader, Receiver, Sender};
@@ -129,7 +129,15 @@ pub(crate) fn take_reply<
     let mut waiting = Waiting { client, said: None };
     let mut receiver = Receiver::<L>::new_with_sentinel(sentinel);
     let mut reader = In::new(replies, each, stops);
-    let _ended = receiver.receive_each_with(alloc, messages, &mut reader, &mut waiting);
+    let mut room = [0u8; 1024];
+    let _ended = wait_with(
+        alloc,
+        &mut receiver,
+        messages,
+        &mut reader,
+        &mut waiting,
+        &mut room,
+    );
     let Waiting { client: _, said } = waiting;
     said
 }

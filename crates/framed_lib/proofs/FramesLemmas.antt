@@ -11,7 +11,8 @@ use Rattle.framed_lib.specs.Program.{framed_text, shown, shown_end}
 use Rattle.framed_lib.specs.Sending.{lines_in, AreSendsOf, IsSendOfLine, Sent}
 use Rattle.framed_lib.proofs.DigitsLemmas.{digits-append}
 use Rattle.framed_lib.proofs.OutputLemmas.{put-none, put-done, put-breaks}
-use Rattle.framed_lib.proofs.SendingLemmas.{Sent-more, Sent-split, session-append, session-more, none-sent}
+use Rattle.link.specs.Lemmas.SendLaws.{line_then}
+use Rattle.framed_lib.proofs.SendingLemmas.{Sent-more, Sent-split, session-more, none-sent}
 
 shown-append : (hex : Bool) (a b : List ℕ) → shown hex (a ++ b) ≡ shown hex a ++ shown hex b
 shown-append false a b = refl
@@ -45,7 +46,7 @@ module _ (hex : Bool) (sentinel : ℕ) where
   framed-parts done later =
       let a = session_line sentinel false done in let b = session_line sentinel (clean_after_all false done) later in
       framed-is hex (session_line sentinel false (done ++ later))
-      ∙ (ap (λ x. shown hex x ++ shown_end hex) (session-append sentinel false done later) ∙ (ap (λ x. x ++ shown_end hex) (shown-append hex a b) ∙ append_assoc (shown hex a) (shown hex b) (shown_end hex)))
+      ∙ (ap (λ x. shown hex x ++ shown_end hex) (line_then sentinel false done later) ∙ (ap (λ x. x ++ shown_end hex) (shown-append hex a b) ∙ append_assoc (shown hex a) (shown hex b) (shown_end hex)))
 
   all-shown : (text rest : List ℕ) (done sends : List Send) → Sent text rest done → length rest ≡ 0 → AreSendsOf (lines_in text) sends → text_of_all sends ≡ shown_of done ++ shown_end hex
   all-shown text rest done sends s none a =

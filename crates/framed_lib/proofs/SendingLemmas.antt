@@ -7,6 +7,7 @@ use Rattle.std.proofs.lemmas.List.Folds.{list_all-append}
 use Rattle.std.proofs.lemmas.List.Splits.{slice_split_at, slice_split_none, length-slice_split}
 use Rattle.link.specs.Run.{Send, completed, refused, broken, written, clean_after, session_line}
 use Rattle.link.specs.Fates.{clean_after_all}
+use Rattle.link.specs.Lemmas.SendLaws.{clean_then, line_then}
 use Rattle.framed_lib.specs.Pieces.{LacksMark, pieces}
 use Rattle.framed_lib.specs.Program.{SaysFirst}
 use Rattle.framed_lib.specs.Sending.{filled, lines_in, IsSendOfLine, AreSendsOf, is_whole, said_of, refusals, Sent}
@@ -73,16 +74,6 @@ Sent-first text rest line later done x p e o = record {
 pub all-first : (text : List ℕ) (sends : List Send) → AreSendsOf (lines_in text) sends → SaysFirst text (refusals 1 sends)
 all-first text sends h = record { seen = lines_in text; later = []; lines_are = sym (append-nil (lines_in text)); sends = sends; are = h; said_is = refl }
 
-clean-append : (clean : Bool) (a b : List Send) → clean_after_all clean (a ++ b) ≡ clean_after_all (clean_after_all clean a) b
-clean-append clean [] b = refl
-clean-append clean (x ∷ a) b = clean-append (clean_after clean x) a b
-
-pub session-append : (sentinel : ℕ) (clean : Bool) (a b : List Send) → session_line sentinel clean (a ++ b) ≡ session_line sentinel clean a ++ session_line sentinel (clean_after_all clean a) b
-session-append sentinel clean [] b = refl
-session-append sentinel clean (x ∷ a) b =
-    ap (λ l. written sentinel clean x ++ l) (session-append sentinel (clean_after clean x) a b)
-    ∙ sym (append_assoc (written sentinel clean x) (session_line sentinel (clean_after clean x) a) (session_line sentinel (clean_after_all (clean_after clean x) a) b))
-
 refusals-append : (n : ℕ) (a b : List Send) → refusals n (a ++ b) ≡ refusals n a ++ refusals (n + length a) b
 refusals-append n [] b = let k : n ≡ n + length {A = Send} [] = omega arith in ap (λ m. refusals m b) k
 refusals-append n (x ∷ a) b =
@@ -93,7 +84,7 @@ refusals-append n (x ∷ a) b =
 pub session-more : (sentinel : ℕ) (clean : Bool) (done : List Send) (x : Send) → clean ≡ clean_after_all false done
     → session_line sentinel false (done ++ x ∷ []) ≡ session_line sentinel false done ++ written sentinel clean x
 session-more sentinel clean done x c =
-    session-append sentinel false done (x ∷ [])
+    line_then sentinel false done (x ∷ [])
     ∙ ap (λ l. session_line sentinel false done ++ l) (append-nil (written sentinel (clean_after_all false done) x) ∙ ap (λ b. written sentinel b x) (sym c))
 
 clean-next : (clean : Bool) (line : List ℕ) (x : Send) → IsSendOfLine line x → clean_after clean x ≡ (clean || is_whole x)
@@ -104,7 +95,7 @@ clean-next clean line (broken t k) o = absurd o
 pub clean-more : (clean some : Bool) (line : List ℕ) (done : List Send) (x : Send) → clean ≡ clean_after_all false done → IsSendOfLine line x → is_whole x ≡ some
     → (clean || some) ≡ clean_after_all false (done ++ x ∷ [])
 clean-more clean some line done x c o w =
-    sym (clean-append false done (x ∷ []) ∙ (ap (λ b. clean_after b x) (sym c) ∙ (clean-next clean line x o ∙ ap (λ b. clean || b) w)))
+    sym (clean_then false done (x ∷ []) ∙ (ap (λ b. clean_after b x) (sym c) ∙ (clean-next clean line x o ∙ ap (λ b. clean || b) w)))
 
 pub refusals-more : (n : ℕ) (done : List Send) (x : Send) → n ≡ length done + 1 → refusals 1 (done ++ x ∷ []) ≡ refusals 1 done ++ said_of n x
 refusals-more n done x e =

@@ -8,6 +8,7 @@ use Rattle.std.proofs.lemmas.List.Folds.{list_all-append}
 use Rattle.line_io.specs.Device.{LineState}
 use Rattle.line_io.specs.Transfers.{Writing, broken}
 use Rattle.line_io.specs.Calls.{BrokeOff-more}
+use Rattle.link.specs.Firsts.{not_both as no_both}
 use Rattle.link.specs.Each.{HearerLaws}
 use Rattle.link.specs.declared.receiver.Answer.{Answer}
 use Rattle.framed_lib.specs.Lines.{answer_line, answer_lines, has_value}
@@ -40,9 +41,6 @@ module _ {W : Type 0} (line : W → LineState) where
   and_assoc : (a b c : Bool) → ((a && b) && c) ≡ (a && (b && c))
   and_assoc true b c = refl
   and_assoc false b c = refl
-
-  no_both : (b : Bool) → b ≡ true → b ≡ false → ⊥
-  no_both b e f = cc
 
   -- one answer's line
   pub tells_one : {A : Type 0} (old new : Telling W) (answer : Answer (String A))

@@ -1,5 +1,5 @@
 -- The loop over an accumulator, feed by feed.
-use Rattle.std.proofs.Common.{◌≡◌, ℕ, ◌+◌, ◌-◌, ◌*◌, ◌<◌, ◌≤◌, Bool, true, false, Result, Ok, Err, List, [], ◌∷◌, ◌++◌, length, map, refl, sym, ap, ◌∙◌, subst, inl, inr, arith, append_assoc, length-drop, bit_xor, is_err, is_ok, ◌==◌, if◌then◌else◌, ne_eqb, append-nil}
+use Rattle.std.proofs.Common.{◌≡◌, ℕ, ◌+◌, ◌-◌, ◌*◌, ◌<◌, ◌≤◌, Bool, true, false, List, [], ◌∷◌, ◌++◌, length, map, refl, sym, ap, ◌∙◌, subst, inl, inr, arith, append_assoc, length-drop, bit_xor, ◌==◌, ne_eqb, append-nil}
 use Rattle.std.proofs.lemmas.Bool.{cases_lt}
 use Rattle.std.proofs.lemmas.List.{length-map, map-append}
 use Rattle.cobs.specs.InPlace.{stretch}
@@ -139,15 +139,6 @@ has_bytes (x ∷ rest) b e f = omega arith
 pub has_none : (rest : List ℕ) (b : Bool) → b ≡ (length rest == 0) → b ≡ true → rest ≡ []
 has_none [] b e f = refl
 has_none (x ∷ rest) b e f = let n : (length (x ∷ rest) == 0) ≡ false = ne_eqb (length (x ∷ rest)) 0 (λ k. omega arith) in let no : false ≡ true = sym n ∙ sym e ∙ f in absurd (cc)
-
--- a push that failed, and one that didn't
-pub push_failed : {A E : Type 0} {V : Type 0} (r : Result A E) (new old more : List V) → is_err r ≡ true → new ≡ (if is_ok r then more else old) → new ≡ old
-push_failed (Ok a) new old more e h = cc
-push_failed (Err a) new old more e h = h
-
-pub push_done : {A E : Type 0} {V : Type 0} (r : Result A E) (new old more : List V) → is_err r ≡ false → new ≡ (if is_ok r then more else old) → new ≡ more
-push_done (Ok a) new old more e h = h
-push_done (Err a) new old more e h = cc
 
 module _ {V : Type 0} (takes : Tree → Type 0) (reads : Tree → V → Type 0) (growing : Bool) (room s : ℕ) (held : List ℕ) (old : List V) where
   pub gathers_no_bytes : GathersOnLine takes reads growing room s held [] held [] old old

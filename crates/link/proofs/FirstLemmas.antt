@@ -1,5 +1,6 @@
 -- The first answers of a reception, where a list kept no more.
-use Rattle.std.proofs.Common.{◌≡◌, ℕ, Bool, true, false, List, [], ◌∷◌, ◌++◌, Option, Some, None, refl, sym, ap, ◌∙◌, subst, append_assoc, ◌≢◌, append-nil}
+use Rattle.std.proofs.Common.{◌≡◌, ℕ, Bool, true, false, List, [], ◌∷◌, ◌++◌, Option, Some, None, refl, sym, ap, ◌∙◌, subst, append_assoc, ◌≢◌, append-nil, inl, inr}
+use Rattle.std.specs.Prelude.{Vec}
 use Rattle.std.specs.List.{AllZip}
 use Rattle.line_io.specs.Device.{LineState}
 use Rattle.postcard_tree.specs.Tree.{Tree}
@@ -7,9 +8,9 @@ use Rattle.link.specs.Stream.{Verdict, IsAnswer, begun_answers, cut_answers, Ans
 use Rattle.link.specs.Judged.{IsJudged}
 use Rattle.link.specs.Pushes.{Matches}
 use Rattle.line_io.specs.Transfers.{HasRead}
-use Rattle.link.specs.Listening.{HasGiven, HasAnswered, HasAllButLast, HasBegun, IsReceived}
-use Rattle.link.specs.Each.{HasReadNow, IsReceivedNow}
-use Rattle.link.specs.Firsts.{KeepsFirst, listed_end}
+use Rattle.link.specs.Listening.{HasGiven, HasAnswered, HasAllButLast, HasBegun, IsReceived, EndsAtLoss, EndsFor}
+use Rattle.link.specs.Each.{HasReadNow, IsReceivedNow, MayLackMemory}
+use Rattle.link.specs.Firsts.{KeepsFirst, listed_end, not_both as no_both}
 use Rattle.link.specs.declared.receiver.Answer.{Answer}
 use Rattle.line_io.specs.declared.transfers.End.{End}
 use Rattle.line_io.specs.declared.transfers.End.TheVariants.{Ended, ReadFault, NoMemory}
@@ -77,19 +78,18 @@ module _ {V : Type 0} (holds : List ℕ → Tree → Type 0) (judged : IsJudged 
   by_end (Some ReadFault) n m h = absurd (m refl)
   by_end (Some NoMemory) n m h = of_begun n h
 
-no_both : (b : Bool) → b ≡ true → b ≡ false → ⊥
-no_both b e f = cc
+-- what is kept where nothing was missed is all
+all_kept : {V A : Type 0} (old list : Vec (Answer V) A) (answers : List (Answer V)) → old.items ≡ [] → KeepsFirst old list false false answers → answers ≡ list.items
+all_kept old list answers o k = k.parts ∙ ap (λ y. k.kept ++ y) (k.whole refl).1 ∙ append-nil k.kept ∙ sym (k.items ∙ ap (λ y. y ++ k.kept) o)
 
-received_by : {V : Type 0} (holds : List ℕ → Tree → Type 0) (judged : IsJudged holds) (reads : Tree → V → Type 0) (limit s : ℕ) (stream : List ℕ) (end : Option End) (full : Bool) (old items answers : List (Answer V)) → old ≡ [] → HasAllButLast holds reads limit s 1024 items stream
-    → KeepsFirst old items false full answers → (end ≡ None → full ≡ true) → (end ≡ Some ReadFault → full ≡ false) → IsReceivedNow holds reads limit s end answers stream → IsReceived holds reads limit s (listed_end end full) items stream
-received_by holds judged reads limit s stream end true old items answers o early k n m h =
-    let same : items ≡ k.kept = k.items ∙ ap (λ y. y ++ k.kept) o in
+received_by : {V A : Type 0} (holds : List ℕ → Tree → Type 0) (judged : IsJudged holds) (reads : Tree → V → Type 0) (limit s : ℕ) (stream : List ℕ) (end : Option End) (full : Bool) (old list : Vec (Answer V) A) (answers : List (Answer V)) → old.items ≡ []
+    → HasAllButLast holds reads limit s 1024 list.items stream → KeepsFirst old list false full answers → (end ≡ None → full ≡ true) → (end ≡ Some ReadFault → full ≡ false) → IsReceivedNow holds reads limit s end answers stream → IsReceived holds reads limit s (listed_end end full) list.items stream
+received_by holds judged reads limit s stream end true old list answers o early k n m h =
+    let same : list.items ≡ k.kept = k.items ∙ ap (λ y. y ++ k.kept) o in
     subst (λ y. HasBegun holds reads limit s y stream) (sym same)
     (by_end holds judged reads limit s stream k.kept k.lost (subst (λ y. HasAllButLast holds reads limit s 1024 y stream) same early) end (k.missed refl refl) (λ e. absurd (no_both true refl (m e))) (subst (λ y. IsReceivedNow holds reads limit s end y stream) k.parts h))
-received_by holds judged reads limit s stream None false old items answers o early k n m h = absurd (no_both false (n refl) refl)
-received_by holds judged reads limit s stream (Some end) false old items answers o early k n m h =
-    let same : answers ≡ items = k.parts ∙ ap (λ y. k.kept ++ y) (k.whole refl).1 ∙ append-nil k.kept ∙ sym (k.items ∙ ap (λ y. y ++ k.kept) o) in
-    subst (λ y. IsReceived holds reads limit s end y stream) same h
+received_by holds judged reads limit s stream None false old list answers o early k n m h = absurd (no_both false (n refl) refl)
+received_by holds judged reads limit s stream (Some end) false old list answers o early k n m h = subst (λ y. IsReceived holds reads limit s end y stream) (all_kept old list answers o k) h
 
 read_by : (old new : LineState) (bytes : List ℕ) (end : Option End) (full : Bool) → (end ≡ None → full ≡ true) → (end ≡ Some ReadFault → full ≡ false)
     → HasReadNow old new end bytes → HasRead old new (listed_end end full) bytes
@@ -101,10 +101,22 @@ read_by old new bytes None false n m h = absurd (no_both false (n refl) refl)
 read_by old new bytes (Some end) false n m h = h
 
 -- what a list keeps is what is received
-pub listed_received : {V : Type 0} (holds : List ℕ → Tree → Type 0) (judged : IsJudged holds) (reads : Tree → V → Type 0) (limit s : ℕ) (stream : List ℕ) (end : Option End) (full : Bool) (result : End) (old items answers : List (Answer V)) → result ≡ listed_end end full → old ≡ [] → HasAllButLast holds reads limit s 1024 items stream
-    → KeepsFirst old items false full answers → (end ≡ None → full ≡ true) → (end ≡ Some ReadFault → full ≡ false) → IsReceivedNow holds reads limit s end answers stream → IsReceived holds reads limit s result items stream
-listed_received holds judged reads limit s stream end full result old items answers e o early k n m h =
-    subst (λ x. IsReceived holds reads limit s x items stream) (sym e) (received_by holds judged reads limit s stream end full old items answers o early k n m h)
+pub listed_received : {V A : Type 0} (holds : List ℕ → Tree → Type 0) (judged : IsJudged holds) (reads : Tree → V → Type 0) (limit s : ℕ) (stream : List ℕ) (end : Option End) (full : Bool) (result : End) (old list : Vec (Answer V) A) (answers : List (Answer V)) → result ≡ listed_end end full → old.items ≡ []
+    → HasAllButLast holds reads limit s 1024 list.items stream → KeepsFirst old list false full answers → (end ≡ None → full ≡ true) → (end ≡ Some ReadFault → full ≡ false) → IsReceivedNow holds reads limit s end answers stream → IsReceived holds reads limit s result list.items stream
+listed_received holds judged reads limit s stream end full result old list answers e o early k n m h =
+    subst (λ x. IsReceived holds reads limit s x list.items stream) (sym e) (received_by holds judged reads limit s stream end full old list answers o early k n m h)
+
+-- and when out of memory, either it has no place left, or it ends before a value that had none
+module _ {V A : Type 0} (holds : List ℕ → Tree → Type 0) (reads : Tree → V → Type 0) (growing : Bool) (limit s : ℕ) (stream : List ℕ) (old list : Vec (Answer V) A) (answers : List (Answer V)) (o : old.items ≡ []) where
+  ends_by : (end : Option End) (full : Bool) → KeepsFirst old list false full answers → (end ≡ None → full ≡ true) → MayLackMemory growing end → (end ≡ Some NoMemory → EndsAtLoss holds reads limit s answers stream) → listed_end end full ≡ NoMemory → EndsFor holds reads growing limit s list stream
+  ends_by end true k n m f e = inl (k.filled (λ q. cc) refl)
+  ends_by None false k n m f e = absurd (no_both false (n refl) refl)
+  ends_by (Some Ended) false k n m f e = cc
+  ends_by (Some ReadFault) false k n m f e = cc
+  ends_by (Some NoMemory) false k n m f e = inr (m, subst (λ y. EndsAtLoss holds reads limit s y stream) (all_kept old list answers o k) (f refl))
+
+  pub listed_ends : (end : Option End) (full : Bool) (result : End) → result ≡ listed_end end full → KeepsFirst old list false full answers → (end ≡ None → full ≡ true) → MayLackMemory growing end → (end ≡ Some NoMemory → EndsAtLoss holds reads limit s answers stream) → result ≡ NoMemory → EndsFor holds reads growing limit s list stream
+  listed_ends end full result r k n m f e = ends_by end full k n m f (sym r ∙ e)
 
 -- and what was read
 pub listed_read : (old new : LineState) (bytes : List ℕ) (end : Option End) (full : Bool) (result : End) → result ≡ listed_end end full → (end ≡ None → full ≡ true) → (end ≡ Some ReadFault → full ≡ false)

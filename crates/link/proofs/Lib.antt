@@ -9,7 +9,6 @@ pub mod InPlaceSteps
 pub mod SendingLemmas
 pub mod HandingLemmas
 pub mod HearingLemmas
-pub mod EndingLemmas
 pub mod TurnsLemmas
 pub mod PrefixesLemmas
 pub mod RecoveringLemmas

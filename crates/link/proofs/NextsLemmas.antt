@@ -9,7 +9,7 @@ use Rattle.postcard_tree.specs.Tree.{Tree}
 use Rattle.link.specs.InPlace.{IsCutBehind, IsUnfinished, IsEnd, ReadsNext}
 use Rattle.link.specs.declared.receiver.Answer.{Answer}
 use Rattle.link.specs.declared.receiver.NoMemory.{NoMemory}
-use Rattle.link.proofs.SentinelsLemmas.{masked_zero}
+use Rattle.link.specs.Lemmas.MaskLaws.{unmasked}
 use Rattle.link.proofs.ReadingLemmas.{stretch_taken, stretch_short, unpadded_some}
 
 take_none : (n : ℕ) → take {A = ℕ} n [] ≡ []
@@ -115,11 +115,11 @@ line_some s n bytes front ended after cut e behind q =
 -- at the sentinel zero
 module _ {V : Type 0} (bytes : List ℕ) where
   pub zero_blank : (r : Option (Result (Answer V) NoMemory × MutBor (List ℕ))) → IfNone r (unpadded (masked 0 bytes) ≡ []) → IfNone r (unpadded bytes ≡ [])
-  zero_blank None h = ap unpadded (sym (masked_zero bytes)) ∙ h
+  zero_blank None h = ap unpadded (sym (unmasked bytes)) ∙ h
   zero_blank (Some q) h = h
 
 pub zero_reads : {V : Type 0} (takes : Tree → Type 0) (reads : Tree → V → Type 0) (bytes : List ℕ) (r : Option (Result (Answer V) NoMemory × MutBor (List ℕ)))
     → IfSome r (λ q. ReadsNext takes reads (unpadded (masked 0 bytes)) q.0 (masked 0 q.1.now)) → IfSome r (λ q. ReadsNext takes reads (unpadded bytes) q.0 q.1.now)
 zero_reads takes reads bytes None h = h
 zero_reads takes reads bytes (Some q) h =
-    subst (λ x. ReadsNext takes reads (unpadded x) q.0 q.1.now) (masked_zero bytes) (subst (λ y. ReadsNext takes reads (unpadded (masked 0 bytes)) q.0 y) (masked_zero q.1.now) h)
+    subst (λ x. ReadsNext takes reads (unpadded x) q.0 q.1.now) (unmasked bytes) (subst (λ y. ReadsNext takes reads (unpadded (masked 0 bytes)) q.0 y) (unmasked q.1.now) h)

@@ -1,14 +1,12 @@
 -- What is given of a front of a stream are the first answers to the whole.
-use Rattle.std.proofs.Common.{◌≡◌, ℕ, ◌+◌, ◌<◌, ◌≤◌, List, [], ◌∷◌, ◌++◌, length, take, drop, Some, refl, sym, ap, ◌∙◌, subst, inl, inr, arith, append_assoc, append-nil, length-append, take-append-drop, length-take, take-take, lt-ltb, le-ltb, bit_xor}
+use Rattle.std.proofs.Common.{◌≡◌, ℕ, ◌+◌, ◌<◌, ◌≤◌, List, [], ◌∷◌, ◌++◌, length, take, drop, Some, refl, sym, ap, ◌∙◌, subst, inl, inr, arith, append_assoc, append-nil, length-append, take-append-drop, length-take, take-take, bit_xor}
 use Rattle.std.specs.List.{AllZip}
-use Rattle.std.proofs.lemmas.List.{take-append-le}
 use Rattle.std.proofs.lemmas.Bool.{cases_lt}
-use Rattle.cobs.specs.Frames.{Frame, spelled, block}
-use Rattle.std.proofs.Math.Seq.{take-length}
+use Rattle.std.proofs.Math.Seq.{take-append_seam}
 use Rattle.cobs.specs.Sentinel.{masked}
 use Rattle.postcard_tree.specs.Tree.{Tree}
 use Rattle.std.proofs.lemmas.List.{map-append}
-use Rattle.link.specs.Stream.{Verdict, too_long, IsAnswer, begun_answers, cut_answers, Given, Answers, ended, unfinished, kept}
+use Rattle.link.specs.Stream.{Verdict, too_long, IsAnswer, begun_answers, cut_answers, Given, Answers, unfinished}
 use Rattle.link.specs.Relational.{Stretches}
 use Rattle.link.specs.Pushes.{IsLost, Matches}
 use Rattle.link.specs.Listening.{AnswersBeginProperly, HasAllButLast, EndsAtLoss, IsKeptDue, IsReceived}
@@ -17,19 +15,10 @@ use Rattle.line_io.specs.declared.transfers.End.{End}
 use Rattle.line_io.specs.declared.transfers.End.TheVariants.{Ended, ReadFault, NoMemory}
 use Rattle.link.specs.Lemmas.Stepwise.{filled, has_stretches, ended_is, unfinished_is}
 use Rattle.link.specs.Lemmas.StretchLaws.{NoZero-append, goes_on}
-use Rattle.link.specs.Lemmas.FeedLaws.{is_short}
+use Rattle.link.specs.Lemmas.Facts.{some_bytes}
+use Rattle.link.specs.Lemmas.FeedLaws.{is_short, long_answers as long_said, short_answers as short_said}
 use Rattle.link.specs.Judged.{IsJudged}
 use Rattle.link.specs.Lemmas.OneAnswers.{one_answer}
-
-spelled_some : (first : List ℕ) (others : List (List ℕ)) → 0 < length (spelled first others)
-spelled_some first [] = omega arith
-spelled_some first (next ∷ runs) = omega (arith, length-append (block first) (spelled next runs))
-
-frame_some : (p m : List ℕ) → Frame p m → 0 < length p
-frame_some p m f = omega (arith, ap length f.spells, spelled_some f.first f.others)
-
-pub front_taken : (x y : List ℕ) → take (length x) (x ++ y) ≡ x
-front_taken x y = take-append-le (length x) x y (omega arith) ∙ take-length x
 
 -- the answers to the first of some stretches, and those to the others
 pub record Split (R : List ℕ → Verdict → Type 0) (qs : List (List ℕ)) (us vs : List Verdict) : Type 0 where
@@ -58,12 +47,6 @@ meets s x y [] u q qs v (z, e) (after, w, d, more) =
     (after, NoZero-append u q z w, ap (λ a. a ++ y) e ∙ ap (λ a. masked s u ++ a) d ∙ sym (append_assoc (masked s u) (masked s q) (s ∷ after)) ∙ ap (λ a. a ++ (s ∷ after)) (sym (map-append (λ b. bit_xor s b) u q)), more)
 meets s x y (p ∷ ps) u q qs v (after, z, e, more) k =
     (after ++ y, z, ap (λ a. a ++ y) e ∙ append_assoc (masked s p) (s ∷ after) y, meets s after y ps u q qs v more k)
-
-long_said : (limit : ℕ) (u : List ℕ) → limit < length u → begun_answers limit u ≡ too_long ∷ []
-long_said limit u l = rw (lt-ltb limit (length u) l) refl
-
-short_said : (limit : ℕ) (u : List ℕ) → length u ≤ limit → begun_answers limit u ≡ []
-short_said limit u l = rw (le-ltb limit (length u) l) refl
 
 module _ (holds : List ℕ → Tree → Type 0) (limit s : ℕ) (one : (p : List ℕ) (v w : Verdict) → IsAnswer holds limit p v → IsAnswer holds limit p w → v ≡ w) where
   -- what is said of an unfinished stretch at once is the first that is said of a longer one
@@ -148,25 +131,25 @@ module _ (holds : List ℕ → Tree → Type 0) (judged : IsJudged holds) (limit
   one = one_answer holds limit judged.one
 
   -- where a value is lost, the answers so far are a proper beginning of all
-  by_loss : (used : ℕ) → IsLost holds limit s front rest used → AnswersBeginProperly holds limit s (front ++ rest) vs
-  by_loss used l all h =
+  pub by_loss : (used : ℕ) → IsLost holds limit s front rest used → (more : List ℕ) → AnswersBeginProperly holds limit s ((front ++ take used rest) ++ more) vs
+  by_loss used l more all h =
       let n = length l.front in
       let long : n + 1 ≤ used = omega (arith, ap length l.bytes, length-append l.front (s ∷ []), length-take used rest) in
-      let begins : take n rest ≡ l.front = sym (take-take n used rest (omega arith)) ∙ ap (take n) l.bytes ∙ front_taken l.front (s ∷ []) in
+      let begins : take n rest ≡ l.front = sym (take-take n used rest (omega arith)) ∙ ap (take n) l.bytes ∙ take-append_seam l.front (s ∷ []) in
       let given = subst (λ y. Given holds limit s (front ++ y) vs) begins (l.least.same vs g n (omega arith)) in
-      let parts : front ++ rest ≡ (front ++ l.front) ++ (s ∷ drop used rest) =
-      ap (λ y. front ++ y) (sym (take-append-drop used rest) ∙ ap (λ y. y ++ drop used rest) l.bytes ∙ append_assoc l.front (s ∷ []) (drop used rest)) ∙ sym (append_assoc front l.front (s ∷ drop used rest)) in
+      let parts : (front ++ take used rest) ++ more ≡ (front ++ l.front) ++ (s ∷ more) =
+      ap (λ y. y ++ more) (ap (λ y. front ++ y) l.bytes ∙ sym (append_assoc front l.front (s ∷ []))) ∙ append_assoc (front ++ l.front) (s ∷ []) more in
       let k = is_short limit (unfinished s (front ++ l.front)) l.stretch l.begun in
-      given_ended holds limit s one (front ++ l.front) (drop used rest) vs all (omega (arith, ap length k.0, frame_some l.stretch l.message l.frame)) k.1 given (subst (λ y. Answers holds limit s y all) parts h)
+      given_ended holds limit s one (front ++ l.front) more vs all (omega (arith, ap length k.0, some_bytes l.stretch l.message l.frame)) k.1 given (subst (λ y. Answers holds limit s y all) parts h)
 
 -- what was kept is what is received
-pub received : {V : Type 0} (holds : List ℕ → Tree → Type 0) → IsJudged holds → (reads : Tree → V → Type 0) (limit s : ℕ) (end : End) (answers : List (Answer V)) (stream : List ℕ) → HasAllButLast holds reads limit s 1024 answers stream → IsKeptDue holds reads limit s end answers stream → IsReceived holds reads limit s end answers stream
-received holds judged reads limit s Ended answers stream l h = h
-received holds judged reads limit s ReadFault answers stream l h = h
-received holds judged reads limit s NoMemory answers stream early h =
+pub received : {V : Type 0} (holds : List ℕ → Tree → Type 0) (reads : Tree → V → Type 0) (limit s : ℕ) (end : End) (answers : List (Answer V)) (stream : List ℕ) → HasAllButLast holds reads limit s 1024 answers stream → IsKeptDue holds reads limit s end answers stream → IsReceived holds reads limit s end answers stream
+received holds reads limit s Ended answers stream l h = h
+received holds reads limit s ReadFault answers stream l h = h
+received holds reads limit s NoMemory answers stream early h =
     let l = h.loss in record {
       verdicts = l.given.verdicts;
-      begins = subst (λ x. AnswersBeginProperly holds limit s x l.given.verdicts) (sym h.parts) (by_loss holds judged limit s l.front l.rest l.given.verdicts l.given.given l.used l.lost);
+      begins = subst (λ x. AnswersBeginProperly holds limit s x l.given.verdicts) (append_assoc l.front (take l.used l.rest) (drop l.used l.rest) ∙ ap (λ x. l.front ++ x) (take-append-drop l.used l.rest) ∙ sym h.parts) (l.begins (drop l.used l.rest));
       matching = subst (λ xs. AllZip (Matches reads) xs l.given.verdicts) (sym h.said) l.given.matching;
       early = early;
     }

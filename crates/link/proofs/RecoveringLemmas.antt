@@ -1,20 +1,15 @@
 -- What is heard behind a value that had no memory.
-use Rattle.std.proofs.Common.{◌≡◌, ℕ, List, [], ◌∷◌, ◌++◌, take, drop, refl, sym, ap, ◌∙◌, subst, arith, append_assoc, append-nil, take-append-drop}
+use Rattle.std.proofs.Common.{◌≡◌, ℕ, List, [], ◌∷◌, ◌++◌, take, drop, sym, ap, ◌∙◌, subst, append_assoc, append-nil, take-append-drop}
 use Rattle.postcard_tree.specs.Tree.{Tree}
 use Rattle.link.specs.Decoding.{Inside}
-use Rattle.link.specs.Stream.{kept, begun}
+use Rattle.link.specs.Stream.{kept}
 use Rattle.link.specs.Laws.{EndsBetween}
 use Rattle.link.specs.Lemmas.Losses.{begun_on, ends_on, ends_through}
 use Rattle.link.specs.Receivers.{IsAt}
 use Rattle.link.specs.Listening.{Loss, through, answers_before, bytes_through, EndsAtLoss, StopsAt, Hears, Recovers}
 use Rattle.link.specs.declared.receiver.Answer.{Answer}
 use Rattle.link.specs.declared.reception.Reception.{Reception}
-use Rattle.link.specs.Lemmas.Stepwise.{unfinished_is}
-use Rattle.link.specs.Lemmas.FeedLaws.{begun_of, short_begun}
-use Rattle.link.proofs.EndingLemmas.{none_given}
-
-begun_none : (limit s : ℕ) → begun limit s [] ≡ kept []
-begun_none limit s = ap (begun_of limit) (unfinished_is s [] [] [] (tt, refl)) ∙ short_begun limit [] (omega arith)
+use Rattle.link.specs.Lemmas.Givens.{none_begun, none_given}
 
 module _ {D V : Type 0} (inside : D → Inside) (holds : List ℕ → Tree → Type 0) (reads : Tree → V → Type 0) (limit s : ℕ) where
   answers_then : (ls : List (Loss holds reads limit s)) (l : Loss holds reads limit s) → answers_before (ls ++ l ∷ []) ≡ answers_before ls ++ l.answers
@@ -53,7 +48,7 @@ module _ {D V : Type 0} (inside : D → Inside) (holds : List ℕ → Tree → T
 
   -- what comes is heard as by a receiver that was given nothing
   pub heard_anew : (r : Reception D) (answers : List (Answer V)) (stream : List ℕ) → HasLost r answers stream → Hears inside holds reads limit s r [] []
-  heard_anew r answers stream p = record { after = subst (IsAt inside limit s r) (sym (begun_none limit s)) p.at; given = none_given holds reads limit s [] refl }
+  heard_anew r answers stream p = record { after = subst (IsAt inside limit s r) (sym (none_begun limit s)) p.at; given = none_given holds reads limit s }
 
   pub lost_next : (r q : Reception D) (answers more : List (Answer V)) (stream piece left : List ℕ) → HasLost r answers stream → (h : StopsAt inside holds reads limit s q more [] piece left) → HasLost q (answers ++ more) (stream ++ through h.loss)
   lost_next r q answers more stream piece left p h = record {

@@ -6,6 +6,7 @@ pub mod HeardLaws
 pub mod JoinLaws
 pub mod MaskLaws
 pub mod StretchLaws
+pub mod SendLaws
 pub mod TurnLaws
 pub mod RunLaws
 pub mod SpanLaws

@@ -16,10 +16,10 @@ pub use Rattle.link.specs.Lending.{AnswersBy, StandsBy}
 -- What a reader of messages says and owes, and a reader of fronts.
 pub use Rattle.link.specs.Judged.{Judging, IsJudged, ReadsStretch, FrontLaws, front_laws, HoldsBy}
 -- What is received of all that a reader gives, by how the reading ended; at its end, after a fault, out of memory.
-pub use Rattle.link.specs.Listening.{Receives, IsReceived, HasGiven, HasAnswered, HasBegun, IsUnmade, HasAllButLast, AnswersBeginProperly, KeepsAnswer}
+pub use Rattle.link.specs.Listening.{Receives, IsReceived, HasGiven, HasAnswered, HasBegun, EndsFor, IsFilled, IsUnmade, HasAllButLast, AnswersBeginProperly, KeepsAnswer}
 -- What a hearer owes; what was handed on to it while a reader was read; and behind values that found no memory.
 pub use Rattle.link.specs.Each.{HearerLaws, Handed, Adds, Listens, HearsOut, MayLackMemory, UsesFew, IsAsked, HasReadNow, IsReceivedNow, last_call, uses_few, HeardAnyhow, heard_anyhow}
-pub use Rattle.link.specs.Listening.{Hears, Loss, Recovers}
+pub use Rattle.link.specs.Listening.{Hears, Loss, Recovers, EndsAtLoss}
 -- What the documented loop over an accumulator gives, and reading in place.
 pub use Rattle.link.specs.Gathering.{AccumulatorFitsInMemory, AreLooped, AreThoseFor}
 pub use Rattle.link.specs.InPlace.{ReadsNext, KeptUnlessEnded}

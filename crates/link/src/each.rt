@@ -106,6 +106,7 @@ impl<D: Decoding> Reception<D> {
         ensures memory { OnErr result ((M.judging messages.now).growing ≡ true) }
         ensures same { SameTerms D.inside self.old self.new }
     {
+        messages.show();
         let mut rest = piece;
         while !rest.is_empty() {
             let taken = self.take(rest);
@@ -328,7 +329,6 @@ impl<D: Decoding> Reception<D> {
         ensures memory { MayLackMemory (M.judging messages.now).growing result }
         ensures same { SameTerms D.inside self.old self.new }
     {
-        messages.show();
         match self.listen_each(false, alloc, messages, reader, hearer, &mut [0u8; ROOM]) {
             Some(end) => {
                 self.conclude_each(messages, hearer, end);

@@ -3,6 +3,8 @@ ghost use Rattle.std.specs.Prelude.{◌≡◌, ◌<◌, OnOk, OnErr, List, [], �
 ghost use Rattle.cobs.specs.Sentinel.{masked};
 ghost use Rattle.postcard.specs.Gathers.{held_of, sentinel_of};
 ghost use Rattle.line_io.specs.Transfers.{HasRead};
+ghost use Rattle.line_io.specs.declared.transfers.End.TheVariants.{NoMemory as LacksMemory};
+ghost use Rattle.link.specs.Listening.{IsFilled};
 ghost use Rattle.link.specs.Each.{UsesFew};
 ghost use Rattle.link.specs.Gathering.{GathersPieces, LacksPlace, AreSameByAccumulator, HasGathered, AreThoseFor, AreLooped, AccumulatorFitsInMemory};
 
@@ -41,6 +43,7 @@ fn gather<T: DeserializeOwned, const N: usize>(
     ensures err { OnErr result (LacksPlace T.form.takes T.form.reads T.form.growing N
         (held_of accumulator.old)
         (masked (sentinel_of accumulator.old) piece.now ∷ []) values.old.items values.new.items) }
+    ensures full { OnErr result (IsFilled values.new) }
     ensures sentinel { sentinel_of accumulator.new ≡ sentinel_of accumulator.old }
 {
     let mut rest = piece;
@@ -50,9 +53,10 @@ fn gather<T: DeserializeOwned, const N: usize>(
             FeedResult::OverFull(left) => rest = left,
             FeedResult::DeserError(left) => rest = left,
             FeedResult::Success { value, remaining } => {
-                if values.push(value).is_err() {
+                if values.reserve(1).is_err() {
                     return Err(NoMemory);
                 }
+                values.push_reserved(value);
                 rest = remaining;
             }
         }
@@ -73,6 +77,7 @@ fn collect<T: DeserializeOwned, R: Inlet, const N: usize>(
         × HasGathered T.form.takes T.form.reads T.form.growing N
         (sentinel_of accumulator.old) (held_of accumulator.old) bytes
         (held_of accumulator.new) values.old.items values.new.items result }
+    ensures full { result ≡ LacksMemory → IsFilled values.new }
     ensures calls { UsesFew (R.line reader.old) (R.line reader.new) 1 }
 {
     let mut room = [0u8; ROOM];
@@ -103,8 +108,8 @@ fn gathered_alike<T: Readable>()
 ///
 /// What isn't a value is left out, and nothing tells of it. Where the stretches fit, the values are those among the answers of
 /// `receive`; but a value for which no memory was found is left out too, so a type that can ask for memory may lack some. At
-/// `NoMemory` the list itself found none: the values before it stand, and none is missing of those of the bytes before the last
-/// read of up to 1024.
+/// `NoMemory` the list itself found none for the next value: those before it stand, as many as the list was granted places, and
+/// none is missing of those of the bytes before the last read of up to 1024.
 pub fn receive_by_accumulator<T: DeserializeOwned, R: Inlet, const N: usize>(
     alloc: Global,
     reader: R,
@@ -117,6 +122,7 @@ pub fn receive_by_accumulator<T: DeserializeOwned, R: Inlet, const N: usize>(
         result.end
         × AreLooped T.form.takes T.form.reads T.form.growing N 0 bytes result.values.items
         result.end }
+    ensures full { result.end ≡ LacksMemory → IsFilled result.values }
     ensures calls { UsesFew (R.line reader) (R.line result.reader) 1 }
 {
     receive_by_accumulator_with_sentinel::<T, R, N>(alloc, reader, 0)
@@ -136,6 +142,7 @@ pub fn receive_by_accumulator_with_sentinel<T: DeserializeOwned, R: Inlet, const
         result.end
         × AreLooped T.form.takes T.form.reads T.form.growing N sentinel bytes result.values.items
         result.end }
+    ensures full { result.end ≡ LacksMemory → IsFilled result.values }
     ensures calls { UsesFew (R.line reader) (R.line result.reader) 1 }
 {
     let mut reader = reader;

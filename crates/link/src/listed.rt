@@ -5,7 +5,7 @@ ghost use Rattle.link.specs.Firsts.{KeepsFirst, keeps_laws};
 use crate::each::Hearer;
 use crate::receiver::Answer;
 
-// Keeps the answers that it hears. Once one has found no memory it is full, has had enough, and keeps none.
+// Keeps the answers that it hears. Once there was no place for one it is full, has had enough, and keeps none.
 #[derive(Drop)]
 pub(crate) struct Listed<T> {
     pub answers: Vec<Answer<T>>,
@@ -14,28 +14,30 @@ pub(crate) struct Listed<T> {
 
 impl<T: Drop> Hearer<T> for Listed<T> {
     ghost hears = { λ old answers new.
-        KeepsFirst old.answers.items new.answers.items old.full new.full answers };
+        KeepsFirst old.answers new.answers old.full new.full answers };
 
-    ghost laws = { keeps_laws (λ l. l.answers.items) (λ l. l.full) };
+    ghost laws = { keeps_laws (λ l. l.answers) (λ l. l.full) };
 
     ghost enough = { λ l. l.full };
 
     ghost settled = { λ _. ⊤ };
 
     fn hear(&mut self, answer: Answer<T>)
-        ensures { KeepsFirst self.old.answers.items self.new.answers.items
+        ensures { KeepsFirst self.old.answers self.new.answers
             self.old.full self.new.full (answer ∷ []) }
     {
         if self.full {
             return;
         }
-        if self.answers.push(answer).is_err() {
+        if self.answers.reserve(1).is_err() {
             self.full = true;
+            return;
         }
+        self.answers.push_reserved(answer);
     }
 
     fn pause(&mut self)
-        ensures heard { KeepsFirst self.old.answers.items self.new.answers.items
+        ensures heard { KeepsFirst self.old.answers self.new.answers
             self.old.full self.new.full [] }
         ensures settles { ⊤ }
     {}

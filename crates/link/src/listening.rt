@@ -23,8 +23,9 @@ pub struct Received<T, R> {
     /// The answers, in the order of their stretches.
     ///
     /// At `Ended` they are those of all bytes that were read, with `Cut` for a stretch that no sentinel ended. At `ReadFault`
-    /// they are these without `Cut`. At `NoMemory` they are the first of them, and at least one is missing, though none of those of
-    /// the bytes before the last read of up to 1024; where there was none for a receiver of `receive_owned`, nothing was read.
+    /// they are these without `Cut`. At `NoMemory` they are those before the first one that is missing: a value found no memory, or
+    /// the list no place behind all that it was granted. None is missing of the bytes before the last read of up to 1024. Where there
+    /// was no memory for a receiver of `receive_owned`, nothing was read.
     pub answers: Vec<Answer<T>>,
     /// How the reception ended: at `NoMemory` none was found for a value, for the list, or for a receiver whose limit is a value.
     pub end: End,
@@ -53,8 +54,9 @@ fn receive_by<V: Drop, M: MessageReader<V>, R: Inlet, D: Decoding>(
     receiver: &mut Reception<D>,
 ) -> Received<V, R>
     ensures received { (limit s : ℕ) → IsBehind D.inside limit s receiver.old []
-        → Receives (M.judging messages.now).holds (M.judging messages.now).reads limit s
-        (R.line reader) (R.line result.reader) result.end result.answers.items }
+        → Receives (M.judging messages.now).holds (M.judging messages.now).reads
+        (M.judging messages.now).growing limit s
+        (R.line reader) (R.line result.reader) result.end result.answers }
     ensures calls { UsesFew (R.line reader) (R.line result.reader) 1 }
 {
     messages.show();
@@ -81,8 +83,8 @@ pub fn receive<T: DeserializeOwned, R: Inlet, const N: usize>(
     reader: R,
 ) -> Received<T, R>
     requires { ReceiverFitsInMemory N.row }
-    ensures received { Receives (Holds T.form.takes) T.form.reads N 0
-        (R.line reader) (R.line result.reader) result.end result.answers.items }
+    ensures received { Receives (Holds T.form.takes) T.form.reads T.form.growing N 0
+        (R.line reader) (R.line result.reader) result.end result.answers }
     ensures calls { UsesFew (R.line reader) (R.line result.reader) 1 }
 {
     receive_with_sentinel::<T, R, N>(alloc, reader, 0)
@@ -95,8 +97,8 @@ pub fn receive_with_sentinel<T: DeserializeOwned, R: Inlet, const N: usize>(
     sentinel: u8,
 ) -> Received<T, R>
     requires { ReceiverFitsInMemory N.row }
-    ensures received { Receives (Holds T.form.takes) T.form.reads N sentinel
-        (R.line reader) (R.line result.reader) result.end result.answers.items }
+    ensures received { Receives (Holds T.form.takes) T.form.reads T.form.growing N sentinel
+        (R.line reader) (R.line result.reader) result.end result.answers }
     ensures calls { UsesFew (R.line reader) (R.line result.reader) 1 }
 {
     let mut receiver = Receiver::<N>::new_with_sentinel(sentinel);
@@ -110,8 +112,8 @@ pub fn receive_strict<T: DeserializeOwned + Exact, R: Inlet, const N: usize>(
     reader: R,
 ) -> Received<T, R>
     requires { ReceiverFitsInMemory N.row }
-    ensures received { Receives (HoldsExactly T.form.takes) T.form.reads N 0
-        (R.line reader) (R.line result.reader) result.end result.answers.items }
+    ensures received { Receives (HoldsExactly T.form.takes) T.form.reads T.form.growing N 0
+        (R.line reader) (R.line result.reader) result.end result.answers }
     ensures calls { UsesFew (R.line reader) (R.line result.reader) 1 }
 {
     receive_strict_with_sentinel::<T, R, N>(alloc, reader, 0)
@@ -124,8 +126,8 @@ pub fn receive_strict_with_sentinel<T: DeserializeOwned + Exact, R: Inlet, const
     sentinel: u8,
 ) -> Received<T, R>
     requires { ReceiverFitsInMemory N.row }
-    ensures received { Receives (HoldsExactly T.form.takes) T.form.reads N sentinel
-        (R.line reader) (R.line result.reader) result.end result.answers.items }
+    ensures received { Receives (HoldsExactly T.form.takes) T.form.reads T.form.growing N sentinel
+        (R.line reader) (R.line result.reader) result.end result.answers }
     ensures calls { UsesFew (R.line reader) (R.line result.reader) 1 }
 {
     let mut receiver = Receiver::<N>::new_with_sentinel(sentinel);
@@ -152,8 +154,8 @@ pub fn receive_owned<T: DeserializeOwned, R: Inlet>(
     sentinel: u8,
 ) -> Received<T, R>
     ensures received { IsUnmade reader result.reader result.end result.answers.items
-        ⊎ Receives (Holds T.form.takes) T.form.reads limit sentinel
-        (R.line reader) (R.line result.reader) result.end result.answers.items }
+        ⊎ Receives (Holds T.form.takes) T.form.reads T.form.growing limit sentinel
+        (R.line reader) (R.line result.reader) result.end result.answers }
     ensures calls { UsesFew (R.line reader) (R.line result.reader) 1 }
 {
     match OwnedReceiver::new(alloc, limit, sentinel) {
@@ -171,8 +173,8 @@ pub fn receive_owned_strict<T: DeserializeOwned + Exact, R: Inlet>(
     sentinel: u8,
 ) -> Received<T, R>
     ensures received { IsUnmade reader result.reader result.end result.answers.items
-        ⊎ Receives (HoldsExactly T.form.takes) T.form.reads limit sentinel
-        (R.line reader) (R.line result.reader) result.end result.answers.items }
+        ⊎ Receives (HoldsExactly T.form.takes) T.form.reads T.form.growing limit sentinel
+        (R.line reader) (R.line result.reader) result.end result.answers }
     ensures calls { UsesFew (R.line reader) (R.line result.reader) 1 }
 {
     match OwnedReceiver::new(alloc, limit, sentinel) {

@@ -12,8 +12,8 @@ use Rattle.link_codec.specs.declared.error.DecodeError.{DecodeError}
 use Rattle.link_codec.specs.Decoders.{IsGiven as Given, IsGivenTo, messages_in, gives_judged, judged_stable}
 use Rattle.link_codec.specs.declared.decoder.AnswerDecoder.{AnswerDecoder}
 use Rattle.link_codec.specs.Gives.{GivenBy, gives_answers}
-use Rattle.link_codec.specs.Whole.{answers_of, IsOfReader, Begins, IsHeardOf, IsAnsweredSoFar}
-use Rattle.link_codec.proofs.KeptLemmas.{kept_given, none_given}
+use Rattle.link_codec.specs.Whole.{answers_of, IsOfReader, IsHeardOf, IsAnsweredSoFar}
+use Rattle.link.specs.Lemmas.Givens.{kept_given, none_given}
 use Rattle.link_codec.proofs.WholeLemmas.{none_decoded, none_ended, ended_on, as_judged}
 use Rattle.tokio.specs.Io.Moved.{Passes, PassesInOrder}
 use Rattle.tokio.specs.Io.Steps.{Yields, answers, passes, waits}

@@ -1,4 +1,3 @@
 pub mod DecodingLemmas
-pub mod KeptLemmas
 pub mod WholeLemmas
 pub mod FirstLemmas

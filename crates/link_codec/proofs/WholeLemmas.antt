@@ -15,9 +15,9 @@ use Rattle.link_codec.specs.Beside.{gives_beside, stable_beside}
 use Rattle.link_codec.specs.Decoders.{IsGiven as Given, IsGivenTo, messages_in, gives_judged, judged_stable}
 use Rattle.link_codec.specs.declared.decoder.AnswerDecoder.{AnswerDecoder}
 use Rattle.link_codec.specs.Gives.{GivenBy, AddsNothing, Ends, gives_answers}
-use Rattle.link_codec.proofs.KeptLemmas.{none_begun, kept_given, ended_by, none_given}
+use Rattle.link.specs.Lemmas.Givens.{none_begun, kept_given, ended_by, none_given}
 use Rattle.link_codec.specs.Laws.{no_push}
-use Rattle.link_codec.specs.Whole.{answers_of, IsOfReader, Begins, IsAnsweredWhole}
+use Rattle.link_codec.specs.Whole.{answers_of, IsOfReader, IsAnsweredWhole}
 use Rattle.link_codec.proofs.DecodingLemmas.{push_none}
 use Rattle.tokio.specs.Io.Moved.{Passes, PassesInOrder}
 use Rattle.tokio_util.specs.Codec.Next.{Next, Gives, decoded, at_end}

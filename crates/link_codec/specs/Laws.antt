@@ -8,17 +8,11 @@ use Rattle.postcard_tree.specs.Tree.{Tree}
 use Rattle.link.specs.Stream.{Verdict, value, damaged, too_long, IsAnswer, begun_answers, Given, ended, unfinished}
 use Rattle.link.specs.Pushes.{IsPush, IsLost, IsLeast, Answered}
 use Rattle.link.specs.declared.receiver.Answer.{Answer}
+use Rattle.link.specs.Lemmas.HeardLaws.{zip_length}
 use Rattle.link_codec.specs.declared.error.DecodeError.{DecodeError}
 use Rattle.link_codec.specs.declared.error.DecodeError.TheVariants.{NoMemory, Io}
 use Rattle.link_codec.specs.Gives.{GivenBy, AddsAnswer, gives_answers}
 use Rattle.tokio_util.specs.Codec.Next.{decoded, partial, IsStable, EndIsPartial}
-
-zip_length : {A B : Type 0} (R : A → B → Type 0) (xs : List A) (us : List B) → AllZip R xs us
-    → length us ≡ length xs
-zip_length R [] [] h = refl
-zip_length R [] (u ∷ us) h = absurd h
-zip_length R (x ∷ xs) [] h = absurd h
-zip_length R (x ∷ xs) (u ∷ us) h = omega (arith, zip_length R xs us h.1)
 
 -- lists of answers of a stream are equally long
 same_count : (holds : List ℕ → Tree → Type 0) (limit s : ℕ) (stream : List ℕ) (us vs : List Verdict)

@@ -1,7 +1,7 @@
 -- Sends one after another: those of one sender are a session, and sessions of new senders a run. The laws here make them of what
 -- `send` and `send_each` say, and join them with what a receiver says.
 use Rattle.std.proofs.Common.{◌≡◌, ℕ, zero, suc, length, ◌<◌, ◌≤◌, Bool, true, false, List, [], ◌∷◌, ◌++◌, Option, Some, None, Result, Ok, Err, refl, sym, ap, ◌∙◌, subst, arith}
-use Rattle.std.specs.Prelude.{IfSome, bit_xor, cond, map, nat_lt}
+use Rattle.std.specs.Prelude.{IfSome, bit_xor, cond, map, nat_lt, Vec}
 use Rattle.std.specs.List.{AllZip, AllByRecursion, zip}
 use Rattle.std.proofs.lemmas.Bool.{lt-ltb, le-ltb}
 use Rattle.std.proofs.lemmas.List.{append-nil, length-append, length-map}
@@ -263,27 +263,27 @@ module _ {V : Type 0} {takes : Tree → Type 0} {writes : V → Option Tree} {va
 
 module _ {V : Type 0} {takes : Tree → Type 0} {reads : Tree → V → Type 0} {alike : V → V → Type 0} {writes : V → Option Tree} {valid : V → Type 0} (law : CarriesValues takes reads alike writes valid) where
   -- What is received of the line of a run, by a reader that gives it and told its end, is what is to be told of the run.
-  pub heard_of_run : {n limit s : ℕ} (run : List (List (V × Send))) (old new : LineState)
-      (end : End) (answers : List (Answer V))
+  pub heard_of_run : {A : Type 0} {growing : Bool} {n limit s : ℕ} (run : List (List (V × Send))) (old new : LineState)
+      (end : End) (list : Vec (Answer V) A)
       → n ≤ limit → IsRun takes n s (runs_of run) → AreSends writes valid run
-      → Receives (Holds takes) reads limit s old new end answers
-      → old.told ≡ Some (line s (runs_of run)) → end ≡ Ended → HeardOfRun reads alike s run answers
-  heard_of_run {n = n} {limit = limit} {s = s} run old new end answers l is of h comes ends =
-      let answered : HasAnswered (Holds takes) reads limit s answers h.0 = subst (λ e. IsReceived (Holds takes) reads limit s e answers h.0) ends h.2 in
+      → Receives (Holds takes) reads growing limit s old new end list
+      → old.told ≡ Some (line s (runs_of run)) → end ≡ Ended → HeardOfRun reads alike s run list.items
+  heard_of_run {n = n} {limit = limit} {s = s} run old new end list l is of h comes ends =
+      let answered : HasAnswered (Holds takes) reads limit s list.items h.0 = subst (λ e. IsReceived (Holds takes) reads limit s e list.items h.0) ends h.2 in
       let same = all_read (line s (runs_of run)) h.0 old new comes (subst (λ e. HasRead old new e h.0) ends h.1) in
-      law.ordinary limit s run answers (wider_run takes s n limit l (runs_of run) is) of
-      (subst (λ z. HasAnswered (Holds takes) reads limit s answers z) same answered)
+      law.ordinary limit s run list.items (wider_run takes s n limit l (runs_of run) is) of
+      (subst (λ z. HasAnswered (Holds takes) reads limit s list.items z) same answered)
 
   -- Where the line was empty, and what the run left there is what comes, that is heard.
-  pub heard_of_line : {n limit s : ℕ} {run : List (List (V × Send))} {u v : LineState} (stream : List ℕ) (old new : LineState)
-      (end : End) (answers : List (Answer V))
+  pub heard_of_line : {A : Type 0} {growing : Bool} {n limit s : ℕ} {run : List (List (V × Send))} {u v : LineState} (stream : List ℕ) (old new : LineState)
+      (end : End) (list : Vec (Answer V) A)
       → LeavesRun IsTree writes valid n s u v run
-      → Receives (Holds takes) reads limit s old new end answers
+      → Receives (Holds takes) reads growing limit s old new end list
       → n ≤ limit → u.told ≡ Some [] → v.told ≡ Some stream → old.told ≡ Some stream → end ≡ Ended
-      → HeardOfRun reads alike s run answers
-  heard_of_line {n = n} {s = s} {run = run} {u = u} {v = v} stream old new end answers r h l empty wrote comes ends =
+      → HeardOfRun reads alike s run list.items
+  heard_of_line {n = n} {s = s} {run = run} {u = u} {v = v} stream old new end list r h l empty wrote comes ends =
       let whole = all_written u v stream (line s (runs_of run)) empty wrote r.wrote in
-      heard_of_run run old new end answers l (takes_each law.taken n s run r.of r.is) r.of h (comes ∙ ap Some whole) ends
+      heard_of_run run old new end list l (takes_each law.taken n s run r.of r.is) r.of h (comes ∙ ap Some whole) ends
 
 -- Of a frame so many bytes had gone out where a send broke off: all of them at most.
 pub out_at_most : (s : ℕ) (clean : Bool) (t : Tree) (k : ℕ) → k < length (sent s clean t)

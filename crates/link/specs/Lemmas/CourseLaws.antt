@@ -15,6 +15,13 @@ AnswersEvent holds limit quiet answers = answers ≡ []
 AnswersEvent holds limit (ended p) answers = (a : Verdict) × IsAnswer holds limit p a × (answers ≡ a ∷ [])
 AnswersEvent holds limit passed answers = answers ≡ too_long ∷ []
 
+pub no_end_passed : (p : List ℕ) → end_of p ≡ passed → ⊥
+no_end_passed [] q = cc
+no_end_passed (b ∷ p) q = cc
+
+pub one_more : (n byte : ℕ) (bytes : List ℕ) → byte ∷ take n bytes ≡ take (n + 1) (byte ∷ bytes)
+one_more n byte bytes = rw (add-one n) refl
+
 module _ (holds : List ℕ → Tree → Type 0) (limit s : ℕ) where
   masked_byte : (byte : ℕ) → masked s (bit_xor s byte ∷ []) ≡ byte ∷ []
   masked_byte byte = ap (λ x. x ∷ []) (mask_twice s byte)
@@ -44,10 +51,6 @@ module _ (holds : List ℕ → Tree → Type 0) (limit s : ℕ) where
   close : (r p : List ℕ) (a : Verdict) → end_of r ≡ ended p → IsAnswer holds limit p a → FeedsAnswers holds limit s (kept r) (s ∷ []) (a ∷ []) (kept [])
   close [] p a q h = cc
   close (b ∷ r) p a q h = let same : p ≡ b ∷ r = cc in feeds_end holds limit s (b ∷ r) a (omega arith) (subst (λ x. IsAnswer holds limit x a) same h)
-
-  no_end_passed : (p : List ℕ) → end_of p ≡ passed → ⊥
-  no_end_passed [] q = cc
-  no_end_passed (b ∷ p) q = cc
 
   -- a byte that brings about nothing
   pub quiet_step : (b : Begun) (byte : ℕ) → event_at limit s b byte ≡ quiet → FeedsAnswers holds limit s b (byte ∷ []) [] (begun_at limit s b byte)
@@ -84,9 +87,6 @@ module _ (holds : List ℕ → Tree → Type 0) (limit s : ℕ) where
     ]
   ]
   passed_step over byte q = cc
-
-  one_more : (n byte : ℕ) (bytes : List ℕ) → byte ∷ take n bytes ≡ take (n + 1) (byte ∷ bytes)
-  one_more n byte bytes = rw (add-one n) refl
 
   course_step : (b : Begun) (byte : ℕ) (bytes : List ℕ) (later : Course) (answers : List Verdict)
       → (AnswersEvent holds limit later.event answers → FeedsAnswers holds limit s (begun_at limit s b byte) (take later.used bytes) answers later.begun)

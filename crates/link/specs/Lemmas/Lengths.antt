@@ -32,7 +32,7 @@ shortest_or_longer other frame message f = elim (same_or_not frame (shortest_fra
   | inr n ↦ inr (ap length ((other frame message).0 (f, n)).1 ∙ length-append (shortest_frame message) (1 ∷ []))
 ]
 
-none_left : (x : List ℕ) → length x ≡ 0 → x ≡ []
+pub none_left : (x : List ℕ) → length x ≡ 0 → x ≡ []
 none_left [] e = refl
 none_left (b ∷ x) e = absurd (omega arith)
 

@@ -1,7 +1,6 @@
 -- The pieces of a stream, and its stretches: laws on which the proofs of this crate and of `link_laws` stand.
-use Rattle.std.proofs.Common.{◌≡◌, ℕ, zero, suc, ◌+◌, ◌<◌, ◌≤◌, false, eqb, List, [], ◌∷◌, ◌++◌, length, map, refl, sym, ap, ◌∙◌, subst, inl, inr, arith, append_assoc, bit_xor, ◌==◌, eq-eqb, ne_eqb, append-nil}
+use Rattle.std.proofs.Common.{◌≡◌, ℕ, ◌+◌, ◌<◌, ◌≤◌, false, eqb, List, [], ◌∷◌, ◌++◌, length, map, refl, sym, ap, ◌∙◌, subst, inl, inr, arith, append_assoc, bit_xor, ◌==◌, eq-eqb, ne_eqb, append-nil}
 use Rattle.std.specs.List.{slice_split, onto_first, join_with_byte}
-use Rattle.std.specs.Int.Bits.{xor_assoc, xor_self, xor_zero_r}
 use Rattle.std.proofs.lemmas.Bool.{cases_eq}
 use Rattle.std.proofs.lemmas.List.{length-map}
 use Rattle.std.proofs.lemmas.List.Splits.{slice_split-cons_yes, slice_split-cons_no, length-slice_split, join_with_byte-slice_split}
@@ -9,31 +8,17 @@ use Rattle.cobs.specs.Frames.{NoZero}
 use Rattle.cobs.specs.Sentinel.{masked}
 use Rattle.link.specs.Stream.{pieces, ended_of, unfinished_of, ended, unfinished}
 use Rattle.link.specs.Laws.{EndsBetween, sentinels}
-
--- the same byte, masked twice
-pub mask_twice : (s b : ℕ) → bit_xor s (bit_xor s b) ≡ b
-mask_twice s b = sym (xor_assoc s s b) ∙ ap (λ x. bit_xor x b) (xor_self s)
+use Rattle.link.specs.Lemmas.MaskLaws.{mask_twice, masked_is_sentinel}
+use Rattle.link.specs.Lemmas.StretchLaws.{nonzero as masked_nonzero}
 
 -- the same bytes, masked twice
 pub masked_twice : (s : ℕ) (p : List ℕ) → masked s (masked s p) ≡ p
 masked_twice s [] = refl
 masked_twice s (b ∷ p) = ap (λ x. x ∷ masked s (masked s p)) (mask_twice s b) ∙ ap (λ x. b ∷ x) (masked_twice s p)
 
--- only zero is masked to the sentinel
-masked_is_sentinel : (s b : ℕ) → bit_xor s b ≡ s → b ≡ 0
-masked_is_sentinel s b e = sym (mask_twice s b) ∙ ap (bit_xor s) e ∙ xor_self s
-
--- and no other byte is masked to zero
-masked_nonzero : (s b : ℕ) → (b ≡ s → ⊥) → 0 < bit_xor s b
-masked_nonzero s b ne = go (bit_xor s b) refl
-  where
-    go : (c : ℕ) → bit_xor s b ≡ c → 0 < c
-    go zero e = absurd (ne (sym (mask_twice s b) ∙ ap (bit_xor s) e ∙ xor_zero_r s))
-    go (suc c) e = omega arith
-
 -- a byte of a stretch, masked, isn't the sentinel
 pub isn't_sentinel : (s b : ℕ) → 0 < b → eqb (bit_xor s b) s ≡ false
-isn't_sentinel s b l = ne_eqb (bit_xor s b) s (λ e. let z : b ≡ 0 = masked_is_sentinel s b e in omega arith)
+isn't_sentinel s b l = ne_eqb (bit_xor s b) s (λ e. let z : b ≡ 0 = masked_is_sentinel s b (sym e) in omega arith)
 
 module _ (s : ℕ) where
   split_at : (p rest : List ℕ) → NoZero p → slice_split (λ b. b == s) (masked s p ++ (s ∷ rest))

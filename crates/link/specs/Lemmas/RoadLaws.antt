@@ -1,7 +1,7 @@
 -- The three ways to receive values give the same.
 use Rattle.std.proofs.Common.{◌≡◌, ◌≢◌, ℕ, zero, suc, ◌+◌, ◌-◌, ◌<◌, Bool, true, false, List, [], ◌∷◌, ◌++◌, length, map, drop, refl, sym, ap, ◌∙◌, subst, inl, inr, ◌⊎◌, arith, append_assoc, length-append, bit_xor, ne_eqb, append-nil}
 use Rattle.std.specs.List.{AllZip, AllByRecursion}
-use Rattle.std.specs.Int.Bits.{xor_zero_l, xor_self}
+use Rattle.std.specs.Int.Bits.{xor_self}
 use Rattle.std.proofs.lemmas.Bool.{cases_lt}
 use Rattle.std.proofs.lemmas.List.{map-append}
 use Rattle.cobs.specs.Frames.{NoZero}
@@ -12,6 +12,8 @@ use Rattle.postcard.specs.Frames.{Holds}
 use Rattle.link.specs.Stream.{Verdict, value, damaged, too_long, cut, IsContent, IsAnswer, Heard, Answers, pieces, ended_of, unfinished_of, ended, unfinished, begun_answers, cut_answers}
 use Rattle.link.specs.Roads.{values_of, AllFit, ReadsInPlace, nothing, skipped, answered, unanswered, IsSameInPlace, Loops, done, stopped, used_up, consumed, overfull, failed, success, joined, AreValues, AreFirst, IsSameByAccumulator}
 use Rattle.link.specs.Lemmas.Facts.{some_bytes}
+use Rattle.link.specs.Lemmas.MaskLaws.{unmasked as plain}
+use Rattle.link.specs.Lemmas.StretchLaws.{NoZero-append as nonzero_joined}
 use Rattle.link.specs.Lemmas.HeardLaws.{IsOne, zip_once, heard_of, heard_skip, heard_ended, heard_alone, at_end}
 use Rattle.link.specs.Lemmas.Pieces.{Parted, alone, more, parted, masked_twice, pieces_at, pieces_alone, ended_skip, ended_at, ended_alone}
 
@@ -85,14 +87,6 @@ module _ (holds : List ℕ → Tree → Type 0) (s : ℕ) where
       ∙ ap values_of same ∙ sym (ap values_of i.whole ∙ values_joined i.done (unended (unfinished s stream)) (no_values_unended (unfinished s stream)))
 
 -- By an accumulator
-
-plain : (bytes : List ℕ) → masked 0 bytes ≡ bytes
-plain [] = refl
-plain (b ∷ bytes) = ap (λ x. x ∷ masked 0 bytes) (xor_zero_l b) ∙ ap (λ x. b ∷ x) (plain bytes)
-
-nonzero_joined : (p q : List ℕ) → NoZero p → NoZero q → NoZero (p ++ q)
-nonzero_joined [] q z w = w
-nonzero_joined (b ∷ p) q z w = (z.0, nonzero_joined p q z.1 w)
 
 nonzero_drop : (n : ℕ) (p : List ℕ) → NoZero p → NoZero (drop n p)
 nonzero_drop zero p z = z

@@ -1,15 +1,15 @@
 -- How long the stretch was that an answer is about.
-use Rattle.std.proofs.Common.{◌≡◌, ℕ, ◌+◌, ◌-◌, ◌≤◌, List, [], ◌∷◌, ◌++◌, length, take, Option, Some, None, Result, Ok, Err, refl, sym, ap, ◌∙◌, subst, inl, inr, arith, add-one, length-append, length-take, take-take, eq-eqb, ne_eqb, lt-ltb}
+use Rattle.std.proofs.Common.{◌≡◌, ℕ, ◌+◌, ◌-◌, ◌≤◌, List, [], ◌∷◌, ◌++◌, length, take, Option, Some, None, Result, Ok, Err, refl, sym, ap, ◌∙◌, subst, inl, inr, arith, length-append, length-take, take-take, eq-eqb, ne_eqb, lt-ltb}
 use Rattle.std.proofs.lemmas.Bool.{cases_eq, cases_lt}
 use Rattle.postcard_tree.specs.Tree.{Tree}
 use Rattle.link.specs.Stream.{unfinished, Begun, kept, over, begun}
 use Rattle.link.specs.Pushes.{IsBegun, IsStretchOf}
-use Rattle.link.specs.Steps.{Event, quiet, ended, passed, end_of, event_at, begun_at, Course, course_on, course_of}
+use Rattle.link.specs.Steps.{Event, quiet, ended, passed, event_at, begun_at, Course, course_on, course_of}
 use Rattle.link.specs.Finds.{Replies, IsSpan}
 use Rattle.link.specs.declared.receiver.Answer.{Answer}
 use Rattle.link.specs.declared.receiver.NoMemory.{NoMemory}
 use Rattle.link.specs.Lemmas.FeedLaws.{FeedsAnswers, is_short, feeds_nothing, feeds_then}
-use Rattle.link.specs.Lemmas.CourseLaws.{quiet_step, course_ends, course_within}
+use Rattle.link.specs.Lemmas.CourseLaws.{no_end_passed, one_more, quiet_step, course_ends, course_within}
 use Rattle.std.proofs.Math.Seq.{take-append_seam}
 use Rattle.link.specs.Lemmas.AnswerLaws.{Nothing, leads, end_begun}
 
@@ -23,22 +23,15 @@ module _ (limit s : ℕ) where
     pub begun : FeedsAnswers Nothing limit s b front [] (kept stretch)
     pub far : limit ≤ length stretch
 
-  no_end : (p : List ℕ) → end_of p ≡ passed → ⊥
-  no_end [] q = cc
-  no_end (b ∷ p) q = cc
-
   pass_here : (b : Begun) (byte : ℕ) (bytes : List ℕ) → event_at limit s b byte ≡ passed → Passes b (byte ∷ bytes) 1
   pass_here (kept p) byte bytes q = elim (cases_eq byte s) [
-    | inl e ↦ absurd (no_end p (rw (eq-eqb byte s e) at q))
+    | inl e ↦ absurd (no_end_passed p (rw (eq-eqb byte s e) at q))
     | inr ne ↦ elim (cases_lt (length p) limit) [
       | inl l ↦ (let h = rw (ne_eqb byte s ne, lt-ltb (length p) limit l) at q in cc)
       | inr l ↦ record { front = []; byte = byte; stretch = p; bytes = refl; begun = feeds_nothing Nothing limit s (kept p); far = l }
     ]
   ]
   pass_here over byte bytes q = cc
-
-  one_more : (n byte : ℕ) (bytes : List ℕ) → byte ∷ take n bytes ≡ take (n + 1) (byte ∷ bytes)
-  one_more n byte bytes = rw (add-one n) refl
 
   pass_step : (b : Begun) (byte : ℕ) (bytes : List ℕ) (later : Course) → (later.event ≡ passed → Passes (begun_at limit s b byte) bytes later.used)
       → (e : Event) → event_at limit s b byte ≡ e → (course_on e (begun_at limit s b byte) later).event ≡ passed → Passes b (byte ∷ bytes) (course_on e (begun_at limit s b byte) later).used

@@ -1,7 +1,8 @@
 use Rattle.std.proofs.Common.{sym, ap, ◌∙◌}
 use Rattle.line_io.specs.Memory.{in_bytes}
 use Rattle.link.specs.Senders.{writer_of, clean_of, sentinel_of}
-use Rattle.calls_laws.proofs.StepsLemmas.{serves_line, front_read, inside}
+use Rattle.calls.specs.ServedLaws.{which as inside}
+use Rattle.calls_laws.proofs.StepsLemmas.{serves_line, front_read}
 use Rattle.calls_laws.proofs.sides.serve_all.Goals as goal
 
 pub returns : goal.returns

@@ -1,10 +1,8 @@
-use Rattle.std.proofs.Common.{◌≡◌, Some, sym, ap, ◌∙◌}
+use Rattle.std.proofs.Common.{◌≡◌, sym, ap, ◌∙◌}
 use Rattle.calls.specs.Calls.{call}
 use Rattle.calls.specs.Serving.{kept_as}
+use Rattle.calls.specs.ServedLaws.{which}
 use Rattle.calls.proofs.server.Server.send_last.Goals as goal
-
-which : {A : Type 0} {x y : A} → Some x ≡ Some y → x ≡ y
-which e = cc
 
 pub returns-in-Some-clause-sent : goal.returns-in-Some-clause-sent
 returns-in-Some-clause-sent g c e is =

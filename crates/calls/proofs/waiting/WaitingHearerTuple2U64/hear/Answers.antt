@@ -1,10 +1,7 @@
-use Rattle.std.proofs.Common.{◌≡◌, Some, sym, ap, ◌∙◌}
+use Rattle.std.proofs.Common.{sym, ap, ◌∙◌}
 use Rattle.calls.specs.Waits.{Waiter}
 use Rattle.calls.proofs.UnheardLemmas.{unheard}
 use Rattle.calls.proofs.waiting.WaitingHearerTuple2U64.hear.Goals as goal
-
-which : {A : Type 0} {x y : A} → Some x ≡ Some y → x ≡ y
-which e = cc
 
 pub returns-in_default : goal.returns-in_default
 returns-in_default g c =

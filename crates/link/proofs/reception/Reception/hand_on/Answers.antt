@@ -1,10 +1,12 @@
-use Rattle.std.proofs.Common.{◌≡◌, ℕ, ◌<◌, List, [], ◌∷◌, ◌++◌, length, take, refl, sym, ◌∙◌, ap, subst, append_assoc, arith, rules, append-nil}
+use Rattle.std.proofs.Common.{◌≡◌, ◌<◌, [], ◌++◌, length, take, refl, sym, ◌∙◌, ap, subst, append_assoc, arith, rules, append-nil}
 use Rattle.link.specs.Stream.{begun}
 use Rattle.link.specs.Receivers.{IsAt, IsBehind}
 use Rattle.link.specs.Listening.{Hears, HasGiven}
 use Rattle.link.specs.Lemmas.Givens.{kept_given}
+use Rattle.link.specs.Lemmas.Lengths.{none_left}
 use Rattle.link.proofs.HearingLemmas.{on_err, on_ok, lost_by, parts_on}
 use Rattle.link.specs.Lemmas.AnswerLaws.{behind_after, answered}
+use Rattle.link.proofs.PrefixesLemmas.{by_loss}
 use Rattle.link.proofs.HandingLemmas.{handed_none, handed_next, handed_as, keeps_behind}
 use Rattle.link.proofs.reception.Reception.hand_on.Goals as goal
 
@@ -24,20 +26,22 @@ pub returns-then-is_err-clause-err : goal.returns-then-is_err-clause-err
 returns-then-is_err-clause-err g c =
     let rest = c.loop-rest.rest.now in
     let k = c.loop-rest.invariant.1 in
+    let judging = g.M.MessageReader.judging c.args.messages.now in
     let e = on_err c.hand.result _ (sym c.is_err.ensures.value ∙ c.if-is_err.true) c.hand.ensures.err in
     rw e.0 (handed_as g.H.Hearer.hears g.H.Hearer.laws _ _ _ _ k.2 (λ more adds limit s stream given h.
     let heard = adds limit s stream given h in
     let b = begun limit s (stream ++ k.0) in
     let taken = c.take-taken.ensures.taken limit s b heard.after in
-    let held = e.1 limit _ (c.lend.ensures.same limit _ taken) in record {
+    let held = e.1 limit _ (c.lend.ensures.same limit _ taken) in
+    let lost = lost_by judging.holds judging.reads limit s (stream ++ k.0) rest c.take-taken.result.used held.reply (answered judging.holds limit s b rest (stream ++ k.0) refl judging.reads _ held.reply taken.used held.replies) held.fails in record {
       loss = record {
         answers = given ++ more;
         front = stream ++ k.0;
         rest = rest;
         used = c.take-taken.result.used;
         given = heard.given;
-        lost = lost_by (g.M.MessageReader.judging c.args.messages.now).holds (g.M.MessageReader.judging c.args.messages.now).reads limit s (stream ++ k.0) rest c.take-taken.result.used held.reply
-            (answered (g.M.MessageReader.judging c.args.messages.now).holds limit s b rest (stream ++ k.0) refl (g.M.MessageReader.judging c.args.messages.now).reads _ held.reply taken.used held.replies) held.fails;
+        lost = lost;
+        begins = by_loss judging.holds c.show.ensures limit s (stream ++ k.0) rest heard.given.verdicts heard.given.given c.take-taken.result.used lost;
       };
       said = refl;
       parts = ap (λ x. stream ++ x) k.1 ∙ sym (append_assoc stream k.0 rest);
@@ -76,15 +80,10 @@ loop-rest-preserved g c =
       omega (arith, c.split_at.ensures.back_len, c.loop-rest.invariant.2),
     )
 
--- nothing is left
-empty : (xs : List ℕ) → length xs ≡ 0 → xs ≡ []
-empty [] e = refl
-empty (x ∷ xs) e = absurd (omega arith)
-
 pub returns-clause-ok : goal.returns-clause-ok
 returns-clause-ok g c =
     let k = c.loop-rest.invariant.1 in
-    let none : c.loop-rest.rest.now ≡ [] = empty c.loop-rest.rest.now (search rules) in
+    let none : c.loop-rest.rest.now ≡ [] = none_left c.loop-rest.rest.now (search rules) in
     rw (k.1 ∙ ap (λ x. k.0 ++ x) none ∙ append-nil k.0) k.2
 
 pub returns-then-is_err-clause-shorter : goal.returns-then-is_err-clause-shorter

@@ -1,6 +1,7 @@
-use Rattle.std.proofs.Common.{◌≡◌, ℕ, List, [], ◌∷◌, ◌++◌, length, take, refl, sym, ◌∙◌, ap, subst, append_assoc, arith, rules, append-nil}
+use Rattle.std.proofs.Common.{◌≡◌, [], ◌++◌, take, refl, sym, ◌∙◌, ap, subst, append_assoc, rules, append-nil}
 use Rattle.link.specs.Stream.{begun}
 use Rattle.link.specs.Receivers.{IsAt, IsBehind}
+use Rattle.link.specs.Lemmas.Lengths.{none_left}
 use Rattle.link.proofs.HearingLemmas.{parts_on}
 use Rattle.link.specs.Lemmas.AnswerLaws.{behind_after}
 use Rattle.link.proofs.reception.Reception.pass_over.Goals as goal
@@ -26,13 +27,8 @@ loop-rest-preserved g c =
           ),
     )
 
--- nothing is left
-empty : (xs : List ℕ) → length xs ≡ 0 → xs ≡ []
-empty [] e = refl
-empty (x ∷ xs) e = absurd (omega arith)
-
 pub returns-clause-stands : goal.returns-clause-stands
 returns-clause-stands g c limit s stream h =
     let k = c.loop-rest.invariant.1 limit s stream h in
-    let none : c.loop-rest.rest.now ≡ [] = empty c.loop-rest.rest.now (search rules) in
+    let none : c.loop-rest.rest.now ≡ [] = none_left c.loop-rest.rest.now (search rules) in
     rw (k.1 ∙ ap (λ x. k.0 ++ x) none ∙ append-nil k.0) k.2

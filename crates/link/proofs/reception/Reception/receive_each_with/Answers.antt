@@ -1,12 +1,9 @@
-use Rattle.std.proofs.Common.{◌≡◌, ◌++◌, Some, [], refl}
-use Rattle.link.proofs.EndingLemmas.{none_given}
+use Rattle.std.proofs.Common.{◌++◌, []}
+use Rattle.link.specs.Lemmas.Givens.{none_given}
 use Rattle.link.proofs.PrefixesLemmas.{received, lost_value}
 use Rattle.link.proofs.EarlyLemmas.{early_of}
 use Rattle.link.proofs.HandingLemmas.{stands_by, still_asked}
 use Rattle.link.proofs.reception.Reception.receive_each_with.Goals as goal
-
-which : {A : Type 0} {x y : A} → Some x ≡ Some y → x ≡ y
-which e = cc
 
 pub returns-in-Some-clause-received : goal.returns-in-Some-clause-received
 returns-in-Some-clause-received g c =
@@ -21,9 +18,9 @@ returns-in-Some-clause-received g c =
         answers = h.adds.answers ++ q.answers;
         heard = g.H.Hearer.laws.more _ _ _ h.adds.answers q.answers h.adds.heard q.heard;
         so = λ limit s new.
-            let heard = h.adds.so limit s [] [] (record { after = new; given = none_given judging.holds judging.reads limit s [] refl }) in
+            let heard = h.adds.so limit s [] [] (record { after = new; given = none_given judging.holds judging.reads limit s }) in
             let kept = q.so limit s h.bytes h.adds.answers heard in (
-              received judging.holds c.show.ensures judging.reads limit s c.in-Some.end _ h.bytes (early_of g.D.Decoding.inside judging g.H.Hearer.hears g.H.Hearer.enough _ _ _ _ _ h.bytes limit s new asked) kept,
+              received judging.holds judging.reads limit s c.in-Some.end _ h.bytes (early_of g.D.Decoding.inside judging g.H.Hearer.hears g.H.Hearer.enough _ _ _ _ _ h.bytes limit s new asked) kept,
               stands_by g.D.Decoding.inside judging.holds judging.reads limit s c.in-Some.end _ _ h.bytes heard,
               lost_value judging.holds judging.reads limit s c.in-Some.end _ h.bytes kept,
             );
@@ -41,7 +38,7 @@ returns-in-None-clause-received g c =
         answers = h.adds.answers;
         heard = h.adds.heard;
         so = λ limit s new.
-            let heard = h.adds.so limit s [] [] (record { after = new; given = none_given (g.M.MessageReader.judging c.args.messages.now).holds (g.M.MessageReader.judging c.args.messages.now).reads limit s [] refl }) in
+            let heard = h.adds.so limit s [] [] (record { after = new; given = none_given (g.M.MessageReader.judging c.args.messages.now).holds (g.M.MessageReader.judging c.args.messages.now).reads limit s }) in
             (heard.given, heard.after, λ e. cc);
       };
       asked = c.in-None.ensures.heard.1;
