@@ -19,7 +19,7 @@ use Rattle.link.specs.declared.session.Fate.{Fate}
 use Rattle.link.specs.declared.receiver.Answer.{Answer}
 use Rattle.link.specs.declared.receiver.Answer.TheVariants.{Value, Damaged, TooLong, Cut}
 use Rattle.link.specs.Each.{HearerLaws}
-use Rattle.calls.specs.Calls.{Execution, call, next_of, no_call, notices, again, ServesAll, Rises}
+use Rattle.calls.specs.Calls.{Execution, call, next_of, no_call, notices, again, ServesAll, Rises, In}
 use Rattle.link.specs.Senders.{SenderPlace, sender_place, HasSent}
 use Rattle.calls.specs.Places.{SaysAll}
 use Rattle.calls.specs.Serving.{kept_of, sender_of, Runs, IsServed, IsPassed, IsReplied, Executes, TakesAnswer, ServiceHears, requests_of, unsent_by_result, unsent_by, unsent_by_fate, unsent_of}

@@ -6,6 +6,7 @@ ghost use Rattle.std.specs.Prelude.{◌≡◌, ◌<◌, false, ⊤};
 ghost use Rattle.link.specs.Each.{HeardAnyhow, heard_anyhow};
 
 use crate::checks::check;
+use crate::refused_growths::are_first;
 use line_io::memory::In;
 use link::{Answer, End, Hearer, OfType, Ordinary, Receiver, receive, receive_by_accumulator};
 use std::alloc::Global;
@@ -174,13 +175,14 @@ const SIX: [u8; 24] = [
     3, 1, 1, 0, 3, 1, 2, 0, 3, 1, 3, 0, 3, 1, 4, 0, 3, 1, 5, 0, 3, 1, 6, 0,
 ];
 
-/// Byte by byte, so that a reception ends at the byte at which memory was wanting: each frame before that one is answered.
+/// Byte by byte, so that a reception ends at the byte at which memory was wanting: each frame before that one is answered, by its value.
 #[test]
 fn said_by_lists(rt: HostRuntime) {
     let got = receive::<Vec<u8>, _, 16>(rt.alloc(), In::new(&SIX, 1, None));
     let missing = usize::from(got.end == End::NoMemory);
     let answered = got.answers.len().saturating_add(missing);
     check(&rt, answered == got.reader.moved() / 4);
+    check(&rt, are_first(&got.answers));
     check(&rt, missing == 1 || answered == 6);
 }
 

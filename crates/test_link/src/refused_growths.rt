@@ -340,7 +340,7 @@ impl Wants {
 }
 
 // Whether the answers are the vectors of one byte from 1 on.
-fn are_first(answers: &[Answer<Vec<u8>>]) -> bool {
+pub(crate) fn are_first(answers: &[Answer<Vec<u8>>]) -> bool {
     let mut next = 1u8;
     for answer in answers {
         if !is_vector(answer, next) {

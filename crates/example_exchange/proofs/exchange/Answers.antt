@@ -21,14 +21,14 @@ returns c =
           let z = sent_whole law c.args.c.now c.send-third.ensures.sent ok3 in
           let session = then_sent x.1 c.send-first.ensures.sent.sentinel (then_sent y.1 c.send-second.ensures.sent.sentinel (then_sent z.1 c.send-third.ensures.sent.sentinel none_sent)) in
           let run = then_session c.new-sender.ensures.sentinel c.new-sender.ensures.clean session no_session in
-          heard_is c.alike.ensures (heard_of_line law _ _ _ _ _ run c.receive-answers.ensures.received (omega arith) empty wrote comes ends);
+          heard_is c.alike.ensures (heard_of_line law _ _ _ _ c.receive-answers.result.answers run c.receive-answers.ensures.received (omega arith) empty wrote comes ends);
       broken = λ ok1 line ok3 ends.
           let x = sent_whole law c.args.a.now c.send-first.ensures.sent ok1 in
           let y = sent_in_part law c.args.b.now c.send-second.ensures.sent line in
           let z = sent_whole law c.args.c.now c.send-third.ensures.sent ok3 in
           let session = then_sent x.1 c.send-first.ensures.sent.sentinel (then_sent y.2 c.send-second.ensures.sent.sentinel (then_sent z.1 c.send-third.ensures.sent.sentinel none_sent)) in
           let run = then_session c.new-sender.ensures.sentinel c.new-sender.ensures.clean session no_session in
-          let told = heard_is c.alike.ensures (heard_of_line law _ _ _ _ _ run c.receive-answers.ensures.received (omega arith) empty wrote comes ends) in
+          let told = heard_is c.alike.ensures (heard_of_line law _ _ _ _ c.receive-answers.result.answers run c.receive-answers.ensures.received (omega arith) empty wrote comes ends) in
           let front = λ (later : List (Answer Reading)). (Value c.args.a.now ∷ later) ++ [] in
           record {
             tree = y.0;

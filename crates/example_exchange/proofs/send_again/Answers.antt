@@ -18,7 +18,7 @@ returns c line ok ends =
     let x = sent_in_part law v c.send-first.ensures.sent line in
     let y = sent_whole law v c.send-second.ensures.sent ok in
     let run = then_session c.new-sender.ensures.sentinel c.new-sender.ensures.clean (then_sent x.2 c.send-first.ensures.sent.sentinel (then_sent y.1 c.send-second.ensures.sent.sentinel none_sent)) no_session in
-    let told = heard_is c.alike.ensures (heard_of_line law _ _ _ _ _ run c.receive-answers.ensures.received (omega arith) empty wrote comes ends) in
+    let told = heard_is c.alike.ensures (heard_of_line law _ _ _ _ c.receive-answers.result.answers run c.receive-answers.ensures.received (omega arith) empty wrote comes ends) in
     let alone = λ (answers : List (Answer Reading)). answers ++ [] in
     record {
       tree = x.0;
