@@ -109,28 +109,18 @@ module _ (takes : Tree → Type 0) (holds : List ℕ → Tree → Type 0) (limit
         let cuts = cut_answers limit (unfinished s rest) in
         (r.0, subst (λ us. In r.0 (values_of us)) (one.whole rest (g.verdicts ++ cuts) all (whole.finished rest g.verdicts g.given) a) (in_front r.0 g.verdicts cuts r.1), r.2)
     heard_among all (l ∷ losses) later rest a g w i =
+        let more = bytes_through losses ++ rest in
+        let whole_of = subst (λ x. Answers holds limit s x all) (append_assoc (through l) (bytes_through losses) rest) a in
+        let z = anywhere (l.front ++ l.lost.front) more all (subst (λ x. Answers holds limit s x all) (behind l more) whole_of) in
         elim (in_parts w (requests_of l.answers) (requests_of (answers_before losses ++ later)) (subst (In w) (ap requests_of (append_assoc l.answers (answers_before losses) later) ∙ requests_then l.answers (answers_before losses ++ later)) i)) [
-          | inl k ↦ before k
-          | inr k ↦ after k
+          | inl k ↦ (
+              let r = read_of reads l.answers l.given.verdicts l.given.matching w k in
+              let b = l.begins more all whole_of in
+              (r.0, subst (λ us. In r.0 (values_of us)) (sym b.2) (in_front r.0 l.given.verdicts (b.0 ∷ b.1) r.1), r.2))
+          | inr k ↦ (
+              let r = heard_among z.1 losses later rest z.2 g w k in
+              (r.0, subst (λ us. In r.0 (values_of us)) (sym z.3) (in_behind r.0 z.0 z.1 r.1), r.2))
         ]
-      where
-        more : List ℕ
-        more = bytes_through losses ++ rest
-
-        whole_of : Answers holds limit s (through l ++ more) all
-        whole_of = subst (λ x. Answers holds limit s x all) (append_assoc (through l) (bytes_through losses) rest) a
-
-        before : In w (requests_of l.answers) → (t : Tree) × In t (values_of all) × reads t w
-        before k =
-            let r = read_of reads l.answers l.given.verdicts l.given.matching w k in
-            let b = l.begins more all whole_of in
-            (r.0, subst (λ us. In r.0 (values_of us)) (sym b.2) (in_front r.0 l.given.verdicts (b.0 ∷ b.1) r.1), r.2)
-
-        after : In w (requests_of (answers_before losses ++ later)) → (t : Tree) × In t (values_of all) × reads t w
-        after k =
-            let z = anywhere (l.front ++ l.lost.front) more all (subst (λ x. Answers holds limit s x all) (behind l more) whole_of) in
-            let r = heard_among z.1 losses later rest z.2 g w k in
-            (r.0, subst (λ us. In r.0 (values_of us)) (sym z.3) (in_behind r.0 z.0 z.1 r.1), r.2)
 
     -- a value that was heard, however the reading ended, was read from a tree that was tried
     received_tried : (run : List (List Send)) (front rest : List ℕ) (end : End) (answers : List (Answer V)) → IsRun takes limit s run → line s run ≡ front ++ rest
