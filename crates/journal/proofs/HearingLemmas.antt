@@ -5,7 +5,6 @@ use Rattle.std.proofs.Common.{◌≡◌, ℕ, zero, suc, ◌+◌, ◌-◌, ◌<�
 use Rattle.std.specs.Prelude.{IfSome, IfErr, IsErrAnd, if◌then◌else◌}
 use Rattle.std.proofs.lemmas.Result.{err_from_is_err_and}
 use Rattle.std.proofs.lemmas.Bool.{lt-ltb, le-ltb, cases_lt}
-use Rattle.std.specs.List.{AllZip}
 use Rattle.std.proofs.lemmas.List.{append-nil, take-append-drop, take-append-le, take_all, take_more, length-take, length-append}
 use Rattle.std.proofs.Math.Seq.{take-add}
 use Rattle.postcard_tree.specs.Tree.{Tree}
@@ -13,7 +12,7 @@ use Rattle.cobs.specs.declared.dec.heapless.CobsDecoderHeapless.{CobsDecoderHeap
 use Rattle.link.specs.Decoding.{in_array}
 use Rattle.link.specs.Lemmas.Givens.{kept_given}
 use Rattle.link.specs.Receivers.{IsBehind}
-use Rattle.link.specs.Pushes.{listed, Matches, Answered, IsStretchOf}
+use Rattle.link.specs.Pushes.{Answered, IsStretchOf}
 use Rattle.link.specs.Listening.{HasGiven}
 use Rattle.link.specs.Judged.{Judging}
 use Rattle.link.specs.declared.receiver.Answer.{Answer}

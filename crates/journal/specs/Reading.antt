@@ -103,9 +103,3 @@ abbrev pub OpenCause : Type 0 → Bool → Type 0 → OpenError → Type 0
 OpenCause failed growing halted Line = failed
 OpenCause failed growing halted Sync = failed
 OpenCause failed growing halted (Read e) = ReadCause failed growing halted e
-
--- a fact where the log was begun to be read
-abbrev pub OnRead : OpenError → (ReadError → Type 0) → Type 0
-OnRead Line P = Unit {0}
-OnRead Sync P = Unit {0}
-OnRead (Read e) P = P e

@@ -3,7 +3,7 @@ ghost use Rattle.std.specs.Prelude.{◌≡◌, ◌⊎◌, ℕ, ◌+◌, ◌-◌,
 ghost use Rattle.line_io.specs.Transfers.{Failed};
 ghost use Rattle.link.specs.Listening.{ReceiverFitsInMemory};
 ghost use Rattle.stores.specs.Store.{Settles};
-ghost use Rattle.journal.specs.Reading.{HaltsBehind, IsHandedTo, OnFault, OnRead, OpenCause};
+ghost use Rattle.journal.specs.Reading.{HaltsBehind, OpenCause};
 ghost use Rattle.journal.specs.Appending.{Appended, next_after, spent_after, OnStore, OnTried, Unless, IsOpened};
 
 use crate::framing::frame_record;
@@ -187,7 +187,8 @@ impl<S: Store, const N: usize> Journal<S, N> {
         ensures quiet { OnOk result
             ((S.line (store_of self.new)).faults ≡ (S.line (store_of self.old)).faults) }
         ensures once { S.whole (store_of self.old) → OnTried result
-            ((S.line (store_of self.new)).calls_left ≡ (S.line (store_of self.old)).calls_left - 1) }
+            ((S.line (store_of self.new)).calls_left
+            ≡ (S.line (store_of self.old)).calls_left - 1) }
         ensures cause { OnStore result
             (Failed (S.line (store_of self.old)) (S.line (store_of self.new))) }
     {

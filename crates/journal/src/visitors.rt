@@ -60,7 +60,8 @@ impl<T: Drop> Visitor<T> for Listed<T> {
     } };
 
     fn visit(&mut self, answer: Answer<(u64, T)>) -> Result<(), Halt>
-        ensures took { OnOk result (self.new.answers.items ≡ self.old.answers.items ++ answer ∷ []) }
+        ensures took { OnOk result
+            (self.new.answers.items ≡ self.old.answers.items ++ answer ∷ []) }
         ensures halts { OnErr result ⊤ }
         ensures kept { OnErr result (self.new.answers.items ≡ self.old.answers.items) }
     {

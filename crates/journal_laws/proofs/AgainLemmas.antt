@@ -7,25 +7,19 @@ use Rattle.postcard_tree.specs.Spelling.{short}
 use Rattle.journal_scan.specs.Scanning.{with_zero}
 use Rattle.postcard_tree.specs.Tree.{Tree}
 use Rattle.link.specs.Stream.{Verdict, cut, damaged, too_long, value, ended, unfinished, IsAnswer, HoldsExactly, begun_answers, cut_answers, Answers}
-use Rattle.link.specs.Run.{completed, sent, session_line, line, IsFramed, IsRun}
+use Rattle.link.specs.Run.{sent, line, IsFramed, IsRun}
 use Rattle.link.specs.Laws.{IsTold, HasOneAnswer}
 use Rattle.link.specs.Lemmas.Pieces.{ended_skip, unfinished_skip, ended_behind, ended_alone, ends_at}
 use Rattle.link.specs.Roads.{values_of}
+use Rattle.journal.specs.Values.{values_joined, values_done, none_in_begun}
 use Rattle.journal.specs.Records.{takes_record}
 use Rattle.journal_scan.specs.Repairs.{appended_anew, rewritten, AreReadIn, AreReadFirst}
 use Rattle.journal_laws.specs.Laws.{anew}
-use Rattle.journal_laws.proofs.RunsLemmas.{values_joined}
-use Rattle.journal_laws.proofs.MendingLemmas.{told_anew, AllOf, session_anew, none_in_begun, none_at_end}
+use Rattle.journal_laws.proofs.MendingLemmas.{told_anew, AllOf, session_anew}
 
 values_back : (ts : List Tree) → values_of (map value ts) ≡ ts
 values_back [] = refl
 values_back (t ∷ ts) = ap (λ x. t ∷ x) (values_back ts)
-
--- the values are those of the stretches that are ended
-values_done : {holds : List ℕ → Tree → Type 0} {limit : ℕ} {stream : List ℕ} {answers : List Verdict} (h : Answers holds limit 0 stream answers) → values_of answers ≡ values_of h.done
-values_done {holds} {limit} {stream} h =
-    let u = unfinished 0 stream in
-    ap values_of h.whole ∙ values_joined h.done (begun_answers limit u ++ cut_answers limit u) ∙ ap (λ x. values_of h.done ++ x) (none_at_end limit u) ∙ append-nil (values_of h.done)
 
 -- a zero in front changes no answer
 behind_zero : (holds : List ℕ → Tree → Type 0) (limit : ℕ) (stream : List ℕ) (answers : List Verdict) → Answers holds limit 0 (0 ∷ stream) answers ↔ Answers holds limit 0 stream answers

@@ -12,7 +12,8 @@ use Rattle.link.specs.Run.{Send, completed, refused, broken, written, sent, clea
 use Rattle.link.specs.Roads.{values_of}
 use Rattle.link_laws.specs.Crashes.{broken_at, left_of, left, IsLeft}
 use Rattle.journal_laws.specs.Numbers.{read_broken, read_in, read_of, Counted, LogEvent, appended, broke, crashed, appends, opening, openings, opened, sends_broken, after, history, HasBytes}
-use Rattle.journal_laws.proofs.RunsLemmas.{values_joined, lines_joined}
+use Rattle.journal.specs.Values.{values_joined}
+use Rattle.journal_laws.proofs.RunsLemmas.{lines_joined}
 
 -- What is told where something comes later
 
@@ -55,9 +56,6 @@ read_run s any (xs ∷ run) =
 
 abbrev pub Begins : List Tree → List Tree → Type 0
 Begins xs ys = (rest : List Tree) × (xs ++ rest ≡ ys)
-
-begins_all : (xs : List Tree) → Begins xs xs
-begins_all xs = ([], append-nil xs)
 
 begins_behind : (xs ys zs : List Tree) → Begins ys zs → Begins (xs ++ ys) (xs ++ zs)
 begins_behind xs ys zs (rest, e) = (rest, append_assoc xs ys rest ∙ ap (λ z. xs ++ z) e)

@@ -1,6 +1,5 @@
 -- How a history goes on.
 use Rattle.std.proofs.Common.{◌≡◌, ℕ, ◌+◌, ◌-◌, ◌<◌, ◌^◌, min, true, false, List, [], ◌∷◌, ◌++◌, length, Option, Some, None, Ok, refl, sym, ap, ◌∙◌, subst, append_assoc, arith}
-use Rattle.std.specs.List.{AllZip}
 use Rattle.std.proofs.lemmas.List.{append-nil, length-append}
 use Rattle.std.specs.Prelude.{Bool, IfSome}
 use Rattle.cobs.specs.Sentinel.{frame_for}
@@ -8,18 +7,14 @@ use Rattle.postcard_tree.specs.Spelling.{short}
 use Rattle.line_io.specs.Device.{LineState, Grew, Wrote}
 use Rattle.line_io.specs.Calls.{Wrote-none, Wrote-then}
 use Rattle.postcard_tree.specs.Tree.{Tree, IsTree}
+use Rattle.link.specs.Lemmas.Givens.{zip_one}
+use Rattle.link.specs.Lemmas.HeardLaws.{zip_length}
 use Rattle.link.specs.Run.{Send, completed, sent, written, session_line, line, IsSend, IsFramed, IsSession, IsRun}
 use Rattle.journal.specs.Records.{numbered, takes_record}
 use Rattle.journal.specs.Appending.{Appended}
 use Rattle.journal_laws.specs.Numbers.{LogEvent, appended, appends, opened, after, history, IsHistory, HasBytes, read_of}
 use Rattle.journal_laws.specs.Sessions.{AppendsAll, HistoryGoesOn}
 use Rattle.journal_laws.proofs.RunsLemmas.{runs_joined}
-
-zip_one : {A B : Type 0} (R : A → B → Type 0) (xs : List A) (ys : List B) (x : A) (y : B) → AllZip R xs ys → R x y → AllZip R (xs ++ x ∷ []) (ys ++ y ∷ [])
-zip_one R [] [] x y h r = (r, tt)
-zip_one R [] (b ∷ ys) x y h r = absurd h
-zip_one R (a ∷ xs) [] x y h r = absurd h
-zip_one R (a ∷ xs) (b ∷ ys) x y h r = (h.0, zip_one R xs ys x y h.1 r)
 
 line_more : (n : ℕ) (ts : List Tree) (t : Tree) → session_line 0 true (appends numbered n ts) ++ sent 0 true (numbered (n + length ts) t) ≡ session_line 0 true (appends numbered n (ts ++ t ∷ []))
 line_more n [] t = ap (λ m. sent 0 true (numbered m t)) (let e : n + 0 ≡ n = omega arith in e) ∙ sym (append-nil (sent 0 true (numbered n t)))
@@ -82,7 +77,7 @@ module _ (takes : Tree → Type 0) (limit : ℕ) (any : Tree) where
   of_run run (e ∷ events) d = of_run (after 0 numbered any run e) events d
 
 -- the bytes behind told ones
-told_on : (old bytes : List ℕ) (new : Option (List ℕ)) (f g : ℕ) → Grew (Some old) new f g bytes → g ≡ f → new ≡ Some (old ++ bytes)
+pub told_on : (old bytes : List ℕ) (new : Option (List ℕ)) (f g : ℕ) → Grew (Some old) new f g bytes → g ≡ f → new ≡ Some (old ++ bytes)
 told_on old bytes None f g w e = absurd (omega (arith, w))
 told_on old bytes (Some x) f g w e = ap (λ z. Some z) w
 
@@ -90,12 +85,6 @@ told_on old bytes (Some x) f g w e = ap (λ z. Some z) w
 same_numbers : (n : ℕ) (count : ℕ) (ts : List Tree) → n ≡ min count (2 ^ 64 - 1) → (0 < length ts → n < 2 ^ 64 - 1) → appends numbered n ts ≡ appends numbered count ts
 same_numbers n count [] e h = refl
 same_numbers n count (t ∷ ts) e h = ap (λ m. appends numbered m (t ∷ ts)) (let l : n < 2 ^ 64 - 1 = h (omega arith) in let k : n ≡ count = omega (arith, e, l) in k)
-
-zip_length : {A B : Type 0} (R : A → B → Type 0) (xs : List A) (ys : List B) → AllZip R xs ys → length ys ≡ length xs
-zip_length R [] [] h = refl
-zip_length R [] (y ∷ ys) h = absurd h
-zip_length R (x ∷ xs) [] h = absurd h
-zip_length R (x ∷ xs) (y ∷ ys) h = omega (arith, zip_length R xs ys h.1)
 
 -- what is said of a result where there is one, together
 pub both_some : {A : Type 0} {P Q R : A → Type 0} (r : Option A) → IfSome r P → IfSome r Q → ((x : A) → P x → Q x → R x) → IfSome r R

@@ -1,15 +1,15 @@
 -- Records appended anew, and logs that were damaged.
-use Rattle.std.proofs.Common.{◌≡◌, ℕ, ◌≤◌, Bool, true, false, cond, ltb, List, [], ◌∷◌, ◌++◌, length, map, refl, sym, ap, ◌∙◌, subst, arith}
+use Rattle.std.proofs.Common.{◌≡◌, ℕ, ◌≤◌, Bool, true, false, List, [], ◌∷◌, ◌++◌, length, map, refl, sym, ap, ◌∙◌, subst, arith}
 use Rattle.std.proofs.lemmas.List.{append-nil, length-map}
 use Rattle.std.specs.List.{AllZip}
 use Rattle.postcard_tree.specs.Tree.{Tree}
 use Rattle.postcard.specs.Frames.{Holds}
-use Rattle.link.specs.Stream.{Verdict, cut, damaged, too_long, value, ended, unfinished, IsAnswer, begun_answers, cut_answers, Answers}
+use Rattle.link.specs.Stream.{Verdict, cut, damaged, too_long, value, ended, IsAnswer, Answers}
 use Rattle.link.specs.Run.{completed, IsFramed, IsSession, IsRun, told_session, told}
 use Rattle.link.specs.Laws.{IsLeast}
 use Rattle.link.specs.Roads.{values_of}
+use Rattle.journal.specs.Values.{values_done}
 use Rattle.journal_laws.specs.Laws.{anew}
-use Rattle.journal_laws.proofs.RunsLemmas.{values_joined}
 
 told_anew_in : (s : ℕ) (clean : Bool) (later : List ℕ) (ts : List Tree) → told_session s clean later (map completed ts) ≡ map value ts
 told_anew_in s clean later [] = refl
@@ -28,25 +28,6 @@ pub session_anew : (takes : Tree → Type 0) (limit s : ℕ) (clean : Bool) (ts 
 session_anew takes limit s clean [] h = tt
 session_anew takes limit s clean (t ∷ ts) h = (h.0, session_anew takes limit s true ts h.1)
 
--- what is said of an unfinished stretch holds no record
-none_in_cut : (limit : ℕ) (p : List ℕ) → values_of (cut_answers limit p) ≡ []
-none_in_cut limit [] = refl
-none_in_cut limit (b ∷ p) = go (ltb limit (length (b ∷ p)))
-  where
-    go : (c : Bool) → values_of (cond c [] (cut ∷ [])) ≡ []
-    go true = refl
-    go false = refl
-
-pub none_in_begun : (limit : ℕ) (p : List ℕ) → values_of (begun_answers limit p) ≡ []
-none_in_begun limit p = go (ltb limit (length p))
-  where
-    go : (c : Bool) → values_of (cond c (too_long ∷ []) []) ≡ []
-    go true = refl
-    go false = refl
-
-pub none_at_end : (limit : ℕ) (p : List ℕ) → values_of (begun_answers limit p ++ cut_answers limit p) ≡ []
-none_at_end limit p = values_joined (begun_answers limit p) (cut_answers limit p) ∙ ap (λ x. x ++ values_of (cut_answers limit p)) (none_in_begun limit p) ∙ none_in_cut limit p
-
 module _ (takes : Tree → Type 0) (limit : ℕ) (least : IsLeast takes limit) where
   framed_answer : (p : List ℕ) (t : Tree) → IsAnswer (Holds takes) limit p (value t) → IsFramed takes limit t
   framed_answer p t h = record { taken = h.1.taken; within = (let l = least p t h in let m : length p ≤ limit = h.0 in omega (arith, l, m)) }
@@ -63,9 +44,7 @@ module _ (takes : Tree → Type 0) (limit : ℕ) (least : IsLeast takes limit) w
   -- whatever is read can be appended anew
   pub run_anew : (s : ℕ) (stream : List ℕ) (answers : List Verdict) → Answers (Holds takes) limit s stream answers → IsRun takes limit s (anew (values_of answers))
   run_anew s stream answers h =
-      let same : values_of answers ≡ values_of h.done =
-      ap values_of h.whole ∙ values_joined h.done (begun_answers limit (unfinished s stream) ++ cut_answers limit (unfinished s stream)) ∙ ap (λ x. values_of h.done ++ x) (none_at_end limit (unfinished s stream)) ∙ append-nil (values_of h.done) in
-      (session_anew takes limit s false (values_of answers) (subst (AllOf (IsFramed takes limit)) (sym same) (all_framed (ended s stream) h.done h.each)), tt)
+      (session_anew takes limit s false (values_of answers) (subst (AllOf (IsFramed takes limit)) (sym (values_done h)) (all_framed (ended s stream) h.done h.each)), tt)
 
 -- a part of values is values
 pub record ValuesIn (ts : List Tree) (us rest : List Verdict) : Type 0 where

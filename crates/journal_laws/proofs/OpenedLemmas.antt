@@ -6,7 +6,7 @@ use Rattle.std.proofs.lemmas.Bool.{le-ltb}
 use Rattle.std.proofs.lemmas.List.{append-nil}
 use Rattle.line_io.specs.Device.{LineState, Grew}
 use Rattle.postcard_tree.specs.Tree.{Tree}
-use Rattle.link.specs.Stream.{Verdict, Answers}
+use Rattle.link.specs.Stream.{Verdict, begun_answers, cut_answers, Answers}
 use Rattle.link.specs.Judged.{Judging}
 use Rattle.link.specs.Run.{line}
 use Rattle.link.specs.Pushes.{Matches}
@@ -20,11 +20,7 @@ use Rattle.journal.specs.Reading.{IsHanded}
 use Rattle.journal.specs.Appending.{IsOpened}
 use Rattle.journal_laws.specs.Numbers.{Counted, history, CountsOn}
 use Rattle.journal_laws.specs.Together.{OpensHistory}
-
--- the bytes that a store holds behind one more
-grown : (old : List ℕ) (new : Option (List ℕ)) (f g : ℕ) → Grew (Some old) new f g (0 ∷ []) → g ≡ f → new ≡ Some (old ++ 0 ∷ [])
-grown old None f g w e = absurd (omega (arith, w))
-grown old (Some x) f g w e = ap (λ z. Some z) w
+use Rattle.journal_laws.proofs.GoingLemmas.{told_on}
 
 -- what is read by one relation is read by one that follows from it
 one_read : {V : Type 0} (r s : Tree → V → Type 0) → ((t : Tree) (v : V) → r t v → s t v) → (a : Answer V) (x : Verdict) → Matches r a x → Matches s a x
@@ -39,16 +35,20 @@ all_read r s f [] (x ∷ xs) h = absurd h
 all_read r s f (a ∷ answers) [] h = absurd h
 all_read r s f (a ∷ answers) (x ∷ xs) h = (one_read r s f a x h.0, all_read r s f answers xs h.1)
 
+-- of no stretch nothing is said
+pub none_said : (limit : ℕ) → begun_answers limit [] ++ cut_answers limit [] ≡ []
+none_said limit = rw (le-ltb limit 0 (omega arith)) refl
+
 -- an empty stream has no answers
 nothing : (holds : List ℕ → Tree → Type 0) (limit s : ℕ) → Answers holds limit s [] []
-nothing holds limit s = record { done = []; each = tt; whole = rw (le-ltb limit 0 (omega arith)) refl }
+nothing holds limit s = record { done = []; each = tt; whole = sym (none_said limit) }
 
 -- the number of a record
-number_is : {V : Type 0} (reads : Tree → V → Type 0) (n : ℕ) (t v : Tree) (r : ℕ × V) → t ≡ numbered n v → reads_record reads t r → (r.0 ≡ n) × (n < 2 ^ 64)
+pub number_is : {V : Type 0} (reads : Tree → V → Type 0) (n : ℕ) (t v : Tree) (r : ℕ × V) → t ≡ numbered n v → reads_record reads t r → (r.0 ≡ n) × (n < 2 ^ 64)
 number_is reads n t v r e h = let k = subst (λ u. reads_record reads u r) e h in (k.0.1, k.0.2)
 
 -- the most that a next number is
-abbrev most : ℕ
+abbrev pub most : ℕ
 most = 2 ^ 64 - 1
 
 -- what one answer of a counted log does: it is handed on as it is, and moves the number by one where it is a record
@@ -120,7 +120,7 @@ all_counted reads n c (p ∷ located) (v ∷ verdicts) z k at =
     )
 
 -- what is said of the bytes where they are told
-told_of : (held : Option (List ℕ)) (bytes : List ℕ) (P : List ℕ → Type 0) → held ≡ Some bytes → IfSome held P → P bytes
+pub told_of : (held : Option (List ℕ)) (bytes : List ℕ) (P : List ℕ → Type 0) → held ≡ Some bytes → IfSome held P → P bytes
 told_of None bytes P e h = cc
 told_of (Some x) bytes P e h = let same : x ≡ bytes = cc in subst P same h
 
@@ -130,7 +130,7 @@ module _ {S V : Type 0} (took : S → List (Answer (ℕ × V)) → S → Type 0)
       → IsOpened took judging limit 0 old new settled visitor later next spent → OpensHistory took takes reads limit old.told new.told visitor later next
   opens_history old new settled visitor later next spent o any events framed is e =
       let log = line 0 (history 0 numbered any [] events) in
-      let bytes : new.told ≡ Some (log ++ 0 ∷ []) = grown log new.told old.faults new.faults (subst (λ x. Grew x new.told old.faults new.faults (0 ∷ [])) e o.wrote.grew) o.quiet in
+      let bytes : new.told ≡ Some (log ++ 0 ∷ []) = told_on log (0 ∷ []) new.told old.faults new.faults (subst (λ x. Grew x new.told old.faults new.faults (0 ∷ [])) e o.wrote.grew) o.quiet in
       let told = told_of new.told (log ++ 0 ∷ []) (λ x. IsHanded took judging limit 0 visitor later next x) bytes o.read in
       let read = told.read in
       let vs = read.given.verdicts in

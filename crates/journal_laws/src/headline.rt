@@ -6,10 +6,11 @@ ghost use Rattle.link.specs.Listening.{ReceiverFitsInMemory};
 ghost use Rattle.journal.specs.Logs.{store_of, next_of};
 ghost use Rattle.journal.specs.Records.{takes_record, reads_record};
 ghost use Rattle.journal_laws.specs.Numbers.{CountsOn};
-ghost use Rattle.journal_laws.specs.Together.{OpensHistory};
+ghost use Rattle.journal_laws.specs.Together.{OpensHistory, JudgesAnyHistory, GoesOnCounted};
 ghost use Rattle.journal_laws.specs.Sessions.{AppendsAll, GoesOnFrom};
 
 use journal::{AppendError, Journal, Unopened, Visitor};
+use journal_scan::{Report, Watcher, open_by};
 use link::{MessageReader, OfType, Ordinary, Strict};
 use postcard::{DeserializeOwned, Exact, Lawful};
 use postcard_tree::Readable;
@@ -115,6 +116,48 @@ pub fn session<T: Lawful + Drop, M: LogReader<T>, S: Store + Drop, V: Visitor<T>
     crate::laws::bytes::<(u64, T)>();
     match open_history::<T, M, S, V, N>(alloc, store, messages, visitor) {
         Ok(journal) => append_all(journal, values),
+        Err(_) => None,
+    }
+}
+
+/// Opens a log by the records that count, as a program does whose records are sealed. Where what the store held is what any history
+/// leaves, each record of which counts: what is told are the stretches of that history with its records, numbered 0, 1, 2 and on; none
+/// is missing, none is there twice, and nothing is unfinished; and the next record gets the next number.
+pub fn open_history_by<T: DeserializeOwned + Exact, S: Store, W: Watcher<T>, const N: usize>(
+    alloc: Global,
+    store: S,
+    watcher: &mut W,
+) -> Result<(Journal<S, N>, Report<T>), Unopened<S>>
+    requires some { 1 < N }
+    requires fits { ReceiverFitsInMemory N.row }
+    ensures { IfOk result (λ r. JudgesAnyHistory W.told W.counted T.form.takes T.form.reads N
+        (S.line store).told (S.line (store_of r.0)).told
+        watcher.old watcher.new r.1 (next_of r.0)) }
+{
+    crate::laws::counts_on::<(u64, T)>();
+    match open_by::<T, S, W, N>(alloc, store, watcher) {
+        Ok(opened) => Ok(opened),
+        Err(e) => Err(e),
+    }
+}
+
+/// Opens a log by the records that count and appends values in turn: the line of a history, each record of which counts, becomes the
+/// line of that history with this session behind it.
+pub fn session_by<T: DeserializeOwned + Exact, S: Store + Drop, W: Watcher<T>, const N: usize>(
+    alloc: Global,
+    store: S,
+    watcher: &mut W,
+    values: &[T],
+) -> Option<Journal<S, N>>
+    requires some { 1 < N }
+    requires fits { ReceiverFitsInMemory N.row }
+    ensures { IfSome result
+        (λ j. GoesOnCounted W.counted T.form.takes T.form.reads T.form.writes N
+        (S.line store).told (S.line (store_of j)).told values.now) }
+{
+    crate::laws::bytes::<(u64, T)>();
+    match open_history_by::<T, S, W, N>(alloc, store, watcher) {
+        Ok((journal, _)) => append_all(journal, values),
         Err(_) => None,
     }
 }

@@ -1,71 +1,36 @@
 -- Records that are read of a log one after another, and appended anew.
-use Rattle.std.proofs.Common.{◌≡◌, ℕ, ◌+◌, ◌-◌, ◌^◌, ◌<◌, ◌≤◌, min, max, Bool, true, false, cond, ltb, List, [], ◌∷◌, ◌++◌, length, take, Option, Some, None, Result, Ok, Err, refl, sym, ap, ◌∙◌, subst, append_assoc, arith}
+use Rattle.std.proofs.Common.{◌≡◌, ℕ, ◌+◌, ◌-◌, ◌^◌, ◌<◌, ◌≤◌, min, max, true, List, [], ◌∷◌, ◌++◌, length, take, Option, Some, None, Result, Ok, Err, refl, sym, ap, ◌∙◌, subst, append_assoc, arith}
 use Rattle.std.specs.Prelude.{IfOk, IfErr, IfSome, IsErrAnd}
 use Rattle.std.specs.List.{AllZip}
 use Rattle.std.proofs.lemmas.List.{append-nil, take_all, take-append-le, length-append}
 use Rattle.std.proofs.lemmas.Result.{err_from_is_err_and}
 use Rattle.std.proofs.Math.Seq.{take-append-add}
 use Rattle.cobs.specs.Frames.{shortest_frame}
-use Rattle.cobs.specs.Sentinel.{frame_for}
 use Rattle.line_io.specs.Device.{LineState, Grew, Wrote}
 use Rattle.line_io.specs.Calls.{Wrote-none, Wrote-then}
 use Rattle.postcard_tree.specs.Tree.{Tree, byte, number, character, sequence, group, part, end}
 use Rattle.postcard_tree.specs.Spelling.{short}
-use Rattle.postcard.specs.Written.{WrittenWhole, UnlessRefused}
-use Rattle.link.specs.Stream.{Verdict, value, damaged, too_long, cut, ended, unfinished, IsAnswer, HoldsExactly, begun_answers, cut_answers}
+use Rattle.postcard.specs.Written.{UnlessRefused}
+use Rattle.link.specs.Stream.{Verdict, ended, unfinished, IsAnswer, HoldsExactly, begun_answers, cut_answers, Answers}
 use Rattle.link.specs.Run.{sent}
 use Rattle.link.specs.Pushes.{Matches}
 use Rattle.link.specs.Roads.{values_of}
+use Rattle.link.specs.Lemmas.HeardLaws.{zip_joined, zip_length}
 use Rattle.link.specs.declared.receiver.Answer.{Answer}
 use Rattle.link.specs.declared.receiver.Answer.TheVariants.{Value, Damaged, TooLong, Cut}
+use Rattle.journal.specs.Values.{values_joined, values_done, none_in_begun}
 use Rattle.journal.specs.Records.{numbered, record_of, takes_record, reads_record}
 use Rattle.journal_scan.specs.declared.scanning.Scan.{Scan}
 use Rattle.journal_scan.specs.declared.scanning.Stretch.{Stretch}
-use Rattle.journal_scan.specs.declared.scanning.ScanError.TheVariants.{Fault, NoMemory}
 use Rattle.journal_scan.specs.declared.repairing.Repaired.{Repaired}
 use Rattle.journal_scan.specs.declared.repairing.RepairError.{RepairError}
 use Rattle.journal_scan.specs.declared.repairing.RepairError.TheVariants.{Read, Refused, Line, Sync}
 use Rattle.journal_scan.specs.Tallies.{behind_greatest}
 use Rattle.journal_scan.specs.Checks.{numbers_of}
 use Rattle.journal_scan.specs.Scanning.{IsScanning, Found, FoundAll, FoundLast, offset_of, with_zero, told_with_zero}
-use Rattle.journal_scan.specs.Repairs.{appended_anew, rewritten, IsTreeOf, AreTreesOf, AreReadIn, AreReadFirst, IsRepaired, IsPartlyRepaired, record_read, WentAnew, BrokeAnew, GoesAnew, StopsAnew, LastGoesAnew, LastStopsAnew, StopsAtLast, last_record, RepairCause, IfRefused, IfUnsynced}
+use Rattle.journal_scan.specs.Repairs.{appended_anew, rewritten, IsTreeOf, AreTreesOf, AreReadIn, AreReadFirst, IsRepaired, IsPartlyRepaired, record_read, WentAnew, GoesAnew, StopsAnew, LastGoesAnew, LastStopsAnew, last_record, IfRefused, IfUnsynced}
 use Rattle.journal_scan.proofs.GapsLemmas.{behind_push}
-use Rattle.journal_scan.proofs.StretchesLemmas.{if_told, numbers_joined}
-
-pub zip_joined : {A B : Type 0} (R : A → B → Type 0) (xs us : List A) (ys vs : List B) → AllZip R xs ys → AllZip R us vs → AllZip R (xs ++ us) (ys ++ vs)
-zip_joined R [] us [] vs h k = k
-zip_joined R [] us (y ∷ ys) vs h k = absurd h
-zip_joined R (x ∷ xs) us [] vs h k = absurd h
-zip_joined R (x ∷ xs) us (y ∷ ys) vs h k = (h.0, zip_joined R xs us ys vs h.1 k)
-
-pub zip_lengths : {A B : Type 0} (R : A → B → Type 0) (xs : List A) (ys : List B) → AllZip R xs ys → length xs ≡ length ys
-zip_lengths R [] [] h = refl
-zip_lengths R [] (y ∷ ys) h = absurd h
-zip_lengths R (x ∷ xs) [] h = absurd h
-zip_lengths R (x ∷ xs) (y ∷ ys) h = omega (arith, zip_lengths R xs ys h.1)
-
-values_joined : (us vs : List Verdict) → values_of (us ++ vs) ≡ values_of us ++ values_of vs
-values_joined [] vs = refl
-values_joined (value t ∷ us) vs = ap (λ x. t ∷ x) (values_joined us vs)
-values_joined (damaged ∷ us) vs = values_joined us vs
-values_joined (too_long ∷ us) vs = values_joined us vs
-values_joined (cut ∷ us) vs = values_joined us vs
-
--- what is said of an unfinished stretch holds no record
-none_in_begun : (limit : ℕ) (p : List ℕ) → values_of (begun_answers limit p) ≡ []
-none_in_begun limit p = go (ltb limit (length p))
-  where
-    go : (c : Bool) → values_of (cond c (too_long ∷ []) []) ≡ []
-    go true = refl
-    go false = refl
-
-none_in_cut : (limit : ℕ) (p : List ℕ) → values_of (cut_answers limit p) ≡ []
-none_in_cut limit [] = refl
-none_in_cut limit (b ∷ p) = go (ltb limit (length (b ∷ p)))
-  where
-    go : (c : Bool) → values_of (cond c [] (cut ∷ [])) ≡ []
-    go true = refl
-    go false = refl
+use Rattle.journal_scan.proofs.StretchesLemmas.{numbers_joined}
 
 -- the bytes of records one behind another
 pub anew_joined : (ts us : List Tree) → appended_anew (ts ++ us) ≡ appended_anew ts ++ appended_anew us
@@ -167,17 +132,10 @@ module _ (takes : Tree → Type 0) (limit : ℕ) (bytes : List ℕ) where
   pub all_read : (at : ℕ) (ts : List Tree) → ReadsTo takes limit bytes at ts → ended 0 bytes ≡ ended 0 (take at bytes) → AreReadIn takes limit bytes ts
   all_read at ts h e =
       let u = unfinished 0 bytes in
-      record {
-        answers = h.answers ++ (begun_answers limit u ++ cut_answers limit u);
-        whole = record {
-          done = h.answers;
-          each = subst (λ ps. AllZip (IsAnswer (HoldsExactly (takes_record takes)) limit) ps h.answers) (sym e) h.each;
-          whole = refl;
-        };
-        are = values_joined h.answers (begun_answers limit u ++ cut_answers limit u)
-            ∙ ap (λ x. values_of h.answers ++ x) (values_joined (begun_answers limit u) (cut_answers limit u) ∙ ap (λ x. x ++ values_of (cut_answers limit u)) (none_in_begun limit u) ∙ none_in_cut limit u)
-            ∙ append-nil (values_of h.answers) ∙ h.are;
-      }
+      let all = h.answers ++ (begun_answers limit u ++ cut_answers limit u) in
+      let whole : Answers (HoldsExactly (takes_record takes)) limit 0 bytes all =
+      record { done = h.answers; each = subst (λ ps. AllZip (IsAnswer (HoldsExactly (takes_record takes)) limit) ps h.answers) (sym e) h.each; whole = refl } in
+      record { answers = all; whole = whole; are = values_done whole ∙ h.are }
 
   -- what is read of the bytes so far
   pub some_read : (at : ℕ) (ts : List Tree) → ReadsTo takes limit bytes at ts → AreReadFirst takes limit bytes ts
@@ -242,41 +200,8 @@ wrote_still old mid new bs w e l = record { grew = subst (λ x. Grew old.told x 
 pub wrote_zero : (old new : LineState) (n : ℕ) → 0 < n → n ≤ 1 → Wrote old new (take n (0 ∷ [])) → Wrote old new (0 ∷ [])
 wrote_zero old new n l m w = let one : n ≡ 1 = omega (arith, l, m) in subst (λ k. Wrote old new (take k (0 ∷ []))) one w
 
--- what a record that was framed whole writes
-module _ (writes : Option Tree) (n : ℕ) (old new : LineState) (buffer : List ℕ) (len : ℕ) where
-  pub went_whole : (put : ℕ) → WrittenWhole (record_of n writes) (λ bytes. (len ≡ length (shortest_frame bytes) + 1) × (take len buffer ≡ frame_for 0 bytes ++ 0 ∷ []))
-      → length (take len buffer) ≤ put → Wrote old new (take put (take len buffer)) → WentAnew writes n old new
-  went_whole put h l w = go writes h refl
-    where
-      all : Wrote old new (take len buffer)
-      all = subst (Wrote old new) (take_all put (take len buffer) l) w
-
-      go : (o : Option Tree) → WrittenWhole (record_of n o) (λ bytes. (len ≡ length (shortest_frame bytes) + 1) × (take len buffer ≡ frame_for 0 bytes ++ 0 ∷ [])) → writes ≡ o → WentAnew writes n old new
-      go None h e = absurd h
-      go (Some v) h e = record { value = v; is = e; wrote = subst (Wrote old new) h.1.1 all }
-
-  pub went_front : (put : ℕ) → WrittenWhole (record_of n writes) (λ bytes. (len ≡ length (shortest_frame bytes) + 1) × (take len buffer ≡ frame_for 0 bytes ++ 0 ∷ []))
-      → Wrote old new (take put (take len buffer)) → BrokeAnew writes n old new
-  went_front put h w = go writes h refl
-    where
-      go : (o : Option Tree) → WrittenWhole (record_of n o) (λ bytes. (len ≡ length (shortest_frame bytes) + 1) × (take len buffer ≡ frame_for 0 bytes ++ 0 ∷ [])) → writes ≡ o → BrokeAnew writes n old new
-      go None h e = absurd h
-      go (Some v) h e = record { value = v; is = e; count = put; wrote = subst (λ x. Wrote old new (take put x)) h.1.1 w }
-
-pub refused_so : (o : Option Tree) (P Q : List ℕ → Type 0) → UnlessRefused o (λ b. P b × Q b) → UnlessRefused o Q
-refused_so None P Q h = tt
-refused_so (Some t) P Q h = h.1
-
 min_more : (a b n m k : ℕ) → a ≡ min n k → b ≡ min (a + m) k → b ≡ min (n + m) k
 min_more a b n m k e f = omega arith
-
--- why a repair was broken off, by why an append was
-pub cause_of : (e : RepairError) (P Q R : Type 0) → (R → Q) → RepairCause e ⊥ R → RepairCause e P Q
-cause_of (Read Fault) P Q R f h = absurd h
-cause_of (Read NoMemory) P Q R f h = tt
-cause_of (Refused x) P Q R f h = tt
-cause_of Line P Q R f h = f h
-cause_of Sync P Q R f h = f h
 
 pub on_any : {T E : Type 0} (r : Result T E) (P : Type 0) → P → IfErr r (λ _. P)
 on_any (Ok x) P p = tt
@@ -328,15 +253,6 @@ module _ {V : Type 0} (writes : V → Option Tree) (old new : LineState) (repair
     records_are = e;
     next_is = λ ns h. f ∙ ap (λ x. max x (min (r.0 + 1) (2 ^ 64 - 1))) h ∙ sym (behind_push ns r.0);
   }
-
-pub goes_none : {V : Type 0} (writes : V → Option Tree) (a : Answer (ℕ × V)) (old : LineState) (repaired : Repaired) → record_read a ≡ [] → repaired.records ≤ 2 ^ 64 - 1 → GoesAnew writes a old old repaired repaired
-goes_none writes a old repaired e l = record {
-  trees = [];
-  of = subst (λ rs. AreTreesOf writes rs []) (sym e) tt;
-  wrote = Wrote-none old;
-  records_are = omega (arith, l);
-  next_is = λ ns h. h ∙ ap behind_greatest (sym (append-nil ns) ∙ ap (λ rs. ns ++ numbers_of rs) (sym e));
-}
 
 -- the steps of a repair
 module _ {V : Type 0} (reads : Tree → V → Type 0) (writes : V → Option Tree) (back : (t : Tree) (v : V) → reads t v → writes v ≡ Some t) (takes : Tree → Type 0) (limit : ℕ) (held : Option (List ℕ)) (old : LineState) where
@@ -406,7 +322,7 @@ module _ {V : Type 0} (reads : Tree → V → Type 0) (writes : V → Option Tre
       last_goes : (new : LineState) (next : Repaired) → LastGoesAnew takes reads writes scan now new repaired next → IsRepaired takes writes limit (told_with_zero held) old new next
       last_goes new next g =
           let rs = last_record g.last in
-          let sizes : length rs ≡ length g.trees = zip_lengths (IsTreeOf writes) rs g.trees g.of in
+          let sizes : length rs ≡ length g.trees = sym (zip_length (IsTreeOf writes) rs g.trees g.of) in
           let all : length (h.records ++ rs) ≡ length h.records + length g.trees = length-append h.records rs ∙ ap (λ n. length h.records + n) sizes in
           record {
             records = h.records ++ rs;
@@ -495,7 +411,7 @@ module _ {V : Type 0} (reads : Tree → V → Type 0) (writes : V → Option Tre
 
       pub repair_goes : (new : LineState) (next : Repaired) → GoesAnew writes s.answer now new repaired next → RepairedSoFar takes writes limit held old new next later
       repair_goes new next goes =
-          let sizes : length (record_read s.answer) ≡ length goes.trees = zip_lengths (IsTreeOf writes) (record_read s.answer) goes.trees goes.of in
+          let sizes : length (record_read s.answer) ≡ length goes.trees = sym (zip_length (IsTreeOf writes) (record_read s.answer) goes.trees goes.of) in
           let all : length (h.records ++ record_read s.answer) ≡ length h.records + length goes.trees = length-append h.records (record_read s.answer) ∙ ap (λ n. length h.records + n) sizes in
           record {
             records = h.records ++ record_read s.answer;

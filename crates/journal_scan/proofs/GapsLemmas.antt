@@ -1,13 +1,13 @@
 -- Ranges of numbers, and what one number more makes of them.
-use Rattle.std.proofs.Common.{◌≡◌, ◌↔◌, ◌⊎◌, ℕ, suc, ◌+◌, ◌-◌, ◌^◌, ◌<◌, ◌≤◌, max, min, nat_lt, true, false, List, [], ◌∷◌, ◌++◌, length, get_or, take, drop, refl, sym, ap, ◌∙◌, subst, inl, inr, append_assoc, arith}
+use Rattle.std.proofs.Common.{◌≡◌, ◌↔◌, ◌⊎◌, ℕ, ◌+◌, ◌-◌, ◌^◌, ◌<◌, ◌≤◌, max, min, nat_lt, true, false, List, [], ◌∷◌, ◌++◌, length, get_or, take, drop, refl, sym, ap, ◌∙◌, subst, inl, inr, append_assoc, arith}
 use Rattle.std.specs.Prelude.{Bool, if◌then◌else◌}
 use Rattle.std.proofs.Math.ListN.{set}
-use Rattle.std.specs.List.{Contains, insert, remove}
+use Rattle.std.specs.List.{Contains, insert}
 use Rattle.std.proofs.lemmas.Bool.{ltb-true, ltb-false, lt-ltb, le-ltb}
 use Rattle.std.proofs.lemmas.List.{length-append, length-take, take_more, drop_more, take-append-drop, take-set, drop-set, set-append_left, set-append_right, get_or_default}
 use Rattle.std.proofs.lemmas.List.Elements.{Contains-push, Contains-push_cases, Contains-append_left, Contains-append_right, Contains-append_cases}
 use Rattle.journal_scan.specs.declared.tallies.Gap.{Gap}
-use Rattle.journal_scan.specs.Tallies.{behind_greatest, LiesIn, AreApart, behind_ranges, AreMissing, Tallies, gaps_without, gap_before}
+use Rattle.journal_scan.specs.Tallies.{behind_greatest, LiesIn, AreApart, behind_ranges, Tallies, gaps_without, gap_before}
 
 -- ranges of two lists
 pub lies_joined : (a b : List Gap) (k : ℕ) → LiesIn (a ++ b) k ↔ (LiesIn a k ⊎ LiesIn b k)
@@ -308,9 +308,6 @@ module _ (xs : List Gap) (i n : ℕ) (g d : Gap) (l : i < length xs) (is : g ≡
   there : get_or xs i d ≡ g
   there = get_or_default xs i d g l ∙ sym is
 
-  pub split_there : xs ≡ take i xs ++ (get_or xs i d ∷ drop (i + 1) xs)
-  split_there = sym (take-append-drop i xs) ∙ ap (λ x. take i xs ++ x) (drop_more xs i d l)
-
   abbrev left_there : List Gap
   left_there = take i xs ++ (gaps_without (get_or xs i d) n ++ drop (i + 1) xs)
 
@@ -325,9 +322,6 @@ module _ (xs : List Gap) (i n : ℕ) (g d : Gap) (l : i < length xs) (is : g ≡
 
   pub cut_high : n ≤ g.first → n < g.last → set xs i (high g n) ≡ left_there
   cut_high a b = set_there (high g n) ∙ sym (there_is false true (le-ltb g.first n a) (lt-ltb n g.last b))
-
-  pub cut_all : n ≤ g.first → g.last ≤ n → remove xs i ≡ left_there
-  cut_all a b = ap (λ k. take i xs ++ drop k xs) (let e : suc i ≡ i + 1 = omega arith in e) ∙ sym (there_is false false (le-ltb g.first n a) (le-ltb n g.last b))
 
   pub cut_both : g.first < n → n < g.last → set (insert xs (i + 1) (high g n)) i (low g n) ≡ left_there
   cut_both a b =
@@ -383,7 +377,3 @@ none_at_all xs i n a b h = elim ((lies_joined (take i xs) (drop i xs) n).0 (subs
   | inl e ↦ a e
   | inr e ↦ b e
 ]
-
--- the ranges that a tally keeps
-pub are_missing : {ns : List ℕ} {next : ℕ} {gaps : List Gap} {count : ℕ} → Tallies ns next gaps count → AreMissing ns gaps
-are_missing t = record { missing = λ k. (λ h. (let q = (t.missing k).0 h in (omega (arith, q.0, t.next_is), q.1)), λ h. (t.missing k).1 (omega (arith, h.0, t.next_is), h.1)); apart = t.apart }

@@ -2,10 +2,11 @@
 use Rattle.std.proofs.Common.{◌≡◌, ℕ, ◌+◌, ◌-◌, ◌^◌, ◌<◌, Bool, true, false, List, [], ◌∷◌, ◌++◌, length, take, Option, Some, None, Result, Ok, Err, refl, sym, ap, ◌∙◌, subst, append_assoc, arith}
 use Rattle.std.specs.Prelude.{IfSome, IfOk, IsTrue, ◌↔◌, if◌then◌else◌}
 use Rattle.link.specs.declared.receiver.Answer.TheVariants.{Value}
-use Rattle.std.specs.List.{AllZip, Contains}
+use Rattle.std.specs.List.{Contains}
 use Rattle.std.proofs.lemmas.List.{append-nil, take_all, take-append-le, length-append}
 use Rattle.postcard_tree.specs.Tree.{Tree}
 use Rattle.link.specs.Stream.{ended}
+use Rattle.link.specs.Lemmas.Givens.{zip_one}
 use Rattle.journal_scan.specs.declared.scanning.Stretch.{Stretch}
 use Rattle.journal_scan.specs.declared.scanning.Scan.{Scan}
 use Rattle.journal_scan.specs.Scanning.{IsScanning, IsStretchAt, FoundAll, FoundLast, offset_of, with_zero}
@@ -14,12 +15,6 @@ use Rattle.journal.specs.Visits.{VisitorLaws}
 use Rattle.journal_scan.specs.declared.tallies.Tally.{Tally}
 use Rattle.journal_scan.specs.Tallies.{IsTally}
 use Rattle.link.specs.declared.receiver.Answer.{Answer}
-
-zip_one : {A B : Type 0} (R : A → B → Type 0) (xs : List A) (ys : List B) (x : A) (y : B) → AllZip R xs ys → R x y → AllZip R (xs ++ x ∷ []) (ys ++ y ∷ [])
-zip_one R [] [] x y h r = (r, tt)
-zip_one R [] (b ∷ ys) x y h r = absurd h
-zip_one R (a ∷ xs) [] x y h r = absurd h
-zip_one R (a ∷ xs) (b ∷ ys) x y h r = (h.0, zip_one R xs ys x y h.1 r)
 
 -- a scan stands behind these stretches
 pub record StandsBehind {V : Type 0} (takes : Tree → Type 0) (reads : Tree → V → Type 0) (limit : ℕ) (bytes : List ℕ) (scan : Scan) (stretches : List (Stretch V)) : Type 0 where

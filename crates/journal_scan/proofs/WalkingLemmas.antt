@@ -2,21 +2,16 @@
 use Rattle.std.proofs.Common.{◌≡◌, ℕ, zero, suc, ◌+◌, ◌-◌, ◌<◌, ◌≤◌, nat_lt, Bool, true, false, List, [], ◌∷◌, ◌++◌, length, take, drop, Some, None, refl, sym, ap, ◌∙◌, subst, inl, inr, ◌⊎◌, append_assoc, arith}
 use Rattle.std.specs.Prelude.{if◌then◌else◌, get_or}
 use Rattle.std.specs.List.{AllZip}
-use Rattle.std.specs.Int.Bits.{xor_zero_l}
 use Rattle.std.proofs.lemmas.Bool.{le-ltb}
 use Rattle.std.proofs.lemmas.List.{append-nil, take-append-drop, length-drop}
 use Rattle.std.proofs.Math.Seq.{take-add}
 use Rattle.cobs.specs.Frames.{NoZero}
-use Rattle.cobs.specs.Sentinel.{masked}
 use Rattle.postcard_tree.specs.Tree.{Tree}
 use Rattle.link.specs.Stream.{Verdict, too_long, ended, unfinished, IsAnswer, Given, begun_answers}
 use Rattle.link.specs.Laws.{EndsBetween}
 use Rattle.link.specs.Pushes.{IsPush}
+use Rattle.link.specs.Lemmas.MaskLaws.{unmasked}
 use Rattle.link.specs.Lemmas.Pieces.{Parted, alone, more, parted, ends_at, ended_at, unfinished_at, ended_alone, unfinished_alone, ended_behind, unfinished_behind}
-
-pub plain : (bytes : List ℕ) → masked 0 bytes ≡ bytes
-plain [] = refl
-plain (b ∷ bytes) = ap (λ x. x ∷ masked 0 bytes) (xor_zero_l b) ∙ ap (λ x. b ∷ x) (plain bytes)
 
 pub no_zero_more : (p : List ℕ) (b : ℕ) → NoZero p → 0 < b → NoZero (p ++ b ∷ [])
 no_zero_more [] b z l = (l, tt)
@@ -24,17 +19,17 @@ no_zero_more (c ∷ p) b z l = (z.0, no_zero_more p b z.1 l)
 
 -- a stretch alone, and one with a zero behind it
 pub alone_ended : (p : List ℕ) → NoZero p → ended 0 p ≡ []
-alone_ended p z = ap (ended 0) (sym (plain p)) ∙ ended_alone 0 p z
+alone_ended p z = ap (ended 0) (sym (unmasked p)) ∙ ended_alone 0 p z
 
 pub alone_unfinished : (p : List ℕ) → NoZero p → unfinished 0 p ≡ p
-alone_unfinished p z = ap (unfinished 0) (sym (plain p)) ∙ unfinished_alone 0 p z
+alone_unfinished p z = ap (unfinished 0) (sym (unmasked p)) ∙ unfinished_alone 0 p z
 
 pub zero_ended : (p : List ℕ) → NoZero p → 0 < length p → ended 0 (p ++ 0 ∷ []) ≡ p ∷ []
 zero_ended [] z l = absurd (omega (arith, l))
-zero_ended (b ∷ p) z l = ap (λ x. ended 0 (x ++ 0 ∷ [])) (sym (plain (b ∷ p))) ∙ ended_at 0 b p [] z
+zero_ended (b ∷ p) z l = ap (λ x. ended 0 (x ++ 0 ∷ [])) (sym (unmasked (b ∷ p))) ∙ ended_at 0 b p [] z
 
 pub zero_unfinished : (p : List ℕ) → NoZero p → unfinished 0 (p ++ 0 ∷ []) ≡ []
-zero_unfinished p z = ap (λ x. unfinished 0 (x ++ 0 ∷ [])) (sym (plain p)) ∙ unfinished_at 0 p [] z
+zero_unfinished p z = ap (λ x. unfinished 0 (x ++ 0 ∷ [])) (sym (unmasked p)) ∙ unfinished_at 0 p [] z
 
 -- what stands behind a stream goes on with its unfinished stretch
 pub record Behind (stream x : List ℕ) : Type 0 where
@@ -49,7 +44,7 @@ pub behind_of : (stream x : List ℕ) → Behind stream x
 behind_of stream x =
     let k = ends_at 0 stream in
     let u = unfinished 0 stream in
-    let whole : stream ≡ k.front ++ u = k.whole ∙ ap (λ y. k.front ++ y) (plain u) in
+    let whole : stream ≡ k.front ++ u = k.whole ∙ ap (λ y. k.front ++ y) (unmasked u) in
     let all : stream ++ x ≡ k.front ++ (u ++ x) = ap (λ y. y ++ x) whole ∙ append_assoc k.front u x in
     let front : ended 0 stream ≡ ended 0 k.front = ap (ended 0) whole ∙ ended_behind 0 k.front u k.between ∙ ap (λ y. ended 0 k.front ++ y) (alone_ended u k.nonzero) ∙ append-nil (ended 0 k.front) in
     record {
@@ -69,7 +64,7 @@ pub no_zero : (w : List ℕ) → ((rest : List ℕ) → w ≡ 0 ∷ rest → ⊥
 no_zero w first e = go (parted 0 w)
   where
     go : Parted 0 w → NoZero w
-    go (alone p z eq) = subst NoZero (sym (eq ∙ plain p)) z
+    go (alone p z eq) = subst NoZero (sym (eq ∙ unmasked p)) z
     go (more [] rest z eq k) = absurd (first rest eq)
     go (more (b ∷ p) rest z eq k) = absurd (nonempty (b ∷ p) (ended 0 rest) (sym (ended_at 0 b p rest z) ∙ ap (ended 0) (sym eq) ∙ e))
 

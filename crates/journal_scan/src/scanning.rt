@@ -104,7 +104,8 @@ impl Scan {
         ensures fault { IfErr result
             (λ e. (e ≡ ScanError.Fault) × Failed (S.line store.old) (S.line store.new)) }
         ensures more { (S.line store.old).faults ≤ (S.line store.new).faults }
-        ensures calls { OnOk result ((S.line store.new).calls_left < (S.line store.old).calls_left) }
+        ensures calls { OnOk result
+            ((S.line store.new).calls_left < (S.line store.old).calls_left) }
     {
         match store.read_at(self.at, &mut self.room) {
             None => {

@@ -32,8 +32,8 @@ pub trait Store {
         ensures bytes { Wrote (line self.old) (line self.new)
             (moved_front result piece.now) }
         ensures settled { settled self.new ≡ settled self.old }
-        ensures faults { (line self.new).faults ≡ (line self.old).faults + write_faults (line self.old).calls_left
-            result piece.now }
+        ensures faults { (line self.new).faults ≡ (line self.old).faults
+            + write_faults (line self.old).calls_left result piece.now }
         ensures calls { (line self.new).calls_left ≡ (line self.old).calls_left - 1 }
         ensures spent { (line self.old).calls_left ≡ 0 → result ≡ None }
         ensures whole { whole self.old → IfSome result (λ n. n ≡ length piece.now) };

@@ -1,4 +1,4 @@
-use Rattle.std.proofs.Common.{◌≡◌, ◌∷◌, ◌++◌, [], List, Some, length, take, refl, sym, ap, ◌∙◌, subst, inl, arith, rules}
+use Rattle.std.proofs.Common.{◌∷◌, ◌++◌, [], take, refl, sym, ap, ◌∙◌, subst, inl, arith, rules}
 use Rattle.link.specs.Stream.{ended}
 use Rattle.journal_scan.specs.Scanning.{FoundAll, offset_of}
 use Rattle.journal_scan.specs.Tallies.{IsTally}

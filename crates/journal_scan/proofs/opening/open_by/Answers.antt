@@ -1,5 +1,5 @@
-use Rattle.std.proofs.Common.{◌≡◌, ℕ, [], ◌∷◌, take, ap, sym, ◌∙◌, subst, arith}
-use Rattle.line_io.specs.Device.{Wrote, Grew}
+use Rattle.std.proofs.Common.{◌≡◌, [], ◌∷◌, take, ap, sym, ◌∙◌, subst, arith}
+use Rattle.line_io.specs.Device.{Wrote}
 use Rattle.stores.specs.Store.{Settles}
 use Rattle.journal.specs.Logs.{store_of}
 use Rattle.journal_scan.specs.Checks.{IsChecked}

@@ -1,4 +1,4 @@
-use Rattle.std.proofs.Common.{◌≡◌, ◌<◌, length, Ok, Some, ap, ◌∙◌, arith, rules}
+use Rattle.std.proofs.Common.{Ok, Some, ap, ◌∙◌, arith, rules}
 use Rattle.journal_scan.proofs.StandingLemmas.{last_none, last_over, pushed_last}
 use Rattle.journal_scan.proofs.scanning.Scan.finish.Goals as goal
 
