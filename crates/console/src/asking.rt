@@ -1,7 +1,7 @@
 //! A call and its reply.
 use calls::{CallError, Checked, Client, Noticing, Numbered, Waiting};
 use line_io::{Reads, Writes};
-use link::{OfType, Ordinary, Receiver, Sender};
+use link::{End, OfType, Ordinary, Receiver, Sender};
 use sealed::Sealed;
 use shell::{Command, FRAME, Report};
 use std::io::{Stdin, Stdout};
@@ -13,8 +13,8 @@ pub enum Outcome {
     Replied(Report),
     /// The device passed it over, since it had executed the call `last`; it had been sent so often again.
     Passed { last: u64, again: u64 },
-    /// Nothing was heard of it.
-    Unheard,
+    /// Nothing was heard of it; whether a sending of it broke off, and whether reading failed.
+    Unheard { unsent: bool, unread: bool },
 }
 
 // A client that waits, and hears what is said of a call that was passed over.
@@ -30,7 +30,8 @@ fn passed_behind(said: Option<Numbered<Report>>, of: u64) -> Option<u64> {
     }
 }
 
-// Listens until something is heard of the call by this number, which was sent so often again, or the reading ends.
+// Listens until something is heard of the call by this number, which was sent so often again, or the reading ends: nothing is answered
+// then, and whether it failed.
 fn listen(
     rt: &HostRuntime,
     receiver: &mut Receiver<FRAME>,
@@ -38,7 +39,7 @@ fn listen(
     asking: &mut Asking,
     number: u64,
     again: u64,
-) -> Outcome {
+) -> Result<Outcome, bool> {
     // what is said of earlier calls is passed over
     for _ in 0..u64::MAX {
         let ended = receiver.listen_until_with::<(u64, Numbered<Report>), _, _, _>(
@@ -49,16 +50,18 @@ fn listen(
             &mut [0u8; 1024],
         );
         if let Some(Sealed((_, report))) = asking.hearer.hearer.said {
-            return Outcome::Replied(report);
+            return Ok(Outcome::Replied(report));
         }
         if let Some(last) = passed_behind(asking.hearer.notice.take(), number) {
-            return Outcome::Passed { last, again };
+            return Ok(Outcome::Passed { last, again });
         }
-        if ended.is_some() {
-            break;
+        match ended {
+            None => {}
+            Some(End::Ended) => return Err(false),
+            Some(_) => return Err(true),
         }
     }
-    Outcome::Unheard
+    Err(true)
 }
 
 /// Calls over standard output, and waits on standard input for the reply. Where a reading ends without it, the call is sent again, so
@@ -84,17 +87,20 @@ pub fn ask(
         },
     };
     // what wasn't sent whole may have been heard all the same, so its reply is waited for too
-    if let Err(CallError::Full) = asking.hearer.hearer.client.call(Sealed((number, command))) {
-        return Err(CallError::Full);
-    }
+    let mut unsent = match asking.hearer.hearer.client.call(Sealed((number, command))) {
+        Ok(_) => false,
+        Err(CallError::Full) => return Err(CallError::Full),
+        Err(_) => true,
+    };
+    let mut unread = false;
     for sent in 0..=again {
         if sent > 0 {
-            let _sent = asking.hearer.hearer.client.again();
+            unsent |= asking.hearer.hearer.client.again().is_err();
         }
         match listen(rt, &mut receiver, &mut reader, &mut asking, number, sent) {
-            Outcome::Unheard => {}
-            outcome => return Ok(outcome),
+            Ok(outcome) => return Ok(outcome),
+            Err(failed) => unread |= failed,
         }
     }
-    Ok(Outcome::Unheard)
+    Ok(Outcome::Unheard { unsent, unread })
 }

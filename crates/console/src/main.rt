@@ -19,12 +19,16 @@ use std::process::ExitCode;
 const USAGE: &str = "usage: console --numbers FILE|--number NUMBER [--again TIMES] \
     show|on|off|reset|limit MILLILITRES|dose MILLILITRES";
 
-// Opens the null device, so that no file that is opened later takes the place of a standard stream that is closed.
-fn hold_stream(rt: &HostRuntime) -> io::Result<File> {
+fn open_null(rt: &HostRuntime) -> io::Result<File> {
     OpenOptions::new()
         .read(true)
         .write(true)
         .open(rt, "/dev/null")
+}
+
+// Opens the null device, so that no file that is opened later takes the place of a standard stream that is closed.
+fn hold_streams(rt: &HostRuntime) -> io::Result<[File; 3]> {
+    Ok([open_null(rt)?, open_null(rt)?, open_null(rt)?])
 }
 
 // Says that the device passed the call over, and what came of it. The next number of the file, where there is one, is above the last
@@ -51,9 +55,22 @@ fn say_passed(
     if let Some(path) = path {
         if let Err(error) = skip_past(rt, path, last) {
             eprintln!(rt; "console: {path}: {error}")?;
+            return Ok(3);
         }
     }
     Ok(1)
+}
+
+// Says that nothing was heard of the call, and what failed, where something did.
+fn say_unheard(rt: &HostRuntime, number: u64, unsent: bool, unread: bool) -> io::Result<u8> {
+    if unsent {
+        eprintln!(rt; "console: standard output: write failed")?;
+    }
+    if unread {
+        eprintln!(rt; "console: standard input: read failed")?;
+    }
+    eprintln!(rt; "no reply to call {number}: it was done once at most")?;
+    Ok(if unsent || unread { 3 } else { 1 })
 }
 
 // Calls by this number, and says what came of it; the status of the program.
@@ -66,10 +83,7 @@ fn call(rt: &HostRuntime, arguments: &Arguments, number: u64) -> io::Result<u8> 
         Ok(Outcome::Passed { last, again }) => {
             say_passed(rt, &arguments.numbers, number, last, again)
         }
-        Ok(Outcome::Unheard) => {
-            eprintln!(rt; "no reply to call {number}: it was done once at most")?;
-            Ok(1)
-        }
+        Ok(Outcome::Unheard { unsent, unread }) => say_unheard(rt, number, unsent, unread),
         Err(error) => {
             eprintln!(rt; "console: {error}")?;
             Ok(2)
@@ -97,7 +111,10 @@ fn run_by(rt: &HostRuntime, words: &[String]) -> io::Result<u8> {
 
 // The same of the words after the program's name, or what they ask of the program itself.
 fn run(rt: &HostRuntime) -> io::Result<u8> {
-    let _streams = (hold_stream(rt)?, hold_stream(rt)?, hold_stream(rt)?);
+    let Ok(_streams) = hold_streams(rt) else {
+        eprintln!(rt; "console: /dev/null can't be opened")?;
+        return Ok(3);
+    };
     let Some(words) = words_of(rt) else {
         eprintln!(rt; "{USAGE}")?;
         return Ok(2);

@@ -39,17 +39,15 @@ fn work(rt: &HostRuntime) -> (Option<End>, bool) {
 
 // Serves, and says what failed; the status of the program.
 fn serve(rt: &HostRuntime) -> io::Result<u8> {
-    match work(rt) {
-        (Some(End::Ended), false) => Ok(0),
-        (Some(End::Ended), true) => {
-            eprintln!(rt; "device: a reply wasn't sent")?;
-            Ok(3)
-        }
-        _ => {
-            eprintln!(rt; "device: reading failed")?;
-            Ok(3)
-        }
+    let (end, unsent) = work(rt);
+    if unsent {
+        eprintln!(rt; "device: standard output: a reply wasn't sent")?;
     }
+    let Some(End::Ended) = end else {
+        eprintln!(rt; "device: standard input: read failed")?;
+        return Ok(3);
+    };
+    Ok(if unsent { 3 } else { 0 })
 }
 
 // Serves where there are no words; the status of the program.

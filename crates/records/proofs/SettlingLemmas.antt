@@ -1,6 +1,6 @@
 -- A record that was appended stays so over a sync.
 use Rattle.std.proofs.Common.{◌≡◌, ℕ, Bool, true, Option, Result, sym, subst, arith}
-use Rattle.line_io.specs.Device.{LineState, Grew, Wrote}
+use Rattle.line_io.specs.Device.{LineState, Grew}
 use Rattle.postcard_tree.specs.Tree.{Tree}
 use Rattle.link.specs.Run.{written}
 use Rattle.journal.specs.Appending.{Appended}

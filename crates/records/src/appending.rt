@@ -1,14 +1,16 @@
 //! Appending lines to a log.
 
 use crate::checking::Printer;
-use crate::entries::{Entry, MOST, open_file, say_failed, sync_folder};
+use crate::entries::{
+    Entry, INPUT, MOST, open_file, say_error, say_failed, say_no_memory, sync_folder,
+};
 use crate::settling::{Settled, Unsettled};
 use journal::{AppendError, Journal, OpenError, ReadError, Unopened};
 use journal_scan::open_by;
 use sealed::Sealed;
 use std::alloc::Global;
 use std::fs::{File, TryLockError};
-use std::io::{self, BufRead, BufReader, ErrorKind};
+use std::io::{self, BufRead, BufReader};
 use stores::Stored;
 
 type Log = Stored<File>;
@@ -22,13 +24,10 @@ fn open_log(rt: &HostRuntime, path: &str, store: Log) -> Result<Journal<Log, MOS
     };
     match open_by::<Entry, Log, Printer<'_>, MOST>(rt.alloc(), store, &mut silent) {
         Ok((journal, _)) => Ok(journal),
-        Err(Unopened { cause, store: _ }) => {
-            let failed = say_failed(rt, path, &cause);
-            match cause {
-                OpenError::Read(ReadError::NoMemory) => Err(4),
-                _ => Err(failed),
-            }
-        }
+        Err(Unopened { cause, store: _ }) => match cause {
+            OpenError::Read(ReadError::NoMemory) => Err(say_no_memory(rt, path)),
+            _ => Err(say_failed(rt, path, &cause)),
+        },
     }
 }
 
@@ -43,7 +42,7 @@ fn print_number(rt: &HostRuntime, settled: &Settled) -> io::Result<u8> {
 fn say_unsettled(rt: &HostRuntime, path: &str, why: Unsettled) -> io::Result<u8> {
     match why {
         Unsettled::Append(AppendError::Refused(_)) => {
-            eprintln!(rt; "records: a line is too long")?;
+            say_failed(rt, INPUT, &"a line is too long");
             Ok(1)
         }
         Unsettled::Append(e) => Ok(say_failed(rt, path, &e)),
@@ -66,7 +65,7 @@ fn append_line(
 }
 
 // The next line, without the line feed that ends it; nothing at the end of the input. No other byte is taken off.
-fn read_line<R: BufRead>(alloc: Global, input: &mut R) -> io::Result<Option<String>> {
+fn read_line<R: BufRead>(alloc: Global, input: &mut R) -> io::Result<Option<Vec<u8>>> {
     let mut line: Vec<u8> = Vec::new(alloc);
     if input.read_until(b'\n', &mut line)? == 0 {
         return Ok(None);
@@ -74,21 +73,32 @@ fn read_line<R: BufRead>(alloc: Global, input: &mut R) -> io::Result<Option<Stri
     if line.last() == Some(&b'\n') {
         let _ = line.pop();
     }
-    match String::from_utf8(line) {
-        Ok(text) => Ok(Some(text)),
-        Err(_) => Err(io::Error::from(ErrorKind::InvalidData)),
+    Ok(Some(line))
+}
+
+// The next line of text; nothing at the end of the input. Or the status where there is none.
+fn next_text<R: BufRead>(rt: &HostRuntime, input: &mut R) -> Result<Option<String>, u8> {
+    match read_line(rt.alloc(), input) {
+        Ok(Some(line)) => match String::from_utf8(line) {
+            Ok(text) => Ok(Some(text)),
+            Err(_) => Err(say_failed(rt, INPUT, &"a line isn't UTF-8")),
+        },
+        Ok(None) => Ok(None),
+        Err(e) => Err(say_error(rt, INPUT, &e)),
     }
 }
 
 // Appends each line of standard input; one that is too long is left out.
 fn append_lines(rt: &HostRuntime, path: &str, journal: &mut Journal<Log, MOST>) -> io::Result<u8> {
     let Ok(mut input) = BufReader::new(rt.alloc(), rt.reader()) else {
-        return Ok(4);
+        return Ok(say_no_memory(rt, INPUT));
     };
     let mut status = 0u8;
     for _ in 0..u64::MAX {
-        let Some(line) = read_line(rt.alloc(), &mut input)? else {
-            return Ok(status);
+        let line = match next_text(rt, &mut input) {
+            Ok(Some(line)) => line,
+            Ok(None) => return Ok(status),
+            Err(failed) => return Ok(failed),
         };
         match append_line(rt, path, journal, line) {
             Ok(0) => {}
@@ -104,7 +114,16 @@ fn lock(rt: &HostRuntime, path: &str, file: &File) -> u8 {
     match file.try_lock() {
         Ok(()) => 0,
         Err(TryLockError::WouldBlock) => say_failed(rt, path, &"in use"),
-        Err(TryLockError::Error(e)) => say_failed(rt, path, &e),
+        Err(TryLockError::Error(e)) => say_error(rt, path, &e),
+    }
+}
+
+// Syncs the folder of a file that has no bytes: one that has some was opened so before. Or says why not; the status of that.
+fn sync_new(rt: &HostRuntime, path: &str, file: &File) -> u8 {
+    match file.metadata() {
+        Ok(of) if of.len() > 0 => 0,
+        Ok(_) => sync_folder(rt, path),
+        Err(e) => say_error(rt, path, &e),
     }
 }
 
@@ -118,12 +137,9 @@ pub fn append(rt: &HostRuntime, path: &str) -> io::Result<u8> {
         0 => {}
         failed => return Ok(failed),
     }
-    // a file that has bytes was opened so before
-    if file.metadata()?.len() == 0 {
-        match sync_folder(rt, path) {
-            0 => {}
-            failed => return Ok(failed),
-        }
+    match sync_new(rt, path, &file) {
+        0 => {}
+        failed => return Ok(failed),
     }
     match open_log(rt, path, Stored::new(file)) {
         Ok(mut journal) => append_lines(rt, path, &mut journal),

@@ -1,7 +1,9 @@
 //! Checking a log, and repairing one.
 ghost use Rattle.std.specs.Prelude.{◌==◌, ⊤, OnOk, OnErr};
 
-use crate::entries::{Entry, INPUT, MOST, open_file, read_input, say_failed, status_of};
+use crate::entries::{
+    Entry, INPUT, MOST, OUTPUT, open_file, read_input, say_failed, say_no_memory, status_of,
+};
 use journal::Halt;
 use journal_scan::{CheckError, Gap, Judge, RepairError, Report, Stretch, Tally, Watcher};
 use line_io::{Writes, write_all};
@@ -73,7 +75,7 @@ impl Watcher<Entry> for Printer<'_> {
 fn status_at(rt: &HostRuntime, log: &str, e: CheckError) -> u8 {
     match e {
         CheckError::Read(e) => status_of(rt, log, e),
-        CheckError::Halted => say_failed(rt, log, &"not printed"),
+        CheckError::Halted => say_failed(rt, OUTPUT, &"write failed"),
     }
 }
 
@@ -136,7 +138,7 @@ fn mend_to(rt: &HostRuntime, from: &mut Memory, to: &mut Memory) -> io::Result<u
     match journal_scan::repair::<Entry, Memory, Memory>(rt.alloc(), MOST, from, to) {
         Ok(repaired) => {
             if write_all(&mut Writes::new(rt.stdout()), to.bytes()).is_err() {
-                return Ok(say_failed(rt, "standard output", &"write failed"));
+                return Ok(say_failed(rt, OUTPUT, &"write failed"));
             }
             let count = repaired.records;
             eprintln!(rt; "{count} records")?;
@@ -144,10 +146,7 @@ fn mend_to(rt: &HostRuntime, from: &mut Memory, to: &mut Memory) -> io::Result<u
         }
         Err(RepairError::Read(e)) => Ok(status_of(rt, INPUT, e)),
         // the store in memory found none for what it got
-        Err(_) => {
-            say_failed(rt, INPUT, &"no memory");
-            Ok(4)
-        }
+        Err(_) => Ok(say_no_memory(rt, INPUT)),
     }
 }
 

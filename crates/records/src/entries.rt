@@ -5,7 +5,7 @@ use line_io::{End, Reads, read_to_end};
 use sealed::Sealed;
 use std::fmt::Display;
 use std::fs::{File, OpenOptions};
-use std::io;
+use std::io::{self, ErrorKind};
 use stores::Memory;
 
 /// The most bytes that a record takes, with its zero.
@@ -25,7 +25,7 @@ pub fn open_file(rt: &HostRuntime, path: &str, write: bool) -> Result<File, u8> 
     }
     match options.open(rt, path) {
         Ok(file) => Ok(file),
-        Err(e) => Err(say_failed(rt, path, &e)),
+        Err(e) => Err(say_error(rt, path, &e)),
     }
 }
 
@@ -46,18 +46,20 @@ pub fn sync_folder(rt: &HostRuntime, path: &str) -> u8 {
     match options.open(rt, folder) {
         Ok(opened) => match opened.sync_all() {
             Ok(()) => 0,
-            Err(e) => say_failed(rt, folder, &e),
+            Err(e) => say_error(rt, folder, &e),
         },
-        Err(e) => say_failed(rt, folder, &e),
+        Err(e) => say_error(rt, folder, &e),
     }
 }
 
-// The null device.
+/// The null device.
+pub const NULL: &str = "/dev/null";
+
 fn open_null(rt: &HostRuntime) -> io::Result<File> {
     let mut options = OpenOptions::new();
     options.read(true);
     options.write(true);
-    options.open(rt, "/dev/null")
+    options.open(rt, NULL)
 }
 
 /// Holds the descriptors 0 to 2 for as long as the answer is held: one that was closed is the null device then. Else a log that is
@@ -66,14 +68,31 @@ pub fn hold_descriptors(rt: &HostRuntime) -> io::Result<[File; 3]> {
     Ok([open_null(rt)?, open_null(rt)?, open_null(rt)?])
 }
 
-/// What a log on standard input is called.
+/// What standard input is called, also where a log stands on it.
 pub const INPUT: &str = "standard input";
 
-/// Says what failed of a log; and the status of that.
-pub fn say_failed<W: Display>(rt: &HostRuntime, log: &str, what: &W) -> u8 {
+/// What standard output is called.
+pub const OUTPUT: &str = "standard output";
+
+/// Says what failed of a file; and the status of that.
+pub fn say_failed<W: Display>(rt: &HostRuntime, file: &str, what: &W) -> u8 {
     // where this fails too the status is the same
-    let _ = eprintln!(rt; "records: {log}: {what}");
+    let _ = eprintln!(rt; "records: {file}: {what}");
     3
+}
+
+/// Says that no memory was found for what was done with a file; and the status of that.
+pub fn say_no_memory(rt: &HostRuntime, file: &str) -> u8 {
+    say_failed(rt, file, &"no memory");
+    4
+}
+
+/// Says why reading or writing a file failed; and the status of that.
+pub fn say_error(rt: &HostRuntime, file: &str, e: &io::Error) -> u8 {
+    if e.kind() == ErrorKind::OutOfMemory {
+        return say_no_memory(rt, file);
+    }
+    say_failed(rt, file, e)
 }
 
 /// The log that stands on standard input; or the status where it can't be had.
@@ -82,10 +101,7 @@ pub fn read_input(rt: &HostRuntime) -> Result<Memory, u8> {
     match read_to_end(&mut Reads::new(rt.stdin()), &mut bytes) {
         End::Ended => Ok(Memory::new(bytes)),
         End::ReadFault => Err(say_failed(rt, INPUT, &"read failed")),
-        End::NoMemory => {
-            say_failed(rt, INPUT, &"no memory");
-            Err(4)
-        }
+        End::NoMemory => Err(say_no_memory(rt, INPUT)),
     }
 }
 
@@ -93,9 +109,6 @@ pub fn read_input(rt: &HostRuntime) -> Result<Memory, u8> {
 pub fn status_of(rt: &HostRuntime, log: &str, e: ScanError) -> u8 {
     match e {
         ScanError::Fault => say_failed(rt, log, &"read failed"),
-        ScanError::NoMemory => {
-            say_failed(rt, log, &"no memory");
-            4
-        }
+        ScanError::NoMemory => say_no_memory(rt, log),
     }
 }

@@ -27,7 +27,7 @@ mod words;
 use crate::about::ABOUT;
 use crate::appending::append;
 use crate::checking::{check, mend};
-use crate::entries::hold_descriptors;
+use crate::entries::{NULL, OUTPUT, hold_descriptors, say_error};
 use crate::showing::{follow, show};
 use crate::words::wanted_by;
 use help::answer;
@@ -78,12 +78,24 @@ fn run_on(rt: &HostRuntime, held: &[String]) -> io::Result<u8> {
     run_by(rt, &words)
 }
 
-fn run(rt: &HostRuntime) -> io::Result<u8> {
-    let _held = hold_descriptors(rt)?;
+// The words behind the program's name.
+fn words_of(rt: &HostRuntime) -> io::Result<Vec<String>> {
     let mut words: Vec<String> = Vec::new(rt.alloc());
     for word in env::args(rt)?.skip(1) {
         words.push(word)?;
     }
+    Ok(words)
+}
+
+fn run(rt: &HostRuntime) -> io::Result<u8> {
+    let _held = match hold_descriptors(rt) {
+        Ok(held) => held,
+        Err(e) => return Ok(say_error(rt, NULL, &e)),
+    };
+    let words = match words_of(rt) {
+        Ok(words) => words,
+        Err(e) => return Ok(say_error(rt, "its words", &e)),
+    };
     match answer(&mut rt.stdout(), ABOUT, &words) {
         Some(status) => Ok(status),
         None => run_on(rt, &words),
@@ -93,9 +105,7 @@ fn run(rt: &HostRuntime) -> io::Result<u8> {
 fn main(rt: HostRuntime) -> ExitCode {
     match run(&rt) {
         Ok(status) => ExitCode::from(status),
-        Err(e) => {
-            let _ = eprintln!(&rt; "records: {e}");
-            ExitCode::from(3)
-        }
+        // what else failed was said where it did
+        Err(e) => ExitCode::from(say_error(&rt, OUTPUT, &e)),
     }
 }

@@ -2,13 +2,16 @@
 ghost use Rattle.std.specs.Prelude.{◌-◌, IsTrue};
 ghost use Rattle.stores.specs.Store.{EndsBefore};
 
-use crate::entries::{Entry, INPUT, MOST, open_file, read_input, say_failed, status_of};
+use crate::entries::{
+    Entry, INPUT, MOST, OUTPUT, open_file, read_input, say_error, say_failed, say_no_memory,
+    status_of,
+};
 use crate::words::Wanted;
 use journal_scan::{Scan, ScanError};
 use link::Answer;
 use sealed::Sealed;
 use std::alloc::Global;
-use std::io::{self, BufWriter, Write};
+use std::io::{self, BufWriter, ErrorKind, Write};
 use stores::{Store, Stored};
 
 // Writes a record as a line of text, or of JSON.
@@ -18,17 +21,13 @@ fn write_record<W: Write>(
     number: u64,
     text: &String,
     json: bool,
-) -> io::Result<u8> {
+) -> io::Result<()> {
     if !json {
-        writeln!(to, "{number} {text}")?;
-        return Ok(0);
+        return writeln!(to, "{number} {text}");
     }
     match serde_json::to_string(alloc, text) {
-        Ok(quoted) => {
-            writeln!(to, "{{\"number\":{number},\"text\":{quoted}}}")?;
-            Ok(0)
-        }
-        Err(_) => Ok(4),
+        Ok(quoted) => writeln!(to, "{{\"number\":{number},\"text\":{quoted}}}"),
+        Err(_) => Err(io::Error::from(ErrorKind::OutOfMemory)),
     }
 }
 
@@ -39,21 +38,22 @@ fn write_wanted<W: Write>(
     answer: &Answer<(u64, Entry)>,
     wanted: Wanted<'_>,
     passed: &mut u64,
-) -> io::Result<u8> {
+) -> io::Result<()> {
     let Answer::Value((number, Sealed((sealed, text)))) = answer else {
-        return Ok(0);
+        return Ok(());
     };
     if *number != *sealed || *number < wanted.first {
-        return Ok(0);
+        return Ok(());
     }
     if *passed > 0 {
         *passed -= 1;
-        return Ok(0);
+        return Ok(());
     }
     write_record(alloc, to, *number, text, wanted.json)
 }
 
-// Writes what is wanted of the records that the scan still comes to, without the first `passed` of them.
+// Writes what is wanted of the records that the scan still comes to, without the first `passed` of them; or why the scan went no
+// further.
 fn write_rest<S: Store, W: Write>(
     alloc: Global,
     scan: &mut Scan,
@@ -61,19 +61,15 @@ fn write_rest<S: Store, W: Write>(
     to: &mut W,
     wanted: Wanted<'_>,
     passed: &mut u64,
-) -> io::Result<Result<u8, ScanError>> {
+) -> io::Result<Option<ScanError>> {
     for _ in 0..u64::MAX {
-        let written = match scan.next_ended::<Entry, S>(alloc, store) {
-            Ok(Some(stretch)) => write_wanted(alloc, to, &stretch.answer, wanted, passed),
-            Ok(None) => return Ok(Ok(0)),
-            Err(e) => return Ok(Err(e)),
-        };
-        match written? {
-            0 => {}
-            failed => return Ok(Ok(failed)),
+        match scan.next_ended::<Entry, S>(alloc, store) {
+            Ok(Some(stretch)) => write_wanted(alloc, to, &stretch.answer, wanted, passed)?,
+            Ok(None) => return Ok(None),
+            Err(e) => return Ok(Some(e)),
         }
     }
-    Ok(Ok(3))
+    Ok(Some(ScanError::Fault))
 }
 
 // Prints the same. The lines are gathered, and all of them are printed before this returns, also where it goes no further.
@@ -85,13 +81,13 @@ fn show_rest<S: Store>(
     passed: &mut u64,
 ) -> io::Result<u8> {
     let Ok(mut printed) = BufWriter::new(rt.alloc(), io::writer(rt)) else {
-        return Ok(4);
+        return Ok(say_no_memory(rt, OUTPUT));
     };
     let shown = write_rest(rt.alloc(), scan, store, &mut printed, wanted, passed);
     printed.flush()?;
     match shown? {
-        Ok(status) => Ok(status),
-        Err(e) => Ok(status_of(rt, wanted.path.unwrap_or(INPUT), e)),
+        None => Ok(0),
+        Some(e) => Ok(status_of(rt, wanted.path.unwrap_or(INPUT), e)),
     }
 }
 
@@ -100,7 +96,8 @@ fn show_last(rt: &HostRuntime, scan: Scan, wanted: Wanted<'_>, passed: &mut u64)
     match scan.finish::<Entry>(rt.alloc()) {
         Ok(Some(stretch)) => {
             let answer = &stretch.answer;
-            write_wanted(rt.alloc(), &mut io::writer(rt), answer, wanted, passed)
+            write_wanted(rt.alloc(), &mut io::writer(rt), answer, wanted, passed)?;
+            Ok(0)
         }
         Ok(None) => Ok(0),
         Err(e) => Ok(status_of(rt, wanted.path.unwrap_or(INPUT), e)),
@@ -171,7 +168,9 @@ fn follow_on<S: Store>(
         failed => return failed,
     }
     for line in rt.lines(rt.alloc()) {
-        line?;
+        if let Err(e) = line {
+            return Ok(say_error(rt, INPUT, &e));
+        }
         if is_cut_off(store, scan.at()) {
             let log = wanted.path.unwrap_or(INPUT);
             return Ok(say_failed(rt, log, &"cut off: it is shorter than what was shown"));
