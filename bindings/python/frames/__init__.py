@@ -23,7 +23,7 @@ import ctypes.util
 import os
 from ctypes import POINTER, Structure, byref, c_bool, c_char_p, c_size_t, c_uint8, c_uint32
 from dataclasses import dataclass
-from typing import Any, BinaryIO, Iterator, List, Optional, Union
+from typing import Any, BinaryIO, Callable, Iterator, List, Optional, Union
 
 __all__ = [
     "Cut", "Damaged", "Event", "Invalid", "Receiver", "Sender", "TooLong",
@@ -251,9 +251,9 @@ class Receiver:
         return Cut(begun) if library().frames_c_finish(byref(self._state)) else None
 
 
-def _pieces(source: Any, ends: bool) -> Iterator[bytes]:
-    """What a file object, a socket's file or a serial port gives, as it comes."""
-    while True:
+def _pieces(source: Any, ends: bool, is_over: Callable[[], bool] = lambda: False) -> Iterator[bytes]:
+    """What a file object, a socket's file or a serial port gives, as it comes, until it ends or nobody wants more."""
+    while not is_over():
         if hasattr(source, "in_waiting"):  # a port of pyserial
             piece = source.read(max(1, source.in_waiting))
         elif hasattr(source, "read1"):

@@ -34,13 +34,15 @@ def _closed(pipe: IO[bytes]) -> None:
 def write(declarations: str, type_name: str, values: Iterable[Any], sentinel: int = 0, wire: Optional[str] = None) -> bytes:
     """The bytes that `wire write` makes of these values: a sentinel, and a frame and a sentinel for each.
 
-    A value that isn't of the type is a `ValueError`, and nothing is answered then.
+    A value that isn't of the type is a `ValueError`; what the program says of its words or of the declarations is an `OSError`. Nothing is
+    answered then.
     """
     lines = "".join(json.dumps(value) + "\n" for value in values)
     command = [_wire(wire), "write", declarations, type_name, f"sentinel={sentinel:02x}"]
     done = subprocess.run(command, input=lines.encode(), capture_output=True)
     if done.returncode != 0:
-        raise ValueError(done.stderr.decode(errors="replace").strip() or f"wire ended with status {done.returncode}")
+        said = done.stderr.decode(errors="replace").strip() or f"wire ended with status {done.returncode}"
+        raise ValueError(said) if done.returncode == 1 else OSError(said)
     return done.stdout
 
 
@@ -107,7 +109,7 @@ class TypedReceiver:
     def _feed(self, source: Any, ends: bool) -> None:
         assert self._process.stdin is not None
         try:
-            for piece in _pieces(source, ends):
+            for piece in _pieces(source, ends, lambda: self._process.poll() is not None):
                 self._process.stdin.write(piece)
                 self._process.stdin.flush()
         except (BrokenPipeError, ValueError):  # it ended, or was closed

@@ -202,10 +202,26 @@ def test_typed(folder):
         raise AssertionError("not raised")
     with typed.TypedReceiver(path, "Reading", wire=wire) as receiver:  # left early
         assert next(receiver.listen(io.BytesIO(stream * 20000))) == answers[0]
-    for call in (lambda: typed.write(path, "Reading", [{"level": 1}], wire=wire),):
+    here, there = os.openpty()  # as they come, over a line that stays open
+    tty.setraw(here), tty.setraw(there)
+    device, host = Port(there, 0.01), Port(here, 0.01)
+    with typed.TypedReceiver(path, "Reading", wire=wire) as receiver:
+        heard = receiver.listen(host, ends=False)
+        for value in values:
+            device.write(typed.write(path, "Reading", [value], wire=wire))
+            assert next(heard) == {"value": value}
+    feeder = receiver._feeder
+    feeder.join(timeout=5)
+    assert not feeder.is_alive()
+    os.close(here), os.close(there)
+    for error, call in (
+        (ValueError, lambda: typed.write(path, "Reading", [{"level": 1}], wire=wire)),
+        (OSError, lambda: typed.write(path, "No", [], wire=wire)),
+        (OSError, lambda: typed.write(os.path.join(folder, "none.rs"), "Reading", [], wire=wire)),
+    ):
         try:
             call()
-        except ValueError:
+        except error:
             continue
         raise AssertionError("not refused")
 
