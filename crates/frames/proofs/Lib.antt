@@ -7,3 +7,4 @@ mod CountsLemmas
 mod LawsLemmas
 mod StoringLemmas
 mod DecodingLemmas
+mod RoomsLemmas

@@ -1,5 +1,5 @@
 //! Messages with a checksum behind them.
-ghost use Rattle.std.specs.Prelude.{◌≡◌, ◌<◌, ◌≤◌, ◌+◌, ◌++◌, ℕ, List, length, take, OnOk, OnErr, IfOk, IfSome, IsNone};
+ghost use Rattle.std.specs.Prelude.{◌≡◌, ◌<◌, ◌≤◌, ◌+◌, ◌++◌, ℕ, List, length, take, drop, OnOk, OnErr, IfOk, IfSome, IsNone};
 ghost use Rattle.frames.specs.Seals.{seal_bytes};
 
 use cobs::DestBufTooSmallError;
@@ -23,6 +23,7 @@ pub fn seal(buffer: &mut [u8], size: usize) -> Result<usize, DestBufTooSmallErro
     ensures length { IfOk result (λ n. n ≡ size + 4) }
     ensures sealed { OnOk result (take (size + 4) buffer.new
         ≡ take size buffer.old ++ seal_bytes (take size buffer.old)) }
+    ensures rest { OnOk result (drop (size + 4) buffer.new ≡ drop (size + 4) buffer.old) }
     ensures fits { OnOk result (size + 4 ≤ length buffer.old) }
     ensures too_small { OnErr result (length buffer.old < size + 4) }
     ensures unchanged { OnErr result (buffer.new ≡ buffer.old) }

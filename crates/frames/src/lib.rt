@@ -20,6 +20,7 @@ mod counting;
 mod decoding;
 pub mod laws;
 mod receiving;
+mod rooms;
 mod sending;
 mod whole;
 

@@ -435,12 +435,13 @@ impl FrameReceiver {
     }
 
     /// Ends the stream, and begins a new one. Whether a stretch was begun and not answered: it is cut.
+    ///
+    /// Then it is as a new receiver, over any buffer: also one that a push had refused as the wrong one, and whatever it held.
     pub fn finish(&mut self) -> bool
         ensures cut { (limit s : ℕ) (buffer stream : List ℕ)
             → StandsBehind limit s self.old buffer stream → result ≡ is_cut (begun limit s stream) }
-        ensures anew { (limit s : ℕ) (buffer stream : List ℕ)
-            → StandsBehind limit s self.old buffer stream
-            → StandsBehind limit s self.new buffer [] }
+        ensures anew { (buffer : List ℕ)
+            → StandsBehind (length buffer) self.old.sentinel self.new buffer [] }
         ensures sentinel { self.new.sentinel ≡ self.old.sentinel }
     {
         let cut = self.past == 0 && self.count != 0;
@@ -451,9 +452,10 @@ impl FrameReceiver {
 
     /// How many bytes a begun stretch has so far: 0 where none is begun, and where it is too long.
     pub fn begun_bytes(&self) -> usize
-        ensures { (limit s : ℕ) (buffer stream : List ℕ)
+        ensures begun { (limit s : ℕ) (buffer stream : List ℕ)
             → StandsBehind limit s self.now buffer stream
             → result ≡ begun_length (begun limit s stream) }
+        ensures count { result ≡ self.now.count }
     {
         self.count
     }

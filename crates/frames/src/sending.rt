@@ -8,6 +8,7 @@ ghost use Rattle.link.specs.Run.{framed, sent};
 ghost use Rattle.frames.specs.Sending.{is_clean};
 
 use crate::counting::Counted;
+use crate::rooms::fits_counted;
 use crate::whole::fits;
 use cobs::DestBufTooSmallError;
 use link::frame_into_with_sentinel;
@@ -33,28 +34,22 @@ fn put_ended(message: &[u8], dest: &mut [u8], sentinel: u8) -> usize
     n + 1
 }
 
-// The same of a counted message, where it has room.
-fn put_counted(message: &[u8], dest: &mut [u8], sentinel: u8) -> Result<usize, DestBufTooSmallError>
-    ensures length { IfOk result
-        (λ n. n ≡ length (shortest_frame (short (text_of message.now))) + 1) }
-    ensures bytes { IfOk result (λ n. take n dest.new
-        ≡ frame_for sentinel (short (text_of message.now)) ++ (sentinel ∷ [])) }
-    ensures fits { IfOk result (λ n. n ≤ length dest.old) }
-    ensures too_small { OnErr result
-        (length dest.old < length (shortest_frame (short (text_of message.now))) + 1) }
-    ensures room { length dest.new ≡ length dest.old }
+// The same of a counted message.
+fn put_counted(message: &[u8], dest: &mut [u8], sentinel: u8) -> usize
+    requires { length (shortest_frame (short (text_of message.now))) + 1 ≤ length dest.old }
+    ensures length { result ≡ length (shortest_frame (short (text_of message.now))) + 1 }
+    ensures bytes { take result dest.new
+        ≡ frame_for sentinel (short (text_of message.now)) ++ (sentinel ∷ []) }
 {
     cobs::laws::lengths();
-    if dest.len() < 2 {
-        return Err(DestBufTooSmallError);
-    }
     let end = dest.len() - 1;
     match frame_into_with_sentinel(&Counted(message), &mut dest[..end], sentinel) {
         Ok(n) => {
             dest[n] = sentinel;
-            Ok(n + 1)
+            n + 1
         }
-        Err(_) => Err(DestBufTooSmallError),
+        // (it has room)
+        Err(_) => unreachable!(),
     }
 }
 
@@ -72,7 +67,7 @@ impl FrameSender {
     /// sentinel, and a sentinel. The sender isn't clean then, until `went_out` says that all these bytes went out: so a caller whose
     /// write fails, or took too little, has nothing to do.
     ///
-    /// Where it doesn't fit it is refused, and the sender stays as it was; what `dest` then holds isn't stated.
+    /// Where it doesn't fit it is refused, and nothing changes: the next send writes what it would have written without this one.
     pub fn send(&mut self, message: &[u8], dest: &mut [u8]) -> Result<usize, DestBufTooSmallError>
         ensures length { IfOk result (λ n. n ≡ length
             (sent self.old.sentinel (is_clean self.old.clean) (text_of message.now))) }
@@ -84,22 +79,23 @@ impl FrameSender {
             ≤ length dest.old) }
         ensures too_small { OnErr result (length dest.old < length
             (sent self.old.sentinel (is_clean self.old.clean) (text_of message.now))) }
-        ensures unchanged { OnErr result (self.new ≡ self.old) }
+        ensures unchanged { OnErr result ((self.new ≡ self.old) × (dest.new ≡ dest.old)) }
         ensures sentinel { self.new.sentinel ≡ self.old.sentinel }
     {
         let sentinel = self.sentinel;
         if self.clean != 0 {
-            let count = put_counted(message, dest, sentinel)?;
+            if dest.is_empty() || !fits_counted(message, dest.len() - 1) {
+                return Err(DestBufTooSmallError);
+            }
             self.clean = 0;
-            return Ok(count);
+            return Ok(put_counted(message, dest, sentinel));
         }
-        if dest.is_empty() {
+        if dest.len() < 2 || !fits_counted(message, dest.len() - 2) {
             return Err(DestBufTooSmallError);
         }
         let (front, rest) = dest.split_at_mut(1);
         front[0] = sentinel;
-        let count = put_counted(message, rest, sentinel)?;
-        Ok(count + 1)
+        Ok(put_counted(message, rest, sentinel) + 1)
     }
 
     /// The same of the message's bytes alone, without their length. What is heard of such a send that breaks off is nothing, that it

@@ -118,7 +118,8 @@ pub fn decode_in_place(buffer: &mut [u8], sentinel: u8) -> Result<DecodeReport, 
         IfOk result (λ r. p ≢ [] → Frame p (take (frame_size r) buffer.new)) }
     ensures no_frame { OnErr result ((m : List ℕ)
         → Frame (stretch (masked sentinel buffer.old)) m → ⊥) }
-    ensures buffer { buffer.new ≡ overwritten (part (stretch (masked sentinel buffer.old))) buffer.old }
+    ensures buffer { buffer.new
+        ≡ overwritten (part (stretch (masked sentinel buffer.old))) buffer.old }
     ensures rest { let n = length (stretch (masked sentinel buffer.old)) in
         drop n buffer.new ≡ drop n buffer.old }
 {

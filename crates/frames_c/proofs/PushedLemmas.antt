@@ -43,9 +43,9 @@ not_misused a b (Ok p) e h k l = h.1
 not_misused a b (Err x) e h k l = absurd (omega (arith, k, l))
 
 pub is_misused : {X Y : Type 0} (a b : ℕ) (o : Result FramePush WrongBuffer) (e : FramesEvent) → IsPushed o e → OnOk o (a ≤ b) → OnErr o (X × Y) → b < a
-    → (e.kind ≡ misused) × (e.used ≡ 0) × X × Y
+    → (e.kind ≡ misused) × (e.used ≡ 0) × (e.stretch ≡ 0) × X × Y
 is_misused a b (Ok p) e h k x l = absurd (omega (arith, k, l))
-is_misused a b (Err y) e h k x l = (h.0, h.1, x.0, x.1)
+is_misused a b (Err y) e h k x l = (h.0, h.1, h.2, x.0, x.1)
 
 -- where a message stands
 event_is : (o : Result FramePush WrongBuffer) (e : FramesEvent) (P : Option FrameEvent → Type 0) → IsPushed o e → IfOk o (λ p. P p.event) → e.kind ≡ message → P (event_by e.kind e.start e.length)

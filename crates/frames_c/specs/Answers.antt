@@ -13,16 +13,16 @@ use Rattle.frames_c.specs.declared.answers.FramesWritten.{FramesWritten}
 use Rattle.frames_c.specs.declared.answers.FramesEvent.{FramesEvent}
 use Rattle.frames_c.specs.Status.{done, no_room, invalid, empty, more, message, damaged, too_long, misused}
 
--- a refusal: bytes that are no frame say how many bytes of a message they decide
+-- a refusal: bytes that are no frame say how many bytes of a message they decide, and the others 0
 abbrev pub IsRefusedBy : DecodeError → ℕ → ℕ → Type 0
-IsRefusedBy EmptyFrame status size = status ≡ empty
+IsRefusedBy EmptyFrame status size = (status ≡ empty) × (size ≡ 0)
 IsRefusedBy (InvalidFrame n) status size = (status ≡ invalid) × (size ≡ n)
-IsRefusedBy TargetBufTooSmall status size = status ≡ no_room
+IsRefusedBy TargetBufTooSmall status size = (status ≡ no_room) × (size ≡ 0)
 
--- an answer with how many bytes were used and how long the message is
+-- an answer with how many bytes were used, none at a refusal, and how long the message is
 abbrev pub IsReport : Result DecodeReport DecodeError → ℕ → ℕ → ℕ → Type 0
 IsReport (Ok r) status used size = (status ≡ done) × (used ≡ parsed_size r) × (size ≡ frame_size r)
-IsReport (Err e) status used size = IsRefusedBy e status size
+IsReport (Err e) status used size = (used ≡ 0) × IsRefusedBy e status size
 
 -- one with the length of the message alone
 abbrev pub IsLength : Result ℕ DecodeError → ℕ → ℕ → Type 0
@@ -52,7 +52,7 @@ push_by e = record { used = e.used; stretch = e.stretch; event = event_by e.kind
 -- what a push answers by numbers: what `frames` gives, or that the receiver can't stand over this buffer
 abbrev pub IsPushed : Result FramePush WrongBuffer → FramesEvent → Type 0
 IsPushed (Ok p) e = (push_by e ≡ p) × (e.kind ≡ misused → ⊥)
-IsPushed (Err x) e = (e.kind ≡ misused) × (e.used ≡ 0)
+IsPushed (Err x) e = (e.kind ≡ misused) × (e.used ≡ 0) × (e.stretch ≡ 0)
 
 -- what a push of one byte gave, by the number that it answers and the event that it told
 abbrev pub push_told : ℕ → FramesEvent → FramePush

@@ -1,5 +1,6 @@
 //! Answers by numbers.
-ghost use Rattle.std.specs.Prelude.{◌≡◌, ◌≢◌, ◌<◌, ◌≤◌, None, IfOk, OnOk, OnErr};
+ghost use Rattle.std.specs.Prelude.{◌≡◌, ◌≢◌, ◌+◌, ◌<◌, ◌≤◌, ℕ, None, IfOk, OnOk, OnErr};
+ghost use Rattle.frames.specs.Events.{IsInFront, IsInRoom};
 ghost use Rattle.frames_c.specs.Status.{message, misused, more};
 ghost use Rattle.frames_c.specs.Answers.{IsRefusedBy, IsReport, IsLength, IsWritten, IsUnsealed, IsPushed, event_by, push_told};
 
@@ -75,7 +76,8 @@ pub(crate) fn unsealed(outcome: Option<usize>) -> FramesWritten
 
 // A refusal.
 fn refused(error: DecodeError) -> FramesRead
-    ensures { IsRefusedBy error result.status result.length }
+    ensures told { IsRefusedBy error result.status result.length }
+    ensures used { result.used ≡ 0 }
 {
     match error {
         DecodeError::EmptyFrame => FramesRead {
@@ -181,6 +183,13 @@ pub(crate) fn told(outcome: Result<FramePush, WrongBuffer>, event: &mut FramesEv
         → push_told result event.new ≡ p) }
     ensures wrong { OnErr outcome (result ≡ misused) }
     ensures can_stand { OnOk outcome (result < misused) }
+    ensures kind { result < misused → result ≢ more → event.new.kind ≡ result }
+    ensures length { result < misused → result ≢ more → result ≢ message
+        → (event.new.start ≡ 0) × (event.new.length ≡ 0) }
+    ensures room { (n : ℕ) → IfOk outcome (λ p. IsInRoom n p.event)
+        → result < misused → result ≢ more → event.new.start + event.new.length ≤ n }
+    ensures front { IfOk outcome (λ p. IsInFront p.event)
+        → result < misused → result ≢ more → event.new.start ≡ 0 }
     ensures more { result ≡ more → event.new ≡ event.old }
     ensures misused { result ≡ misused → event.new ≡ event.old }
 {

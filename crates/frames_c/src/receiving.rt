@@ -46,7 +46,8 @@ pub extern "C" fn frames_c_push(
     ensures forward { result.kind ≢ misused → 0 < length bytes.now → 0 < result.used }
     ensures can_stand { receiver.old.count ≤ length buffer.old → result.kind ≢ misused }
     ensures misused { length buffer.old < receiver.old.count → (result.kind ≡ misused)
-        × (result.used ≡ 0) × (receiver.new ≡ receiver.old) × (buffer.new ≡ buffer.old) }
+        × (result.used ≡ 0) × (result.stretch ≡ 0)
+        × (receiver.new ≡ receiver.old) × (buffer.new ≡ buffer.old) }
     ensures sentinel { receiver.new.sentinel ≡ receiver.old.sentinel }
 {
     pushed(receiver.push(alloc, buffer, bytes))
@@ -73,7 +74,8 @@ pub extern "C" fn frames_c_push_plain(
     ensures forward { result.kind ≢ misused → 0 < length bytes.now → 0 < result.used }
     ensures can_stand { receiver.old.count ≤ length buffer.old → result.kind ≢ misused }
     ensures misused { length buffer.old < receiver.old.count → (result.kind ≡ misused)
-        × (result.used ≡ 0) × (receiver.new ≡ receiver.old) × (buffer.new ≡ buffer.old) }
+        × (result.used ≡ 0) × (result.stretch ≡ 0)
+        × (receiver.new ≡ receiver.old) × (buffer.new ≡ buffer.old) }
     ensures sentinel { receiver.new.sentinel ≡ receiver.old.sentinel }
 {
     pushed(receiver.push_plain(buffer, bytes))
@@ -94,6 +96,11 @@ fn take_byte(
     ensures answers { (limit s : ℕ) (stream : List ℕ)
         → StandsBehind limit s receiver.old buffer.old stream
         → AnswersCounted limit s stream (byte ∷ []) buffer.new (push_told result event.new) }
+    ensures kind { result < misused → result ≢ more → event.new.kind ≡ result }
+    ensures message { result < misused → result ≢ more
+        → event.new.start + event.new.length ≤ length buffer.new }
+    ensures length { result < misused → result ≢ more → result ≢ message
+        → (event.new.start ≡ 0) × (event.new.length ≡ 0) }
     ensures more { result ≡ more → event.new ≡ event.old }
     ensures can_stand { receiver.old.count ≤ length buffer.old → result < misused }
     ensures misused { length buffer.old < receiver.old.count → (result ≡ misused)
@@ -118,6 +125,11 @@ pub extern "C" fn frames_c_push_byte(
     ensures answers { (limit s : ℕ) (stream : List ℕ)
         → StandsBehind limit s receiver.old buffer.old stream
         → AnswersCounted limit s stream (byte ∷ []) buffer.new (push_told result event.new) }
+    ensures kind { result < misused → result ≢ more → event.new.kind ≡ result }
+    ensures message { result < misused → result ≢ more
+        → event.new.start + event.new.length ≤ length buffer.new }
+    ensures length { result < misused → result ≢ more → result ≢ message
+        → (event.new.start ≡ 0) × (event.new.length ≡ 0) }
     ensures more { result ≡ more → event.new ≡ event.old }
     ensures can_stand { receiver.old.count ≤ length buffer.old → result < misused }
     ensures misused { length buffer.old < receiver.old.count → (result ≡ misused)
@@ -144,6 +156,12 @@ fn take_byte_plain(
     ensures answers { (limit s : ℕ) (stream : List ℕ)
         → StandsBehind limit s receiver.old buffer.old stream
         → AnswersPlain limit s stream (byte ∷ []) buffer.new (push_told result event.new) }
+    ensures kind { result < misused → result ≢ more → event.new.kind ≡ result }
+    ensures message { result < misused → result ≢ more
+        → event.new.start + event.new.length ≤ length buffer.new }
+    ensures length { result < misused → result ≢ more → result ≢ message
+        → (event.new.start ≡ 0) × (event.new.length ≡ 0) }
+    ensures front { result < misused → result ≢ more → event.new.start ≡ 0 }
     ensures more { result ≡ more → event.new ≡ event.old }
     ensures can_stand { receiver.old.count ≤ length buffer.old → result < misused }
     ensures misused { length buffer.old < receiver.old.count → (result ≡ misused)
@@ -167,6 +185,12 @@ pub extern "C" fn frames_c_push_byte_plain(
     ensures answers { (limit s : ℕ) (stream : List ℕ)
         → StandsBehind limit s receiver.old buffer.old stream
         → AnswersPlain limit s stream (byte ∷ []) buffer.new (push_told result event.new) }
+    ensures kind { result < misused → result ≢ more → event.new.kind ≡ result }
+    ensures message { result < misused → result ≢ more
+        → event.new.start + event.new.length ≤ length buffer.new }
+    ensures length { result < misused → result ≢ more → result ≢ message
+        → (event.new.start ≡ 0) × (event.new.length ≡ 0) }
+    ensures front { result < misused → result ≢ more → event.new.start ≡ 0 }
     ensures more { result ≡ more → event.new ≡ event.old }
     ensures can_stand { receiver.old.count ≤ length buffer.old → result < misused }
     ensures misused { length buffer.old < receiver.old.count → (result ≡ misused)
@@ -180,14 +204,15 @@ pub extern "C" fn frames_c_push_byte_plain(
 }
 
 /// Ends the stream, and begins a new one. Whether a stretch was begun and not answered: it is cut.
+///
+/// Then it is as a new receiver, over any buffer: also one that was misused, and whatever it held.
 #[unsafe(no_mangle)]
 pub extern "C" fn frames_c_finish(receiver: &mut FrameReceiver) -> bool
     ensures cut { (limit s : ℕ) (buffer stream : List ℕ)
         → StandsBehind limit s receiver.old buffer stream
         → result ≡ is_cut (begun limit s stream) }
-    ensures anew { (limit s : ℕ) (buffer stream : List ℕ)
-        → StandsBehind limit s receiver.old buffer stream
-        → StandsBehind limit s receiver.new buffer [] }
+    ensures anew { (buffer : List ℕ)
+        → StandsBehind (length buffer) receiver.old.sentinel receiver.new buffer [] }
     ensures sentinel { receiver.new.sentinel ≡ receiver.old.sentinel }
 {
     receiver.finish()
@@ -196,9 +221,10 @@ pub extern "C" fn frames_c_finish(receiver: &mut FrameReceiver) -> bool
 /// How many bytes a begun stretch has so far: 0 where none is begun, and where it is too long.
 #[unsafe(no_mangle)]
 pub extern "C" fn frames_c_begun(receiver: &FrameReceiver) -> usize
-    ensures { (limit s : ℕ) (buffer stream : List ℕ)
+    ensures begun { (limit s : ℕ) (buffer stream : List ℕ)
         → StandsBehind limit s receiver.now buffer stream
         → result ≡ begun_length (begun limit s stream) }
+    ensures count { result ≡ receiver.now.count }
 {
     receiver.begun_bytes()
 }

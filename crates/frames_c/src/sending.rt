@@ -1,5 +1,5 @@
 //! Sending frames over a line that may break them off, and messages with a checksum.
-ghost use Rattle.std.specs.Prelude.{◌≡◌, ◌≢◌, ◌+◌, ◌<◌, ◌≤◌, ◌++◌, ℕ, List, length, take, true, false};
+ghost use Rattle.std.specs.Prelude.{◌≡◌, ◌≢◌, ◌+◌, ◌<◌, ◌≤◌, ◌++◌, ℕ, List, length, take, drop, true, false};
 ghost use Rattle.cobs.specs.Frames.{shortest_frame};
 ghost use Rattle.cobs.specs.Sentinel.{frame_for};
 ghost use Rattle.postcard_tree.specs.Tree.{text_of};
@@ -26,7 +26,7 @@ pub extern "C" fn frames_c_sender(sentinel: u8) -> FrameSender
 /// clean then, until `frames_c_sent` says that all these bytes went out: so a caller whose write fails, or took too little, has
 /// nothing to do.
 ///
-/// Where it doesn't fit it is refused, and the sender stays as it was; what `dest` then holds isn't stated.
+/// Where it doesn't fit it is refused, and nothing changes: the next send writes what it would have written without this one.
 #[unsafe(no_mangle)]
 pub extern "C" fn frames_c_send(
     sender: &mut FrameSender,
@@ -42,7 +42,8 @@ pub extern "C" fn frames_c_send(
     ensures begun { result.status ≡ done → is_clean sender.new.clean ≡ false }
     ensures too_small { length dest.old < length
         (sent sender.old.sentinel (is_clean sender.old.clean) (text_of message.now))
-        → (result.status ≡ no_room) × (result.length ≡ 0) × (sender.new ≡ sender.old) }
+        → (result.status ≡ no_room) × (result.length ≡ 0) × (dest.new ≡ dest.old)
+        × (sender.new ≡ sender.old) }
     ensures sentinel { sender.new.sentinel ≡ sender.old.sentinel }
 {
     written(sender.send(message, dest))
@@ -97,6 +98,8 @@ pub extern "C" fn frames_c_seal(buffer: &mut [u8], size: usize) -> FramesWritten
     ensures length { result.status ≡ done → result.length ≡ size + 4 }
     ensures sealed { result.status ≡ done → take result.length buffer.new
         ≡ take size buffer.old ++ seal_bytes (take size buffer.old) }
+    ensures rest { result.status ≡ done
+        → drop (size + 4) buffer.new ≡ drop (size + 4) buffer.old }
     ensures too_small { length buffer.old < size + 4
         → (result.status ≡ no_room) × (result.length ≡ 0) × (buffer.new ≡ buffer.old) }
 {
@@ -109,7 +112,7 @@ pub extern "C" fn frames_c_unseal(message: &[u8]) -> FramesWritten
     ensures length { result.status ≡ done → result.length + 4 ≡ length message.now }
     ensures sealed { result.status ≡ done → message.now
         ≡ take result.length message.now ++ seal_bytes (take result.length message.now) }
-    ensures refused { result.status ≢ done → result.status ≡ invalid }
+    ensures refused { result.status ≢ done → (result.status ≡ invalid) × (result.length ≡ 0) }
     ensures broken { result.status ≢ done → (bytes : List ℕ)
         → message.now ≡ bytes ++ seal_bytes bytes → ⊥ }
 {

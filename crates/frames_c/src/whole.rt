@@ -84,8 +84,8 @@ pub extern "C" fn frames_c_decode_with_sentinel(
     dest: &mut [u8],
     sentinel: u8,
 ) -> FramesWritten
-    ensures answer { IsLength (decoded_into (length dest.old) (stretch (masked sentinel source.now)))
-        result.status result.length }
+    ensures answer { let p = stretch (masked sentinel source.now) in
+        IsLength (decoded_into (length dest.old) p) result.status result.length }
     ensures frame { let p = stretch (masked sentinel source.now) in
         result.status ≡ done → p ≢ [] → Frame p (take result.length dest.new) }
     ensures no_frame { result.status ≢ done → (m : List ℕ)
@@ -107,7 +107,8 @@ pub extern "C" fn frames_c_decode_in_place(buffer: &mut [u8], sentinel: u8) -> F
         result.status ≡ done → p ≢ [] → Frame p (take result.length buffer.new) }
     ensures no_frame { result.status ≢ done → (m : List ℕ)
         → Frame (stretch (masked sentinel buffer.old)) m → ⊥ }
-    ensures buffer { buffer.new ≡ overwritten (part (stretch (masked sentinel buffer.old))) buffer.old }
+    ensures buffer { buffer.new
+        ≡ overwritten (part (stretch (masked sentinel buffer.old))) buffer.old }
     ensures rest { let n = length (stretch (masked sentinel buffer.old)) in
         drop n buffer.new ≡ drop n buffer.old }
 {

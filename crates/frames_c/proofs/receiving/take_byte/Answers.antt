@@ -23,3 +23,6 @@ returns-clause-can_stand c = byte_can_stand c.args.receiver.now.count (length c.
 
 pub returns-clause-misused : goal.returns-clause-misused
 returns-clause-misused c = byte_misused c.args.receiver.now.count (length c.args.buffer.now) c.told.result c.push_byte.result c.told.ensures.wrong c.told.ensures.misused c.push_byte.ensures.fits c.push_byte.ensures.unchanged
+
+pub returns-clause-message : goal.returns-clause-message
+returns-clause-message c = c.told.ensures.room (length c.push_byte.new.buffer) c.push_byte.ensures.message
