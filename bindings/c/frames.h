@@ -51,7 +51,7 @@ enum frames_kind {
     FRAMES_MESSAGE = 1,  /* a message, in the buffer until the next push */
     FRAMES_DAMAGED = 2,  /* a stretch that is no frame, or whose message isn't counted where it should be */
     FRAMES_TOO_LONG = 3, /* a stretch with more bytes than the buffer has */
-    FRAMES_MISUSED = 4   /* the receiver can't stand over this buffer, or a pointer is null: nothing changed */
+    FRAMES_MISUSED = 4   /* more bytes are begun than the buffer has, or a pointer is null: nothing changed */
 };
 
 /* What was written: how many bytes, 0 where it was refused. */
@@ -244,7 +244,8 @@ static inline uint8_t frames_push_byte_plain(struct frames_receiver *receiver, u
     return frames_c_push_byte_plain(receiver, frames_to(buffer), room, byte, event);
 }
 
-/* Ends the stream, and begins a new one. Whether a stretch was begun and not answered: it is cut off. */
+/* Ends the stream, and begins a new one. Whether a stretch was begun and not answered: it is cut off. The receiver is as new then, over
+ * any buffer: also one that was misused. */
 static inline bool frames_finish(struct frames_receiver *receiver) { return receiver != NULL && frames_c_finish(receiver); }
 
 /* How many bytes the stretch has so far that is begun: 0 where none is, and behind FRAMES_TOO_LONG. */
@@ -257,8 +258,8 @@ static inline struct frames_sender frames_sender(uint8_t sentinel) { return fram
 
 /* Writes the bytes of one send of a counted message into dest: a sentinel where the last send didn't go out whole, the frame, a
  * sentinel. Write these to the line, and call frames_sent once all of them went out; where a write fails or takes too little, call
- * nothing: the next send then begins with a sentinel. FRAMES_NO_ROOM exactly where they don't fit: the sender stays as it was then,
- * but what dest holds isn't promised. */
+ * nothing: the next send then begins with a sentinel. FRAMES_NO_ROOM exactly where they don't fit: sender and dest stay as they were
+ * then, and the next send writes what it would have written without this one. */
 static inline struct frames_written frames_send(struct frames_sender *sender, const uint8_t *message, size_t length, uint8_t *dest,
                                                 size_t room) {
     if (sender == NULL || !frames_is_there(message, length) || !frames_is_there(dest, room)) {
@@ -268,7 +269,7 @@ static inline struct frames_written frames_send(struct frames_sender *sender, co
     return frames_c_send(sender, frames_from(message), length, frames_to(dest), room);
 }
 
-/* The same of a plain message. Where it is refused dest stays as it was, too. */
+/* The same of a plain message. */
 static inline struct frames_written frames_send_plain(struct frames_sender *sender, const uint8_t *message, size_t length,
                                                       uint8_t *dest, size_t room) {
     if (sender == NULL || !frames_is_there(message, length) || !frames_is_there(dest, room)) {

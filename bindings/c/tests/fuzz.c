@@ -97,7 +97,7 @@ static void encoding(void) {
             if (room < whole) {
                 CHECK(r.status == FRAMES_NO_ROOM && r.length == 0 && sender.clean == clean);
                 for (size_t i = 0; i < room; i++)
-                    CHECK(counted || dest[i] == 0xA5);
+                    CHECK(dest[i] == 0xA5);
             } else {
                 CHECK(r.status == FRAMES_OK && r.length == whole && sender.clean == 0);
                 uint8_t *frame = dest + (clean ? 0 : 1);
@@ -358,9 +358,13 @@ static void misusing(void) {
     if (old.count > 8)
         CHECK(kind == FRAMES_MISUSED && told.kind == 9 && again.count == old.count && again.past == old.past);
     else
-        CHECK(kind <= FRAMES_TOO_LONG && again.count <= 8);
+        CHECK(kind <= FRAMES_TOO_LONG && again.count <= 8 && (kind == FRAMES_MORE || (told.kind == kind && told.start + told.length <= 8)));
     frames_finish(&r);
     CHECK(frames_begun(&r) == 0 && r.past == 0);
+    uint8_t hi[5] = {4, 2, 'h', 'i', 0}; /* behind the end it is as new, whatever it held */
+    mask(hi, 5, r.sentinel);
+    e = frames_push(&r, buffer, 8, hi, 5);
+    CHECK(e.kind == FRAMES_MESSAGE && e.used == 5 && e.stretch == 4 && e.start == 1 && e.length == 2 && memcmp(buffer + 1, "hi", 2) == 0);
     r = frames_receiver(0);
     CHECK(frames_push(NULL, buffer, 8, b, 1).kind == FRAMES_MISUSED);
     CHECK(frames_push(&r, NULL, 8, b, 1).kind == FRAMES_MISUSED && frames_push(&r, buffer, 8, NULL, 1).kind == FRAMES_MISUSED);

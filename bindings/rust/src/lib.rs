@@ -475,7 +475,7 @@ impl Sender {
     }
 
     /// Writes the bytes of one send to the front of a buffer, and answers how many. Call `sent` once all of them went out; where
-    /// they didn't, the next send begins with a sentinel.
+    /// they didn't, the next send begins with a sentinel. Where they don't fit nothing changes, neither here nor in the buffer.
     ///
     /// ```
     /// let mut out = [0u8; 8];
