@@ -11,7 +11,7 @@
 //! |---|---|
 //! | frame a whole message, or read a whole frame | `encode`, `decode` and their kin |
 //! | receive from pieces, or byte by byte | `FrameReceiver`: `push`, `push_byte` |
-//! | send over a line that may break | `FrameSender`: `send`, then `sent` once all went out |
+//! | send over a line that may break | `FrameSender`: `send`, then `went_out` once all did |
 //! | notice changed bytes | `seal`, `unseal` |
 #![tactic(auto)]
 
