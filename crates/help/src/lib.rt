@@ -32,7 +32,8 @@ pub enum Asked {
 /// What the words ask for in place of the program's work: `--help` or `--version` alone.
 pub fn asked_by(words: &[String]) -> Option<Asked>
     ensures help { result ≡ Some Asked.Help ↔ (map string_bytes words.now ≡ help_word ∷ []) }
-    ensures version { result ≡ Some Asked.Version ↔ (map string_bytes words.now ≡ version_word ∷ []) }
+    ensures version { result ≡ Some Asked.Version
+        ↔ (map string_bytes words.now ≡ version_word ∷ []) }
 {
     match words {
         [word] => match word.as_str() {
