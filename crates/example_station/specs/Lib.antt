@@ -1,2 +1,3 @@
 pub mod Same
 pub mod Trees
+pub mod Kinds

@@ -6,6 +6,7 @@
 ghost use Rattle.std.specs.Prelude.{◌≡◌, IfOk, string_bytes};
 ghost use Rattle.postcard_tree.specs.Alike.{AlikeLists, AlikePairs};
 ghost use Rattle.schemas.specs.TypeSchemas.{AgreesWithItsSchemas};
+ghost use Rattle.example_station.specs.Kinds.{sensor_reading_kinds, level_kinds, log_record_kinds, address_kinds, ping_kinds, command_kinds, config_kinds, packet_kinds, report_kinds, event_kinds};
 ghost use Rattle.example_station.specs.Same.{SameCommand};
 
 use crate::messages::{
@@ -112,28 +113,39 @@ pub fn event<'a>(alloc: Global, v: &Event, room: &'a mut [u8]) -> Result<(Event,
     round_trip::<Event>(alloc, v, &[], room)
 }
 
-/// What is read by a type's schema and what is read by the type are of one tree, and leave the same rest.
+/// What is read by a type's schema and what is read by the type are of one tree, and leave the same rest; by the schema it is
+/// a value of the type's kinds.
 pub fn reading_by_schemas<'a>()
     ensures sensor_reading { AgreesWithItsSchemas ⟦<SensorReading as Readable>⟧.form.takes
-        ⟦<SensorReading as Readable>⟧.form.reads ⟦<SensorReading as Readable>⟧.form.refuses }
+        ⟦<SensorReading as Readable>⟧.form.reads ⟦<SensorReading as Readable>⟧.form.refuses
+        sensor_reading_kinds }
     ensures level { AgreesWithItsSchemas ⟦<Level as Readable>⟧.form.takes
-        ⟦<Level as Readable>⟧.form.reads ⟦<Level as Readable>⟧.form.refuses }
+        ⟦<Level as Readable>⟧.form.reads ⟦<Level as Readable>⟧.form.refuses
+        level_kinds }
     ensures log_record { AgreesWithItsSchemas ⟦<LogRecord as Readable>⟧.form.takes
-        ⟦<LogRecord as Readable>⟧.form.reads ⟦<LogRecord as Readable>⟧.form.refuses }
+        ⟦<LogRecord as Readable>⟧.form.reads ⟦<LogRecord as Readable>⟧.form.refuses
+        log_record_kinds }
     ensures address { AgreesWithItsSchemas ⟦<Address as Readable>⟧.form.takes
-        ⟦<Address as Readable>⟧.form.reads ⟦<Address as Readable>⟧.form.refuses }
+        ⟦<Address as Readable>⟧.form.reads ⟦<Address as Readable>⟧.form.refuses
+        address_kinds }
     ensures ping { AgreesWithItsSchemas ⟦<Ping as Readable>⟧.form.takes
-        ⟦<Ping as Readable>⟧.form.reads ⟦<Ping as Readable>⟧.form.refuses }
+        ⟦<Ping as Readable>⟧.form.reads ⟦<Ping as Readable>⟧.form.refuses
+        ping_kinds }
     ensures command { AgreesWithItsSchemas ⟦<Command as Readable>⟧.form.takes
-        ⟦<Command as Readable>⟧.form.reads ⟦<Command as Readable>⟧.form.refuses }
+        ⟦<Command as Readable>⟧.form.reads ⟦<Command as Readable>⟧.form.refuses
+        command_kinds }
     ensures config { AgreesWithItsSchemas ⟦<Config as Readable>⟧.form.takes
-        ⟦<Config as Readable>⟧.form.reads ⟦<Config as Readable>⟧.form.refuses }
+        ⟦<Config as Readable>⟧.form.reads ⟦<Config as Readable>⟧.form.refuses
+        config_kinds }
     ensures packet { AgreesWithItsSchemas ⟦<Packet<'a> as Readable>⟧.form.takes
-        ⟦<Packet<'a> as Readable>⟧.form.reads ⟦<Packet<'a> as Readable>⟧.form.refuses }
+        ⟦<Packet<'a> as Readable>⟧.form.reads ⟦<Packet<'a> as Readable>⟧.form.refuses
+        packet_kinds }
     ensures report { AgreesWithItsSchemas ⟦<Report as Readable>⟧.form.takes
-        ⟦<Report as Readable>⟧.form.reads ⟦<Report as Readable>⟧.form.refuses }
+        ⟦<Report as Readable>⟧.form.reads ⟦<Report as Readable>⟧.form.refuses
+        report_kinds }
     ensures event { AgreesWithItsSchemas ⟦<Event as Readable>⟧.form.takes
-        ⟦<Event as Readable>⟧.form.reads ⟦<Event as Readable>⟧.form.refuses }
+        ⟦<Event as Readable>⟧.form.reads ⟦<Event as Readable>⟧.form.refuses
+        event_kinds }
 {
     reading_by_schemas_agrees::<SensorReading>();
     reading_by_schemas_agrees::<Level>();

@@ -26,14 +26,12 @@ ghost use Rattle.postcard_tree.specs.Shapes.{form_matches};
 
 ";
 
-/// What ghost text brings in for tables of types with parameters.
-const OF_TABLES: &str = "ghost use Rattle.std.specs.Prelude.{IfOk};
-ghost use Rattle.schemas.specs.TypeSchemas.{BeginsWith, IsSchemaOf};
+/// What ghost text brings in for tables.
+const OF_TABLES: &str = "ghost use Rattle.schemas.specs.TypeSchemas.{as_its_shape};
 ";
 
 /// What tables bring in.
-const FOR_TABLES: &str = "use schemas::HasSchema;
-use std::alloc::{AllocError, Global};
+const FOR_TABLES: &str = "use schemas::SchemaOfShape;
 ";
 
 /// How a value is made of its shape, up to its argument.
@@ -53,23 +51,10 @@ impl%: Readable% MatchesShape for %Name% {
 }
 ";
 
-/// How a type that is read is put into a table.
+/// That a type that is read has the schema of its shape.
 const SCHEMA: &str = "
-impl%: HasSchema% HasSchema for %Name% {
-    fn add_schema(alloc: Global, nodes: &mut Vec<schemas::Node>) -> Result<usize, AllocError>";
-
-/// What a function of the trait promises, which is written again for a type with parameters.
-const IS_SCHEMA: &str = "
-        ensures kept { BeginsWith nodes.old.items nodes.new.items }
-        ensures is_schema { IfOk result (λ place.
-            IsSchemaOf ⟦<ShapeOf<Self> as Readable>⟧.form.takes
-            ⟦<ShapeOf<Self> as Readable>⟧.form.refuses nodes.new.items place) }
-    {";
-
-/// What stands behind it.
-const OF_SHAPE: &str = "
-        ShapeOf::<Self>::add_schema(alloc, nodes)
-    }
+impl%: Readable% SchemaOfShape for %Name% {
+    ghost same = { as_its_shape };
 }
 ";
 
@@ -300,7 +285,7 @@ impl Text {
 
     /// Writes what ghost text brings in for types that are used so.
     fn lemmas(&mut self, used: Uses) {
-        if used.stated && used.put_in_tables {
+        if used.put_in_tables {
             self.put(OF_TABLES);
         }
         self.put(LEMMAS);
@@ -333,14 +318,6 @@ impl Text {
         }
     }
 
-    /// Writes an implementation around what a function of its trait promises, which is written again for a type with parameters.
-    fn promised(&mut self, it: &Declaration, before: &str, promise: &str, behind: &str) {
-        self.fill(it, before);
-        let has_parameters = !it.parameters.is_empty();
-        self.put(if has_parameters { promise } else { " {" });
-        self.fill(it, behind);
-    }
-
     /// Writes how the values of a declaration are written.
     fn written(&mut self, it: &Declaration) {
         self.fill(it, WRITTEN);
@@ -352,11 +329,10 @@ impl Text {
     }
 }
 
-/// How types are used: whether one is written, one that is read has parameters, and one is put into tables.
+/// How types are used: whether one is written, and one is put into tables.
 #[derive(Clone, Copy, Drop)]
 struct Uses {
     written: bool,
-    stated: bool,
     put_in_tables: bool,
 }
 
@@ -364,12 +340,10 @@ struct Uses {
 fn uses_of(all: &[Declaration], with_schemas: bool) -> Uses {
     let mut used = Uses {
         written: false,
-        stated: false,
         put_in_tables: false,
     };
     for it in all {
         used.written = used.written || it.marks.written;
-        used.stated = used.stated || (it.marks.read && !it.parameters.is_empty());
         used.put_in_tables = used.put_in_tables || (it.marks.read && with_schemas);
     }
     used
@@ -388,7 +362,7 @@ pub fn write_all(
     for it in all {
         text.put_declaration(it, path);
         if it.marks.read && with_schemas {
-            text.promised(it, SCHEMA, IS_SCHEMA, OF_SHAPE);
+            text.fill(it, SCHEMA);
         }
     }
     text.finished()

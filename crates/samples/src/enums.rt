@@ -1,6 +1,7 @@
 //! Enums are the variant's index and what the variant holds.
 ghost use Rattle.postcard_tree.specs.ReadingLaws.{form_as};
 ghost use Rattle.postcard_tree.specs.Shapes.{form_matches};
+ghost use Rattle.schemas.specs.TypeSchemas.{as_its_shape};
 
 use crate::structs::EnumStruct;
 use postcard::ser_flavors::Flavor;
@@ -8,8 +9,7 @@ use postcard::{
     AsShape, Last, MatchesShape, Readable, Result, Serialize, Serializer, ShapeOf, Shaped, Variant,
     Variants4,
 };
-use schemas::{HasSchema, Node};
-use std::alloc::{AllocError, Global};
+use schemas::SchemaOfShape;
 
 /// Variants without a payload.
 #[derive(Clone, Copy, PartialEq, Eq, Drop)]
@@ -60,10 +60,8 @@ impl Serialize for BasicEnum {
     }
 }
 
-impl HasSchema for BasicEnum {
-    fn add_schema(alloc: Global, nodes: &mut Vec<Node>) -> std::result::Result<usize, AllocError> {
-        ShapeOf::<Self>::add_schema(alloc, nodes)
-    }
+impl SchemaOfShape for BasicEnum {
+    ghost same = { as_its_shape };
 }
 
 /// Variants with a payload of each form.
@@ -131,8 +129,6 @@ impl Serialize for DataEnum {
     }
 }
 
-impl HasSchema for DataEnum {
-    fn add_schema(alloc: Global, nodes: &mut Vec<Node>) -> std::result::Result<usize, AllocError> {
-        ShapeOf::<Self>::add_schema(alloc, nodes)
-    }
+impl SchemaOfShape for DataEnum {
+    ghost same = { as_its_shape };
 }

@@ -1,13 +1,11 @@
 //! Structs are their fields in order.
-ghost use Rattle.std.specs.Prelude.{IfOk};
 ghost use Rattle.postcard_tree.specs.ReadingLaws.{form_as};
 ghost use Rattle.postcard_tree.specs.Shapes.{form_matches};
-ghost use Rattle.schemas.specs.TypeSchemas.{BeginsWith, IsSchemaOf};
+ghost use Rattle.schemas.specs.TypeSchemas.{as_its_shape};
 
 use postcard::ser_flavors::Flavor;
 use postcard::{AsShape, MatchesShape, Readable, Result, Serialize, Serializer, ShapeOf, Shaped};
-use schemas::{HasSchema, Node};
-use std::alloc::{AllocError, Global};
+use schemas::SchemaOfShape;
 
 /// Bytes and a text that lie where they were read.
 #[derive(Drop)]
@@ -42,15 +40,8 @@ impl<'a> Serialize for RefStruct<'a> {
     }
 }
 
-impl<'a> HasSchema for RefStruct<'a> {
-    fn add_schema(alloc: Global, nodes: &mut Vec<Node>) -> std::result::Result<usize, AllocError>
-        ensures kept { BeginsWith nodes.old.items nodes.new.items }
-        ensures is_schema { IfOk result (λ place.
-            IsSchemaOf ⟦<ShapeOf<Self> as Readable>⟧.form.takes
-            ⟦<ShapeOf<Self> as Readable>⟧.form.refuses nodes.new.items place) }
-    {
-        ShapeOf::<Self>::add_schema(alloc, nodes)
-    }
+impl<'a> SchemaOfShape for RefStruct<'a> {
+    ghost same = { as_its_shape };
 }
 
 /// A number under a name of its own.
@@ -83,10 +74,8 @@ impl Serialize for NewTypeStruct {
     }
 }
 
-impl HasSchema for NewTypeStruct {
-    fn add_schema(alloc: Global, nodes: &mut Vec<Node>) -> std::result::Result<usize, AllocError> {
-        ShapeOf::<Self>::add_schema(alloc, nodes)
-    }
+impl SchemaOfShape for NewTypeStruct {
+    ghost same = { as_its_shape };
 }
 
 /// Two numbers by their places.
@@ -119,10 +108,8 @@ impl Serialize for TupleStruct {
     }
 }
 
-impl HasSchema for TupleStruct {
-    fn add_schema(alloc: Global, nodes: &mut Vec<Node>) -> std::result::Result<usize, AllocError> {
-        ShapeOf::<Self>::add_schema(alloc, nodes)
-    }
+impl SchemaOfShape for TupleStruct {
+    ghost same = { as_its_shape };
 }
 
 /// A byte and a number, the payload of a variant of `DataEnum`.
@@ -158,8 +145,6 @@ impl Serialize for EnumStruct {
     }
 }
 
-impl HasSchema for EnumStruct {
-    fn add_schema(alloc: Global, nodes: &mut Vec<Node>) -> std::result::Result<usize, AllocError> {
-        ShapeOf::<Self>::add_schema(alloc, nodes)
-    }
+impl SchemaOfShape for EnumStruct {
+    ghost same = { as_its_shape };
 }

@@ -3,5 +3,6 @@ mod TakingLemmas
 mod FrontsLemmas
 mod PushedLemmas
 mod MapsLemmas
+mod KindsLemmas
 mod TablesLemmas
 mod AgreeingLemmas

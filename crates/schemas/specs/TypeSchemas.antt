@@ -1,5 +1,5 @@
--- When a type of a table is a Rust type: it takes that type's trees, and refuses what that type refuses.
-use Rattle.std.specs.Prelude.{◌≡◌, ℕ, ◌≤◌, List, [], ◌∷◌, ◌++◌, length}
+-- When a type of a table is a Rust type: it takes that type's trees, refuses what that type refuses, and reads values of its kinds.
+use Rattle.std.specs.Prelude.{◌≡◌, ℕ, zero, suc, ◌≤◌, List, [], ◌∷◌, ◌++◌, length}
 use Rattle.postcard_tree.specs.declared.error.Error.{Error}
 use Rattle.postcard_tree.specs.Tree.{Tree, Trees}
 use Rattle.postcard.specs.Answer.{ReadsFront}
@@ -7,7 +7,7 @@ use Rattle.schemas.specs.declared.node.Node.{Node}
 use Rattle.schemas.specs.declared.node.Node.TheVariants as node
 use Rattle.schemas.specs.declared.value.Value.{Value}
 use Rattle.schemas.specs.Values.{tree_of}
-use Rattle.schemas.specs.Schemas.{TakesFields, TakesPayload, TakesNode, RefusesFields, RefusesPayload, RefusesNode, SchemaTakes, SchemaReads, SchemaRefuses}
+use Rattle.schemas.specs.Schemas.{TakesFields, TakesPayload, TakesNode, RefusesFields, RefusesPayload, RefusesNode, AtTop, FieldsHave, PayloadHas, NodeHas, SchemaTakes, SchemaHas, SchemaReads, SchemaRefuses}
 
 -- a table that begins with these nodes
 pub record BeginsWith (nodes table : List Node) : Type 0 where
@@ -22,43 +22,78 @@ pub record TakeTheSame {A : Type 0} (takes takes' : A → Type 0)
   pub refused_to : (s : List ℕ) (e : Error) → refuses s e → refuses' s e
   pub refused_from : (s : List ℕ) (e : Error) → refuses' s e → refuses s e
 
+-- a message type whose form is that of its shape takes and refuses the same
+pub as_its_shape : {P : Tree → Type 0} {F : List ℕ → Error → Type 0} → TakeTheSame P P F F
+as_its_shape = record { to = λ t h. h; from = λ t h. h; refused_to = λ s e h. h; refused_from = λ s e h. h }
+
+-- two kinds, or the kinds of the parts of two, have the same values
+pub record HaveTheSame {A : Type 0} (has has' : A → Type 0) : Type 0 where
+  pub to : (v : A) → has v → has' v
+  pub from : (v : A) → has' v → has v
+
 -- In each table that begins with these nodes, read as deep as they are many or deeper, the type at the place takes just what
--- `takes` says, and refuses just what `refuses` says.
+-- `takes` says, refuses just what `refuses` says, and has just the values that `has` says.
 pub record IsSchemaOf (takes : Tree → Type 0) (refuses : List ℕ → Error → Type 0)
-    (nodes : List Node) (place : ℕ) : Type 0 where
+    (has : Value → Type 0) (nodes : List Node) (place : ℕ) : Type 0 where
   pub same : (depth : ℕ) (table : List Node) → length nodes ≤ depth → BeginsWith nodes table
       → TakeTheSame (SchemaTakes depth table place) takes (SchemaRefuses depth table place) refuses
+  pub values : (depth : ℕ) (table : List Node) → length nodes ≤ depth → BeginsWith nodes table
+      → HaveTheSame (SchemaHas depth table place) has
+
+-- no value
+abbrev pub NoneHave : List Value → Type 0
+NoneHave [] = Unit {0}
+NoneHave (v ∷ vs) = ⊥
+
+-- a value that has it, and behind it others that have theirs
+abbrev pub OneThenHave : (Value → Type 0) → (List Value → Type 0) → List Value → Type 0
+OneThenHave has have [] = ⊥
+OneThenHave has have (v ∷ vs) = has v × have vs
+
+-- what the last variant holds has it; its index is 0
+abbrev pub LastHas : (Value → Type 0) → ℕ → Value → Type 0
+LastHas has zero v = has v
+LastHas has (suc n) v = ⊥
+
+-- what the first variant holds has it; the next indexes are those of the others
+abbrev pub FirstHas : (Value → Type 0) → (ℕ → Value → Type 0) → ℕ → Value → Type 0
+FirstHas has others zero v = has v
+FirstHas has others (suc n) v = others n v
 
 -- A schema of a type and the type agree: they take the same trees and refuse the same bytes, as the same errors; and what both
--- read from bytes is one tree, with one rest behind it.
+-- read from bytes is one tree, with one rest behind it, the schema as a value of the type's kinds.
 abbrev pub AgreesWithItsSchemas : {A : Type 0} → (Tree → Type 0) → (Tree → A → Type 0)
-    → (List ℕ → Error → Type 0) → Type 0
-AgreesWithItsSchemas {A} takes reads refuses =
-    (nodes : List Node) (place depth : ℕ) → IsSchemaOf takes refuses nodes place → length nodes ≤ depth
+    → (List ℕ → Error → Type 0) → (Value → Type 0) → Type 0
+AgreesWithItsSchemas {A} takes reads refuses has =
+    (nodes : List Node) (place depth : ℕ) → IsSchemaOf takes refuses has nodes place → length nodes ≤ depth
     → TakeTheSame (SchemaTakes depth nodes place) takes (SchemaRefuses depth nodes place) refuses
     × ((s rest rest' : List ℕ) (v : Value) (w : A) → ReadsFront (SchemaReads depth nodes place) s rest v
-    → ReadsFront reads s rest' w → (rest ≡ rest') × reads (tree_of v) w)
+    → ReadsFront reads s rest' w → (rest ≡ rest') × reads (tree_of v) w × has v)
 
 -- the same of fields, one after another
 pub record AreSchemasOf (takes : Trees → Type 0) (refuses : List ℕ → Error → Type 0)
-    (nodes : List Node) (places : List ℕ) : Type 0 where
+    (have : List Value → Type 0) (nodes : List Node) (places : List ℕ) : Type 0 where
   pub same : (depth : ℕ) (table : List Node) → length nodes ≤ depth → BeginsWith nodes table
       → TakeTheSame (TakesFields (SchemaTakes depth table) places) takes
       (RefusesFields (SchemaTakes depth table) (SchemaRefuses depth table) places) refuses
+  pub values : (depth : ℕ) (table : List Node) → length nodes ≤ depth → BeginsWith nodes table
+      → HaveTheSame (FieldsHave (SchemaHas depth table) places) have
 
 -- the same of what variants hold, by their indexes
 pub record ArePayloadsOf (takes : ℕ → Tree → Type 0) (refuses : ℕ → List ℕ → Error → Type 0)
-    (nodes : List Node) (places : List ℕ) : Type 0 where
+    (has : ℕ → Value → Type 0) (nodes : List Node) (places : List ℕ) : Type 0 where
   pub same : (depth : ℕ) (table : List Node) → length nodes ≤ depth → BeginsWith nodes table → (n : ℕ)
       → TakeTheSame (TakesPayload (SchemaTakes depth table) places n) (takes n)
       (RefusesPayload (SchemaRefuses depth table) places n) (refuses n)
+  pub values : (depth : ℕ) (table : List Node) → length nodes ≤ depth → BeginsWith nodes table → (n : ℕ)
+      → HaveTheSame (PayloadHas (SchemaHas depth table) places n) (has n)
 
 -- the places of these payloads were put behind others
 pub record PayloadsAdded (takes : ℕ → Tree → Type 0) (refuses : ℕ → List ℕ → Error → Type 0)
-    (nodes : List Node) (old new : List ℕ) : Type 0 where
+    (has : ℕ → Value → Type 0) (nodes : List Node) (old new : List ℕ) : Type 0 where
   pub added : List ℕ
   pub behind : new ≡ old ++ added
-  pub payloads : ArePayloadsOf takes refuses nodes added
+  pub payloads : ArePayloadsOf takes refuses has nodes added
 
 -- this node was put behind a table, at this place
 pub record IsAdded (n : Node) (old new : List Node) (place : ℕ) : Type 0 where
@@ -93,3 +128,7 @@ LeafTakes n = TakesNode (λ i t. ⊥) n
 -- what a leaf refuses
 abbrev pub LeafRefuses : Node → List ℕ → Error → Type 0
 LeafRefuses n = RefusesNode (λ i t. ⊥) (λ i s e. ⊥) n
+
+-- the values of a leaf
+abbrev pub LeafHas : Node → Value → Type 0
+LeafHas n = AtTop (NodeHas (λ i v. ⊥) n)

@@ -18,7 +18,7 @@ pub fn reading_by_schemas()
 {}
 
 /// Of every type that has a schema: the schema and the type take the same trees and refuse the same bytes, as the same errors;
-/// and what both read from bytes is of one tree, and leaves one rest.
+/// and what both read from bytes is of one tree, and leaves one rest, by the schema as a value of the type's kinds.
 pub fn reading_by_schemas_agrees<T: HasSchema>()
-    ensures { AgreesWithItsSchemas T.form.takes T.form.reads T.form.refuses }
+    ensures { AgreesWithItsSchemas T.form.takes T.form.reads T.form.refuses T.kinds }
 {}

@@ -1,7 +1,6 @@
 //! How the message types of the module above are written and read.
 // Written by postcard_derive from their declarations: change those, and write this anew.
-ghost use Rattle.std.specs.Prelude.{IfOk};
-ghost use Rattle.schemas.specs.TypeSchemas.{BeginsWith, IsSchemaOf};
+ghost use Rattle.schemas.specs.TypeSchemas.{as_its_shape};
 ghost use Rattle.postcard_tree.specs.ReadingLaws.{form_as};
 ghost use Rattle.postcard_tree.specs.Shapes.{form_matches};
 
@@ -14,8 +13,7 @@ use postcard::{
     AsShape, Last, MatchesShape, Readable, Serialize, Serializer, ShapeOf, Shaped, Variant,
     Variants4,
 };
-use schemas::HasSchema;
-use std::alloc::{AllocError, Global};
+use schemas::SchemaOfShape;
 
 type SensorReadingShape = (u16, u64, i16, bool);
 
@@ -51,10 +49,8 @@ impl Serialize for SensorReading {
     }
 }
 
-impl HasSchema for SensorReading {
-    fn add_schema(alloc: Global, nodes: &mut Vec<schemas::Node>) -> Result<usize, AllocError> {
-        ShapeOf::<Self>::add_schema(alloc, nodes)
-    }
+impl SchemaOfShape for SensorReading {
+    ghost same = { as_its_shape };
 }
 
 type LevelShape = Variant<(), Variant<(), Last<()>>>;
@@ -101,10 +97,8 @@ impl Serialize for Level {
     }
 }
 
-impl HasSchema for Level {
-    fn add_schema(alloc: Global, nodes: &mut Vec<schemas::Node>) -> Result<usize, AllocError> {
-        ShapeOf::<Self>::add_schema(alloc, nodes)
-    }
+impl SchemaOfShape for Level {
+    ghost same = { as_its_shape };
 }
 
 type LogRecordShape = (Level, u64, String, Option<u16>);
@@ -141,10 +135,8 @@ impl Serialize for LogRecord {
     }
 }
 
-impl HasSchema for LogRecord {
-    fn add_schema(alloc: Global, nodes: &mut Vec<schemas::Node>) -> Result<usize, AllocError> {
-        ShapeOf::<Self>::add_schema(alloc, nodes)
-    }
+impl SchemaOfShape for LogRecord {
+    ghost same = { as_its_shape };
 }
 
 impl Shaped for Address {
@@ -173,10 +165,8 @@ impl Serialize for Address {
     }
 }
 
-impl HasSchema for Address {
-    fn add_schema(alloc: Global, nodes: &mut Vec<schemas::Node>) -> Result<usize, AllocError> {
-        ShapeOf::<Self>::add_schema(alloc, nodes)
-    }
+impl SchemaOfShape for Address {
+    ghost same = { as_its_shape };
 }
 
 impl Shaped for Ping {
@@ -205,10 +195,8 @@ impl Serialize for Ping {
     }
 }
 
-impl HasSchema for Ping {
-    fn add_schema(alloc: Global, nodes: &mut Vec<schemas::Node>) -> Result<usize, AllocError> {
-        ShapeOf::<Self>::add_schema(alloc, nodes)
-    }
+impl SchemaOfShape for Ping {
+    ghost same = { as_its_shape };
 }
 
 type CommandShape = Variants4<
@@ -273,10 +261,8 @@ impl Serialize for Command {
     }
 }
 
-impl HasSchema for Command {
-    fn add_schema(alloc: Global, nodes: &mut Vec<schemas::Node>) -> Result<usize, AllocError> {
-        ShapeOf::<Self>::add_schema(alloc, nodes)
-    }
+impl SchemaOfShape for Command {
+    ghost same = { as_its_shape };
 }
 
 type ConfigShape = (
@@ -327,10 +313,8 @@ impl Serialize for Config {
     }
 }
 
-impl HasSchema for Config {
-    fn add_schema(alloc: Global, nodes: &mut Vec<schemas::Node>) -> Result<usize, AllocError> {
-        ShapeOf::<Self>::add_schema(alloc, nodes)
-    }
+impl SchemaOfShape for Config {
+    ghost same = { as_its_shape };
 }
 
 type PacketShape<'a> = (Address, &'a str, &'a [u8]);
@@ -362,15 +346,8 @@ impl<'a> Serialize for Packet<'a> {
     }
 }
 
-impl<'a> HasSchema for Packet<'a> {
-    fn add_schema(alloc: Global, nodes: &mut Vec<schemas::Node>) -> Result<usize, AllocError>
-        ensures kept { BeginsWith nodes.old.items nodes.new.items }
-        ensures is_schema { IfOk result (λ place.
-            IsSchemaOf ⟦<ShapeOf<Self> as Readable>⟧.form.takes
-            ⟦<ShapeOf<Self> as Readable>⟧.form.refuses nodes.new.items place) }
-    {
-        ShapeOf::<Self>::add_schema(alloc, nodes)
-    }
+impl<'a> SchemaOfShape for Packet<'a> {
+    ghost same = { as_its_shape };
 }
 
 type ReportShape = (
@@ -424,10 +401,8 @@ impl Serialize for Report {
     }
 }
 
-impl HasSchema for Report {
-    fn add_schema(alloc: Global, nodes: &mut Vec<schemas::Node>) -> Result<usize, AllocError> {
-        ShapeOf::<Self>::add_schema(alloc, nodes)
-    }
+impl SchemaOfShape for Report {
+    ghost same = { as_its_shape };
 }
 
 type EventShape = Variants4<
@@ -520,8 +495,6 @@ impl Serialize for Event {
     }
 }
 
-impl HasSchema for Event {
-    fn add_schema(alloc: Global, nodes: &mut Vec<schemas::Node>) -> Result<usize, AllocError> {
-        ShapeOf::<Self>::add_schema(alloc, nodes)
-    }
+impl SchemaOfShape for Event {
+    ghost same = { as_its_shape };
 }

@@ -1,9 +1,11 @@
 //! Tuples of one to six parts.
 ghost use Rattle.std.specs.Prelude.{IfOk};
-ghost use Rattle.schemas.specs.TypeSchemas.{BeginsWith, IsStructAdded};
+ghost use Rattle.schemas.specs.Schemas.{AtTop, OfGroup};
+ghost use Rattle.schemas.specs.TypeSchemas.{BeginsWith, IsStructAdded, NoneHave, OneThenHave};
 
-use super::{HasSchema, add_node};
+use super::{HasSchema, SchemaForm, add_node};
 use crate::Node;
+use postcard_tree::Own;
 use std::alloc::{AllocError, Global};
 
 // Puts the struct of these fields behind the nodes of a table, and answers its place.
@@ -20,23 +22,29 @@ fn add_struct<const N: usize>(
     add_node(nodes, Node::Struct(held))
 }
 
-impl<A: HasSchema> HasSchema for (A,) {
-    fn add_schema(alloc: Global, nodes: &mut Vec<Node>) -> Result<usize, AllocError> {
+impl<A: HasSchema> SchemaForm<(A,)> for Own {
+    ghost form_kinds = { AtTop (OfGroup (OneThenHave A.kinds NoneHave)) };
+
+    fn add_form_schema(alloc: Global, nodes: &mut Vec<Node>) -> Result<usize, AllocError> {
         let first = A::add_schema(alloc, nodes)?;
         add_struct(alloc, nodes, [first])
     }
 }
 
-impl<A: HasSchema, B: HasSchema> HasSchema for (A, B) {
-    fn add_schema(alloc: Global, nodes: &mut Vec<Node>) -> Result<usize, AllocError> {
+impl<A: HasSchema, B: HasSchema> SchemaForm<(A, B)> for Own {
+    ghost form_kinds = { AtTop (OfGroup (OneThenHave A.kinds (OneThenHave B.kinds NoneHave))) };
+
+    fn add_form_schema(alloc: Global, nodes: &mut Vec<Node>) -> Result<usize, AllocError> {
         let first = A::add_schema(alloc, nodes)?;
         let second = B::add_schema(alloc, nodes)?;
         add_struct(alloc, nodes, [first, second])
     }
 }
 
-impl<A: HasSchema, B: HasSchema, C: HasSchema> HasSchema for (A, B, C) {
-    fn add_schema(alloc: Global, nodes: &mut Vec<Node>) -> Result<usize, AllocError> {
+impl<A: HasSchema, B: HasSchema, C: HasSchema> SchemaForm<(A, B, C)> for Own {
+    ghost form_kinds = { AtTop (OfGroup (OneThenHave A.kinds (OneThenHave B.kinds (OneThenHave C.kinds NoneHave)))) };
+
+    fn add_form_schema(alloc: Global, nodes: &mut Vec<Node>) -> Result<usize, AllocError> {
         let first = A::add_schema(alloc, nodes)?;
         let second = B::add_schema(alloc, nodes)?;
         let third = C::add_schema(alloc, nodes)?;
@@ -44,8 +52,10 @@ impl<A: HasSchema, B: HasSchema, C: HasSchema> HasSchema for (A, B, C) {
     }
 }
 
-impl<A: HasSchema, B: HasSchema, C: HasSchema, D: HasSchema> HasSchema for (A, B, C, D) {
-    fn add_schema(alloc: Global, nodes: &mut Vec<Node>) -> Result<usize, AllocError> {
+impl<A: HasSchema, B: HasSchema, C: HasSchema, D: HasSchema> SchemaForm<(A, B, C, D)> for Own {
+    ghost form_kinds = { AtTop (OfGroup (OneThenHave A.kinds (OneThenHave B.kinds (OneThenHave C.kinds (OneThenHave D.kinds NoneHave))))) };
+
+    fn add_form_schema(alloc: Global, nodes: &mut Vec<Node>) -> Result<usize, AllocError> {
         let first = A::add_schema(alloc, nodes)?;
         let second = B::add_schema(alloc, nodes)?;
         let third = C::add_schema(alloc, nodes)?;
@@ -54,9 +64,12 @@ impl<A: HasSchema, B: HasSchema, C: HasSchema, D: HasSchema> HasSchema for (A, B
     }
 }
 
-impl<A: HasSchema, B: HasSchema, C: HasSchema, D: HasSchema, E: HasSchema> HasSchema
-    for (A, B, C, D, E) {
-    fn add_schema(alloc: Global, nodes: &mut Vec<Node>) -> Result<usize, AllocError> {
+impl<A: HasSchema, B: HasSchema, C: HasSchema, D: HasSchema, E: HasSchema> SchemaForm<
+    (A, B, C, D, E),
+> for Own {
+    ghost form_kinds = { AtTop (OfGroup (OneThenHave A.kinds (OneThenHave B.kinds (OneThenHave C.kinds (OneThenHave D.kinds (OneThenHave E.kinds NoneHave)))))) };
+
+    fn add_form_schema(alloc: Global, nodes: &mut Vec<Node>) -> Result<usize, AllocError> {
         let first = A::add_schema(alloc, nodes)?;
         let second = B::add_schema(alloc, nodes)?;
         let third = C::add_schema(alloc, nodes)?;
@@ -66,9 +79,12 @@ impl<A: HasSchema, B: HasSchema, C: HasSchema, D: HasSchema, E: HasSchema> HasSc
     }
 }
 
-impl<A: HasSchema, B: HasSchema, C: HasSchema, D: HasSchema, E: HasSchema, F: HasSchema> HasSchema
-    for (A, B, C, D, E, F) {
-    fn add_schema(alloc: Global, nodes: &mut Vec<Node>) -> Result<usize, AllocError> {
+impl<A: HasSchema, B: HasSchema, C: HasSchema, D: HasSchema, E: HasSchema, F: HasSchema> SchemaForm<
+    (A, B, C, D, E, F),
+> for Own {
+    ghost form_kinds = { AtTop (OfGroup (OneThenHave A.kinds (OneThenHave B.kinds (OneThenHave C.kinds (OneThenHave D.kinds (OneThenHave E.kinds (OneThenHave F.kinds NoneHave))))))) };
+
+    fn add_form_schema(alloc: Global, nodes: &mut Vec<Node>) -> Result<usize, AllocError> {
         let first = A::add_schema(alloc, nodes)?;
         let second = B::add_schema(alloc, nodes)?;
         let third = C::add_schema(alloc, nodes)?;

@@ -1,10 +1,15 @@
 //! The variants of an enum, which are the shapes of message types.
-use super::{HasPayloadSchemas, HasSchema, add_node};
+ghost use Rattle.schemas.specs.Schemas.{AtTop, OfVariant};
+ghost use Rattle.schemas.specs.TypeSchemas.{LastHas, FirstHas};
+
+use super::{HasPayloadSchemas, HasSchema, SchemaForm, add_node};
 use crate::Node;
-use postcard_tree::{Last, Variant, Variants4};
+use postcard_tree::{Last, Own, Variant, Variants4};
 use std::alloc::{AllocError, Global};
 
 impl<A: HasSchema> HasPayloadSchemas for Last<A> {
+    ghost kinds_at = { LastHas A.kinds };
+
     fn add_payloads(
         alloc: Global,
         nodes: &mut Vec<Node>,
@@ -16,15 +21,19 @@ impl<A: HasSchema> HasPayloadSchemas for Last<A> {
     }
 }
 
-impl<A: HasSchema> HasSchema for Last<A> {
-    fn add_schema(alloc: Global, nodes: &mut Vec<Node>) -> Result<usize, AllocError> {
+impl<A: HasSchema> SchemaForm<Last<A>> for Own {
+    ghost form_kinds = { AtTop (OfVariant (LastHas A.kinds)) };
+
+    fn add_form_schema(alloc: Global, nodes: &mut Vec<Node>) -> Result<usize, AllocError> {
         let mut payloads = Vec::new(alloc);
-        Self::add_payloads(alloc, nodes, &mut payloads)?;
+        <Last<A>>::add_payloads(alloc, nodes, &mut payloads)?;
         add_node(nodes, Node::Enum(payloads))
     }
 }
 
 impl<A: HasSchema, R: HasPayloadSchemas> HasPayloadSchemas for Variant<A, R> {
+    ghost kinds_at = { FirstHas A.kinds R.kinds_at };
+
     fn add_payloads(
         alloc: Global,
         nodes: &mut Vec<Node>,
@@ -36,16 +45,20 @@ impl<A: HasSchema, R: HasPayloadSchemas> HasPayloadSchemas for Variant<A, R> {
     }
 }
 
-impl<A: HasSchema, R: HasPayloadSchemas> HasSchema for Variant<A, R> {
-    fn add_schema(alloc: Global, nodes: &mut Vec<Node>) -> Result<usize, AllocError> {
+impl<A: HasSchema, R: HasPayloadSchemas> SchemaForm<Variant<A, R>> for Own {
+    ghost form_kinds = { AtTop (OfVariant (FirstHas A.kinds R.kinds_at)) };
+
+    fn add_form_schema(alloc: Global, nodes: &mut Vec<Node>) -> Result<usize, AllocError> {
         let mut payloads = Vec::new(alloc);
-        Self::add_payloads(alloc, nodes, &mut payloads)?;
+        <Variant<A, R>>::add_payloads(alloc, nodes, &mut payloads)?;
         add_node(nodes, Node::Enum(payloads))
     }
 }
 
 impl<A: HasSchema, B: HasSchema, C: HasSchema, D: HasSchema, R: HasPayloadSchemas> HasPayloadSchemas
     for Variants4<A, B, C, D, R> {
+    ghost kinds_at = { FirstHas A.kinds (FirstHas B.kinds (FirstHas C.kinds (FirstHas D.kinds R.kinds_at))) };
+
     fn add_payloads(
         alloc: Global,
         nodes: &mut Vec<Node>,
@@ -55,9 +68,12 @@ impl<A: HasSchema, B: HasSchema, C: HasSchema, D: HasSchema, R: HasPayloadSchema
     }
 }
 
-impl<A: HasSchema, B: HasSchema, C: HasSchema, D: HasSchema, R: HasPayloadSchemas> HasSchema
-    for Variants4<A, B, C, D, R> {
-    fn add_schema(alloc: Global, nodes: &mut Vec<Node>) -> Result<usize, AllocError> {
+impl<A: HasSchema, B: HasSchema, C: HasSchema, D: HasSchema, R: HasPayloadSchemas> SchemaForm<
+    Variants4<A, B, C, D, R>,
+> for Own {
+    ghost form_kinds = { AtTop (OfVariant (FirstHas A.kinds (FirstHas B.kinds (FirstHas C.kinds (FirstHas D.kinds R.kinds_at))))) };
+
+    fn add_form_schema(alloc: Global, nodes: &mut Vec<Node>) -> Result<usize, AllocError> {
         <Variant<A, Variant<B, Variant<C, Variant<D, R>>>>>::add_schema(alloc, nodes)
     }
 }

@@ -1,0 +1,10 @@
+use Rattle.schemas.specs.declared.node.Node.TheVariants.{ListUpTo}
+use Rattle.schemas.proofs.TablesLemmas.{added_as, begins_more, list_up_to_schema}
+use Rattle.schemas.proofs.types.containers.OwnSchemaFormArrayVec.add_form_schema.Goals as goal
+
+pub returns-clause-is_schema : goal.returns-clause-is_schema
+returns-clause-is_schema g c =
+    added_as c.add_node.result (ListUpTo g.row.N c.in_ok-inner.inner) c.add_schema.new.nodes.items c.add_node.new.nodes.items (λ place h. list_up_to_schema c.in_ok-inner.ensures.is_schema h) c.add_node.ensures.added
+
+pub returns-clause-kept : goal.returns-clause-kept
+returns-clause-kept g c = begins_more c.in_ok-inner.ensures.kept c.add_node.ensures.kept

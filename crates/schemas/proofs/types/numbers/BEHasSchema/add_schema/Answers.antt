@@ -1,5 +1,0 @@
-use Rattle.schemas.proofs.TablesLemmas.{as_wide}
-use Rattle.schemas.proofs.types.numbers.BEHasSchema.add_schema.Goals as goal
-
-pub returns-clause-is_schema : goal.returns-clause-is_schema
-returns-clause-is_schema g c = as_wide c.add_leaf.new.nodes.items c.integer_type.result g.T.HasIntegerType.which c.add_leaf.result c.integer_type.ensures g.met.T.HasIntegerType.wide c.add_leaf.ensures.is_schema

@@ -1,0 +1,30 @@
+use Rattle.schemas.proofs.TablesLemmas.{begins_more, field_then, fields_added, later, no_fields}
+use Rattle.schemas.proofs.types.tuples.OwnSchemaFormTuple6.add_form_schema.Goals as goal
+
+pub returns-in_err-second-clause-kept : goal.returns-in_err-second-clause-kept
+returns-in_err-second-clause-kept g c = begins_more c.in_ok-first.ensures.kept c.in_err-second.ensures.kept
+
+pub returns-in_err-third-clause-kept : goal.returns-in_err-third-clause-kept
+returns-in_err-third-clause-kept g c = begins_more (begins_more c.in_ok-first.ensures.kept c.in_ok-second.ensures.kept) c.in_err-third.ensures.kept
+
+pub returns-in_err-fourth-clause-kept : goal.returns-in_err-fourth-clause-kept
+returns-in_err-fourth-clause-kept g c = begins_more (begins_more (begins_more c.in_ok-first.ensures.kept c.in_ok-second.ensures.kept) c.in_ok-third.ensures.kept) c.in_err-fourth.ensures.kept
+
+pub returns-in_err-fifth-clause-kept : goal.returns-in_err-fifth-clause-kept
+returns-in_err-fifth-clause-kept g c = begins_more (begins_more (begins_more (begins_more c.in_ok-first.ensures.kept c.in_ok-second.ensures.kept) c.in_ok-third.ensures.kept) c.in_ok-fourth.ensures.kept) c.in_err-fifth.ensures.kept
+
+pub returns-in_err-sixth-clause-kept : goal.returns-in_err-sixth-clause-kept
+returns-in_err-sixth-clause-kept g c = begins_more (begins_more (begins_more (begins_more (begins_more c.in_ok-first.ensures.kept c.in_ok-second.ensures.kept) c.in_ok-third.ensures.kept) c.in_ok-fourth.ensures.kept) c.in_ok-fifth.ensures.kept) c.in_err-sixth.ensures.kept
+
+pub returns-clause-kept : goal.returns-clause-kept
+returns-clause-kept g c = begins_more (begins_more (begins_more (begins_more (begins_more (begins_more c.in_ok-first.ensures.kept c.in_ok-second.ensures.kept) c.in_ok-third.ensures.kept) c.in_ok-fourth.ensures.kept) c.in_ok-fifth.ensures.kept) c.in_ok-sixth.ensures.kept) c.add_struct.ensures.kept
+
+pub returns-clause-is_schema : goal.returns-clause-is_schema
+returns-clause-is_schema g c =
+    let kept-fifth = c.in_ok-sixth.ensures.kept in
+    let kept-fourth = begins_more c.in_ok-fifth.ensures.kept kept-fifth in
+    let kept-third = begins_more c.in_ok-fourth.ensures.kept kept-fourth in
+    let kept-second = begins_more c.in_ok-third.ensures.kept kept-third in
+    let kept-first = begins_more c.in_ok-second.ensures.kept kept-second in
+    let all = field_then (later kept-first c.in_ok-first.ensures.is_schema) (field_then (later kept-second c.in_ok-second.ensures.is_schema) (field_then (later kept-third c.in_ok-third.ensures.is_schema) (field_then (later kept-fourth c.in_ok-fourth.ensures.is_schema) (field_then (later kept-fifth c.in_ok-fifth.ensures.is_schema) (field_then c.in_ok-sixth.ensures.is_schema no_fields))))) in
+    fields_added c.add_struct.result c.add_struct.new.nodes.items all c.add_struct.ensures.added
