@@ -2,8 +2,8 @@
 use crate::declaration::Marks;
 use crate::tokens::{Token, is_among, is_comment_mark};
 
-/// What marks where it stands in a derive, or before a name there.
-const RENAMED: &[&str] = &["Deserialize", "Serialize", "serde", "serde_derive"];
+/// What marks where it stands in a derive, or before a name there; and `self`, which may stand for such in a `use`.
+const RENAMED: &[&str] = &["Deserialize", "Serialize", "self", "serde", "serde_derive"];
 
 /// The text of the first of these tokens; nothing where there is none.
 pub fn first_word(tokens: &[Token]) -> &str {

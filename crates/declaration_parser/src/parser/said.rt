@@ -1,0 +1,191 @@
+//! What attributes say of the bytes.
+use super::Parser;
+use crate::attributes::{attribute, first_part, first_word, has_mark, held, last_word, same_words};
+use crate::declaration::Layout;
+use crate::tokens::{Token, is_among};
+use crate::words::{
+    HIDDEN_MARK, NO_BYTES, OF_ITEMS, OF_SERDE, ON_SOME_DEVICES, ONE_SIDE, OTHER_CONDITION, REPR,
+    UNKNOWN,
+};
+
+/// Where an attribute stands.
+#[derive(Clone, Copy, PartialEq, Eq, Drop)]
+pub(super) enum At {
+    Item,
+    Variant,
+    Field,
+}
+
+/// What attributes say of a field's bytes.
+#[derive(Clone, Copy, Drop)]
+pub(super) struct Said {
+    pub(super) not_written: bool,
+    pub(super) not_read: bool,
+    pub(super) layout: Layout,
+}
+
+/// How the bytes of a field stand that is sent in a way which `with` names.
+fn layout_of(way: &str) -> Option<Layout> {
+    match way {
+        "\"postcard::fixint::le\"" | "\"::postcard::fixint::le\"" => Some(Layout::Little),
+        "\"postcard::fixint::be\"" | "\"::postcard::fixint::be\"" => Some(Layout::Big),
+        "\"serde_bytes\"" | "\"::serde_bytes\"" => Some(Layout::Buffer),
+        "\"BigArray\"" | "\"serde_big_array::BigArray\"" | "\"serde_arrays\"" => Some(
+            Layout::Array,
+        ),
+        _ => None,
+    }
+}
+
+impl<'a> Parser<'a> {
+    /// Goes over attributes, and gathers what they say of the bytes. What is wrong is told of their lines.
+    pub(super) fn said(&mut self, attributes: &'a [Token], at: At) -> Said {
+        let line = self.line;
+        let said = self.gathered(attributes, at);
+        self.line = line;
+        said
+    }
+
+    /// As [`said`](Parser::said), at the line of the last attribute.
+    fn gathered(&mut self, attributes: &'a [Token], at: At) -> Said {
+        let mut said = Said {
+            not_written: false,
+            not_read: false,
+            layout: Layout::Own,
+        };
+        let mut rest = attributes;
+        for _ in 0..attributes.len() {
+            rest = match (attribute(rest), rest) {
+                (Some((words, behind)), _) => {
+                    self.read_attribute(words, at, &mut said);
+                    behind
+                }
+                (None, [_, behind @ ..]) => behind,
+                _ => break,
+            };
+        }
+        said
+    }
+
+    /// Goes over an attribute.
+    fn read_attribute(&mut self, words: &'a [Token], at: At, said: &mut Said) {
+        if let [word, ..] = words {
+            self.line = word.line;
+        }
+        if has_mark(words) {
+            self.wrong(&[HIDDEN_MARK]);
+        }
+        if first_word(words) != "cfg_attr" {
+            return self.read_plain(words, at, false, said);
+        }
+        let (condition, attributes) = first_part(held(words));
+        let is_other = !same_words(condition, self.condition);
+        let mut rest = attributes;
+        for _ in 0..attributes.len() {
+            let (part, behind) = first_part(rest);
+            if !part.is_empty() {
+                self.read_plain(part, at, is_other, said);
+            }
+            rest = behind;
+        }
+    }
+
+    /// Goes over an attribute that has no condition, or another one than the derive.
+    fn read_plain(&mut self, words: &'a [Token], at: At, is_other: bool, said: &mut Said) {
+        let name = first_word(words);
+        match name {
+            "serde" => self.read_serde(held(words), at, is_other, said),
+            "serde_as" | "serde_with" if last_word(words) == "serde_as" => {}
+            "cfg" | "cfg_attr" if at != At::Item => self.refuse(name, ON_SOME_DEVICES),
+            "derive" => self.read_derive(held(words)),
+            _ if name.starts_with("serde") => self.refuse(name, UNKNOWN),
+            _ if at == At::Item && !is_among(name, OF_ITEMS) => self.refuse(name, UNKNOWN),
+            _ => {}
+        }
+    }
+
+    /// Refuses what a derive makes that isn't known here.
+    fn read_derive(&mut self, names: &'a [Token]) {
+        let mut rest = names;
+        for _ in 0..names.len() {
+            let (part, behind) = first_part(rest);
+            let name = last_word(part);
+            if is_among(name, &["Serialize_repr", "Deserialize_repr"]) {
+                self.refuse(name, REPR);
+            }
+            if is_among(name, &["SerializeDisplay", "DeserializeFromStr"]) {
+                self.refuse(name, "` sends a text: where it is a field, write `String`");
+            }
+            rest = behind;
+        }
+    }
+
+    /// Goes over the words of an attribute of serde's.
+    fn read_serde(&mut self, words: &'a [Token], at: At, is_other: bool, said: &mut Said) {
+        let mut rest = words;
+        for _ in 0..words.len() {
+            let (part, behind) = first_part(rest);
+            let name = first_word(part);
+            if !name.is_empty() && !is_among(name, NO_BYTES) {
+                self.read_changing(name, part, at, said);
+                if is_other {
+                    self.refuse(name, OTHER_CONDITION);
+                }
+            }
+            rest = behind;
+        }
+    }
+
+    /// Goes over a word of serde's that may change the bytes, with what stands behind it.
+    fn read_changing(&mut self, name: &str, words: &'a [Token], at: At, said: &mut Said) {
+        let value = match words {
+            [_, equals, value] if equals.text.as_str() == "=" => value.text.as_str(),
+            _ => "",
+        };
+        let is_field = at == At::Field;
+        match (name, value) {
+            ("with", way) if is_field && layout_of(way).is_some() => {
+                said.layout = layout_of(way).unwrap_or(Layout::Own);
+            }
+            ("skip", "") if is_field => {
+                said.not_written = true;
+                said.not_read = true;
+            }
+            ("skip_serializing", "") if is_field => said.not_written = true,
+            ("skip_deserializing", "") if is_field => said.not_read = true,
+            ("skip_serializing_if", _) if is_field && !self.marks.written => {}
+            _ => self.refuse_serde(name),
+        }
+    }
+
+    /// Refuses a word of serde's, with what to write.
+    fn refuse_serde(&mut self, name: &str) {
+        for (known, why) in OF_SERDE {
+            if *known == name {
+                return self.refuse(name, why);
+            }
+        }
+        self.refuse(name, UNKNOWN);
+    }
+
+    /// Whether a field is left out, where it is on all sides that there are.
+    pub(super) fn is_left_out(&mut self, said: Said) -> bool {
+        let not_written = self.marks.written && said.not_written;
+        let not_read = self.marks.read && said.not_read;
+        if !not_written && !not_read {
+            return false;
+        }
+        if (self.marks.written && !not_written) || (self.marks.read && !not_read) {
+            let word = if not_written {
+                "skip_serializing"
+            } else {
+                "skip_deserializing"
+            };
+            self.refuse(word, ONE_SIDE);
+        }
+        if self.implements() {
+            self.refuse("skip", "` can't be implemented here: write it by hand");
+        }
+        true
+    }
+}
