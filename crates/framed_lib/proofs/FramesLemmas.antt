@@ -63,10 +63,6 @@ module _ (hex : Bool) (sentinel : ℕ) where
         put-breaks _ (shown hex (written sentinel clean x)) later
         (ap text_of_all d.1 ∙ (framed-parts (done ++ x ∷ []) d.0 ∙ (ap (λ t. t ++ later) (shown-more clean done x c) ∙ append_assoc (shown_of done) (shown hex (written sentinel clean x)) later))) p q
 
-    -- it failed at the end
-    pub end-broke : length rest ≡ 0 → BrokeOff v w (held ++ shown_end hex) → (sends : List Send) → AreSendsOf (lines_in text) sends → BrokeOff u w (text_of_all sends)
-    end-broke none q sends a = put-breaks _ (shown_end hex) [] (all-shown text rest done sends s none a ∙ ap (λ t. shown_of done ++ t) (sym (append-nil (shown_end hex)))) p q
-
     -- all was put
     pub all-put : {kept : List ℕ} → length rest ≡ 0 → Puts v w held kept (shown_end hex) → (sends : List Send) → AreSendsOf (lines_in text) sends → Puts u w [] kept (text_of_all sends)
     all-put none q sends a = put-done _ (all-shown text rest done sends s none a) p q

@@ -1,12 +1,14 @@
 -- Bytes that are put one after another.
-use Rattle.std.proofs.Common.{◌≡◌, ℕ, List, [], ◌++◌, sym, ap, subst, ◌∙◌, append_assoc}
-use Rattle.std.proofs.lemmas.List.{append-nil}
-use Rattle.std.specs.Prelude.{Result, Ok, Err, OnErr}
+use Rattle.std.proofs.Common.{◌≡◌, ℕ, ◌+◌, ◌≤◌, ◌<◌, List, [], ◌∷◌, ◌++◌, length, take, drop, refl, sym, ap, subst, ◌∙◌, append_assoc, arith}
+use Rattle.std.proofs.lemmas.List.{append-nil, length-take-le, take-append-le}
+use Rattle.std.proofs.Math.Seq.{take-append-add}
+use borrow.Rule.Slice.PartMut.{put_mid}
+use Rattle.std.specs.Prelude.{Result, Ok, Err, OnErr, slice_set}
 use Rattle.line_io.specs.Device.{LineState}
 use Rattle.line_io.specs.Transfers.{WentOut, BrokeOff}
 use Rattle.framed_lib.specs.Output.{Puts}
 pub use Rattle.framed_lib.specs.Output.{put-none, put-then, put-broke}
-use Rattle.line_io.specs.Calls.{WentOut-then, BrokeOff-then, BrokeOff-more}
+use Rattle.line_io.specs.Calls.{WentOut-none, WentOut-then, BrokeOff-then, BrokeOff-more}
 
 -- what was held goes out, and then the bytes
 pub put-through : {u v w : LineState} {front held kept bytes : List ℕ} → front ≡ held → kept ≡ [] → WentOut u v front
@@ -48,3 +50,33 @@ put-went {u = u} {w = w} p q =
 pub on_err : {T E P : Type 0} (r : Result T E) → P → OnErr r P
 on_err (Ok x) p = tt
 on_err (Err e) p = p
+
+-- bytes that are put behind those in a room, of which nothing goes out
+pub put-placed : (w : LineState) (held count k : ℕ) (room new x : List ℕ) → held ≤ length room → count ≤ length new → take count new ≡ x
+    → Puts w w (take held room) (take (held + count) (put_mid held k room new)) x
+put-placed w held count k room new x l c e =
+    let p = take held room in
+    let rest = drop k (drop held room) in
+    record {
+      sent = [];
+      bytes_are =
+          sym (
+          ap (λ n. take (n + count) (p ++ (new ++ rest))) (sym (length-take-le held room l))
+          ∙ take-append-add p (new ++ rest) count
+          ∙ ap (λ y. p ++ y) (take-append-le count new rest c ∙ e)
+          );
+      went = WentOut-none w;
+    }
+
+-- what is held goes out, and nothing is put
+pub put-away : {u v : LineState} (held room : List ℕ) → WentOut u v held → Puts u v held (take 0 room) []
+put-away held room w = record { sent = held; bytes_are = refl; went = w }
+
+-- bytes were put, and then what is held was written or not
+pub put-settled : {u v w : LineState} {x y z a : List ℕ} → Puts u v x y a → Puts v w y z [] → Puts u w x z a
+put-settled {a = a} p q = put-done a (sym (append-nil a)) p q
+
+-- the first of the bytes is the one that was set
+pub first-set : (room : List ℕ) (x : ℕ) → 0 < length room → take 1 (slice_set room 0 x) ≡ x ∷ []
+first-set [] x l = absurd (omega arith)
+first-set (y ∷ room) x l = refl

@@ -1,42 +1,31 @@
-ghost use Rattle.std.specs.Prelude.{◌*◌, ◌≤◌, ◌++◌, length, OnOk, OnErr};
-ghost use Rattle.line_io.specs.Transfers.{Writing, broken};
-ghost use Rattle.framed_lib.specs.Output.{Puts};
-ghost use Rattle.framed_lib.specs.Program.{shown, shown_end};
+ghost use Rattle.std.specs.Prelude.{◌≡◌, ◌*◌, ◌<◌, ◌≤◌, length, take};
+ghost use Rattle.hex.specs.Hex.{encode_lower};
+ghost use Rattle.framed_lib.specs.Program.{shown_end};
 
-use crate::output::{Held, put};
-use line_io::{Outlet, WriteFault};
-
-/// Puts some of the framed bytes: as they are, or as hexadecimal digits in lower case, for which there is the room.
-pub fn put_part<W: Outlet>(
-    outlet: &mut W,
-    held: &mut Held,
-    hex: bool,
-    bytes: &[u8],
-    room: &mut [u8],
-) -> Result<(), WriteFault>
+/// Puts the hexadecimal digits of the bytes, in lower case, at the front of the room. Says how many these are.
+pub fn put_digits(bytes: &[u8], room: &mut [u8]) -> usize
     requires { 2 * length bytes.now ≤ length room.old }
-    ensures ok { OnOk result (Puts (W.line outlet.old) (W.line outlet.new)
-        held.old.items held.new.items (shown hex bytes.now)) }
-    ensures err { OnErr result (Writing (W.line outlet.old) (W.line outlet.new) broken
-        (held.old.items ++ shown hex bytes.now)) }
+    ensures digits { take result room.new ≡ encode_lower bytes.now }
+    ensures count { result ≡ 2 * length bytes.now }
+    ensures long { length room.new ≡ length room.old }
 {
-    if !hex {
-        return put(outlet, held, bytes);
-    }
-    let digits = &mut room[..2 * bytes.len()];
-    match hex::encode_to_slice(bytes, digits) {
-        Ok(()) => put(outlet, held, digits),
-        Err(_) => Ok(()),
-    }
+    let count = 2 * bytes.len();
+    let encoded = hex::encode_to_slice(bytes, &mut room[..count]);
+    prove!(encoded.is_ok());
+    count
 }
 
-/// Puts what stands behind all framed bytes: the line feed behind hexadecimal digits.
-pub fn put_end<W: Outlet>(outlet: &mut W, held: &mut Held, hex: bool) -> Result<(), WriteFault>
-    ensures ok { OnOk result (Puts (W.line outlet.old) (W.line outlet.new)
-        held.old.items held.new.items (shown_end hex)) }
-    ensures err { OnErr result (Writing (W.line outlet.old) (W.line outlet.new) broken
-        (held.old.items ++ shown_end hex)) }
+/// Puts what stands behind all framed bytes at the front of the room: the line feed behind hexadecimal digits. Says how many bytes
+/// these are.
+pub fn put_end(hex: bool, room: &mut [u8]) -> usize
+    requires { 0 < length room.old }
+    ensures end { take result room.new ≡ shown_end hex }
+    ensures within { result ≤ length room.new }
+    ensures long { length room.new ≡ length room.old }
 {
-    let end: &[u8] = if hex { b"\n" } else { b"" };
-    put(outlet, held, end)
+    if !hex {
+        return 0;
+    }
+    room[0] = b'\n';
+    1
 }

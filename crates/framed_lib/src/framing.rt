@@ -1,8 +1,10 @@
 //! Frames of lines.
 ghost use Rattle.std.specs.Prelude.{◌≡◌, ◌≤◌, length, take, nat_lt, true, IsTrue, IsUtf8, MatchOption};
 ghost use Rattle.link.specs.Run.{Send, written};
+ghost use Rattle.framed_lib.specs.Program.{shown};
 ghost use Rattle.framed_lib.specs.Sending.{IsSendOfLine, is_whole};
 
+use crate::digits::put_digits;
 use link::frame_into_with_sentinel;
 
 /// How long a frame may be. A text of so many bytes has a longer one.
@@ -11,8 +13,8 @@ const LIMIT: usize = 1024;
 /// How many bytes a line may have, so that whatever they are its frame is within the limit.
 const SHORT: usize = 1017;
 
-/// Room for a frame between its sentinels.
-pub const ROOM: usize = LIMIT + 2;
+/// The longest that a sender writes for a line: a frame between its sentinels.
+pub const MOST: usize = LIMIT + 2;
 
 /// The text of a line, if it is UTF-8. It is looked at only where that isn't known of it.
 fn as_text(line: &[u8], is_text: bool) -> Option<&str>
@@ -56,6 +58,7 @@ fn frame_clean(line: &[u8], is_text: bool, sentinel: u8, room: &mut [u8]) -> usi
     ensures sent { (x : Send) × IsSendOfLine line.now x
         × (take result room.new ≡ written sentinel true x) × (is_whole x ≡ nat_lt 0 result) }
     ensures within { result ≤ length room.new }
+    ensures long { length room.new ≡ length room.old }
 {
     let Some(text) = as_text(line, is_text) else {
         return 0;
@@ -73,10 +76,11 @@ fn frame_clean(line: &[u8], is_text: bool, sentinel: u8, room: &mut [u8]) -> usi
 /// The same of a sender that is clean or isn't: then a sentinel comes first.
 pub fn frame_line(line: &[u8], is_text: bool, clean: bool, sentinel: u8, room: &mut [u8]) -> usize
     requires text { IsTrue is_text → IsUtf8 line.now }
-    requires room { length room.old ≡ 1026 }
+    requires room { 1026 ≤ length room.old }
     ensures sent { (x : Send) × IsSendOfLine line.now x
         × (take result room.new ≡ written sentinel clean x) × (is_whole x ≡ nat_lt 0 result) }
     ensures within { result ≤ length room.new }
+    ensures long { length room.new ≡ length room.old }
 {
     if clean {
         return frame_clean(line, is_text, sentinel, room);
@@ -86,4 +90,31 @@ pub fn frame_line(line: &[u8], is_text: bool, clean: bool, sentinel: u8, room: &
         0 => 0,
         count => count + 1,
     }
+}
+
+/// The same as it is shown: the bytes, or their digits. These are made of the frame in a room of its own.
+pub fn show_line(
+    hex: bool,
+    sentinel: u8,
+    line: &[u8],
+    is_text: bool,
+    clean: bool,
+    frame: &mut [u8],
+    room: &mut [u8],
+) -> usize
+    requires text { IsTrue is_text → IsUtf8 line.now }
+    requires frame { length frame.old ≡ 1026 }
+    requires room { 2052 ≤ length room.old }
+    ensures sent { (x : Send) × IsSendOfLine line.now x
+        × (take result room.new ≡ shown hex (written sentinel clean x))
+        × (is_whole x ≡ nat_lt 0 result) }
+    ensures within { result ≤ length room.new }
+    ensures long { length room.new ≡ length room.old }
+    ensures frame { length frame.new ≡ length frame.old }
+{
+    if !hex {
+        return frame_line(line, is_text, clean, sentinel, room);
+    }
+    let count = frame_line(line, is_text, clean, sentinel, frame);
+    put_digits(&frame[..count], room)
 }

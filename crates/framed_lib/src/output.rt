@@ -1,4 +1,4 @@
-ghost use Rattle.std.specs.Prelude.{◌≡◌, ◌++◌, OnOk, OnErr};
+ghost use Rattle.std.specs.Prelude.{◌≡◌, ◌+◌, ◌≤◌, [], ◌++◌, length, take, OnOk, OnErr, IfOk};
 ghost use Rattle.line_io.specs.Transfers.{Writing, whole, broken};
 ghost use Rattle.framed_lib.specs.Output.{Puts};
 
@@ -27,4 +27,24 @@ pub fn put<W: Outlet>(outlet: &mut W, held: &mut Held, bytes: &[u8]) -> Result<(
         return Ok(());
     }
     write_all(outlet, bytes)
+}
+
+/// How many bytes have place behind those that are held in a room.
+pub const PLACE: usize = 2053;
+
+/// Writes what is held at the front of the room where it leaves little place behind it. Says how many bytes are held then.
+pub fn make_place<W: Outlet>(outlet: &mut W, room: &[u8], held: usize) -> Result<usize, WriteFault>
+    requires held { held ≤ length room.now }
+    requires room { 2053 ≤ length room.now }
+    ensures ok { IfOk result (λ kept. Puts (W.line outlet.old) (W.line outlet.new)
+        (take held room.now) (take kept room.now) []) }
+    ensures place { IfOk result (λ kept. kept + 2053 ≤ length room.now) }
+    ensures err { OnErr result
+        (Writing (W.line outlet.old) (W.line outlet.new) broken (take held room.now)) }
+{
+    if PLACE <= room.len() - held {
+        return Ok(held);
+    }
+    write_all(outlet, &room[..held])?;
+    Ok(0)
 }

@@ -7,18 +7,17 @@ ghost use Rattle.framed_lib.specs.Sending.{lines_in, AreSendsOf};
 ghost use Rattle.framed_lib.specs.Working.{Worked, IsWhole};
 ghost use Rattle.framed_lib.specs.declared.arguments.Mode.TheVariants.{Pack};
 
-use crate::digits::{put_end, put_part};
-use crate::framing::{ROOM, frame_line};
-use crate::output::Held;
+use crate::digits::put_end;
+use crate::framing::{MOST, show_line};
+use crate::output::{ROOM, make_place};
 use crate::pieces::next_line;
 use crate::refusals::say_refusals;
 use crate::stop::{Stop, status_of};
-use arrayvec::ArrayVec;
 use line_io::{End, Inlet, Outlet, WriteFault, read_to_end, write_all};
 use simdutf8::basic;
 use std::alloc::Global;
 
-/// Writes what one sender writes for all lines of the text.
+/// Writes what one sender writes for all lines of the text. Frames are made in the room that goes out, one behind the other.
 fn write_frames<W: Outlet>(
     hex: bool,
     sentinel: u8,
@@ -34,19 +33,21 @@ fn write_frames<W: Outlet>(
         → Writing (W.line writer.old) (W.line writer.new) broken
         (framed_text hex (session_line sentinel false sends))) }
 {
-    let mut held: Held = ArrayVec::new();
-    let mut frame = [0u8; ROOM];
-    let mut digits = [0u8; 2 * ROOM];
+    let mut room = [0u8; ROOM];
+    let mut frame = [0u8; MOST];
+    let mut held = 0;
     let mut clean = false;
     let mut rest = text;
     while let Some((line, after)) = next_line(rest) {
-        let count = frame_line(line, is_text, clean, sentinel, &mut frame);
-        put_part(writer, &mut held, hex, &frame[..count], &mut digits)?;
+        let place = &mut room[held..];
+        let count = show_line(hex, sentinel, line, is_text, clean, &mut frame, place);
+        let kept = make_place(writer, &room, held + count)?;
+        held = kept;
         clean = clean | (count > 0);
         rest = after;
     }
-    put_end(writer, &mut held, hex)?;
-    write_all(writer, held.as_slice())
+    let count = put_end(hex, &mut room[held..]);
+    write_all(writer, &room[..held + count])
 }
 
 /// Says which lines of the text are refused, and then sends the others. A text that is UTF-8 as a whole has no line that isn't, so

@@ -1,4 +1,4 @@
-use Rattle.std.proofs.Common.{◌≡◌, false, List, [], length}
+use Rattle.std.proofs.Common.{◌≡◌, ◌+◌, ◌≤◌, false, List, [], length, take}
 use Rattle.std.specs.Prelude.{IsTrue, IsUtf8}
 use Rattle.link.specs.Run.{Send}
 use Rattle.link.specs.Fates.{clean_after_all}
@@ -11,8 +11,9 @@ use Rattle.framed_lib.proofs.pack.write_frames.Given as goal
 abbrev pub invariant-loop-line : goal.invariant-loop-line
 invariant-loop-line g l =
     (done : List Send) × Sent l.text l.rest done × (l.clean ≡ clean_after_all false done)
-    × Puts (g.W.Outlet.line l.fn.writer) (g.W.Outlet.line l.writer) [] l.held.items (shown_of l.hex l.sentinel done)
+    × Puts (g.W.Outlet.line l.fn.writer) (g.W.Outlet.line l.writer) [] (take l.held l.room) (shown_of l.hex l.sentinel done)
     × (IsTrue l.is_text → IsUtf8 l.rest)
+    × (l.held + 2053 ≤ 65536)
 
 abbrev pub decreases-loop-line : goal.decreases-loop-line
 decreases-loop-line g l = length l.rest
