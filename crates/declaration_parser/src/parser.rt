@@ -1,5 +1,5 @@
 //! From tokens to declarations.
-mod by_hand;
+pub mod by_hand;
 mod parameters;
 mod said;
 mod types;
@@ -10,6 +10,7 @@ use crate::faults::Faults;
 use crate::head::Head;
 use crate::tokens::{Read, Token, first_letter, is_among, is_comment_mark};
 use crate::words::{HIDDEN_MARK, MOST_FIELDS, OF_POSTCARD, TOO_MANY};
+use by_hand::ByHand;
 use said::At;
 use std::alloc::Global;
 
@@ -494,14 +495,18 @@ impl<'a> Parser<'a> {
         Body::Struct(fields)
     }
 
-    /// Takes a declaration, behind its attributes.
-    pub fn declaration(&mut self, attributes: &'a [Token]) -> Declaration<'a> {
+    /// Takes a declaration, behind its attributes, of a file that has these types by hand.
+    pub fn declaration(
+        &mut self,
+        attributes: &'a [Token],
+        by_hand: &ByHand<'_>,
+    ) -> Declaration<'a> {
         self.visibility();
         let is_enum = self.is_enum();
         let name = self.type_name();
         let line = self.line;
         self.said(attributes, At::Item);
-        self.check_by_hand();
+        self.check_by_hand(by_hand);
         let (parameters, lengths) = self.parameters();
         let body = self.body(is_enum);
         Declaration {

@@ -8,6 +8,7 @@ use crate::attributes::{closed, first_word, has_derive, passed_over, renamed_der
 use crate::declaration::Declaration;
 use crate::faults::Faults;
 use crate::head::{Head, head_of};
+use crate::parser::by_hand::ByHand;
 use crate::parser::{Parser, Purpose};
 use crate::tokens::{Read, Token, is_among, is_comment_mark};
 use crate::words::{ALMOST, IN_MACRO, IN_WORDS, NO_MESSAGES_MARKED, RENAMES};
@@ -153,6 +154,7 @@ fn add_declaration<'a>(
     alloc: Global,
     purpose: Purpose,
     file: &'a Read,
+    by_hand: &ByHand<'a>,
     head: &Head<'a>,
     found: &mut Vec<Declaration<'a>>,
     faults: &mut Faults<'a>,
@@ -163,7 +165,7 @@ fn add_declaration<'a>(
         (head.now.attributes.now ++ take result head.now.behind.now) }
 {
     let mut parser = Parser::new(alloc, purpose, file, head);
-    let declaration = parser.declaration(head.attributes);
+    let declaration = parser.declaration(head.attributes, by_hand);
     let (left, mut wrong) = parser.finished();
     let length = head.behind.len().saturating_sub(left.len());
     let (words, _) = head.behind.split_at(length);
@@ -177,6 +179,7 @@ fn read_front<'a>(
     alloc: Global,
     purpose: Purpose,
     file: &'a Read,
+    by_hand: &ByHand<'a>,
     tokens: &'a [Token],
     found: &mut Vec<Declaration<'a>>,
     faults: &mut Faults<'a>,
@@ -188,7 +191,7 @@ fn read_front<'a>(
 {
     let head = head_of(tokens);
     if head.is_marked() {
-        let taken = add_declaration(alloc, purpose, file, &head, found, faults);
+        let taken = add_declaration(alloc, purpose, file, by_hand, &head, found, faults);
         let (_, rest) = head.behind.split_at(taken);
         return rest;
     }
@@ -222,9 +225,11 @@ fn add_declarations<'a>(
     faults.put(file.faults.as_str());
     faults.turn_to(file.file.as_str());
     refuse_renamed(&file.tokens, faults);
+    let mut by_hand = ByHand::new(alloc);
+    faults.note(by_hand.add_all(&file.tokens).is_err());
     let mut rest: &'a [Token] = &file.tokens;
     while !rest.is_empty() {
-        rest = read_front(alloc, purpose, file, rest, found, faults);
+        rest = read_front(alloc, purpose, file, &by_hand, rest, found, faults);
     }
 }
 

@@ -2,45 +2,108 @@
 use super::Parser;
 use crate::tokens::Token;
 use crate::words::BY_HAND;
+use std::alloc::{AllocError, Global};
+use std::collections::BTreeMap;
 
-/// Whether a type implements a trait by hand among these tokens.
-fn is_by_hand(tokens: &[Token], implemented: &str, name: &str) -> bool {
-    let mut depth: usize = 0;
-    let mut is_head = false;
-    let mut is_this = false;
-    let mut is_next = false;
-    for token in tokens {
-        let word = token.text.as_str();
-        if is_next && word == name {
-            return true;
+/// The types of a file that implement one of serde's traits by hand, so that a file is gone over once for all of its types.
+#[derive(Drop)]
+pub struct ByHand<'a> {
+    written: BTreeMap<&'a str, ()>,
+    read: BTreeMap<&'a str, ()>,
+}
+
+/// Where a word stands in the head of an `impl`.
+#[derive(Drop)]
+struct ImplHead {
+    /// Within how many `<` the words behind stand.
+    depth: usize,
+    is_head: bool,
+    /// The traits that were named in it.
+    writes: bool,
+    reads: bool,
+    /// Whether the type is next.
+    is_next: bool,
+}
+
+impl ImplHead {
+    /// In none.
+    fn none() -> ImplHead {
+        ImplHead {
+            depth: 0,
+            is_head: false,
+            writes: false,
+            reads: false,
+            is_next: false,
         }
-        is_next = is_head && is_this && depth == 0 && word == "for";
+    }
+
+    /// At the front of one.
+    fn begin(&mut self) {
+        self.is_head = true;
+        self.writes = false;
+        self.reads = false;
+        self.depth = 0;
+    }
+
+    /// Goes over a word.
+    fn go_over(&mut self, word: &str) {
+        self.is_next = self.is_head && self.depth == 0 && word == "for";
         match word {
-            "impl" => {
-                is_head = true;
-                is_this = false;
-                depth = 0;
-            }
-            "<" => depth = depth.saturating_add(1),
-            ">" => depth = depth.saturating_sub(1),
-            "{" | ";" => is_head = false,
-            _ if depth == 0 && word == implemented => is_this = true,
+            "impl" => self.begin(),
+            "<" => self.depth = self.depth.saturating_add(1),
+            ">" => self.depth = self.depth.saturating_sub(1),
+            "{" | ";" => self.is_head = false,
+            "Serialize" if self.depth == 0 => self.writes = true,
+            "Deserialize" if self.depth == 0 => self.reads = true,
             _ => {}
         }
     }
-    false
+}
+
+/// Adds a name.
+fn add<'a>(names: &mut BTreeMap<&'a str, ()>, name: &'a str) -> Result<(), AllocError> {
+    match names.insert(name, ()) {
+        Ok(_) => Ok(()),
+        Err(_) => Err(AllocError),
+    }
+}
+
+impl<'a> ByHand<'a> {
+    /// No types.
+    pub fn new(alloc: Global) -> ByHand<'a> {
+        ByHand {
+            written: BTreeMap::new(alloc),
+            read: BTreeMap::new(alloc),
+        }
+    }
+
+    /// Adds those among these tokens. An error is left where memory runs out, and some of them are missing then.
+    pub fn add_all(&mut self, tokens: &'a [Token]) -> Result<(), AllocError> {
+        let mut head = ImplHead::none();
+        for token in tokens {
+            let word = token.text.as_str();
+            if head.is_next && head.writes {
+                add(&mut self.written, word)?;
+            }
+            if head.is_next && head.reads {
+                add(&mut self.read, word)?;
+            }
+            head.go_over(word);
+        }
+        Ok(())
+    }
 }
 
 impl<'a> Parser<'a> {
     /// Refuses a type of which one side alone is derived, and the other is written by hand.
-    pub(super) fn check_by_hand(&mut self) {
-        let by_hand = match (self.is_derived, self.marks.written, self.marks.read) {
-            (true, true, false) => "Deserialize",
-            (true, false, true) => "Serialize",
+    pub(super) fn check_by_hand(&mut self, by_hand: &ByHand<'_>) {
+        let (names, other) = match (self.is_derived, self.marks.written, self.marks.read) {
+            (true, true, false) => (&by_hand.read, "Deserialize"),
+            (true, false, true) => (&by_hand.written, "Serialize"),
             _ => return,
         };
-        if is_by_hand(&self.file.tokens, by_hand, self.name) {
-            self.refuse(by_hand, BY_HAND);
+        if names.contains_key(self.name) {
+            self.refuse(other, BY_HAND);
         }
     }
 }
