@@ -110,7 +110,11 @@ impl<'a> Builder<'a, '_> {
     pub(super) fn list_up_to(&mut self, depth: u32) -> usize {
         self.owe("<");
         let element = self.place(depth);
-        self.owe(",");
+        if !self.take(",") {
+            return self.wrong(&[
+                "a type and how many of it there may be are wanted, as in `ArrayVec<u8, 4>`",
+            ]);
+        }
         let most = self.length();
         self.skip_hasher();
         self.owe(">");

@@ -3,6 +3,20 @@ use super::{Builder, DEEPEST, Given};
 use crate::literals::literal;
 use declaration_parser::tokens::{Token, is_among};
 
+/// Whether these words are `as usize`.
+fn is_to_length(by: &Token, of: &Token) -> bool {
+    by.text.as_str() == "as" && of.text.as_str() == "usize"
+}
+
+/// The one word of a constant, which `as usize` may follow.
+fn only_word(words: &[Token]) -> Option<&Token> {
+    match words {
+        [only] => Some(only),
+        [only, by, of] if is_to_length(by, of) => Some(only),
+        _ => None,
+    }
+}
+
 impl<'a> Builder<'a, '_> {
     /// Takes a length.
     pub(super) fn length(&mut self) -> u64 {
@@ -12,13 +26,26 @@ impl<'a> Builder<'a, '_> {
             self.wrong(&["`", word, "` isn't a length in plain digits: write them"]);
             return 0;
         };
+        self.skip_cast();
         if in_braces {
-            self.owe("}");
+            self.take("}");
         }
         if !is_among(self.peek(), &["]", ">", ","]) {
             self.wrong(&["a length is a number or the name of one: write the number"]);
         }
         length
+    }
+
+    /// Takes `as usize`, which changes no length.
+    fn skip_cast(&mut self) {
+        let is_cast = match self.rest {
+            [by, of, ..] => is_to_length(by, of),
+            _ => false,
+        };
+        if is_cast {
+            self.step();
+            self.step();
+        }
     }
 
     /// The length that a word stands for: by its digits, as a parameter, or as a constant of the file or of another.
@@ -31,9 +58,7 @@ impl<'a> Builder<'a, '_> {
         }
         let mut words = self.constant(word)?;
         for _ in 0..DEEPEST {
-            let [only] = words else {
-                return None;
-            };
+            let only = only_word(words)?;
             if let Some(length) = literal(only.text.as_str()) {
                 return Some(length);
             }
@@ -47,7 +72,7 @@ impl<'a> Builder<'a, '_> {
         if let Some(index) = self.files.get(self.file)
             && let Some(words) = index.constant(name)
         {
-            return Some(words);
+            return words;
         }
         let mut found: Option<&'a [Token]> = None;
         for index in self.files {
@@ -55,7 +80,7 @@ impl<'a> Builder<'a, '_> {
                 if found.is_some() {
                     return None;
                 }
-                found = Some(words);
+                found = Some(words?);
             }
         }
         found

@@ -1,7 +1,7 @@
 //! What a name stands for.
 use super::known::{EVERYWHERE, KNOWN_CRATES, SENT_AS, is_known};
 use super::{Builder, Given};
-use crate::index::{Import, Marked, Meaning};
+use crate::index::{Import, Index, Marked, Meaning};
 use declaration_parser::tokens::{Token, is_among};
 
 /// What is said of a type that isn't declared.
@@ -19,8 +19,13 @@ const NO_ALIAS: &str =
 /// What is said of a name that two files declare.
 const IN_TWO_FILES: &str = "` is declared in two of the files: name those alone that are meant";
 
+/// What is said of a name that stands for different types in different modules of a file.
+const DOUBTFUL: &str =
+    "` is more than one type, of different modules or from elsewhere: put those that are on the wire into files of their own";
+
 /// What is said of a name that is brought in and isn't found.
-const BROUGHT_IN: &str = "` is brought in by a `use`: name the file of its declaration too";
+const BROUGHT_IN: &str =
+    "` is brought in by a `use`: name the file of its declaration too, or write the type that is on the wire";
 
 /// What is said of a name that may be that of another module.
 const BY_GLOB: &str =
@@ -51,6 +56,14 @@ fn found_as<'a>(it: Meaning<'a>, file: usize) -> Found<'a> {
     }
 }
 
+/// What a name stands for that a file declares, by its place, unless it may be another's too.
+fn found_in<'a>(index: &Index<'a>, name: &str, it: Meaning<'a>, file: usize) -> Found<'a> {
+    if index.is_doubtful(name) {
+        return Found::Wrong(DOUBTFUL);
+    }
+    found_as(it, file)
+}
+
 impl<'a> Builder<'a, '_> {
     /// What a name stands for: in the file that is read, by what that brings in, or everywhere.
     pub(super) fn found(&self, word: &'a str) -> Found<'a> {
@@ -58,7 +71,7 @@ impl<'a> Builder<'a, '_> {
             return Found::Known(word);
         };
         if let Some(it) = index.meaning(word) {
-            return found_as(it, self.file);
+            return found_in(index, word, it, self.file);
         }
         if let Some(import) = index.import(word) {
             return self.imported(import);
@@ -91,7 +104,7 @@ impl<'a> Builder<'a, '_> {
                 if only.is_some() {
                     return Some(Found::Wrong(IN_TWO_FILES));
                 }
-                only = Some(found_as(it, file));
+                only = Some(found_in(index, word, it, file));
             }
         }
         only
@@ -141,7 +154,7 @@ impl<'a> Builder<'a, '_> {
             root,
             "::..`: write `",
             last,
-            "` alone, and its declaration into this file",
+            "` alone, and its declaration into this file, or the type that is on the wire",
         ])
     }
 }

@@ -11,6 +11,9 @@ use schemas::{IntegerType, Node};
 /// How many nodes a table has at most, which parameters could make many.
 const MOST_NODES: usize = 100_000;
 
+/// What is said of a parameter for which nothing stands.
+const LEFT_OUT: &str = "` is left out, and defaults aren't followed: write it";
+
 /// Whether parameters stand for the same.
 fn is_same(first: &[Bound<'_>], second: &[Bound<'_>]) -> bool {
     if first.len() != second.len() {
@@ -110,8 +113,21 @@ impl<'a> Builder<'a, '_> {
         if is_among(word, PRIMITIVE) {
             return self.known(word, depth);
         }
+        if word == "Self" {
+            return self.itself();
+        }
         let found = self.found(word);
         self.resolved(found, word, depth)
+    }
+
+    /// The place of the type whose field is read.
+    fn itself(&mut self) -> usize {
+        match self.found(self.at.name) {
+            Found::Declared(place) => place,
+            _ => self.wrong(&[
+                "`Self` isn't followed in a type with parameters: write its name and what they stand for",
+            ]),
+        }
     }
 
     /// The place of what a name stands for.
@@ -165,6 +181,16 @@ impl<'a> Builder<'a, '_> {
         place
     }
 
+    /// Refuses a type behind which nothing stands for its parameters.
+    fn refuse_left_out(&mut self, parameters: &[&str]) {
+        for name in parameters {
+            if !is_lifetime(name) {
+                self.refuse(name, LEFT_OUT);
+                return;
+            }
+        }
+    }
+
     /// What stands in angle brackets for the parameters of a type.
     #[cycle(types)]
     fn arguments(
@@ -174,7 +200,10 @@ impl<'a> Builder<'a, '_> {
         depth: u32,
     ) -> Vec<Bound<'a>> {
         let mut given = Vec::new(self.alloc);
-        self.owe("<");
+        if !self.take("<") {
+            self.refuse_left_out(parameters);
+            return given;
+        }
         for name in parameters {
             if is_lifetime(name) {
                 if is_lifetime(self.peek()) {
@@ -182,11 +211,7 @@ impl<'a> Builder<'a, '_> {
                     self.take(",");
                 }
             } else if self.peek() == ">" {
-                self.wrong(&[
-                    "`",
-                    name,
-                    "` is left out, and defaults aren't followed: write it",
-                ]);
+                self.refuse(name, LEFT_OUT);
             } else {
                 let it = if is_among(name, lengths) {
                     Given::Length(self.length())
@@ -276,7 +301,9 @@ impl<'a> Builder<'a, '_> {
             "Cow" => return self.lent(depth),
             "Option" => return self.option(depth),
             "HashSet" => return self.hashed(depth),
-            "Vec" | "BTreeSet" | "VecDeque" => return self.list(depth),
+            "Vec" | "BTreeSet" | "BinaryHeap" | "LinkedList" | "VecDeque" => return self.list(
+                depth,
+            ),
             "ArrayVec" | "Deque" | "FnvIndexSet" => return self.list_up_to(depth),
             "Result" => return self.outcome(depth),
             "BTreeMap" | "HashMap" => return self.map(depth),

@@ -1,0 +1,3 @@
+extern crate serde as ser;
+#[derive(ser::Serialize, ser::Deserialize)]
+pub struct A(u8);

@@ -1,0 +1,5 @@
+pub mod v1 {
+    use crate::own::*;
+    #[derive(Serialize, Deserialize)]
+    pub struct A { pub b: ByteBuf }
+}
