@@ -10,7 +10,7 @@ mod stop;
 mod types;
 
 use crate::about::ABOUT;
-use crate::show::Showing;
+use crate::show::{ROOM, Showing};
 use crate::stop::{Stop, wrong};
 use crate::types::type_of;
 use help::answer;
@@ -25,9 +25,6 @@ type Ran = Result<bool, Stop>;
 
 const USAGE: &str = "usage: watch FILES TYPE [strict] [sentinel=HH] [bytes=hex] [depth=N] [empty=N]
 ";
-
-/// How many bytes are asked for in one read. Where fewer come, the line has no more yet.
-const ROOM: usize = 4096;
 
 /// The bytes of standard input.
 fn read_some(rt: &HostRuntime, room: &mut [u8]) -> Result<usize, Stop> {
@@ -49,7 +46,7 @@ fn watch(rt: &HostRuntime, reading: Reading<'_>) -> Ran {
         }
         let window = shown.window(rt)?;
         viewer.push(room.get(..count).unwrap_or(&[]), window, &mut shown.lines)?;
-        shown.show(rt, &viewer.table, count < ROOM)?;
+        shown.show(rt, &viewer.table, count)?;
     }
     let is_good = viewer.finish(&mut shown.lines)?;
     shown.end(rt, &viewer.table)?;

@@ -9,6 +9,12 @@ use watch_lib::rate::WINDOW;
 use watch_lib::screen::Screen;
 use watch_lib::table::{DAMAGES, Table};
 
+/// How many bytes are asked for in one read. Where fewer come, the next read may wait.
+pub const ROOM: usize = 4096;
+
+/// A read of fewer bytes shows that the line is in no hurry. A terminal gives less than `ROOM` of a line in a hurry too.
+const FEW: usize = 1024;
+
 /// How many milliseconds a picture stands at least, but for the last.
 const STANDS: u64 = 100;
 
@@ -97,18 +103,18 @@ impl Showing {
         Ok(())
     }
 
-    /// Shows what a read has brought. Where the line has no more yet, a picture is drawn before the next read waits, and stands for a
-    /// while; where it has, it is drawn if the last one stood for that long.
-    pub fn show(&mut self, rt: &HostRuntime, table: &Table, waits: bool) -> Result<(), Stop> {
+    /// Shows what a read of so many bytes has brought. A picture is drawn where the next read may wait, or the last one stood for a
+    /// while; after a few bytes it stands for that while, in which more come.
+    pub fn show(&mut self, rt: &HostRuntime, table: &Table, count: usize) -> Result<(), Stop> {
         if !self.is_terminal {
             return self.write(rt);
         }
         self.lines.clear();
-        if waits {
+        if count < ROOM || self.now(rt)?.saturating_sub(self.drawn) >= STANDS {
             self.draw(rt, table)?;
+        }
+        if count < FEW {
             sleep(rt, Duration::from_millis(STANDS));
-        } else if self.now(rt)?.saturating_sub(self.drawn) >= STANDS {
-            self.draw(rt, table)?;
         }
         Ok(())
     }

@@ -1,1 +1,2 @@
 pub mod DrawnLemmas
+pub mod SeenLemmas

@@ -5,3 +5,4 @@ pub mod Drawn
 pub mod Tables
 pub mod Pictures
 pub mod Kinds
+pub mod Seen

@@ -1,5 +1,6 @@
 //! The kinds of messages of a type: the variants of an enum, else the type itself.
-ghost use Rattle.std.specs.Prelude.{◌≡◌, ℕ};
+ghost use Rattle.std.specs.Prelude.{◌≡◌, ℕ, IfOk};
+ghost use Rattle.std.specs.List.{All};
 ghost use Rattle.watch_lib.specs.Kinds.{kind_in};
 
 use crate::table::Row;
@@ -13,12 +14,16 @@ use wire_lib::receive::Reading;
 pub const LONGEST: usize = 1024;
 
 /// A kind of this name.
-fn row(alloc: Global, name: &str) -> Result<Row, AllocError> {
+fn row(alloc: Global, name: &str) -> Result<Row, AllocError>
+    ensures none { IfOk result (λ row. row.count ≡ 0) }
+{
     Ok(Row::new(String::from_str(alloc, name)?, alloc))
 }
 
 /// A row for each kind of messages of the type at that place.
-pub fn rows_of(alloc: Global, schema: &Schema, place: usize) -> Result<Vec<Row>, AllocError> {
+pub fn rows_of(alloc: Global, schema: &Schema, place: usize) -> Result<Vec<Row>, AllocError>
+    ensures none { IfOk result (λ rows. All (λ row. row.count ≡ 0) rows.items) }
+{
     let mut rows = Vec::new(alloc);
     if let Some(Names::Variants(names)) = schema.names.get(place) {
         for name in names {

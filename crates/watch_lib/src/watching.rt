@@ -1,8 +1,13 @@
 //! A stream of frames, as a table of what came.
-ghost use Rattle.std.specs.Prelude.{◌≡◌, ℕ, ◌<◌, ◌≤◌, List, [], ◌++◌, ◌∷◌, length, take, IfOk, OnOk};
+ghost use Rattle.std.specs.Prelude.{◌≡◌, ℕ, ◌+◌, ◌<◌, ◌≤◌, List, [], ◌++◌, length, take, IfOk, OnOk};
 ghost use Rattle.link.specs.Decoding.{in_owner};
-ghost use Rattle.link.specs.Receivers.{IsBehind, SameTerms};
-ghost use Rattle.link.specs.Pushes.{Answered, IsStretchOf};
+ghost use Rattle.link.specs.Receivers.{IsBehind};
+ghost use Rattle.link.specs.Pushes.{Answered};
+ghost use Rattle.link.specs.declared.receiver.Answer.{Answer as Answers};
+ghost use Rattle.schemas.specs.declared.value.Value.{Value as Values};
+ghost use Rattle.wire_lib.specs.Received.{held_by, read_by, are_all_values};
+ghost use Rattle.watch_lib.specs.Rates.{capped};
+ghost use Rattle.watch_lib.specs.Seen.{HasSeen, HasCounted, CountsToo, StandsStill, as_answer, reading_of, added_by_end};
 
 use crate::front::keep_front;
 use crate::kinds::{kind_of, rows_of, text_of};
@@ -31,7 +36,11 @@ pub struct Viewer<'a> {
 
 impl<'a> Viewer<'a> {
     /// Watches a stream from its beginning.
-    pub fn new(reading: Reading<'a>) -> Result<Viewer<'a>, AllocError> {
+    pub fn new(reading: Reading<'a>) -> Result<Viewer<'a>, AllocError>
+        ensures seen { IfOk result (λ v. HasSeen v [] []) }
+        ensures reading { IfOk result (λ v. reading_of v ≡ reading.entry) }
+        ensures damages { IfOk result (λ v. v.table.damages.items ≡ []) }
+    {
         let alloc = reading.alloc;
         match OwnedReceiver::new(alloc, LIMIT, reading.sentinel) {
             Ok(receiver) => Ok(Viewer {
@@ -56,7 +65,10 @@ impl<'a> Viewer<'a> {
         value: &Value,
         window: u64,
         lines: &mut Vec<u8>,
-    ) -> Result<(), AllocError> {
+    ) -> Result<(), AllocError>
+        ensures counted { OnOk result (CountsToo (as_answer value.now) self.old.table self.new.table) }
+        ensures same { StandsStill self.old self.new }
+    {
         let alloc = self.reading.alloc;
         let kind = kind_of(value);
         let text = text_of(self.reading, value)?;
@@ -73,7 +85,11 @@ impl<'a> Viewer<'a> {
         what: &str,
         stretch: usize,
         lines: &mut Vec<u8>,
-    ) -> Result<(), AllocError> {
+    ) -> Result<(), AllocError>
+        ensures damaged { OnOk result (self.new.table.damaged ≡ capped (self.old.table.damaged + 1)) }
+        ensures rows { self.new.table.rows ≡ self.old.table.rows }
+        ensures same { StandsStill self.old self.new }
+    {
         let alloc = self.reading.alloc;
         let from = self.at.saturating_sub(1).saturating_sub(stretch as u64);
         let digits = hex::encode(alloc, self.front.as_slice())?;
@@ -90,7 +106,10 @@ impl<'a> Viewer<'a> {
         stretch: usize,
         window: u64,
         lines: &mut Vec<u8>,
-    ) -> Result<(), AllocError> {
+    ) -> Result<(), AllocError>
+        ensures counted { OnOk result (CountsToo answer.now self.old.table self.new.table) }
+        ensures same { StandsStill self.old self.new }
+    {
         match answer {
             Answer::Value(value) => self.hear_value(value, window, lines),
             Answer::Damaged => {
@@ -114,6 +133,10 @@ impl<'a> Viewer<'a> {
         lines: &mut Vec<u8>,
     ) -> Result<usize, AllocError>
         requires { 0 < length rest.now }
+        ensures seen { IfOk result (λ used. (stream : List ℕ) (answers : List (Answers Values))
+            → HasSeen self.old stream answers → (more : List (Answers Values))
+            × HasSeen self.new (stream ++ take used rest.now) (answers ++ more)) }
+        ensures reading { reading_of self.new ≡ reading_of self.old }
         ensures within { IfOk result (λ used. used ≤ length rest.now) }
         ensures forward { IfOk result (λ used. 0 < used) }
     {
@@ -127,23 +150,26 @@ impl<'a> Viewer<'a> {
         let (before, last) = rest.split_at(used - 1);
         keep_front(&mut self.front, sentinel, before)?;
         match answer {
-            Ok(None) => keep_front(&mut self.front, sentinel, &last[..1])?,
+            Ok(None) => {
+                keep_front(&mut self.front, sentinel, &last[..1])?;
+                Ok(used)
+            }
             Ok(Some(answer)) => {
                 self.hear(&answer, stretch, window, lines)?;
                 self.front.clear();
+                Ok(used)
             }
-            Err(NoMemory) => return Err(AllocError),
+            Err(NoMemory) => Err(AllocError),
         }
-        Ok(used)
     }
 
     /// Takes the next bytes of the stream, in this window of time, and notes each answer that they end. It appends a line for each.
-    pub fn push(
-        &mut self,
-        piece: &[u8],
-        window: u64,
-        lines: &mut Vec<u8>,
-    ) -> Result<(), AllocError> {
+    pub fn push(&mut self, piece: &[u8], window: u64, lines: &mut Vec<u8>) -> Result<(), AllocError>
+        ensures seen { OnOk result ((stream : List ℕ) (answers : List (Answers Values))
+            → HasSeen self.old stream answers → (more : List (Answers Values))
+            × HasSeen self.new (stream ++ piece.now) (answers ++ more)) }
+        ensures reading { reading_of self.new ≡ reading_of self.old }
+    {
         let mut rest = piece;
         while !rest.is_empty() {
             let used = self.push_one(rest, window, lines)?;
@@ -154,13 +180,22 @@ impl<'a> Viewer<'a> {
     }
 
     /// Ends the stream: a stretch that was begun is cut. Whether all were messages.
-    pub fn finish(&mut self, lines: &mut Vec<u8>) -> Result<bool, AllocError> {
+    pub fn finish(&mut self, lines: &mut Vec<u8>) -> Result<bool, AllocError>
+        ensures counted { OnOk result ((stream : List ℕ) (answers : List (Answers Values))
+            → HasSeen self.old stream answers
+            → HasCounted self.new.table (answers ++ added_by_end self.old stream)) }
+        ensures good { IfOk result (λ good. (stream : List ℕ) (answers : List (Answers Values))
+            → HasSeen self.old stream answers
+            → good ≡ are_all_values (answers ++ added_by_end self.old stream)) }
+        ensures rows { self.new.table.rows ≡ self.old.table.rows }
+    {
         let begun = self.receiver.begun_bytes();
-        if begun > 0 {
-            self.at = self.at.saturating_add(1);
-            self.hear_damage("cut", begun, lines)?;
+        if begun == 0 {
+            return Ok(self.table.damaged == 0);
         }
-        Ok(self.table.damaged == 0)
+        self.at = self.at.saturating_add(1);
+        self.hear_damage("cut", begun, lines)?;
+        Ok(false)
     }
 }
 
@@ -173,6 +208,12 @@ fn push_next(
 ) -> Pushed<Value>
     ensures within { result.used ≤ length rest.now }
     ensures forward { 0 < length rest.now → 0 < result.used }
+    ensures stands { (limit s : ℕ) (stream : List ℕ) → IsBehind in_owner limit s receiver.old stream
+        → IsBehind in_owner limit s receiver.new (stream ++ take result.used rest.now) }
+    ensures answers { (limit s : ℕ) (stream : List ℕ)
+        → IsBehind in_owner limit s receiver.old stream
+        → Answered (held_by reading.entry) (read_by reading.entry)
+        limit s stream rest.now result.used result.answer }
 {
     let table = TableReader {
         nodes: &reading.schema.nodes,
