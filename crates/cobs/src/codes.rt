@@ -9,7 +9,7 @@ ghost use Rattle.cobs.specs.Codes.{InBlock, Coded, Marks, Stepped};
 ghost use Rattle.cobs.specs.InPlace.{written_over};
 ghost use Rattle.cobs.specs.Sentinel.{masked};
 
-use crate::moves::{copy_64, copy_clear, copy_few, is_clear, ones_64, zeros_of, zeros_of_few};
+use crate::moves::{copy_clear, copy_clear_64, copy_few, ones_64, zeros_of, zeros_of_few};
 use std::simd::prelude::*;
 
 // Writes a code at each zero of bytes that stand in the open block, from a place on, and answers where the last code is to be.
@@ -52,7 +52,7 @@ pub(crate) fn lowest(bits: u64) -> (usize, u64)
     ensures no_more { (k : ℕ) → bit_at result.1 k ≡ 1 → (bit_at bits k ≡ 1) × (result.0 < k) }
 {
     let n = bits.trailing_zeros() as usize;
-    (n, bits & !(1 << n))
+    (n, bits & (bits - 1))
 }
 
 // The same as `put_codes_near`, of at most 64 bytes, from the marks of their zeros. What is to be coded is what stands there.
@@ -219,8 +219,7 @@ fn put_64(dest: &mut [u8], code_at: usize, from: usize, bytes: &[u8], sentinel: 
     ensures { Stepped (masked sentinel dest.old) code_at from bytes.now
         (masked sentinel dest.new) result }
 {
-    copy_64(bytes, dest, from, sentinel);
-    if is_clear(bytes, 0) {
+    if copy_clear_64(bytes, dest, from, sentinel) {
         code_at
     } else {
         put_codes_of_64(dest, code_at, from, bytes, sentinel)
@@ -264,8 +263,8 @@ fn put_bytes(dest: &mut [u8], code_at: usize, from: usize, bytes: &[u8], sentine
     put_short(dest, code, at, rest, sentinel)
 }
 
-// Copies bytes over the buffer, from a place on, where they are as many as a full block has. Answers whether it did so, and none of
-// them is zero.
+// Copies bytes over the buffer, from a place on, where they are as many as a full block has, and don't begin with a zero. Answers
+// whether it did so, and none of them is zero.
 #[inline(always)]
 fn put_full_block(dest: &mut [u8], from: usize, bytes: &[u8], sentinel: u8) -> bool
     requires room { from + length bytes.now ≤ length dest.old }
@@ -275,7 +274,7 @@ fn put_full_block(dest: &mut [u8], from: usize, bytes: &[u8], sentinel: u8) -> b
         → dest.new ≡ written_over from (masked sentinel bytes.now) dest.old }
     ensures clear { result ≡ true → (k : ℕ) → k < length bytes.now → 0 < slice_index bytes.now k }
 {
-    if bytes.len() != 254 {
+    if bytes.len() != 254 || bytes[0] == 0 {
         return false;
     }
     copy_clear(bytes, dest, from, sentinel)

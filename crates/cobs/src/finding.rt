@@ -53,10 +53,27 @@ fn before_near(bytes: &[u8], sentinel: u8) -> usize
     bytes.len()
 }
 
-// The same of 8 bytes and more, in steps of 64: of the last ones some may be looked at twice.
+// The same of at most 64 bytes.
+#[inline(always)]
+pub(crate) fn before_few(bytes: &[u8], sentinel: u8) -> usize
+    requires { length bytes.now ≤ 64 }
+    ensures within { result ≤ length bytes.now }
+    ensures none { (k : ℕ) → k < result → slice_index bytes.now k ≢ sentinel }
+    ensures end { result < length bytes.now → slice_index bytes.now result ≡ sentinel }
+{
+    if bytes.len() < 4 {
+        return before_near(bytes, sentinel);
+    }
+    let marks = zeros_of_some(bytes, sentinel);
+    if marks == 0 {
+        return bytes.len();
+    }
+    lowest(marks).0
+}
+
+// The same in steps of 64.
 #[inline(always)]
 pub(crate) fn before_by_64(bytes: &[u8], sentinel: u8) -> usize
-    requires { 8 ≤ length bytes.now }
     ensures within { result ≤ length bytes.now }
     ensures none { (k : ℕ) → k < result → slice_index bytes.now k ≢ sentinel }
     ensures end { result < length bytes.now → slice_index bytes.now result ≡ sentinel }
@@ -69,8 +86,7 @@ pub(crate) fn before_by_64(bytes: &[u8], sentinel: u8) -> usize
         }
         at += 64;
     }
-    let from = at.min(bytes.len() - 8);
-    from + before_of_64(&bytes[from..], sentinel)
+    at + before_few(&bytes[at..], sentinel)
 }
 
 // The same of many bytes: behind the first ones a call is worth its cost.
@@ -102,10 +118,9 @@ pub(crate) fn before_behind(bytes: &[u8], sentinel: u8) -> usize
     256 + memchr(sentinel, behind).unwrap_or(behind.len())
 }
 
-// The same of 8 bytes and more, by what is quicker.
+// The same of any number, by what is quicker.
 #[inline(always)]
 fn before_many(bytes: &[u8], sentinel: u8) -> usize
-    requires { 8 ≤ length bytes.now }
     ensures within { result ≤ length bytes.now }
     ensures none { (k : ℕ) → k < result → slice_index bytes.now k ≢ sentinel }
     ensures end { result < length bytes.now → slice_index bytes.now result ≡ sentinel }
@@ -115,24 +130,6 @@ fn before_many(bytes: &[u8], sentinel: u8) -> usize
     } else {
         before_far(bytes, sentinel)
     }
-}
-
-// The same of at most 64 bytes.
-#[inline(always)]
-pub(crate) fn before_few(bytes: &[u8], sentinel: u8) -> usize
-    requires { length bytes.now ≤ 64 }
-    ensures within { result ≤ length bytes.now }
-    ensures none { (k : ℕ) → k < result → slice_index bytes.now k ≢ sentinel }
-    ensures end { result < length bytes.now → slice_index bytes.now result ≡ sentinel }
-{
-    if bytes.len() < 4 {
-        return before_near(bytes, sentinel);
-    }
-    let marks = zeros_of_some(bytes, sentinel);
-    if marks == 0 {
-        return bytes.len();
-    }
-    lowest(marks).0
 }
 
 /// How many bytes come before the first one that is the sentinel; all where none is.
@@ -174,9 +171,5 @@ pub(crate) fn end_in(bytes: &[u8], sentinel: u8) -> usize
     ensures end { result < length bytes.now → slice_index bytes.now result ≡ sentinel }
     ensures bytes { (k : ℕ) → slice_index bytes.now k < 256 }
 {
-    if bytes.len() < 8 {
-        before_near(bytes, sentinel)
-    } else {
-        before_many(bytes, sentinel)
-    }
+    before_many(bytes, sentinel)
 }

@@ -1,7 +1,7 @@
 //! Bytes that are copied and moved by vectors, each XORed with the sentinel.
 //!
 //! Of as many bytes as one to two vectors have, one vector takes those in front and one those at the end.
-ghost use Rattle.std.specs.Prelude.{◌≡◌, ℕ, ◌+◌, ◌<◌, ◌≤◌, length, take, drop, replicate, slice_index, true, ◌^◌};
+ghost use Rattle.std.specs.Prelude.{◌≡◌, ℕ, ◌+◌, ◌<◌, ◌≤◌, length, take, drop, replicate, slice_index, true, false, ◌^◌};
 ghost use Rattle.cobs.specs.Codes.{Marks};
 ghost use Rattle.cobs.specs.InPlace.{written_over};
 ghost use Rattle.cobs.specs.Sentinel.{masked};
@@ -232,6 +232,57 @@ fn copy_least(bytes: &[u8], buffer: &mut [u8], place: usize, sentinel: u8) -> u8
     let first = lesser(a, b);
     let second = lesser(c, d);
     lesser(first, second)
+}
+
+// Copies 64 bytes over a buffer, from a place on, each XORed with the sentinel. Answers whether none of them is zero; it is only told
+// where that is seen at once. They are loaded once: what is loaded behind a write is loaded again.
+#[inline(always)]
+pub(crate) fn copy_clear_64(bytes: &[u8], buffer: &mut [u8], place: usize, sentinel: u8) -> bool
+    requires count { length bytes.now ≡ 64 }
+    requires room { place + 64 ≤ length buffer.old }
+    ensures copied { buffer.new ≡ written_over place (masked sentinel bytes.now) buffer.old }
+    ensures clear { result ≡ true → (k : ℕ) → k < 64 → 0 < slice_index bytes.now k }
+{
+    let least = copy_least(bytes, buffer, place, sentinel);
+    least.simd_eq(u8x16::splat(0)).to_bitmask() == 0
+}
+
+// Whether no lane is zero.
+#[inline(always)]
+fn is_positive(lanes: u8x16) -> bool
+    requires { length lanes ≡ 16 }
+    ensures { result ≡ true → (j : ℕ) → j < 16 → 0 < slice_index lanes j }
+{
+    lanes.simd_eq(u8x16::splat(0)).to_bitmask() == 0
+}
+
+// Copies 64 bytes over a buffer, from a place on, each XORed with the sentinel, if none of them is seen to be it: else nothing is
+// written. Answers whether it did.
+#[inline(always)]
+pub(crate) fn copy_if_clear(bytes: &[u8], buffer: &mut [u8], place: usize, sentinel: u8) -> bool
+    requires count { length bytes.now ≡ 64 }
+    requires room { place + 64 ≤ length buffer.old }
+    ensures copied { result ≡ true
+        → buffer.new ≡ written_over place (masked sentinel bytes.now) buffer.old }
+    ensures clear { result ≡ true
+        → (k : ℕ) → k < 64 → 0 < slice_index (masked sentinel bytes.now) k }
+    ensures same { result ≡ false → buffer.new ≡ buffer.old }
+{
+    let a = load_masked(bytes, 0, sentinel);
+    let b = load_masked(bytes, 16, sentinel);
+    let c = load_masked(bytes, 32, sentinel);
+    let d = load_masked(bytes, 48, sentinel);
+    let first = lesser(a, b);
+    let second = lesser(c, d);
+    let least = lesser(first, second);
+    if !is_positive(least) {
+        return false;
+    }
+    store::<16>(a, buffer, place, 0);
+    store::<16>(b, buffer, place + 16, 0);
+    store::<16>(c, buffer, place + 32, 0);
+    store::<16>(d, buffer, place + 48, 0);
+    true
 }
 
 // Copies the bytes of a full block over a buffer, from a place on, each XORed with the sentinel. Answers whether none of them is

@@ -9,7 +9,7 @@ ghost use Rattle.cobs.specs.Whole.{decoded_into};
 use super::progress::Progress;
 use super::report::DecodeError;
 use super::state::DecoderState;
-use super::window::decode_at_once;
+use super::window::{copy_until, decode_at_once, put_zeros};
 use crate::finding::before_sentinel;
 use crate::moves::is_clear_255;
 
@@ -160,6 +160,31 @@ fn take_source<const COPY: usize>(source: &[u8], dest: &mut [u8], sentinel: u8) 
     (progress, end)
 }
 
+// Decodes the bytes of a source before its first sentinel, each XORed with it: the source is of one window, doesn't begin with the
+// sentinel, and there is room for all of it. They are searched as they are copied. Also answers how many they are.
+#[inline(always)]
+fn decode_near(source: &[u8], dest: &mut [u8], sentinel: u8) -> (Result<usize, DecodeError>, usize)
+    requires some { 0 < length source.now }
+    requires few { length source.now ≤ 255 }
+    requires room { length source.now ≤ length dest.old + 1 }
+    requires begins { slice_index source.now 0 ≢ sentinel }
+    ensures end { result.1 ≡ length (stretch (masked sentinel source.now)) }
+    ensures some { 0 < result.1 }
+    ensures within { result.1 ≤ length source.now }
+    ensures answer { result.0
+        ≡ decoded_into (length dest.old) (stretch (masked sentinel source.now)) }
+    ensures dest { dest.new ≡ overwritten (part (stretch (masked sentinel source.now))) dest.old }
+{
+    let code = sentinel ^ source[0];
+    let n = copy_until(&source[1..], dest, 0, sentinel);
+    let state = put_zeros(&mut dest[..n], code - 1);
+    if state.left() == 0 {
+        (Ok(n), n + 1)
+    } else {
+        (Err(DecodeError::InvalidFrame { decoded_bytes: n }), n + 1)
+    }
+}
+
 // Decodes the bytes of a source before its first zero: it doesn't begin with one, and there is room for all of it. Also answers how
 // many they are.
 #[inline(always)]
@@ -174,6 +199,9 @@ pub(crate) fn decode_source(source: &[u8], dest: &mut [u8]) -> (Result<usize, De
         ≡ decoded_into (length dest.old) (stretch (masked 0 source.now)) }
     ensures dest { dest.new ≡ overwritten (part (stretch (masked 0 source.now))) dest.old }
 {
+    if is_short(source, 0) {
+        return decode_near(source, dest, 0);
+    }
     let (Progress { state, len }, end) = take_source::<0>(source, dest, 0);
     if state.left() == 0 {
         (Ok(len), end)
@@ -199,6 +227,9 @@ pub(crate) fn decode_source_masked(
         ≡ decoded_into (length dest.old) (stretch (masked sentinel source.now)) }
     ensures dest { dest.new ≡ overwritten (part (stretch (masked sentinel source.now))) dest.old }
 {
+    if is_short(source, sentinel) {
+        return decode_near(source, dest, sentinel);
+    }
     let (Progress { state, len }, end) = take_source::<1>(source, dest, sentinel);
     if state.left() == 0 {
         (Ok(len), end)

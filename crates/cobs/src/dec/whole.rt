@@ -230,8 +230,8 @@ fn begins_with_row(rest: &[u8]) -> bool
     256 <= rest.len() && rest[0] == 1 && are_all(1, &rest[..64])
 }
 
-// As `decode`, of a source whose bytes behind leading zeros don't begin with one. The first 256 are searched for the frame's end,
-// those behind are searched as they are copied, where there is room.
+// As `decode`, of a source whose bytes behind leading zeros don't begin with one. Where there is room they are searched as they are
+// copied: all of up to 255, of more those behind the first 256, which are searched for the frame's end.
 #[inline(always)]
 fn decode_begun(source: &[u8], rest: &[u8], dest: &mut [u8]) -> Result<DecodeReport, DecodeError>
     requires rest { rest.now ≡ unpadded source.now }
@@ -243,6 +243,9 @@ fn decode_begun(source: &[u8], rest: &[u8], dest: &mut [u8]) -> Result<DecodeRep
 {
     if rest.len() <= 64 {
         return decode_found(source, rest, before_end_few(rest, 0), dest);
+    }
+    if rest.len() <= 255 && has_room(rest, dest.len()) {
+        return decode_long(source, rest, dest);
     }
     // A row of zeros is filled as it is met: a search for the frame's end would pass over it once more.
     if begins_with_row(rest) {
@@ -331,6 +334,9 @@ fn decode_stretch(source: &[u8], dest: &mut [u8], sentinel: u8) -> Result<usize,
 {
     if source.len() <= 64 {
         return decode_clear(before_end_few(source, sentinel), dest, sentinel);
+    }
+    if source.len() <= 255 && source[0] != sentinel && has_room(source, dest.len()) {
+        return decode_source_masked(source, dest, sentinel).0;
     }
     match near_frame(source, sentinel) {
         Some(frame) => decode_clear(frame, dest, sentinel),

@@ -6,8 +6,9 @@ ghost use Rattle.cobs.specs.InPlace.{written_over};
 ghost use Rattle.cobs.specs.Sentinel.{masked};
 
 use super::state::DecoderState;
+use crate::finding::before_few;
 use crate::masks::copy_masked;
-use crate::moves::{are_all, copy_over};
+use crate::moves::{are_all, copy_few, copy_if_clear, copy_over};
 use memchr::memchr;
 
 // How many bytes are copied at once: what lies behind the code of a full block among them is of that block.
@@ -77,6 +78,47 @@ pub(crate) fn copy_run(bytes: &[u8], buffer: &mut [u8], place: usize, sentinel: 
         buffer[place + i] = sentinel ^ *byte;
     }
     bytes.len()
+}
+
+// The same of at most 64, by vectors: they are searched first.
+#[inline(always)]
+fn copy_few_until(bytes: &[u8], buffer: &mut [u8], place: usize, sentinel: u8) -> usize
+    requires few { length bytes.now ≤ 64 }
+    requires room { place + length bytes.now ≤ length buffer.old }
+    ensures within { result ≤ length bytes.now }
+    ensures none { (k : ℕ) → k < result → slice_index bytes.now k ≢ sentinel }
+    ensures end { result < length bytes.now → slice_index bytes.now result ≡ sentinel }
+    ensures buffer { buffer.new
+        ≡ written_over place (take result (masked sentinel bytes.now)) buffer.old }
+{
+    let n = before_few(bytes, sentinel);
+    copy_few(&bytes[..n], buffer, place, sentinel);
+    n
+}
+
+// The same of any number, searched as they are copied: 64 seldom have a sentinel.
+#[inline(always)]
+pub(crate) fn copy_until(bytes: &[u8], buffer: &mut [u8], place: usize, sentinel: u8) -> usize
+    requires { place + length bytes.now ≤ length buffer.old }
+    ensures within { result ≤ length bytes.now }
+    ensures none { (k : ℕ) → k < result → slice_index bytes.now k ≢ sentinel }
+    ensures end { result < length bytes.now → slice_index bytes.now result ≡ sentinel }
+    ensures buffer { buffer.new
+        ≡ written_over place (take result (masked sentinel bytes.now)) buffer.old }
+{
+    let mut at: usize = 0;
+    while 64 <= bytes.len() - at {
+        if copy_if_clear(&bytes[at..at + 64], buffer, place + at, sentinel) {
+            at += 64;
+            continue;
+        }
+        let n = copy_few_until(&bytes[at..at + 64], buffer, place + at, sentinel);
+        if n < 64 {
+            return at + n;
+        }
+        at += 64;
+    }
+    at + copy_few_until(&bytes[at..], buffer, place + at, sentinel)
 }
 
 // How many bytes in front are this one, in steps of 64.

@@ -41,18 +41,18 @@ pub(crate) fn put_few(dest: &mut [u8], at: Place, piece: &[u8], sentinel: u8) ->
         (masked sentinel dest.new) result.code_at result.len }
 {
     let mut code_at = at.code_at;
-    for (i, byte) in piece.iter().enumerate() {
-        let here = at.len + i;
+    let mut here = at.len;
+    for byte in piece {
         if *byte == 0 {
             dest[code_at] = sentinel ^ (here - code_at) as u8;
             code_at = here;
         } else {
             dest[here] = sentinel ^ *byte;
         }
+        here += 1;
     }
-    let end = at.len + piece.len();
-    dest[code_at] = sentinel ^ (end - code_at) as u8;
-    Place { code_at, len: end }
+    dest[code_at] = sentinel ^ (here - code_at) as u8;
+    Place { code_at, len: here }
 }
 
 // The same of a first piece, which opens the frame: compiled by itself, since its places are known.

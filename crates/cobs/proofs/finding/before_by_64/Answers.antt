@@ -28,10 +28,10 @@ returns-then-n-lt64-clause-none c = λ k l.
 
 pub returns-clause-none : goal.returns-clause-none
 returns-clause-none c = λ k l.
-    let from = c.min-from.result in
+    let at = c.loop-at.at in
     let bytes = c.args.bytes.now in
-    let few : c.before_of_64.result ≤ length bytes - from = omega (arith, c.before_of_64.ensures.within, length-take (length bytes - from) (drop from bytes)) in
-    none_on c.args.sentinel from c.loop-at.at c.before_of_64.result (length bytes - from) bytes (omega arith) c.loop-at.invariant.none few c.before_of_64.ensures.none k l
+    let few : c.before_few.result ≤ length bytes - at = omega (arith, c.before_few.ensures.within, length-take (length bytes - at) (drop at bytes)) in
+    none_on c.args.sentinel at at c.before_few.result (length bytes - at) bytes (omega arith) c.loop-at.invariant.none few c.before_few.ensures.none k l
 
 pub returns-then-n-lt64-clause-end : goal.returns-then-n-lt64-clause-end
 returns-then-n-lt64-clause-end c = grind (arith, common_steps)

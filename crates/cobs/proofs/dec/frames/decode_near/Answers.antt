@@ -1,0 +1,147 @@
+use Rattle.std.proofs.Common.{◌≡◌, ◌≢◌, ℕ, zero, suc, ◌+◌, ◌-◌, ◌<◌, ◌≤◌, List, true, [], ◌∷◌, ◌++◌, length, take, drop, get_or, length-drop, Ok, Err, refl, sym, ◌∙◌, ap, subst, arith}
+use Rattle.std.proofs.lemmas.List.{length-take-le, drop_at, take_all, get_or-take, get_or-drop}
+use Rattle.std.proofs.lemmas.Nat.{xor_of_8}
+use Rattle.std.specs.Prelude.{bit_xor}
+use Rattle.cobs.specs.Feeding.{stands_by}
+use Rattle.cobs.specs.Frames.{NoZero, part, part_from, after}
+use Rattle.cobs.specs.InPlace.{stretch, overwritten, written_over}
+use Rattle.cobs.specs.Sentinel.{masked}
+use Rattle.cobs.specs.Taking.{left_in}
+use Rattle.cobs.specs.Whole.{decoded_into}
+use Rattle.cobs.specs.declared.dec.state.DecoderState.{DecoderState}
+use Rattle.cobs.specs.declared.dec.report.DecodeError.TheVariants.{InvalidFrame}
+use Rattle.cobs.proofs.MaskingLemmas.{masked_length, masked_take}
+use Rattle.cobs.proofs.ShortLemmas.{window_whole, window_broken, window_over}
+use Rattle.cobs.proofs.SourcesLemmas.{stretch_front, stretch_clear, clear_at, masked_positive}
+use Rattle.cobs.proofs.WithinLemmas.{written_part}
+use Rattle.cobs.proofs.dec.frames.decode_near.Goals as goal
+use Rattle.cobs.proofs.dec.frames.decode_near.Goals.{After-copy_until-n}
+
+-- the code, and what is behind it
+first_of : (s n : ℕ) (source : List ℕ) → 0 < length source → masked s (take (n + 1) source) ≡ bit_xor s (get_or source 0 0) ∷ masked s (take n (drop 1 source))
+first_of s n [] l = absurd (omega arith)
+first_of s n (b ∷ source) l = let e : n + 1 ≡ suc n = omega arith in rw e refl
+
+none_with : (s n : ℕ) (source : List ℕ) → get_or source 0 0 ≢ s → ((k : ℕ) → k < n → get_or source (1 + k) 0 ≢ s) → (k : ℕ) → k < n + 1 → get_or source k 0 ≢ s
+none_with s n source first behind zero l e = first e
+none_with s n source first behind (suc k) l e = behind k (omega arith) (ap (λ j. get_or source j 0) (omega arith) ∙ e)
+
+module _ (c : After-copy_until-n) where
+  abbrev key : ℕ
+  key = c.args.sentinel
+
+  abbrev source : List ℕ
+  source = c.args.source.now
+
+  abbrev old : List ℕ
+  old = c.args.dest.now
+
+  abbrev mid : List ℕ
+  mid = c.copy_until-n.new.buffer
+
+  abbrev n : ℕ
+  n = c.copy_until-n.result
+
+  abbrev code : ℕ
+  code = bit_xor key (get_or source 0 0)
+
+  abbrev bytes : List ℕ
+  bytes = masked key (take n (drop 1 source))
+
+  all : take (length source - 1) (drop 1 source) ≡ drop 1 source
+  all = take_all (length source - 1) (drop 1 source) (omega (arith, length-drop 1 source))
+
+  within : n + 1 ≤ length source
+  within = omega (arith, c.copy_until-n.ensures.within, ap length all, length-drop 1 source, c.requires.some)
+
+  room : n ≤ length old
+  room = omega (arith, within, c.requires.room)
+
+  byte_at : (k : ℕ) → get_or (take (length source - 1) (drop 1 source)) k 0 ≡ get_or source (1 + k) 0
+  byte_at k = ap (λ b. get_or b k 0) all ∙ get_or-drop 1 source k 0
+
+  none : (k : ℕ) → k < n + 1 → get_or source k 0 ≢ key
+  none = none_with key n source c.requires.begins (λ k l e. c.copy_until-n.ensures.none k l (byte_at k ∙ e))
+
+  ends : n + 1 < length source → get_or source (n + 1) 0 ≡ key
+  ends l = ap (λ j. get_or source j 0) (omega arith) ∙ sym (byte_at n) ∙ c.copy_until-n.ensures.end (omega (arith, l, ap length all, length-drop 1 source))
+
+  first : stretch (masked key source) ≡ code ∷ bytes
+  first = sym (stretch_front key source (n + 1) within none ends) ∙ first_of key n source c.requires.some
+
+  long : length bytes ≡ n
+  long = masked_length key (take n (drop 1 source)) ∙ length-take-le n (drop 1 source) (omega (arith, length-drop 1 source, within))
+
+  clear : NoZero (code ∷ bytes)
+  clear = subst NoZero first (stretch_clear (masked key source))
+
+  put : mid ≡ written_over 0 bytes old
+  put = c.copy_until-n.ensures.buffer ∙ ap (λ b. written_over 0 b old) (masked_take key n (take (length source - 1) (drop 1 source)) ∙ ap (λ b. masked key (take n b)) all)
+
+  there : take n mid ≡ bytes
+  there = ap (take n) put ∙ written_part 0 n bytes old (sym long) (omega arith)
+
+  behind : drop n mid ≡ drop n old
+  behind =
+      let count : 0 + length bytes ≡ n = omega (arith, long) in
+      ap (drop n) put
+      ∙ drop_at bytes (drop (0 + length bytes) old) n long
+      ∙ ap (λ j. drop j old) count
+
+  module _ (out : List ℕ) (state : DecoderState) (size : length out ≡ length (take n mid)) (o : out ≡ part_from (code - 1) true (take n mid)) (s : state ≡ stands_by (after (code - 1) true (take n mid))) where
+    abbrev frame : List ℕ
+    frame = stretch (masked key source)
+
+    out_is : out ≡ part_from (code - 1) true bytes
+    out_is = o ∙ ap (part_from (code - 1) true) there
+
+    state_is : state ≡ stands_by (after (code - 1) true bytes)
+    state_is = s ∙ ap (λ b. stands_by (after (code - 1) true b)) there
+
+    size_is : length out ≡ n
+    size_is = size ∙ ap length there ∙ long
+
+    count : length bytes ≤ 254
+    count = omega (arith, long, within, c.requires.few)
+
+    byte : code < 256
+    byte = xor_of_8 key (get_or source 0 0) c.ranges.sentinel.fits (c.type_inv.source 0).fits
+
+    whole : left_in state ≡ 0 → Ok n ≡ decoded_into (length old) frame
+    whole = window_whole frame bytes code first count clear.0 byte out old n state size_is room out_is state_is
+
+    broken : left_in state ≢ 0 → Err (InvalidFrame n) ≡ decoded_into (length old) frame
+    broken = window_broken frame bytes code first count clear.0 byte out old n state size_is room out_is state_is
+
+    over : out ++ drop n mid ≡ overwritten (part frame) old
+    over = window_over frame bytes code first count clear.0 byte out old n state size_is room out_is state_is _ (ap (λ d. out ++ d) behind)
+
+  end_is : n + 1 ≡ length (stretch (masked key source))
+  end_is = omega (arith, ap length first, long)
+
+pub put_zeros-state-requires-clause-nonzero : goal.put_zeros-state-requires-clause-nonzero
+put_zeros-state-requires-clause-nonzero c =
+    let e = (goal.at.put_zeros-state-requires-clause-nonzero c).After-copy_until-n in
+    λ k q. rw (there e) (clear_at (bytes e) k (clear e).1 (omega (arith, q, ap length (there e))))
+
+pub returns-then-left-eq0-clause-answer : goal.returns-then-left-eq0-clause-answer
+returns-then-left-eq0-clause-answer c =
+    whole (goal.at.returns-then-left-eq0-clause-answer c).After-copy_until-n c.put_zeros-state.new.out c.put_zeros-state.result c.put_zeros-state.auto.out c.put_zeros-state.ensures.out c.put_zeros-state.ensures.state (sym c.left.ensures ∙ c.if-left-eq0.true)
+
+pub returns-else-left-eq0-clause-answer : goal.returns-else-left-eq0-clause-answer
+returns-else-left-eq0-clause-answer c =
+    broken (goal.at.returns-else-left-eq0-clause-answer c).After-copy_until-n c.put_zeros-state.new.out c.put_zeros-state.result c.put_zeros-state.auto.out c.put_zeros-state.ensures.out c.put_zeros-state.ensures.state (λ e. c.if-left-eq0.false (c.left.ensures ∙ e))
+
+pub returns-then-left-eq0-clause-dest : goal.returns-then-left-eq0-clause-dest
+returns-then-left-eq0-clause-dest c =
+    over (goal.at.returns-then-left-eq0-clause-dest c).After-copy_until-n c.put_zeros-state.new.out c.put_zeros-state.result c.put_zeros-state.auto.out c.put_zeros-state.ensures.out c.put_zeros-state.ensures.state
+
+pub returns-else-left-eq0-clause-dest : goal.returns-else-left-eq0-clause-dest
+returns-else-left-eq0-clause-dest c =
+    over (goal.at.returns-else-left-eq0-clause-dest c).After-copy_until-n c.put_zeros-state.new.out c.put_zeros-state.result c.put_zeros-state.auto.out c.put_zeros-state.ensures.out c.put_zeros-state.ensures.state
+
+pub returns-then-left-eq0-clause-end : goal.returns-then-left-eq0-clause-end
+returns-then-left-eq0-clause-end c = end_is (goal.at.returns-then-left-eq0-clause-end c).After-copy_until-n
+
+pub returns-else-left-eq0-clause-end : goal.returns-else-left-eq0-clause-end
+returns-else-left-eq0-clause-end c = end_is (goal.at.returns-else-left-eq0-clause-end c).After-copy_until-n

@@ -1,0 +1,107 @@
+use Rattle.std.proofs.lemmas.Grind.{common_steps}
+use Rattle.std.proofs.Common.{◌≡◌, ◌≢◌, ◌+◌, ◌-◌, ◌<◌, ◌≤◌, ℕ, List, ◌++◌, length, take, drop, get_or, length-take, length-drop, ap, sym, ◌∙◌, inl, inr, refl, arith}
+use Rattle.std.proofs.lemmas.Bool.{cases_lt}
+use Rattle.std.proofs.lemmas.List.{get_or-take, get_or-drop, take-take, take-append-drop, take_all}
+use Rattle.cobs.specs.InPlace.{written_over}
+use Rattle.cobs.specs.Sentinel.{masked}
+use Rattle.cobs.proofs.MaskingLemmas.{masked_take, masked_length}
+use Rattle.cobs.proofs.SourcesLemmas.{clear_byte}
+use Rattle.cobs.proofs.WrittenLemmas.{written_next}
+use Rattle.cobs.proofs.dec.window.copy_until.Goals as goal
+
+-- none before a place, and none of a part from there on
+none_on : (s at n m : ℕ) (bytes : List ℕ) → ((k : ℕ) → k < at → get_or bytes k 0 ≢ s) → n ≤ m → ((k : ℕ) → k < n → get_or (take m (drop at bytes)) k 0 ≢ s) → (k : ℕ) → k < at + n → get_or bytes k 0 ≢ s
+none_on s at n m bytes before few part k q e = elim (cases_lt k at) [
+  | inl a ↦ before k (omega (arith, a)) e
+  | inr a ↦ part (k - at) (omega (arith, a, q)) (get_or-take m (drop at bytes) (k - at) 0 (omega (arith, a, q, few)) ∙ get_or-drop at bytes (k - at) 0 ∙ ap (λ j. get_or bytes j 0) (omega (arith, a)) ∙ e)
+]
+
+-- a further part was written
+more : (s place at m n : ℕ) (bytes old mid new : List ℕ) → mid ≡ written_over place (masked s (take at bytes)) old → n ≤ m → at + n ≤ length bytes → place + length bytes ≤ length old
+    → new ≡ written_over (place + at) (take n (masked s (take m (drop at bytes)))) mid → new ≡ written_over place (masked s (take (at + n) bytes)) old
+more s place at m n bytes old mid new e few w room h =
+    h ∙ ap (λ b. written_over (place + at) b mid) (masked_take s n (take m (drop at bytes)))
+    ∙ written_next s place at at n (place + at) bytes (take n (take m (drop at bytes))) old mid e (take-take n m (drop at bytes) few) (omega arith) (omega arith) w room refl
+
+pub loop-at-init : goal.loop-at-init
+loop-at-init c = record {
+  within = omega arith;
+  none = λ k l. absurd (omega (arith, l));
+  written = sym (ap (λ j. take c.args.place c.args.buffer.now ++ drop j c.args.buffer.now) (omega arith) ∙ take-append-drop c.args.place c.args.buffer.now);
+}
+
+pub loop-at-preserved-then-copy_if_clear : goal.loop-at-preserved-then-copy_if_clear
+loop-at-preserved-then-copy_if_clear c =
+    let s = c.args.sentinel in
+    let at = c.loop-at.at in
+    let bytes = c.args.bytes.now in
+    let m : ℕ = at + 64 - at in
+    let part = take m (drop at bytes) in
+    let long : length part ≡ 64 = omega (arith, length-take m (drop at bytes), length-drop at bytes, c.loop-at-test.true, c.loop-at.invariant.within) in
+    let clear = c.copy_if_clear.ensures.clear c.if-copy_if_clear.true in
+    let all : take 64 (masked s part) ≡ masked s part = take_all 64 (masked s part) (omega (arith, masked_length s part, long)) in
+    record {
+      within = omega (arith, c.loop-at-test.true, c.loop-at.invariant.within);
+      none = λ k l. none_on s at 64 m bytes c.loop-at.invariant.none (omega arith) (λ j q. clear_byte s part j (omega (arith, q, long)) (clear j q)) k l;
+      written =
+          more s c.args.place at m 64 bytes c.args.buffer.now c.loop-at.buffer c.copy_if_clear.new.buffer c.loop-at.invariant.written (omega arith) (omega (arith, c.loop-at-test.true, c.loop-at.invariant.within)) c.requires
+          (c.copy_if_clear.ensures.copied c.if-copy_if_clear.true ∙ ap (λ b. written_over (c.args.place + at) b c.loop-at.buffer) (sym all));
+    }
+
+-- what was written of a part that may hold the sentinel
+part_written : (s place at m n : ℕ) (bytes old mid again new : List ℕ) → mid ≡ written_over place (masked s (take at bytes)) old → again ≡ mid → n ≤ m → at + n ≤ length bytes → place + length bytes ≤ length old
+    → new ≡ written_over (place + at) (take n (masked s (take m (drop at bytes)))) again → new ≡ written_over place (masked s (take (at + n) bytes)) old
+part_written s place at m n bytes old mid again new e same few w room h =
+    more s place at m n bytes old mid new e few w room (h ∙ ap (written_over (place + at) (take n (masked s (take m (drop at bytes))))) same)
+
+pub loop-at-preserved : goal.loop-at-preserved
+loop-at-preserved c =
+    let s = c.args.sentinel in
+    let at = c.loop-at.at in
+    let bytes = c.args.bytes.now in
+    let m : ℕ = at + 64 - at in
+    let n = c.copy_few_until-n.result in
+    let long : length (take m (drop at bytes)) ≤ 64 = omega (arith, length-take m (drop at bytes)) in
+    let all : n ≡ 64 = omega (arith, c.if-n-lt64.false, c.copy_few_until-n.ensures.within, long) in
+    record {
+      within = omega (arith, c.loop-at-test.true, c.loop-at.invariant.within);
+      none = λ k l. none_on s at n m bytes c.loop-at.invariant.none (omega (arith, all)) c.copy_few_until-n.ensures.none k (omega (arith, l, all));
+      written =
+          part_written s c.args.place at m n bytes c.args.buffer.now c.loop-at.buffer c.copy_if_clear.new.buffer c.copy_few_until-n.new.buffer c.loop-at.invariant.written (c.copy_if_clear.ensures.same c.if-copy_if_clear.false) (omega (arith, all)) (omega (arith, all, c.loop-at-test.true, c.loop-at.invariant.within)) c.requires c.copy_few_until-n.ensures.buffer
+          ∙ ap (λ j. written_over c.args.place (masked s (take (at + j) bytes)) c.args.buffer.now) all;
+    }
+
+pub returns-then-n-lt64-clause-none : goal.returns-then-n-lt64-clause-none
+returns-then-n-lt64-clause-none c = λ k l.
+    let at = c.loop-at.at in
+    none_on c.args.sentinel at c.copy_few_until-n.result (at + 64 - at) c.args.bytes.now c.loop-at.invariant.none (omega (arith, c.if-n-lt64.true)) c.copy_few_until-n.ensures.none k l
+
+pub returns-then-n-lt64-clause-end : goal.returns-then-n-lt64-clause-end
+returns-then-n-lt64-clause-end c = grind (arith, common_steps)
+
+pub returns-then-n-lt64-clause-buffer : goal.returns-then-n-lt64-clause-buffer
+returns-then-n-lt64-clause-buffer c =
+    let s = c.args.sentinel in
+    let at = c.loop-at.at in
+    let n = c.copy_few_until-n.result in
+    part_written s c.args.place at (at + 64 - at) n c.args.bytes.now c.args.buffer.now c.loop-at.buffer c.copy_if_clear.new.buffer c.copy_few_until-n.new.buffer c.loop-at.invariant.written (c.copy_if_clear.ensures.same c.if-copy_if_clear.false) (omega (arith, c.if-n-lt64.true)) (omega (arith, c.if-n-lt64.true, c.loop-at-test.true, c.loop-at.invariant.within)) c.requires c.copy_few_until-n.ensures.buffer
+    ∙ ap (λ b. written_over c.args.place b c.args.buffer.now) (sym (masked_take s (at + n) c.args.bytes.now))
+
+pub returns-clause-none : goal.returns-clause-none
+returns-clause-none c = λ k l.
+    let at = c.loop-at.at in
+    let bytes = c.args.bytes.now in
+    let few : c.copy_few_until.result ≤ length bytes - at = omega (arith, c.copy_few_until.ensures.within, length-take (length bytes - at) (drop at bytes)) in
+    none_on c.args.sentinel at c.copy_few_until.result (length bytes - at) bytes c.loop-at.invariant.none few c.copy_few_until.ensures.none k l
+
+pub returns-clause-end : goal.returns-clause-end
+returns-clause-end c = grind (arith, common_steps)
+
+pub returns-clause-buffer : goal.returns-clause-buffer
+returns-clause-buffer c =
+    let at = c.loop-at.at in
+    let bytes = c.args.bytes.now in
+    let n = c.copy_few_until.result in
+    let few : n ≤ length bytes - at = omega (arith, c.copy_few_until.ensures.within, length-take (length bytes - at) (drop at bytes)) in
+    more c.args.sentinel c.args.place at (length bytes - at) n bytes c.args.buffer.now c.loop-at.buffer c.copy_few_until.new.buffer c.loop-at.invariant.written few (omega (arith, few, c.loop-at.invariant.within)) c.requires c.copy_few_until.ensures.buffer
+    ∙ ap (λ b. written_over c.args.place b c.args.buffer.now) (sym (masked_take c.args.sentinel (at + n) bytes))
