@@ -9,7 +9,9 @@ ghost use Rattle.cobs.specs.Codes.{InBlock, Coded, Marks, Stepped};
 ghost use Rattle.cobs.specs.InPlace.{written_over};
 ghost use Rattle.cobs.specs.Sentinel.{masked};
 
-use crate::moves::{copy_clear, copy_clear_64, copy_few, ones_64, zeros_of, zeros_of_few};
+use crate::moves::{
+    copy_64, copy_clear, copy_clear_64, copy_few, ones_64, zeros_of, zeros_of_some,
+};
 use std::simd::prelude::*;
 
 // Writes a code at each zero of bytes that stand in the open block, from a place on, and answers where the last code is to be.
@@ -126,22 +128,23 @@ fn put_codes_of_64_zeros(
     from + 63
 }
 
-// The same as `put_codes_near`, of 64 bytes.
+// The same as `put_codes_marked`, of 64 bytes: if all are zero they are filled at once.
 #[inline(always)]
 fn put_codes_of_64(
     dest: &mut [u8],
     code_at: usize,
     from: usize,
     bytes: &[u8],
+    marks: u64,
     sentinel: u8,
 ) -> usize
     requires block { InBlock dest.old code_at from bytes.now }
     requires long { length bytes.now ≡ 64 }
+    requires marks { Marks marks 0 bytes.now }
     requires stands { masked sentinel (take (length bytes.now) (drop from dest.old)) ≡ bytes.now }
     ensures { Coded (masked sentinel dest.old) code_at from bytes.now
         (masked sentinel dest.new) result }
 {
-    let marks = zeros_of_64(bytes);
     if marks == u64::MAX {
         put_codes_of_64_zeros(dest, code_at, from, bytes, sentinel)
     } else {
@@ -203,11 +206,7 @@ pub(crate) fn put_codes_standing(
         (masked sentinel (take n (drop from dest.old))) (masked sentinel dest.new) result }
 {
     let bytes = &dest[from..from + n];
-    let marks = if n < 8 {
-        zeros_of_few(bytes, sentinel)
-    } else {
-        zeros_of(bytes, sentinel)
-    };
+    let marks = zeros_of_some(bytes, sentinel);
     put_codes_marked(dest, code_at, from, n, marks, sentinel)
 }
 
@@ -222,7 +221,41 @@ fn put_64(dest: &mut [u8], code_at: usize, from: usize, bytes: &[u8], sentinel: 
     if copy_clear_64(bytes, dest, from, sentinel) {
         code_at
     } else {
-        put_codes_of_64(dest, code_at, from, bytes, sentinel)
+        put_codes_of_64(dest, code_at, from, bytes, zeros_of_64(bytes), sentinel)
+    }
+}
+
+// The same where zeros are likely: they are marked at once, by the loads that are copied.
+#[inline(always)]
+fn put_64_marked(dest: &mut [u8], code_at: usize, from: usize, bytes: &[u8], sentinel: u8) -> usize
+    requires block { InBlock dest.old code_at from bytes.now }
+    requires long { length bytes.now ≡ 64 }
+    ensures { Stepped (masked sentinel dest.old) code_at from bytes.now
+        (masked sentinel dest.new) result }
+{
+    let marks = zeros_of_64(bytes);
+    copy_64(bytes, dest, from, sentinel);
+    put_codes_of_64(dest, code_at, from, bytes, marks, sentinel)
+}
+
+// The same by the first way for the number 0, else by the second.
+#[inline(always)]
+fn put_64_by<const WAY: usize>(
+    dest: &mut [u8],
+    code_at: usize,
+    from: usize,
+    bytes: &[u8],
+    sentinel: u8,
+) -> usize
+    requires block { InBlock dest.old code_at from bytes.now }
+    requires long { length bytes.now ≡ 64 }
+    ensures { Stepped (masked sentinel dest.old) code_at from bytes.now
+        (masked sentinel dest.new) result }
+{
+    if WAY == 0 {
+        put_64(dest, code_at, from, bytes, sentinel)
+    } else {
+        put_64_marked(dest, code_at, from, bytes, sentinel)
     }
 }
 
@@ -245,7 +278,13 @@ fn put_short(dest: &mut [u8], code_at: usize, from: usize, bytes: &[u8], sentine
 
 // The same of any bytes.
 #[inline(always)]
-fn put_bytes(dest: &mut [u8], code_at: usize, from: usize, bytes: &[u8], sentinel: u8) -> usize
+fn put_bytes<const WAY: usize>(
+    dest: &mut [u8],
+    code_at: usize,
+    from: usize,
+    bytes: &[u8],
+    sentinel: u8,
+) -> usize
     requires block { InBlock dest.old code_at from bytes.now }
     requires some { 0 < length bytes.now }
     ensures { Stepped (masked sentinel dest.old) code_at from bytes.now
@@ -256,7 +295,7 @@ fn put_bytes(dest: &mut [u8], code_at: usize, from: usize, bytes: &[u8], sentine
     let mut rest = bytes;
     while 64 < rest.len() {
         let (front, after) = rest.split_at(64);
-        code = put_64(dest, code, at, front, sentinel);
+        code = put_64_by::<WAY>(dest, code, at, front, sentinel);
         at += 64;
         rest = after;
     }
@@ -282,7 +321,7 @@ fn put_full_block(dest: &mut [u8], from: usize, bytes: &[u8], sentinel: u8) -> b
 
 // The same as `put_bytes`, of the bytes of a block: those of a full one are copied as they are looked at.
 #[inline(always)]
-pub(crate) fn put_block(
+pub(crate) fn put_block<const WAY: usize>(
     dest: &mut [u8],
     code_at: usize,
     from: usize,
@@ -297,6 +336,6 @@ pub(crate) fn put_block(
     if put_full_block(dest, from, bytes, sentinel) {
         code_at
     } else {
-        put_bytes(dest, code_at, from, bytes, sentinel)
+        put_bytes::<WAY>(dest, code_at, from, bytes, sentinel)
     }
 }

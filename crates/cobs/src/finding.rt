@@ -105,19 +105,6 @@ fn before_far(bytes: &[u8], sentinel: u8) -> usize
     256 + memchr(sentinel, rest).unwrap_or(rest.len())
 }
 
-// The same of many bytes whose first 256 hold none.
-#[inline(always)]
-pub(crate) fn before_behind(bytes: &[u8], sentinel: u8) -> usize
-    requires many { 256 ≤ length bytes.now }
-    requires clear { (k : ℕ) → k < 256 → slice_index bytes.now k ≢ sentinel }
-    ensures within { result ≤ length bytes.now }
-    ensures none { (k : ℕ) → k < result → slice_index bytes.now k ≢ sentinel }
-    ensures end { result < length bytes.now → slice_index bytes.now result ≡ sentinel }
-{
-    let (_front, behind) = bytes.split_at(256);
-    256 + memchr(sentinel, behind).unwrap_or(behind.len())
-}
-
 // The same of any number, by what is quicker.
 #[inline(always)]
 fn before_many(bytes: &[u8], sentinel: u8) -> usize

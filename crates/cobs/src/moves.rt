@@ -382,16 +382,6 @@ pub(crate) fn zeros_of(bytes: &[u8], sentinel: u8) -> u64
     }
 }
 
-// The same of 4 to 8 bytes.
-#[inline(always)]
-pub(crate) fn zeros_of_few(bytes: &[u8], sentinel: u8) -> u64
-    requires some { 4 ≤ length bytes.now }
-    requires few { length bytes.now ≤ 8 }
-    ensures { Marks result 0 (masked sentinel bytes.now) }
-{
-    zeros_of_ends::<4>(bytes, sentinel)
-}
-
 // The same of 4 to 64 bytes.
 #[inline(always)]
 pub(crate) fn zeros_of_some(bytes: &[u8], sentinel: u8) -> u64
@@ -402,7 +392,7 @@ pub(crate) fn zeros_of_some(bytes: &[u8], sentinel: u8) -> u64
     if 8 <= bytes.len() {
         zeros_of(bytes, sentinel)
     } else {
-        zeros_of_few(bytes, sentinel)
+        zeros_of_ends::<4>(bytes, sentinel)
     }
 }
 

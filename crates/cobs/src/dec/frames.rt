@@ -185,34 +185,10 @@ fn decode_near(source: &[u8], dest: &mut [u8], sentinel: u8) -> (Result<usize, D
     }
 }
 
-// Decodes the bytes of a source before its first zero: it doesn't begin with one, and there is room for all of it. Also answers how
-// many they are.
+// Decodes the bytes of a source before its first sentinel, each XORed with it: it doesn't begin with one, and there is room for all
+// of it. Also answers how many they are.
 #[inline(always)]
-pub(crate) fn decode_source(source: &[u8], dest: &mut [u8]) -> (Result<usize, DecodeError>, usize)
-    requires some { 0 < length source.now }
-    requires room { length source.now ≤ length dest.old + 1 }
-    requires begins { slice_index source.now 0 ≢ 0 }
-    ensures end { result.1 ≡ length (stretch (masked 0 source.now)) }
-    ensures some { 0 < result.1 }
-    ensures within { result.1 ≤ length source.now }
-    ensures answer { result.0
-        ≡ decoded_into (length dest.old) (stretch (masked 0 source.now)) }
-    ensures dest { dest.new ≡ overwritten (part (stretch (masked 0 source.now))) dest.old }
-{
-    if is_short(source, 0) {
-        return decode_near(source, dest, 0);
-    }
-    let (Progress { state, len }, end) = take_source::<0>(source, dest, 0);
-    if state.left() == 0 {
-        (Ok(len), end)
-    } else {
-        (Err(DecodeError::InvalidFrame { decoded_bytes: len }), end)
-    }
-}
-
-// The same of the bytes before the first sentinel, each XORed with it.
-#[inline(always)]
-pub(crate) fn decode_source_masked(
+pub(crate) fn decode_source<const COPY: usize>(
     source: &[u8],
     dest: &mut [u8],
     sentinel: u8,
@@ -230,7 +206,7 @@ pub(crate) fn decode_source_masked(
     if is_short(source, sentinel) {
         return decode_near(source, dest, sentinel);
     }
-    let (Progress { state, len }, end) = take_source::<1>(source, dest, sentinel);
+    let (Progress { state, len }, end) = take_source::<COPY>(source, dest, sentinel);
     if state.left() == 0 {
         (Ok(len), end)
     } else {

@@ -6,10 +6,10 @@ ghost use Rattle.cobs.specs.InPlace.{stretch, overwritten};
 ghost use Rattle.cobs.specs.Sentinel.{masked};
 ghost use Rattle.cobs.specs.Whole.{unpadded, frame_in, decoded_from, decoded_into};
 
-use super::frames::{decode_counted, decode_source, decode_source_masked, decode_whole};
+use super::frames::{decode_counted, decode_source, decode_whole};
 use super::progress::Progress;
 use super::report::{DecodeError, DecodeReport};
-use crate::finding::{before_behind, before_by_64, before_few, before_sentinel};
+use crate::finding::{before_by_64, before_few, before_sentinel};
 use crate::moves::are_all;
 
 // The bytes before the first one that is the sentinel.
@@ -28,17 +28,6 @@ fn before_end_few(bytes: &[u8], sentinel: u8) -> &[u8]
     ensures within { length result.now ≤ length bytes.now }
 {
     &bytes[..before_few(bytes, sentinel)]
-}
-
-// The same of many bytes whose first 256 hold none.
-#[inline(always)]
-fn far_frame(bytes: &[u8], sentinel: u8) -> &[u8]
-    requires many { 256 ≤ length bytes.now }
-    requires clear { (k : ℕ) → k < 256 → slice_index bytes.now k ≢ sentinel }
-    ensures frame { masked sentinel result.now ≡ stretch (masked sentinel bytes.now) }
-    ensures within { length result.now ≤ length bytes.now }
-{
-    &bytes[..before_behind(bytes, sentinel)]
 }
 
 // The same of more than 64 bytes, where they are fewer than 256.
@@ -153,7 +142,7 @@ fn decode_long(source: &[u8], rest: &[u8], dest: &mut [u8]) -> Result<DecodeRepo
     ensures answer { result ≡ decoded_from (length dest.old) source.now }
     ensures dest { dest.new ≡ overwritten (part (frame_in source.now)) dest.old }
 {
-    let (answer, end) = decode_source(rest, dest);
+    let (answer, end) = decode_source::<0>(rest, dest, 0);
     match answer {
         Ok(decoded) => Ok(DecodeReport {
             parsed: source.len().min(source.len() - rest.len() + end + 1),
@@ -184,39 +173,6 @@ fn decode_searched_apart(source: &[u8], dest: &mut [u8]) -> Result<DecodeReport,
     ensures dest { dest.new ≡ overwritten (part (frame_in source.now)) dest.old }
 {
     match decode_searched(source, dest) {
-        Ok(DecodeReport { parsed, decoded }) => Ok(DecodeReport { parsed, decoded }),
-        Err(error) => Err(error),
-    }
-}
-
-// As `decode`, of a source whose first 256 bytes behind leading zeros hold no zero.
-#[inline(never)]
-fn decode_far(source: &[u8], rest: &[u8], dest: &mut [u8]) -> Result<DecodeReport, DecodeError>
-    requires rest { rest.now ≡ unpadded source.now }
-    requires within { length rest.now ≤ length source.now }
-    requires many { 256 ≤ length rest.now }
-    requires clear { (k : ℕ) → k < 256 → slice_index rest.now k ≢ 0 }
-    ensures answer { result ≡ decoded_from (length dest.old) source.now }
-    ensures dest { dest.new ≡ overwritten (part (frame_in source.now)) dest.old }
-{
-    decode_found(source, rest, far_frame(rest, 0), dest)
-}
-
-// The same, with an answer that isn't handed to a call.
-#[inline(always)]
-fn decode_far_apart(
-    source: &[u8],
-    rest: &[u8],
-    dest: &mut [u8],
-) -> Result<DecodeReport, DecodeError>
-    requires rest { rest.now ≡ unpadded source.now }
-    requires within { length rest.now ≤ length source.now }
-    requires many { 256 ≤ length rest.now }
-    requires clear { (k : ℕ) → k < 256 → slice_index rest.now k ≢ 0 }
-    ensures answer { result ≡ decoded_from (length dest.old) source.now }
-    ensures dest { dest.new ≡ overwritten (part (frame_in source.now)) dest.old }
-{
-    match decode_far(source, rest, dest) {
         Ok(DecodeReport { parsed, decoded }) => Ok(DecodeReport { parsed, decoded }),
         Err(error) => Err(error),
     }
@@ -257,7 +213,7 @@ fn decode_begun(source: &[u8], rest: &[u8], dest: &mut [u8]) -> Result<DecodeRep
     if has_room(rest, dest.len()) {
         decode_long(source, rest, dest)
     } else {
-        decode_far_apart(source, rest, dest)
+        decode_searched_apart(source, dest)
     }
 }
 
@@ -304,9 +260,12 @@ pub(crate) fn decode_clear(
     ensures dest { dest.new ≡ overwritten (part (masked sentinel frame.now)) dest.old }
 {
     if has_room(frame, dest.len()) {
-        decode_whole(frame, dest, sentinel)
-    } else {
-        decode_counted(frame, dest, sentinel)
+        return decode_whole(frame, dest, sentinel);
+    }
+    // An answer that isn't handed to a call: the quicker way keeps its own in registers.
+    match decode_counted(frame, dest, sentinel) {
+        Ok(len) => Ok(len),
+        Err(error) => Err(error),
     }
 }
 
@@ -320,9 +279,10 @@ fn decode_far_stretch(source: &[u8], dest: &mut [u8], sentinel: u8) -> Result<us
     ensures dest { dest.new ≡ overwritten (part (stretch (masked sentinel source.now))) dest.old }
 {
     if has_room(source, dest.len()) {
-        return decode_source_masked(source, dest, sentinel).0;
+        return decode_source::<1>(source, dest, sentinel).0;
     }
-    decode_clear(far_frame(source, sentinel), dest, sentinel)
+    let frame = before(source, sentinel);
+    decode_clear(frame, dest, sentinel)
 }
 
 // As `decode_with_sentinel`.
@@ -336,11 +296,14 @@ fn decode_stretch(source: &[u8], dest: &mut [u8], sentinel: u8) -> Result<usize,
         return decode_clear(before_end_few(source, sentinel), dest, sentinel);
     }
     if source.len() <= 255 && source[0] != sentinel && has_room(source, dest.len()) {
-        return decode_source_masked(source, dest, sentinel).0;
+        return decode_source::<1>(source, dest, sentinel).0;
     }
     match near_frame(source, sentinel) {
         Some(frame) => decode_clear(frame, dest, sentinel),
-        None => decode_far_stretch(source, dest, sentinel),
+        None => match decode_far_stretch(source, dest, sentinel) {
+            Ok(len) => Ok(len),
+            Err(error) => Err(error),
+        },
     }
 }
 

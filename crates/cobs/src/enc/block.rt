@@ -14,9 +14,15 @@ pub(crate) struct Place {
 }
 
 // Copies a piece into the open block, which has place for it, and writes a code at each of its zeros. Whatever is written here
-// is XORed with the sentinel, so the contracts speak of the buffer as it is without that: masked once more.
+// is XORed with the sentinel, so the contracts speak of the buffer as it is without that: masked once more. The number says which
+// way 64 bytes go: 0 where few are coded.
 #[inline(always)]
-pub(crate) fn put_run(dest: &mut [u8], at: Place, piece: &[u8], sentinel: u8) -> Place
+pub(crate) fn put_run<const WAY: usize>(
+    dest: &mut [u8],
+    at: Place,
+    piece: &[u8],
+    sentinel: u8,
+) -> Place
     requires laid { Laid (masked sentinel dest.old) at.code_at at.len }
     requires room { at.len + length piece.now ≤ length dest.old }
     requires short { at.len + length piece.now ≤ at.code_at + 255 }
@@ -24,7 +30,7 @@ pub(crate) fn put_run(dest: &mut [u8], at: Place, piece: &[u8], sentinel: u8) ->
     ensures holds { GoesOnBy (masked sentinel dest.old) at.code_at at.len piece.now
         (masked sentinel dest.new) result.code_at result.len }
 {
-    let code_at = put_block(dest, at.code_at, at.len, piece, sentinel);
+    let code_at = put_block::<WAY>(dest, at.code_at, at.len, piece, sentinel);
     let end = at.len + piece.len();
     dest[code_at] = sentinel ^ (end - code_at) as u8;
     Place { code_at, len: end }
@@ -65,7 +71,7 @@ pub(crate) fn put_first(dest: &mut [u8], piece: &[u8], sentinel: u8) -> Place
     ensures holds { GoesOnBy (masked sentinel dest.old) 0 1 piece.now
         (masked sentinel dest.new) result.code_at result.len }
 {
-    put_run(dest, Place { code_at: 0, len: 1 }, piece, sentinel)
+    put_run::<0>(dest, Place { code_at: 0, len: 1 }, piece, sentinel)
 }
 
 // Puts a front of the bytes behind the frame, as far as the last block goes, and answers how many. A full block is closed only
@@ -97,13 +103,13 @@ fn put_front<const COPY: usize>(
             len: at.len + 1,
         };
         let n = bytes.len().min(254);
-        Some((put_run(dest, open, &bytes[..n], sentinel), n))
+        Some((put_run::<1>(dest, open, &bytes[..n], sentinel), n))
     } else {
         if dest.len() - at.len < bytes.len() {
             return None;
         }
         let n = bytes.len().min(at.code_at + 255 - at.len);
-        Some((put_run(dest, at, &bytes[..n], sentinel), n))
+        Some((put_run::<1>(dest, at, &bytes[..n], sentinel), n))
     }
 }
 

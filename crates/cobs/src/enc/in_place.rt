@@ -6,6 +6,7 @@ ghost use Rattle.cobs.specs.Sentinel.{masked, frame_for};
 
 use crate::codes::put_codes_standing;
 use crate::masks::mask;
+use crate::moves::is_clear;
 
 /// Makes the frame of a message of n bytes, 254 at most, where it stands: in the buffer behind its first byte, which may be any.
 /// Answers the frame's length, n + 1. What the buffer holds behind the frame isn't stated.
@@ -77,6 +78,9 @@ fn put_front_codes(
         (masked sentinel (take result.1 (drop from buffer.old)))
         (masked sentinel buffer.new) result.0 }
 {
+    if 64 <= left && is_clear(&buffer[from..from + 64], sentinel) {
+        return (code_at, 64);
+    }
     if left < 4 {
         (put_code(buffer, code_at, from, sentinel), 1)
     } else {

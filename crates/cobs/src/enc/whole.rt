@@ -7,6 +7,7 @@ use super::DestBufTooSmallError;
 use super::block::{Place, put_few, put_run};
 use super::encoder::CobsEncoder;
 use crate::max_encoding_length;
+use crate::moves::is_clear_255;
 use memchr::memrchr;
 use std::alloc::{AllocError, Global};
 
@@ -69,7 +70,7 @@ fn encode_block(source: &[u8], dest: &mut [u8], sentinel: u8) -> usize
     ensures frame { take result dest.new ≡ frame_for sentinel source.now }
 {
     dest[0] = sentinel ^ 1;
-    put_run(dest, Place { code_at: 0, len: 1 }, source, sentinel).len
+    put_run::<0>(dest, Place { code_at: 0, len: 1 }, source, sentinel).len
 }
 
 // The same of any bytes: they are pushed.
@@ -125,6 +126,12 @@ pub fn encoded_length(source: &[u8]) -> usize
     // A byte behind 254 nonzero ones costs a further code. Every other code but the first stands in place of a zero.
     while rest.len() > 254 {
         let (run, behind) = rest.split_at(254);
+        // A full run is seen at once.
+        if is_clear_255(&rest[..255], 0) {
+            full_runs += 1;
+            rest = behind;
+            continue;
+        }
         rest = match memrchr(0, run) {
             Some(zero) => &rest[zero + 1..],
             None => {

@@ -4,7 +4,7 @@ use Rattle.cobs.specs.Sentinel.{masked}
 use Rattle.cobs.proofs.codes.put_bytes.Given as goal
 
 abbrev pub invariant-loop-rest : goal.invariant-loop-rest
-invariant-loop-rest l = record {
+invariant-loop-rest g l = record {
   later : l.fn.code_at ≤ l.code;
   begins : l.code < l.at;
   end : l.at + length l.rest ≡ l.fn.from + length l.fn.bytes;
@@ -13,4 +13,4 @@ invariant-loop-rest l = record {
 }
 
 abbrev pub decreases-loop-rest : goal.decreases-loop-rest
-decreases-loop-rest l = length l.rest
+decreases-loop-rest g l = length l.rest

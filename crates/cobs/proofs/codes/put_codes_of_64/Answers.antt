@@ -6,4 +6,4 @@ use Rattle.cobs.proofs.codes.put_codes_of_64.Goals as goal
 pub put_codes_of_64_zeros-requires-clause-zeros : goal.put_codes_of_64_zeros-requires-clause-zeros
 put_codes_of_64_zeros-requires-clause-zeros c = λ k l.
     let bit : bit_at (2 ^ 64 - 1) k ≡ 1 = bit_at_ones 64 k (omega (arith, c.requires.long)) in
-    c.zeros_of_64-marks.ensures.zeros k (subst (λ x. bit_at x k ≡ 1) (sym c.if-marks.true) bit)
+    c.requires.marks.zeros k (subst (λ x. bit_at x k ≡ 1) (sym c.if-marks-eq18446744073709551615.true) bit)

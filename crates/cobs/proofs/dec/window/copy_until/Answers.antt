@@ -1,20 +1,13 @@
 use Rattle.std.proofs.lemmas.Grind.{common_steps}
-use Rattle.std.proofs.Common.{◌≡◌, ◌≢◌, ◌+◌, ◌-◌, ◌<◌, ◌≤◌, ℕ, List, ◌++◌, length, take, drop, get_or, length-take, length-drop, ap, sym, ◌∙◌, inl, inr, refl, arith}
-use Rattle.std.proofs.lemmas.Bool.{cases_lt}
-use Rattle.std.proofs.lemmas.List.{get_or-take, get_or-drop, take-take, take-append-drop, take_all}
+use Rattle.std.proofs.Common.{◌≡◌, ◌≢◌, ◌+◌, ◌-◌, ◌<◌, ◌≤◌, ℕ, List, ◌++◌, length, take, drop, get_or, length-take, length-drop, ap, sym, ◌∙◌, refl, arith}
+use Rattle.std.proofs.lemmas.List.{take-take, take-append-drop, take_all}
 use Rattle.cobs.specs.InPlace.{written_over}
 use Rattle.cobs.specs.Sentinel.{masked}
 use Rattle.cobs.proofs.MaskingLemmas.{masked_take, masked_length}
+use Rattle.cobs.proofs.SearchingLemmas.{none_on}
 use Rattle.cobs.proofs.SourcesLemmas.{clear_byte}
 use Rattle.cobs.proofs.WrittenLemmas.{written_next}
 use Rattle.cobs.proofs.dec.window.copy_until.Goals as goal
-
--- none before a place, and none of a part from there on
-none_on : (s at n m : ℕ) (bytes : List ℕ) → ((k : ℕ) → k < at → get_or bytes k 0 ≢ s) → n ≤ m → ((k : ℕ) → k < n → get_or (take m (drop at bytes)) k 0 ≢ s) → (k : ℕ) → k < at + n → get_or bytes k 0 ≢ s
-none_on s at n m bytes before few part k q e = elim (cases_lt k at) [
-  | inl a ↦ before k (omega (arith, a)) e
-  | inr a ↦ part (k - at) (omega (arith, a, q)) (get_or-take m (drop at bytes) (k - at) 0 (omega (arith, a, q, few)) ∙ get_or-drop at bytes (k - at) 0 ∙ ap (λ j. get_or bytes j 0) (omega (arith, a)) ∙ e)
-]
 
 -- a further part was written
 more : (s place at m n : ℕ) (bytes old mid new : List ℕ) → mid ≡ written_over place (masked s (take at bytes)) old → n ≤ m → at + n ≤ length bytes → place + length bytes ≤ length old

@@ -5,7 +5,7 @@ use Rattle.cobs.proofs.SteppingLemmas.{open_new}
 use Rattle.cobs.proofs.enc.block.put_run.Goals as goal
 
 pub returns : goal.returns
-returns c = record {
+returns g c = record {
   holds = λ m g.
       let s = c.args.sentinel in
       rw (masked_put s c.put_block-code_at.new.dest c.put_block-code_at.result _)

@@ -1,6 +1,9 @@
-use Rattle.std.proofs.Common.{◌∙◌, arith}
-use Rattle.std.proofs.lemmas.List.{take_rest}
+use Rattle.std.proofs.Common.{◌≡◌, ◌<◌, ◌∙◌, get_or, length, take, length-take, ap, arith}
+use Rattle.std.proofs.lemmas.Bool.{eqb-true}
+use Rattle.std.proofs.lemmas.List.{take_rest, get_or-take}
+use Rattle.cobs.specs.Sentinel.{masked}
 use Rattle.cobs.proofs.LengthsLemmas.{counted_none, counted_zero, counted_full, counted_few, counted_all, frame_at_most, frame_reaches}
+use Rattle.cobs.proofs.MaskingLemmas.{masked_zero}
 use Rattle.cobs.proofs.enc.whole.encoded_length.Goals as goal
 
 pub loop-rest-init : goal.loop-rest-init
@@ -13,6 +16,16 @@ pub loop-rest-preserved-in-Some : goal.loop-rest-preserved-in-Some
 loop-rest-preserved-in-Some c =
     let found = c.in-Some.ensures in
     rw take_rest (counted_zero _ _ _ _ c.in-Some.zero (omega arith) c.split_at.ensures.front found.0.high found.1 c.loop-rest.invariant)
+
+pub loop-rest-preserved-then-is_clear_255 : goal.loop-rest-preserved-then-is_clear_255
+loop-rest-preserved-then-is_clear_255 c =
+    let rest = c.loop-rest.rest.now in
+    let run = c.split_at.result.0.now in
+    rw c.split_at.ensures.back (counted_full _ _ _ _ (omega arith) c.split_at.ensures.front (λ k l t.
+    let few : k < 254 = omega (arith, l, ap length c.split_at.ensures.front, length-take 254 rest) in
+    let here : get_or run k 0 ≡ get_or rest k 0 = ap (λ b. get_or b k 0) c.split_at.ensures.front ∙ get_or-take 254 rest k 0 few in
+    let seen : get_or (masked 0 (take 255 rest)) k 0 ≡ get_or rest k 0 = ap (λ b. get_or b k 0) (masked_zero (take 255 rest)) ∙ get_or-take 255 rest k 0 (omega (arith, few)) in
+    omega (arith, here, seen, eqb-true _ _ t, c.is_clear_255.ensures c.if-is_clear_255.true k (omega (arith, few)))) c.loop-rest.invariant)
 
 pub loop-rest-preserved : goal.loop-rest-preserved
 loop-rest-preserved c =

@@ -1,0 +1,11 @@
+-- Where a sentinel is sought part by part.
+use Rattle.std.proofs.Common.{◌≢◌, ◌+◌, ◌-◌, ◌<◌, ◌≤◌, ℕ, List, take, drop, get_or, ap, ◌∙◌, inl, inr, arith}
+use Rattle.std.proofs.lemmas.Bool.{cases_lt}
+use Rattle.std.proofs.lemmas.List.{get_or-take, get_or-drop}
+
+-- none before a place, and none of a part from there on
+pub none_on : (s at n m : ℕ) (bytes : List ℕ) → ((k : ℕ) → k < at → get_or bytes k 0 ≢ s) → n ≤ m → ((k : ℕ) → k < n → get_or (take m (drop at bytes)) k 0 ≢ s) → (k : ℕ) → k < at + n → get_or bytes k 0 ≢ s
+none_on s at n m bytes before few part k q e = elim (cases_lt k at) [
+  | inl a ↦ before k (omega (arith, a)) e
+  | inr a ↦ part (k - at) (omega (arith, a, q)) (get_or-take m (drop at bytes) (k - at) 0 (omega (arith, a, q, few)) ∙ get_or-drop at bytes (k - at) 0 ∙ ap (λ j. get_or bytes j 0) (omega (arith, a)) ∙ e)
+]
