@@ -191,16 +191,16 @@ pub struct Found {
     pub sum: u64,
 }
 
-/// Pushes a piece, then the rest of it behind each message.
+/// Pushes a piece, then the rest of it behind each message, which takes a byte at least.
 fn push_piece(decoder: &mut CobsDecoder<'_>, piece: &[u8], found: &mut Found) {
     let mut rest = piece;
-    for _ in 0..=piece.len() {
+    while !rest.is_empty() {
         match decoder.push(rest) {
             Ok(None) => return,
             Ok(Some(report)) => {
                 found.values = found.values.wrapping_add(1);
                 found.sum = found.sum.wrapping_add(report.frame_size() as u64);
-                rest = &rest[report.parsed_size()..];
+                rest = &rest[report.parsed_size().max(1)..];
             }
             Err(_) => {
                 found.refused = found.refused.wrapping_add(1);
