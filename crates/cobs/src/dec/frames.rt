@@ -40,7 +40,11 @@ fn is_short(frame: &[u8], sentinel: u8) -> bool
 // Decodes such a frame, each byte of it XORed with the sentinel, for whose bytes there is room. Behind the code of a full block
 // there is none that isn't its.
 #[inline(always)]
-fn decode_short(frame: &[u8], dest: &mut [u8], sentinel: u8) -> Result<usize, DecodeError>
+pub(crate) fn decode_short(
+    frame: &[u8],
+    dest: &mut [u8],
+    sentinel: u8,
+) -> Result<usize, DecodeError>
     requires some { 0 < length frame.now }
     requires few { length frame.now ≤ 255 }
     requires room { length frame.now ≤ length dest.old + 1 }

@@ -6,7 +6,7 @@ ghost use Rattle.cobs.specs.InPlace.{stretch, overwritten};
 ghost use Rattle.cobs.specs.Sentinel.{masked};
 ghost use Rattle.cobs.specs.Whole.{unpadded, frame_in, decoded_from, decoded_into};
 
-use super::frames::{decode_counted, decode_source, decode_whole};
+use super::frames::{decode_counted, decode_short, decode_source, decode_whole};
 use super::progress::Progress;
 use super::report::{DecodeError, DecodeReport};
 use crate::finding::{before_by_64, before_few, before_sentinel};
@@ -269,6 +269,23 @@ pub(crate) fn decode_clear(
     }
 }
 
+// The same of few bytes, which are of one window.
+#[inline(always)]
+fn decode_few(frame: &[u8], dest: &mut [u8], sentinel: u8) -> Result<usize, DecodeError>
+    requires few { length frame.now ≤ 64 }
+    requires clear { NoZero (masked sentinel frame.now) }
+    ensures answer { result ≡ decoded_into (length dest.old) (masked sentinel frame.now) }
+    ensures dest { dest.new ≡ overwritten (part (masked sentinel frame.now)) dest.old }
+{
+    if has_room(frame, dest.len()) {
+        return decode_short(frame, dest, sentinel);
+    }
+    match decode_counted(frame, dest, sentinel) {
+        Ok(len) => Ok(len),
+        Err(error) => Err(error),
+    }
+}
+
 // As `decode_with_sentinel`, of a source whose first 256 bytes hold no sentinel.
 #[inline(never)]
 fn decode_far_stretch(source: &[u8], dest: &mut [u8], sentinel: u8) -> Result<usize, DecodeError>
@@ -293,7 +310,7 @@ fn decode_stretch(source: &[u8], dest: &mut [u8], sentinel: u8) -> Result<usize,
     ensures dest { dest.new ≡ overwritten (part (stretch (masked sentinel source.now))) dest.old }
 {
     if source.len() <= 64 {
-        return decode_clear(before_end_few(source, sentinel), dest, sentinel);
+        return decode_few(before_end_few(source, sentinel), dest, sentinel);
     }
     if source.len() <= 255 && source[0] != sentinel && has_room(source, dest.len()) {
         return decode_source::<1>(source, dest, sentinel).0;
