@@ -1,5 +1,5 @@
 use Rattle.std.specs.Prelude.{bit_xor}
-use Rattle.std.proofs.Common.{◌≡◌, ◌+◌, ◌-◌, ◌++◌, ℕ, List, length, take, drop, set, replicate, ap, sym, ◌∙◌, arith}
+use Rattle.std.proofs.Common.{◌≡◌, ◌+◌, ◌-◌, ◌++◌, ℕ, take, drop, set, replicate, ap, sym, ◌∙◌, arith}
 use Rattle.std.proofs.lemmas.List.{length-replicate, drop-drop}
 use borrow.Rule.Slice.PartMut.{put_mid}
 use Rattle.cobs.specs.InPlace.{written_over}

@@ -3,7 +3,7 @@ use Rattle.cobs.specs.Sentinel.{masked}
 use Rattle.cobs.proofs.MaskingLemmas.{masked_length}
 use Rattle.cobs.proofs.WrittenLemmas.{written_front, written_length}
 use Rattle.cobs.proofs.codes.put_full_block.Goals as goal
-use Rattle.std.proofs.Common.{◌≡◌, length, take}
+use Rattle.std.proofs.Common.{length, take}
 
 pub returns-clause-front : goal.returns-clause-front
 returns-clause-front c = ap (take c.args.from) c.copy_clear.ensures.copied ∙ written_front c.args.from (masked c.args.sentinel c.args.bytes.now) c.args.dest.now (omega (arith, c.requires.room))

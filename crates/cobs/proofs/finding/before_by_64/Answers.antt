@@ -1,5 +1,5 @@
 use Rattle.std.proofs.lemmas.Grind.{common_steps}
-use Rattle.std.proofs.Common.{◌≢◌, ◌+◌, ◌-◌, ◌<◌, ◌≤◌, ℕ, List, length, take, drop, get_or, length-take, arith}
+use Rattle.std.proofs.Common.{◌+◌, ◌-◌, ◌≤◌, length, drop, length-take, arith}
 use Rattle.cobs.proofs.SearchingLemmas.{none_on}
 use Rattle.cobs.proofs.finding.before_by_64.Goals as goal
 

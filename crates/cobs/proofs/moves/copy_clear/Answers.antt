@@ -5,8 +5,7 @@ use Rattle.std.proofs.lemmas.Simd.{bitmask_splat}
 use Rattle.cobs.specs.InPlace.{written_over}
 use Rattle.cobs.specs.Sentinel.{masked}
 use Rattle.cobs.proofs.LanesLemmas.{all_above, none_marked}
-use Rattle.cobs.proofs.MaskingLemmas.{masked_length}
-use Rattle.cobs.proofs.WrittenLemmas.{written_next, written_length}
+use Rattle.cobs.proofs.WrittenLemmas.{written_next}
 use Rattle.cobs.proofs.moves.copy_clear.Goals as goal
 
 part : (from m : ℕ) (bytes : List ℕ) → ((k : ℕ) → k < 64 → 1 ≤ get_or (take m (drop from bytes)) k 0) → 64 ≤ m → (k : ℕ) → from ≤ k → k < from + 64 → 0 < get_or bytes k 0

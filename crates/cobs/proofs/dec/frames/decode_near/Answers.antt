@@ -1,5 +1,5 @@
 use Rattle.std.proofs.Common.{◌≡◌, ◌≢◌, ℕ, zero, suc, ◌+◌, ◌-◌, ◌<◌, ◌≤◌, List, true, [], ◌∷◌, ◌++◌, length, take, drop, get_or, length-drop, Ok, Err, refl, sym, ◌∙◌, ap, subst, arith}
-use Rattle.std.proofs.lemmas.List.{length-take-le, drop_at, take_all, get_or-take, get_or-drop}
+use Rattle.std.proofs.lemmas.List.{length-take-le, drop_at, take_all, get_or-drop}
 use Rattle.std.proofs.lemmas.Nat.{xor_of_8}
 use Rattle.std.specs.Prelude.{bit_xor}
 use Rattle.cobs.specs.Feeding.{stands_by}
@@ -12,7 +12,7 @@ use Rattle.cobs.specs.declared.dec.state.DecoderState.{DecoderState}
 use Rattle.cobs.specs.declared.dec.report.DecodeError.TheVariants.{InvalidFrame}
 use Rattle.cobs.proofs.MaskingLemmas.{masked_length, masked_take}
 use Rattle.cobs.proofs.ShortLemmas.{window_whole, window_broken, window_over}
-use Rattle.cobs.proofs.SourcesLemmas.{stretch_front, stretch_clear, clear_at, masked_positive}
+use Rattle.cobs.proofs.SourcesLemmas.{stretch_front, stretch_clear, clear_at}
 use Rattle.cobs.proofs.WithinLemmas.{written_part}
 use Rattle.cobs.proofs.dec.frames.decode_near.Goals as goal
 use Rattle.cobs.proofs.dec.frames.decode_near.Goals.{After-copy_until-n}
