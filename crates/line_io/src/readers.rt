@@ -140,4 +140,32 @@ impl<R: Read> Inlet for Reads<R> {
             }
         }
     }
+
+    fn read_over(&mut self, room: &mut [u8]) -> Option<usize>
+        ensures bound { IfSome result (λ n. n ≤ length room.new) }
+        ensures bytes { Gave (reads_line R.remaining self.old)
+            (reads_line R.remaining self.new) (moved_front result room.new) }
+        ensures end { result ≡ Some 0 → 0 < length room.new
+            → IfSome (reads_told R.remaining self.new) (λ rest. rest ≡ []) }
+        ensures faults { reads_faults self.new
+            ≡ reads_faults self.old + read_faults (reads_calls self.old) result }
+        ensures calls { reads_calls self.new ≡ reads_calls self.old - 1 }
+        ensures spent { reads_calls self.old ≡ 0 → result ≡ None }
+        ensures silent { 0 < reads_faults self.new → reads_told R.remaining self.new ≡ None }
+        ensures inner { MatchOption result
+            (Keeps (R.remaining (inner_reader self.old)) (R.remaining (inner_reader self.new)))
+            (λ n. Consumes (R.remaining (inner_reader self.old))
+            (R.remaining (inner_reader self.new)) (take n room.new)) }
+        ensures inner_end { result ≡ Some 0 → 0 < length room.new
+            → IsAtEnd (R.remaining (inner_reader self.new)) }
+    {
+        self.calls = self.calls.checked_sub(1)?;
+        match self.inner.read(room) {
+            Ok(n) => Some(n),
+            Err(_) => {
+                self.faults += 1;
+                None
+            }
+        }
+    }
 }

@@ -71,7 +71,7 @@ pub fn read_to_end<R: Inlet>(inlet: &mut R, bytes: &mut Vec<u8>) -> End
 {
     let mut room = [0u8; ROOM];
     loop {
-        match inlet.read(&mut room) {
+        match inlet.read_over(&mut room) {
             None => return End::ReadFault,
             Some(0) => return End::Ended,
             Some(n) => {

@@ -10,7 +10,7 @@ returns-then-is_err-clause-memory g c h =
     let some = read_some (g.R.Inlet.line c.loop-n.inlet).calls_left c.in-Some.n in
     let quiet = rw some at c.in-Some.ensures.faults in (
       i.text,
-      take c.in-Some.n c.read.new.room,
+      take c.in-Some.n c.read_over.new.room,
       same ∙ i.are,
       (Gave-then _ _ _ _ _ i.gave c.in-Some.ensures.bytes, quiet ∙ (let e = i.quiet in omega arith)),
     )
