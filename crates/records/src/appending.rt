@@ -7,10 +7,11 @@ use crate::entries::{
 use crate::settling::{Settled, Unsettled};
 use journal::{AppendError, Journal, OpenError, ReadError, Unopened};
 use journal_scan::open_by;
+use memchr::memchr;
 use sealed::Sealed;
 use std::alloc::Global;
 use std::fs::{File, TryLockError};
-use std::io::{self, BufRead, BufReader};
+use std::io::{self, BufRead, BufReader, ErrorKind};
 use stores::Stored;
 
 type Log = Stored<File>;
@@ -64,9 +65,30 @@ fn append_line(
     }
 }
 
+// Takes the next line out of the input's buffer, without the line feed that ends it. Nothing is taken where it doesn't end there.
+fn take_buffered<R: BufRead>(input: &mut R, line: &mut Vec<u8>) -> io::Result<bool> {
+    let buffered = input.fill_buf()?;
+    let Some(length) = memchr(b'\n', buffered) else {
+        return Ok(false);
+    };
+    line.extend_from_slice(&buffered[..length])?;
+    input.consume(length + 1);
+    Ok(true)
+}
+
 // The next line, without the line feed that ends it; nothing at the end of the input. No other byte is taken off.
 fn read_line<R: BufRead>(alloc: Global, input: &mut R) -> io::Result<Option<Vec<u8>>> {
     let mut line: Vec<u8> = Vec::new(alloc);
+    // most lines end in the buffer, where they are found quicker than byte by byte
+    match take_buffered(input, &mut line) {
+        Ok(true) => return Ok(Some(line)),
+        Ok(false) => {}
+        Err(e) => {
+            if e.kind() != ErrorKind::Interrupted {
+                return Err(e);
+            }
+        }
+    }
     if input.read_until(b'\n', &mut line)? == 0 {
         return Ok(None);
     }
