@@ -12,14 +12,14 @@ fn main() {
         println!("cargo:rerun-if-env-changed={name}");
     }
     let libs = env::var("BENCH_LIBS").expect("run this by `bench/run`");
-    link(&libs, &["bench_cobs", "bench_messages"]);
+    link(&libs, &["bench_cobs", "bench_messages", "bench_layers"]);
     if let Ok(before) = env::var("BENCH_BEFORE") {
         println!("cargo:rustc-cfg=before");
         link(&before, &["before_bench_cobs", "before_bench_messages"]);
     }
     if let Ok(wider) = env::var("BENCH_V3") {
         println!("cargo:rustc-cfg=v3");
-        link(&wider, &["v3_bench_cobs", "v3_bench_messages"]);
+        link(&wider, &["v3_bench_cobs", "v3_bench_messages", "v3_bench_layers"]);
     }
     let kit = env::var("BENCH_KIT").expect("run this by `bench/run`");
     link(&kit, &["libc_c"]);

@@ -301,6 +301,10 @@ calls!(wider, "v3", "v3_");
 /// The libraries as they stand.
 pub const OURS: Calls = now::CALLS;
 
+/// The libraries for the vectors of x86-64-v3.
+#[cfg(v3)]
+pub const WIDER: Calls = wider::CALLS;
+
 /// The libraries as they stand, and where there are some, as they stood before and for the vectors of x86-64-v3.
 pub fn all() -> Vec<Calls> {
     vec![

@@ -1,9 +1,12 @@
 //! Counts the instructions of calls, ours and the peers', by `valgrind --tool=callgrind`, and prints tables of them. No load of
 //! the machine changes them.
+#[cfg(v3)]
+use crate::calls::WIDER;
 use crate::calls::{Calls, Found, Parts, OURS};
 use crate::cases::{goal, room, FED, FEEDING, LENGTHS, PUSHING, READING, WRITING};
 use crate::data::{self, message, record, Record, KINDS};
 use crate::frames::{bytes, runs, wide, windows};
+use crate::layers;
 use crate::peers::{records as by_hand, streams as pieces};
 use crate::remote;
 use crate::table::{head, row, size, Report};
@@ -19,8 +22,10 @@ const STREAM: usize = 64 << 10;
 /// So many calls are counted at once, behind one that isn't.
 const TIMES: u64 = 4;
 
-/// What is written for a table.
+/// What is written for a table: whose a call is, if it is no peer's.
 const OURS_NAME: &str = "ours";
+/// Ours for the vectors of x86-64-v3.
+const WIDER_NAME: &str = "v3";
 
 mod callgrind {
     use std::ffi::CStr;
@@ -72,31 +77,41 @@ type InPlace = fn(&mut [u8]) -> Option<usize>;
 type Taking = fn(&[u8], usize) -> Found;
 
 /// What takes bytes and makes others: a call, whose it is, and the function.
-const ENCODERS: [(&str, &str, IntoBuffer); 5] = [
+const ENCODERS: &[(&str, &str, IntoBuffer)] = &[
     ("try_encode", OURS_NAME, |s, d| OURS.try_encode(s, d)),
     ("push", OURS_NAME, |s, d| OURS.push(s, d)),
+    #[cfg(v3)]
+    ("try_encode", WIDER_NAME, |s, d| WIDER.try_encode(s, d)),
+    #[cfg(v3)]
+    ("push", WIDER_NAME, |s, d| WIDER.push(s, d)),
     ("encode", "bytes", |s, d| Some(bytes::encode(s, d))),
     ("encode", "runs", |s, d| Some(runs::encode(s, d))),
     ("encode", "16", |s, d| Some(wide::encode(s, d))),
 ];
-const DECODERS: [(&str, &str, IntoBuffer); 5] = [
+const DECODERS: &[(&str, &str, IntoBuffer)] = &[
     ("decode", OURS_NAME, |s, d| OURS.decode(s, d)),
+    #[cfg(v3)]
+    ("decode", WIDER_NAME, |s, d| WIDER.decode(s, d)),
     ("decode", "bytes", bytes::decode),
     ("decode", "runs", runs::decode),
     ("decode", "16", wide::decode),
     ("decode", "windows", windows::decode),
 ];
-const IN_PLACE: [(&str, &str, InPlace); 4] = [
+const IN_PLACE: &[(&str, &str, InPlace)] = &[
     ("decode_in_place", OURS_NAME, |b| OURS.decode_in_place(b)),
+    #[cfg(v3)]
+    ("decode_in_place", WIDER_NAME, |b| WIDER.decode_in_place(b)),
     ("decode_in_place", "bytes", bytes::decode_in_place),
     ("decode_in_place", "runs", runs::decode_in_place),
     ("decode_in_place", "windows", windows::decode_in_place),
 ];
 /// Our calls of frames for a sentinel, by the sentinel.
-const OTHER: [(&str, &str, IntoBuffer); 4] = [
+const OTHER: &[(&str, &str, IntoBuffer)] = &[
     ("push_for", "zero", |s, d| OURS.push_for(s, d, 0)),
     ("push_for", "another", |s, d| OURS.push_for(s, d, 10)),
     ("decode_for", "zero", |s, d| OURS.decode_for(s, d, 0)),
+    #[cfg(v3)]
+    ("decode_for", WIDER_NAME, |s, d| WIDER.decode_for(s, d, 0)),
     ("decode_for", "another", |s, d| OURS.decode_for(s, d, 10)),
 ];
 const OTHER_IN_PLACE: [(&str, &str, InPlace); 2] = [
@@ -106,33 +121,50 @@ const OTHER_IN_PLACE: [(&str, &str, InPlace); 2] = [
 /// What makes a frame where the message stands, and what counts bytes.
 type Within = fn(&mut [u8], usize) -> usize;
 type Counting = fn(&[u8]) -> usize;
-const STANDING: [(&str, &str, Within); 3] = [
+const STANDING: &[(&str, &str, Within)] = &[
     ("encode_in_place", OURS_NAME, |b, n| OURS.encode_in_place(b, n)),
+    #[cfg(v3)]
+    ("encode_in_place", WIDER_NAME, |b, n| WIDER.encode_in_place(b, n)),
     ("encode_in_place", "bytes", bytes::encode_in_place),
     ("encode_in_place", "runs", runs::encode_in_place),
 ];
-const COUNTERS: [(&str, &str, Counting); 6] = [
+const COUNTERS: &[(&str, &str, Counting)] = &[
     ("encoded_length", OURS_NAME, |s| OURS.encoded_length(s)),
+    #[cfg(v3)]
+    ("encoded_length", WIDER_NAME, |s| WIDER.encoded_length(s)),
     ("encoded_length", "bytes", bytes::encoded_length),
     ("encoded_length", "runs", runs::encoded_length),
     ("before_sentinel", OURS_NAME, |s| OURS.before_zero(s)),
+    #[cfg(v3)]
+    ("before_sentinel", WIDER_NAME, |s| WIDER.before_zero(s)),
     ("before_sentinel", "bytes", bytes::before_zero),
     ("before_sentinel", "runs", runs::before_zero),
 ];
 /// How long a message is that may stand where its frame is to be.
 const STANDING_LENGTHS: [usize; 4] = [4, 16, 64, 200];
 
-const STREAMS: [(&str, &str, Taking); 9] = [
+const STREAMS: &[(&str, &str, Taking)] = &[
     ("push", OURS_NAME, |s, n| OURS.messages(s, n)),
+    #[cfg(v3)]
+    ("push", WIDER_NAME, |s, n| WIDER.messages(s, n)),
     ("push", "bytes", pieces::messages_by_bytes),
     ("push", "runs", pieces::messages_by_runs),
     ("decoder's feed", OURS_NAME, |s, _| OURS.fed(s)),
+    #[cfg(v3)]
+    ("decoder's feed", WIDER_NAME, |s, _| WIDER.fed(s)),
     ("decoder's feed", "bytes", pieces::messages_by_bytes),
     ("decoder's feed", "runs", pieces::messages_by_runs),
     ("feed", OURS_NAME, |s, n| OURS.records(s, n)),
+    #[cfg(v3)]
+    ("feed", WIDER_NAME, |s, n| WIDER.records(s, n)),
     ("feed", "accumulator", pieces::records_by_accumulator),
     ("feed", "runs", pieces::records_by_runs),
 ];
+
+/// Whether a call is a peer's.
+fn is_peer(whose: &str) -> bool {
+    whose != OURS_NAME && whose != WIDER_NAME
+}
 
 /// The name of a count.
 fn named(call: &str, whose: &str, len: usize, kind: &str) -> String {
@@ -177,7 +209,7 @@ fn count_standing(source: &[u8], kind: &str) {
     message.extend_from_slice(source);
     let mut frames = Vec::new();
     let nothing: Within = |buf, n| black_box(buf.len() + n);
-    for (call, whose, within) in STANDING.into_iter().chain([("nothing", "standing", nothing)]) {
+    for (call, whose, within) in STANDING.iter().copied().chain([("nothing", "standing", nothing)]) {
         let mut buf = message.clone();
         let within = black_box(within);
         count(&named(call, whose, len, kind), || {
@@ -186,7 +218,8 @@ fn count_standing(source: &[u8], kind: &str) {
         });
         frames.push(buf);
     }
-    assert!(frames[0] == frames[1] && frames[0] == frames[2], "frames where they stand");
+    frames.pop();
+    assert!(frames.iter().all(|frame| *frame == frames[0]), "frames where they stand");
 }
 
 fn count_messages(len: usize, kind: &str) {
@@ -196,13 +229,13 @@ fn count_messages(len: usize, kind: &str) {
     let frame = &frame[..=end];
     count_into_buffer(&named("nothing", "into", len, kind), nothing, &source, room(len));
     count_in_place(&named("nothing", "within", len, kind), |_| None, frame);
-    for (call, whose, encode) in ENCODERS {
+    for (call, whose, encode) in ENCODERS.iter().copied() {
         count_into_buffer(&named(call, whose, len, kind), encode, &source, room(len));
     }
-    for (call, whose, decode) in DECODERS {
+    for (call, whose, decode) in DECODERS.iter().copied() {
         count_into_buffer(&named(call, whose, len, kind), decode, frame, frame.len());
     }
-    for (call, whose, decode) in IN_PLACE {
+    for (call, whose, decode) in IN_PLACE.iter().copied() {
         count_in_place(&named(call, whose, len, kind), decode, frame);
     }
     if STANDING_LENGTHS.contains(&len) {
@@ -212,15 +245,15 @@ fn count_messages(len: usize, kind: &str) {
         let all = COUNTERS.iter().filter(|way| way.0 == call);
         assert!(all.map(|way| way.2(bytes)).all(|n| n == count(bytes)), "{call}");
     };
-    for (call, whose, counting) in COUNTERS {
+    for (call, whose, counting) in COUNTERS.iter().copied() {
         let bytes = if call == "encoded_length" { &source[..] } else { frame };
         answers(call, counting, bytes);
         count_bytes(&named(call, whose, len, kind), counting, bytes);
     }
     count_bytes(&named("nothing", "counting", len, kind), |bytes| black_box(bytes.len()), &source);
     let other: Vec<u8> = frame.iter().map(|byte| byte ^ 10).collect();
-    let framed = |whose| if whose == "zero" { frame } else { &other };
-    for (call, whose, code) in OTHER {
+    let framed = |whose| if whose == "another" { &other } else { frame };
+    for (call, whose, code) in OTHER.iter().copied() {
         let from = if call == "push_for" { &source } else { framed(whose) };
         count_into_buffer(&named(call, whose, len, kind), code, from, room(len));
     }
@@ -237,13 +270,17 @@ fn read_by(ours: &Calls, bytes: &[u8]) -> Option<Parts> {
     ours.read(bytes, &mut parts).then_some(parts)
 }
 
-const WRITERS: [(&str, Writing); 3] = [
+const WRITERS: &[(&str, Writing)] = &[
     (OURS_NAME, |r, room| OURS.write(r, room)),
+    #[cfg(v3)]
+    (WIDER_NAME, |r, room| WIDER.write(r, room)),
     ("straight", by_hand::write),
     ("crate", by_hand::crate_like::write),
 ];
-const READERS: [(&str, Reading); 3] = [
+const READERS: &[(&str, Reading)] = &[
     (OURS_NAME, |bytes| read_by(&OURS, bytes)),
+    #[cfg(v3)]
+    (WIDER_NAME, |bytes| read_by(&WIDER, bytes)),
     ("straight", by_hand::read),
     ("crate", by_hand::crate_like::read),
 ];
@@ -253,14 +290,14 @@ fn count_record() {
     let record = record(&list);
     let mut spelling = [0; 256];
     let len = by_hand::write(&record, &mut spelling).expect("there is room");
-    for (whose, write) in WRITERS {
+    for (whose, write) in WRITERS.iter().copied() {
         let mut room = [0; 256];
         let write = black_box(write);
         count(&named("to_slice", whose, 0, ""), || {
             black_box(write(black_box(&record), black_box(&mut room)));
         });
     }
-    for (whose, read) in READERS {
+    for (whose, read) in READERS.iter().copied() {
         let read = black_box(read);
         count(&named("from_bytes", whose, 0, ""), || {
             black_box(read(black_box(&spelling[..len])));
@@ -277,7 +314,7 @@ pub fn count_all() {
     }
     let stream = data::stream(STREAM);
     for piece in PIECES {
-        for (call, whose, take) in STREAMS {
+        for (call, whose, take) in STREAMS.iter().copied() {
             count(&named(call, whose, piece, "stream"), || {
                 black_box(take(black_box(&stream), black_box(piece)));
             });
@@ -285,6 +322,7 @@ pub fn count_all() {
     }
     count_record();
     remote::count_calls();
+    layers::count_layers();
 }
 
 /// Runs this program under valgrind, which writes a file for each count, and reads what each says for one call.
@@ -317,6 +355,11 @@ impl Counts {
         self.0[&named(call, whose, len, kind)]
     }
 
+    /// Ours for the vectors of x86-64-v3, where they were counted.
+    pub fn wider(&self, call: &str, len: usize, kind: &str) -> Option<f64> {
+        self.0.get(&named(call, WIDER_NAME, len, kind)).copied()
+    }
+
     /// Of a call on a message, and of the peer with the fewest, with their ratio and what is aimed at.
     fn cell(&self, report: &mut Report, grid: &Grid, len: usize, kind: usize) -> String {
         let (of, kind) = (goal(grid.call, len, kind), KINDS[kind]);
@@ -326,7 +369,8 @@ impl Counts {
         let best = counted.min_by(|a, b| a.0.total_cmp(&b.0)).expect("a peer");
         let what = format!("`{}`, {}, {kind}", grid.call, size(len));
         let ratio = report.figure(&what, ours / best.0, of);
-        format!("{ours:.0} / {:.0} {}: {ratio}", best.0, &best.1)
+        let wider = self.wider(grid.ours.0, len, kind).map(|wider| format!("; v3 {:.2}", (wider - around) / best.0));
+        format!("{ours:.0} / {:.0} {}: {ratio}{}", best.0, &best.1, wider.unwrap_or_default())
     }
 }
 
@@ -349,16 +393,21 @@ fn print_grid(counts: &Counts, report: &mut Report, grid: &Grid) {
     }
 }
 
+/// The peers among ways.
+fn peers_of<F>(ways: &[(&'static str, &'static str, F)]) -> Vec<(&'static str, &'static str)> {
+    ways.iter().filter(|way| is_peer(way.1)).map(|way| (way.0, way.1)).collect()
+}
+
 /// The tables of calls on messages.
 fn grids() -> Vec<Grid> {
     let grid = |call, around, peers| Grid { call, ours: (call, OURS_NAME), around, peers, lengths: &LENGTHS };
-    let encoders: Vec<_> = ENCODERS[2..].iter().map(|way| (way.0, way.1)).collect();
-    let decoders: Vec<_> = DECODERS[1..].iter().map(|way| (way.0, way.1)).collect();
-    let within = IN_PLACE[1..].iter().map(|way| (way.0, way.1)).collect();
-    let standing = STANDING[1..].iter().map(|way| (way.0, way.1)).collect();
+    let encoders = peers_of(ENCODERS);
+    let decoders = peers_of(DECODERS);
+    let within = peers_of(IN_PLACE);
+    let standing = peers_of(STANDING);
     let counters = |call: &str| {
-        let peers = COUNTERS.iter().filter(|way| way.0 == call && way.1 != OURS_NAME);
-        peers.map(|way| (way.0, way.1)).collect()
+        let peers = peers_of(COUNTERS).into_iter();
+        peers.filter(|way| way.0 == call).collect()
     };
     vec![
         grid("try_encode", "into", encoders.clone()),
@@ -391,9 +440,14 @@ fn print_sentinels(counts: &Counts, report: &mut Report) {
     }
 }
 
+/// What is printed of ours for wider vectors, where it was counted, beside a peer.
+pub fn beside(wider: Option<f64>, fewest: f64) -> String {
+    wider.map_or(String::new(), |wider| format!("{:.2}", wider / fewest))
+}
+
 fn print_streams(counts: &Counts, report: &mut Report, bytes: usize) {
     let title = "Instructions for a byte of a stream";
-    head(title, &["Call", "Ours", "Peer", "Peer", "Ours / the fewest (goal)"]);
+    head(title, &["Call", "Ours", "Peer", "Peer", "Ours / the fewest (goal)", "v3 / the fewest"]);
     let fed = [(1, FED)];
     let rows: [(&str, &str, &[(usize, f64)]); 3] =
         [("decoder's feed", "decoder's `feed`", &fed), ("push", "decoder's `push`", &PUSHING), ("feed", "accumulator's `feed`", &FEEDING)];
@@ -401,11 +455,13 @@ fn print_streams(counts: &Counts, report: &mut Report, bytes: usize) {
         for &(piece, goal) in goals {
             let what = format!("{what}, pieces of {piece}");
             let each = |whose: &str| counts.of(call, whose, piece, "stream") / bytes as f64;
-            let peers = STREAMS.iter().filter(|way| way.0 == call && way.1 != OURS_NAME);
+            let peers = STREAMS.iter().filter(|way| way.0 == call && is_peer(way.1));
             let fewest = peers.clone().map(|way| each(way.1)).fold(f64::INFINITY, f64::min);
             let mut cells = vec![what.clone(), format!("{:.1}", each(OURS_NAME))];
             cells.extend(peers.map(|way| format!("{:.1} ({})", each(way.1), way.1)));
             cells.push(report.figure(&what, each(OURS_NAME) / fewest, goal));
+            let wider = counts.wider(call, piece, "stream");
+            cells.push(beside(wider, fewest * bytes as f64));
             row(&cells);
         }
     }
@@ -413,13 +469,14 @@ fn print_streams(counts: &Counts, report: &mut Report, bytes: usize) {
 
 fn print_record(counts: &Counts, report: &mut Report) {
     let title = "Instructions for a record";
-    head(title, &["Call", "Ours", "Straight", "As a crate does it", "Ours / straight (goal)"]);
+    head(title, &["Call", "Ours", "Straight", "As a crate does it", "Ours / straight (goal)", "v3 / straight"]);
     for (call, goal) in [("to_slice", WRITING), ("from_bytes", READING)] {
         let of = |whose| counts.of(call, whose, 0, "");
         let mut cells = vec![format!("`{call}`")];
         cells.extend([OURS_NAME, "straight", "crate"].map(|w| format!("{:.0}", of(w))));
         let ratio = of(OURS_NAME) / of("straight");
         cells.push(report.figure(&format!("a record's `{call}`"), ratio, goal));
+        cells.push(beside(counts.wider(call, 0, ""), of("straight")));
         row(&cells);
     }
 }
@@ -429,11 +486,18 @@ pub fn print(folder: &Path) {
     let counts = Counts(counted(folder));
     let mut report = Report::new();
     for grid in grids() {
+        report.begin(grid.call);
         print_grid(&counts, &mut report, &grid);
     }
+    report.begin("another sentinel");
     print_sentinels(&counts, &mut report);
+    report.begin("streams");
     print_streams(&counts, &mut report, data::stream(STREAM).len());
+    report.begin("a record");
     print_record(&counts, &mut report);
+    report.begin("a remote call");
     remote::print_calls(&counts, &mut report);
+    layers::print_layers(&counts, &mut report);
+    report.print_groups();
     report.print_goals();
 }

@@ -7,6 +7,7 @@ mod cases;
 mod counts;
 mod data;
 mod frames;
+mod layers;
 mod peers;
 mod remote;
 mod table;

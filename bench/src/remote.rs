@@ -1,5 +1,5 @@
 //! Remote calls over memory: what a server takes for each request, and a client for each call and its reply.
-use crate::counts::{count, Counts};
+use crate::counts::{beside, count, Counts};
 use crate::peers::remote as by_hand;
 use crate::table::{head, row, Report};
 use crate::timing::{run, Side, Way};
@@ -17,36 +17,56 @@ pub struct Counted {
 type Serve = fn(&[u8], &mut [u8], &mut Counted);
 type Call = fn(&[u8], usize, u64, u16, &mut [u8], &mut Counted);
 
-extern "C" {
-    fn calls_c_serve(r: *const u8, n: usize, room: *mut u8, m: usize, counted: *mut Counted);
-    fn calls_c_call(
-        replies: *const u8,
-        n: usize,
-        each: usize,
-        first: u64,
-        count: u16,
-        room: *mut u8,
-        m: usize,
-        counted: *mut Counted,
-    );
+macro_rules! sides {
+    ($module:ident, $prefix:literal) => {
+        mod $module {
+            use super::Counted;
+
+            extern "C" {
+                #[link_name = concat!($prefix, "calls_c_serve")]
+                fn calls_c_serve(r: *const u8, n: usize, room: *mut u8, m: usize, counted: *mut Counted);
+                #[link_name = concat!($prefix, "calls_c_call")]
+                fn calls_c_call(
+                    replies: *const u8,
+                    n: usize,
+                    each: usize,
+                    first: u64,
+                    count: u16,
+                    room: *mut u8,
+                    m: usize,
+                    counted: *mut Counted,
+                );
+            }
+
+            pub fn serve(requests: &[u8], room: &mut [u8], counted: &mut Counted) {
+                let (n, m) = (requests.len(), room.len());
+                // SAFETY: two slices that don't overlap, each by its pointer and its length, and a struct of C's layout.
+                unsafe { calls_c_serve(requests.as_ptr(), n, room.as_mut_ptr(), m, counted) }
+            }
+
+            pub fn call(replies: &[u8], each: usize, first: u64, count: u16, room: &mut [u8], counted: &mut Counted) {
+                let (n, m) = (replies.len(), room.len());
+                // SAFETY: two slices that don't overlap, each by its pointer and its length, and a struct of C's layout.
+                unsafe { calls_c_call(replies.as_ptr(), n, each, first, count, room.as_mut_ptr(), m, counted) }
+            }
+        }
+    };
 }
 
-fn our_serve(requests: &[u8], room: &mut [u8], counted: &mut Counted) {
-    // SAFETY: two slices that don't overlap, each by its pointer and its length, and a struct of C's layout.
-    unsafe { calls_c_serve(requests.as_ptr(), requests.len(), room.as_mut_ptr(), room.len(), counted) }
-}
-
-fn our_call(replies: &[u8], each: usize, first: u64, count: u16, room: &mut [u8], counted: &mut Counted) {
-    let (n, m) = (replies.len(), room.len());
-    // SAFETY: two slices that don't overlap, each by its pointer and its length, and a struct of C's layout.
-    unsafe { calls_c_call(replies.as_ptr(), n, each, first, count, room.as_mut_ptr(), m, counted) }
-}
+sides!(now, "");
+#[cfg(v3)]
+sides!(wider, "v3_");
 
 /// What is aimed at, over the peer by hand.
 const GOAL: f64 = 1.1;
 
-const SERVERS: [(&str, Serve); 2] = [("ours", our_serve), ("by hand", by_hand::serve)];
-const CLIENTS: [(&str, Call); 2] = [("ours", our_call), ("by hand", by_hand::call)];
+const SERVERS: [(&str, Serve); 2] = [("ours", now::serve), ("by hand", by_hand::serve)];
+const CLIENTS: [(&str, Call); 2] = [("ours", now::call), ("by hand", by_hand::call)];
+/// Both sides for the vectors of x86-64-v3, where there are some.
+const WIDER: &[(&str, Serve, Call)] = &[
+    #[cfg(v3)]
+    ("v3", wider::serve, wider::call),
+];
 
 /// So many calls are made, by numbers of two bytes.
 const CALLS: u16 = 1000;
@@ -144,14 +164,24 @@ pub fn count_calls() {
             lines.call(call, &mut room);
         });
     }
+    for (whose, serve, call) in WIDER {
+        count(&format!("serve/{whose}/0/"), || {
+            lines.serve(*serve, &mut room);
+        });
+        count(&format!("call/{whose}/0/"), || {
+            lines.call(*call, &mut room);
+        });
+    }
 }
 
 /// Prints what was counted.
 pub fn print_calls(counts: &Counts, report: &mut Report) {
-    head("Instructions for a remote call", &["Side", "Ours", "By hand", "Ours / by hand (goal)"]);
+    let title = "Instructions for a remote call";
+    head(title, &["Side", "Ours", "By hand", "Ours / by hand (goal)", "v3 / by hand"]);
     for (call, side) in [("serve", "the server"), ("call", "the client")] {
         let [ours, by_hand] = ["ours", "by hand"].map(|w| counts.of(call, w, 0, "") / f64::from(CALLS));
         let ratio = report.figure(&format!("a remote call, {side}"), ours / by_hand, GOAL);
-        row(&[side.to_owned(), format!("{ours:.0}"), format!("{by_hand:.0}"), ratio]);
+        let wider = beside(counts.wider(call, 0, ""), by_hand * f64::from(CALLS));
+        row(&[side.to_owned(), format!("{ours:.0}"), format!("{by_hand:.0}"), ratio, wider]);
     }
 }

@@ -1,8 +1,9 @@
 //! Tables of ratios, with what was aimed at beside each.
 use crate::timing::{best_peer, named, Side, Timed};
 
-/// A figure with its goal.
+/// A figure with its goal, and the group that it is counted in.
 struct Goal {
+    group: &'static str,
     what: String,
     ratio: f64,
     goal: f64,
@@ -17,6 +18,7 @@ struct Change {
 
 /// What was found so far.
 pub struct Report {
+    group: &'static str,
     goals: Vec<Goal>,
     changes: Vec<Change>,
 }
@@ -54,9 +56,15 @@ pub fn head(title: &str, cells: &[&str]) {
 impl Report {
     pub fn new() -> Report {
         Report {
+            group: "",
             goals: Vec::new(),
             changes: Vec::new(),
         }
+    }
+
+    /// What comes is counted in this group.
+    pub fn begin(&mut self, group: &'static str) {
+        self.group = group;
     }
 
     /// The cell of our way with this name: its ratio to the quickest peer, and the goal. Keeps both.
@@ -72,6 +80,7 @@ impl Report {
     /// The cell of a figure and its goal. Keeps both.
     pub fn figure(&mut self, what: &str, ratio: f64, goal: f64) -> String {
         self.goals.push(Goal {
+            group: self.group,
             what: what.to_owned(),
             ratio,
             goal,
@@ -93,8 +102,20 @@ impl Report {
         let missed = self.goals.iter().filter(|g| g.ratio > g.goal);
         let count = self.goals.len() - missed.clone().count();
         println!("\n### Goals: {count} of {} reached\n", self.goals.len());
-        for Goal { what, ratio, goal } in missed {
+        for Goal { what, ratio, goal, .. } in missed {
             println!("- {what}: {ratio:.2}, goal {goal}");
+        }
+    }
+
+    /// Prints how many goals each group has, and how many of them are reached, in the order in which the groups were begun.
+    pub fn print_groups(&self) {
+        head("Goals by group", &["Group", "Goals", "Reached"]);
+        let mut groups: Vec<&str> = self.goals.iter().map(|goal| goal.group).collect();
+        groups.dedup();
+        for group in groups {
+            let of = self.goals.iter().filter(|goal| goal.group == group);
+            let reached = of.clone().filter(|g| g.ratio <= g.goal).count();
+            row(&[group.to_owned(), of.count().to_string(), reached.to_string()]);
         }
     }
 

@@ -3,26 +3,26 @@ use crate::frames::{first_zero, runs};
 use crate::remote::Counted;
 
 /// The bytes of a frame at most, and of a read.
-const FRAME: usize = 32;
-const EACH: usize = 1024;
+pub const FRAME: usize = 32;
+pub const EACH: usize = 1024;
 
 /// A line in memory that is written to.
-struct Line<'a> {
+pub struct Line<'a> {
     room: &'a mut [u8],
-    written: usize,
+    pub written: usize,
     /// Whether the last send ended in a zero.
     clean: bool,
 }
 
 impl<'a> Line<'a> {
-    fn new(room: &'a mut [u8]) -> Line<'a> {
+    pub fn new(room: &'a mut [u8]) -> Line<'a> {
         let (written, clean) = (0, false);
         Line { room, written, clean }
     }
 
     /// Sends a message as a frame with a zero behind it, and before the first one.
     #[inline]
-    fn send(&mut self, message: &[u8]) {
+    pub fn send(&mut self, message: &[u8]) {
         let mut frame = [0; FRAME + 2];
         let start = usize::from(!self.clean);
         let end = start + runs::encode(message, &mut frame[start..]) + 1;
@@ -34,19 +34,19 @@ impl<'a> Line<'a> {
 }
 
 /// A message that is spelled.
-struct Spelling {
-    bytes: [u8; FRAME],
-    len: usize,
+pub struct Spelling {
+    pub bytes: [u8; FRAME],
+    pub len: usize,
 }
 
 impl Spelling {
-    fn new() -> Spelling {
+    pub fn new() -> Spelling {
         let (bytes, len) = ([0; FRAME], 0);
         Spelling { bytes, len }
     }
 
     #[inline]
-    fn number(&mut self, mut number: u64) {
+    pub fn number(&mut self, mut number: u64) {
         while number >= 128 {
             self.bytes[self.len] = number as u8 | 128;
             self.len += 1;
@@ -59,7 +59,7 @@ impl Spelling {
 
 /// A number of so many bits at the front of the rest.
 #[inline]
-fn number(rest: &mut &[u8], bits: u32) -> Option<u64> {
+pub fn number(rest: &mut &[u8], bits: u32) -> Option<u64> {
     let mut number = 0;
     let mut shift = 0;
     loop {
@@ -81,13 +81,13 @@ fn number(rest: &mut &[u8], bits: u32) -> Option<u64> {
 }
 
 /// What was received of a frame that isn't ended; `len` past the room says that it is too long.
-struct Receiver {
+pub struct Receiver {
     held: [u8; FRAME],
     len: usize,
 }
 
 impl Receiver {
-    fn new() -> Receiver {
+    pub fn new() -> Receiver {
         let (held, len) = ([0; FRAME], 0);
         Receiver { held, len }
     }
@@ -102,7 +102,7 @@ impl Receiver {
 
     /// Hands on the message of each frame that ends in a piece.
     #[inline]
-    fn take(&mut self, piece: &[u8], mut hear: impl FnMut(&[u8])) {
+    pub fn take(&mut self, piece: &[u8], mut hear: impl FnMut(&[u8])) {
         let mut rest = piece;
         let mut message = [0; FRAME];
         while let Some(zero) = first_zero(rest) {
@@ -126,7 +126,7 @@ impl Receiver {
 
 /// Reads up to so many bytes into a room, as a reader does.
 #[inline]
-fn read<'a>(bytes: &mut &[u8], each: usize, room: &'a mut [u8; EACH]) -> &'a [u8] {
+pub fn read<'a>(bytes: &mut &[u8], each: usize, room: &'a mut [u8; EACH]) -> &'a [u8] {
     let count = bytes.len().min(each).min(EACH);
     let (front, behind) = bytes.split_at(count);
     *bytes = behind;
@@ -165,6 +165,12 @@ fn send_reply(line: &mut Line<'_>, (called, even, said): (u64, bool, u64)) {
 }
 
 pub fn serve(requests: &[u8], room: &mut [u8], counted: &mut Counted) {
+    serve_reading(requests, EACH, room, counted);
+}
+
+/// The same, where each read gives so many bytes at most.
+#[inline]
+pub fn serve_reading(requests: &[u8], each: usize, room: &mut [u8], counted: &mut Counted) {
     let mut rest = requests;
     let mut line = Line::new(room);
     let mut piece = [0; EACH];
@@ -172,7 +178,7 @@ pub fn serve(requests: &[u8], room: &mut [u8], counted: &mut Counted) {
     let mut last: Option<(u64, bool, u64)> = None;
     let (mut calls, mut sum) = (0u64, 0u64);
     while !rest.is_empty() {
-        let piece = read(&mut rest, EACH, &mut piece);
+        let piece = read(&mut rest, each, &mut piece);
         receiver.take(piece, |message| {
             let Some((called, which, amount)) = request(message) else {
                 return;

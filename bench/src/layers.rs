@@ -1,0 +1,701 @@
+//! What stands above frames and records: records in frames, sealed ones, tables of types, sending, receiving and listening, the codec,
+//! servers that listen, and logs. Counted and not timed.
+use crate::calls::{Found, Parts};
+use crate::counts::{beside, count, Counts};
+use crate::data::{self, record, Record};
+use crate::peers::{codec, framed, log, records as by_hand, remote, sealed_calls, streams, sums, tables};
+use crate::remote::Counted;
+use crate::table::{head, row, Report};
+use std::hint::black_box;
+
+#[repr(C)]
+#[derive(Clone, Copy)]
+struct Answer {
+    done: bool,
+    count: usize,
+}
+
+type Write = unsafe extern "C" fn(u32, u64, *const u8, usize, bool, u16, *const u16, usize, *mut u8, usize) -> Answer;
+type ReadFrame = unsafe extern "C" fn(*mut u8, usize, *mut Parts) -> bool;
+type Made = unsafe extern "C" fn(*const u8, usize, u32, *mut u8, usize, *mut Counted);
+type Taken = unsafe extern "C" fn(*const u8, usize, usize, *mut Found);
+type Served = unsafe extern "C" fn(*const u8, usize, usize, *mut u8, usize, *mut Counted);
+
+/// The functions of one build of the library.
+#[derive(Clone, Copy)]
+struct Layers {
+    write_frame: Write,
+    read_frame: ReadFrame,
+    size: unsafe extern "C" fn(u32, u64, *const u8, usize, bool, u16, *const u16, usize) -> Answer,
+    allocvec: unsafe extern "C" fn(u32, u64, *const u8, usize, bool, u16, *const u16, usize) -> Answer,
+    frame_into: Write,
+    sealed_write: Write,
+    sealed_read: ReadFrame,
+    sealed_sum: unsafe extern "C" fn(*const u8, usize) -> u32,
+    table: unsafe extern "C" fn() -> usize,
+    schemas_read: unsafe extern "C" fn(*const u8, usize, u32, *mut Found),
+    schemas_write: unsafe extern "C" fn(*const u8, usize, u32, *mut u8, usize) -> Answer,
+    send: Made,
+    receive_each: Taken,
+    listen: Taken,
+    push: Taken,
+    push_strict: Taken,
+    push_owned: Taken,
+    receive: Taken,
+    read_in_place: unsafe extern "C" fn(*mut u8, usize, *mut Found),
+    decode: Taken,
+    encode: Made,
+    serve: Served,
+    serve_sealed: Served,
+    append: Made,
+    open: unsafe extern "C" fn(*const u8, usize, *mut Found),
+}
+
+macro_rules! layers {
+    ($module:ident, $prefix:literal) => {
+        mod $module {
+            use super::*;
+
+            extern "C" {
+                #[link_name = concat!($prefix, "postcard_c_write_frame")]
+                fn write_frame(
+                    number: u32,
+                    big: u64,
+                    text: *const u8,
+                    text_len: usize,
+                    has: bool,
+                    perhaps: u16,
+                    list: *const u16,
+                    list_len: usize,
+                    room: *mut u8,
+                    room_len: usize,
+                ) -> Answer;
+                #[link_name = concat!($prefix, "postcard_c_size")]
+                fn size(
+                    number: u32,
+                    big: u64,
+                    text: *const u8,
+                    text_len: usize,
+                    has: bool,
+                    perhaps: u16,
+                    list: *const u16,
+                    list_len: usize,
+                ) -> Answer;
+                #[link_name = concat!($prefix, "postcard_c_allocvec")]
+                fn allocvec(
+                    number: u32,
+                    big: u64,
+                    text: *const u8,
+                    text_len: usize,
+                    has: bool,
+                    perhaps: u16,
+                    list: *const u16,
+                    list_len: usize,
+                ) -> Answer;
+                #[link_name = concat!($prefix, "link_c_frame_into")]
+                fn frame_into(
+                    number: u32,
+                    big: u64,
+                    text: *const u8,
+                    text_len: usize,
+                    has: bool,
+                    perhaps: u16,
+                    list: *const u16,
+                    list_len: usize,
+                    room: *mut u8,
+                    room_len: usize,
+                ) -> Answer;
+                #[link_name = concat!($prefix, "postcard_c_read_frame")]
+                fn read_frame(frame: *mut u8, n: usize, parts: *mut Parts) -> bool;
+                #[link_name = concat!($prefix, "sealed_c_write")]
+                fn sealed_write(
+                    number: u32,
+                    big: u64,
+                    text: *const u8,
+                    text_len: usize,
+                    has: bool,
+                    perhaps: u16,
+                    list: *const u16,
+                    list_len: usize,
+                    room: *mut u8,
+                    room_len: usize,
+                ) -> Answer;
+                #[link_name = concat!($prefix, "sealed_c_read")]
+                fn sealed_read(frame: *mut u8, n: usize, parts: *mut Parts) -> bool;
+                #[link_name = concat!($prefix, "sealed_c_sum")]
+                fn sealed_sum(bytes: *const u8, n: usize) -> u32;
+                #[link_name = concat!($prefix, "schemas_c_table")]
+                fn table() -> usize;
+                #[link_name = concat!($prefix, "schemas_c_read")]
+                fn schemas_read(s: *const u8, n: usize, times: u32, found: *mut Found);
+                #[link_name = concat!($prefix, "schemas_c_write")]
+                fn schemas_write(s: *const u8, n: usize, times: u32, room: *mut u8, m: usize) -> Answer;
+                #[link_name = concat!($prefix, "link_c_send")]
+                fn send(t: *const u8, n: usize, count: u32, room: *mut u8, m: usize, counted: *mut Counted);
+                #[link_name = concat!($prefix, "link_c_receive_each")]
+                fn receive_each(s: *const u8, n: usize, each: usize, found: *mut Found);
+                #[link_name = concat!($prefix, "link_c_listen")]
+                fn listen(s: *const u8, n: usize, each: usize, found: *mut Found);
+                #[link_name = concat!($prefix, "link_c_push")]
+                fn push(s: *const u8, n: usize, piece: usize, found: *mut Found);
+                #[link_name = concat!($prefix, "link_c_push_strict")]
+                fn push_strict(s: *const u8, n: usize, piece: usize, found: *mut Found);
+                #[link_name = concat!($prefix, "link_c_push_owned")]
+                fn push_owned(s: *const u8, n: usize, piece: usize, found: *mut Found);
+                #[link_name = concat!($prefix, "link_c_receive")]
+                fn receive(s: *const u8, n: usize, piece: usize, found: *mut Found);
+                #[link_name = concat!($prefix, "link_c_read_in_place")]
+                fn read_in_place(s: *mut u8, n: usize, found: *mut Found);
+                #[link_name = concat!($prefix, "codec_c_decode")]
+                fn decode(s: *const u8, n: usize, piece: usize, found: *mut Found);
+                #[link_name = concat!($prefix, "codec_c_encode")]
+                fn encode(t: *const u8, n: usize, count: u32, room: *mut u8, m: usize, counted: *mut Counted);
+                #[link_name = concat!($prefix, "calls_c_listen")]
+                fn serve(r: *const u8, n: usize, each: usize, room: *mut u8, m: usize, counted: *mut Counted);
+                #[link_name = concat!($prefix, "calls_c_listen_sealed")]
+                fn serve_sealed(r: *const u8, n: usize, each: usize, room: *mut u8, m: usize, counted: *mut Counted);
+                #[link_name = concat!($prefix, "journal_c_append")]
+                fn append(t: *const u8, n: usize, count: u32, room: *mut u8, m: usize, counted: *mut Counted);
+                #[link_name = concat!($prefix, "journal_c_open")]
+                fn open(l: *const u8, n: usize, found: *mut Found);
+            }
+
+            pub const LAYERS: Layers = Layers {
+                write_frame,
+                read_frame,
+                size,
+                allocvec,
+                frame_into,
+                sealed_write,
+                sealed_read,
+                sealed_sum,
+                table,
+                schemas_read,
+                schemas_write,
+                send,
+                receive_each,
+                listen,
+                push,
+                push_strict,
+                push_owned,
+                receive,
+                read_in_place,
+                decode,
+                encode,
+                serve,
+                serve_sealed,
+                append,
+                open,
+            };
+        }
+    };
+}
+
+layers!(now, "");
+#[cfg(v3)]
+layers!(wider, "v3_");
+
+/// The library as it stands, and for the vectors of x86-64-v3.
+const BUILDS: &[(&str, Layers)] = &[
+    ("ours", now::LAYERS),
+    #[cfg(v3)]
+    ("v3", wider::LAYERS),
+];
+
+fn answered(answer: Answer) -> Option<usize> {
+    answer.done.then_some(answer.count)
+}
+
+fn made(call: Made, text: &[u8], count: u32, room: &mut [u8]) -> Counted {
+    let mut counted = Counted::default();
+    // SAFETY: two slices that don't overlap, each by its pointer and its length, and a struct of C's layout.
+    unsafe { call(text.as_ptr(), text.len(), count, room.as_mut_ptr(), room.len(), &mut counted) };
+    counted
+}
+
+fn taken(call: Taken, stream: &[u8], piece: usize) -> Found {
+    let mut found = Found::default();
+    // SAFETY: a slice by its pointer and its length, and a struct of C's layout.
+    unsafe { call(stream.as_ptr(), stream.len(), piece, &mut found) };
+    found
+}
+
+fn served(call: Served, requests: &[u8], each: usize, room: &mut [u8]) -> Counted {
+    let (n, m, mut counted) = (requests.len(), room.len(), Counted::default());
+    // SAFETY: two slices that don't overlap, each by its pointer and its length, and a struct of C's layout.
+    unsafe { call(requests.as_ptr(), n, each, room.as_mut_ptr(), m, &mut counted) };
+    counted
+}
+
+fn written(call: Write, record: &Record<'_>, room: &mut [u8]) -> Option<usize> {
+    let (text, list, perhaps) = (record.text, record.list, record.perhaps);
+    // SAFETY: three slices that don't overlap, each by its pointer and its length.
+    answered(unsafe {
+        call(
+            record.number,
+            record.big,
+            text.as_ptr(),
+            text.len(),
+            perhaps.is_some(),
+            perhaps.unwrap_or(0),
+            list.as_ptr(),
+            list.len(),
+            room.as_mut_ptr(),
+            room.len(),
+        )
+    })
+}
+
+fn read_frame(call: ReadFrame, frame: &mut [u8]) -> Option<Parts> {
+    let mut parts = Parts::default();
+    // SAFETY: a slice by its pointer and its length, and a struct of C's layout.
+    unsafe { call(frame.as_mut_ptr(), frame.len(), &mut parts) }.then_some(parts)
+}
+
+impl Layers {
+    /// How long the record is written, or what is made of it is.
+    fn length(&self, of_vec: bool, record: &Record<'_>) -> Option<usize> {
+        let call = if of_vec { self.allocvec } else { self.size };
+        let (text, list, perhaps) = (record.text, record.list, record.perhaps);
+        // SAFETY: two slices, each by its pointer and its length.
+        answered(unsafe {
+            call(
+                record.number,
+                record.big,
+                text.as_ptr(),
+                text.len(),
+                perhaps.is_some(),
+                perhaps.unwrap_or(0),
+                list.as_ptr(),
+                list.len(),
+            )
+        })
+    }
+
+    fn read_in_place(&self, stream: &mut [u8]) -> Found {
+        let mut found = Found::default();
+        // SAFETY: a slice by its pointer and its length, and a struct of C's layout.
+        unsafe { (self.read_in_place)(stream.as_mut_ptr(), stream.len(), &mut found) };
+        found
+    }
+
+    fn sealed_sum(&self, bytes: &[u8]) -> u32 {
+        // SAFETY: a slice by its pointer and its length.
+        unsafe { (self.sealed_sum)(bytes.as_ptr(), bytes.len()) }
+    }
+
+    fn schemas_read(&self, source: &[u8], times: u32) -> Found {
+        let mut found = Found::default();
+        // SAFETY: a slice by its pointer and its length, and a struct of C's layout.
+        unsafe { (self.schemas_read)(source.as_ptr(), source.len(), times, &mut found) };
+        found
+    }
+
+    fn schemas_write(&self, source: &[u8], times: u32, room: &mut [u8]) -> Option<usize> {
+        let (n, m) = (source.len(), room.len());
+        // SAFETY: two slices that don't overlap, each by its pointer and its length.
+        answered(unsafe { (self.schemas_write)(source.as_ptr(), n, times, room.as_mut_ptr(), m) })
+    }
+
+    fn open(&self, log: &[u8]) -> Found {
+        let mut found = Found::default();
+        // SAFETY: a slice by its pointer and its length, and a struct of C's layout.
+        unsafe { (self.open)(log.as_ptr(), log.len(), &mut found) };
+        found
+    }
+}
+
+/// So many values are made, or read, at once.
+const VALUES: u32 = 1000;
+/// How long a stream is, at least.
+const STREAM: usize = 64 << 10;
+const TEXT: &[u8] = b"twenty letters here!";
+const FIRST: u64 = 1000;
+const CALLS: u16 = 1000;
+
+/// What a way answers, to be compared: what it wrote is compared too.
+type Outcome = [u64; 8];
+
+/// A way of a row's work, over a room.
+struct Way {
+    whose: &'static str,
+    work: Box<dyn FnMut(&mut [u8]) -> Outcome>,
+}
+
+fn of(numbers: &[u64]) -> Outcome {
+    let mut outcome = [0; 8];
+    outcome[..numbers.len()].copy_from_slice(numbers);
+    outcome
+}
+
+fn of_found(found: Found) -> Outcome {
+    of(&[found.values, found.refused, found.sum])
+}
+
+fn of_counted(counted: Counted) -> Outcome {
+    of(&[counted.calls, counted.sum, counted.written as u64])
+}
+
+fn of_length(length: Option<usize>) -> Outcome {
+    of(&[length.is_some().into(), length.unwrap_or(0) as u64])
+}
+
+fn of_parts(parts: Option<Parts>) -> Outcome {
+    let Some(parts) = parts else {
+        return of(&[]);
+    };
+    let Parts { number, big, text_len, has, perhaps, list_len, sum } = parts;
+    of(&[1, number.into(), big, text_len as u64, has.into(), perhaps.into(), list_len as u64, sum])
+}
+
+/// A row: the group that it is in, a call, what is aimed at, what a figure is for and how many of those the work has, how much room the work is given where it
+/// is counted and where it is compared, and the ways: ours, perhaps ours for wider vectors, and the peers.
+struct Row {
+    group: &'static str,
+    call: String,
+    goal: f64,
+    each: &'static str,
+    times: f64,
+    room: usize,
+    most: usize,
+    ways: Vec<Way>,
+}
+
+/// What is aimed at, over the peer with the fewest. Set before anything here was counted: 1.2 for what frames, copies or sums, 1.3
+/// where a value is read, and for a server that listens what a remote call has.
+const FRAMING: f64 = 1.2;
+const READING: f64 = 1.3;
+const SERVING: f64 = 1.1;
+
+/// Our ways of a row.
+fn ours(work: impl Fn(Layers) -> Box<dyn FnMut(&mut [u8]) -> Outcome>) -> Vec<Way> {
+    BUILDS.iter().map(|&(whose, build)| Way { whose, work: work(build) }).collect()
+}
+
+fn peer(whose: &'static str, work: impl FnMut(&mut [u8]) -> Outcome + 'static) -> Way {
+    Way { whose, work: Box::new(work) }
+}
+
+/// A row of one work with one room.
+fn row_of(call: &str, goal: f64, each: &'static str, times: f64, room: usize, ways: Vec<Way>) -> Row {
+    Row { group: "", call: call.to_owned(), goal, each, times, room, most: room, ways }
+}
+
+fn list() -> &'static [u16] {
+    data::list(&mut data::Numbers(6), 32).leak()
+}
+
+/// The record's spelling.
+fn spelling() -> &'static [u8] {
+    let mut room = [0; 256];
+    let len = by_hand::write(&record(list()), &mut room).expect("there is room");
+    room[..len].to_vec().leak()
+}
+
+type WriteRecord = fn(&Record<'_>, &mut [u8]) -> Option<usize>;
+type ReadRecord = fn(&mut [u8]) -> Option<Parts>;
+
+/// A row of the record that is written.
+fn writing(call: &str, ours_of: fn(&Layers) -> Write, peers: &[(&'static str, WriteRecord)]) -> Row {
+    let mut ways = ours(|build| {
+        let (call, record) = (ours_of(&build), record(list()));
+        Box::new(move |room| of_length(written(call, black_box(&record), room)))
+    });
+    for &(whose, write) in peers {
+        let record = record(list());
+        ways.push(peer(whose, move |room| of_length(black_box(write)(black_box(&record), room))));
+    }
+    row_of(call, FRAMING, "record", 1.0, 256, ways)
+}
+
+/// Reads a frame that is copied anew each time.
+fn in_place(frame: &[u8], mut read: impl FnMut(&mut [u8]) -> Option<Parts> + 'static) -> impl FnMut(&mut [u8]) -> Outcome {
+    let frame = frame.to_vec();
+    let mut buf = frame.clone();
+    move |_: &mut [u8]| {
+        buf.copy_from_slice(black_box(&frame));
+        of_parts(read(black_box(&mut buf)))
+    }
+}
+
+/// A row of the record that is read from the frame that a peer writes.
+fn reading(call: &str, write: WriteRecord, ours_of: fn(&Layers) -> ReadFrame, peers: &[(&'static str, ReadRecord)]) -> Row {
+    let mut room = [0; 256];
+    let len = write(&record(list()), &mut room).expect("there is room");
+    let frame = &room[..len];
+    let mut ways = ours(|build| {
+        let call = ours_of(&build);
+        Box::new(in_place(frame, move |frame| read_frame(call, frame)))
+    });
+    for &(whose, read) in peers {
+        ways.push(peer(whose, in_place(frame, move |frame| black_box(read)(frame))));
+    }
+    row_of(call, READING, "record", 1.0, 0, ways)
+}
+
+/// A row of how long the record is written, or of the vector that it is written into.
+fn lengths(call: &str, of_vec: bool, by_hand: fn(&Record<'_>) -> Option<usize>) -> Row {
+    let mut ways = ours(|build| {
+        let record = record(list());
+        Box::new(move |_| of_length(build.length(of_vec, black_box(&record))))
+    });
+    let record = record(list());
+    ways.push(peer("by hand", move |_| of_length(black_box(by_hand)(black_box(&record)))));
+    row_of(call, FRAMING, "record", 1.0, 0, ways)
+}
+
+fn framed_rows() -> Vec<Row> {
+    let in_vec: fn(&Record<'_>) -> Option<usize> = |record| black_box(by_hand::write_vec(record)).map(|bytes| bytes.len());
+    vec![
+        lengths("`serialized_size`", false, by_hand::size),
+        lengths("`to_allocvec`", true, in_vec),
+        writing("`to_slice_cobs`", |build| build.write_frame, &[("by hand", framed::write)]),
+        writing("`frame_into`", |build| build.frame_into, &[("by hand", framed::frame)]),
+        reading("`from_bytes_cobs`", framed::write, |build| build.read_frame, &[("by hand", framed::read)]),
+    ]
+}
+
+fn sealed_rows() -> Vec<Row> {
+    let write: [(&str, WriteRecord); 2] = [("a byte a step", sums::write_by_bytes), ("eight a step", sums::write_by_eight)];
+    let read: [(&str, ReadRecord); 2] = [("a byte a step", sums::read_by_bytes), ("eight a step", sums::read_by_eight)];
+    let bytes: &'static [u8] = data::message("random", 1024).leak();
+    let sum = |sum: fn(&[u8]) -> u32| move |_: &mut [u8]| of(&[black_box(sum)(black_box(bytes)).into()]);
+    let mut summing = ours(|build| Box::new(move |_| of(&[build.sealed_sum(black_box(bytes)).into()])));
+    summing.push(peer("a byte a step", sum(sums::by_bytes)));
+    summing.push(peer("eight a step", sum(sums::by_eight)));
+    vec![
+        writing("a sealed record's `to_slice_cobs`", |build| build.sealed_write, &write),
+        reading("a sealed record's `from_bytes_cobs`", sums::write_by_bytes, |build| build.sealed_read, &read),
+        row_of("`crc32` of 1024 bytes", FRAMING, "call", 1.0, 0, summing),
+    ]
+}
+
+fn schemas_rows() -> Vec<Row> {
+    let source = spelling();
+    let mut making = ours(|build| {
+        Box::new(move |_| {
+            // SAFETY: it takes nothing.
+            let count = unsafe { (build.table)() };
+            of(&[count as u64])
+        })
+    });
+    making.push(peer("by hand", |_| of(&[black_box(tables::count_nodes as fn() -> usize)() as u64])));
+    let mut reading = ours(|build| Box::new(move |_| of_found(build.schemas_read(black_box(source), VALUES))));
+    reading.push(peer("by hand", move |_| {
+        of_found(black_box(tables::read_times as fn(&[u8], u32) -> _)(black_box(source), VALUES))
+    }));
+    let mut writing = ours(|build| Box::new(move |room| of_length(build.schemas_write(black_box(source), VALUES, room))));
+    writing.push(peer("by hand", move |room| {
+        of_length(black_box(tables::write_times as fn(&[u8], u32, &mut [u8]) -> _)(black_box(source), VALUES, room))
+    }));
+    let values = f64::from(VALUES);
+    vec![
+        row_of("`schema_of` a record", FRAMING, "table", 1.0, 0, making),
+        row_of("`schemas::from_bytes` of a record", READING, "record", values, 0, reading),
+        row_of("`to_slice` of a `Value`", FRAMING, "record", values + 1.0, 256, writing),
+    ]
+}
+
+type PeerTaking = fn(&[u8], usize) -> Found;
+type PeerMaking = fn(&[u8], u32, &mut [u8]) -> Counted;
+type PeerServing = fn(&[u8], usize, &mut [u8], &mut Counted);
+
+/// A row of a stream in reads or pieces of so many bytes.
+fn taking(call: &str, piece: usize, ours_of: fn(&Layers) -> Taken, peers: &[(&'static str, PeerTaking)]) -> Row {
+    let stream: &'static [u8] = data::stream(STREAM).leak();
+    let mut ways = ours(|build| {
+        let call = ours_of(&build);
+        Box::new(move |_| of_found(taken(call, black_box(stream), black_box(piece))))
+    });
+    for &(whose, take) in peers {
+        ways.push(peer(whose, move |_| of_found(black_box(take)(black_box(stream), black_box(piece)))));
+    }
+    row_of(call, READING, "byte", stream.len() as f64, 0, ways)
+}
+
+/// A row of values that are made, of a number and a text. Where it is counted the room may be too short for what was made elsewhere.
+fn making(call: &str, room: usize, ours_of: fn(&Layers) -> Made, by_hand: PeerMaking) -> Row {
+    let mut ways = ours(|build| {
+        let call = ours_of(&build);
+        Box::new(move |room| of_counted(made(call, black_box(TEXT), VALUES, room)))
+    });
+    ways.push(peer("by hand", move |room| of_counted(black_box(by_hand)(black_box(TEXT), VALUES, room))));
+    let most = 40 * VALUES as usize;
+    Row { room, most, ..row_of(call, FRAMING, "value", f64::from(VALUES), 0, ways) }
+}
+
+/// A row of a server that listens, by reads of so many bytes.
+fn serving(call: &str, goal: f64, requests: &'static [u8], ours_of: fn(&Layers) -> Served, by_hand: PeerServing) -> Row {
+    const EACH: usize = 64;
+    let mut ways = ours(|build| {
+        let call = ours_of(&build);
+        Box::new(move |room| of_counted(served(call, black_box(requests), EACH, room)))
+    });
+    ways.push(peer("by hand", move |room| {
+        let mut counted = Counted::default();
+        black_box(by_hand)(black_box(requests), EACH, room, &mut counted);
+        of_counted(counted)
+    }));
+    row_of(call, goal, "request", f64::from(CALLS), 48 * usize::from(CALLS), ways)
+}
+
+/// The requests of calls, as a peer writes them.
+fn requests(sealed: bool) -> &'static [u8] {
+    let mut room = vec![0; 48 * usize::from(CALLS)];
+    let written = if sealed {
+        sealed_calls::requests(FIRST, CALLS, &mut room)
+    } else {
+        let mut counted = Counted::default();
+        remote::call(&[], 1, FIRST, CALLS, &mut room, &mut counted);
+        counted.written
+    };
+    room[..written].to_vec().leak()
+}
+
+/// A row of a stream that is read where it lies: it is copied anew each time.
+fn lying() -> Row {
+    let stream: &'static [u8] = data::stream(STREAM).leak();
+    let copied = |mut read: Box<dyn FnMut(&mut [u8]) -> Found>| {
+        let mut buf = stream.to_vec();
+        move |_: &mut [u8]| {
+            buf.copy_from_slice(black_box(stream));
+            of_found(read(black_box(&mut buf)))
+        }
+    };
+    let mut ways = ours(|build| Box::new(copied(Box::new(move |buf| build.read_in_place(buf)))));
+    let by_hand: fn(&mut [u8]) -> Found = streams::records_in_place;
+    ways.push(peer("by hand", copied(Box::new(move |buf| black_box(by_hand)(buf)))));
+    row_of("`read_in_place`", READING, "byte", stream.len() as f64, 0, ways)
+}
+
+fn line_rows() -> Vec<Row> {
+    let pieces: [(&str, PeerTaking); 2] =
+        [("accumulator", streams::records_by_accumulator), ("runs", streams::records_by_runs)];
+    let strict: [(&str, PeerTaking); 1] = [("runs", streams::exact_records_by_runs)];
+    let reads: [(&str, PeerTaking); 1] = [("runs", streams::records_by_reads)];
+    let listed: [(&str, PeerTaking); 1] = [("runs", streams::records_listed)];
+    let mut rows = vec![making("`Sender::send`", 40 * VALUES as usize, |build| build.send, codec::send)];
+    for piece in [64, 1024] {
+        let of = |call: &str| format!("{call}, pieces of {piece}");
+        rows.push(taking(&of("a receiver's `push`"), piece, |build| build.push, &pieces));
+        rows.push(taking(&of("a receiver's `push_strict`"), piece, |build| build.push_strict, &strict));
+        rows.push(taking(&of("an owned receiver's `push`"), piece, |build| build.push_owned, &pieces));
+    }
+    for each in [64, 1024] {
+        let of = |call: &str| format!("{call}, reads of {each}");
+        rows.push(taking(&of("`receive_each_with`"), each, |build| build.receive_each, &reads));
+        rows.push(taking(&of("`listen_with`"), each, |build| build.listen, &reads));
+        rows.push(taking(&of("`receive`"), each, |build| build.receive, &listed));
+    }
+    rows.push(lying());
+    rows
+}
+
+fn codec_rows() -> Vec<Row> {
+    let peers: [(&str, PeerTaking); 2] = [("buffer", codec::decode), ("runs", streams::records_by_reads)];
+    let mut rows = Vec::new();
+    for piece in [64, 1024] {
+        let call = format!("the codec's `decode`, pieces of {piece}");
+        rows.push(taking(&call, piece, |build| build.decode, &peers));
+    }
+    rows.push(making("the codec's `encode`", 0, |build| build.encode, codec::encode));
+    rows
+}
+
+fn serving_rows() -> Vec<Row> {
+    vec![
+        serving("a server that listens", SERVING, requests(false), |build| build.serve, remote::serve_reading),
+        serving(
+            "a server that listens, sealed",
+            READING,
+            requests(true),
+            |build| build.serve_sealed,
+            sealed_calls::serve,
+        ),
+    ]
+}
+
+fn log_rows() -> Vec<Row> {
+    let mut room = vec![0; 40 * VALUES as usize];
+    let written = log::append(TEXT, VALUES, &mut room).written;
+    let held: &'static [u8] = room[..written].to_vec().leak();
+    let mut opening = ours(|build| Box::new(move |_| of_found(build.open(black_box(held)))));
+    opening.push(peer("by hand", move |_| of_found(black_box(log::open as fn(&[u8]) -> _)(black_box(held)))));
+    vec![
+        making("`Journal::append` and `sync`", 0, |build| build.append, log::append),
+        row_of("`Journal::open`", READING, "record", f64::from(VALUES), 0, opening),
+    ]
+}
+
+/// All rows, each way of which is seen to answer and to write the same.
+fn rows() -> Vec<Row> {
+    let groups: [(&'static str, fn() -> Vec<Row>); 7] = [
+        ("records in frames", framed_rows),
+        ("sealed records", sealed_rows),
+        ("tables of types", schemas_rows),
+        ("sending, receiving, listening", line_rows),
+        ("the codec", codec_rows),
+        ("servers that listen", serving_rows),
+        ("a log", log_rows),
+    ];
+    let all = groups.iter().flat_map(|(group, rows)| rows().into_iter().map(|row| Row { group, ..row }));
+    let mut rows: Vec<Row> = all.collect();
+    for row in &mut rows {
+        let done = row.ways.iter_mut().map(|way| {
+            let mut room = vec![0; row.most];
+            ((way.work)(&mut room), room, way.whose)
+        });
+        let done: Vec<_> = done.collect();
+        for (outcome, room, whose) in &done {
+            assert!(outcome[0] > 0, "{}, {whose}: {outcome:?}", row.call);
+            assert_eq!(outcome, &done[0].0, "{}, {whose}", row.call);
+            assert!(room == &done[0].1, "{}, {whose}: what is written", row.call);
+        }
+    }
+    rows
+}
+
+/// Counts all rows, where valgrind looks on.
+pub fn count_layers() {
+    for row in &mut rows() {
+        let mut room = vec![0; row.room];
+        for way in &mut row.ways {
+            count(&format!("{}/{}/0/", row.call, way.whose), || {
+                black_box((way.work)(black_box(&mut room)));
+            });
+        }
+    }
+}
+
+/// A count for one of what it is for.
+fn figure(count: f64) -> String {
+    if count < 100.0 { format!("{count:.1}") } else { format!("{count:.0}") }
+}
+
+/// Prints what was counted.
+pub fn print_layers(counts: &Counts, report: &mut Report) {
+    let mut group = "";
+    for made in rows() {
+        if made.group != group {
+            group = made.group;
+            report.begin(group);
+            let title = format!("Instructions: {group}");
+            head(&title, &["Call", "For each", "Ours", "Peers", "Ours / the fewest (goal)", "v3 / the fewest"]);
+        }
+        let of = |whose: &str| counts.of(&made.call, whose, 0, "") / made.times;
+        let peers = made.ways.iter().map(|way| way.whose).filter(|whose| !["ours", "v3"].contains(whose));
+        let counted: Vec<_> = peers.map(|whose| (of(whose), whose)).collect();
+        let fewest = counted.iter().map(|peer| peer.0).fold(f64::INFINITY, f64::min);
+        let peers: Vec<_> = counted.iter().map(|(n, whose)| format!("{} ({whose})", figure(*n))).collect();
+        let ratio = report.figure(&made.call, of("ours") / fewest, made.goal);
+        let wider = beside(counts.wider(&made.call, 0, ""), fewest * made.times);
+        row(&[
+            made.call.clone(),
+            made.each.to_owned(),
+            figure(of("ours")),
+            peers.join(", "),
+            ratio,
+            wider,
+        ]);
+    }
+}
