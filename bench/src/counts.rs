@@ -339,7 +339,7 @@ fn counted(folder: &Path) -> BTreeMap<String, f64> {
     for file in fs::read_dir(folder).expect("the folder") {
         let text = fs::read_to_string(file.expect("a file").path()).expect("a text");
         let after = |start: &str| text.lines().find_map(|line| line.strip_prefix(start).map(str::trim));
-        if let (Some(name), Some(total)) = (after("desc: Trigger: Client Request:"), after("totals:")) {
+        if let (Some(name), Some(total)) = (after("desc: Trigger: Client Request:"), after("summary:")) {
             let total: f64 = total.parse().expect("a number");
             counts.insert(name.to_owned(), total / TIMES as f64);
         }
