@@ -1,4 +1,7 @@
 //! What is wrong with a line, and where in it.
+ghost use Rattle.std.specs.Prelude.{◌≡◌, ℕ, List, ◌++◌, string_bytes, OnOk};
+ghost use Rattle.wire_lib.specs.Sent.{refusal_text};
+
 use std::alloc::{AllocError, AllocFailed, Global};
 use std::fmt::Write;
 
@@ -97,7 +100,10 @@ pub fn at_column(alloc: Global, column: usize) -> ParseError {
 }
 
 /// Appends a line that says what is wrong with the line of that number.
-pub fn put_wrong(lines: &mut String, number: u64, wrong: &Wrong) -> Result<(), AllocError> {
+pub fn put_wrong(lines: &mut String, number: u64, wrong: &Wrong) -> Result<(), AllocError>
+    ensures { OnOk result ((why : List ℕ)
+        × (string_bytes lines.new ≡ string_bytes lines.old ++ refusal_text number why)) }
+{
     write!(lines, "line {number}: ")?;
     if let Some(path) = &wrong.path {
         lines.push_str(path.as_str())?;

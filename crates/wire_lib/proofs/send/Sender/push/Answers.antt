@@ -1,0 +1,51 @@
+use Rattle.std.proofs.Common.{◌≡◌, ℕ, List, [], ◌∷◌, ◌++◌, take, length, refl, sym, ap, subst, ◌∙◌, arith, rules, string_bytes}
+use Rattle.std.proofs.lemmas.List.{append-nil, append_assoc}
+use Rattle.wire_lib.specs.Sent.{HasMade, Appended}
+use Rattle.wire_lib.proofs.SentLemmas.{appended_none, appended_then}
+use Rattle.wire_lib.proofs.ToldLemmas.{parts_on}
+use Rattle.wire_lib.proofs.send.Sender.push.Goals as goal
+
+-- nothing is left
+empty : (xs : List ℕ) → length xs ≡ 0 → xs ≡ []
+empty [] e = refl
+empty (x ∷ xs) e = absurd (omega arith)
+
+pub loop-rest-init : goal.loop-rest-init
+loop-rest-init c = (
+  [],
+  refl,
+  refl,
+  λ text made h. (
+    [],
+    subst (λ x. HasMade c.args.self.now x (made ++ [])) (sym (append-nil text)) (subst (λ x. HasMade c.args.self.now text x) (sym (append-nil made)) h),
+    appended_none c.args.frames.now.items (string_bytes c.args.wrongs.now),
+  ),
+)
+
+pub loop-rest-preserved : goal.loop-rest-preserved
+loop-rest-preserved c =
+    let rest = c.loop-rest.rest.now in
+    let used = c.in_ok-used.used in
+    let i = c.loop-rest.invariant in (
+      i.0 ++ take used rest,
+      parts_on c.args.piece.now i.0 rest used i.1 ∙ ap (λ x. (i.0 ++ take used rest) ++ x) (sym c.split_at.ensures.back),
+      c.in_ok-used.ensures.sending ∙ i.2,
+      λ text made h.
+          let told = i.3 text made h in
+          let next = c.in_ok-used.ensures.made (text ++ i.0) (made ++ told.0) told.1 in (
+            told.0 ++ next.0,
+            subst (λ x. HasMade c.push_line.new.self x (made ++ (told.0 ++ next.0))) (append_assoc text i.0 (take used rest))
+                (subst (λ x. HasMade c.push_line.new.self ((text ++ i.0) ++ take used rest) x) (append_assoc made told.0 next.0) next.1),
+            appended_then _ _ _ _ _ _ told.0 next.0 told.2 next.2,
+          ),
+    )
+
+pub returns-clause-made : goal.returns-clause-made
+returns-clause-made c text made h =
+    let i = c.loop-rest.invariant in
+    let told = i.3 text made h in
+    let none : c.loop-rest.rest.now ≡ [] = empty c.loop-rest.rest.now (search rules) in (
+      told.0,
+      subst (λ x. HasMade c.loop-rest.self (text ++ x) (made ++ told.0)) (sym (i.1 ∙ ap (λ x. i.0 ++ x) none ∙ append-nil i.0)) told.1,
+      told.2,
+    )

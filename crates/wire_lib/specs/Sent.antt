@@ -1,0 +1,101 @@
+-- What a sender has made of a text: of each line a frame or a refusal.
+use Rattle.std.specs.Prelude.{◌≡◌, ◌≢◌, ℕ, ◌+◌, ◌-◌, ◌^◌, ◌<◌, ◌≤◌, ◌&&◌, Bool, true, false, min, List, [], ◌∷◌, ◌++◌, length, slice_index, All, flat_map, codes, decimal}
+use Rattle.cobs.specs.Sentinel.{frame_for}
+use Rattle.postcard_tree.specs.Tree.{IsTree}
+use Rattle.postcard_tree.specs.Spelling.{short}
+use Rattle.schemas.specs.declared.value.Value.{Value}
+use Rattle.schemas.specs.Values.{tree_of}
+use Rattle.wire_lib.specs.declared.send.Sending.{Sending}
+use Rattle.wire_lib.specs.declared.send.Sender.{Sender}
+
+-- The frame of a value, for the sentinel, which ends it. It is the shortest of its message, and a receiver takes it.
+pub record IsFrameToSend (s : Sending) (frame : List ℕ) : Type 0 where
+  pub value : Value
+  pub is_tree : IsTree (tree_of value)
+  pub framed : frame ≡ frame_for s.sentinel (short (tree_of value)) ++ s.sentinel ∷ []
+  pub within : length frame ≤ 65536 + 1
+
+-- What a line becomes: the bytes of its frame, or what is said of it.
+pub data LineMade : Type 0 where
+  framed : List ℕ → LineMade
+  refused : List ℕ → LineMade
+
+-- what is said of the line of that number, with what is wrong
+abbrev pub refusal_text : ℕ → List ℕ → List ℕ
+refusal_text number why =
+    codes "line " ++ (decimal number ++ (codes ": " ++ (why ++ 10 ∷ [])))
+
+-- The line of that number became this: the frame of a value, or a refusal by that number.
+abbrev pub IsLineMade : Sending → ℕ → LineMade → Type 0
+IsLineMade s number (framed bytes) = IsFrameToSend s bytes
+IsLineMade s number (refused bytes) = (why : List ℕ) × (bytes ≡ refusal_text number why)
+
+-- whether it is a frame
+abbrev pub is_framed : LineMade → Bool
+is_framed (framed bytes) = true
+is_framed (refused bytes) = false
+
+-- its bytes among the frames
+abbrev pub framed_bytes : LineMade → List ℕ
+framed_bytes (framed bytes) = bytes
+framed_bytes (refused bytes) = []
+
+-- its bytes among the refusals
+abbrev pub refused_bytes : LineMade → List ℕ
+refused_bytes (framed bytes) = []
+refused_bytes (refused bytes) = bytes
+
+-- whether all are frames
+abbrev pub are_all_framed : List LineMade → Bool
+are_all_framed [] = true
+are_all_framed (m ∷ ms) = is_framed m && are_all_framed ms
+
+-- the number of a line before which so many stand; there is none past 64 bits
+abbrev pub number_behind : ℕ → ℕ
+number_behind before = min (before + 1) (2 ^ 64 - 1)
+
+-- lines behind so many others became these, one each
+abbrev pub AreLinesMade : Sending → ℕ → List LineMade → Type 0
+AreLinesMade s before [] = Unit {0}
+AreLinesMade s before (m ∷ ms) = IsLineMade s (number_behind before) m × AreLinesMade s (before + 1) ms
+
+-- no byte is a line feed
+abbrev pub LacksFeed : List ℕ → Type 0
+LacksFeed bytes = (k : ℕ) → k < length bytes → slice_index bytes k ≢ 10
+
+-- a line with the line feed that ends it
+abbrev pub with_feed : List ℕ → List ℕ
+with_feed line = line ++ 10 ∷ []
+
+-- A text of lines, each ended by a line feed, and behind them this.
+pub record IsTextOf (text : List ℕ) (lines : List (List ℕ)) (begun : List ℕ) : Type 0 where
+  pub whole : text ≡ flat_map with_feed lines ++ begun
+  pub apart : All LacksFeed lines
+  pub begun_apart : LacksFeed begun
+
+-- What was made of a text's lines, by what is begun of the next one, how many came, and whether all became frames.
+pub record HasMadeBy (s : Sending) (begun : List ℕ) (number : ℕ) (good : Bool)
+    (text : List ℕ) (made : List LineMade) : Type 0 where
+  pub lines : List (List ℕ)
+  pub parts : IsTextOf text lines begun
+  pub each : length made ≡ length lines
+  pub are : AreLinesMade s 0 made
+  pub counted : number ≡ min (length made) (2 ^ 64 - 1)
+  pub good_is : good ≡ are_all_framed made
+
+-- what lines are sent as
+abbrev pub sending_of : Sender → Sending
+sending_of r = r.sending
+
+-- what came of the line that isn't ended
+abbrev pub begun_line : Sender → List ℕ
+begun_line r = r.line.items
+
+-- Of this text the sender has made these, one of each line that a line feed ended.
+abbrev pub HasMade : Sender → List ℕ → List LineMade → Type 0
+HasMade r = HasMadeBy r.sending r.line.items r.number r.is_good
+
+-- The bytes of what was made were appended: of a frame to the frames alone, of a refusal to the refusals alone.
+pub record Appended (frames frames' wrongs wrongs' : List ℕ) (made : List LineMade) : Type 0 where
+  pub to_frames : frames' ≡ frames ++ flat_map framed_bytes made
+  pub to_wrongs : wrongs' ≡ wrongs ++ flat_map refused_bytes made
