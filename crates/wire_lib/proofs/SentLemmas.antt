@@ -5,7 +5,7 @@ use Rattle.std.specs.Prelude.{slice_index}
 use Rattle.std.proofs.lemmas.List.{append-nil, get_or-take, get_or-append_right, length-append, length-take-le, take_more}
 use Rattle.std.proofs.lemmas.List.Elements.{All-append}
 use Rattle.std.proofs.lemmas.Grind.{flat_map-append, common_steps}
-use Rattle.wire_lib.specs.Sent.{LineMade, framed, refused, IsLineMade, is_framed, framed_bytes, refused_bytes, are_all_framed, number_behind, AreLinesMade, LacksFeed, with_feed, IsTextOf, HasMadeBy, Appended, IsFrameToSend, refusal_text}
+use Rattle.wire_lib.specs.Sent.{LineMade, framed, refused, IsLineMade, is_framed, framed_bytes, refused_bytes, are_all_framed, number_behind, AreLinesMade, LacksFeed, with_feed, IsTextOf, HasMadeBy, AppendedApart, IsFrameToSend, refusal_text}
 use Rattle.wire_lib.specs.declared.send.Sending.{Sending}
 
 -- one line more
@@ -82,11 +82,11 @@ made_then s begun part number number' good good' text made m h lacks is counted 
     }
 
 -- nothing was appended
-pub appended_none : (frames wrongs : List ℕ) → Appended frames frames wrongs wrongs []
+pub appended_none : (frames wrongs : List ℕ) → AppendedApart frames frames wrongs wrongs []
 appended_none frames wrongs = record { to_frames = sym (append-nil frames); to_wrongs = sym (append-nil wrongs) }
 
 -- some was appended, and then more
-pub appended_then : (f g h v w x : List ℕ) (ms ns : List LineMade) → Appended f g v w ms → Appended g h w x ns → Appended f h v x (ms ++ ns)
+pub appended_then : (f g h v w x : List ℕ) (ms ns : List LineMade) → AppendedApart f g v w ms → AppendedApart g h w x ns → AppendedApart f h v x (ms ++ ns)
 appended_then f g h v w x ms ns a b = record {
   to_frames = b.to_frames ∙ ap (λ z. z ++ flat_map framed_bytes ns) a.to_frames ∙ append_assoc f (flat_map framed_bytes ms) (flat_map framed_bytes ns) ∙ ap (λ z. f ++ z) (sym (flat_map-append framed_bytes ms ns));
   to_wrongs = b.to_wrongs ∙ ap (λ z. z ++ flat_map refused_bytes ns) a.to_wrongs ∙ append_assoc v (flat_map refused_bytes ms) (flat_map refused_bytes ns) ∙ ap (λ z. v ++ z) (sym (flat_map-append refused_bytes ms ns));
@@ -94,7 +94,7 @@ appended_then f g h v w x ms ns a b = record {
 
 -- a line became a frame
 pub sent_framed : (s : Sending) (number : ℕ) (frames frames' wrongs bytes : List ℕ) (good : Bool) → IsFrameToSend s bytes → frames' ≡ frames ++ bytes
-    → (m : LineMade) × IsLineMade s number m × Appended frames frames' wrongs wrongs (m ∷ []) × (good ≡ (good && is_framed m))
+    → (m : LineMade) × IsLineMade s number m × AppendedApart frames frames' wrongs wrongs (m ∷ []) × (good ≡ (good && is_framed m))
 sent_framed s number frames frames' wrongs bytes good is e = (
   framed bytes,
   is,
@@ -108,7 +108,7 @@ sent_framed s number frames frames' wrongs bytes good is e = (
 
 -- a line was refused
 pub sent_refused : (s : Sending) (number number' : ℕ) (frames wrongs wrongs' : List ℕ) (good good' : Bool) → number' ≡ number → good' ≡ false → (why : List ℕ) × (wrongs' ≡ wrongs ++ refusal_text number why)
-    → (m : LineMade) × IsLineMade s number' m × Appended frames frames wrongs wrongs' (m ∷ []) × (good' ≡ (good && is_framed m))
+    → (m : LineMade) × IsLineMade s number' m × AppendedApart frames frames wrongs wrongs' (m ∷ []) × (good' ≡ (good && is_framed m))
 sent_refused s number number' frames wrongs wrongs' good good' e bad (why, said) = (
   refused (refusal_text number why),
   (why, ap (λ n. refusal_text n why) (sym e)),

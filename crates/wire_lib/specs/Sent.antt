@@ -8,7 +8,7 @@ use Rattle.schemas.specs.Values.{tree_of}
 use Rattle.wire_lib.specs.declared.send.Sending.{Sending}
 use Rattle.wire_lib.specs.declared.send.Sender.{Sender}
 
--- The frame of a value, for the sentinel, which ends it. It is the shortest of its message, and a receiver takes it.
+-- The frame of a value, for the sentinel, which ends it. It is the shortest of its message, of at most 65536 bytes before that.
 pub record IsFrameToSend (s : Sending) (frame : List ℕ) : Type 0 where
   pub value : Value
   pub is_tree : IsTree (tree_of value)
@@ -96,6 +96,6 @@ abbrev pub HasMade : Sender → List ℕ → List LineMade → Type 0
 HasMade r = HasMadeBy r.sending r.line.items r.number r.is_good
 
 -- The bytes of what was made were appended: of a frame to the frames alone, of a refusal to the refusals alone.
-pub record Appended (frames frames' wrongs wrongs' : List ℕ) (made : List LineMade) : Type 0 where
+pub record AppendedApart (frames frames' wrongs wrongs' : List ℕ) (made : List LineMade) : Type 0 where
   pub to_frames : frames' ≡ frames ++ flat_map framed_bytes made
   pub to_wrongs : wrongs' ≡ wrongs ++ flat_map refused_bytes made

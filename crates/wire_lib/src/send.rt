@@ -1,6 +1,6 @@
 //! Lines of JSON as frames.
 ghost use Rattle.std.specs.Prelude.{◌≡◌, ℕ, ◌<◌, ◌≤◌, ◌&&◌, false, List, [], ◌∷◌, ◌++◌, length, take, string_bytes, IfOk, OnOk};
-ghost use Rattle.wire_lib.specs.Sent.{IsFrameToSend, LineMade, refusal_text, IsLineMade, AreLinesMade, is_framed, are_all_framed, number_behind, sending_of, begun_line, HasMade, Appended};
+ghost use Rattle.wire_lib.specs.Sent.{IsFrameToSend, LineMade, refusal_text, IsLineMade, AreLinesMade, is_framed, are_all_framed, number_behind, sending_of, begun_line, HasMade, AppendedApart};
 
 use crate::parse::parse;
 use crate::receive::LIMIT;
@@ -89,7 +89,7 @@ impl<'a> Sender<'a> {
     /// Sends a line, without its line feed.
     fn send(&mut self, line: &[u8], frames: &mut Vec<u8>, wrongs: &mut String) -> Sent
         ensures made { OnOk result ((m : LineMade) × IsLineMade self.old.sending self.new.number m
-            × Appended frames.old.items frames.new.items (string_bytes wrongs.old)
+            × AppendedApart frames.old.items frames.new.items (string_bytes wrongs.old)
             (string_bytes wrongs.new) (m ∷ [])
             × (self.new.is_good ≡ (self.old.is_good && is_framed m))) }
         ensures number { self.new.number ≡ number_behind self.old.number }
@@ -117,7 +117,7 @@ impl<'a> Sender<'a> {
     /// Sends a line of which this is the last part. One that lies whole in the piece is read from there.
     fn end(&mut self, part: &[u8], frames: &mut Vec<u8>, wrongs: &mut String) -> Sent
         ensures made { OnOk result ((m : LineMade) × IsLineMade self.old.sending self.new.number m
-            × Appended frames.old.items frames.new.items (string_bytes wrongs.old)
+            × AppendedApart frames.old.items frames.new.items (string_bytes wrongs.old)
             (string_bytes wrongs.new) (m ∷ [])
             × (self.new.is_good ≡ (self.old.is_good && is_framed m))
             × (self.new.line.items ≡ [])) }
@@ -145,7 +145,7 @@ impl<'a> Sender<'a> {
         ensures made { IfOk result (λ used. (text : List ℕ) (made : List LineMade)
             → HasMade self.old text made → (more : List LineMade)
             × HasMade self.new (text ++ take used rest.now) (made ++ more)
-            × Appended frames.old.items frames.new.items (string_bytes wrongs.old)
+            × AppendedApart frames.old.items frames.new.items (string_bytes wrongs.old)
             (string_bytes wrongs.new) more) }
         ensures within { IfOk result (λ used. used ≤ length rest.now) }
         ensures forward { 0 < length rest.now → IfOk result (λ used. 0 < used) }
@@ -169,7 +169,7 @@ impl<'a> Sender<'a> {
         ensures made { OnOk result ((text : List ℕ) (made : List LineMade)
             → HasMade self.old text made → (more : List LineMade)
             × HasMade self.new (text ++ piece.now) (made ++ more)
-            × Appended frames.old.items frames.new.items (string_bytes wrongs.old)
+            × AppendedApart frames.old.items frames.new.items (string_bytes wrongs.old)
             (string_bytes wrongs.new) more) }
         ensures sending { sending_of self.new ≡ sending_of self.old }
     {
@@ -188,7 +188,7 @@ impl<'a> Sender<'a> {
             → HasMade self.old text made → (last : List LineMade)
             × (length last ≤ 1) × (last ≡ [] → begun_line self.old ≡ [])
             × AreLinesMade (sending_of self.old) (length made) last
-            × Appended frames.old.items frames.new.items (string_bytes wrongs.old)
+            × AppendedApart frames.old.items frames.new.items (string_bytes wrongs.old)
             (string_bytes wrongs.new) last
             × (self.new.is_good ≡ are_all_framed (made ++ last))) }
     {
@@ -205,7 +205,7 @@ impl<'a> Sender<'a> {
             → HasMade self.entry text made → (last : List LineMade)
             × (length last ≤ 1) × (last ≡ [] → begun_line self.entry ≡ [])
             × AreLinesMade (sending_of self.entry) (length made) last
-            × Appended frames.old.items frames.new.items (string_bytes wrongs.old)
+            × AppendedApart frames.old.items frames.new.items (string_bytes wrongs.old)
             (string_bytes wrongs.new) last
             × (good ≡ are_all_framed (made ++ last))) }
     {

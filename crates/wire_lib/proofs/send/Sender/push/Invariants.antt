@@ -1,5 +1,5 @@
 use Rattle.std.proofs.Common.{◌≡◌, ℕ, List, ◌++◌, length, string_bytes}
-use Rattle.wire_lib.specs.Sent.{LineMade, HasMade, Appended}
+use Rattle.wire_lib.specs.Sent.{LineMade, HasMade, AppendedApart}
 use Rattle.wire_lib.proofs.send.Sender.push.Given as goal
 
 -- what is left of the piece, and what was made of what came before it
@@ -9,7 +9,7 @@ invariant-loop-rest l =
     × (l.self.sending ≡ l.fn.self.sending)
     × ((text : List ℕ) (made : List LineMade) → HasMade l.fn.self text made
     → (more : List LineMade) × HasMade l.self (text ++ done) (made ++ more)
-    × Appended l.fn.frames.items l.frames.items (string_bytes l.fn.wrongs) (string_bytes l.wrongs) more)
+    × AppendedApart l.fn.frames.items l.frames.items (string_bytes l.fn.wrongs) (string_bytes l.wrongs) more)
 
 abbrev pub decreases-loop-rest : goal.decreases-loop-rest
 decreases-loop-rest l = length l.rest
