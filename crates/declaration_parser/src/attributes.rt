@@ -5,6 +5,9 @@ use crate::tokens::{Token, is_among, is_comment_mark};
 /// What marks where it stands in a derive, or before a name there; and `self`, which may stand for such in a `use`.
 const RENAMED: &[&str] = &["Deserialize", "Serialize", "self", "serde", "serde_derive"];
 
+/// Crates that have derives of their own called as serde's are.
+const NOT_OF_SERDE: &[&str] = &["miniserde", "rkyv"];
+
 /// The text of the first of these tokens; nothing where there is none.
 pub fn first_word(tokens: &[Token]) -> &str {
     match tokens {
@@ -179,14 +182,12 @@ pub fn renamed_derive(tokens: &[Token]) -> Option<&Token> {
     None
 }
 
-/// Whether a derive's name is one of serde's, by what stands before it.
+/// Whether a derive's name is one of serde's, by what stands before it: nothing, or any path that isn't another crate's, since
+/// serde's derives are passed on by others too.
 fn is_of_serde(path: &[Token]) -> bool {
     match path {
         [_] => true,
-        [.., krate, _, _, _] => is_among(
-            krate.text.as_str(),
-            &["serde", "serde_derive", "serde_repr"],
-        ),
+        [.., krate, _, _, _] => !is_among(krate.text.as_str(), NOT_OF_SERDE),
         _ => false,
     }
 }
