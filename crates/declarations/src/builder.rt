@@ -8,7 +8,7 @@ mod lengths;
 mod naming;
 mod types;
 
-use crate::index::{Index, Marked};
+use crate::scopes::{Marked, Scopes};
 use crate::{Error, Names};
 use declaration_parser::declaration::Declaration;
 use declaration_parser::faults::Faults;
@@ -24,18 +24,26 @@ const DEEPEST: u32 = 64;
 /// What is said where no file is named.
 const NO_FILE: &str = "no file of declarations is named\n";
 
+/// What is said of a name that is marked twice.
+const TWICE: &str = "the file declares this name twice: leave out what isn't on the wire";
+
+const IN_ANOTHER: &str =
+    "another of the files declares this name too: name those alone that are meant";
+
 /// What a parameter stands for.
 #[derive(Clone, Copy, PartialEq, Eq, Drop)]
-enum Given {
+enum Given<'a> {
     Type(usize),
     Length(u64),
+    /// A name that stands for no type that is known, for this reason.
+    Wrong(&'a str, &'a str),
 }
 
 /// A parameter, and what it stands for.
 #[derive(Clone, Copy, Drop)]
 struct Bound<'a> {
     name: &'a str,
-    given: Given,
+    given: Given<'a>,
 }
 
 /// A type with parameters that was made: which, of what, and at which place.
@@ -72,13 +80,17 @@ struct Builder<'a, 'b> {
     /// What parameters stand for: those of the type that is made stand behind so many.
     bound: Vec<Bound<'a>>,
     scope: usize,
-    /// The names of all files, and the place of the file whose words are read.
-    files: &'b [Index<'a>],
-    file: usize,
+    /// The names of all files, the scopes of the declared types, and the scope whose words are read.
+    scopes: &'b Scopes<'a>,
+    declared_in: &'b [usize],
+    generic_in: &'b [usize],
+    here: usize,
     at: At<'a>,
     /// The words of a type that aren't read yet, and the line of the last one that was.
     rest: &'a [Token],
     line: usize,
+    /// How many numbers more the length that is read may be computed of.
+    left: u32,
     /// The table: behind the nodes of the declared types those of types without a name.
     nodes: Vec<Node>,
     names: Vec<Names>,
@@ -87,48 +99,29 @@ struct Builder<'a, 'b> {
     is_wrong: bool,
 }
 
-/// The place of a file among all.
-fn place_of_file(files: &[Index<'_>], file: &Read) -> usize {
-    for (place, index) in files.iter().enumerate() {
-        if index.file.file == file.file {
-            return place;
-        }
-    }
-    0
+/// What a list has at a place.
+fn place_in(list: &[usize], place: usize) -> usize {
+    list.get(place).copied().unwrap_or(0)
 }
 
-/// The names of files, with those that are marked.
-fn indexed<'a>(
+/// Adds marked types to the names of their files, those with parameters or the others, and gives the scope of each.
+fn marked<'a>(
     alloc: Global,
-    files: &'a [Read],
-    declared: &[Declaration<'a>],
-    generic: &[Declaration<'a>],
-) -> Result<Vec<Index<'a>>, AllocError> {
-    let mut indexes = Vec::new(alloc);
-    for file in files {
-        let index = Index::new(alloc, file, KNOWN_CRATES)?;
-        indexes.push(index)?;
+    scopes: &mut Scopes<'a>,
+    types: &[Declaration<'a>],
+    are_generic: bool,
+) -> Result<Vec<usize>, AllocError> {
+    let mut places = Vec::new(alloc);
+    for (place, it) in types.iter().enumerate() {
+        let own = if are_generic {
+            Marked::Generic(place)
+        } else {
+            Marked::Whole(place)
+        };
+        let scope = scopes.mark(it.name, it.line, it.file.file.as_str(), own)?;
+        places.push(scope)?;
     }
-    for (place, it) in declared.iter().enumerate() {
-        mark(&mut indexes, it, Marked::Whole(place))?;
-    }
-    for (index, it) in generic.iter().enumerate() {
-        mark(&mut indexes, it, Marked::Generic(index))?;
-    }
-    Ok(indexes)
-}
-
-/// Adds a marked type to the names of its file.
-fn mark<'a>(
-    indexes: &mut [Index<'a>],
-    it: &Declaration<'a>,
-    marked: Marked,
-) -> Result<(), AllocError> {
-    let place = place_of_file(indexes, it.file);
-    match indexes.get_mut(place) {
-        Some(index) => index.mark(it.name, marked),
-        None => Ok(()),
-    }
+    Ok(places)
 }
 
 impl<'a> Builder<'a, '_> {
@@ -193,12 +186,10 @@ impl<'a> Builder<'a, '_> {
         self.wrong(&["`", word, why])
     }
 
-    /// Goes over to the words of a file.
-    fn turn_to(&mut self, file: usize) {
-        self.file = file;
-        if let Some(index) = self.files.get(file) {
-            self.faults.turn_to(index.file.file.as_str());
-        }
+    /// Goes over to the words of a scope.
+    fn turn_to(&mut self, scope: usize) {
+        self.here = scope;
+        self.faults.turn_to(self.scopes.file_of(scope));
     }
 
     /// Takes this word, which must be next.
@@ -269,9 +260,9 @@ impl<'a> Builder<'a, '_> {
         }
     }
 
-    /// Goes over to a declaration.
-    fn begin(&mut self, it: &Declaration<'a>) {
-        self.turn_to(place_of_file(self.files, it.file));
+    /// Goes over to a declaration of a scope.
+    fn begin(&mut self, it: &Declaration<'a>, scope: usize) {
+        self.turn_to(scope);
         self.at = At {
             name: it.name,
             variant: "",
@@ -279,15 +270,19 @@ impl<'a> Builder<'a, '_> {
         };
     }
 
-    /// Refuses a name that another declaration of the file has.
-    fn check(&mut self, it: &Declaration<'a>, own: Marked) {
-        self.begin(it);
+    /// Refuses a name that another declaration has.
+    fn check(&mut self, it: &Declaration<'a>, scope: usize, own: Marked) {
+        self.begin(it, scope);
         self.is_wrong = false;
         self.line = it.line;
-        if let Some(index) = self.files.get(self.file)
-            && !index.is_first(it.name, own)
-        {
-            self.wrong(&["the file declares this name twice: leave out what isn't on the wire"]);
+        match self.scopes.first_of(it.name, scope) {
+            Some((first, _)) if first == own => {}
+            Some((_, false)) => {
+                self.wrong(&[IN_ANOTHER]);
+            }
+            _ => {
+                self.wrong(&[TWICE]);
+            }
         }
         if is_among(it.name, PRIMITIVE) {
             self.wrong(&["a type of the language has this name: call it otherwise"]);
@@ -297,11 +292,13 @@ impl<'a> Builder<'a, '_> {
     /// Makes the nodes of the declared types, in their order.
     fn declarations(&mut self) {
         for (index, it) in self.generic.iter().enumerate() {
-            self.check(it, Marked::Generic(index));
+            let scope = place_in(self.generic_in, index);
+            self.check(it, scope, Marked::Generic(index));
         }
         for (place, it) in self.declared.iter().enumerate() {
-            self.check(it, Marked::Whole(place));
-            let entry = self.declaration(it, DEEPEST);
+            let scope = place_in(self.declared_in, place);
+            self.check(it, scope, Marked::Whole(place));
+            let entry = self.declaration(it, scope, DEEPEST);
             self.put(place, entry);
         }
     }
@@ -323,7 +320,9 @@ pub fn table<'a>(
     if files.is_empty() {
         return Err(Error::Wrong(String::from_str(alloc, NO_FILE)?));
     }
-    let indexes = indexed(alloc, files, declared, generic)?;
+    let mut scopes = Scopes::new(alloc, files, KNOWN_CRATES)?;
+    let declared_in = marked(alloc, &mut scopes, declared, false)?;
+    let generic_in = marked(alloc, &mut scopes, generic, true)?;
     let mut builder = Builder {
         alloc,
         declared,
@@ -331,8 +330,10 @@ pub fn table<'a>(
         instances: Vec::new(alloc),
         bound: Vec::new(alloc),
         scope: 0,
-        files: &indexes,
-        file: 0,
+        scopes: &scopes,
+        declared_in: &declared_in,
+        generic_in: &generic_in,
+        here: 0,
         at: At {
             name: "",
             variant: "",
@@ -340,6 +341,7 @@ pub fn table<'a>(
         },
         rest: &[],
         line: 0,
+        left: 0,
         nodes: Vec::new(alloc),
         names: Vec::new(alloc),
         faults: Faults::new(alloc),

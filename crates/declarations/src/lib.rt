@@ -3,10 +3,11 @@
 #![tactic(auto)]
 
 mod builder;
-mod index;
 mod literals;
 mod read;
 mod schema;
+mod scopes;
+mod sums;
 
 pub use read::{Error, Source, read_schema, read_sources};
 pub use schema::{Named, Names, Schema};

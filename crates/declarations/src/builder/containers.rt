@@ -1,10 +1,22 @@
 //! The places of types that hold others in brackets.
+ghost use Rattle.std.specs.Prelude.{◌≡◌, ◌∷◌, [], IfOk};
+
 use super::Builder;
 use super::known::{integer_type, list_node};
 use crate::Names;
 use declaration_parser::tokens::is_lifetime;
 use schemas::Node;
-use std::alloc::Global;
+use std::alloc::{AllocError, Global};
+
+/// The places of what a `Result` holds: its value's, and its error's behind that.
+fn payloads_of(alloc: Global, value: usize, error: usize) -> Result<Vec<usize>, AllocError>
+    ensures { IfOk result (λ places. places.items ≡ value ∷ error ∷ []) }
+{
+    let mut places = Vec::new(alloc);
+    places.push(value)?;
+    places.push(error)?;
+    Ok(places)
+}
 
 impl<'a> Builder<'a, '_> {
     /// Behind `Cow`: what is lent or owned.
@@ -19,10 +31,31 @@ impl<'a> Builder<'a, '_> {
     }
 
     /// Behind `PhantomData`, whose type isn't sent.
-    #[cycle(types)]
-    pub(super) fn phantom(&mut self, depth: u32) -> usize {
-        self.inner(depth);
+    pub(super) fn phantom(&mut self) -> usize {
+        self.owe("<");
+        self.skip_type();
+        self.owe(">");
         self.add(Node::Struct(Vec::new(self.alloc)), Names::Unit)
+    }
+
+    /// Takes the words up to a `>` that closes what is open before them; that of an arrow doesn't.
+    fn skip_type(&mut self) {
+        let mut open: usize = 0;
+        let mut before = "";
+        for _ in 0..self.rest.len() {
+            let word = self.peek();
+            let closes = word == ">" && before != "-";
+            if closes && open == 0 {
+                break;
+            }
+            if closes {
+                open = open.saturating_sub(1);
+            } else if word == "<" {
+                open = open.saturating_add(1);
+            }
+            before = word;
+            self.step();
+        }
     }
 
     /// Behind `&`: takes a lifetime, if there is one.
@@ -87,21 +120,8 @@ impl<'a> Builder<'a, '_> {
 
     /// Takes the type that makes hashes or counts the elements, if there is one, which isn't sent.
     fn skip_hasher(&mut self) {
-        if self.peek() != "," {
-            return;
-        }
-        let mut open: usize = 0;
-        for _ in 0..self.rest.len() {
-            let word = self.peek();
-            if word == ">" && open == 0 {
-                break;
-            }
-            if word == "<" {
-                open = open.saturating_add(1);
-            } else if word == ">" {
-                open = open.saturating_sub(1);
-            }
-            self.step();
+        if self.peek() == "," {
+            self.skip_type();
         }
     }
 
@@ -188,8 +208,10 @@ impl<'a> Builder<'a, '_> {
     #[cycle(types)]
     pub(super) fn outcome(&mut self, depth: u32) -> usize {
         let (value, error) = self.pair(depth);
-        let payloads = self.both(value, error);
+        let payloads = payloads_of(self.alloc, value, error);
+        self.faults.note(payloads.is_err());
         let names = self.owned(&["Ok", "Err"]);
+        let payloads = payloads.unwrap_or(Vec::new(self.alloc));
         self.add(Node::Enum(payloads), Names::Variants(names))
     }
 

@@ -18,8 +18,8 @@ const NO_ARRAY: &str = "`with` is of an array here: write the type that is on th
 impl<'a> Builder<'a, '_> {
     /// The node of a declared type.
     #[cycle(types)]
-    pub(super) fn declaration(&mut self, it: &Declaration<'a>, depth: u32) -> Entry {
-        self.begin(it);
+    pub(super) fn declaration(&mut self, it: &Declaration<'a>, scope: usize, depth: u32) -> Entry {
+        self.begin(it, scope);
         match &it.body {
             Body::Struct(fields) => self.group(fields, depth),
             Body::Enum(variants) => self.choice(variants, depth),

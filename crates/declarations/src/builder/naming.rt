@@ -1,7 +1,7 @@
 //! What a name stands for.
-use super::known::{EVERYWHERE, KNOWN_CRATES, SENT_AS, is_known};
+use super::known::{EVERYWHERE, SENT_AS, is_known};
 use super::{Builder, Given};
-use crate::index::{Import, Index, Marked, Meaning};
+use crate::scopes::{Marked, Meaning, Seen, Space};
 use declaration_parser::tokens::{Token, is_among};
 
 /// What is said of a type that isn't declared.
@@ -19,9 +19,9 @@ const NO_ALIAS: &str =
 /// What is said of a name that two files declare.
 const IN_TWO_FILES: &str = "` is declared in two of the files: name those alone that are meant";
 
-/// What is said of a name that stands for different types in different modules of a file.
+/// What is said of a name that stands for different types.
 const DOUBTFUL: &str =
-    "` is more than one type, of different modules or from elsewhere: put those that are on the wire into files of their own";
+    "` is more than one type, or of a module from which nothing brings it in here: put what is on the wire into a file of its own";
 
 /// What is said of a name that is brought in and isn't found.
 const BROUGHT_IN: &str =
@@ -37,7 +37,7 @@ pub(super) enum Found<'a> {
     /// The declared type at that place, or the type with parameters of that index.
     Declared(usize),
     Generic(usize),
-    /// What these words of a file, by its place, say.
+    /// What these words of a scope say.
     Alias(&'a [Token], usize),
     /// A known type by its own name.
     Known(&'a str),
@@ -45,73 +45,92 @@ pub(super) enum Found<'a> {
     Wrong(&'a str),
 }
 
-/// What a name stands for that this file, by its place, declares.
-fn found_as<'a>(it: Meaning<'a>, file: usize) -> Found<'a> {
+/// What a name stands for that a scope declares.
+fn found_as<'a>(it: Meaning<'a>, scope: usize) -> Found<'a> {
     match it {
         Meaning::Marked(Marked::Whole(place)) => Found::Declared(place),
         Meaning::Marked(Marked::Generic(index)) => Found::Generic(index),
-        Meaning::Alias(words) => Found::Alias(words, file),
+        Meaning::Alias(words) => Found::Alias(words, scope),
         Meaning::Unmarked => Found::Wrong(UNMARKED),
         Meaning::NoAlias => Found::Wrong(NO_ALIAS),
+        Meaning::Twice => Found::Wrong(DOUBTFUL),
     }
-}
-
-/// What a name stands for that a file declares, by its place, unless it may be another's too.
-fn found_in<'a>(index: &Index<'a>, name: &str, it: Meaning<'a>, file: usize) -> Found<'a> {
-    if index.is_doubtful(name) {
-        return Found::Wrong(DOUBTFUL);
-    }
-    found_as(it, file)
 }
 
 impl<'a> Builder<'a, '_> {
-    /// What a name stands for: in the file that is read, by what that brings in, or everywhere.
-    pub(super) fn found(&self, word: &'a str) -> Found<'a> {
-        let Some(index) = self.files.get(self.file) else {
-            return Found::Known(word);
-        };
-        if let Some(it) = index.meaning(word) {
-            return found_in(index, word, it, self.file);
-        }
-        if let Some(import) = index.import(word) {
-            return self.imported(import);
-        }
-        if index.has_glob || !is_known(word) {
-            if let Some(found) = self.found_in_others(word) {
-                return found;
+    /// What a name of this kind stands for in the scope that is read.
+    pub(super) fn seen(&mut self, word: &'a str, space: Space) -> Seen<'a> {
+        self.seen_in(self.here, word, space)
+    }
+
+    /// What a scope has under a name of this kind.
+    pub(super) fn seen_in(&mut self, scope: usize, word: &'a str, space: Space) -> Seen<'a> {
+        match self.scopes.look(self.alloc, self.here, scope, word, space) {
+            Ok(seen) => seen,
+            Err(_) => {
+                self.faults.note(true);
+                Seen::Not
             }
         }
-        if index.has_glob && !is_among(word, EVERYWHERE) {
+    }
+
+    /// What the name of a type stands for where it is read, or everywhere.
+    pub(super) fn found(&mut self, word: &'a str) -> Found<'a> {
+        let seen = self.seen(word, Space::Types);
+        if let Some(found) = self.found_here(seen) {
+            return found;
+        }
+        let by_glob = seen == Seen::ByGlob;
+        if (by_glob || !is_known(word))
+            && let Some(found) = self.found_in_others(word, false)
+        {
+            return found;
+        }
+        if by_glob && !is_among(word, EVERYWHERE) {
             return Found::Wrong(BY_GLOB);
         }
         Found::Known(word)
     }
 
-    /// What a name stands for that is brought in: a known type, or what another of the files declares.
-    fn imported(&self, import: Import<'a>) -> Found<'a> {
-        if is_among(import.root, KNOWN_CRATES) {
-            return Found::Known(import.name);
+    /// What was seen stands for, where that is clear.
+    fn found_here(&self, seen: Seen<'a>) -> Option<Found<'a>> {
+        match seen {
+            Seen::In(scope, name) => Some(found_as(self.scopes.meaning(scope, name)?, scope)),
+            Seen::Known(name) => Some(Found::Known(name)),
+            Seen::Elsewhere(name) => Some(
+                self.found_in_others(name, true)
+                    .unwrap_or(Found::Wrong(BROUGHT_IN)),
+            ),
+            Seen::Doubtful => Some(Found::Wrong(DOUBTFUL)),
+            Seen::ByGlob | Seen::Not => None,
         }
-        self.found_in_others(import.name)
-            .unwrap_or(Found::Wrong(BROUGHT_IN))
     }
 
-    /// What a name stands for that one of the files declares.
-    pub(super) fn found_in_others(&self, word: &str) -> Option<Found<'a>> {
-        let mut only = None;
-        for (file, index) in self.files.iter().enumerate() {
-            if let Some(it) = index.meaning(word) {
-                if only.is_some() {
-                    return Some(Found::Wrong(IN_TWO_FILES));
-                }
-                only = Some(found_in(index, word, it, file));
-            }
+    /// What the last name of a path stands for that leads to a scope; nothing where that doesn't have it.
+    pub(super) fn found_in(&mut self, scope: usize, word: &'a str) -> Option<Found<'a>> {
+        let seen = self.seen_in(scope, word, Space::Types);
+        match self.found_here(seen) {
+            Some(found) => Some(found),
+            None if seen == Seen::ByGlob => Some(
+                self.found_in_others(word, false)
+                    .unwrap_or(Found::Wrong(BROUGHT_IN)),
+            ),
+            None => None,
         }
-        only
+    }
+
+    /// What a name stands for that one of the other files declares, whether it is brought in by its name or not.
+    pub(super) fn found_in_others(&self, word: &str, is_brought: bool) -> Option<Found<'a>> {
+        let scope = match self.scopes.only_other(self.here, word, is_brought)? {
+            Ok(scope) => scope,
+            Err(true) => return Some(Found::Wrong(DOUBTFUL)),
+            Err(false) => return Some(Found::Wrong(IN_TWO_FILES)),
+        };
+        Some(found_as(self.scopes.meaning(scope, word)?, scope))
     }
 
     /// What a parameter stands for.
-    pub(super) fn given(&self, word: &str) -> Option<Given> {
+    pub(super) fn given(&self, word: &str) -> Option<Given<'a>> {
         let bound = self.bound.get(self.scope..)?;
         for it in bound {
             if it.name == word {
@@ -119,17 +138,6 @@ impl<'a> Builder<'a, '_> {
             }
         }
         None
-    }
-
-    /// Whether the name at the end of a path stands in a module that is written in this file.
-    pub(super) fn is_own_module(&self, root: &str, path: &[Token]) -> bool {
-        let Some(index) = self.files.get(self.file) else {
-            return false;
-        };
-        match path {
-            [.., module, _, _, _] => index.has_module(module.text.as_str()),
-            _ => index.has_module(root),
-        }
     }
 
     /// Refuses a type that isn't known.

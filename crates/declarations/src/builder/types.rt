@@ -1,10 +1,10 @@
 //! The places of types, by their words.
-use super::known::{KNOWN_CRATES, PRIMITIVE, plain_node};
+use super::known::{PRIMITIVE, plain_node};
 use super::naming::Found;
-use super::{Bound, Builder, Given, Made};
+use super::{Bound, Builder, Given, Made, place_in};
 use crate::Names;
-use declaration_parser::attributes::last_word;
 use declaration_parser::declaration::Declaration;
+use declaration_parser::parser::plain_name;
 use declaration_parser::tokens::{Token, is_among, is_lifetime};
 use schemas::{IntegerType, Node};
 
@@ -70,45 +70,55 @@ impl<'a> Builder<'a, '_> {
     /// The place of a type by a path that begins with this word.
     #[cycle(types)]
     fn path(&mut self, word: &'a str, depth: u32) -> usize {
-        let root = if word == ":" {
-            self.owe(":");
-            self.step()
-        } else {
-            word
+        let names = self.names_of_path(word);
+        let [before @ .., last] = names.as_slice() else {
+            return 0;
         };
-        let path = self.segments();
-        let last = last_word(path);
-        if is_among(root, KNOWN_CRATES) {
+        let root = before.first().copied().unwrap_or(last);
+        if self.scopes.known_crate(self.here, root).is_some() {
             return self.known(last, depth);
         }
-        if (root == "self" && path.len() == 3) || self.is_own_module(root, path) {
-            return self.named(last, depth);
-        }
-        match self.found_in_others(last) {
-            Some(found) if self.files.len() > 1 => self.resolved(found, last, depth),
-            _ => self.refuse_path(root, last),
+        match self.found_by_path(before, last) {
+            Some(found) => self.resolved(found, last, depth),
+            None => self.refuse_path(root, last),
         }
     }
 
-    /// Takes what a path has behind its first word.
-    fn segments(&mut self) -> &'a [Token] {
-        let begun = self.rest;
-        for _ in 0..begun.len() {
+    /// What the last name of a path stands for.
+    fn found_by_path(&mut self, before: &[&'a str], last: &'a str) -> Option<Found<'a>> {
+        match self.scopes.scope_of(self.here, before) {
+            Some(scope) if !before.is_empty() => self.found_in(scope, last),
+            _ => self.found_in_others(last, true),
+        }
+    }
+
+    /// Takes the names of a path that begins with this word.
+    pub(super) fn names_of_path(&mut self, word: &'a str) -> Vec<&'a str> {
+        let mut names = Vec::new(self.alloc);
+        let mut next = word;
+        if word == ":" {
+            self.owe(":");
+            next = self.step();
+        }
+        for _ in 0..self.rest.len() {
+            let failed = names.push(next).is_err();
+            self.faults.note(failed);
             if !self.take(":") {
                 break;
             }
             self.owe(":");
-            self.step();
+            next = self.step();
         }
-        let length = begun.len().saturating_sub(self.rest.len());
-        begun.get(..length).unwrap_or(&[])
+        names
     }
 
     /// The place of a type by its name: a parameter, one that the file declares, or one that is known.
     #[cycle(types)]
     fn named(&mut self, word: &'a str, depth: u32) -> usize {
-        if let Some(Given::Type(place)) = self.given(word) {
-            return place;
+        match self.given(word) {
+            Some(Given::Type(place)) => return place,
+            Some(Given::Wrong(name, why)) => return self.refuse(name, why),
+            _ => {}
         }
         if is_among(word, PRIMITIVE) {
             return self.known(word, depth);
@@ -139,9 +149,9 @@ impl<'a> Builder<'a, '_> {
                 place
             }
             Found::Generic(index) => self.instance(index, depth),
-            Found::Alias(words, file) => {
+            Found::Alias(words, there) => {
                 self.lifetimes();
-                self.alias(words, file, depth)
+                self.alias(words, there, depth)
             }
             Found::Known(name) => self.known(name, depth),
             Found::Wrong(why) => self.refuse(word, why),
@@ -169,12 +179,12 @@ impl<'a> Builder<'a, '_> {
         }
     }
 
-    /// The place of the type that these words of a file say, which are an alias.
+    /// The place of the type that these words of a scope say, which are an alias.
     #[cycle(types)]
-    fn alias(&mut self, words: &'a [Token], file: usize, depth: u32) -> usize {
-        let (scope, before) = (self.scope, self.file);
+    fn alias(&mut self, words: &'a [Token], there: usize, depth: u32) -> usize {
+        let (scope, before) = (self.scope, self.here);
         self.scope = self.bound.len();
-        self.turn_to(file);
+        self.turn_to(there);
         let place = self.whole(words, depth);
         self.turn_to(before);
         self.scope = scope;
@@ -216,7 +226,7 @@ impl<'a> Builder<'a, '_> {
                 let it = if is_among(name, lengths) {
                     Given::Length(self.length())
                 } else {
-                    Given::Type(self.place(depth))
+                    self.argument(depth)
                 };
                 if self.peek() != ">" {
                     self.owe(",");
@@ -227,6 +237,26 @@ impl<'a> Builder<'a, '_> {
         }
         self.owe(">");
         given
+    }
+
+    /// What stands for a parameter that is a type. A name that stands for none is wrong only where the parameter is sent.
+    #[cycle(types)]
+    fn argument(&mut self, depth: u32) -> Given<'a> {
+        let is_alone = match self.rest {
+            [_, behind, ..] => is_among(behind.text.as_str(), &[",", ">"]),
+            _ => false,
+        };
+        let word = plain_name(self.peek());
+        let is_free = is_alone && self.given(word).is_none() && !is_among(word, PRIMITIVE);
+        if is_free
+            && word != "Self"
+            && word != "_"
+            && let Found::Wrong(why) = self.found(word)
+        {
+            self.step();
+            return Given::Wrong(word, why);
+        }
+        Given::Type(self.place(depth))
     }
 
     /// The place of a type that was made of the same.
@@ -266,7 +296,7 @@ impl<'a> Builder<'a, '_> {
         depth: u32,
     ) -> usize {
         let place = self.add(Node::Bool, Names::Nothing);
-        let (at, scope, file) = (self.at, self.scope, self.file);
+        let (at, scope, here) = (self.at, self.scope, self.here);
         self.scope = self.bound.len();
         for bound in &of {
             let failed = self.bound.push(*bound).is_err();
@@ -274,12 +304,12 @@ impl<'a> Builder<'a, '_> {
         }
         let failed = self.instances.push(Made { index, of, place }).is_err();
         self.faults.note(failed);
-        let entry = self.declaration(it, depth);
+        let entry = self.declaration(it, place_in(self.generic_in, index), depth);
         self.put(place, entry);
         self.bound.truncate(self.scope);
         self.at = at;
         self.scope = scope;
-        self.turn_to(file);
+        self.turn_to(here);
         place
     }
 
@@ -310,7 +340,7 @@ impl<'a> Builder<'a, '_> {
             "FnvIndexMap" | "LinearMap" => return self.map_up_to(depth),
             "ArrayString" => return self.text_up_to(),
             "LE" | "BE" => return self.ordered(word),
-            "PhantomData" => return self.phantom(depth),
+            "PhantomData" => return self.phantom(),
             "f32" => return self.add(Node::LE(IntegerType::U32), Names::Float),
             "f64" => return self.add(Node::LE(IntegerType::U64), Names::Float),
             _ => {}

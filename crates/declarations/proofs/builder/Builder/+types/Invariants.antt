@@ -4,8 +4,11 @@ use Rattle.declarations.proofs.builder.Builder.+types.Given as goal
 abbrev pub decreases-alias : goal.decreases-alias
 decreases-alias l = 16 * l.depth + 2
 
+abbrev pub decreases-argument : goal.decreases-argument
+decreases-argument l = 16 * l.depth + 1
+
 abbrev pub decreases-arguments : goal.decreases-arguments
-decreases-arguments l = 16 * l.depth + 1
+decreases-arguments l = 16 * l.depth + 2
 
 abbrev pub decreases-array : goal.decreases-array
 decreases-array l = 16 * l.depth + 1
@@ -75,9 +78,6 @@ decreases-path l = 16 * l.depth + 12
 
 abbrev pub decreases-payload : goal.decreases-payload
 decreases-payload l = 16 * l.depth + 5
-
-abbrev pub decreases-phantom : goal.decreases-phantom
-decreases-phantom l = 16 * l.depth + 2
 
 abbrev pub decreases-place : goal.decreases-place
 decreases-place l = 16 * l.depth
