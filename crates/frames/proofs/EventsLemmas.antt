@@ -5,8 +5,7 @@ use Rattle.postcard_tree.specs.Tree.{Tree}
 use Rattle.link.specs.Stream.{begun}
 use Rattle.link.specs.Steps.{Event, quiet, ended, passed, Course, course_of}
 use Rattle.link.specs.Finds.{Replies}
-use Rattle.link.specs.Lemmas.AnswerLaws.{answered}
-use Rattle.link.specs.Lemmas.SpanLaws.{stretch_of}
+use Rattle.link.specs.Lemmas.AnswerLaws.{answered, stretch_of}
 use Rattle.frames.specs.Events.{FindsFrame, TakesFrame, IsInFront, HoldsPlain, ReadsPlain, plain_tree, answer_in, AnswersAs, RepliesAs}
 use Rattle.frames.specs.declared.receiving.FrameEvent.{FrameEvent}
 use Rattle.frames.specs.declared.receiving.FrameEvent.TheVariants.{Message, Damaged, TooLong}

@@ -27,14 +27,6 @@ out_room o = length o.buffer.now - o.moved
 abbrev pub out_plan : Out → Plan
 out_plan o = record { each = o.each; fault = o.fault }
 
--- how many of its calls were faults
-abbrev pub out_faults : Out → ℕ
-out_faults o = o.faults
-
--- how many calls it still answers
-abbrev pub out_calls : Out → ℕ
-out_calls o = o.calls
-
 -- the bytes that are still to come
 abbrev pub in_bytes : In → List ℕ
 in_bytes i = i.rest.now
@@ -47,14 +39,6 @@ in_moved i = i.given
 abbrev pub in_plan : In → Plan
 in_plan i = record { each = i.each; fault = failing i.fault }
 
--- how many of its calls were faults
-abbrev pub in_faults : In → ℕ
-in_faults i = i.faults
-
--- how many calls it still answers
-abbrev pub in_calls : In → ℕ
-in_calls i = i.calls
-
 -- the bytes that it holds
 abbrev pub owned_bytes : OwnedOut → List ℕ
 owned_bytes o = o.bytes.items
@@ -62,14 +46,6 @@ owned_bytes o = o.bytes.items
 -- how it goes on
 abbrev pub owned_plan : OwnedOut → Plan
 owned_plan o = record { each = o.each; fault = o.fault }
-
--- how many of its calls were faults
-abbrev pub owned_faults : OwnedOut → ℕ
-owned_faults o = o.faults
-
--- how many calls it still answers
-abbrev pub owned_calls : OwnedOut → ℕ
-owned_calls o = o.calls
 
 -- where it stands
 abbrev pub out_line : Out → LineState

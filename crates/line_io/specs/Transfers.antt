@@ -1,7 +1,8 @@
 -- What writing some bytes, or reading a text, does to a device, in as many calls as it takes.
-use Rattle.std.specs.Prelude.{◌≡◌, ℕ, ◌<◌, ◌⊎◌, List, [], ◌++◌, length, Option, IfSome}
+use Rattle.std.specs.Prelude.{◌≡◌, ℕ, ◌+◌, ◌<◌, ◌≤◌, ◌⊎◌, List, [], ◌++◌, length, IfSome, Result, OnOk, OnErr}
 use Rattle.line_io.specs.Device.{LineState, Wrote, Gave}
 use Rattle.line_io.specs.declared.transfers.End.{End}
+use Rattle.line_io.specs.declared.transfers.WriteFault.{WriteFault}
 use Rattle.line_io.specs.declared.transfers.End.TheVariants.{Ended, ReadFault, NoMemory}
 
 -- a call was a fault, or none was left
@@ -31,6 +32,16 @@ pub data Fate : Type 0 where
 abbrev pub Writing : LineState → LineState → Fate → List ℕ → Type 0
 Writing old new whole bytes = WentOut old new bytes
 Writing old new broken bytes = BrokeOff old new bytes
+
+-- What happened to a device that was handed bytes to write, by the answer: it made at most a call for each byte, and none behind one
+-- that failed or took nothing.
+pub record WentOrBroke (old new : LineState) (bytes : List ℕ)
+    (result : Result (Unit {0}) WriteFault) : Type 0 where
+  pub ok : OnOk result (Writing old new whole bytes)
+  pub err : OnErr result (Writing old new broken bytes)
+  pub calls : new.calls_left ≤ old.calls_left
+  pub few : old.calls_left ≤ new.calls_left + length bytes
+  pub once : new.faults ≤ old.faults + 1
 
 -- what a device gave, by how the reading ended
 abbrev pub HasRead : LineState → LineState → End → List ℕ → Type 0

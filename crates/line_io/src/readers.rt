@@ -71,7 +71,7 @@ pub struct Reads<R> {
 }
 
 impl<R: Read> Reads<R> {
-    ghost use Rattle.line_io.specs.Streams.{inner_reader, reads_told};
+    ghost use Rattle.line_io.specs.Streams.{inner_reader};
 
     /// A device over the reader. It has met no fault.
     pub fn new(inner: R) -> Reads<R>
@@ -93,17 +93,13 @@ impl<R: Read> Reads<R> {
         ensures told { (⟦<Reads<R> as Inlet>⟧.line self).faults ≡ 0
             → R.remaining result ≡ (⟦<Reads<R> as Inlet>⟧.line self).told }
     {
-        let Reads {
-            inner,
-            faults: _,
-            calls: _,
-        } = self;
+        let Reads { inner, .. } = self;
         inner
     }
 }
 
 impl<R: Read> Inlet for Reads<R> {
-    ghost use Rattle.line_io.specs.Streams.{inner_reader, reads_told, reads_faults, reads_calls, reads_line};
+    ghost use Rattle.line_io.specs.Streams.{inner_reader, reads_line};
 
     ghost line = { reads_line R.remaining };
 
@@ -112,13 +108,16 @@ impl<R: Read> Inlet for Reads<R> {
         ensures bytes { Gave (reads_line R.remaining self.old)
             (reads_line R.remaining self.new) (moved_front result room.new) }
         ensures end { result ≡ Some 0 → 0 < length room.new
-            → IfSome (reads_told R.remaining self.new) (λ rest. rest ≡ []) }
-        ensures faults { reads_faults self.new
-            ≡ reads_faults self.old + read_faults (reads_calls self.old) result }
-        ensures calls { reads_calls self.new ≡ reads_calls self.old - 1 }
-        ensures spent { reads_calls self.old ≡ 0 → result ≡ None }
+            → IfSome (reads_line R.remaining self.new).told (λ rest. rest ≡ []) }
+        ensures faults { (reads_line R.remaining self.new).faults
+            ≡ (reads_line R.remaining self.old).faults
+            + read_faults (reads_line R.remaining self.old).calls_left result }
+        ensures calls { (reads_line R.remaining self.new).calls_left
+            ≡ (reads_line R.remaining self.old).calls_left - 1 }
+        ensures spent { (reads_line R.remaining self.old).calls_left ≡ 0 → result ≡ None }
         ensures past { drop (unwrap_or result 0) room.new ≡ drop (unwrap_or result 0) room.old }
-        ensures silent { 0 < reads_faults self.new → reads_told R.remaining self.new ≡ None }
+        ensures silent { 0 < (reads_line R.remaining self.new).faults
+            → (reads_line R.remaining self.new).told ≡ None }
         // What the reader will give is its own to tell, after a fault too.
         ensures inner { MatchOption result
             (Keeps (R.remaining (inner_reader self.old)) (R.remaining (inner_reader self.new)))

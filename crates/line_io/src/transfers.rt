@@ -1,5 +1,5 @@
-ghost use Rattle.std.specs.Prelude.{◌≡◌, ℕ, ◌+◌, ◌-◌, ◌≤◌, List, ◌++◌, length, OnOk, OnErr};
-ghost use Rattle.line_io.specs.Transfers.{Writing, HasRead, whole, broken};
+ghost use Rattle.std.specs.Prelude.{◌≡◌, ℕ, ◌+◌, ◌-◌, ◌≤◌, List, ◌++◌, length};
+ghost use Rattle.line_io.specs.Transfers.{WentOrBroke, HasRead};
 ghost use Rattle.line_io.specs.declared.transfers.End.{End};
 ghost use Rattle.line_io.specs.declared.transfers.End.TheVariants.{Ended, ReadFault, NoMemory};
 
@@ -22,13 +22,7 @@ pub struct WriteFault;
 /// assert!(rt; write_all(&mut out, b"hello").is_ok());
 /// ```
 pub fn write_all<W: Outlet>(outlet: &mut W, bytes: &[u8]) -> Result<(), WriteFault>
-    ensures ok { OnOk result
-        (Writing (W.line outlet.old) (W.line outlet.new) whole bytes.now) }
-    ensures err { OnErr result
-        (Writing (W.line outlet.old) (W.line outlet.new) broken bytes.now) }
-    ensures calls { (W.line outlet.new).calls_left ≤ (W.line outlet.old).calls_left }
-    ensures few { (W.line outlet.old).calls_left
-        ≤ (W.line outlet.new).calls_left + length bytes.now }
+    ensures { WentOrBroke (W.line outlet.old) (W.line outlet.new) bytes.now result }
 {
     let mut rest = bytes;
     while !rest.is_empty() {

@@ -23,7 +23,7 @@ pub struct Writes<W> {
 }
 
 impl<W: Write> Writes<W> {
-    ghost use Rattle.line_io.specs.Streams.{inner_writer, writes_told};
+    ghost use Rattle.line_io.specs.Streams.{inner_writer};
 
     /// A device over the writer. It has met no fault.
     pub fn new(inner: W) -> Writes<W>
@@ -45,17 +45,13 @@ impl<W: Write> Writes<W> {
         ensures told { (⟦<Writes<W> as Outlet>⟧.line self).faults ≡ 0
             → W.contents result ≡ (⟦<Writes<W> as Outlet>⟧.line self).told }
     {
-        let Writes {
-            inner,
-            faults: _,
-            calls: _,
-        } = self;
+        let Writes { inner, .. } = self;
         inner
     }
 }
 
 impl<W: Write> Outlet for Writes<W> {
-    ghost use Rattle.line_io.specs.Streams.{inner_writer, writes_told, writes_faults, writes_calls, writes_line};
+    ghost use Rattle.line_io.specs.Streams.{inner_writer, writes_line};
 
     ghost line = { writes_line W.contents };
 
@@ -63,11 +59,14 @@ impl<W: Write> Outlet for Writes<W> {
         ensures bound { IfSome result (λ n. n ≤ length piece.now) }
         ensures bytes { Wrote (writes_line W.contents self.old)
             (writes_line W.contents self.new) (moved_front result piece.now) }
-        ensures faults { writes_faults self.new
-            ≡ writes_faults self.old + write_faults (writes_calls self.old) result piece.now }
-        ensures calls { writes_calls self.new ≡ writes_calls self.old - 1 }
-        ensures spent { writes_calls self.old ≡ 0 → result ≡ None }
-        ensures silent { 0 < writes_faults self.new → writes_told W.contents self.new ≡ None }
+        ensures faults { (writes_line W.contents self.new).faults
+            ≡ (writes_line W.contents self.old).faults
+            + write_faults (writes_line W.contents self.old).calls_left result piece.now }
+        ensures calls { (writes_line W.contents self.new).calls_left
+            ≡ (writes_line W.contents self.old).calls_left - 1 }
+        ensures spent { (writes_line W.contents self.old).calls_left ≡ 0 → result ≡ None }
+        ensures silent { 0 < (writes_line W.contents self.new).faults
+            → (writes_line W.contents self.new).told ≡ None }
         // What the writer holds is its own to tell, after a fault too.
         ensures inner { MatchOption result
             (Keeps (W.contents (inner_writer self.old)) (W.contents (inner_writer self.new)))

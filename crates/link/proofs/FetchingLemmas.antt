@@ -1,5 +1,5 @@
 -- The loop over an accumulator, feed by feed.
-use Rattle.std.proofs.Common.{◌≡◌, ℕ, ◌+◌, ◌-◌, ◌*◌, ◌<◌, ◌≤◌, Bool, true, false, List, [], ◌∷◌, ◌++◌, length, map, refl, sym, ap, ◌∙◌, subst, inl, inr, arith, append_assoc, length-drop, bit_xor, ◌==◌, ne_eqb, append-nil}
+use Rattle.std.proofs.Common.{◌≡◌, ℕ, ◌+◌, ◌-◌, ◌*◌, ◌<◌, ◌≤◌, Bool, true, false, List, [], ◌∷◌, ◌++◌, length, map, drop, refl, sym, ap, ◌∙◌, subst, inl, inr, arith, append_assoc, length-drop, bit_xor, ◌==◌, ne_eqb, append-nil}
 use Rattle.std.proofs.lemmas.Bool.{cases_lt}
 use Rattle.std.proofs.lemmas.List.{length-map, map-append}
 use Rattle.cobs.specs.InPlace.{stretch}
@@ -13,124 +13,102 @@ use Rattle.line_io.specs.declared.transfers.End.{End}
 use Rattle.line_io.specs.declared.transfers.End.TheVariants.{Ended, ReadFault, NoMemory}
 use Rattle.link.specs.Gathering.{GathersPieces, GathersOnLine, HasGathered, AreThose, AreThoseFor, AreLooped, LoopsOver, AreSameByAccumulator, some_held}
 use Rattle.link.specs.Lemmas.Pieces.{masked_twice}
-use Rattle.link.specs.Lemmas.RoadLaws.{zeroed, whole_length, less_length}
+use Rattle.link.specs.Lemmas.RoadLaws.{fed_by}
 
 some_is : (held : List ℕ) → 0 < length held → some_held held ≡ 1
 some_is [] l = absurd (omega arith)
 some_is (b ∷ held) l = refl
 
-none_is : (kept : List ℕ) → kept ≡ [] → some_held kept ≡ 0
-none_is kept e = ap some_held e
-
 at_most : (held : List ℕ) → some_held held ≤ 1
 at_most [] = omega arith
 at_most (b ∷ held) = omega arith
 
--- a rest on the line, XORed with the sentinel
-masked_rest : (s : ℕ) (left r : List ℕ) → left ≡ masked s r → masked s left ≡ r
-masked_rest s left r e = ap (masked s) e ∙ masked_twice s r
+-- where a piece isn't used up, less is left of it on the line, or nothing is held any more
+pub fed_less : (room s : ℕ) (held rest kept left : List ℕ) (O : List ℕ → Type 0)
+    (A : List ℕ → List ℕ → Type 0) → ((r : List ℕ) → O r → left ≡ masked s r)
+    → ((f r : List ℕ) → A f r → left ≡ masked s r) → 0 < room → 0 < length rest
+    → Feeds room held (masked s rest) ⊥ O A kept
+    → 2 * length left + some_held kept < 2 * length rest + some_held held
+fed_less room s held rest kept left O A f g some l h =
+    let piece = masked s rest in
+    let n = length-map rest (bit_xor s) in
+    let by = λ (k : ℕ) (e : left ≡ masked s (drop k piece)).
+    (let m = length-map (drop k piece) (bit_xor s) in let d = length-drop k piece in let left_is : length left ≡ length piece - k = omega (arith, ap length e, m, d) in left_is) in
+    fed_by room held piece kept ⊥ O A h (λ z c e. absurd c)
+    (λ z over o e. (
+    let m = by (room - length held) (f _ o) in
+    let none : some_held kept ≡ 0 = ap some_held e in
+    elim (cases_lt 0 (length held)) [
+      | inl k ↦ (let one = some_is held k in omega arith)
+      | inr k ↦ omega (arith, at_most held)
+    ]))
+    (λ q a e. (let m = by (length (stretch piece) + 1) (g _ _ a) in let none : some_held kept ≡ 0 = ap some_held e in omega (arith, at_most held)))
+    (λ q over o e. (let m = by (length (stretch piece) + 1) (f _ o) in let none : some_held kept ≡ 0 = ap some_held e in omega (arith, at_most held)))
 
--- the same feed, said otherwise
-feeds_as : (room : ℕ) (held piece kept : List ℕ) (C : Type 0) (O P : List ℕ → Type 0) (A B : List ℕ → List ℕ → Type 0)
-    → ((r : List ℕ) → O r → P r) → ((f r : List ℕ) → A f r → B f r) → Feeds room held piece C O A kept → Feeds room held piece C P B kept
-feeds_as room held piece kept C O P A B f g h = record {
-  nothing = h.nothing;
-  ended = λ l m. let w = h.ended l m in (g _ _ w.0, w.1);
-  full_ended = λ l m. let w = h.full_ended l m in (f _ w.0, w.1);
-  more = h.more;
-  full = λ l m. let w = h.full l m in (f _ w.0, w.1);
-}
+module _ {V : Type 0} (takes : Tree → Type 0) (reads : Tree → V → Type 0) (growing : Bool) (room : ℕ) (first : List ℕ) (pieces : List (List ℕ)) (old : List V)
+    (t s : ℕ) (e : t ≡ s) (held rest now : List ℕ) (new : List V) (p : GathersPieces takes reads growing room first pieces held (masked s rest ∷ []) old new) where
+  -- the same feed by the sentinel, said otherwise
+  fed : (C : Type 0) (O P : List ℕ → Type 0) (A B : List ℕ → List ℕ → Type 0)
+      → ((r : List ℕ) → O r → P r) → ((f r : List ℕ) → A f r → B f r)
+      → Feeds room held (masked t rest) C O A now → Feeds room held (masked s rest) C P B now
+  fed C O P A B f g k =
+      let h = subst (λ z. Feeds room held (masked z rest) C O A now) e k in record {
+        nothing = h.nothing;
+        ended = λ l m. let w = h.ended l m in (g _ _ w.0, w.1);
+        full_ended = λ l m. let w = h.full_ended l m in (f _ w.0, w.1);
+        more = h.more;
+        full = λ l m. let w = h.full l m in (f _ w.0, w.1);
+      }
 
-module _ (room : ℕ) (some_room : 0 < room) (held piece kept : List ℕ) (l : 0 < length piece) where
-  -- feeding what doesn't fit leaves less, or holds nothing any more
-  over_less : (rest : List ℕ) → Feeds room held piece ⊥ (λ r. rest ≡ r) (λ f r. ⊥) kept → 2 * length rest + some_held kept < 2 * length piece + some_held held
-  over_less rest g = elim (zeroed piece).either [
-    | inl e ↦ elim (cases_lt room (length held + length piece)) [
-      | inr m ↦ absurd (g.more (whole_length piece e) m).0
-      | inl m ↦ (
-          let w = g.full (whole_length piece e) m in
-          let n : length rest ≡ length piece - (room - length held) = ap length w.0 ∙ length-drop (room - length held) piece in
-          let z = none_is kept w.1 in
-          elim (cases_lt 0 (length held)) [
-            | inl h ↦ (let s = some_is held h in omega arith)
-            | inr h ↦ omega (arith, at_most held)
-          ])
-    ]
-    | inr e ↦ elim (cases_lt room (length held + length (stretch piece) + 1)) [
-      | inr m ↦ absurd (g.ended (less_length piece e) m).0
-      | inl m ↦ (
-          let w = g.full_ended (less_length piece e) m in
-          let n : length rest ≡ length piece - (length (stretch piece) + 1) = ap length w.0 ∙ length-drop (length (stretch piece) + 1) piece in
-          let z = none_is kept w.1 in
-          omega (arith, at_most held))
-    ]
-  ]
+  -- a rest on the line, XORed with the sentinel
+  back : (left r : List ℕ) → left ≡ masked t r → masked s left ≡ r
+  back left r q = ap (masked s) (q ∙ ap (λ z. masked z r) e) ∙ masked_twice s r
 
-  -- an answer leaves less
-  answered_less : (rest : List ℕ) (P : List ℕ → Type 0) → Feeds room held piece ⊥ (λ r. ⊥) (λ f r. (rest ≡ r) × P f) kept → 2 * length rest + some_held kept < 2 * length piece + some_held held
-  answered_less rest P g = elim (zeroed piece).either [
-    | inl e ↦ elim (cases_lt room (length held + length piece)) [
-      | inr m ↦ absurd (g.more (whole_length piece e) m).0
-      | inl m ↦ absurd (g.full (whole_length piece e) m).0
-    ]
-    | inr e ↦ elim (cases_lt room (length held + length (stretch piece) + 1)) [
-      | inl m ↦ absurd (g.full_ended (less_length piece e) m).0
-      | inr m ↦ (
-          let w = g.ended (less_length piece e) m in
-          let n : length rest ≡ length piece - (length (stretch piece) + 1) = ap length w.0.0 ∙ length-drop (length (stretch piece) + 1) piece in
-          let z = none_is kept w.1 in
-          omega (arith, at_most held))
-    ]
-  ]
+  pub gathers_over : (left : List ℕ)
+      → Feeds room held (masked t rest) ⊥ (λ r. left ≡ masked t r) (λ f r. ⊥) now
+      → GathersPieces takes reads growing room first pieces now (masked s left ∷ []) old new
+  gathers_over left g = record {
+    got = p.got;
+    values = p.values;
+    goes_on = λ may_stop later vs h. p.goes_on may_stop later vs (overfull (masked s left) (fed ⊥ (λ r. left ≡ masked t r) (λ r. masked s left ≡ r) (λ f r. ⊥) (λ f r. ⊥) (back left) (λ f r x. x) g) h);
+  }
 
--- the same of bytes on a line with a sentinel, which t is
-pub fed_consumed : (room s : ℕ) (held rest kept : List ℕ) (t : ℕ) → t ≡ s → Feeds room held (masked t rest) (Unit {0}) (λ r. ⊥) (λ f r. ⊥) kept → Feeds room held (masked s rest) (Unit {0}) (λ r. ⊥) (λ f r. ⊥) kept
-fed_consumed room s held rest kept t e g = subst (λ z. Feeds room held (masked z rest) (Unit {0}) (λ r. ⊥) (λ f r. ⊥) kept) e g
+  -- a stretch that is answered leaves this, with what is said of it
+  answered : (left : List ℕ) (Q : List ℕ → Type 0)
+      → Feeds room held (masked t rest) ⊥ (λ r. ⊥) (λ f r. (left ≡ masked t r) × Q f) now
+      → Feeds room held (masked s rest) ⊥ (λ r. ⊥) (λ f r. (masked s left ≡ r) × Q f) now
+  answered left Q g = fed ⊥ (λ r. ⊥) (λ r. ⊥) (λ f r. (left ≡ masked t r) × Q f) (λ f r. (masked s left ≡ r) × Q f) (λ r x. x) (λ f r x. (back left r x.0, x.1)) g
 
-module _ (room s : ℕ) (held rest kept left : List ℕ) where
-  pub fed_over : (t : ℕ) → t ≡ s → Feeds room held (masked t rest) ⊥ (λ r. left ≡ masked t r) (λ f r. ⊥) kept → Feeds room held (masked s rest) ⊥ (λ r. masked s left ≡ r) (λ f r. ⊥) kept
-  fed_over t e g =
-      feeds_as room held (masked s rest) kept ⊥ (λ r. left ≡ masked s r) (λ r. masked s left ≡ r) (λ f r. ⊥) (λ f r. ⊥) (λ r e. masked_rest s left r e) (λ f r h. h)
-      (subst (λ z. Feeds room held (masked z rest) ⊥ (λ r. left ≡ masked z r) (λ f r. ⊥) kept) e g)
+  pub gathers_failed : (left : List ℕ) → Feeds room held (masked t rest) ⊥ (λ r. ⊥) (λ f r. (left ≡ masked t r) × ((t : Tree) → Holds takes f t → growing ≡ true)) now
+      → GathersPieces takes reads growing room first pieces now (masked s left ∷ []) old new
+  gathers_failed left g = record {
+    got = p.got;
+    values = p.values;
+    goes_on = λ may_stop later vs h. p.goes_on may_stop later vs (failed (masked s left) (answered left (λ f. (t : Tree) → Holds takes f t → growing ≡ true) g) h);
+  }
 
-  pub fed_answer : (t : ℕ) → t ≡ s → (P : List ℕ → Type 0) → Feeds room held (masked t rest) ⊥ (λ r. ⊥) (λ f r. (left ≡ masked t r) × P f) kept → Feeds room held (masked s rest) ⊥ (λ r. ⊥) (λ f r. (masked s left ≡ r) × P f) kept
-  fed_answer t e P g =
-      feeds_as room held (masked s rest) kept ⊥ (λ r. ⊥) (λ r. ⊥) (λ f r. (left ≡ masked s r) × P f) (λ f r. (masked s left ≡ r) × P f) (λ r h. h) (λ f r h. (masked_rest s left r h.0, h.1))
-      (subst (λ z. Feeds room held (masked z rest) ⊥ (λ r. ⊥) (λ f r. (left ≡ masked z r) × P f) kept) e g)
+  pub gathers_value : (v : V) (left : List ℕ) (more : List V) → Feeds room held (masked t rest) ⊥ (λ r. ⊥) (λ f r. (left ≡ masked t r) × HoldsValue takes reads f v) now
+      → more ≡ new ++ v ∷ [] → GathersPieces takes reads growing room first pieces now (masked s left ∷ []) old more
+  gathers_value v left more g e = record {
+    got = p.got ++ v ∷ [];
+    values = e ∙ ap (λ x. x ++ v ∷ []) p.values ∙ append_assoc old p.got (v ∷ []);
+    goes_on = λ may_stop later vs h. subst (Loops takes reads growing may_stop room first (pieces ++ later)) (sym (append_assoc p.got (v ∷ []) vs)) (p.goes_on may_stop later (v ∷ vs) (success v (masked s left) (answered left (λ f. HoldsValue takes reads f v) g) h));
+  }
 
-  shorter : 2 * length (masked s left) + some_held kept < 2 * length (masked s rest) + some_held held → 2 * length left + some_held kept < 2 * length rest + some_held held
-  shorter h = omega (arith, h, length-map left (bit_xor s), length-map rest (bit_xor s))
+  pub gathers_consumed : Feeds room held (masked t rest) (Unit {0}) (λ r. ⊥) (λ f r. ⊥) now
+      → GathersPieces takes reads growing room first pieces now [] old new
+  gathers_consumed g = record {
+    got = p.got;
+    values = p.values;
+    goes_on = λ may_stop later vs h. p.goes_on may_stop later vs (consumed (fed (Unit {0}) (λ r. ⊥) (λ r. ⊥) (λ f r. ⊥) (λ f r. ⊥) (λ r x. x) (λ f r x. x) g) h);
+  }
 
-  some_masked : 0 < length rest → 0 < length (masked s rest)
-  some_masked l = omega (arith, l, length-map rest (bit_xor s))
-
-  pub over_shorter : 0 < room → 0 < length rest → Feeds room held (masked s rest) ⊥ (λ r. left ≡ masked s r) (λ f r. ⊥) kept → 2 * length left + some_held kept < 2 * length rest + some_held held
-  over_shorter some l g = shorter (over_less room some held (masked s rest) kept (some_masked l) (masked s left) (fed_over s refl g))
-
-  pub answered_shorter : 0 < room → 0 < length rest → (P : List ℕ → Type 0) → Feeds room held (masked s rest) ⊥ (λ r. ⊥) (λ f r. (left ≡ masked s r) × P f) kept → 2 * length left + some_held kept < 2 * length rest + some_held held
-  answered_shorter some l P g = shorter (answered_less room some held (masked s rest) kept (some_masked l) (masked s left) P (fed_answer s refl P g))
-
-module _ {V : Type 0} (takes : Tree → Type 0) (reads : Tree → V → Type 0) (growing : Bool) (room : ℕ) (first : List ℕ) (pieces : List (List ℕ)) (old : List V) where
-  module _ (held rest now : List ℕ) (new : List V) (p : GathersPieces takes reads growing room first pieces held (rest ∷ []) old new) where
-    pub gathers_over : (left : List ℕ) → Feeds room held rest ⊥ (λ r. left ≡ r) (λ f r. ⊥) now → GathersPieces takes reads growing room first pieces now (left ∷ []) old new
-    gathers_over left g = record { got = p.got; values = p.values; goes_on = λ may_stop later vs h. p.goes_on may_stop later vs (overfull left g h) }
-
-    pub gathers_failed : (left : List ℕ) → Feeds room held rest ⊥ (λ r. ⊥) (λ f r. (left ≡ r) × ((t : Tree) → Holds takes f t → growing ≡ true)) now → GathersPieces takes reads growing room first pieces now (left ∷ []) old new
-    gathers_failed left g = record { got = p.got; values = p.values; goes_on = λ may_stop later vs h. p.goes_on may_stop later vs (failed left g h) }
-
-    pub gathers_value : (v : V) (left : List ℕ) (more : List V) → Feeds room held rest ⊥ (λ r. ⊥) (λ f r. (left ≡ r) × HoldsValue takes reads f v) now
-        → more ≡ new ++ v ∷ [] → GathersPieces takes reads growing room first pieces now (left ∷ []) old more
-    gathers_value v left more g e = record {
-      got = p.got ++ v ∷ [];
-      values = e ∙ ap (λ x. x ++ v ∷ []) p.values ∙ append_assoc old p.got (v ∷ []);
-      goes_on = λ may_stop later vs h. subst (Loops takes reads growing may_stop room first (pieces ++ later)) (sym (append_assoc p.got (v ∷ []) vs)) (p.goes_on may_stop later (v ∷ vs) (success v left g h));
-    }
-
-    pub gathers_consumed : Feeds room held rest (Unit {0}) (λ r. ⊥) (λ f r. ⊥) now → GathersPieces takes reads growing room first pieces now [] old new
-    gathers_consumed g = record { got = p.got; values = p.values; goes_on = λ may_stop later vs h. p.goes_on may_stop later vs (consumed g h) }
-
-    pub gathers_whole : rest ≡ [] → GathersPieces takes reads growing room first pieces held [] old new
-    gathers_whole e = record { got = p.got; values = p.values; goes_on = λ may_stop later vs h. p.goes_on may_stop later vs (subst (λ x. Loops takes reads growing may_stop room held (x ∷ later) vs) (sym e) (used_up h)) }
+  pub gathers_whole : rest ≡ [] → GathersPieces takes reads growing room first pieces held [] old new
+  gathers_whole q = record {
+    got = p.got;
+    values = p.values;
+    goes_on = λ may_stop later vs h. p.goes_on may_stop later vs (subst (λ x. Loops takes reads growing may_stop room held (masked s x ∷ later) vs) (sym q) (used_up h));
+  }
 
 pub has_bytes : (rest : List ℕ) (b : Bool) → b ≡ (length rest == 0) → b ≡ false → 0 < length rest
 has_bytes [] b e f = let no : true ≡ false = sym e ∙ f in absurd (cc)

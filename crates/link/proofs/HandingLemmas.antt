@@ -1,17 +1,15 @@
--- How answers are handed on, push by push.
-use Rattle.std.proofs.Common.{◌≡◌, ◌-◌, ◌<◌, ◌≤◌, ◌+◌, Bool, false, ℕ, arith, List, [], ◌∷◌, ◌++◌, length, take, Option, Some, None, Result, Ok, Err, refl, sym, ap, ◌∙◌, subst, inl, inr, append_assoc, append-nil, length-append, length-take-le}
-use Rattle.line_io.specs.Device.{LineState, Gave}
+-- How answers are handed on and kept, push by push.
+use Rattle.std.proofs.Common.{◌≡◌, ◌-◌, ◌<◌, ◌≤◌, ◌+◌, Bool, false, ℕ, arith, List, [], ◌∷◌, ◌++◌, length, take, Option, Some, None, Result, Ok, Err, refl, sym, ap, ◌∙◌, subst, inl, inr, append_assoc, append-nil, length-append, length-take-le, zero, suc, ◌⊎◌, true, drop, is_err, IsErr, OnOk, OnErr, take-append-drop}
+use Rattle.line_io.specs.Device.{LineState, Gave, read_faults}
 use Rattle.line_io.specs.Calls.{Gave-none, Gave-then, Failed-later}
 use Rattle.postcard_tree.specs.Tree.{Tree}
-use Rattle.link.specs.Decoding.{Inside}
-use Rattle.link.specs.Receivers.{IsBehind}
-use Rattle.line_io.specs.Transfers.{HasRead}
+use Rattle.link.specs.Link.{Inside, IsBehind, Judging, IsLost, Answered}
+use Rattle.line_io.specs.Transfers.{HasRead, Failed}
 use Rattle.link.specs.Listening.{KeepsAnswer, Hears, IsHeard}
 use Rattle.line_io.specs.declared.transfers.End.{End}
 use Rattle.line_io.specs.declared.transfers.End.TheVariants.{Ended, ReadFault, NoMemory as NoneLeft}
 use Rattle.link.specs.declared.reception.Reception.{Reception}
-use Rattle.link.specs.Each.{Handed, HearerLaws, UsesFew, last_call, Adds, WasAsked, IsAsked}
-use Rattle.link.specs.Judged.{Judging}
+use Rattle.link.specs.Each.{Handed, HearerLaws, UsesFew, last_call, Adds, AddsBy, IsHeardNow, WasAsked, IsAsked}
 use Rattle.link.specs.declared.receiver.Answer.{Answer}
 use Rattle.link.specs.declared.receiver.NoMemory.{NoMemory}
 
@@ -71,6 +69,21 @@ module _ {D H V : Type 0} (inside : D → Inside) (judging : Judging V) (hears :
     given = w.given;
   })
 
+-- answers, and then others
+abbrev pub adds_then : {D H V : Type 0} (inside : D → Inside) (judging : Judging V)
+    (hears : H → List (Answer V) → H → Type 0) (laws : HearerLaws hears) (on : Bool) (a b : List ℕ)
+    (r m s : Reception D) (h k l : H) (end : Option End) → Adds inside judging hears a r m h k
+    → AddsBy inside judging hears on b m s k l end → AddsBy inside judging hears on (a ++ b) r s h l end
+adds_then inside judging hears laws on a b r m s h k l end p q = record {
+  answers = p.answers ++ q.answers;
+  heard = laws.more h k l p.answers q.answers p.heard q.heard;
+  so = λ limit z stream given x.
+      let now = IsHeardNow inside judging.holds judging.reads limit z on end s in
+      subst (now (given ++ (p.answers ++ q.answers))) (append_assoc stream a b)
+      (subst (λ xs. now xs ((stream ++ a) ++ b)) (append_assoc given p.answers q.answers)
+      (q.so limit z (stream ++ a) (given ++ p.answers) (p.so limit z stream given x)));
+}
+
 -- where a receiver stands of which this is heard
 pub stands_by : {D V : Type 0} (inside : D → Inside) (holds : List ℕ → Tree → Type 0) (reads : Tree → V → Type 0) (limit s : ℕ) (end : End) (r : Reception D) (answers : List (Answer V)) (stream : List ℕ)
     → IsHeard inside holds reads limit s false end r answers stream → IsBehind inside limit s r stream
@@ -126,6 +139,39 @@ pub uses_last : (u w : LineState) (bytes : List ℕ) → Gave u w bytes → w.ca
 uses_last u w bytes g z = record { bytes = bytes; gave = g; few = omega (arith, z) }
 
 -- few calls, however it ended
-pub uses_ended : (u w : LineState) (end : Option End) → UsesFew u w (last_call end) → UsesFew u w 1
-uses_ended u w None p = record { bytes = p.bytes; gave = p.gave; few = omega (arith, p.few) }
-uses_ended u w (Some end) p = p
+pub few_ended : (k m : ℕ) (end : Option End) → k ≤ m + last_call end → k ≤ m + 1
+few_ended k m None l = omega arith
+few_ended k m (Some end) l = l
+
+pub on_err : {A E : Type 0} (r : Result A E) (P : Type 0) → is_err r ≡ true → OnErr r P → P
+on_err (Ok x) P e h = cc
+on_err (Err x) P e h = h
+
+pub on_ok : {A E : Type 0} (r : Result A E) (P : Type 0) → is_err r ≡ false → OnOk r P → P
+on_ok (Ok x) P e h = h
+on_ok (Err x) P e h = cc
+
+module _ {V : Type 0} (holds : List ℕ → Tree → Type 0) (reads : Tree → V → Type 0) (limit s : ℕ) (front rest : List ℕ) (used : ℕ) where
+  -- what failed was lost
+  pub lost_by : (answer : Result (Option (Answer V)) NoMemory) → Answered holds reads limit s front rest used answer → IsErr answer → IsLost holds limit s front rest used
+  lost_by (Ok x) h e = cc
+  lost_by (Err e) h n = h
+
+pub parts_on : (piece done rest : List ℕ) (used : ℕ) → piece ≡ done ++ rest → piece ≡ (done ++ take used rest) ++ drop used rest
+parts_on piece done rest used e = e ∙ sym (append_assoc done (take used rest) (drop used rest) ∙ ap (λ x. done ++ x) (take-append-drop used rest))
+
+-- a fault, or no call was left
+pub read_failed : (old new : LineState) → new.faults ≡ old.faults + read_faults old.calls_left None → new.calls_left ≡ old.calls_left - 1 → Failed old new
+read_failed old new f e = failed_by old.faults new.faults old.calls_left new.calls_left f e
+  where
+    failed_by : (before after left calls : ℕ) → after ≡ before + read_faults left None → calls ≡ left - 1 → (before < after) ⊎ (calls ≡ 0)
+    failed_by before after zero calls f e = inr (omega arith)
+    failed_by before after (suc left) calls f e = inl (omega (arith, f))
+
+-- a read that was no fault
+pub read_quiet : (before now after left n : ℕ) → after ≡ now + read_faults left (Some n) → now ≡ before → after ≡ before
+read_quiet before now after zero n f q = omega (arith, f)
+read_quiet before now after (suc left) n f q = omega (arith, f)
+
+pub nothing_taken : (n : ℕ) (s : List ℕ) → n ≡ 0 → take n s ≡ []
+nothing_taken n s e = ap (λ m. take m s) e

@@ -1,17 +1,19 @@
--- What the proofs by hand of reading in place cite, and the types of what it answers. Assumes `Logic`.
+-- What the proofs by hand cite, and the types of what reading in place answers. Assumes `Logic`.
 pub use Rattle.std.proofs.Common.{◌≡◌, ℕ, List, [], ◌∷◌, ◌++◌, length, w8, w64, refl, sym, ap, ◌∙◌, subst, true, IfSome, IfNone, OnErr, lit<}
 pub use Rattle.std.specs.Borrow.{LendsBothIf, Array}
+pub use mathlib.Core.Option.{none}
+pub use Rattle.std.specs.Prelude.{⊤}
 pub use seplogic.Ra.Ura.{Ura}
 pub use mir.Syntax.{Fn, Args as TypeArgs, a_type, dcons, dnil, named, erased}
 pub use mir.MapTy.{inst_fn}
 pub use mir.Val.{Val, vstruct, of_list}
-pub use base.Fml.{Lft, ftrue, flft}
-pub use base.Logic.{id⊢, emp}
-pub use types.Logic.{Logic}
+pub use base.Fml.{Lft, ftrue, flft, Fml, GName}
+pub use base.Logic.{id⊢, emp, ent, ex_e, ex_i}
+pub use types.Logic.{Logic, sem}
 pub use types.Kit.{‵, raw, ◌⊛◌, some, later, ◌$◌, ◌∵◌, !, qed, by, move, keep, drop, split, join, fjoin, pick, use0, use1, await, fsplit, fpick, feq_l, rewrite}
 pub use types.Part.{whole, sub, agg}
 pub use types.Run.{stop, fld, hop, from, addr, of_opd, no_more, and_then, returns, enter, lit}
-pub use types.ByLocal.{alloc_all, pass_all, free_all, look_at, look_in_at, get, get_in, sets, lands_as}
+pub use types.ByLocal.{alloc_all, pass_all, free_all, look_at, look_in_at, get, get_in, sets, lands_as, through}
 pub use contract.Monad.{fact, fact_i}
 pub use contract.Lifetimes.{Lfts}
 pub use contract.BorrowLft.{◌⊑◌}
@@ -19,10 +21,10 @@ pub use contract.Running.{tables}
 pub use denote.Builtin.{u8, usize}
 pub use denote.Exit.{yes, no}
 pub use denote.RattleType.{RattleType}
-pub use denote.Plain.{uint_Makes, uint_vals, uint_Tells}
-pub use denote.Ref.{NamedLft}
-pub use denote.Slice.{MutSlice, Room, mut_slice_vals, mut_slice_Tells}
-pub use denote.Signature.{plain, mut_slice_of}
+pub use denote.Plain.{uint_Makes, uint_vals, uint_Tells, uint_row_laws}
+pub use denote.Ref.{NamedLft, MutRef, mut_vals, mut_Tells}
+pub use denote.Slice.{MutSlice, Room, mut_slice_vals, mut_slice_Tells, ShrSlice, shr_slice_vals, shr_slice_Tells}
+pub use denote.Signature.{plain, mut_slice_of, mut_ref_to, shr_slice_of}
 pub use denote.Laws.{Is, Lawful, shows}
 pub use denote.Struct.Field.{shr_slice_field, mut_slice_field, u8-field}
 pub use denote.Struct.Tuple.{Tuple, tuple_laws}
@@ -34,7 +36,7 @@ pub use denote.Triple.Clauses.{Lasts, lasts}
 pub use denote.Triple.Spec.{triple_of}
 pub use denote.Triple.Call.{calls_at}
 pub use denote.Triple.Table.{framed}
-pub use denote.Triple.Walked.{Stays, stay_dropped, walk_of, Goes-dropped, Goes-spent_slice}
+pub use denote.Triple.Walked.{Stays, stay_dropped, walk_of, Goes-dropped, Goes-spent_slice, Goes-spent_ref}
 pub use Rattle.std.proofs.raw_atomic.Walks.{proved, leaves}
 pub use Rattle.std.specs.contracts.option.Option.{the_row as Option}
 pub use Rattle.std.proofs.option.Option.TheLaws.{the_row_laws as option_laws}

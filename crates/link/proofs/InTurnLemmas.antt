@@ -7,13 +7,10 @@ use Rattle.cobs.specs.InPlace.{stretch}
 use Rattle.cobs.specs.Sentinel.{masked}
 use Rattle.cobs.specs.Whole.{unpadded}
 use Rattle.postcard_tree.specs.Tree.{Tree}
-use Rattle.postcard.specs.Frames.{Holds}
+use Rattle.link.specs.Link.{Holds, Matches, ReadsNext, IsReadInTurn}
 use Rattle.link.specs.Stream.{Verdict, value, damaged, cut, IsContent}
-use Rattle.link.specs.Pushes.{Matches}
 use Rattle.link.specs.Finds.{AnswersEnded}
-use Rattle.link.specs.InPlace.{ReadsNext}
 use Rattle.link.specs.Roads.{ReadsInPlace, nothing, skipped, answered, unanswered}
-use Rattle.link.specs.Laws.{IsReadInTurn}
 use Rattle.link.specs.declared.receiver.Answer.{Answer}
 use Rattle.link.specs.declared.receiver.Answer.TheVariants as answers
 use Rattle.link.specs.declared.receiver.NoMemory.{NoMemory}

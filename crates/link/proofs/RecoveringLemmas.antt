@@ -1,15 +1,28 @@
 -- What is heard behind a value that had no memory.
-use Rattle.std.proofs.Common.{◌≡◌, ℕ, List, [], ◌∷◌, ◌++◌, take, drop, sym, ap, ◌∙◌, subst, append_assoc, append-nil, take-append-drop}
+use Rattle.std.proofs.Common.{◌≡◌, ℕ, List, [], ◌∷◌, ◌++◌, take, drop, sym, ap, ◌∙◌, subst, append_assoc, append-nil, take-append-drop, length, inl, inr, nat_lt, if◌then◌else◌}
 use Rattle.postcard_tree.specs.Tree.{Tree}
-use Rattle.link.specs.Decoding.{Inside}
-use Rattle.link.specs.Stream.{kept}
-use Rattle.link.specs.Laws.{EndsBetween}
-use Rattle.link.specs.Lemmas.Losses.{begun_on, ends_on, ends_through}
-use Rattle.link.specs.Receivers.{IsAt}
+use Rattle.link.specs.Link.{Inside, kept, over, begun, EndsBetween, IsAt}
 use Rattle.link.specs.Listening.{Loss, through, answers_before, bytes_through, EndsAtLoss, StopsAt, Hears, Recovers}
 use Rattle.link.specs.declared.receiver.Answer.{Answer}
 use Rattle.link.specs.declared.reception.Reception.{Reception}
 use Rattle.link.specs.Lemmas.Givens.{none_begun, none_given}
+use Rattle.link.specs.Lemmas.Pieces.{unfinished_behind}
+
+-- behind a stream that ends between stretches what comes begins as behind nothing
+begun_on : (limit s : ℕ) (x y : List ℕ) → EndsBetween s x
+    → begun limit s (x ++ y) ≡ begun limit s y
+begun_on limit s x y e =
+    ap (λ u. if nat_lt limit (length u) then over else kept u) (unfinished_behind s x y e)
+
+-- what such a stream stands behind ends there too
+ends_on : (s : ℕ) (x y : List ℕ) → EndsBetween s x → EndsBetween s y → EndsBetween s (x ++ y)
+ends_on s x y e (inl f) = subst (EndsBetween s) (sym (ap (λ z. x ++ z) f ∙ append-nil x)) e
+ends_on s x y e (inr (z, f)) = inr (x ++ z, ap (λ w. x ++ w) f ∙ sym (append_assoc x z (s ∷ [])))
+
+module _ {V : Type 0} {holds : List ℕ → Tree → Type 0} {reads : Tree → V → Type 0} {limit s : ℕ} where
+  -- a stream ends between stretches behind such a value
+  ends_through : (l : Loss holds reads limit s) → EndsBetween s (through l)
+  ends_through l = inr (l.front ++ l.lost.front, ap (λ x. l.front ++ x) l.lost.bytes ∙ sym (append_assoc l.front l.lost.front (s ∷ [])))
 
 module _ {D V : Type 0} (inside : D → Inside) (holds : List ℕ → Tree → Type 0) (reads : Tree → V → Type 0) (limit s : ℕ) where
   answers_then : (ls : List (Loss holds reads limit s)) (l : Loss holds reads limit s) → answers_before (ls ++ l ∷ []) ≡ answers_before ls ++ l.answers

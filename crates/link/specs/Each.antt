@@ -8,7 +8,7 @@ use Rattle.link.specs.Judged.{Judging}
 use Rattle.link.specs.Steps.{Event}
 use Rattle.link.specs.Finds.{Replies}
 use Rattle.line_io.specs.Transfers.{HasRead}
-use Rattle.link.specs.Listening.{KeepsAnswer, HasGiven, EndsAtLoss, IsReceived, IsKeptDue, Hears, IsHeard}
+use Rattle.link.specs.Listening.{KeepsAnswer, HasGiven, EndsAtLoss, IsReceived, Hears, IsHeard}
 use Rattle.link.specs.declared.reception.Reception.{Reception}
 use Rattle.link.specs.declared.receiver.Answer.{Answer}
 use Rattle.link.specs.declared.receiver.NoMemory.{NoMemory as NoAnswer}
@@ -79,13 +79,6 @@ abbrev pub IsReceivedNow : {V : Type 0} → (List ℕ → Tree → Type 0) → (
 IsReceivedNow holds reads limit s None answers stream = HasGiven holds reads limit s answers stream
 IsReceivedNow holds reads limit s (Some end) answers stream =
     IsReceived holds reads limit s end answers stream
-
--- the same where it is known which value had no memory
-abbrev pub IsKeptNow : {V : Type 0} → (List ℕ → Tree → Type 0) → (Tree → V → Type 0) → ℕ → ℕ
-    → Option End → List (Answer V) → List ℕ → Type 0
-IsKeptNow holds reads limit s None answers stream = HasGiven holds reads limit s answers stream
-IsKeptNow holds reads limit s (Some end) answers stream =
-    IsKeptDue holds reads limit s end answers stream
 
 -- memory may be wanting only where values can ask for it
 abbrev pub MayLackMemory : Bool → Option End → Type 0

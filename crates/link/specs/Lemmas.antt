@@ -3,16 +3,13 @@ pub mod AnswerLaws
 pub mod CourseLaws
 pub mod FeedLaws
 pub mod HeardLaws
-pub mod JoinLaws
 pub mod MaskLaws
 pub mod StretchLaws
 pub mod SendLaws
 pub mod TurnLaws
 pub mod RunLaws
-pub mod SpanLaws
 pub mod RoadLaws
 pub mod Lengths
-pub mod Losses
 pub mod Givens
 pub mod Facts
 pub mod OneAnswers

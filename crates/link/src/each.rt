@@ -3,8 +3,8 @@ ghost use Rattle.std.specs.Prelude.{◌≡◌, ℕ, ◌-◌, ◌<◌, ◌≤◌,
 ghost use Rattle.link.specs.Steps.{Course};
 ghost use Rattle.link.specs.Finds.{IsTaken, lent_message};
 ghost use Rattle.link.specs.Receivers.{IsBehind, SameTerms};
-ghost use Rattle.link.specs.Listening.{Hears, StopsAt};
-ghost use Rattle.link.specs.Each.{Handed, HandsOn, Withholds, HearerLaws, Adds, AddsBy, ListensBy, Listens, IsAsked, HearsOut, IsHeardNow, IsKeptNow, MayLackMemory};
+ghost use Rattle.link.specs.Listening.{Hears, IsHeard, IsKeptDue, StopsAt};
+ghost use Rattle.link.specs.Each.{Handed, HandsOn, Withholds, HearerLaws, Adds, AddsBy, ListensBy, Listens, IsAsked, HearsOut, MayLackMemory};
 ghost use Rattle.link.specs.declared.receiver.Answer.{Answer};
 ghost use Rattle.line_io.specs.declared.transfers.End.TheVariants.{ReadFault, NoMemory as LacksMemory};
 
@@ -230,10 +230,10 @@ impl<D: Decoding> Reception<D> {
         ensures settled { H.settled hearer.old → H.settled hearer.new }
         ensures handed { Handed H.hears hearer.old hearer.new (λ more. (limit s : ℕ)
             (stream : List ℕ) (given : List (Answer V))
-            → IsHeardNow D.inside (M.judging messages.now).holds (M.judging messages.now).reads
-            limit s false (Some end) self.now given stream
-            → IsKeptNow (M.judging messages.now).holds (M.judging messages.now).reads
-            limit s (Some end) (given ++ more) stream) }
+            → IsHeard D.inside (M.judging messages.now).holds (M.judging messages.now).reads
+            limit s false end self.now given stream
+            → IsKeptDue (M.judging messages.now).holds (M.judging messages.now).reads
+            limit s end (given ++ more) stream) }
     {
         let _ = messages;
         match end {

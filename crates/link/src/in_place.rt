@@ -140,10 +140,8 @@ pub fn read_in_place_with_sentinel<'a, T: Deserialize<&'a [u8]>>(
     bytes: &'a mut [u8],
     sentinel: u8,
 ) -> Option<(Result<Answer<T>, NoMemory>, &'a mut [u8])>
-    ensures some { IfSome result (λ p. ReadsNext T.form.takes T.form.reads
-        (unpadded (masked sentinel bytes.entry.now)) p.0 (masked sentinel p.1.now)) }
-    ensures none { IfNone result (unpadded (masked sentinel bytes.entry.now) ≡ []) }
-    ensures memory { IfSome result (λ p. OnErr p.0 (T.form.growing ≡ true)) }
+    ensures answers { AnswersNext T.form.takes T.form.reads T.form.growing sentinel bytes.entry.now
+        result }
     ensures* unchanged { sem 𝓛 (KeptUnlessEnded bytes.entry result) }
 {
     let (end, bytes) = with_end(bytes, sentinel);

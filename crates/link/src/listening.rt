@@ -4,7 +4,6 @@ ghost use Rattle.postcard.specs.Frames.{Holds};
 ghost use Rattle.link.specs.Stream.{HoldsExactly};
 ghost use Rattle.link.specs.Receivers.{IsBehind};
 ghost use Rattle.link.specs.Listening.{ReceiverFitsInMemory, Receives, IsUnmade};
-ghost use Rattle.link.specs.Each.{UsesFew};
 ghost use Rattle.link.specs.Firsts.{listed_end};
 
 use crate::decoding::Decoding;
@@ -57,7 +56,6 @@ fn receive_by<V: Drop, M: MessageReader<V>, R: Inlet, D: Decoding>(
         → Receives (M.judging messages.now).holds (M.judging messages.now).reads
         (M.judging messages.now).growing limit s
         (R.line reader) (R.line result.reader) result.end result.answers }
-    ensures calls { UsesFew (R.line reader) (R.line result.reader) 1 }
 {
     messages.show();
     let mut reader = reader;
@@ -85,7 +83,6 @@ pub fn receive<T: DeserializeOwned, R: Inlet, const N: usize>(
     requires { ReceiverFitsInMemory N.row }
     ensures received { Receives (Holds T.form.takes) T.form.reads T.form.growing N 0
         (R.line reader) (R.line result.reader) result.end result.answers }
-    ensures calls { UsesFew (R.line reader) (R.line result.reader) 1 }
 {
     receive_with_sentinel::<T, R, N>(alloc, reader, 0)
 }
@@ -99,7 +96,6 @@ pub fn receive_with_sentinel<T: DeserializeOwned, R: Inlet, const N: usize>(
     requires { ReceiverFitsInMemory N.row }
     ensures received { Receives (Holds T.form.takes) T.form.reads T.form.growing N sentinel
         (R.line reader) (R.line result.reader) result.end result.answers }
-    ensures calls { UsesFew (R.line reader) (R.line result.reader) 1 }
 {
     let mut receiver = Receiver::<N>::new_with_sentinel(sentinel);
     receive_by(alloc, &Ordinary(OfType), reader, &mut receiver)
@@ -114,7 +110,6 @@ pub fn receive_strict<T: DeserializeOwned + Exact, R: Inlet, const N: usize>(
     requires { ReceiverFitsInMemory N.row }
     ensures received { Receives (HoldsExactly T.form.takes) T.form.reads T.form.growing N 0
         (R.line reader) (R.line result.reader) result.end result.answers }
-    ensures calls { UsesFew (R.line reader) (R.line result.reader) 1 }
 {
     receive_strict_with_sentinel::<T, R, N>(alloc, reader, 0)
 }
@@ -128,7 +123,6 @@ pub fn receive_strict_with_sentinel<T: DeserializeOwned + Exact, R: Inlet, const
     requires { ReceiverFitsInMemory N.row }
     ensures received { Receives (HoldsExactly T.form.takes) T.form.reads T.form.growing N sentinel
         (R.line reader) (R.line result.reader) result.end result.answers }
-    ensures calls { UsesFew (R.line reader) (R.line result.reader) 1 }
 {
     let mut receiver = Receiver::<N>::new_with_sentinel(sentinel);
     receive_by(alloc, &Strict(OfType), reader, &mut receiver)
@@ -156,7 +150,6 @@ pub fn receive_owned<T: DeserializeOwned, R: Inlet>(
     ensures received { IsUnmade reader result.reader result.end result.answers.items
         ⊎ Receives (Holds T.form.takes) T.form.reads T.form.growing limit sentinel
         (R.line reader) (R.line result.reader) result.end result.answers }
-    ensures calls { UsesFew (R.line reader) (R.line result.reader) 1 }
 {
     match OwnedReceiver::new(alloc, limit, sentinel) {
         Ok(mut receiver) => receive_by(alloc, &Ordinary(OfType), reader, &mut receiver),
@@ -175,7 +168,6 @@ pub fn receive_owned_strict<T: DeserializeOwned + Exact, R: Inlet>(
     ensures received { IsUnmade reader result.reader result.end result.answers.items
         ⊎ Receives (HoldsExactly T.form.takes) T.form.reads T.form.growing limit sentinel
         (R.line reader) (R.line result.reader) result.end result.answers }
-    ensures calls { UsesFew (R.line reader) (R.line result.reader) 1 }
 {
     match OwnedReceiver::new(alloc, limit, sentinel) {
         Ok(mut receiver) => receive_by(alloc, &Strict(OfType), reader, &mut receiver),

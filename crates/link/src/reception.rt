@@ -262,21 +262,15 @@ impl<D: Decoding> Reception<D> {
             → IsTaken limit k lent_message result }
         ensures used { result.used ≡ taken.used }
     {
-        let Taken {
-            used,
-            stretch,
-            found,
-        } = taken;
-        let found = match found {
-            Found::Nothing => Found::Nothing,
-            Found::Damaged => Found::Damaged,
-            Found::TooLong => Found::TooLong,
-            Found::Whole(size) => Found::Whole(&self.decoder.dest()[..size]),
-        };
         Taken {
-            used,
-            stretch,
-            found,
+            used: taken.used,
+            stretch: taken.stretch,
+            found: match taken.found {
+                Found::Nothing => Found::Nothing,
+                Found::Damaged => Found::Damaged,
+                Found::TooLong => Found::TooLong,
+                Found::Whole(size) => Found::Whole(&self.decoder.dest()[..size]),
+            },
         }
     }
 

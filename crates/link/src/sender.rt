@@ -92,12 +92,7 @@ impl<W: Outlet, const N: usize> Sender<W, N> {
     pub fn into_inner(self) -> W
         ensures { result ≡ writer_of self }
     {
-        let Sender {
-            writer,
-            clean: _,
-            sentinel: _,
-            buffer: _,
-        } = self;
+        let Sender { writer, .. } = self;
         writer
     }
 
@@ -122,11 +117,11 @@ impl<W: Outlet, const N: usize> Sender<W, N> {
             n,
             self.sentinel,
         ) {
-            None => {
+            Ok(()) => {
                 self.clean = true;
                 Ok(())
             }
-            Some(_) => {
+            Err(_) => {
                 self.clean = false;
                 Err(SendError::Line)
             }

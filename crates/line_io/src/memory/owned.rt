@@ -53,19 +53,13 @@ impl OwnedOut {
     pub fn into_bytes(self) -> Vec<u8>
         ensures { (⟦<OwnedOut as Outlet>⟧.line self).told ≡ Some result.items }
     {
-        let OwnedOut {
-            bytes,
-            each: _,
-            fault: _,
-            faults: _,
-            calls: _,
-        } = self;
+        let OwnedOut { bytes, .. } = self;
         bytes
     }
 }
 
 impl Outlet for OwnedOut {
-    ghost use Rattle.line_io.specs.Memory.{owned_bytes, owned_plan, owned_faults, owned_calls, owned_line};
+    ghost use Rattle.line_io.specs.Memory.{owned_bytes, owned_plan, owned_line};
 
     ghost line = { owned_line };
 
@@ -73,11 +67,12 @@ impl Outlet for OwnedOut {
         ensures bound { IfSome result (λ n. n ≤ length piece.now) }
         ensures bytes { Wrote (owned_line self.old) (owned_line self.new)
             (moved_front result piece.now) }
-        ensures faults { owned_faults self.new
-            ≡ owned_faults self.old + write_faults (owned_calls self.old) result piece.now }
-        ensures calls { owned_calls self.new ≡ owned_calls self.old - 1 }
-        ensures spent { owned_calls self.old ≡ 0 → result ≡ None }
-        ensures plan { GoesOn (owned_plan self.old) (owned_calls self.old)
+        ensures faults { (owned_line self.new).faults
+            ≡ (owned_line self.old).faults
+            + write_faults (owned_line self.old).calls_left result piece.now }
+        ensures calls { (owned_line self.new).calls_left ≡ (owned_line self.old).calls_left - 1 }
+        ensures spent { (owned_line self.old).calls_left ≡ 0 → result ≡ None }
+        ensures plan { GoesOn (owned_plan self.old) (owned_line self.old).calls_left
             (length piece.now) result (owned_plan self.new) }
     {
         if self.calls == 0 {

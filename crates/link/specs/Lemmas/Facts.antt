@@ -5,9 +5,8 @@ use Rattle.cobs.specs.FrameLaws.{HasOneMessage, HasOneShortest, HoldsNoZero, Fro
 use Rattle.postcard_tree.specs.Tree.{Tree, IsTree}
 use Rattle.postcard_tree.specs.Spelling.{Spells, short}
 use Rattle.postcard_tree.specs.Reading.{EndsByItself}
-use Rattle.postcard.specs.Frames.{Holds}
+use Rattle.link.specs.Link.{Holds, HoldsExactly}
 use Rattle.postcard.specs.Spellings.{HasNoBeginning}
-use Rattle.link.specs.Stream.{HoldsExactly}
 
 -- a frame has one message, a message one shortest frame, and spellings of the type's trees end by themselves
 pub record Facts (takes : Tree → Type 0) : Type 0 where

@@ -1,180 +1,221 @@
--- How bytes at the end of a stream change what is given of it.
-use Rattle.std.proofs.Common.{◌≡◌, ℕ, ◌<◌, ◌≤◌, List, [], ◌∷◌, ◌++◌, length, nat_lt, if◌then◌else◌, refl, sym, ap, ◌∙◌, subst, inl, inr, arith, append_assoc, ltb, append-nil, length-append, le-ltb, lt-ltb}
-use Rattle.std.proofs.lemmas.Bool.{cond-false, cond-true, cases_lt}
+-- What one byte more changes in what is given of a stream, and in what is begun of it.
+use Rattle.std.proofs.Common.{◌≡◌, ℕ, ◌<◌, ◌≤◌, List, [], ◌∷◌, ◌++◌, length, nat_lt, if◌then◌else◌, refl, sym, ap, ◌∙◌, subst, inl, inr, arith, append_assoc, ltb, append-nil, length-append, le-ltb, lt-ltb, eq-eqb, ne_eqb, bit_xor}
+use Rattle.std.specs.List.{AllZip}
+use Rattle.std.proofs.lemmas.Bool.{cond-false, cond-true, cases_lt, cases_eq}
+use Rattle.std.proofs.lemmas.List.{map-append}
 use Rattle.postcard_tree.specs.Tree.{Tree}
 use Rattle.cobs.specs.Frames.{NoZero}
 use Rattle.cobs.specs.Sentinel.{masked}
-use Rattle.link.specs.Stream.{Verdict, too_long, IsAnswer, begun_answers, Given, Begun, kept, over}
-use Rattle.link.specs.Pushes.{IsBegun}
-use Rattle.link.specs.Relational.{Stretches, AnswerEach}
-use Rattle.link.specs.Lemmas.Stepwise.{heard_stepwise, unfinished_is}
-use Rattle.link.specs.Lemmas.StretchLaws.{goes_on, ends}
-use Rattle.link.specs.Lemmas.JoinLaws.{each_joined}
+use Rattle.link.specs.Link.{Verdict, too_long, IsAnswer, begun_answers, Given, Begun, kept, over, begun, ended, unfinished, IsBegun}
+use Rattle.link.specs.Steps.{Event, quiet, passed, end_of, event_at, begun_at}
+use Rattle.link.specs.Lemmas.MaskLaws.{mask_twice}
+use Rattle.link.specs.Lemmas.StretchLaws.{nonzero, NoZero-append}
+use Rattle.link.specs.Lemmas.Pieces.{ends_at, ended_behind, unfinished_behind, ended_alone, unfinished_alone, ended_skip, ended_at, unfinished_at}
+use Rattle.link.specs.Lemmas.HeardLaws.{zip_joined}
 
--- Whatever stream came to b, the bytes x behind it lead to c and add these answers.
-pub record FeedsAnswers (holds : List ℕ → Tree → Type 0) (limit s : ℕ) (b : Begun) (x : List ℕ) (answers : List Verdict) (c : Begun) : Type 0 where
-  pub on : (stream : List ℕ) (given : List Verdict) → IsBegun limit s stream b → Given holds limit s stream given
-      → IsBegun limit s (stream ++ x) c × Given holds limit s (stream ++ x) (given ++ answers)
+-- the answers that an event is about
+abbrev pub AnswersEvent : (List ℕ → Tree → Type 0) → ℕ → Event → List Verdict → Type 0
+AnswersEvent holds limit quiet answers = answers ≡ []
+AnswersEvent holds limit (Event.ended p) answers =
+    (a : Verdict) × IsAnswer holds limit p a × (answers ≡ a ∷ [])
+AnswersEvent holds limit passed answers = answers ≡ too_long ∷ []
 
 -- what is begun, by the unfinished stretch
 abbrev pub begun_of : ℕ → List ℕ → Begun
 begun_of limit rest = if nat_lt limit (length rest) then over else kept rest
 
 -- how an unfinished stretch stands to the limit
-pub short_begun : (limit : ℕ) (u : List ℕ) → length u ≤ limit → begun_of limit u ≡ kept u
+short_begun : (limit : ℕ) (u : List ℕ) → length u ≤ limit → begun_of limit u ≡ kept u
 short_begun limit u l = cond-false (ltb limit (length u)) over (kept u) (le-ltb limit (length u) l)
 
 long_begun : (limit : ℕ) (u : List ℕ) → limit < length u → begun_of limit u ≡ over
 long_begun limit u l = cond-true (ltb limit (length u)) over (kept u) (lt-ltb limit (length u) l)
 
 pub short_answers : (limit : ℕ) (u : List ℕ) → length u ≤ limit → begun_answers limit u ≡ []
-short_answers limit u l = cond-false (ltb limit (length u)) (too_long ∷ []) [] (le-ltb limit (length u) l)
+short_answers limit u l =
+    cond-false (ltb limit (length u)) (too_long ∷ []) [] (le-ltb limit (length u) l)
 
-pub long_answers : (limit : ℕ) (u : List ℕ) → limit < length u → begun_answers limit u ≡ too_long ∷ []
-long_answers limit u l = cond-true (ltb limit (length u)) (too_long ∷ []) [] (lt-ltb limit (length u) l)
+long_answers : (limit : ℕ) (u : List ℕ) → limit < length u → begun_answers limit u ≡ too_long ∷ []
+long_answers limit u l =
+    cond-true (ltb limit (length u)) (too_long ∷ []) [] (lt-ltb limit (length u) l)
 
-pub is_short : (limit : ℕ) (u p : List ℕ) → kept p ≡ begun_of limit u → (u ≡ p) × (length u ≤ limit)
+pub is_short : (limit : ℕ) (u p : List ℕ) → kept p ≡ begun_of limit u
+    → (u ≡ p) × (length u ≤ limit)
 is_short limit u p e = elim (cases_lt limit (length u)) [
   | inl l ↦ (let k = long_begun limit u l in cc)
   | inr l ↦ ((let k = short_begun limit u l in cc), l)
 ]
 
-pub is_long : (limit : ℕ) (u : List ℕ) → over ≡ begun_of limit u → limit < length u
-is_long limit u e = elim (cases_lt limit (length u)) [
-  | inl l ↦ l
-  | inr l ↦ (let k = short_begun limit u l in cc)
-]
+-- a stretch that the sentinel ends, unless it is empty
+abbrev some_of : List ℕ → List (List ℕ)
+some_of [] = []
+some_of (b ∷ p) = (b ∷ p) ∷ []
+
+module _ (s : ℕ) (stream : List ℕ) where
+  -- what stands behind the last sentinel ends no stretch
+  pub ended_front : ended s stream ≡ ended s (ends_at s stream).front
+  ended_front =
+      let h = ends_at s stream in
+      let u = unfinished s stream in
+      ap (ended s) h.whole ∙ ended_behind s h.front (masked s u) h.between
+      ∙ ap (λ x. ended s h.front ++ x) (ended_alone s u h.nonzero) ∙ append-nil (ended s h.front)
+
+  -- a byte of a stretch
+  other_byte : (byte : ℕ) → (byte ≡ s → ⊥) → (ended s (stream ++ byte ∷ []) ≡ ended s stream)
+      × (unfinished s (stream ++ byte ∷ []) ≡ unfinished s stream ++ bit_xor s byte ∷ [])
+  other_byte byte ne =
+      let h = ends_at s stream in
+      let u = unfinished s stream in
+      let c = bit_xor s byte ∷ [] in
+      let nz : NoZero (u ++ c) = NoZero-append u c h.nonzero (nonzero s byte ne, tt) in
+      let bytes : masked s (u ++ c) ≡ masked s u ++ byte ∷ [] =
+      map-append (bit_xor s) u c ∙ ap (λ b. masked s u ++ b ∷ []) (mask_twice s byte) in
+      let whole : stream ++ byte ∷ [] ≡ h.front ++ masked s (u ++ c) =
+      ap (λ x. x ++ byte ∷ []) h.whole ∙ append_assoc h.front (masked s u) (byte ∷ [])
+      ∙ ap (λ x. h.front ++ x) (sym bytes) in (
+        ap (ended s) whole ∙ ended_behind s h.front (masked s (u ++ c)) h.between
+            ∙ ap (λ x. ended s h.front ++ x) (ended_alone s (u ++ c) nz)
+            ∙ append-nil (ended s h.front) ∙ sym ended_front,
+        ap (unfinished s) whole ∙ unfinished_behind s h.front (masked s (u ++ c)) h.between
+            ∙ unfinished_alone s (u ++ c) nz,
+      )
+
+  ended_mark : (u : List ℕ) → NoZero u → ended s (masked s u ++ s ∷ []) ≡ some_of u
+  ended_mark [] z = ended_skip s [] ∙ ended_alone s [] tt
+  ended_mark (b ∷ p) z = ended_at s b p [] z ∙ ap (λ x. (b ∷ p) ∷ x) (ended_alone s [] tt)
+
+  -- the sentinel
+  mark_byte : (ended s (stream ++ s ∷ []) ≡ ended s stream ++ some_of (unfinished s stream))
+      × (unfinished s (stream ++ s ∷ []) ≡ [])
+  mark_byte =
+      let h = ends_at s stream in
+      let u = unfinished s stream in
+      let last = masked s u ++ s ∷ [] in
+      let whole : stream ++ s ∷ [] ≡ h.front ++ last =
+      ap (λ x. x ++ s ∷ []) h.whole ∙ append_assoc h.front (masked s u) (s ∷ []) in (
+        ap (ended s) whole ∙ ended_behind s h.front last h.between
+            ∙ ap (λ x. ended s h.front ++ x) (ended_mark u h.nonzero)
+            ∙ ap (λ x. x ++ some_of u) (sym ended_front),
+        ap (unfinished s) whole ∙ unfinished_behind s h.front last h.between
+            ∙ unfinished_at s u [] h.nonzero ∙ unfinished_alone s [] tt,
+      )
+
+  -- nothing is begun behind it
+  pub none_behind : (limit : ℕ) → IsBegun limit s (stream ++ s ∷ []) (kept [])
+  none_behind limit = sym (ap (begun_of limit) mark_byte.1 ∙ short_begun limit [] (omega arith))
 
 module _ (holds : List ℕ → Tree → Type 0) (limit s : ℕ) where
-  -- where a stream stands and what is given of it
-  pub record Stands (stream : List ℕ) (given : List Verdict) (b : Begun) : Type 0 where
-    pub ended : List (List ℕ)
-    pub unfinished : List ℕ
-    pub stretches : Stretches s stream ended unfinished
-    pub front : List Verdict
-    pub each : AnswerEach (IsAnswer holds limit) ended front
-    pub whole : given ≡ front ++ begun_answers limit unfinished
-    pub is : b ≡ begun_of limit unfinished
+  long_mark : (u : List ℕ) (vs : List Verdict) → limit < length u → vs ≡ []
+      → AllZip (IsAnswer holds limit) (some_of u) (too_long ∷ vs)
+  long_mark [] vs l e = absurd (omega arith)
+  long_mark (b ∷ p) vs l e = (l, subst (AllZip (IsAnswer holds limit) []) (sym e) tt)
 
-  pub stands : (stream : List ℕ) (given : List Verdict) (b : Begun) → IsBegun limit s stream b → Given holds limit s stream given → Stands stream given b
-  stands stream given b i g =
-      let h = (heard_stepwise (IsAnswer holds limit) (begun_answers limit) s stream given).1 g in
-      record { ended = h.before; unfinished = h.rest; stretches = h.stretches; front = h.front; each = h.each; whole = h.whole; is = i ∙ ap (begun_of limit) (unfinished_is s stream h.before h.rest h.stretches) }
+  short_mark : (u : List ℕ) (vs : List Verdict) → AnswersEvent holds limit (end_of u) vs
+      → AllZip (IsAnswer holds limit) (some_of u) vs
+  short_mark [] vs h = subst (AllZip (IsAnswer holds limit) []) (sym h) tt
+  short_mark (b ∷ p) vs h =
+      subst (AllZip (IsAnswer holds limit) ((b ∷ p) ∷ [])) (sym h.2) (h.1, tt)
 
-  apart : (stream : List ℕ) (given : List Verdict) (b : Begun) → Stands stream given b → IsBegun limit s stream b × Given holds limit s stream given
-  apart stream given b h = (
-    h.is ∙ ap (begun_of limit) (sym (unfinished_is s stream h.ended h.unfinished h.stretches)),
-    (heard_stepwise (IsAnswer holds limit) (begun_answers limit) s stream given).0 (record { before = h.ended; rest = h.unfinished; stretches = h.stretches; front = h.front; each = h.each; whole = h.whole }),
-  )
+  -- what the sentinel ends has had its answer, or has it now
+  at_mark : (u : List ℕ) (vs : List Verdict)
+      → AnswersEvent holds limit (event_at limit s (begun_of limit u) s) vs
+      → AllZip (IsAnswer holds limit) (some_of u) (begun_answers limit u ++ vs)
+  at_mark u vs h = elim (cases_lt limit (length u)) [
+    | inl l ↦ rw (lt-ltb limit (length u) l) (long_mark u vs l (rw (lt-ltb limit (length u) l) at h))
+    | inr l ↦ rw (le-ltb limit (length u) l) (short_mark u vs (rw (le-ltb limit (length u) l, eq-eqb s s refl) at h))
+  ]
 
-  feeds : (b : Begun) (x : List ℕ) (answers : List Verdict) (c : Begun) → ((stream : List ℕ) (given : List Verdict) → Stands stream given b → Stands (stream ++ x) (given ++ answers) c) → FeedsAnswers holds limit s b x answers c
-  feeds b x answers c f = record { on = λ stream given i g. apart (stream ++ x) (given ++ answers) c (f stream given (stands stream given b i g)) }
+  -- another byte leads on, and is answered where it is the one past the limit
+  at_other : (u : List ℕ) (byte : ℕ) → (byte ≡ s → ⊥)
+      → (begun_at limit s (begun_of limit u) byte ≡ begun_of limit (u ++ bit_xor s byte ∷ []))
+      × ((vs : List Verdict) → AnswersEvent holds limit (event_at limit s (begun_of limit u) byte) vs
+      → begun_answers limit u ++ vs ≡ begun_answers limit (u ++ bit_xor s byte ∷ []))
+  at_other u byte ne =
+      let v = u ++ bit_xor s byte ∷ [] in
+      let n = length-append u (bit_xor s byte ∷ []) in
+      elim (cases_lt limit (length u)) [
+        | inl l ↦ (
+            let long : limit < length v = omega (arith, l, n) in (
+              rw (lt-ltb limit (length u) l, ne_eqb byte s ne) (sym (long_begun limit v long)),
+              λ vs h. (
+                  let none : vs ≡ [] = rw (lt-ltb limit (length u) l) at h in
+                  ap (λ x. begun_answers limit u ++ x) none ∙ append-nil (begun_answers limit u)
+                  ∙ long_answers limit u l ∙ sym (long_answers limit v long)),
+            ))
+        | inr l ↦ elim (cases_lt (length u) limit) [
+          | inl m ↦ (
+              let short : length v ≤ limit = omega (arith, m, n) in (
+                rw (le-ltb limit (length u) l, ne_eqb byte s ne, lt-ltb (length u) limit m) (sym (short_begun limit v short)),
+                λ vs h. (
+                    let none : vs ≡ [] = rw (le-ltb limit (length u) l, ne_eqb byte s ne, lt-ltb (length u) limit m) at h in
+                    ap (λ x. begun_answers limit u ++ x) none ∙ append-nil (begun_answers limit u)
+                    ∙ short_answers limit u l ∙ sym (short_answers limit v short)),
+              ))
+          | inr m ↦ (
+              let long : limit < length v = omega (arith, m, n) in (
+                rw (le-ltb limit (length u) l, ne_eqb byte s ne, le-ltb (length u) limit m) (sym (long_begun limit v long)),
+                λ vs h. (
+                    let one : vs ≡ too_long ∷ [] = rw (le-ltb limit (length u) l, ne_eqb byte s ne, le-ltb (length u) limit m) at h in
+                    ap (λ x. begun_answers limit u ++ x) one
+                    ∙ ap (λ x. x ++ too_long ∷ []) (short_answers limit u l)
+                    ∙ sym (long_answers limit v long)),
+              ))
+        ]
+      ]
 
-  pub feeds_nothing : (b : Begun) → FeedsAnswers holds limit s b [] [] b
-  feeds_nothing b = record {
-    on = λ stream given i g. (
-      subst (λ y. IsBegun limit s y b) (sym (append-nil stream)) i,
-      subst (λ y. Given holds limit s y (given ++ [])) (sym (append-nil stream)) (subst (λ y. Given holds limit s stream y) (sym (append-nil given)) g),
-    );
-  }
+  at_sentinel : (b : Begun) → begun_at limit s b s ≡ kept []
+  at_sentinel (kept p) = rw (eq-eqb s s refl) refl
+  at_sentinel over = rw (eq-eqb s s refl) refl
 
-  pub feeds_then : (b c d : Begun) (x y : List ℕ) (us vs : List Verdict) → FeedsAnswers holds limit s b x us c → FeedsAnswers holds limit s c y vs d → FeedsAnswers holds limit s b (x ++ y) (us ++ vs) d
-  feeds_then b c d x y us vs f k = record {
-    on = λ stream given i g.
-        let m = f.on stream given i g in
-        let n = k.on (stream ++ x) (given ++ us) m.0 m.1 in (
-          subst (λ z. IsBegun limit s z d) (append_assoc stream x y) n.0,
-          subst (λ z. Given holds limit s z (given ++ (us ++ vs))) (append_assoc stream x y) (subst (λ z. Given holds limit s ((stream ++ x) ++ y) z) (append_assoc given us vs) n.1),
-        );
-  }
+  begun_here : (stream : List ℕ) (byte : ℕ)
+      → begun_at limit s (begun limit s stream) byte ≡ begun limit s (stream ++ byte ∷ [])
+  begun_here stream byte = elim (cases_eq byte s) [
+    | inl e ↦ subst (λ c. begun_at limit s (begun limit s stream) c ≡ begun limit s (stream ++ c ∷ [])) (sym e)
+        (at_sentinel (begun limit s stream) ∙ none_behind s stream limit)
+    | inr ne ↦ (at_other (unfinished s stream) byte ne).0
+        ∙ ap (begun_of limit) (sym (other_byte s stream byte ne).1)
+  ]
 
-  -- bytes of a stretch that stays within the limit
-  pub feeds_bytes : (p v : List ℕ) → NoZero v → length (p ++ v) ≤ limit → FeedsAnswers holds limit s (kept p) (masked s v) [] (kept (p ++ v))
-  feeds_bytes p v z l = feeds _ _ _ _ (λ stream given h.
-      let k = is_short limit h.unfinished p h.is in
-      let m : length (h.unfinished ++ v) ≤ limit = subst (λ u. length (u ++ v) ≤ limit) (sym k.0) l in
-      record {
-        ended = h.ended;
-        unfinished = h.unfinished ++ v;
-        stretches = goes_on s stream h.ended h.unfinished v h.stretches z;
-        front = h.front;
-        each = h.each;
-        whole = append-nil given ∙ h.whole ∙ ap (λ y. h.front ++ y) (short_answers limit h.unfinished k.1 ∙ sym (short_answers limit (h.unfinished ++ v) m));
-        is = sym (short_begun limit (h.unfinished ++ v) m ∙ ap (λ u. kept (u ++ v)) k.0);
-      })
+  -- what is begun behind a byte
+  pub begun_byte : (b : Begun) (stream : List ℕ) (byte : ℕ) → IsBegun limit s stream b
+      → IsBegun limit s (stream ++ byte ∷ []) (begun_at limit s b byte)
+  begun_byte b stream byte i = ap (λ c. begun_at limit s c byte) i ∙ begun_here stream byte
 
-  -- bytes that take it past the limit
-  pub feeds_past : (p v : List ℕ) → NoZero v → limit < length (p ++ v) → FeedsAnswers holds limit s (kept p) (masked s v) (too_long ∷ []) over
-  feeds_past p v z l = feeds _ _ _ _ (λ stream given h.
-      let k = is_short limit h.unfinished p h.is in
-      let m : limit < length (h.unfinished ++ v) = subst (λ u. limit < length (u ++ v)) (sym k.0) l in
-      let w : given ≡ h.front = h.whole ∙ ap (λ y. h.front ++ y) (short_answers limit h.unfinished k.1) ∙ append-nil h.front in
-      record {
-        ended = h.ended;
-        unfinished = h.unfinished ++ v;
-        stretches = goes_on s stream h.ended h.unfinished v h.stretches z;
-        front = h.front;
-        each = h.each;
-        whole = ap (λ y. y ++ (too_long ∷ [])) w ∙ ap (λ y. h.front ++ y) (sym (long_answers limit (h.unfinished ++ v) m));
-        is = sym (long_begun limit (h.unfinished ++ v) m);
-      })
+  given_here : (stream : List ℕ) (byte : ℕ) (us vs : List Verdict)
+      → Given holds limit s stream us
+      → AnswersEvent holds limit (event_at limit s (begun limit s stream) byte) vs
+      → Given holds limit s (stream ++ byte ∷ []) (us ++ vs)
+  given_here stream byte us vs g h =
+      let u = unfinished s stream in
+      let now = begun_answers limit u ++ vs in
+      let said : us ++ vs ≡ g.done ++ now =
+      ap (λ x. x ++ vs) g.whole ∙ append_assoc g.done (begun_answers limit u) vs in
+      elim (cases_eq byte s) [
+        | inl e ↦ subst (λ c. Given holds limit s (stream ++ c ∷ []) (us ++ vs)) (sym e) (
+            let k = mark_byte s stream in
+            let m = at_mark u vs (subst (λ c. AnswersEvent holds limit (event_at limit s (begun limit s stream) c) vs) e h) in
+            record {
+              done = g.done ++ now;
+              each = subst (λ ps. AllZip (IsAnswer holds limit) ps (g.done ++ now)) (sym k.0)
+                  (zip_joined (IsAnswer holds limit) (ended s stream) (some_of u) g.done now g.each m);
+              whole = said ∙ sym (ap (λ x. (g.done ++ now) ++ begun_answers limit x) k.1
+                  ∙ ap (λ x. (g.done ++ now) ++ x) (short_answers limit [] (omega arith))
+                  ∙ append-nil (g.done ++ now));
+            })
+        | inr ne ↦ (
+            let k = other_byte s stream byte ne in
+            record {
+              done = g.done;
+              each = subst (λ ps. AllZip (IsAnswer holds limit) ps g.done) (sym k.0) g.each;
+              whole = said ∙ ap (λ x. g.done ++ x)
+                  ((at_other u byte ne).1 vs h ∙ ap (begun_answers limit) (sym k.1));
+            })
+      ]
 
-  -- bytes of a stretch that is past it
-  pub feeds_over : (v : List ℕ) → NoZero v → FeedsAnswers holds limit s over (masked s v) [] over
-  feeds_over v z = feeds _ _ _ _ (λ stream given h.
-      let k = is_long limit h.unfinished h.is in
-      let m : limit < length (h.unfinished ++ v) = omega (arith, length-append h.unfinished v) in
-      record {
-        ended = h.ended;
-        unfinished = h.unfinished ++ v;
-        stretches = goes_on s stream h.ended h.unfinished v h.stretches z;
-        front = h.front;
-        each = h.each;
-        whole = append-nil given ∙ h.whole ∙ ap (λ y. h.front ++ y) (long_answers limit h.unfinished k ∙ sym (long_answers limit (h.unfinished ++ v) m));
-        is = sym (long_begun limit (h.unfinished ++ v) m);
-      })
-
-  each_last : (ps : List (List ℕ)) (front : List Verdict) (p : List ℕ) (answers : List Verdict) → AnswerEach (IsAnswer holds limit) ps front → AnswerEach (IsAnswer holds limit) (p ∷ []) answers → AnswerEach (IsAnswer holds limit) (ps ++ (p ∷ [])) (front ++ answers)
-  each_last ps front p answers h k = each_joined (IsAnswer holds limit) ps (p ∷ []) front answers h k
-
-  ends_with : (p : List ℕ) (answers : List Verdict) (stream : List ℕ) (given front : List Verdict) (ps : List (List ℕ)) → Stretches s stream ps p → AnswerEach (IsAnswer holds limit) ps front
-      → AnswerEach (IsAnswer holds limit) (p ∷ []) answers → given ≡ front ++ answers → Stands (stream ++ (s ∷ [])) given (kept [])
-  ends_with p answers stream given front ps h e k w =
-      record {
-        ended = ps ++ (p ∷ []);
-        unfinished = [];
-        stretches = ends s stream ps p h;
-        front = front ++ answers;
-        each = each_last ps front p answers e k;
-        whole = w ∙ sym (ap (λ y. (front ++ answers) ++ y) (short_answers limit [] (omega arith)) ∙ append-nil (front ++ answers));
-        is = sym (short_begun limit [] (omega arith));
-      }
-
-  single : (p : List ℕ) (a : Verdict) → 0 < length p → IsAnswer holds limit p a → AnswerEach (IsAnswer holds limit) (p ∷ []) (a ∷ [])
-  single [] a l h = absurd (omega arith)
-  single (b ∷ p) a l h = (h, refl)
-
-  -- a sentinel at the end of a stretch
-  pub feeds_end : (p : List ℕ) (a : Verdict) → 0 < length p → IsAnswer holds limit p a → FeedsAnswers holds limit s (kept p) (s ∷ []) (a ∷ []) (kept [])
-  feeds_end p a l r = feeds _ _ _ _ (λ stream given h.
-      let k = is_short limit h.unfinished p h.is in
-      let w : given ≡ h.front = h.whole ∙ ap (λ y. h.front ++ y) (short_answers limit h.unfinished k.1) ∙ append-nil h.front in
-      ends_with p (a ∷ []) stream _ h.front h.ended (subst (λ u. Stretches s stream h.ended u) k.0 h.stretches) h.each (single p a l r) (ap (λ y. y ++ (a ∷ [])) w))
-
-  -- a sentinel where none is kept
-  pub feeds_skip : FeedsAnswers holds limit s (kept []) (s ∷ []) [] (kept [])
-  feeds_skip = feeds _ _ _ _ (λ stream given h.
-      let k = is_short limit h.unfinished [] h.is in
-      let w : given ≡ h.front = h.whole ∙ ap (λ y. h.front ++ y) (short_answers limit h.unfinished k.1) ∙ append-nil h.front in
-      ends_with [] [] stream _ h.front h.ended (subst (λ u. Stretches s stream h.ended u) k.0 h.stretches) h.each refl (ap (λ y. y ++ []) w))
-
-  -- a sentinel at the end of a stretch that was too long
-  pub feeds_close : FeedsAnswers holds limit s over (s ∷ []) [] (kept [])
-  feeds_close = feeds _ _ _ _ (λ stream given h.
-      let k = is_long limit h.unfinished h.is in
-      ends_with h.unfinished (too_long ∷ []) stream _ h.front h.ended h.stretches h.each (single h.unfinished too_long (omega arith) k)
-      (append-nil given ∙ h.whole ∙ ap (λ y. h.front ++ y) (long_answers limit h.unfinished k)))
-
--- a stream of nothing
-pub none_begun : (limit s : ℕ) → IsBegun limit s [] (kept [])
-none_begun limit s = sym (ap (begun_of limit) (unfinished_is s [] [] [] (tt, refl)) ∙ short_begun limit [] (omega arith))
+  -- what is given behind a byte, by the event that it brings about
+  pub given_byte : (b : Begun) (stream : List ℕ) (byte : ℕ) (us vs : List Verdict)
+      → IsBegun limit s stream b → Given holds limit s stream us
+      → AnswersEvent holds limit (event_at limit s b byte) vs
+      → Given holds limit s (stream ++ byte ∷ []) (us ++ vs)
+  given_byte b stream byte us vs i g h =
+      given_here stream byte us vs g (subst (λ c. AnswersEvent holds limit (event_at limit s c byte) vs) i h)

@@ -3,12 +3,8 @@ use Rattle.std.proofs.Common.{◌≡◌, ℕ, List, [], ◌∷◌, ◌++◌, len
 use Rattle.std.specs.List.{AllZip}
 use Rattle.std.proofs.lemmas.Bool.{cases_lt, lt-ltb, le-ltb}
 use Rattle.postcard_tree.specs.Tree.{Tree}
-use Rattle.link.specs.Decoding.{Inside}
-use Rattle.link.specs.Stream.{Verdict, cut, begun_answers, cut_answers, unfinished, begun, kept, over, Given, Answers}
-use Rattle.link.specs.Pushes.{listed, Matches, Answered, finished}
-use Rattle.link.specs.Receivers.{IsBehind}
-use Rattle.link.specs.Listening.{HasGiven, HasAnswered, Hears, KeepsAnswer}
-use Rattle.link.specs.Lemmas.SendLaws.{zip_then}
+use Rattle.link.specs.Link.{Inside, Verdict, cut, begun_answers, cut_answers, unfinished, begun, kept, over, Given, Answers, listed, Matches, Answered, finished, IsBehind, HasGiven, HasAnswered, Hears, KeepsAnswer}
+use Rattle.link.specs.Lemmas.HeardLaws.{zip_joined}
 use Rattle.link.specs.declared.reception.Reception.{Reception}
 use Rattle.link.specs.declared.receiver.Answer.{Answer}
 use Rattle.link.specs.declared.receiver.Answer.TheVariants.{Cut}
@@ -16,7 +12,7 @@ use Rattle.link.specs.declared.receiver.NoMemory.{NoMemory}
 
 pub zip_one : {A B : Type 0} (R : A → B → Type 0) (xs : List A) (ys : List B) (x : A) (y : B)
     → AllZip R xs ys → R x y → AllZip R (xs ++ x ∷ []) (ys ++ y ∷ [])
-zip_one R xs ys x y h r = zip_then R xs ys (x ∷ []) (y ∷ []) h (r, tt)
+zip_one R xs ys x y h r = zip_joined R xs (x ∷ []) ys (y ∷ []) h (r, tt)
 
 module _ {V : Type 0} (holds : List ℕ → Tree → Type 0) (reads : Tree → V → Type 0) (limit s : ℕ) (front rest : List ℕ) (answers new : List (Answer V)) (used : ℕ) where
   kept_none : (vs : List Verdict) (a : Option Verdict) → a ≡ None → AllZip (Matches reads) answers vs → AllZip (Matches reads) answers (vs ++ listed a)

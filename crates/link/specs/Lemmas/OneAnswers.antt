@@ -1,8 +1,7 @@
 -- A stretch has at most one answer.
 use Rattle.std.proofs.Common.{◌≡◌, ℕ, List, ◌++◌, refl, sym, ap, ◌∙◌, arith}
 use Rattle.postcard_tree.specs.Tree.{Tree}
-use Rattle.postcard.specs.Frames.{Holds}
-use Rattle.link.specs.Stream.{too_long, cut, damaged, value, HoldsExactly, IsAnswer}
+use Rattle.link.specs.Link.{Holds, too_long, cut, damaged, value, HoldsExactly, IsAnswer}
 use Rattle.link.specs.Lemmas.Facts.{Facts, exactly_holds}
 use Rattle.link.specs.Lemmas.HeardLaws.{IsOne}
 

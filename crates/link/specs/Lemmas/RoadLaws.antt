@@ -8,8 +8,9 @@ use Rattle.cobs.specs.Frames.{NoZero}
 use Rattle.cobs.specs.InPlace.{stretch}
 use Rattle.cobs.specs.Sentinel.{masked}
 use Rattle.postcard_tree.specs.Tree.{Tree}
-use Rattle.postcard.specs.Frames.{Holds}
-use Rattle.link.specs.Stream.{Verdict, value, damaged, too_long, cut, IsContent, IsAnswer, Heard, Answers, pieces, ended_of, unfinished_of, ended, unfinished, begun_answers, cut_answers}
+use Rattle.postcard.specs.Frames.{Holds, HoldsValue}
+use Rattle.postcard.specs.Feeds.{Feeds}
+use Rattle.link.specs.Stream.{Verdict, value, damaged, too_long, cut, IsContent, IsAnswer, Heard, Answers, pieces, ended_of, unfinished_of, ended, unfinished}
 use Rattle.link.specs.Roads.{values_of, AllFit, ReadsInPlace, nothing, skipped, answered, unanswered, IsSameInPlace, Loops, done, stopped, used_up, consumed, overfull, failed, success, joined, AreValues, AreFirst, IsSameByAccumulator}
 use Rattle.link.specs.Lemmas.Facts.{some_bytes}
 use Rattle.link.specs.Lemmas.MaskLaws.{unmasked as plain}
@@ -124,6 +125,30 @@ pub less_length : (x : List ℕ) → x ≡ stretch x ++ (0 ∷ drop (length (str
     → length (stretch x) < length x
 less_length x e = omega (arith, ap length e, length-append (stretch x) (0 ∷ drop (length (stretch x) + 1) x))
 
+-- What feeding came to: a piece without a zero is kept or doesn't fit, else what stands before the first is answered or doesn't.
+pub fed_by : {P : Type 0} (room : ℕ) (held piece kept : List ℕ) (C : Type 0) (O : List ℕ → Type 0)
+    (A : List ℕ → List ℕ → Type 0) → Feeds room held piece C O A kept
+    → (NoZero piece → C → kept ≡ held ++ piece → P)
+    → (NoZero piece → room < length held + length piece → O (drop (room - length held) piece)
+    → kept ≡ [] → P)
+    → (piece ≡ stretch piece ++ (0 ∷ drop (length (stretch piece) + 1) piece)
+    → A (held ++ stretch piece) (drop (length (stretch piece) + 1) piece) → kept ≡ [] → P)
+    → (piece ≡ stretch piece ++ (0 ∷ drop (length (stretch piece) + 1) piece)
+    → room < length held + length (stretch piece) + 1
+    → O (drop (length (stretch piece) + 1) piece) → kept ≡ [] → P) → P
+fed_by room held piece kept C O A g keeps full answers over = elim (zeroed piece).either [
+  | inl e ↦ (
+      let z : NoZero piece = subst NoZero (sym e) (stretch_nonzero piece) in
+      elim (cases_lt room (length held + length piece)) [
+        | inl l ↦ (let w = g.full (whole_length piece e) l in full z l w.0 w.1)
+        | inr l ↦ (let w = g.more (whole_length piece e) l in keeps z w.0 w.1)
+      ])
+  | inr e ↦ elim (cases_lt room (length held + length (stretch piece) + 1)) [
+    | inl l ↦ (let w = g.full_ended (less_length piece e) l in over e l w.0 w.1)
+    | inr l ↦ (let w = g.ended (less_length piece e) l in answers e w.0 w.1)
+  ]
+]
+
 -- the stretches of a stream without a sentinel, and behind the first
 no_ended : (p : List ℕ) → NoZero p → ended 0 p ≡ []
 no_ended p z = ap (ended 0) (sym (plain p)) ∙ ended_alone 0 p z
@@ -206,6 +231,25 @@ module _ {A : Type 0} (takes : Tree → Type 0) (reads : Tree → A → Type 0) 
       ap (λ y. held ++ (y ++ rest)) e ∙ ap (λ y. held ++ y) (append_assoc (stretch piece) (0 ∷ drop (length (stretch piece) + 1) piece) rest)
       ∙ sym (append_assoc held (stretch piece) (0 ∷ (drop (length (stretch piece) + 1) piece ++ rest)))
 
+  -- what an answered piece leaves to be answered
+  ended_rest : (held piece rest kept : List ℕ) (pieces : List (List ℕ)) (us : List Verdict)
+      → piece ≡ stretch piece ++ (0 ∷ drop (length (stretch piece) + 1) piece)
+      → rest ≡ drop (length (stretch piece) + 1) piece → kept ≡ [] → NoZero held
+      → AllFit room 0 (held ++ (piece ++ joined pieces))
+      → AllZip (IsContent (Holds takes)) (ended 0 (held ++ (piece ++ joined pieces))) us
+      → (r : Rest (held ++ stretch piece) (rest ++ joined pieces) us) × NoZero kept
+      × AllFit room 0 (kept ++ (rest ++ joined pieces))
+      × AllZip (IsContent (Holds takes)) (ended 0 (kept ++ (rest ++ joined pieces))) r.later
+  ended_rest held piece rest kept pieces us e q n z f h =
+      let front = held ++ stretch piece in
+      let left = rest ++ joined pieces in
+      let split : held ++ (piece ++ joined pieces) ≡ front ++ (0 ∷ left) =
+      split_piece held piece (joined pieces) e ∙ ap (λ y. front ++ (0 ∷ (y ++ joined pieces))) (sym q) in
+      let zf = nonzero_joined held (stretch piece) z (stretch_nonzero piece) in
+      let r = rest_of front left us zf (subst (AllFit room 0) split f) (subst (λ y. AllZip (IsContent (Holds takes)) (ended 0 y) us) split h) in
+      let same : left ≡ kept ++ left = ap (λ y. y ++ left) (sym n) in
+      (r, subst NoZero (sym n) tt, subst (AllFit room 0) same r.fit, subst (λ y. AllZip (IsContent (Holds takes)) (ended 0 y) r.later) same r.each)
+
   no_values : (us : List Verdict) → AllZip (IsContent (Holds takes)) [] us → us ≡ []
   no_values [] h = refl
   no_values (u ∷ us) h = absurd h
@@ -221,96 +265,48 @@ module _ {A : Type 0} (takes : Tree → Type 0) (reads : Tree → A → Type 0) 
   gathered us (stopped e) z f h = record { first = []; more = values_of us; parts = refl; are = record { all = λ _. tt; some = tt }; whole = λ d. let no : true ≡ false = sym e ∙ d in cc }
   gathered us (used_up k) z f h = gathered us k z f h
   gathered us (consumed {held = held} {kept = kept} {piece = piece} {pieces = pieces} g k) z f h =
-      elim (zeroed piece).either [
-        | inl e ↦ elim (cases_lt room (length held + length piece)) [
-          | inl l ↦ absurd (g.full (whole_length piece e) l).0
-          | inr l ↦ (
-              let same : kept ≡ held ++ piece = (g.more (whole_length piece e) l).1 in
-              let whole : held ++ (piece ++ joined pieces) ≡ kept ++ joined pieces = sym (append_assoc held piece (joined pieces)) ∙ ap (λ y. y ++ joined pieces) (sym same) in
-              gathered us k (subst NoZero (sym same) (nonzero_joined held piece z (subst NoZero (sym e) (stretch_nonzero piece))))
-              (subst (AllFit room 0) whole f) (subst (λ y. AllZip (IsContent (Holds takes)) (ended 0 y) us) whole h))
-        ]
-        | inr e ↦ elim (cases_lt room (length held + length (stretch piece) + 1)) [
-          | inl l ↦ absurd (g.full_ended (less_length piece e) l).0
-          | inr l ↦ absurd (g.ended (less_length piece e) l).0
-        ]
-      ]
+      fed_by room held piece kept (Unit {0}) (λ r. ⊥) (λ a r. ⊥) g
+      (λ zp c same. (
+      let whole : held ++ (piece ++ joined pieces) ≡ kept ++ joined pieces = sym (append_assoc held piece (joined pieces)) ∙ ap (λ y. y ++ joined pieces) (sym same) in
+      gathered us k (subst NoZero (sym same) (nonzero_joined held piece z zp)) (subst (AllFit room 0) whole f) (subst (λ y. AllZip (IsContent (Holds takes)) (ended 0 y) us) whole h)))
+      (λ zp l o e. absurd o) (λ q a e. absurd a) (λ q l o e. absurd o)
   gathered us (overfull {held = held} {kept = kept} {piece = piece} {pieces = pieces} rest g k) z f h =
-      elim (zeroed piece).either [
-        | inl e ↦ elim (cases_lt room (length held + length piece)) [
-          | inr l ↦ absurd (g.more (whole_length piece e) l).0
-          | inl l ↦ (
-              let w = g.full (whole_length piece e) l in
-              let zp : NoZero piece = subst NoZero (sym e) (stretch_nonzero piece) in
-              elim (zeroed (joined pieces)).either [
-                | inl d ↦ (
-                    let zx : NoZero (joined pieces) = subst NoZero (sym d) (stretch_nonzero (joined pieces)) in
-                    let nothing_left : us ≡ [] = no_values us (subst (λ ps. AllZip (IsContent (Holds takes)) ps us) (no_ended (held ++ (piece ++ joined pieces)) (nonzero_joined held (piece ++ joined pieces) z (nonzero_joined piece (joined pieces) zp zx))) h) in
-                    let zr : NoZero (kept ++ (rest ++ joined pieces)) = subst (λ y. NoZero (y ++ (rest ++ joined pieces))) (sym w.1) (nonzero_joined rest (joined pieces) (subst NoZero (sym w.0) (nonzero_drop (room - length held) piece zp)) zx) in
-                    let none_ended = no_ended (kept ++ (rest ++ joined pieces)) zr in
-                    gathered us k (subst NoZero (sym w.1) tt) (subst (AllByRecursion (λ q. length q < room)) (sym none_ended) tt)
-                    (subst (λ ps. AllZip (IsContent (Holds takes)) ps us) (sym none_ended) (subst (AllZip (IsContent (Holds takes)) []) (sym nothing_left) tt)))
-                | inr d ↦ absurd (
-                    let x = stretch (joined pieces) in
-                    let y = drop (length x + 1) (joined pieces) in
-                    let split : held ++ (piece ++ joined pieces) ≡ (held ++ (piece ++ x)) ++ (0 ∷ y) =
-                    ap (λ q. held ++ (piece ++ q)) d ∙ ap (λ q. held ++ q) (sym (append_assoc piece x (0 ∷ y))) ∙ sym (append_assoc held (piece ++ x) (0 ∷ y)) in
-                    let l2 : length (held ++ (piece ++ x)) < room = fits room (held ++ (piece ++ x)) y some_room (nonzero_joined held (piece ++ x) z (nonzero_joined piece x zp (stretch_nonzero (joined pieces)))) (subst (AllFit room 0) split f) in
-                    omega (arith, l, l2, length-append held (piece ++ x), length-append piece x))
-              ])
-        ]
-        | inr e ↦ elim (cases_lt room (length held + length (stretch piece) + 1)) [
-          | inr l ↦ absurd (g.ended (less_length piece e) l).0
-          | inl l ↦ absurd (
-              let l2 : length (held ++ stretch piece) < room = fits room (held ++ stretch piece) _ some_room (nonzero_joined held (stretch piece) z (stretch_nonzero piece)) (subst (AllFit room 0) (split_piece held piece (joined pieces) e) f) in
-              omega (arith, l, l2, length-append held (stretch piece)))
-        ]
-      ]
+      fed_by room held piece kept ⊥ (λ r. rest ≡ r) (λ a r. ⊥) g (λ zp c e. absurd c)
+      (λ zp l o e. elim (zeroed (joined pieces)).either [
+        | inl d ↦ (
+            let zx : NoZero (joined pieces) = subst NoZero (sym d) (stretch_nonzero (joined pieces)) in
+            let nothing_left : us ≡ [] = no_values us (subst (λ ps. AllZip (IsContent (Holds takes)) ps us) (no_ended (held ++ (piece ++ joined pieces)) (nonzero_joined held (piece ++ joined pieces) z (nonzero_joined piece (joined pieces) zp zx))) h) in
+            let zr : NoZero (kept ++ (rest ++ joined pieces)) = subst (λ y. NoZero (y ++ (rest ++ joined pieces))) (sym e) (nonzero_joined rest (joined pieces) (subst NoZero (sym o) (nonzero_drop (room - length held) piece zp)) zx) in
+            let none_ended = no_ended (kept ++ (rest ++ joined pieces)) zr in
+            gathered us k (subst NoZero (sym e) tt) (subst (AllByRecursion (λ q. length q < room)) (sym none_ended) tt)
+            (subst (λ ps. AllZip (IsContent (Holds takes)) ps us) (sym none_ended) (subst (AllZip (IsContent (Holds takes)) []) (sym nothing_left) tt)))
+        | inr d ↦ absurd (
+            let x = stretch (joined pieces) in
+            let y = drop (length x + 1) (joined pieces) in
+            let split : held ++ (piece ++ joined pieces) ≡ (held ++ (piece ++ x)) ++ (0 ∷ y) =
+            ap (λ q. held ++ (piece ++ q)) d ∙ ap (λ q. held ++ q) (sym (append_assoc piece x (0 ∷ y))) ∙ sym (append_assoc held (piece ++ x) (0 ∷ y)) in
+            let l2 : length (held ++ (piece ++ x)) < room = fits room (held ++ (piece ++ x)) y some_room (nonzero_joined held (piece ++ x) z (nonzero_joined piece x zp (stretch_nonzero (joined pieces)))) (subst (AllFit room 0) split f) in
+            omega (arith, l, l2, length-append held (piece ++ x), length-append piece x))
+      ])
+      (λ q a e. absurd a)
+      (λ q l o e. absurd (
+      let l2 : length (held ++ stretch piece) < room = fits room (held ++ stretch piece) _ some_room (nonzero_joined held (stretch piece) z (stretch_nonzero piece)) (subst (AllFit room 0) (split_piece held piece (joined pieces) q) f) in
+      omega (arith, l, l2, length-append held (stretch piece))))
   gathered us (failed {held = held} {kept = kept} {piece = piece} {pieces = pieces} {values = values} rest g k) z f h =
-      elim (zeroed piece).either [
-        | inl e ↦ elim (cases_lt room (length held + length piece)) [
-          | inl l ↦ absurd (g.full (whole_length piece e) l).0
-          | inr l ↦ absurd (g.more (whole_length piece e) l).0
-        ]
-        | inr e ↦ elim (cases_lt room (length held + length (stretch piece) + 1)) [
-          | inl l ↦ absurd (g.full_ended (less_length piece e) l).0
-          | inr l ↦ (
-              let w = g.ended (less_length piece e) l in
-              let split : held ++ (piece ++ joined pieces) ≡ (held ++ stretch piece) ++ (0 ∷ (rest ++ joined pieces)) = split_piece held piece (joined pieces) e ∙ ap (λ y. (held ++ stretch piece) ++ (0 ∷ (y ++ joined pieces))) (sym w.0.0) in
-              let r = rest_of (held ++ stretch piece) (rest ++ joined pieces) us (nonzero_joined held (stretch piece) z (stretch_nonzero piece)) (subst (AllFit room 0) split f) (subst (λ y. AllZip (IsContent (Holds takes)) (ended 0 y) us) split h) in
-              let same : rest ++ joined pieces ≡ kept ++ (rest ++ joined pieces) = ap (λ y. y ++ (rest ++ joined pieces)) (sym w.1) in
-              r.skips w.0.1 values (gathered r.later k (subst NoZero (sym w.1) tt) (subst (AllFit room 0) same r.fit) (subst (λ y. AllZip (IsContent (Holds takes)) (ended 0 y) r.later) same r.each)))
-        ]
-      ]
+      fed_by room held piece kept ⊥ (λ r. ⊥) (λ a r. (rest ≡ r) × ((t : Tree) → Holds takes a t → growing ≡ true)) g
+      (λ zp c e. absurd c) (λ zp l o e. absurd o)
+      (λ q a e. (
+      let w = ended_rest held piece rest kept pieces us q a.0 e z f h in
+      w.0.skips a.1 values (gathered w.0.later k w.1 w.2 w.3)))
+      (λ q l o e. absurd o)
   gathered us (success {held = held} {kept = kept} {piece = piece} {pieces = pieces} {values = values} v rest g k) z f h =
-      elim (zeroed piece).either [
-        | inl e ↦ elim (cases_lt room (length held + length piece)) [
-          | inl l ↦ absurd (g.full (whole_length piece e) l).0
-          | inr l ↦ absurd (g.more (whole_length piece e) l).0
-        ]
-        | inr e ↦ elim (cases_lt room (length held + length (stretch piece) + 1)) [
-          | inl l ↦ absurd (g.full_ended (less_length piece e) l).0
-          | inr l ↦ (
-              let w = g.ended (less_length piece e) l in
-              let split : held ++ (piece ++ joined pieces) ≡ (held ++ stretch piece) ++ (0 ∷ (rest ++ joined pieces)) = split_piece held piece (joined pieces) e ∙ ap (λ y. (held ++ stretch piece) ++ (0 ∷ (y ++ joined pieces))) (sym w.0.0) in
-              let r = rest_of (held ++ stretch piece) (rest ++ joined pieces) us (nonzero_joined held (stretch piece) z (stretch_nonzero piece)) (subst (AllFit room 0) split f) (subst (λ y. AllZip (IsContent (Holds takes)) (ended 0 y) us) split h) in
-              let same : rest ++ joined pieces ≡ kept ++ (rest ++ joined pieces) = ap (λ y. y ++ (rest ++ joined pieces)) (sym w.1) in
-              let t = w.0.1 in
-              r.takes_value t.0 t.1 v t.2 values (gathered r.later k (subst NoZero (sym w.1) tt) (subst (AllFit room 0) same r.fit) (subst (λ y. AllZip (IsContent (Holds takes)) (ended 0 y) r.later) same r.each)))
-        ]
-      ]
-
-at_zero : {A : Type 0} (takes : Tree → Type 0) (reads : Tree → A → Type 0) (growing : Bool)
-    (values : List A) → IsOne (Holds takes)
-    → (may_stop : Bool) (room : ℕ) (pieces : List (List ℕ)) (answers : List Verdict) → 0 < room
-    → AllFit room 0 (joined pieces)
-    → Answers (Holds takes) room 0 (joined pieces) answers
-    → Loops takes reads growing may_stop room [] pieces values
-    → AreFirst reads growing may_stop (values_of answers) values
-at_zero takes reads growing values one may_stop room pieces answers l f h k =
-    let g = gathered takes reads growing may_stop room l one h.done k tt f (contents (Holds takes) room (ended 0 (joined pieces)) h.done f h.each) in
-    let same : values_of answers ≡ values_of h.done = ap values_of h.whole ∙ values_joined h.done (at_end room (unfinished 0 (joined pieces))) (no_values_at_end room (unfinished 0 (joined pieces))) in
-    subst (λ ts. AreFirst reads growing may_stop ts values) (sym same) g
+      fed_by room held piece kept ⊥ (λ r. ⊥) (λ a r. (rest ≡ r) × HoldsValue takes reads a v) g
+      (λ zp c e. absurd c) (λ zp l o e. absurd o)
+      (λ q a e. (
+      let w = ended_rest held piece rest kept pieces us q a.0 e z f h in
+      let t = a.1 in
+      w.0.takes_value t.0 t.1 v t.2 values (gathered w.0.later k w.1 w.2 w.3)))
+      (λ q l o e. absurd o)
 
 -- XORed with the sentinel a stream has the same stretches, by zeros
 module _ (s : ℕ) where
@@ -344,7 +340,10 @@ pub same_by_accumulator : {A : Type 0} (takes : Tree → Type 0) (reads : Tree �
     (growing : Bool) (values : List A) (s : ℕ) → IsOne (Holds takes)
     → IsSameByAccumulator takes reads growing values s
 same_by_accumulator takes reads growing values s one may_stop room pieces answers l f h k =
-    let x = joined pieces in
     let line = joined_masked s pieces in
-    at_zero takes reads growing values one may_stop room (map (masked s) pieces) answers l (subst (AllFit room 0) line (subst (AllByRecursion (λ q. length q < room)) (same_ended s x) f))
-    (subst (λ y. Answers (Holds takes) room 0 y answers) line (same_heard s (IsAnswer (Holds takes) room) (λ q. begun_answers room q ++ cut_answers room q) x answers h)) k
+    let x = joined (map (masked s) pieces) in
+    let fit : AllFit room 0 x = subst (AllFit room 0) line (subst (AllByRecursion (λ q. length q < room)) (same_ended s (joined pieces)) f) in
+    let heard : Answers (Holds takes) room 0 x answers = subst (λ y. Answers (Holds takes) room 0 y answers) line (same_heard s (IsAnswer (Holds takes) room) (at_end room) (joined pieces) answers h) in
+    let g = gathered takes reads growing may_stop room l one heard.done k tt fit (contents (Holds takes) room (ended 0 x) heard.done fit heard.each) in
+    let same : values_of answers ≡ values_of heard.done = ap values_of heard.whole ∙ values_joined heard.done (at_end room (unfinished 0 x)) (no_values_at_end room (unfinished 0 x)) in
+    subst (λ ts. AreFirst reads growing may_stop ts values) (sym same) g

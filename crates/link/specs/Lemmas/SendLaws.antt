@@ -1,13 +1,12 @@
 -- Sessions of one sender, one behind the other, are a session.
 use Rattle.std.proofs.Common.{◌≡◌, ℕ, ◌+◌, ◌≤◌, Bool, List, [], ◌∷◌, ◌++◌, map, Option, refl, sym, ap, ◌∙◌, subst, inl, inr, arith, append_assoc}
-use Rattle.std.specs.List.{AllZip}
 use Rattle.std.proofs.lemmas.List.{map-append}
 use Rattle.line_io.specs.Device.{LineState}
 use Rattle.line_io.specs.Calls.{Wrote-none, Wrote-then}
 use Rattle.postcard_tree.specs.Tree.{Tree, IsTree}
-use Rattle.link.specs.Run.{Send, written, clean_after, session_line, IsSession}
-use Rattle.link.specs.Fates.{IsSendOf, fate_of, brokens, clean_after_all, Did, FewBroke, SendsAll}
+use Rattle.link.specs.Link.{Send, written, clean_after, session_line, IsSession, IsSendOf, fate_of, brokens, clean_after_all, Did, FewBroke, SendsAll}
 use Rattle.link.specs.declared.session.Fate.{Fate}
+use Rattle.link.specs.Lemmas.HeardLaws.{zip_joined}
 
 pub clean_then : (clean : Bool) (xs ys : List Send) → clean_after_all clean (xs ++ ys) ≡ clean_after_all (clean_after_all clean xs) ys
 clean_then clean [] ys = refl
@@ -25,12 +24,6 @@ line_then s clean (x ∷ xs) ys = ap (λ b. written s clean x ++ b) (line_then s
 session_then : (limit s : ℕ) (clean : Bool) (xs ys : List Send) → IsSession IsTree limit s clean xs → IsSession IsTree limit s (clean_after_all clean xs) ys → IsSession IsTree limit s clean (xs ++ ys)
 session_then limit s clean [] ys h k = k
 session_then limit s clean (x ∷ xs) ys h k = (h.0, session_then limit s (clean_after clean x) xs ys h.1 k)
-
-pub zip_then : {A B : Type 0} (R : A → B → Type 0) (xs : List A) (ys : List B) (more : List A) (others : List B) → AllZip R xs ys → AllZip R more others → AllZip R (xs ++ more) (ys ++ others)
-zip_then R [] [] more others h k = k
-zip_then R [] (y ∷ ys) more others h k = absurd h
-zip_then R (x ∷ xs) [] more others h k = absurd h
-zip_then R (x ∷ xs) (y ∷ ys) more others h k = (h.0, zip_then R xs ys more others h.1 k)
 
 few_then : (u v w : LineState) (m n k : ℕ) → FewBroke u v m → FewBroke v w n → w.calls_left ≤ v.calls_left → v.faults ≤ w.faults → k ≡ m + n → FewBroke u w k
 few_then u v w m n k (inl p) (inl q) l z e = inl (omega arith)
@@ -59,7 +52,7 @@ module _ {V : Type 0} (limit s : ℕ) (writes : V → Option Tree) (valid : V �
       record {
         sends = xs ++ ys;
         are = session_then limit s clean xs ys p.are (subst (λ z. IsSession IsTree limit s z ys) p.then q.are);
-        of = zip_then (λ v x. IsSendOf limit (writes v) (valid v) x) vs xs ws ys p.of q.of;
+        of = zip_joined (λ v x. IsSendOf limit (writes v) (valid v) x) vs ws xs ys p.of q.of;
         fated = ap (λ l. l ++ gs) p.fated ∙ ap (λ l. map fate_of xs ++ l) q.fated ∙ sym (map-append fate_of xs ys);
         did = subst (λ n. Did u w (session_line s clean (xs ++ ys)) n) (sym (brokens_then xs ys))
             (subst (λ b. Did u w b (brokens xs + brokens ys)) (sym line) (did_then _ _ _ (session_line s clean xs) (session_line s now ys) (brokens xs) (brokens ys) p.did q.did));

@@ -2,7 +2,7 @@ use Rattle.std.proofs.lemmas.Grind.{common_steps}
 use Rattle.std.proofs.Common.{◌≡◌, ◌<◌, ◌++◌, length, sym, ◌∙◌, arith, rules, append_assoc, length-append}
 use Rattle.std.specs.Prelude.{unwrap_or}
 use Rattle.line_io.specs.Device.{moved_front}
-use Rattle.line_io.specs.Calls.{moved_is, moved_no_fault, WentOut-then}
+use Rattle.line_io.specs.Calls.{moved_is, moved_no_fault, one_fault, WentOut-then}
 use Rattle.line_io.proofs.transfers.write_all.Goals as goal
 
 pub loop-rest-preserved : goal.loop-rest-preserved
@@ -22,11 +22,20 @@ loop-rest-preserved g c =
       few = omega (arith, c.write.ensures.calls, i.few, length-append i.sent front, filled);
     }
 
-pub returns-then-taken-eq0-clause-few : goal.returns-then-taken-eq0-clause-few
-returns-then-taken-eq0-clause-few g c = grind (arith, common_steps)
+pub returns-then-taken-eq0 : goal.returns-then-taken-eq0
+returns-then-taken-eq0 g c = record {
+  ok = tt;
+  err = grind (arith, common_steps);
+  calls = grind (arith, common_steps);
+  few = grind (arith, common_steps);
+  once = omega (arith, c.write.ensures.faults, c.loop-rest.invariant.out.quiet, one_fault (g.W.Outlet.line c.loop-rest.outlet).calls_left c.write.result c.loop-rest.rest.now);
+}
 
-pub returns-clause-ok : goal.returns-clause-ok
-returns-clause-ok g c = grind (arith, common_steps)
-
-pub returns-clause-few : goal.returns-clause-few
-returns-clause-few g c = grind (arith, common_steps)
+pub returns : goal.returns
+returns g c = record {
+  ok = grind (arith, common_steps);
+  err = tt;
+  calls = c.loop-rest.invariant.calls;
+  few = grind (arith, common_steps);
+  once = omega (arith, c.loop-rest.invariant.out.quiet);
+}

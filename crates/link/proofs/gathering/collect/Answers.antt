@@ -1,8 +1,7 @@
 use Rattle.std.proofs.Common.{[], ◌++◌, take, refl, sym, ◌∙◌, arith, length-take-le}
 use Rattle.line_io.specs.Calls.{Gave-none, Gave-then}
 use Rattle.postcard.specs.Gathers.{sentinel_of}
-use Rattle.link.proofs.HearingLemmas.{on_ok, on_err, read_quiet}
-use Rattle.link.proofs.HandingLemmas.{uses_none, uses_then, uses_read, uses_last, taken_some}
+use Rattle.link.proofs.HandingLemmas.{on_ok, on_err, read_quiet, uses_none, uses_then, uses_read, uses_last, taken_some}
 use Rattle.link.proofs.FetchingLemmas.{gathers_no_bytes, gathers_more}
 use Rattle.link.proofs.gathering.collect.Goals as goal
 

@@ -1,5 +1,5 @@
 use Rattle.std.proofs.Common.{refl, arith, inl, inr}
-use Rattle.link.proofs.NextsLemmas.{line_blank, line_unfinished, line_cut}
+use Rattle.link.proofs.ReadingLemmas.{line_blank, line_unfinished, line_cut}
 use Rattle.link.proofs.in_place.cut_behind.Goals as goal
 
 pub returns-then-end-eq0 : goal.returns-then-end-eq0

@@ -1,5 +1,5 @@
 use Rattle.std.proofs.Common.{arith, sym, ◌∙◌}
-use Rattle.link.proofs.SentinelsLemmas.{leading_more, leading_over}
+use Rattle.link.proofs.ReadingLemmas.{leading_more, leading_over}
 use Rattle.link.proofs.in_place.leading_sentinels.Goals as goal
 
 pub loop-count-preserved : goal.loop-count-preserved

@@ -1,11 +1,11 @@
 -- The same at the sentinel zero. The proof is by hand for the same reason. Assumes `Logic`.
-use Rattle.link.proofs.InPlaceSteps.{◌≡◌, [], ◌∷◌, length, w8, refl, sym, subst, true, IfSome, IfNone, OnErr, lit<, Fn, TypeArgs, a_type, dcons, dnil, named, erased, inst_fn, Lft, ftrue, flft, id⊢, emp, ‵, raw, ◌⊛◌, some, later, ◌$◌, ◌∵◌, !, qed, by, move, keep, drop, split, join, fjoin, pick, use0, use1, await, whole, sub, agg, stop, fld, hop, from, addr, no_more, and_then, returns, enter, lit, alloc_all, pass_all, free_all, look_at, look_in_at, get, get_in, sets, lands_as, fact, fact_i, Lfts, ◌⊑◌, tables, u8, yes, no, RattleType, uint_Makes, uint_vals, NamedLft, Room, mut_slice_vals, mut_slice_Tells, plain, mut_slice_of, Is, shows, shr_slice_field, nothing, owned, heard, peeks, bounded, Lasts, lasts, triple_of, calls_at, framed, Stays, stay_dropped, walk_of, Goes-dropped, Goes-spent_slice, proved, leaves, Global, global_type, masked, unpadded, ReadsNext, KeptUnlessEnded, Slice, Found, lawful_found}
+use Rattle.link.proofs.InPlaceSteps.{◌≡◌, [], ◌∷◌, length, w8, refl, sym, subst, true, IfSome, IfNone, OnErr, lit<, Fn, TypeArgs, a_type, dcons, dnil, named, erased, inst_fn, Lft, ftrue, flft, id⊢, emp, ‵, raw, ◌⊛◌, some, later, ◌$◌, ◌∵◌, !, qed, by, move, keep, drop, split, join, fjoin, pick, use0, use1, await, whole, sub, agg, stop, fld, hop, from, addr, no_more, and_then, returns, enter, lit, alloc_all, pass_all, free_all, look_at, look_in_at, get, get_in, sets, lands_as, fact, fact_i, Lfts, ◌⊑◌, tables, u8, yes, no, RattleType, uint_Makes, uint_vals, NamedLft, Room, mut_slice_vals, mut_slice_Tells, plain, mut_slice_of, Is, shows, shr_slice_field, nothing, owned, heard, peeks, bounded, Lasts, lasts, triple_of, calls_at, framed, Stays, stay_dropped, walk_of, Goes-dropped, Goes-spent_slice, proved, leaves, Global, global_type, unpadded, ReadsNext, AnswersNext, KeptUnlessEnded, Slice, Found, lawful_found}
 use denote.Struct.Laws as struct_law
 use denote.Struct.Loose as struct_loose
 use Rattle.std.proofs.alloc.Global.TheLaws as global
 use Rattle.postcard_de.specs.contracts.deserialize.Deserialize.TheBound as bound
 use Rattle.postcard_de.specs.contracts.de_flavors.RefSliceU8Bytes.TheImpl as shared
-use Rattle.link.proofs.NextsLemmas.{zero_reads, zero_blank}
+use Rattle.link.proofs.ReadingLemmas.{zero_reads, zero_blank}
 use Rattle.link.specs.contracts.in_place.read_in_place_with_sentinel as reads
 use Rattle.link.proofs.in_place.read_in_place_with_sentinel.Met as read_met
 use Rattle.link.specs.contracts.in_place.read_in_place as self
@@ -56,17 +56,16 @@ read_in_place_spec 𝓤 𝓛 𝓜 𝓡 wired T X L LX gd dd gr dr dx P met_d met
     calls_at ! (framed 𝓤 H 𝓜 𝓣) G₁ (read_met.met 𝓤 𝓛 𝓜 𝓡 (code.calls-link::in_place::read_in_place_with_sentinel 𝓡.env wired) T X L LX gd dd gr dr dx P₁ (λ κs' e. subst Bound (sym e) (met_d κs p)) met_r met_x) z₁
     (and_then ! (get ! refl) (and_then ! (get ! refl) (and_then ! (lit ! tt) (no_more !)))) (λ u.
     use1 𝓛 (later (some (λ (r : Res.Denot). ((t₀ ⊛ t₁ ⊛ t₂ ⊛ ‵ ftrue) ⊛ ‵ (Res.own_val r (u ∷ []))) ⊛
-    some (λ (ls : Lasts E₁ z₁.0.0 z₁.0.3). ‵ (lasts E₁ z₁.0.0 z₁.0.3 ls) ⊛ raw (fact 𝓤 (IfSome r (λ q. ReadsNext gr.form.takes gr.form.reads (unpadded (masked 0 me.now)) q.0 (masked 0 q.1.now))))
-    ⊛ raw (fact 𝓤 (IfNone r (unpadded (masked 0 me.now) ≡ []))) ⊛ raw (fact 𝓤 (IfSome r (λ q. OnErr q.0 (gr.form.growing ≡ true)))) ⊛ ‵ (KeptUnlessEnded me r))))) (id⊢ 𝓤 _) $
-    await ! tt $ pick ! (λ r. split ! $ move ! (1 ∷ []) $ pick ! (λ ls. split ! $ drop ! $ split ! $ heard ! _ (λ some'. split ! $ heard ! _ (λ none'. split ! $ heard ! _ (λ memory.
+    some (λ (ls : Lasts E₁ z₁.0.0 z₁.0.3). ‵ (lasts E₁ z₁.0.0 z₁.0.3 ls) ⊛ raw (fact 𝓤 (AnswersNext gr.form.takes gr.form.reads gr.form.growing 0 me.now r)) ⊛ ‵ (KeptUnlessEnded me r))))) (id⊢ 𝓤 _) $
+    await ! tt $ pick ! (λ r. split ! $ move ! (1 ∷ []) $ pick ! (λ ls. split ! $ drop ! $ split ! $ heard ! _ (λ told.
     move ! (1 ∷ []) $ split ! $ move ! (1 ∷ []) $
     -- [the answer; the tokens; what is lent]
     peeks ! Res _ (shows 𝓛 Res) r (u ∷ []) (λ has.
     lands_as ! refl refl ((lawful_found 𝓛 α T L).typed r (u ∷ []) has).0 $ returns ! (look_at ! 0 refl) $ free_all ! refl $
     -- what is owed: the tokens, nothing of the parameters, the result, and the four clauses
     move ! (2 ∷ []) $
-    use0 𝓛 (raw (fact 𝓤 (IfSome r (λ q. OnErr q.0 (gr.form.growing ≡ true))))) (fact_i 𝓤 _ (emp 𝓤) memory) $ join ! $
-    use0 𝓛 (raw (fact 𝓤 (IfNone r (unpadded me.now ≡ [])))) (fact_i 𝓤 _ (emp 𝓤) (zero_blank me.now r none')) $ join ! $
-    use0 𝓛 (raw (fact 𝓤 (IfSome r (λ q. ReadsNext gr.form.takes gr.form.reads (unpadded me.now) q.0 q.1.now)))) (fact_i 𝓤 _ (emp 𝓤) (zero_reads gr.form.takes gr.form.reads me.now r some')) $ join ! $
+    use0 𝓛 (raw (fact 𝓤 (IfSome r (λ q. OnErr q.0 (gr.form.growing ≡ true))))) (fact_i 𝓤 _ (emp 𝓤) told.memory) $ join ! $
+    use0 𝓛 (raw (fact 𝓤 (IfNone r (unpadded me.now ≡ [])))) (fact_i 𝓤 _ (emp 𝓤) (zero_blank me.now r told.none)) $ join ! $
+    use0 𝓛 (raw (fact 𝓤 (IfSome r (λ q. ReadsNext gr.form.takes gr.form.reads (unpadded me.now) q.0 q.1.now)))) (fact_i 𝓤 _ (emp 𝓤) (zero_reads gr.form.takes gr.form.reads me.now r told.some)) $ join ! $
     nothing ! $ nothing ! $ fjoin ! $ nothing ! $ fjoin ! $ keep ! (3 ∷ 0 ∷ 2 ∷ 1 ∷ []) $
-    by ! (leaves 𝓛 En hs c y u r (tt, (tt, tt)) (tt, (tt, tt)))))))))))))))
+    by ! (leaves 𝓛 En hs c y u r (tt, (tt, tt)) (tt, (tt, tt)))))))))))))

@@ -1,6 +1,6 @@
 -- Where no stretch is ended the bytes are free again once that is answered: `cut_behind` says what they hold then.
 -- The proof is by hand, since none is generated where the result holds a value of a bound's type. Assumes `Logic`.
-use Rattle.link.proofs.InPlaceSteps.{◌≡◌, ℕ, List, [], ◌∷◌, ◌++◌, length, w8, w64, refl, sym, ap, ◌∙◌, subst, true, IfSome, IfNone, OnErr, LendsBothIf, Array, Fn, TypeArgs, a_type, dcons, dnil, named, erased, inst_fn, Val, vstruct, of_list, Lft, ftrue, flft, id⊢, emp, ‵, raw, ◌⊛◌, some, later, ◌$◌, ◌∵◌, !, qed, by, move, keep, drop, split, join, fjoin, pick, use0, use1, await, fsplit, fpick, feq_l, rewrite, whole, sub, agg, stop, fld, hop, from, addr, of_opd, no_more, and_then, returns, enter, alloc_all, pass_all, free_all, look_at, look_in_at, get, get_in, sets, lands_as, fact, fact_i, Lfts, ◌⊑◌, tables, u8, usize, yes, no, RattleType, uint_Makes, uint_vals, uint_Tells, NamedLft, Room, mut_slice_vals, mut_slice_Tells, plain, mut_slice_of, Is, shows, shr_slice_field, Tuple, nothing, owned, heard, peeks, only, bounded, Lasts, lasts, triple_of, calls_at, framed, Stays, stay_dropped, walk_of, Goes-dropped, Goes-spent_slice, proved, leaves, Global, global_type, masked, unpadded, ReadsNext, IsEnd, IsNext, AnswersNext, KeptUnlessEnded, Slice, Parts, Found, lawful_parts, lawful_found}
+use Rattle.link.proofs.InPlaceSteps.{◌≡◌, ℕ, List, [], ◌∷◌, ◌++◌, length, w8, w64, refl, sym, ap, ◌∙◌, subst, LendsBothIf, Array, Fn, TypeArgs, a_type, dcons, dnil, named, erased, inst_fn, Val, vstruct, of_list, Lft, ftrue, flft, id⊢, emp, ‵, raw, ◌⊛◌, some, later, ◌$◌, ◌∵◌, !, qed, by, move, keep, drop, split, join, fjoin, pick, use0, use1, await, fsplit, fpick, feq_l, rewrite, whole, sub, agg, stop, fld, hop, from, addr, of_opd, no_more, and_then, returns, enter, alloc_all, pass_all, free_all, look_at, look_in_at, get, get_in, sets, lands_as, fact, fact_i, Lfts, ◌⊑◌, tables, u8, usize, yes, no, RattleType, uint_Makes, uint_vals, uint_Tells, NamedLft, Room, mut_slice_vals, mut_slice_Tells, plain, mut_slice_of, Is, shows, shr_slice_field, Tuple, nothing, owned, heard, peeks, only, bounded, Lasts, lasts, triple_of, calls_at, framed, Stays, stay_dropped, walk_of, Goes-dropped, Goes-spent_slice, proved, leaves, Global, global_type, IsEnd, IsNext, AnswersNext, KeptUnlessEnded, Slice, Parts, Found, lawful_parts, lawful_found}
 use denote.Struct.Laws as struct_law
 use denote.Struct.Loose as struct_loose
 use Rattle.std.proofs.alloc.Global.TheLaws as global
@@ -104,10 +104,8 @@ read_in_place_with_sentinel_spec 𝓤 𝓛 𝓜 𝓡 wired T X L LX gd dd gr dr 
     peeks ! Res _ (shows 𝓛 Res) r (u ∷ []) (λ has'.
     let told : AnswersNext gr.form.takes gr.form.reads gr.form.growing sentinel me.now r = answers me.now next in
     lands_as ! refl refl ((lawful_found 𝓛 α T L).typed r (u ∷ []) has').0 $ returns ! (look_at ! 0 refl) $ free_all ! refl $
-    -- what is owed: the tokens, nothing of the parameters, the result, and the four clauses
+    -- what is owed: the tokens, nothing of the parameters, the result, and the two clauses
     move ! (3 ∷ []) $ use1 𝓛 (‵ (KeptUnlessEnded me r)) (kept_unless_ended 𝓛 gr.form.takes gr.form.reads gr.form.growing sentinel x.0 me x.1 same_bytes same_name c₁ r next told) $
-    use0 𝓛 (raw (fact 𝓤 (IfSome r (λ q. OnErr q.0 (gr.form.growing ≡ true))))) (fact_i 𝓤 _ (emp 𝓤) told.memory) $ join ! $
-    use0 𝓛 (raw (fact 𝓤 (IfNone r (unpadded (masked sentinel me.now) ≡ [])))) (fact_i 𝓤 _ (emp 𝓤) told.none) $ join ! $
-    use0 𝓛 (raw (fact 𝓤 (IfSome r (λ q. ReadsNext gr.form.takes gr.form.reads (unpadded (masked sentinel me.now)) q.0 (masked sentinel q.1.now))))) (fact_i 𝓤 _ (emp 𝓤) told.some) $ join ! $
+    use0 𝓛 (raw (fact 𝓤 (AnswersNext gr.form.takes gr.form.reads gr.form.growing sentinel me.now r))) (fact_i 𝓤 _ (emp 𝓤) told) $ join ! $
     nothing ! $ nothing ! $ fjoin ! $ nothing ! $ fjoin ! $ nothing ! $ fjoin ! $ keep ! (3 ∷ 0 ∷ 2 ∷ 1 ∷ []) $
     by ! (leaves 𝓛 En hs c y u r (tt, (tt, (tt, tt))) (tt, (tt, (tt, tt)))))))))))))))))))))))))))))

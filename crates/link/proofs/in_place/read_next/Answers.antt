@@ -1,7 +1,7 @@
 use Rattle.std.proofs.lemmas.Grind.{common_steps}
 use Rattle.std.proofs.Common.{refl, subst, arith}
 use Rattle.link.specs.InPlace.{IsNext}
-use Rattle.link.proofs.NextsLemmas.{line_some}
+use Rattle.link.proofs.ReadingLemmas.{line_some}
 use Rattle.link.proofs.in_place.read_next.Goals as goal
 
 pub read_stretch-requires : goal.read_stretch-requires

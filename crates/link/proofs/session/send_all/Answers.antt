@@ -1,7 +1,7 @@
 use Rattle.std.proofs.lemmas.Grind.{common_steps}
 use Rattle.std.proofs.Common.{◌∙◌, ap, sym, arith, ◌++◌, ◌∷◌, [], take, length, ◌<◌}
 use Rattle.std.proofs.lemmas.List.{take_more, take_more_set}
-use Rattle.link.proofs.TurnsLemmas.{one_sent}
+use Rattle.link.proofs.SendingLemmas.{one_sent}
 use Rattle.link.proofs.session.send_all.Goals as goal
 
 pub loop-i-preserved : goal.loop-i-preserved

@@ -1,5 +1,5 @@
 use Rattle.link.specs.Stream.{begun}
-use Rattle.link.proofs.BetweensLemmas.{counted_begun}
+use Rattle.link.proofs.ReceivingLemmas.{counted_begun}
 use Rattle.link.proofs.reception.Reception.begun_bytes.Goals as goal
 
 pub returns : goal.returns

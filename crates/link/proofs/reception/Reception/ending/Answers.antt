@@ -1,5 +1,5 @@
 use Rattle.link.specs.Stream.{begun}
-use Rattle.link.proofs.BetweensLemmas.{finish_past, finish_none, finish_some}
+use Rattle.link.proofs.ReceivingLemmas.{finish_past, finish_none, finish_some}
 use Rattle.link.proofs.reception.Reception.ending.Goals as goal
 
 pub returns-then-self : goal.returns-then-self

@@ -1,7 +1,5 @@
 use Rattle.std.proofs.Common.{◌≡◌, ℕ, true, List, ◌++◌, length}
-use Rattle.link.specs.Listening.{Hears}
-use Rattle.link.specs.Each.{Handed}
-use Rattle.link.specs.Receivers.{SameTerms}
+use Rattle.link.specs.Link.{Hears, Handed, SameTerms}
 use Rattle.link.specs.declared.receiver.Answer.{Answer}
 use Rattle.link.proofs.RecoveringLemmas.{HasLost}
 use Rattle.link.proofs.reception.Reception.hand_by.Given as goal

@@ -1,13 +1,10 @@
 use Rattle.std.proofs.Common.{◌≡◌, ◌<◌, [], ◌++◌, length, take, refl, sym, ◌∙◌, ap, subst, append_assoc, arith, rules, append-nil}
-use Rattle.link.specs.Stream.{begun}
-use Rattle.link.specs.Receivers.{IsAt, IsBehind}
-use Rattle.link.specs.Listening.{Hears, HasGiven}
+use Rattle.link.specs.Link.{begun, IsAt, IsBehind, Hears, HasGiven}
 use Rattle.link.specs.Lemmas.Givens.{kept_given}
 use Rattle.link.specs.Lemmas.Lengths.{none_left}
-use Rattle.link.proofs.HearingLemmas.{on_err, on_ok, lost_by, parts_on}
+use Rattle.link.proofs.HandingLemmas.{on_err, on_ok, lost_by, parts_on, handed_none, handed_next, handed_as, keeps_behind}
 use Rattle.link.specs.Lemmas.AnswerLaws.{behind_after, answered}
-use Rattle.link.proofs.PrefixesLemmas.{by_loss}
-use Rattle.link.proofs.HandingLemmas.{handed_none, handed_next, handed_as, keeps_behind}
+use Rattle.link.proofs.FirstLemmas.{by_loss}
 use Rattle.link.proofs.reception.Reception.hand_on.Goals as goal
 
 pub loop-rest-init : goal.loop-rest-init

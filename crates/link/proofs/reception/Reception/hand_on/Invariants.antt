@@ -1,6 +1,5 @@
 use Rattle.std.proofs.Common.{◌≡◌, ℕ, ◌≤◌, List, ◌++◌, length}
-use Rattle.link.specs.Each.{Adds}
-use Rattle.link.specs.Receivers.{SameTerms}
+use Rattle.link.specs.Link.{Adds, SameTerms}
 use Rattle.link.proofs.reception.Reception.hand_on.Given as goal
 
 -- what is left of the piece, and that the answers to what came before it were handed on

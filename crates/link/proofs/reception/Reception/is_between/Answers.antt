@@ -1,5 +1,5 @@
 use Rattle.link.specs.Stream.{begun}
-use Rattle.link.proofs.BetweensLemmas.{between_counted, never_between}
+use Rattle.link.proofs.ReceivingLemmas.{between_counted, never_between}
 use Rattle.link.proofs.reception.Reception.is_between.Goals as goal
 
 pub returns-then-not-self-clause-begun : goal.returns-then-not-self-clause-begun

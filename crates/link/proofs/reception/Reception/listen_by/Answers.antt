@@ -1,6 +1,5 @@
 use Rattle.std.proofs.Common.{[], length, take, refl, ◌∙◌, ap, arith, Some, length-take-le}
-use Rattle.link.proofs.HearingLemmas.{read_failed, read_quiet, nothing_taken}
-use Rattle.link.proofs.HandingLemmas.{handed_none, handed_paused, nothing_more, taken_some}
+use Rattle.link.proofs.HandingLemmas.{read_failed, read_quiet, nothing_taken, handed_none, handed_paused, nothing_more, taken_some}
 use Rattle.link.proofs.reception.Reception.listen_by.Goals as goal
 
 pub returns-in-None-clause-heard : goal.returns-in-None-clause-heard

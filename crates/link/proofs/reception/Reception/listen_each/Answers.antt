@@ -1,7 +1,6 @@
-use Rattle.std.proofs.Common.{[], ◌++◌, refl, sym, ◌∙◌, subst, append_assoc, arith, inl, inr}
+use Rattle.std.proofs.Common.{[], ◌++◌, Some, None, refl, sym, ◌∙◌, arith, inl, inr}
 use Rattle.line_io.specs.Calls.{Gave-none, Gave-then}
-use Rattle.link.specs.Listening.{Hears, IsHeard}
-use Rattle.link.proofs.HandingLemmas.{handed_none, nothing_more, read_then, few_then, was_asked}
+use Rattle.link.proofs.HandingLemmas.{handed_none, nothing_more, read_then, few_then, was_asked, adds_then}
 use Rattle.link.proofs.reception.Reception.listen_each.Goals as goal
 
 pub loop-alloc-init : goal.loop-alloc-init
@@ -20,14 +19,7 @@ returns-in-Some-clause-heard g c =
         bytes = k.0 ++ e.bytes;
         read = read_then _ _ _ k.0 e.bytes c.in-Some.end k.1 k.2 e.read;
         few = few_then _ _ _ k.0 e.bytes 1 k.3 e.few;
-        adds = record {
-          answers = k.4.answers ++ e.adds.answers;
-          heard = g.H.Hearer.laws.more _ _ _ k.4.answers e.adds.answers k.4.heard e.adds.heard;
-          so = λ limit s stream given h.
-              let heard = e.adds.so limit s (stream ++ k.0) (given ++ k.4.answers) (k.4.so limit s stream given h) in
-              subst (λ x. IsHeard g.D.Decoding.inside judging.holds judging.reads limit s c.args.goes_on c.in-Some.end c.listen_by.new.self (given ++ (k.4.answers ++ e.adds.answers)) x) (append_assoc stream k.0 e.bytes)
-              (subst (λ xs. IsHeard g.D.Decoding.inside judging.holds judging.reads limit s c.args.goes_on c.in-Some.end c.listen_by.new.self xs ((stream ++ k.0) ++ e.bytes)) (append_assoc given k.4.answers e.adds.answers) heard);
-        };
+        adds = adds_then g.D.Decoding.inside judging g.H.Hearer.hears g.H.Hearer.laws c.args.goes_on k.0 e.bytes _ _ c.listen_by.new.self _ _ _ (Some c.in-Some.end) k.4 e.adds;
       },
       inr (was_asked g.D.Decoding.inside judging g.H.Hearer.hears g.H.Hearer.enough _ _ _ _ _ _ k.0 e.bytes e.adds.answers k.4 e.adds.heard (sym c.has_enough.ensures ∙ c.if-has_enough.false) (omega (arith, c.in-Some.ensures.heard.1))),
     )
@@ -42,14 +34,7 @@ loop-alloc-preserved g c =
         Gave-then _ _ _ _ _ k.1 e.read.0,
         e.read.1 ∙ k.2,
         few_then _ _ _ k.0 e.bytes 0 k.3 e.few,
-        record {
-          answers = k.4.answers ++ e.adds.answers;
-          heard = g.H.Hearer.laws.more _ _ _ k.4.answers e.adds.answers k.4.heard e.adds.heard;
-          so = λ limit s stream given h.
-              let heard = e.adds.so limit s (stream ++ k.0) (given ++ k.4.answers) (k.4.so limit s stream given h) in
-              subst (λ x. Hears g.D.Decoding.inside judging.holds judging.reads limit s c.listen_by.new.self (given ++ (k.4.answers ++ e.adds.answers)) x) (append_assoc stream k.0 e.bytes)
-              (subst (λ xs. Hears g.D.Decoding.inside judging.holds judging.reads limit s c.listen_by.new.self xs ((stream ++ k.0) ++ e.bytes)) (append_assoc given k.4.answers e.adds.answers) heard);
-        },
+        adds_then g.D.Decoding.inside judging g.H.Hearer.hears g.H.Hearer.laws c.args.goes_on k.0 e.bytes _ _ _ _ _ _ None k.4 e.adds,
         inr (was_asked g.D.Decoding.inside judging g.H.Hearer.hears g.H.Hearer.enough _ _ _ _ _ _ k.0 e.bytes e.adds.answers k.4 e.adds.heard (sym c.has_enough.ensures ∙ c.if-has_enough.false) (omega (arith, c.in_default.ensures.heard.1))),
       ),
       (c.listen_by.ensures.same.0 ∙ c.loop-alloc.invariant.1.0, c.listen_by.ensures.same.1 ∙ c.loop-alloc.invariant.1.1),

@@ -1,7 +1,6 @@
 use Rattle.std.proofs.Common.{◌≡◌, ℕ, ◌+◌, ◌≤◌, List, length}
 use Rattle.line_io.specs.Device.{Gave}
-use Rattle.link.specs.Each.{Adds, IsAsked}
-use Rattle.link.specs.Receivers.{SameTerms}
+use Rattle.link.specs.Link.{Adds, IsAsked, SameTerms}
 use Rattle.link.proofs.reception.Reception.listen_each.Given as goal
 
 -- few calls were used, and the answers to what the reader gave so far were handed on

@@ -1,8 +1,7 @@
 use Rattle.std.proofs.Common.{◌≡◌, [], ◌++◌, take, refl, sym, ◌∙◌, ap, subst, append_assoc, rules, append-nil}
-use Rattle.link.specs.Stream.{begun}
-use Rattle.link.specs.Receivers.{IsAt, IsBehind}
+use Rattle.link.specs.Link.{begun, IsAt, IsBehind}
 use Rattle.link.specs.Lemmas.Lengths.{none_left}
-use Rattle.link.proofs.HearingLemmas.{parts_on}
+use Rattle.link.proofs.HandingLemmas.{parts_on}
 use Rattle.link.specs.Lemmas.AnswerLaws.{behind_after}
 use Rattle.link.proofs.reception.Reception.pass_over.Goals as goal
 

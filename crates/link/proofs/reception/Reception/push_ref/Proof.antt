@@ -1,44 +1,9 @@
 -- What `advance` says of the receiver afterwards, `push_ref` says too: reading the message takes only shared bytes.
 -- The proof is by hand, since none is generated where the result holds a value of a bound's type. Assumes `Logic`.
-use Rattle.std.proofs.Common.{◌≡◌, [], ◌∷◌, refl, sym, subst}
-use Rattle.std.specs.Prelude.{⊤}
-use mathlib.Core.Option.{none}
-use seplogic.Ra.Ura.{Ura}
-use mir.Syntax.{w8, Fn, Args as TypeArgs, a_type, dcons, dnil, named, erased}
-use mir.MapTy.{inst_fn}
-use base.Fml.{Fml, Lft, GName, ftrue, flft}
-use base.Logic.{ent, id⊢, emp, ex_e, ex_i}
-use types.Logic.{Logic, sem}
-use types.Kit.{‵, raw, ◌⊛◌, some, later, ◌$◌, ◌∵◌, !, qed, by, move, keep, drop, split, join, fjoin, pick, use0, use1, await}
-use types.Run.{stop, addr, of_opd, no_more, and_then, returns, enter}
-use types.ByLocal.{alloc_all, pass_all, free_all, look_at, get, through, sets, lands_as}
-use contract.Monad.{fact, fact_i}
-use contract.Lifetimes.{Lfts}
-use contract.BorrowLft.{◌⊑◌}
-use contract.Running.{tables}
-use denote.Builtin.{u8}
-use denote.Exit.{yes, no}
-use denote.RattleType.{RattleType}
-use denote.Ref.{NamedLft, MutRef, mut_vals, mut_Tells}
-use denote.Slice.{ShrSlice, shr_slice_vals, shr_slice_Tells}
-use denote.Signature.{plain, mut_ref_to, shr_slice_of}
+use Rattle.link.proofs.InPlaceSteps.{◌≡◌, [], ◌∷◌, refl, sym, subst, ⊤, none, Ura, w8, Fn, TypeArgs, a_type, dcons, dnil, named, erased, inst_fn, Fml, Lft, GName, ftrue, flft, ent, id⊢, emp, ex_e, ex_i, Logic, sem, ‵, raw, ◌⊛◌, some, later, ◌$◌, ◌∵◌, !, qed, by, move, keep, drop, split, join, fjoin, pick, use0, use1, await, stop, addr, of_opd, no_more, and_then, returns, enter, alloc_all, pass_all, free_all, look_at, get, through, sets, lands_as, fact, fact_i, Lfts, ◌⊑◌, tables, u8, yes, no, RattleType, NamedLft, MutRef, mut_vals, mut_Tells, ShrSlice, shr_slice_vals, shr_slice_Tells, plain, mut_ref_to, shr_slice_of, Lawful, shows, shr_slice_field, nothing, heard, peeks, uint_row_laws, param, bounded, Laws, param_laws, of_field, copy_shared, Lasts, lasts, triple_of, calls_at, framed, Stays, stay_dropped, walk_of, Goes-dropped, Goes-spent_ref, proved, leaves, Global, global_type}
 use denote.Follow.{follows_by, such_by, follows_so}
-use denote.Laws.{Lawful, shows}
-use denote.Struct.Field.{shr_slice_field}
 use denote.Struct.Laws as struct_law
 use denote.Struct.Loose as struct_loose
-use denote.Steps.{nothing, heard, peeks}
-use denote.Plain.{uint_row_laws}
-use denote.Param.{param, bounded}
-use denote.Param.Laws.{Laws, param_laws, of_field}
-use denote.Param.Shared.{copy_shared}
-use denote.Triple.Clauses.{Lasts, lasts}
-use denote.Triple.Spec.{triple_of}
-use denote.Triple.Call.{calls_at}
-use denote.Triple.Table.{framed}
-use denote.Triple.Walked.{Stays, stay_dropped, walk_of, Goes-dropped, Goes-spent_ref}
-use Rattle.std.proofs.raw_atomic.Walks.{proved, leaves}
-use Rattle.std.specs.contracts.alloc.Global.{the_row as Global, the_type as global_type}
 use Rattle.std.proofs.alloc.Global.TheLaws as global
 use Rattle.postcard_de.specs.contracts.deserialize.Deserialize.TheBound as bound
 use Rattle.postcard_de.specs.contracts.de_flavors.RefSliceU8Bytes.TheImpl as bytes

@@ -1,8 +1,6 @@
 use Rattle.std.proofs.Common.{refl}
-use Rattle.link.specs.Stream.{begun}
-use Rattle.link.specs.Receivers.{IsAt}
-use Rattle.link.specs.Lemmas.AnswerLaws.{behind_after, answered}
-use Rattle.link.specs.Lemmas.SpanLaws.{stretch_of}
+use Rattle.link.specs.Link.{begun, IsAt}
+use Rattle.link.specs.Lemmas.AnswerLaws.{behind_after, answered, stretch_of}
 use Rattle.link.proofs.reception.Reception.push_with.Goals as goal
 
 pub returns-clause-stands : goal.returns-clause-stands

@@ -1,7 +1,6 @@
 use Rattle.std.proofs.Common.{◌++◌, []}
 use Rattle.link.specs.Lemmas.Givens.{none_given}
-use Rattle.link.proofs.PrefixesLemmas.{received, lost_value}
-use Rattle.link.proofs.EarlyLemmas.{early_of}
+use Rattle.link.proofs.FirstLemmas.{received, lost_value, early_of}
 use Rattle.link.proofs.HandingLemmas.{stands_by, still_asked}
 use Rattle.link.proofs.reception.Reception.receive_each_with.Goals as goal
 

@@ -1,6 +1,5 @@
 use Rattle.std.proofs.Common.{ℕ, ◌-◌, ◌≤◌, length}
-use Rattle.link.specs.Stream.{Begun}
-use Rattle.link.specs.Receivers.{IsAt, SameTerms}
+use Rattle.link.specs.Link.{Begun, IsAt, SameTerms}
 use Rattle.link.specs.Lemmas.TurnLaws.{Turn}
 use Rattle.link.proofs.reception.Reception.take.Given as goal
 

@@ -1,7 +1,6 @@
 use Rattle.std.proofs.Common.{◌≡◌, ◌+◌, ◌-◌, ◌<◌, ◌≤◌, length, refl, ap, ◌∙◌, arith}
-use Rattle.link.proofs.ReceivingLemmas.{kept_is, has_nothing}
+use Rattle.link.proofs.ReceivingLemmas.{kept_is, has_nothing, runs_over, has_run, nonzero_bytes}
 use Rattle.link.specs.Lemmas.RunLaws.{runs_on, runs_past}
-use Rattle.link.proofs.RunsLemmas.{runs_over, has_run, nonzero_bytes}
 use Rattle.link.proofs.reception.Reception.take_run.Goals as goal
 
 pub returns-then-self-clause-runs : goal.returns-then-self-clause-runs
