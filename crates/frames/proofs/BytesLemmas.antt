@@ -8,7 +8,7 @@ use Rattle.link.specs.Finds.{IsSpan}
 use Rattle.frames.specs.Events.{FindsFrame, TakesFrame}
 use Rattle.frames.specs.declared.receiving.FrameEvent.{FrameEvent}
 use Rattle.frames.specs.declared.receiving.FrameEvent.TheVariants.{TooLong}
-use Rattle.link.specs.Lemmas.StretchLaws.{nonzero}
+use Rattle.link.specs.Lemmas.MaskLaws.{nonzero}
 
 on_last : (e : Event) (c : Begun) → course_on e c (record { used = 0; event = quiet; begun = c }) ≡ record { used = 1; event = e; begun = c }
 on_last quiet c = refl

@@ -7,7 +7,7 @@ use Rattle.cobs.specs.FrameLaws.{IsWithinLengths, ReachesMostLength}
 use Rattle.postcard_tree.specs.Tree.{Tree, number, text_of, IsTree}
 use Rattle.postcard_tree.specs.Spelling.{Spells, short, varint, groups_of}
 use Rattle.postcard_tree.specs.Texts.{short_text}
-use Rattle.link.specs.Lemmas.StretchLaws.{NoZero-append}
+use Rattle.link.specs.Lemmas.MaskLaws.{NoZero-append}
 
 -- how the shortest frame goes on behind an open run
 open_full : (run : List ℕ) (byte : ℕ) (bytes : List ℕ) → length run ≡ 254 → shortest_from run (byte ∷ bytes) ≡ block run ++ shortest_from [] (byte ∷ bytes)

@@ -4,7 +4,7 @@ use Rattle.std.proofs.lemmas.List.{drop_all, drop-drop}
 use Rattle.link.specs.Stream.{Begun}
 use Rattle.link.specs.Steps.{Event, quiet, ended, passed, Course, course_on, course_of, ahead}
 use Rattle.link.specs.Finds.{BringsNothing}
-use Rattle.link.specs.Lemmas.TurnLaws.{Turn}
+use Rattle.link.specs.Lemmas.RunLaws.{Turn}
 use Rattle.frames.specs.Events.{FindsFrame, TakesFrame, BringsFrame, WhereNone}
 use Rattle.frames.specs.declared.receiving.FrameEvent.{FrameEvent}
 use Rattle.frames.specs.declared.receiving.FramePush.{FramePush}

@@ -12,14 +12,13 @@ use Rattle.link.specs.declared.receiver.Answer.{Answer}
 use Rattle.line_io.specs.declared.transfers.End.{End}
 use Rattle.line_io.specs.declared.transfers.End.TheVariants.{Ended, ReadFault, NoMemory}
 use Rattle.link.specs.Lemmas.HeardLaws.{zip_parts, heard_once, at_end, zip_once, heard_parts}
-use Rattle.link.specs.Lemmas.OneAnswers.{one_answer}
+use Rattle.link.specs.Lemmas.Facts.{one_answer, some_bytes}
 use Rattle.link.specs.declared.reception.Reception.{Reception}
 use Rattle.link.specs.Lemmas.Givens.{none_given}
 use Rattle.std.proofs.Math.Seq.{take-append_seam}
 use Rattle.cobs.specs.Frames.{NoZero}
 use Rattle.cobs.specs.Sentinel.{masked}
 use Rattle.link.specs.Listening.{AnswersBeginProperly, IsKeptDue}
-use Rattle.link.specs.Lemmas.Facts.{some_bytes}
 use Rattle.link.specs.Lemmas.FeedLaws.{is_short, short_answers, ended_front}
 use Rattle.link.specs.Lemmas.Pieces.{ends_at, ended_at}
 

@@ -4,9 +4,7 @@ pub mod KeepingLemmas
 pub mod InPlaceSteps
 pub mod SendingLemmas
 pub mod HandingLemmas
-pub mod RecoveringLemmas
 pub mod FirstLemmas
-pub mod SentnessLemmas
 pub mod FetchingLemmas
 pub mod LentByLemmas
 pub mod InTurnLemmas

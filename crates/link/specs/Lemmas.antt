@@ -4,14 +4,10 @@ pub mod CourseLaws
 pub mod FeedLaws
 pub mod HeardLaws
 pub mod MaskLaws
-pub mod StretchLaws
 pub mod SendLaws
-pub mod TurnLaws
 pub mod RunLaws
 pub mod RoadLaws
 pub mod Lengths
 pub mod Givens
 pub mod Facts
-pub mod OneAnswers
-pub mod Stepwise
 pub mod Pieces

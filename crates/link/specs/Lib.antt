@@ -1,6 +1,5 @@
 pub mod Link
 pub mod Stream
-pub mod Relational
 pub mod Laws
 pub mod Steps
 pub mod Pushes

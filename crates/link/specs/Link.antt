@@ -22,7 +22,7 @@ pub use Rattle.link.specs.Each.{HearerLaws, Handed, Adds, Listens, HearsOut, May
 pub use Rattle.link.specs.Listening.{Hears, Loss, Recovers, EndsAtLoss}
 -- What the documented loop over an accumulator gives, and reading in place.
 pub use Rattle.link.specs.Gathering.{AccumulatorFitsInMemory, AreLooped, AreThoseFor}
-pub use Rattle.link.specs.InPlace.{ReadsNext, KeptUnlessEnded}
+pub use Rattle.link.specs.InPlace.{ReadsNext, AnswersNext, KeptUnlessEnded}
 -- What a run of sends leaves on a line, and what is to be told of it; a send by its answer; a session by its fates.
 pub use Rattle.link.specs.Run.{Send, sent, written, session_line, line, told, completed, refused, broken, clean_after, IsFramed, framed, frame_bytes, IsSend, IsSession, IsRun, told_send, told_session, told_broken}
 pub use Rattle.link.specs.Senders.{HasSent, OnRefusal, sender_place, writer_of, clean_of, SenderPlace, IsSent, IsRefusal, UnlessRefusal}

@@ -6,3 +6,4 @@ pub mod RenewingLemmas
 pub mod RunHeardLemmas
 pub mod CrashesLemmas
 pub mod TellingLemmas
+pub mod StepwiseLemmas

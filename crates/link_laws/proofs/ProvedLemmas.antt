@@ -12,10 +12,9 @@ use Rattle.postcard.specs.Frames.{Holds}
 use Rattle.link.specs.Stream.{Verdict, damaged, HoldsExactly, IsAnswer, Given, Answers, begun_answers, ended, unfinished}
 use Rattle.link.specs.Run.{line, told}
 use Rattle.link.specs.Laws.{IsTold, HasOneAnswer, EndsBetween, Appends, through_last, behind_first, sentinels, HasBetween, IsLocal, StartsAnywhere, IsDamagedInFronts}
-use Rattle.link.specs.Lemmas.Facts.{Facts, Breaking, front_holds_nothing, holds_it, exactly_holds}
+use Rattle.link.specs.Lemmas.Facts.{Facts, Breaking, front_holds_nothing, holds_it, exactly_holds, one_tree, one_tree_exactly, one_answer}
 use Rattle.link.specs.Lemmas.Pieces.{UpToLast, ends_at, ended_count, none_unfinished, isn't_sentinel}
 use Rattle.link.specs.Lemmas.HeardLaws.{IsOne, heard_once, heard_joined, heard_parts, zip_length, at_end, empty_ending}
-use Rattle.link.specs.Lemmas.OneAnswers.{one_tree, one_tree_exactly, one_answer}
 use Rattle.link_laws.proofs.TellingLemmas.{Holding, told_of_run}
 
 pub once : (holds : List ℕ → Tree → Type 0) (limit s : ℕ) → IsOne holds → HasOneAnswer holds limit s

@@ -6,10 +6,9 @@ use Rattle.cobs.specs.Sentinel.{masked}
 use Rattle.postcard_tree.specs.Tree.{Tree}
 use Rattle.link.specs.Stream.{value, pieces, ended, unfinished, HoldsExactly, IsAnswer, Answers}
 use Rattle.link.specs.Laws.{EndsBetween, IsTidy, IsInjective}
-use Rattle.link.specs.Lemmas.Facts.{Facts}
+use Rattle.link.specs.Lemmas.Facts.{Facts, one_tree_exactly}
 use Rattle.link.specs.Lemmas.Pieces.{Parted, alone, more, parted, pieces_at, pieces_alone, pieces_tell, ends_at, none_unfinished, unfinished_at, unfinished_alone, ended_at, ended_alone}
 use Rattle.link.specs.Lemmas.HeardLaws.{at_end, empty_ending}
-use Rattle.link.specs.Lemmas.OneAnswers.{one_tree_exactly}
 use Rattle.link_laws.proofs.ProvedLemmas.{once}
 
 -- a tidy stream is its stretches

@@ -6,3 +6,4 @@ pub mod Pieced
 pub mod Limits
 pub mod Together
 pub mod Sessions
+pub mod Relational

@@ -14,7 +14,7 @@ ghost use Rattle.postcard_tree.specs.Tree.{Tree};
 ghost use Rattle.postcard.specs.Frames.{Holds};
 ghost use Rattle.link.specs.Stream.{Verdict, HoldsExactly, IsAnswer};
 ghost use Rattle.link_laws.specs.Answered.{IsToldAs, IsFrameOf};
-ghost use Rattle.link.specs.Relational.{IsHeardStepwise, IsUnfinishedPart};
+ghost use Rattle.link_laws.specs.Relational.{IsHeardStepwise, IsUnfinishedPart};
 ghost use Rattle.link.specs.Roads.{IsSameInPlace, IsSameByAccumulator};
 ghost use Rattle.link_laws.specs.Values.{IsToldByValues, AreGivenBack};
 ghost use Rattle.link_laws.specs.Sessions.{CarriesValues};

@@ -8,8 +8,7 @@ use Rattle.cobs.specs.Frames.{NoZero}
 use Rattle.cobs.specs.Sentinel.{masked}
 use Rattle.link.specs.Link.{Verdict, too_long, IsAnswer, begun_answers, Given, Begun, kept, over, begun, ended, unfinished, IsBegun}
 use Rattle.link.specs.Steps.{Event, quiet, passed, end_of, event_at, begun_at}
-use Rattle.link.specs.Lemmas.MaskLaws.{mask_twice}
-use Rattle.link.specs.Lemmas.StretchLaws.{nonzero, NoZero-append}
+use Rattle.link.specs.Lemmas.MaskLaws.{mask_twice, nonzero, NoZero-append}
 use Rattle.link.specs.Lemmas.Pieces.{ends_at, ended_behind, unfinished_behind, ended_alone, unfinished_alone, ended_skip, ended_at, unfinished_at}
 use Rattle.link.specs.Lemmas.HeardLaws.{zip_joined}
 

@@ -8,8 +8,7 @@ use Rattle.cobs.specs.Frames.{NoZero}
 use Rattle.cobs.specs.Sentinel.{masked}
 use Rattle.link.specs.Stream.{pieces, ended_of, unfinished_of, ended, unfinished}
 use Rattle.link.specs.Laws.{EndsBetween, sentinels}
-use Rattle.link.specs.Lemmas.MaskLaws.{mask_twice, masked_is_sentinel}
-use Rattle.link.specs.Lemmas.StretchLaws.{nonzero as masked_nonzero}
+use Rattle.link.specs.Lemmas.MaskLaws.{mask_twice, masked_is_sentinel, nonzero as masked_nonzero}
 
 -- the same bytes, masked twice
 pub masked_twice : (s : ℕ) (p : List ℕ) → masked s (masked s p) ≡ p

@@ -13,8 +13,7 @@ use Rattle.postcard.specs.Feeds.{Feeds}
 use Rattle.link.specs.Stream.{Verdict, value, damaged, too_long, cut, IsContent, IsAnswer, Heard, Answers, pieces, ended_of, unfinished_of, ended, unfinished}
 use Rattle.link.specs.Roads.{values_of, AllFit, ReadsInPlace, nothing, skipped, answered, unanswered, IsSameInPlace, Loops, done, stopped, used_up, consumed, overfull, failed, success, joined, AreValues, AreFirst, IsSameByAccumulator}
 use Rattle.link.specs.Lemmas.Facts.{some_bytes}
-use Rattle.link.specs.Lemmas.MaskLaws.{unmasked as plain}
-use Rattle.link.specs.Lemmas.StretchLaws.{NoZero-append as nonzero_joined}
+use Rattle.link.specs.Lemmas.MaskLaws.{unmasked as plain, NoZero-append as nonzero_joined}
 use Rattle.link.specs.Lemmas.HeardLaws.{IsOne, zip_once, heard_of, heard_skip, heard_ended, heard_alone, at_end}
 use Rattle.link.specs.Lemmas.Pieces.{Parted, alone, more, parted, masked_twice, pieces_at, pieces_alone, ended_skip, ended_at, ended_alone}
 

@@ -1,18 +1,49 @@
--- What comes of runs without sentinels, and where they end.
+-- How a receiver takes a piece, front by front; what comes of runs without sentinels, and where they end.
 use Rattle.std.proofs.Common.{◌≡◌, ℕ, suc, ◌+◌, ◌-◌, ◌<◌, ◌≤◌, List, [], ◌∷◌, ◌++◌, length, take, drop, refl, sym, ap, ◌∙◌, subst, inl, inr, arith, append_assoc, bit_xor, ne_eqb, eq-eqb, lt-ltb, le-ltb, append-nil, length-append, length-drop}
 use Rattle.std.proofs.lemmas.Bool.{cases_eq, cases_lt}
 use Rattle.cobs.specs.Frames.{NoZero}
 use Rattle.cobs.specs.InPlace.{stretch}
 use Rattle.cobs.specs.Sentinel.{masked}
 use Rattle.link.specs.Stream.{Begun, kept, over}
-use Rattle.link.specs.Steps.{Event, quiet, passed, event_at, begun_at, Course, course_on, course_of, ahead, RunsOn, RunsPast}
-use Rattle.link.specs.Finds.{Finds, IsSpan, BringsNothing, BringsAbout, Brings}
+use Rattle.link.specs.Steps.{Event, quiet, passed, event_at, begun_at, Course, course_on, course_of, ahead, RunsOn, RunsPast, ended}
+use Rattle.link.specs.Finds.{Finds, IsSpan, BringsNothing, BringsAbout, Brings, IsTaken}
 use Rattle.link.specs.declared.reception.Found.{Found}
 use Rattle.link.specs.declared.reception.Found.TheVariants.{Nothing, Damaged, TooLong, Whole}
 use Rattle.link.specs.declared.reception.Taken.{Taken}
-use Rattle.link.specs.Lemmas.MaskLaws.{sentinel_is_zero, no_sentinel, masked_length}
-use Rattle.link.specs.Lemmas.StretchLaws.{nonzero as unlike}
-use Rattle.link.specs.Lemmas.TurnLaws.{nothing_found, some_found}
+use Rattle.link.specs.Lemmas.MaskLaws.{sentinel_is_zero, no_sentinel, masked_length, nonzero as unlike}
+use Rattle.std.proofs.lemmas.List.{drop_all}
+
+-- The first i bytes of the piece brought nothing about, and this is begun now.
+pub record Turn (limit s : ℕ) (b : Begun) (piece : List ℕ) (i : ℕ) (At : Begun → Type 0) : Type 0 where
+  pub now : Begun
+  pub at : At now
+  pub rest : course_of limit s b piece ≡ ahead i (course_of limit s now (drop i piece))
+
+module _ (limit s : ℕ) (b : Begun) (piece : List ℕ) (i : ℕ) (At : Begun → Type 0) (h : length piece ≤ i) (t : Turn limit s b piece i At) where
+  all_quiet : course_of limit s b piece ≡ record { used = i + 0; event = quiet; begun = t.now }
+  all_quiet = t.rest ∙ ap (λ x. ahead i (course_of limit s t.now x)) (drop_all i piece h)
+
+  -- where these are the whole piece, it stands behind the piece
+  pub at_whole : At (course_of limit s b piece).begun
+  at_whole = subst (λ k. At k.begun) (sym all_quiet) t.at
+
+  -- and nothing was found
+  pub taken_whole : {M : Type 0} (message : M → List ℕ) → i ≤ length piece → IsTaken limit (course_of limit s b piece) message record { used = length piece; stretch = 0; found = Nothing }
+  taken_whole message l = subst (λ k. IsTaken limit k message record { used = length piece; stretch = 0; found = Nothing }) (sym all_quiet) record { used = omega arith; finds = refl; span = refl }
+
+-- what is found tells whether anything came about
+pub nothing_found : {M : Type 0} (message : M → List ℕ) (e : Event) (found : Found M) → Finds message e found → found ≡ Nothing → e ≡ quiet
+nothing_found message quiet found f q = refl
+nothing_found message passed found f q = cc
+nothing_found message (ended p) Nothing f q = absurd f
+nothing_found message (ended p) Damaged f q = cc
+nothing_found message (ended p) TooLong f q = absurd f
+nothing_found message (ended p) (Whole m) f q = cc
+
+pub some_found : {M : Type 0} (message : M → List ℕ) (e : Event) (found : Found M) (b : Begun) (later : Course) → Finds message e found → (found ≡ Nothing → ⊥) → course_on e b later ≡ record { used = 1; event = e; begun = b }
+some_found message quiet found b later f n = absurd (n f)
+some_found message (ended p) found b later f n = refl
+some_found message passed found b later f n = refl
 
 pub above : (b : ℕ) → 0 < b → b ≡ 0 → ⊥
 above b l e = omega (arith, l, e)

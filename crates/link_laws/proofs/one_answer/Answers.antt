@@ -1,6 +1,6 @@
 use Rattle.postcard.specs.Frames.{Holds}
 use Rattle.link.specs.Stream.{HoldsExactly}
-use Rattle.link.specs.Lemmas.OneAnswers.{one_tree, one_tree_exactly}
+use Rattle.link.specs.Lemmas.Facts.{one_tree, one_tree_exactly}
 use Rattle.link_laws.proofs.ProvedLemmas.{once}
 use Rattle.link_laws.proofs.one_answer.Goals as goal
 

@@ -1,5 +1,5 @@
 use Rattle.postcard.specs.Frames.{Holds}
-use Rattle.link.specs.Lemmas.OneAnswers.{one_tree}
+use Rattle.link.specs.Lemmas.Facts.{one_tree}
 use Rattle.link.specs.Lemmas.RoadLaws.{same_in_place, same_by_accumulator}
 use Rattle.link_laws.proofs.roads.Goals as goal
 

@@ -1,6 +1,6 @@
 use Rattle.postcard.specs.Frames.{Holds}
 use Rattle.link.specs.Stream.{HoldsExactly, IsAnswer}
-use Rattle.link.specs.Lemmas.Stepwise.{heard_stepwise, unfinished_part}
+use Rattle.link_laws.proofs.StepwiseLemmas.{heard_stepwise, unfinished_part}
 use Rattle.link_laws.proofs.stepwise.Goals as goal
 
 pub returns : goal.returns

@@ -1,4 +1,4 @@
-use Rattle.link.specs.Lemmas.OneAnswers.{one_tree}
+use Rattle.link.specs.Lemmas.Facts.{one_tree}
 use Rattle.link.specs.Lemmas.RoadLaws.{same_by_accumulator}
 use Rattle.link.proofs.gathering.gathered_alike.Goals as goal
 

@@ -1,6 +1,6 @@
 use Rattle.std.proofs.Common.{arith, subst, ◌∙◌}
 use Rattle.link.specs.Finds.{BringsNothing}
-use Rattle.link.specs.Lemmas.TurnLaws.{at_whole}
+use Rattle.link.specs.Lemmas.RunLaws.{at_whole}
 use Rattle.frames.specs.Standing.{StandsAt}
 use Rattle.frames.specs.Events.{BringsFrame}
 use Rattle.frames.proofs.TakingLemmas.{taken_whole, turn_on, at_about, taken_about, where_none, where_some}

@@ -1,6 +1,6 @@
 use Rattle.std.proofs.Common.{ℕ, ◌-◌, ◌≤◌, length}
 use Rattle.link.specs.Stream.{Begun}
-use Rattle.link.specs.Lemmas.TurnLaws.{Turn}
+use Rattle.link.specs.Lemmas.RunLaws.{Turn}
 use Rattle.frames.specs.Standing.{StandsAt, KeepsTerms}
 use Rattle.frames.proofs.receiving.FrameReceiver.take.Given as goal
 

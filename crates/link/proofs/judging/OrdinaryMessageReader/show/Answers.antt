@@ -1,4 +1,4 @@
-use Rattle.link.proofs.SentnessLemmas.{ordinary_judged}
+use Rattle.link.proofs.ReadingLemmas.{ordinary_judged}
 use Rattle.link.proofs.judging.OrdinaryMessageReader.show.Goals as goal
 
 pub returns : goal.returns

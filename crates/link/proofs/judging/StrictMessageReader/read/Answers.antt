@@ -1,8 +1,7 @@
 use Rattle.std.proofs.Common.{◌≡◌, Bool, true, false}
 use Rattle.link.specs.Lemmas.Facts.{exactly_holds}
 use Rattle.link.specs.Lemmas.Lengths.{by_lengths}
-use Rattle.link.proofs.ReadingLemmas.{holds_none}
-use Rattle.link.proofs.SentnessLemmas.{front_facts, sent_value, not_sent}
+use Rattle.link.proofs.ReadingLemmas.{holds_none, front_facts, sent_value, not_sent}
 use Rattle.link.proofs.judging.StrictMessageReader.read.Goals as goal
 
 not_both : (b : Bool) → b ≡ false → b ≡ true → ⊥

@@ -1,4 +1,4 @@
-use Rattle.link.proofs.SentnessLemmas.{front_facts, strict_judged}
+use Rattle.link.proofs.ReadingLemmas.{front_facts, strict_judged}
 use Rattle.link.proofs.judging.StrictMessageReader.show.Goals as goal
 
 pub returns : goal.returns

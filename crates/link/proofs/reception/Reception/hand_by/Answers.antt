@@ -1,8 +1,7 @@
 use Rattle.std.proofs.Common.{[], ◌++◌, sym, ap, ◌∙◌, subst, append_assoc}
 use Rattle.link.specs.Receivers.{IsBehind}
 use Rattle.link.specs.Listening.{through, Recovers}
-use Rattle.link.proofs.HandingLemmas.{handed_as, handed_next}
-use Rattle.link.proofs.RecoveringLemmas.{HasLost, stopped_at, stopped_parts, lost_first, heard_anew, lost_next, recovered}
+use Rattle.link.proofs.HandingLemmas.{handed_as, handed_next, HasLost, stopped_at, stopped_parts, lost_first, heard_anew, lost_next, recovered}
 use Rattle.link.proofs.reception.Reception.hand_by.Goals as goal
 
 pub returns-then-not-goes_on-clause-err : goal.returns-then-not-goes_on-clause-err

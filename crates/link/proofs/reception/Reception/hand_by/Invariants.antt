@@ -1,7 +1,7 @@
 use Rattle.std.proofs.Common.{◌≡◌, ℕ, true, List, ◌++◌, length}
 use Rattle.link.specs.Link.{Hears, Handed, SameTerms}
 use Rattle.link.specs.declared.receiver.Answer.{Answer}
-use Rattle.link.proofs.RecoveringLemmas.{HasLost}
+use Rattle.link.proofs.HandingLemmas.{HasLost}
 use Rattle.link.proofs.reception.Reception.hand_by.Given as goal
 
 -- a value had no memory; what is left of the piece, and that the answers to what came before it were handed on, but for such values

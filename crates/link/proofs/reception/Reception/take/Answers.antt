@@ -1,6 +1,6 @@
 use Rattle.std.proofs.Common.{arith}
 use Rattle.std.proofs.lemmas.Grind.{common_steps}
-use Rattle.link.specs.Lemmas.TurnLaws.{at_whole, taken_whole}
+use Rattle.link.specs.Lemmas.RunLaws.{at_whole, taken_whole}
 use Rattle.link.proofs.reception.Reception.take.Goals as goal
 
 pub returns-clause-at : goal.returns-clause-at

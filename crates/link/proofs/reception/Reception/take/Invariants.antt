@@ -1,6 +1,6 @@
 use Rattle.std.proofs.Common.{ℕ, ◌-◌, ◌≤◌, length}
 use Rattle.link.specs.Link.{Begun, IsAt, SameTerms}
-use Rattle.link.specs.Lemmas.TurnLaws.{Turn}
+use Rattle.link.specs.Lemmas.RunLaws.{Turn}
 use Rattle.link.proofs.reception.Reception.take.Given as goal
 
 abbrev pub invariant-loop-at : goal.invariant-loop-at

@@ -2,7 +2,7 @@
 use Rattle.std.proofs.Common.{◌≡◌, ℕ, List, [], ◌∷◌, ◌++◌, refl, sym, ap, ◌∙◌, subst}
 use Rattle.std.specs.List.{AllZip}
 use Rattle.link.specs.Stream.{Verdict, ended, unfinished}
-use Rattle.link.specs.Relational.{Stretches, AnswerEach, IsHeardStepwise, IsUnfinishedPart}
+use Rattle.link_laws.specs.Relational.{Stretches, AnswerEach, IsHeardStepwise, IsUnfinishedPart}
 use Rattle.link.specs.Lemmas.Pieces.{Parted, alone, more, parted, ended_skip, ended_at, unfinished_at, ended_alone, unfinished_alone}
 
 -- those that aren't empty
