@@ -1,7 +1,8 @@
 -- The frames of a text's lines, put some at a time.
-use Rattle.std.proofs.Common.{◌≡◌, ℕ, Bool, true, false, List, [], ◌∷◌, ◌++◌, length, refl, sym, ap, ◌∙◌, append_assoc}
+use Rattle.std.proofs.Common.{◌≡◌, ℕ, ◌/◌, ◌%◌, Bool, true, false, List, [], ◌∷◌, ◌++◌, length, refl, ap, ◌∙◌, append_assoc}
 use Rattle.std.proofs.lemmas.List.{append-nil}
-use Rattle.hex.specs.Hex.{encode_with}
+use Rattle.std.specs.Prelude.{slice_index}
+use Rattle.hex.specs.Hex.{encode_with, lower_digits}
 use Rattle.line_io.specs.Device.{LineState}
 use Rattle.line_io.specs.Transfers.{BrokeOff}
 use Rattle.link.specs.Run.{Send, written, session_line}
@@ -9,18 +10,18 @@ use Rattle.link.specs.Fates.{clean_after_all}
 use Rattle.framed_lib.specs.Output.{Puts}
 use Rattle.framed_lib.specs.Program.{framed_text, shown, shown_end}
 use Rattle.framed_lib.specs.Sending.{lines_in, AreSendsOf, IsSendOfLine, Sent}
-use Rattle.framed_lib.proofs.DigitsLemmas.{digits-append}
 use Rattle.framed_lib.proofs.OutputLemmas.{put-none, put-done, put-breaks}
 use Rattle.link.specs.Lemmas.SendLaws.{line_then}
 use Rattle.framed_lib.proofs.SendingLemmas.{Sent-more, Sent-split, session-more, none-sent}
 
+encode-append : (t a b : List ℕ) → encode_with t (a ++ b) ≡ encode_with t a ++ encode_with t b
+unfolding encode_with
+encode-append t [] b = refl
+encode-append t (x ∷ a) b = ap (λ l. slice_index t (x / 16) ∷ slice_index t (x % 16) ∷ l) (encode-append t a b)
+
 shown-append : (hex : Bool) (a b : List ℕ) → shown hex (a ++ b) ≡ shown hex a ++ shown hex b
 shown-append false a b = refl
-shown-append true a b = digits-append (a ++ b) a b refl
-
-framed-is : (hex : Bool) (a : List ℕ) → framed_text hex a ≡ shown hex a ++ shown_end hex
-framed-is false a = sym (append-nil a)
-framed-is true a = refl
+shown-append true a b = encode-append lower_digits a b
 
 pub none-put : (w : LineState) (hex : Bool) → Puts w w [] [] (shown hex [])
 unfolding encode_with
@@ -45,13 +46,12 @@ module _ (hex : Bool) (sentinel : ℕ) where
   framed-parts : (done later : List Send) → text_of_all (done ++ later) ≡ shown_of done ++ later-shown done later
   framed-parts done later =
       let a = session_line sentinel false done in let b = session_line sentinel (clean_after_all false done) later in
-      framed-is hex (session_line sentinel false (done ++ later))
-      ∙ (ap (λ x. shown hex x ++ shown_end hex) (line_then sentinel false done later) ∙ (ap (λ x. x ++ shown_end hex) (shown-append hex a b) ∙ append_assoc (shown hex a) (shown hex b) (shown_end hex)))
+      ap (λ x. shown hex x ++ shown_end hex) (line_then sentinel false done later) ∙ (ap (λ x. x ++ shown_end hex) (shown-append hex a b) ∙ append_assoc (shown hex a) (shown hex b) (shown_end hex))
 
   all-shown : (text rest : List ℕ) (done sends : List Send) → Sent text rest done → length rest ≡ 0 → AreSendsOf (lines_in text) sends → text_of_all sends ≡ shown_of done ++ shown_end hex
   all-shown text rest done sends s none a =
       let d = Sent-split text rest done sends s a in
-      ap text_of_all (d.1 ∙ (ap (λ x. done ++ x) (none-sent rest d.0 none d.2) ∙ append-nil done)) ∙ framed-is hex (session_line sentinel false done)
+      ap text_of_all (d.1 ∙ (ap (λ x. done ++ x) (none-sent rest d.0 none d.2) ∙ append-nil done))
 
   module _ {u v w : LineState} {held : List ℕ} (text rest : List ℕ) (done : List Send) (s : Sent text rest done) (p : Puts u v [] held (shown_of done)) where
     -- the writer failed at a line

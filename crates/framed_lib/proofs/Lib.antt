@@ -1,11 +1,9 @@
-pub mod DigitsLemmas
 pub mod FramesLemmas
 pub mod LinesLemmas
 pub mod OutputLemmas
 pub mod PairsLemmas
 pub mod RunLemmas
 pub mod SendingLemmas
-pub mod TextsLemmas
 pub mod WordsLemmas
 pub mod WorkLemmas
 pub mod FramingLemmas

@@ -1,6 +1,6 @@
 -- The lines of answers, and of the trees that they were read from.
 use Rattle.std.proofs.Math.Seq.{drop-cons, take-length}
-use Rattle.std.proofs.Common.{take, drop, get_or, add-one, ◌+◌, ◌-◌, ◌≡◌, ℕ, zero, suc, ◌<◌, ◌≤◌, ◌==◌, Bool, true, false, ◌&&◌, ◌||◌, if◌then◌else◌, arith, List, [], ◌∷◌, ◌++◌, length, refl, sym, ap, ◌∙◌}
+use Rattle.std.proofs.Common.{take, drop, get_or, add-one, ◌+◌, ◌-◌, ◌≡◌, ℕ, zero, suc, ◌<◌, ◌≤◌, ◌==◌, Bool, true, false, ◌||◌, if◌then◌else◌, arith, List, [], ◌∷◌, ◌++◌, length, refl, sym, ap, ◌∙◌}
 use Rattle.std.specs.List.{list_all, AllZip}
 use Rattle.std.specs.Prelude.{flat_map, string_bytes, Option, Some, None}
 use Rattle.std.specs.declared.string.String.{String}
@@ -82,29 +82,22 @@ text-read (character n) s h = absurd h.0
 text-read (sequence ts) s h = bytes-read ts s h.0.1
 text-read (group ts) s h = absurd h.0
 
-line-same : {A : Type 0} → (a : Answer (String A)) (v : Verdict) → Matches reads_text a v → answer_line a ≡ line_of v
-line-same (Value s) v m = rw m.2 (ap value_line (sym (text-read m.0 (string_bytes s) m.1)))
-line-same Damaged v m = rw m refl
-line-same TooLong v m = rw m refl
-line-same Cut v m = rw m refl
+same : {A : Type 0} → (a : Answer (String A)) (v : Verdict) → Matches reads_text a v
+    → (answer_line a ≡ line_of v) × (has_value a ≡ is_value v)
+same (Value s) v m = rw m.2 (ap value_line (sym (text-read m.0 (string_bytes s) m.1)), refl)
+same Damaged v m = rw m (refl, refl)
+same TooLong v m = rw m (refl, refl)
+same Cut v m = rw m (refl, refl)
 
-value-same : {A : Type 0} → (a : Answer (String A)) (v : Verdict) → Matches reads_text a v → has_value a ≡ is_value v
-value-same (Value s) v m = rw m.2 refl
-value-same Damaged v m = rw m refl
-value-same TooLong v m = rw m refl
-value-same Cut v m = rw m refl
-
-pub lines-same : {A : Type 0} → (answers : List (Answer (String A))) (verdicts : List Verdict) → AllZip (Matches reads_text) answers verdicts → answer_lines answers ≡ lines_of verdicts
-lines-same [] [] h = refl
-lines-same [] (v ∷ vs) h = absurd h
-lines-same (a ∷ more) [] h = absurd h
-lines-same (a ∷ more) (v ∷ vs) h = ap (λ x. x ++ answer_lines more) (line-same a v h.0) ∙ ap (λ x. line_of v ++ x) (lines-same more vs h.1)
-
-pub values-same : {A : Type 0} → (answers : List (Answer (String A))) (verdicts : List Verdict) → AllZip (Matches reads_text) answers verdicts → list_all has_value answers ≡ list_all is_value verdicts
-values-same [] [] h = refl
-values-same [] (v ∷ vs) h = absurd h
-values-same (a ∷ more) [] h = absurd h
-values-same (a ∷ more) (v ∷ vs) h = ap (λ x. x && list_all has_value more) (value-same a v h.0) ∙ ap (λ x. is_value v && x) (values-same more vs h.1)
+pub all-same : {A : Type 0} → (answers : List (Answer (String A))) (verdicts : List Verdict)
+    → AllZip (Matches reads_text) answers verdicts
+    → (answer_lines answers ≡ lines_of verdicts) × (list_all has_value answers ≡ list_all is_value verdicts)
+all-same [] [] h = (refl, refl)
+all-same [] (v ∷ vs) h = absurd h
+all-same (a ∷ more) [] h = absurd h
+all-same (a ∷ more) (v ∷ vs) h =
+    let (line, good) = same a v h.0 in
+    let (lines, all) = all-same more vs h.1 in rw (line, good, lines, all) (refl, refl)
 
 -- the answers that were received, as those of the stream
 pub received : {A : Type 0} → (strict : Bool) (sentinel : ℕ) (e : Option End) (answers : List (Answer (String A))) (stream : List ℕ) → IsReceivedNow (holds_text strict) reads_text 1024 sentinel e answers stream

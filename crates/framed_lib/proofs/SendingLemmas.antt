@@ -1,6 +1,6 @@
 -- The sends of a text's lines, line by line.
-use Rattle.std.proofs.Common.{◌≡◌, ℕ, ◌+◌, ◌<◌, ◌==◌, inl, inr, Bool, ◌&&◌, ◌||◌, true, false, List, [], ◌∷◌, ◌++◌, length, refl, sym, ap, ◌∙◌, arith, append_assoc}
-use Rattle.std.proofs.Math.Bool.{or-true, or-false}
+use Rattle.std.proofs.Common.{◌≡◌, ℕ, ◌+◌, ◌<◌, ◌==◌, inl, inr, Bool, ◌&&◌, ◌||◌, false, List, [], ◌∷◌, ◌++◌, length, refl, sym, ap, ◌∙◌, arith, append_assoc, get_or, take, drop, length-append}
+use Rattle.std.proofs.Math.Bool.{and-true, or-true, or-false}
 use Rattle.std.proofs.lemmas.List.{append-nil}
 use Rattle.std.specs.List.{list_all}
 use Rattle.std.proofs.lemmas.List.Folds.{list_all-append}
@@ -11,6 +11,22 @@ use Rattle.link.specs.Lemmas.SendLaws.{clean_then, line_then}
 use Rattle.framed_lib.specs.Pieces.{LacksMark, pieces}
 use Rattle.framed_lib.specs.Program.{SaysFirst}
 use Rattle.framed_lib.specs.Sending.{filled, lines_in, IsSendOfLine, AreSendsOf, is_whole, said_of, refusals, Sent}
+use Rattle.std.specs.Str.{IsUtf8}
+use Rattle.std.proofs.Math.Seq.{take-append_seam, drop-append-add, get_or-append_seam}
+use Rattle.std.proofs.lemmas.Str.{IsUtf8-take, IsUtf8-drop, IsCharBoundary-before_ascii, IsCharBoundary-after_ascii}
+
+-- A text that is UTF-8 is so on each side of a line feed.
+utf8-cut : (line tail : List ℕ) → IsUtf8 (line ++ 10 ∷ tail) → IsUtf8 line × IsUtf8 tail
+utf8-cut line tail u =
+    let text = line ++ 10 ∷ tail in
+    let long : length line < length text = omega (arith, length-append line (10 ∷ tail)) in
+    let small : get_or text (length line) 0 < 128 = rw (get_or-append_seam line 10 tail 0) (omega arith) in
+    let front : IsUtf8 (take (length line) text) = IsUtf8-take text (length line) u (IsCharBoundary-before_ascii text (length line) long small) in
+    let behind : IsUtf8 (drop (length line + 1) text) = IsUtf8-drop text (length line + 1) u (IsCharBoundary-after_ascii text (length line) u long small) in
+    (rw (take-append_seam line (10 ∷ tail)) at front, rw (drop-append-add line (10 ∷ tail) 1) at behind)
+
+pub utf8-line : (text line tail : List ℕ) → text ≡ line ++ 10 ∷ tail → IsUtf8 text → IsUtf8 line × IsUtf8 tail
+utf8-line text line tail e u = utf8-cut line tail (rw e at u)
 
 pieces-some : (bytes : List ℕ) → 0 < length (pieces 10 bytes)
 pieces-some bytes = omega (arith, length-slice_split (λ b. b == 10) bytes)
@@ -101,10 +117,6 @@ pub refusals-more : (n : ℕ) (done : List Send) (x : Send) → n ≡ length don
 refusals-more n done x e =
     let k : 1 + length done ≡ n = omega arith in
     refusals-append 1 done (x ∷ []) ∙ ap (λ m. refusals 1 done ++ refusals m (x ∷ [])) k ∙ ap (λ l. refusals 1 done ++ l) (append-nil (said_of n x))
-
-and-true : (a : Bool) → a && true ≡ a
-and-true true = refl
-and-true false = refl
 
 pub all-more : (good sent : Bool) (done : List Send) (x : Send) → good ≡ list_all is_whole done → sent ≡ is_whole x → good && sent ≡ list_all is_whole (done ++ x ∷ [])
 all-more good sent done x g s = rw (g, s) (ap (λ b. list_all is_whole done && b) (sym (and-true (is_whole x))) ∙ sym (list_all-append is_whole done (x ∷ [])))

@@ -1,5 +1,5 @@
 -- What the program writes, what it says, and its status.
-use Rattle.std.specs.Prelude.{◌≡◌, ℕ, Bool, true, false, List, [], ◌∷◌, ◌++◌, ◌⊎◌, codes, if◌then◌else◌, Ok, IsErr, Option, Some}
+use Rattle.std.specs.Prelude.{◌≡◌, ℕ, ◌<◌, ◌≤◌, Bool, true, false, List, [], ◌∷◌, ◌++◌, ◌⊎◌, codes, if◌then◌else◌, Ok, IsErr, Option, Some, None}
 use Rattle.std.specs.List.{list_all}
 use Rattle.hex.specs.Hex.{encode_lower, decode_of}
 use Rattle.line_io.specs.Transfers.{Fate, whole, broken}
@@ -18,20 +18,19 @@ DropsLineFeed text digits =
     (text ≡ digits ++ 10 ∷ [])
     ⊎ ((text ≡ digits) × ((front : List ℕ) → text ≡ front ++ 10 ∷ [] → ⊥))
 
--- framed bytes as they are written: as they are, or as hexadecimal digits and a line feed
-abbrev pub framed_text : Bool → List ℕ → List ℕ
-framed_text false bytes = bytes
-framed_text true bytes = encode_lower bytes ++ 10 ∷ []
-
--- some of the framed bytes as they are written
+-- some of the framed bytes as they are written: as they are, or as hexadecimal digits
 abbrev pub shown : Bool → List ℕ → List ℕ
 shown false bytes = bytes
 shown true bytes = encode_lower bytes
 
--- what is written behind all of them
+-- what is written behind all of them: a line feed behind digits
 abbrev pub shown_end : Bool → List ℕ
 shown_end false = []
 shown_end true = 10 ∷ []
+
+-- framed bytes as they are written
+abbrev pub framed_text : Bool → List ℕ → List ℕ
+framed_text hex bytes = shown hex bytes ++ shown_end hex
 
 -- the bytes that a text is read as: those that it has, or those of its digits
 abbrev pub StandsFor : Bool → List ℕ → List ℕ → Type 0
@@ -86,13 +85,17 @@ pub record RefusesHex (hex : Bool) (text out said : List ℕ) (status : ℕ) : T
   pub said_is : said ≡ bad_hex
   pub status_is : status ≡ 2
 
+-- whether a mode reads frames, and then whether strictly
+abbrev pub unpacking : Mode → Option Bool
+unpacking Pack = None
+unpacking Unpack = Some false
+unpacking Strict = Some true
+
 -- the program's text: what a run writes for what it reads, what it says, and its status
-abbrev pub Program : Mode → Bool → ℕ → List ℕ → List ℕ → List ℕ → ℕ → Type 0
-Program Pack hex sentinel text out said status = Packs hex sentinel text out said status
-Program Unpack hex sentinel text out said status =
-    Unpacks false hex sentinel text out said status ⊎ RefusesHex hex text out said status
-Program Strict hex sentinel text out said status =
-    Unpacks true hex sentinel text out said status ⊎ RefusesHex hex text out said status
+abbrev pub Program : Option Bool → Bool → ℕ → List ℕ → List ℕ → List ℕ → ℕ → Type 0
+Program None hex sentinel text out said status = Packs hex sentinel text out said status
+Program (Some strict) hex sentinel text out said status =
+    Unpacks strict hex sentinel text out said status ⊎ RefusesHex hex text out said status
 
 -- what is written for a stream that was read so far: the lines of its answers
 abbrev pub WritesLines : Bool → ℕ → Option End → List ℕ → List ℕ → Type 0
@@ -100,10 +103,10 @@ WritesLines strict sentinel end stream out = (verdicts : List Verdict)
     × AreAnswers strict sentinel end stream verdicts × (out ≡ lines_of verdicts)
 
 -- What is written for a text before all of it was read: nothing while lines are sent, or where a text is to be hexadecimal.
-abbrev pub WritesSoFar : Mode → Bool → ℕ → Option End → List ℕ → List ℕ → Type 0
-WritesSoFar Unpack false sentinel end text out = WritesLines false sentinel end text out
-WritesSoFar Strict false sentinel end text out = WritesLines true sentinel end text out
-WritesSoFar _ _ sentinel end text out = out ≡ []
+abbrev pub WritesSoFar : Option Bool → Bool → ℕ → Option End → List ℕ → List ℕ → Type 0
+WritesSoFar None hex sentinel end text out = out ≡ []
+WritesSoFar (Some strict) true sentinel end text out = out ≡ []
+WritesSoFar (Some strict) false sentinel end text out = WritesLines strict sentinel end text out
 
 -- The lines of the first answers to a stream that was read as far as this front: not all that it has.
 pub record WritesFirst (strict : Bool) (sentinel : ℕ) (stream out : List ℕ) : Type 0 where
@@ -113,21 +116,19 @@ pub record WritesFirst (strict : Bool) (sentinel : ℕ) (stream out : List ℕ) 
   pub first : WritesLines strict sentinel (Some NoMemory) front out
 
 -- What is written for hexadecimal text that was read to its end, where one of its values found no memory: the lines before that one.
-abbrev pub LacksBehind : Mode → Bool → ℕ → List ℕ → List ℕ → Type 0
-LacksBehind Unpack true sentinel text out =
-    (stream : List ℕ) × StandsFor true text stream × WritesFirst false sentinel stream out
-LacksBehind Strict true sentinel text out =
-    (stream : List ℕ) × StandsFor true text stream × WritesFirst true sentinel stream out
+abbrev pub LacksBehind : Option Bool → Bool → ℕ → List ℕ → List ℕ → Type 0
+LacksBehind (Some strict) true sentinel text out =
+    (stream : List ℕ) × StandsFor true text stream × WritesFirst strict sentinel stream out
 LacksBehind _ _ sentinel text out = ⊥
 
 -- What is written and said for a text before 'no memory' is said, by how far it was read: to where no memory was found for more, or to its
 -- end.
-abbrev pub RunsOutOfMemory : Mode → Bool → ℕ → Option End → List ℕ → List ℕ → List ℕ → Type 0
-RunsOutOfMemory mode hex sentinel (Some NoMemory) text out said =
-    WritesSoFar mode hex sentinel (Some NoMemory) text out × (said ≡ [])
-RunsOutOfMemory mode hex sentinel (Some Ended) text out said =
-    LacksBehind mode hex sentinel text out × (said ≡ [])
-RunsOutOfMemory mode hex sentinel _ text out said = ⊥
+abbrev pub RunsOutOfMemory : Option Bool → Bool → ℕ → Option End → List ℕ → List ℕ → List ℕ → Type 0
+RunsOutOfMemory way hex sentinel (Some NoMemory) text out said =
+    WritesSoFar way hex sentinel (Some NoMemory) text out × (said ≡ [])
+RunsOutOfMemory way hex sentinel (Some Ended) text out said =
+    LacksBehind way hex sentinel text out × (said ≡ [])
+RunsOutOfMemory way hex sentinel _ text out said = ⊥
 
 -- The refusals of the text's first lines, as many as were looked at.
 pub record SaysFirst (text said : List ℕ) : Type 0 where
@@ -138,80 +139,78 @@ pub record SaysFirst (text said : List ℕ) : Type 0 where
   pub are : AreSendsOf seen sends
   pub said_is : said ≡ refusals 1 sends
 
--- A text was read so far, this was due for it, and so it went out.
-pub record CarriesOut (due : List ℕ → List ℕ → List ℕ → Type 0) (end : Option End) (fate : Fate)
-    (reading : Option End → List ℕ → Type 0) (writing : Fate → List ℕ → Type 0)
-    (says : List ℕ → Type 0) : Type 0 where
-  pub text : List ℕ
-  pub out : List ℕ
-  pub said : List ℕ
-  pub is : due text out said
-  pub read : reading end text
-  pub wrote : writing fate out
-  pub told : says said
-
--- Status 0, 1 and 2: the text was read to its end, and the program's text went out. No device failed.
-abbrev pub RunsToItsEnd : Mode → Bool → ℕ → ℕ → (Option End → List ℕ → Type 0)
-    → (writing saying : Fate → List ℕ → Type 0) → Type 0
-RunsToItsEnd mode hex sentinel status reading writing saying =
-    CarriesOut (λ text out said. Program mode hex sentinel text out said status) (Some Ended) whole
-    reading writing (saying whole)
+-- what is said of a text before anything is written
+abbrev pub SaysBeforehand : Option Bool → Bool → List ℕ → List ℕ → Type 0
+SaysBeforehand None hex text said = SaysFirst text said
+SaysBeforehand (Some strict) hex text said = IsNotHex hex text × (said ≡ bad_hex)
 
 -- What is to be written and said for a text, by how far it was read: to its end, to where memory was wanting, to a fault, or to where
 -- the writer failed.
-abbrev pub IsToWrite : Mode → Bool → ℕ → Option End → List ℕ → List ℕ → List ℕ → Type 0
-IsToWrite mode hex sentinel (Some Ended) text out said =
-    ((status : ℕ) × Program mode hex sentinel text out said status)
-    ⊎ RunsOutOfMemory mode hex sentinel (Some Ended) text out said
-IsToWrite mode hex sentinel end text out said =
-    WritesSoFar mode hex sentinel end text out × (said ≡ [])
+abbrev pub IsToWrite : Option Bool → Bool → ℕ → Option End → List ℕ → List ℕ → List ℕ → Type 0
+IsToWrite way hex sentinel (Some Ended) text out said =
+    ((status : ℕ) × Program way hex sentinel text out said status)
+    ⊎ RunsOutOfMemory way hex sentinel (Some Ended) text out said
+IsToWrite way hex sentinel end text out said =
+    WritesSoFar way hex sentinel end text out × (said ≡ [])
 
--- A read failed: what the text so far gives was written, and 'read failed' was said.
-abbrev pub ReadFails : Mode → Bool → ℕ → (Option End → List ℕ → Type 0)
-    → (Fate → List ℕ → Type 0) → (List ℕ → Type 0) → Type 0
-ReadFails mode hex sentinel reading writing says =
-    CarriesOut (IsToWrite mode hex sentinel (Some ReadFault)) (Some ReadFault) whole
-    reading writing (λ said. says (said ++ read_failed))
+-- A line is said behind what was said before.
+abbrev pub Behind : List ℕ → (List ℕ → Type 0) → List ℕ → Type 0
+Behind line says said = says (said ++ line)
 
--- A write failed: the writer has a beginning, and 'write failed' was said after what was said before.
-abbrev pub WriteFails : Mode → Bool → ℕ → (Option End → List ℕ → Type 0)
-    → (Fate → List ℕ → Type 0) → (List ℕ → Type 0) → Type 0
-WriteFails mode hex sentinel reading writing says =
-    (end : Option End) × CarriesOut (IsToWrite mode hex sentinel end) end broken
-    reading writing (λ said. says (said ++ write_failed))
+-- what is due of a text that was read so far: what is written and said
+abbrev pub Due : Type 1
+Due = Option End → List ℕ → List ℕ → List ℕ → Type 0
 
--- Memory ran out: what was answered by then went out, and 'no memory' was said after what was said before.
-abbrev pub LacksMemory : Mode → Bool → ℕ → (Option End → List ℕ → Type 0)
-    → (Fate → List ℕ → Type 0) → (List ℕ → Type 0) → Type 0
-LacksMemory mode hex sentinel reading writing says =
-    (end : Option End) × CarriesOut (RunsOutOfMemory mode hex sentinel end) end whole
-    reading writing (λ said. says (said ++ no_memory))
+module _ (way : Option Bool) (hex : Bool) (sentinel : ℕ)
+    (reading : Option End → List ℕ → Type 0) (writing : Fate → List ℕ → Type 0) where
+  -- A text was read so far, this was due for it, and so it went out.
+  pub record CarriesOut (due : Due) (fate : Fate) (says : List ℕ → Type 0) : Type 0 where
+    pub end : Option End
+    pub text : List ℕ
+    pub out : List ℕ
+    pub said : List ℕ
+    pub is : due end text out said
+    pub read : reading end text
+    pub wrote : writing fate out
+    pub told : says said
 
--- what is said of a text before anything is written
-abbrev pub SaysBeforehand : Mode → Bool → List ℕ → List ℕ → Type 0
-SaysBeforehand Pack hex text said = SaysFirst text said
-SaysBeforehand _ hex text said = IsNotHex hex text × (said ≡ bad_hex)
+  -- The text was read to its end, and the program's text went out. No device failed.
+  abbrev pub RunsToItsEnd : ℕ → (List ℕ → Type 0) → Type 0
+  RunsToItsEnd status = CarriesOut (λ end text out said.
+      (end ≡ Some Ended) × Program way hex sentinel text out said status) whole
 
--- Standard error failed while the refusals or 'bad hex' were said: nothing was written.
-abbrev pub SaysInVain : Mode → Bool → (Option End → List ℕ → Type 0)
-    → (Fate → List ℕ → Type 0) → (List ℕ → Type 0) → Type 0
-SaysInVain mode hex reading writing says =
-    CarriesOut (λ text out said. (out ≡ []) × SaysBeforehand mode hex text said) (Some Ended) whole
-    reading writing says
+  -- A read failed: what the text so far gives was written.
+  abbrev pub ReadFails : (List ℕ → Type 0) → Type 0
+  ReadFails = CarriesOut (λ end text out said.
+      (end ≡ Some ReadFault) × IsToWrite way hex sentinel end text out said) whole
 
--- Standard error failed, there or while the last line was said: it has a beginning of what was to be said.
-abbrev pub SayingFails : Mode → Bool → ℕ → (Option End → List ℕ → Type 0)
-    → (Fate → List ℕ → Type 0) → (List ℕ → Type 0) → Type 0
-SayingFails mode hex sentinel reading writing says =
-    SaysInVain mode hex reading writing says
-    ⊎ (ReadFails mode hex sentinel reading writing says
-    ⊎ (WriteFails mode hex sentinel reading writing says
-    ⊎ LacksMemory mode hex sentinel reading writing says))
+  -- A write failed: the writer has a beginning.
+  abbrev pub WriteFails : (List ℕ → Type 0) → Type 0
+  WriteFails = CarriesOut (IsToWrite way hex sentinel) broken
 
--- Status 3: the reader, the writer or standard error failed.
-abbrev pub FailsByDevice : Mode → Bool → ℕ → (Option End → List ℕ → Type 0)
-    → (writing saying : Fate → List ℕ → Type 0) → Type 0
-FailsByDevice mode hex sentinel reading writing saying =
-    ReadFails mode hex sentinel reading writing (saying whole)
-    ⊎ (WriteFails mode hex sentinel reading writing (saying whole)
-    ⊎ SayingFails mode hex sentinel reading writing (saying broken))
+  -- Memory ran out: what was answered by then went out.
+  abbrev pub LacksMemory : (List ℕ → Type 0) → Type 0
+  LacksMemory = CarriesOut (RunsOutOfMemory way hex sentinel) whole
+
+  -- Standard error failed while the refusals or 'bad hex' were said: nothing was written.
+  abbrev pub SaysInVain : (List ℕ → Type 0) → Type 0
+  SaysInVain = CarriesOut (λ end text out said.
+      (end ≡ Some Ended) × (out ≡ []) × SaysBeforehand way hex text said) whole
+
+  -- a device failed, but for standard error while those were said, and the last line is said
+  abbrev pub DeviceFails : (List ℕ → Type 0) → Type 0
+  DeviceFails says = ReadFails (Behind read_failed says) ⊎ WriteFails (Behind write_failed says)
+
+  -- Standard error failed, there or while the last line was said: it has a beginning of what was to be said.
+  abbrev pub SayingFails : (List ℕ → Type 0) → Type 0
+  SayingFails says = SaysInVain says ⊎ (DeviceFails says ⊎ LacksMemory (Behind no_memory says))
+
+  -- How a run ends, by its status.
+  pub record RunEnds (status : ℕ) (saying : Fate → List ℕ → Type 0) : Type 0 where
+    -- the text was read to its end, and all that the program writes and says for it went out
+    pub finished : status < 3 → RunsToItsEnd status (saying whole)
+    -- a device failed
+    pub failed : status ≡ 3 → DeviceFails (saying whole) ⊎ SayingFails (saying broken)
+    -- memory ran out, and no device failed: the lines of the first answers went out
+    pub memory : status ≡ 4 → LacksMemory (Behind no_memory (saying whole))
+    pub range : status ≤ 4

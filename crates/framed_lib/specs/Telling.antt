@@ -3,6 +3,7 @@ use Rattle.std.specs.Prelude.{◌≡◌, ℕ, ◌&&◌, ◌⊎◌, Bool, true, f
 use Rattle.std.specs.List.{list_all}
 use Rattle.std.specs.declared.string.String.{String}
 use Rattle.std.proofs.Common.{sym, ap, ◌∙◌, subst, append_assoc, append-nil}
+use Rattle.std.proofs.Math.Bool.{and-true, and_assoc}
 use Rattle.std.proofs.lemmas.Grind.{flat_map-append}
 use Rattle.std.proofs.lemmas.List.Folds.{list_all-append}
 use Rattle.line_io.specs.Device.{LineState}
@@ -34,20 +35,12 @@ module _ {W : Type 0} (line : W → LineState) where
   abbrev pub Tells : {A : Type 0} → Telling W → List (Answer (String A)) → Telling W → Type 0
   Tells old answers new = PutsLines old new (answer_lines answers) (list_all has_value answers)
 
-  and_true : (b : Bool) → b ≡ (b && true)
-  and_true true = refl
-  and_true false = refl
-
-  and_assoc : (a b c : Bool) → ((a && b) && c) ≡ (a && (b && c))
-  and_assoc true b c = refl
-  and_assoc false b c = refl
-
   -- one answer's line
   pub tells_one : {A : Type 0} (old new : Telling W) (answer : Answer (String A))
       → PutsLines old new (answer_line answer) (has_value answer) → Tells old (answer ∷ []) new
   tells_one old new answer h =
       subst (λ x. PutsLines old new x (has_value answer && true)) (sym (append-nil (answer_line answer)))
-      (subst (λ b. PutsLines old new (answer_line answer) b) (and_true (has_value answer)) h)
+      (subst (λ b. PutsLines old new (answer_line answer) b) (sym (and-true (has_value answer))) h)
 
   module _ {A : Type 0} (h k m : Telling W) (a b : List (Answer (String A))) (p : Tells h a k) (q : Tells k b m) where
     went-more : (f : Bool) → k.failed ≡ f → h.failed ≡ false → m.failed ≡ false
@@ -80,7 +73,7 @@ module _ {W : Type 0} (line : W → LineState) where
   pub tells_laws : {A : Type 0} → HearerLaws (Tells {A = A})
   tells_laws = record {
     none = λ h. record {
-      good = and_true h.good;
+      good = sym (and-true h.good);
       live = refl;
       went = λ start end. put-none _ _;
       broke = λ start end. absurd (no_both h.failed end start);

@@ -1,32 +1,28 @@
 //! Hexadecimal text, and the bytes that take its place.
-ghost use Rattle.std.specs.Prelude.{◌≡◌, ℕ, ◌+◌, ◌*◌, ◌/◌, ◌%◌, ◌≤◌, List, ◌++◌, length, take, drop, true, false, Ok, IsErr, IsTrue};
-ghost use Rattle.hex.specs.Hex.{decode_pairs};
+ghost use Rattle.std.specs.Prelude.{◌≡◌, ℕ, ◌/◌, ◌%◌, ◌<◌, length, take, true, false, Ok, IsErr, IsTrue, IfSome, MatchOption};
+ghost use Rattle.hex.specs.Hex.{decode_pairs, hex_digit_value, pair_value};
 ghost use Rattle.framed_lib.specs.Program.{DropsLineFeed, StandsFor, IsNotHex};
 
-/// How many bytes are made of digits at once.
-const AT_ONCE: usize = 2048;
-
-/// Puts as many bytes as `count` in the place from `at` on, of the digits from twice that place on. Says whether these
-/// are digits.
-fn decode_some(digits: &mut [u8], at: usize, count: usize, room: &mut [u8]) -> bool
-    requires within { 2 * (at + count) ≤ length digits.old }
-    requires room { count ≤ length room.old }
-    ensures ok { IsTrue result
-        → (bytes : List ℕ)
-        × (decode_pairs 0 (take (2 * count) (drop (2 * at) digits.old)) ≡ Ok bytes)
-        × (length bytes ≡ count)
-        × (digits.new ≡ (take at digits.old ++ bytes) ++ drop (at + count) digits.old) }
-    ensures bad { result ≡ false
-        → IsErr (decode_pairs 0 (take (2 * count) (drop (2 * at) digits.old))) }
-    ensures same { length digits.new ≡ length digits.old }
-    ensures same_room { length room.new ≡ length room.old }
+/// The value of a digit, in either case.
+fn value_of(digit: u8) -> Option<u8>
+    ensures value { result ≡ hex_digit_value digit }
+    ensures small { IfSome result (λ value. value < 16) }
 {
-    let bytes = &mut room[..count];
-    if hex::decode_to_slice(&digits[2 * at..2 * (at + count)], bytes).is_err() {
-        return false;
+    match digit {
+        b'A'..=b'F' => Some(digit - b'A' + 10),
+        b'a'..=b'f' => Some(digit - b'a' + 10),
+        b'0'..=b'9' => Some(digit - b'0'),
+        _ => None,
     }
-    digits[at..at + count].copy_from_slice(bytes);
-    true
+}
+
+/// The byte of two digits.
+fn byte_of(high: u8, low: u8) -> Option<u8>
+    ensures { (i : ℕ) → MatchOption result (IsErr (pair_value high low i))
+        (λ byte. pair_value high low i ≡ Ok byte) }
+{
+    let high = value_of(high)?;
+    Some(high * 16 + value_of(low)?)
 }
 
 /// Puts the bytes of digits at their front, and says whether they are digits. The caller owes an even number of them.
@@ -37,29 +33,13 @@ fn decode_front(digits: &mut [u8]) -> bool
     ensures bad { result ≡ false → IsErr (decode_pairs 0 digits.old) }
     ensures same { length digits.new ≡ length digits.old }
 {
-    let mut room = [0u8; AT_ONCE];
-    let half = digits.len() / 2;
-    let mut at = 0;
-    while at < half {
-        let count = (half - at).min(AT_ONCE);
-        if !decode_some(digits, at, count, &mut room) {
-            return false;
+    for at in 0..digits.len() / 2 {
+        match byte_of(digits[2 * at], digits[2 * at + 1]) {
+            Some(byte) => digits[at] = byte,
+            None => return false,
         }
-        at += count;
     }
     true
-}
-
-/// Puts the bytes of the first digits of a text at its front, and says whether they are digits. The caller owes an even
-/// number of them.
-fn decode_first(text: &mut [u8], count: usize) -> bool
-    requires within { count ≤ length text.old }
-    requires even { count % 2 ≡ 0 }
-    ensures ok { IsTrue result
-        → decode_pairs 0 (take count text.old) ≡ Ok (take (count / 2) text.new) }
-    ensures bad { result ≡ false → IsErr (decode_pairs 0 (take count text.old)) }
-{
-    decode_front(&mut text[..count])
 }
 
 /// The text without the line feed at its end.
@@ -78,10 +58,8 @@ pub fn decode_hex(text: &mut Vec<u8>) -> bool
     ensures bad { result ≡ false → IsNotHex true text.old.items }
 {
     let count = without_line_feed(text).len();
-    if count % 2 != 0 {
-        return false;
-    }
-    if !decode_first(text, count) {
+    text.truncate(count);
+    if count % 2 != 0 || !decode_front(text) {
         return false;
     }
     text.truncate(count / 2);

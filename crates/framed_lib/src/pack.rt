@@ -1,11 +1,10 @@
-ghost use Rattle.std.specs.Prelude.{ℕ, false, List, OnOk, OnErr, IsTrue, IsUtf8};
+ghost use Rattle.std.specs.Prelude.{ℕ, false, List, None, OnOk, OnErr, IsTrue, IsUtf8};
 ghost use Rattle.line_io.specs.Transfers.{Writing, whole, broken};
 ghost use Rattle.link.specs.Each.{HasReadNow};
 ghost use Rattle.link.specs.Run.{Send, session_line};
 ghost use Rattle.framed_lib.specs.Program.{framed_text};
 ghost use Rattle.framed_lib.specs.Sending.{lines_in, AreSendsOf};
-ghost use Rattle.framed_lib.specs.Working.{Worked, IsWhole};
-ghost use Rattle.framed_lib.specs.declared.arguments.Mode.TheVariants.{Pack};
+ghost use Rattle.framed_lib.specs.Working.{Worked};
 
 use crate::digits::put_end;
 use crate::framing::{MOST, show_line};
@@ -50,31 +49,8 @@ fn write_frames<W: Outlet>(
     write_all(writer, &room[..held + count])
 }
 
-/// Says which lines of the text are refused, and then sends the others. A text that is UTF-8 as a whole has no line that isn't, so
-/// that none is looked at again.
-fn pack_text<W: Outlet, E: Outlet>(
-    hex: bool,
-    sentinel: u8,
-    text: &[u8],
-    writer: &mut W,
-    faults: &mut E,
-) -> Result<u8, Stop>
-    ensures { Worked Pack hex sentinel
-        (IsWhole text.now) (Writing (W.line writer.old) (W.line writer.new))
-        (Writing (E.line faults.old) (E.line faults.new)) result }
-{
-    let is_text = basic::from_utf8(text).is_ok();
-    let good = match say_refusals(text, is_text, faults) {
-        Ok(good) => good,
-        Err(_) => return Err(Stop::SayingFault),
-    };
-    let Ok(()) = write_frames(hex, sentinel, text, is_text, writer) else {
-        return Err(Stop::WriteFault);
-    };
-    Ok(status_of(good))
-}
-
-/// Reads a text to its end and sends each of its lines.
+/// Reads a text to its end, says which of its lines are refused, and then sends the others. A text that is UTF-8 as a whole has no line
+/// that isn't, so that none is looked at again.
 pub fn pack<R: Inlet, W: Outlet, E: Outlet>(
     alloc: Global,
     hex: bool,
@@ -83,15 +59,23 @@ pub fn pack<R: Inlet, W: Outlet, E: Outlet>(
     writer: &mut W,
     faults: &mut E,
 ) -> Result<u8, Stop>
-    ensures { Worked Pack hex sentinel
-        (HasReadNow (R.line reader.old) (R.line reader.new))
+    ensures { Worked None hex sentinel (HasReadNow (R.line reader.old) (R.line reader.new))
         (Writing (W.line writer.old) (W.line writer.new))
         (Writing (E.line faults.old) (E.line faults.new)) result }
 {
     let mut text = Vec::new(alloc);
     match read_to_end(reader, &mut text) {
-        End::Ended => pack_text(hex, sentinel, &text, writer, faults),
-        End::ReadFault => Err(Stop::ReadFault),
-        End::NoMemory => Err(Stop::NoMemory),
+        End::Ended => {}
+        End::ReadFault => return Err(Stop::ReadFault),
+        End::NoMemory => return Err(Stop::NoMemory),
     }
+    let is_text = basic::from_utf8(&text).is_ok();
+    let good = match say_refusals(&text, is_text, faults) {
+        Ok(good) => good,
+        Err(_) => return Err(Stop::SayingFault),
+    };
+    let Ok(()) = write_frames(hex, sentinel, &text, is_text, writer) else {
+        return Err(Stop::WriteFault);
+    };
+    Ok(status_of(good))
 }

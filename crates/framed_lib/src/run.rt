@@ -1,7 +1,6 @@
-ghost use Rattle.std.specs.Prelude.{◌≡◌, ◌<◌, ◌≤◌};
-ghost use Rattle.line_io.specs.Transfers.{Writing, whole};
+ghost use Rattle.line_io.specs.Transfers.{Writing};
 ghost use Rattle.link.specs.Each.{HasReadNow};
-ghost use Rattle.framed_lib.specs.Program.{RunsToItsEnd, FailsByDevice, LacksMemory};
+ghost use Rattle.framed_lib.specs.Program.{RunEnds, unpacking};
 ghost use Rattle.framed_lib.specs.Working.{Worked, SaysLast, Reports};
 
 use crate::arguments::Mode;
@@ -45,25 +44,10 @@ pub fn run<R: Inlet, W: Outlet, E: Outlet>(
     writer: W,
     mut faults: E,
 ) -> Ran<R, W, E>
-    // The text was read to its end, and all that the program writes and says for it went out.
-    ensures finished { result.status < 3 → RunsToItsEnd mode hex sentinel result.status
+    ensures { RunEnds (unpacking mode) hex sentinel
         (HasReadNow (R.line reader) (R.line result.reader))
         (Writing (W.line writer) (W.line result.writer))
-        (Writing (E.line faults) (E.line result.faults)) }
-
-    // A device failed.
-    ensures failed { result.status ≡ 3 → FailsByDevice mode hex sentinel
-        (HasReadNow (R.line reader) (R.line result.reader))
-        (Writing (W.line writer) (W.line result.writer))
-        (Writing (E.line faults) (E.line result.faults)) }
-
-    // Memory ran out, and no device failed: the lines of the first answers went out.
-    ensures memory { result.status ≡ 4 → LacksMemory mode hex sentinel
-        (HasReadNow (R.line reader) (R.line result.reader))
-        (Writing (W.line writer) (W.line result.writer))
-        (Writing (E.line faults) (E.line result.faults) whole) }
-
-    ensures range { result.status ≤ 4 }
+        result.status (Writing (E.line faults) (E.line result.faults)) }
 {
     let (writer, worked) = work(alloc, mode, hex, sentinel, &mut reader, writer, &mut faults);
     let status = report(&mut faults, worked);
@@ -85,7 +69,7 @@ fn work<R: Inlet, W: Outlet, E: Outlet>(
     writer: W,
     faults: &mut E,
 ) -> (W, Result<u8, Stop>)
-    ensures { Worked mode hex sentinel (HasReadNow (R.line reader.old) (R.line reader.new))
+    ensures { Worked (unpacking mode) hex sentinel (HasReadNow (R.line reader.old) (R.line reader.new))
         (Writing (W.line writer) (W.line result.0))
         (Writing (E.line faults.old) (E.line faults.new)) result.1 }
 {
@@ -102,8 +86,7 @@ fn work<R: Inlet, W: Outlet, E: Outlet>(
 
 /// Says why the work ended early, and gives the status.
 fn report<E: Outlet>(faults: &mut E, worked: Result<u8, Stop>) -> u8
-    ensures { Reports faults.old faults.new
-        (Writing (E.line faults.old) (E.line faults.new)) worked result }
+    ensures { Reports (E.line faults.old) (E.line faults.new) worked result }
 {
     match worked {
         Ok(status) => status,
@@ -116,8 +99,7 @@ fn report<E: Outlet>(faults: &mut E, worked: Result<u8, Stop>) -> u8
 
 /// Says the last line, and gives the status.
 fn say_last<E: Outlet>(faults: &mut E, line: &[u8], status: u8) -> u8
-    ensures { SaysLast
-        (Writing (E.line faults.old) (E.line faults.new)) line.now status result }
+    ensures { SaysLast (E.line faults.old) (E.line faults.new) line.now status result }
 {
     match write_all(faults, line) {
         Ok(()) => status,

@@ -1,7 +1,7 @@
 ghost use Rattle.std.specs.Prelude.{◌≡◌, ℕ, List, true, false, None, Some, IsErr};
 ghost use Rattle.line_io.specs.Transfers.{Writing};
 ghost use Rattle.link.specs.Each.{HasReadNow, UsesFew, last_call};
-ghost use Rattle.framed_lib.specs.Working.{Worked, IsWhole, TellsAnswers, outcome_of, unpacking, says_nothing};
+ghost use Rattle.framed_lib.specs.Working.{Worked, TellsAnswers, outcome_of};
 
 use crate::answers::hand_texts;
 use crate::decoding::decode_hex;
@@ -81,35 +81,25 @@ fn tell_answers<R: Inlet, W: Outlet>(
     }
 }
 
-/// Writes the lines of the answers to a stream, those of each read at its end, until the stream ends or a write fails.
-fn unpack_bytes<R: Inlet, W: Outlet>(
+/// Reads a text of digits to its end, and writes the lines of the answers to its bytes, which take its place.
+fn unpack_hex<R: Inlet, W: Outlet, E: Outlet>(
     alloc: Global,
     strict: bool,
     sentinel: u8,
     reader: &mut R,
     writer: W,
-) -> (W, Result<u8, Stop>)
-    ensures { Worked (unpacking strict) false sentinel
-        (HasReadNow (R.line reader.old) (R.line reader.new))
-        (Writing (W.line writer) (W.line result.0)) says_nothing result.1 }
-{
-    let told = tell_answers(alloc, strict, sentinel, true, reader, writer);
-    (told.writer, outcome(told.end, told.written, told.good))
-}
-
-/// Writes the lines of the answers to the bytes that a text's digits stand for, which take its place.
-fn unpack_digits<W: Outlet, E: Outlet>(
-    alloc: Global,
-    strict: bool,
-    sentinel: u8,
-    mut text: Vec<u8>,
-    writer: W,
     faults: &mut E,
 ) -> (W, Result<u8, Stop>)
-    ensures { Worked (unpacking strict) true sentinel
-        (IsWhole text.items) (Writing (W.line writer) (W.line result.0))
+    ensures { Worked (Some strict) true sentinel (HasReadNow (R.line reader.old) (R.line reader.new))
+        (Writing (W.line writer) (W.line result.0))
         (Writing (E.line faults.old) (E.line faults.new)) result.1 }
 {
+    let mut text = Vec::new(alloc);
+    match read_to_end(reader, &mut text) {
+        End::Ended => {}
+        End::ReadFault => return (writer, Err(Stop::ReadFault)),
+        End::NoMemory => return (writer, Err(Stop::NoMemory)),
+    }
     if !decode_hex(&mut text) {
         let Ok(()) = write_all(faults, b"bad hex\n") else {
             return (writer, Err(Stop::SayingFault));
@@ -121,29 +111,8 @@ fn unpack_digits<W: Outlet, E: Outlet>(
     (told.writer, outcome(told.end, told.written, told.good))
 }
 
-/// Reads a text of digits to its end, and writes the lines of the answers to its bytes.
-fn unpack_hex<R: Inlet, W: Outlet, E: Outlet>(
-    alloc: Global,
-    strict: bool,
-    sentinel: u8,
-    reader: &mut R,
-    writer: W,
-    faults: &mut E,
-) -> (W, Result<u8, Stop>)
-    ensures { Worked (unpacking strict) true sentinel
-        (HasReadNow (R.line reader.old) (R.line reader.new))
-        (Writing (W.line writer) (W.line result.0))
-        (Writing (E.line faults.old) (E.line faults.new)) result.1 }
-{
-    let mut text = Vec::new(alloc);
-    match read_to_end(reader, &mut text) {
-        End::Ended => unpack_digits(alloc, strict, sentinel, text, writer, faults),
-        End::ReadFault => (writer, Err(Stop::ReadFault)),
-        End::NoMemory => (writer, Err(Stop::NoMemory)),
-    }
-}
-
-/// Writes the lines of the answers to framed bytes, or to those that a text's digits stand for.
+/// Writes the lines of the answers to framed bytes, those of each read at its end, until a write fails; or to those that a text's
+/// digits stand for.
 pub fn unpack<R: Inlet, W: Outlet, E: Outlet>(
     alloc: Global,
     strict: bool,
@@ -153,13 +122,13 @@ pub fn unpack<R: Inlet, W: Outlet, E: Outlet>(
     writer: W,
     faults: &mut E,
 ) -> (W, Result<u8, Stop>)
-    ensures { Worked (unpacking strict) hex sentinel
-        (HasReadNow (R.line reader.old) (R.line reader.new))
+    ensures { Worked (Some strict) hex sentinel (HasReadNow (R.line reader.old) (R.line reader.new))
         (Writing (W.line writer) (W.line result.0))
         (Writing (E.line faults.old) (E.line faults.new)) result.1 }
 {
     if hex {
         return unpack_hex(alloc, strict, sentinel, reader, writer, faults);
     }
-    unpack_bytes(alloc, strict, sentinel, reader, writer)
+    let told = tell_answers(alloc, strict, sentinel, true, reader, writer);
+    (told.writer, outcome(told.end, told.written, told.good))
 }

@@ -1,4 +1,3 @@
-use Rattle.std.proofs.lemmas.Grind.{common_steps}
 use Rattle.std.proofs.Common.{◌≡◌, ◌∷◌, ◌++◌, [], get_or, sym, subst, ap, ◌∙◌, arith}
 use Rattle.std.specs.Prelude.{map, string_bytes}
 use Rattle.framed_lib.specs.Words.{hex_words, NamesSentinel}
@@ -16,15 +15,3 @@ returns-in_err-sentinel_of-in-len1-clause-none c =
     rw words (if-none _ (no-more first found (last ∷ [])
     (λ e tail k. c.split_hex-hex.ensures.none e tail (more ∙ (ap (λ b. hex_words b ++ (last ∷ [])) e ∙ k))) (omega arith)
     (λ s word e q. c.in_err-sentinel_of-in-len1.ensures.none s (subst (λ x. NamesSentinel s x) (sym (ap (λ x. get_or x 0 []) e) ∙ sym c.as_str-in-len1.ensures.value) q))))
-
-pub returns-in_err-mode-clause-none : goal.returns-in_err-mode-clause-none
-returns-in_err-mode-clause-none c = grind (arith, common_steps)
-
-pub returns-in-empty-clause-some : goal.returns-in-empty-clause-some
-returns-in-empty-clause-some c = grind (arith, common_steps)
-
-pub returns-in_ok-sentinel_of-in-len1-clause-some : goal.returns-in_ok-sentinel_of-in-len1-clause-some
-returns-in_ok-sentinel_of-in-len1-clause-some c = grind (arith, common_steps)
-
-pub returns-in_default-clause-none : goal.returns-in_default-clause-none
-returns-in_default-clause-none c = grind (arith, common_steps)

@@ -1,9 +1,5 @@
-use Rattle.std.proofs.Common.{◌-◌, ◌/◌, length}
 use Rattle.framed_lib.proofs.PairsLemmas.{Turned}
 use Rattle.framed_lib.proofs.decoding.decode_front.Given as goal
 
 abbrev pub invariant-loop-at : goal.invariant-loop-at
 invariant-loop-at l = Turned l.fn.digits l.digits l.at
-
-abbrev pub decreases-loop-at : goal.decreases-loop-at
-decreases-loop-at l = length l.fn.digits / 2 - l.at

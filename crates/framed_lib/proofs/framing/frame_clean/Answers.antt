@@ -1,4 +1,3 @@
-use Rattle.std.proofs.lemmas.Grind.{common_steps}
 use Rattle.std.proofs.Common.{◌≡◌, ◌+◌, ◌++◌, length, take, drop, refl, sym, arith}
 use Rattle.std.proofs.lemmas.Bool.{lt-ltb}
 use Rattle.std.proofs.lemmas.List.{length-set, length-take}
@@ -31,6 +30,3 @@ pub returns-in-Err-clause-sent : goal.returns-in-Err-clause-sent
 returns-in-Err-clause-sent c =
     let size : length (take 1024 c.args.room.now) ≡ 1024 = omega (arith, length-take 1024 c.args.room.now, c.requires.room) in
     (refused, unframed-line c.in-Err.field-0 _ c.in-Some.text.now c.args.line.now c.in-Some.ensures size c.in-Err.ensures.err, refl, refl)
-
-pub overflow_add-result : goal.overflow_add-result
-overflow_add-result c = grind (arith, common_steps)

@@ -1,4 +1,4 @@
-use Rattle.std.proofs.Common.{◌++◌, [], sym, ap, ◌∙◌, append_assoc, rules}
+use Rattle.std.proofs.Common.{◌++◌, [], sym, ap, ◌∙◌, append_assoc}
 use Rattle.std.proofs.lemmas.List.{append-nil}
 use Rattle.std.proofs.lemmas.Result.{on_ok_weaker, on_err_weaker}
 use Rattle.framed_lib.proofs.OutputLemmas.{on_err, put-then, put-done, put-breaks}
@@ -35,15 +35,3 @@ returns-clause-err g c =
     on_err_weaker c.put-2.result
     (λ p. put-breaks _ c.loop-run.rest.now [] (i.1 ∙ ap (λ t. i.0 ++ t) (c.in_default.ensures.written ∙ sym (append-nil c.loop-run.rest.now))) i.2 p)
     c.put-2.ensures.err
-
-pub loop-run-init : goal.loop-run-init
-loop-run-init g c = search rules
-
-pub returns-in_err-put-clause-ok : goal.returns-in_err-put-clause-ok
-returns-in_err-put-clause-ok g c = search rules
-
-pub returns-in_err-put-2-clause-ok : goal.returns-in_err-put-2-clause-ok
-returns-in_err-put-2-clause-ok g c = search rules
-
-pub loop-run-smaller : goal.loop-run-smaller
-loop-run-smaller g c = search rules

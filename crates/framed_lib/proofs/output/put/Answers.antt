@@ -14,6 +14,3 @@ pub returns-clause-err : goal.returns-clause-err
 returns-clause-err g c =
     let held : c.as_slice.result.now ≡ c.args.held.now.items = grind (arith, common_steps) in
     on_err_weaker c.write_all-2.result (λ w. broke-through held c.in_ok-write_all.ensures.ok w) c.write_all-2.ensures.err
-
-pub returns-in_err-write_all-clause-err : goal.returns-in_err-write_all-clause-err
-returns-in_err-write_all-clause-err g c = grind (arith, common_steps)

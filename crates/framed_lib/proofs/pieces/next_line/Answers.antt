@@ -1,7 +1,5 @@
-use Rattle.std.proofs.lemmas.Grind.{common_steps}
 use Rattle.std.proofs.Common.{◌≡◌, ◌<◌, ◌+◌, ◌∷◌, length, ap, ◌∙◌, arith, length-append}
-use Rattle.framed_lib.proofs.SendingLemmas.{next-line, lines-last}
-use Rattle.framed_lib.proofs.TextsLemmas.{utf8-line}
+use Rattle.framed_lib.proofs.SendingLemmas.{next-line, lines-last, utf8-line}
 use Rattle.framed_lib.proofs.pieces.next_line.Goals as goal
 
 pub returns-in-Some-clause-line : goal.returns-in-Some-clause-line
@@ -19,6 +17,3 @@ returns-in-None-clause-line c =
 
 pub returns-in-Some-clause-utf8 : goal.returns-in-Some-clause-utf8
 returns-in-Some-clause-utf8 c = λ u. utf8-line _ _ _ c.in-Some.ensures.0 u
-
-pub returns-then-is_empty-clause-line : goal.returns-then-is_empty-clause-line
-returns-then-is_empty-clause-line c = grind (arith, common_steps)

@@ -1,10 +1,11 @@
 use Rattle.std.proofs.Common.{inl, inr, refl, sym, subst, ◌∙◌}
+use Rattle.std.proofs.lemmas.Bool.{and_parts}
 use Rattle.std.proofs.lemmas.Result.{on_ok_weaker, on_err_weaker}
 use Rattle.line_io.specs.Transfers.{Writing, broken}
 use Rattle.framed_lib.specs.Lines.{answer_lines}
 use Rattle.framed_lib.proofs.OutputLemmas.{put-flush, put-went}
-use Rattle.framed_lib.proofs.LinesLemmas.{received, lines-same, values-same}
-use Rattle.framed_lib.proofs.WorkLemmas.{both-true, is-err}
+use Rattle.framed_lib.proofs.LinesLemmas.{received, all-same}
+use Rattle.framed_lib.proofs.WorkLemmas.{is-err}
 use Rattle.framed_lib.proofs.unpack.tell_answers.Goals as goal
 
 pub returns-clause-told : goal.returns-clause-told
@@ -13,13 +14,13 @@ returns-clause-told g c =
     let t = h.2.heard in
     let w = c.write_rest-written.result in
     let v = received c.args.strict c.args.sentinel c.hand_texts-end.result h.2.answers h.0 h.2.so in
-    let same = lines-same h.2.answers v.0 v.2 in (
+    let (same, good) = all-same h.2.answers v.0 v.2 in (
       h.0,
       h.1,
       record {
         verdicts = v.0;
         are = v.1;
-        values = t.good ∙ values-same h.2.answers v.0 v.2;
+        values = t.good ∙ good;
         went = rw same at (on_ok_weaker w (λ o. rw c.new.ensures at (put-went (t.went refl o.0) o.1)) c.write_rest-written.ensures.ok);
         broke =
             rw same at (on_err_weaker w (λ o. elim o [
@@ -33,5 +34,5 @@ pub returns-clause-stopped : goal.returns-clause-stopped
 returns-clause-stopped g c = λ none.
     let h = c.hand_texts-end.ensures.received in
     let k = c.hand_texts-end.new.hearer in
-    let both = both-true k.failed k.live (c.hand_texts-end.ensures.enough none) in
+    let both = and_parts k.failed k.live (c.hand_texts-end.ensures.enough none) in
     (sym h.2.heard.live ∙ both.1, is-err c.write_rest-written.result k.failed both.0 (on_ok_weaker c.write_rest-written.result (λ o. o.0) c.write_rest-written.ensures.ok))
