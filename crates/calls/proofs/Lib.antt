@@ -1,5 +1,3 @@
 pub mod RepliesLemmas
 pub mod AskingLemmas
-pub mod PendingLemmas
-pub mod UnheardLemmas
 pub mod WaitedLemmas

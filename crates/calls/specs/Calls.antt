@@ -32,16 +32,25 @@ again equal passes None n q = []
 again equal passes (Some e) n q = if e.number == n then (if equal e.asks q then (e.number, e.says) ∷ [] else notices (passes n e.number)) else notices (passes n e.number)
 
 -- One request: what is executed for it, what is replied, and what is kept then. A number below the least is not executed.
-pub record Serves {Q R : Type 0} (equal : Q → Q → Bool) (passes : ℕ → ℕ → Option R) (kept : Option (Execution Q R)) (number : ℕ) (asks : Q) (log : List (Execution Q R)) (out : List (ℕ × R)) (later : Option (Execution Q R)) : Type 0 where
-  pub known : number < next_of kept → (log ≡ []) × (out ≡ again equal passes kept number asks) × (later ≡ kept)
-  pub fresh : next_of kept ≤ number → (says : R) × (log ≡ call number asks says ∷ []) × (out ≡ (number, says) ∷ []) × (later ≡ Some (call number asks says))
+pub data Serves {Q R : Type 0} (equal : Q → Q → Bool) (passes : ℕ → ℕ → Option R)
+    (kept : Option (Execution Q R)) (n : ℕ) (asks : Q)
+    : List (Execution Q R) → List (ℕ × R) → Option (Execution Q R) → Type 0 where
+  known : n < next_of kept
+      → Serves equal passes kept n asks [] (again equal passes kept n asks) kept
+  fresh : (says : R) → next_of kept ≤ n
+      → Serves equal passes kept n asks (call n asks says ∷ []) ((n, says) ∷ [])
+      (Some (call n asks says))
 
 -- requests one after another
-abbrev pub ServesAll : {Q R : Type 0} → (Q → Q → Bool) → (ℕ → ℕ → Option R) → Option (Execution Q R) → List (ℕ × Q) → List (Execution Q R) → List (ℕ × R) → Option (Execution Q R) → Type 0
-ServesAll equal passes kept [] log out later = (log ≡ []) × (out ≡ []) × (later ≡ kept)
-ServesAll {Q} {R} equal passes kept (q ∷ qs) log out later =
-    (first : List (Execution Q R)) × (others : List (Execution Q R)) × (says : List (ℕ × R)) × (more : List (ℕ × R)) × (mid : Option (Execution Q R))
-    × Serves equal passes kept q.0 q.1 first says mid × ServesAll equal passes mid qs others more later × (log ≡ first ++ others) × (out ≡ says ++ more)
+pub data ServesAll {Q R : Type 0} (equal : Q → Q → Bool) (passes : ℕ → ℕ → Option R)
+    : Option (Execution Q R) → List (ℕ × Q) → List (Execution Q R) → List (ℕ × R)
+    → Option (Execution Q R) → Type 0 where
+  no_request : (kept : Option (Execution Q R)) → ServesAll equal passes kept [] [] [] kept
+  request : (kept mid later : Option (Execution Q R)) (q : ℕ × Q) (qs : List (ℕ × Q))
+      (first others : List (Execution Q R)) (says out : List (ℕ × R))
+      → Serves equal passes kept q.0 q.1 first says mid
+      → ServesAll equal passes mid qs others out later
+      → ServesAll equal passes kept (q ∷ qs) (first ++ others) (says ++ out) later
 
 -- each number is at least this, and above the one before
 abbrev pub Rises : {Q R : Type 0} → ℕ → List (Execution Q R) → Type 0

@@ -1,5 +1,4 @@
 pub mod Calls
-pub mod Places
 pub mod Serving
 pub mod ServedLaws
 pub mod Asking

@@ -1,19 +1,17 @@
 -- What a hearer makes of replies from which notices are taken out: what is said of a request that was passed over.
-use Rattle.std.specs.Prelude.{◌≡◌, ℕ, ◌==◌, if◌then◌else◌, Bool, true, List, [], ◌∷◌, ◌++◌, Option, Some, None, Result, Ok, Err}
+use Rattle.std.specs.Prelude.{◌≡◌, ℕ, ◌==◌, if◌then◌else◌, Bool, true, List, [], ◌∷◌, ◌++◌, Option, Some, Result, Ok, Err}
 use Rattle.std.specs.Option.{is_some}
 use Rattle.std.proofs.Common.{refl, sym, ap, ◌∙◌, subst}
 use Rattle.link.specs.Each.{HearerLaws}
 use Rattle.link.specs.declared.receiver.Answer.{Answer}
-use Rattle.link.specs.declared.receiver.Answer.TheVariants.{Value, Damaged, TooLong, Cut}
+use Rattle.link.specs.declared.receiver.Answer.TheVariants.{Value}
 use Rattle.calls.specs.Calls.{no_call}
 use Rattle.calls.specs.declared.noticing.Noticing.{Noticing}
 
 -- a notice, which came by the greatest number; or another answer
 abbrev pub told_apart : {R : Type 0} → Answer (ℕ × R) → Result R (Answer (ℕ × R))
 told_apart (Value p) = if p.0 == no_call then Ok p.1 else Err (Value p)
-told_apart Damaged = Err Damaged
-told_apart TooLong = Err TooLong
-told_apart Cut = Err Cut
+told_apart other = Err other
 
 -- an answer that is no notice, in front of others
 abbrev pub before : {R : Type 0} → Result R (Answer (ℕ × R)) → List (Answer (ℕ × R)) → List (Answer (ℕ × R))

@@ -4,7 +4,7 @@ use Rattle.std.proofs.Common.{sym, subst}
 use Rattle.std.proofs.lemmas.List.{map-append}
 use Rattle.link.specs.Each.{HearerLaws}
 use Rattle.link.specs.declared.receiver.Answer.{Answer}
-use Rattle.link.specs.declared.receiver.Answer.TheVariants.{Value, Damaged, TooLong, Cut}
+use Rattle.link.specs.declared.receiver.Answer.TheVariants.{Value, Damaged}
 use Rattle.sealed.specs.declared.value.Sealed.{Sealed}
 use Rattle.calls.specs.Calls.{no_call}
 use Rattle.calls.specs.declared.sealing.Checked.{Checked}
@@ -13,9 +13,7 @@ use Rattle.calls.specs.declared.sealing.Numbering.{Numbering}
 -- an answer of the line by its two numbers: a message in which they differ is damaged
 abbrev pub compared : {T : Type 0} → Answer (ℕ × Sealed (ℕ × T)) → Answer (ℕ × Sealed (ℕ × T))
 compared (Value p) = if p.0 == p.1.0.0 then Value p else Damaged
-compared Damaged = Damaged
-compared TooLong = TooLong
-compared Cut = Cut
+compared other = other
 
 -- what a hearer makes of answers whose numbers are compared first
 abbrev pub HearsCompared : {H T : Type 0}

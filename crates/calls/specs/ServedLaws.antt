@@ -1,7 +1,7 @@
 -- What serving is, one request after another: laws of what a service owes as a hearer.
-use Rattle.std.proofs.Common.{◌≡◌, ℕ, length, ◌+◌, ◌<◌, ◌≤◌, Bool, true, false, cond, eqb, ◌⊎◌, List, [], ◌∷◌, ◌++◌, Option, Some, None, Result, Ok, Err, refl, sym, ap, ◌∙◌, subst, inl, inr, arith, append_assoc}
+use Rattle.std.proofs.Common.{◌≡◌, ℕ, length, ◌+◌, ◌<◌, ◌≤◌, Bool, true, false, cond, eqb, ◌⊎◌, List, [], ◌∷◌, ◌++◌, Option, Some, None, Result, refl, sym, ap, ◌∙◌, subst, inl, inr, arith, append_assoc}
 use Rattle.std.specs.List.{FoldsTo}
-use Rattle.std.proofs.lemmas.Bool.{cases_lt, eq-eqb, eqb-true}
+use Rattle.std.proofs.lemmas.Bool.{eq-eqb, eqb-true}
 use Rattle.std.proofs.lemmas.List.{append-nil}
 use Rattle.line_io.specs.Device.{LineState}
 use Rattle.postcard_tree.specs.Tree.{Tree}
@@ -14,15 +14,13 @@ use Rattle.postcard_tree.specs.declared.error.Error.{Error}
 use Rattle.link.specs.Fates.{IsSendOf, fate_of, broke, Did, FewBroke, SendsAll}
 use Rattle.link.specs.Lemmas.SendLaws.{none_sent, sends_then}
 use Rattle.link.specs.declared.sender.SendError.{SendError}
-use Rattle.link.specs.declared.sender.SendError.TheVariants.{Refused, Line}
 use Rattle.link.specs.declared.session.Fate.{Fate}
 use Rattle.link.specs.declared.receiver.Answer.{Answer}
 use Rattle.link.specs.declared.receiver.Answer.TheVariants.{Value, Damaged, TooLong, Cut}
 use Rattle.link.specs.Each.{HearerLaws}
-use Rattle.calls.specs.Calls.{Execution, call, next_of, no_call, notices, again, ServesAll, Rises, In}
+use Rattle.calls.specs.Calls.{Execution, call, next_of, no_call, notices, again, ServesAll, known, fresh, no_request, request, Rises, In}
 use Rattle.link.specs.Senders.{SenderPlace, sender_place, HasSent}
-use Rattle.calls.specs.Places.{SaysAll}
-use Rattle.calls.specs.Serving.{kept_of, sender_of, Runs, IsServed, IsPassed, IsReplied, Executes, TakesAnswer, ServiceHears, requests_of, unsent_by_result, unsent_by, unsent_by_fate, unsent_of}
+use Rattle.calls.specs.Serving.{kept_of, sender_of, SaysAll, Runs, IsServed, IsPassed, IsReplied, Executes, TakesAnswer, ServiceHears, requests_of, unsent_by_result, unsent_by, unsent_by_fate, unsent_of}
 use Rattle.calls.specs.declared.service.Service.{Service}
 use Rattle.calls.specs.declared.server.Served.{Served}
 use Rattle.calls.specs.declared.server.Served.TheVariants.{Executed, Again, Other, Passed}
@@ -44,6 +42,10 @@ pub in_first : {A : Type 0} (x : A) (xs ys : List A) → In x xs → In x (xs ++
 in_first x [] ys i = absurd i
 in_first x (y ∷ xs) ys (inl e) = inl e
 in_first x (y ∷ xs) ys (inr i) = inr (in_first x xs ys i)
+
+pub alone : {A : Type 0} (x y : A) → In y (x ∷ []) → y ≡ x
+alone x y (inl e) = e
+alone x y (inr e) = absurd e
 
 -- A refusal by any name is one.
 refusal : (limit : ℕ) (o : Option Tree) (e : Error) → IsRefusal limit o e → UnlessRefused o (λ bytes. limit < length (shortest_frame bytes))
@@ -68,14 +70,11 @@ module _ {V : Type 0} (limit : ℕ) (writes : V → Option Tree) (valid : V → 
   -- which send of a message it was
   said_of : (v : V) (old new : SenderPlace) (r : Result (Unit {0}) SendError) (x : Send) → IsSent limit (writes v) r x → HasSent limit (writes v) (valid v) old new r → old.line.faults ≤ new.line.faults
       → IsSendOf limit (writes v) (valid v) x × FewBroke old.line new.line (broke x) × (new.line.faults ≤ old.line.faults + broke x)
-  said_of v old new (Ok u) (completed t) i h l = ((i.1, h.valid), inl (omega (arith, l)), omega (arith, h.done))
-  said_of v old new (Err e) (completed t) i h l = absurd (let no : ◌≡◌ {A = Result (Unit {0}) SendError} (Err e) (Ok tt) = i.0 in cc)
-  said_of v old new (Ok u) refused i h l = absurd (let no : ◌≡◌ {A = Result (Unit {0}) SendError} (Ok u) (Err (Refused i.0)) = i.1 in cc)
-  said_of v old new (Err Line) refused i h l = absurd (let no : ◌≡◌ {A = Result (Unit {0}) SendError} (Err Line) (Err (Refused i.0)) = i.1 in cc)
-  said_of v old new (Err (Refused e)) refused i h l = (refusal limit (writes v) i.0 i.2, inl (omega (arith, l)), omega (arith, ap (λ z. z.faults) h.unchanged))
-  said_of v old new (Ok u) (broken t k) i h l = absurd (let no : ◌≡◌ {A = Result (Unit {0}) SendError} (Ok u) (Err Line) = i.0 in cc)
-  said_of v old new (Err Line) (broken t k) i h l = ((i.1, h.valid), one_failed old.line new.line h.line, h.once)
-  said_of v old new (Err (Refused e)) (broken t k) i h l = absurd (let no : ◌≡◌ {A = Result (Unit {0}) SendError} (Err (Refused e)) (Err Line) = i.0 in cc)
+  said_of v old new r (completed t) i h l =
+      let k = rw i.0 at h in ((i.1, k.valid), inl (omega (arith, l)), omega (arith, k.done))
+  said_of v old new r refused i h l =
+      let k = rw i.1 at h in (refusal limit (writes v) i.0 i.2, inl (omega (arith, l)), omega (arith, ap (λ z. z.faults) k.unchanged))
+  said_of v old new r (broken t n) i h l = let k = rw i.0 at h in ((i.1, k.valid), one_failed old.line new.line k.line, h.once)
 
   -- one message
   pub says_one : (v : V) (old new : SenderPlace) (r : Result (Unit {0}) SendError) → HasSent limit (writes v) (valid v) old new r → (f : Fate) × SaysAll limit writes valid old new (v ∷ []) (f ∷ [])
@@ -104,12 +103,9 @@ module _ {V : Type 0} (limit : ℕ) (writes : V → Option Tree) (valid : V → 
 
   -- Whether it was sent whole is told alike by the answer and by what became of it.
   told_alike : (v : V) (r : Result (Unit {0}) SendError) (x : Send) (unsent : Bool) → IsSent limit (writes v) r x → unsent_by_result unsent r ≡ unsent_by_fate unsent (fate_of x)
-  told_alike v (Ok u) (completed t) unsent i = refl
-  told_alike v (Err e) (completed t) unsent i = absurd (let no : ◌≡◌ {A = Result (Unit {0}) SendError} (Err e) (Ok tt) = i.0 in cc)
-  told_alike v (Ok u) refused unsent i = absurd (let no : ◌≡◌ {A = Result (Unit {0}) SendError} (Ok u) (Err (Refused i.0)) = i.1 in cc)
-  told_alike v (Err e) refused unsent i = refl
-  told_alike v (Ok u) (broken t k) unsent i = absurd (let no : ◌≡◌ {A = Result (Unit {0}) SendError} (Ok u) (Err Line) = i.0 in cc)
-  told_alike v (Err e) (broken t k) unsent i = refl
+  told_alike v r (completed t) unsent i = rw i.0 refl
+  told_alike v r refused unsent i = rw i.1 refl
+  told_alike v r (broken t k) unsent i = rw i.0 refl
 
   -- so that is how one message is told
   pub told_of : (v : V) (old new : SenderPlace) (r : Result (Unit {0}) SendError) (h : HasSent limit (writes v) (valid v) old new r) (unsent : Bool) → unsent_by_result unsent r ≡ unsent_by_fate unsent (says_one v old new r h).0
@@ -137,48 +133,28 @@ requests_then (Cut ∷ xs) ys = requests_then xs ys
 pub which : {A : Type 0} {x y : A} → Some x ≡ Some y → x ≡ y
 which e = cc
 
-module _ {Q R : Type 0} (equal : Q → Q → Bool) (passes : ℕ → ℕ → Option R) where
+module _ {Q R : Type 0} {equal : Q → Q → Bool} {passes : ℕ → ℕ → Option R} where
   -- Each number that is executed is above those before, and what is kept only rises.
   pub rises : (kept later : Option (Execution Q R)) (qs : List (ℕ × Q)) (log : List (Execution Q R)) (out : List (ℕ × R)) → ServesAll equal passes kept qs log out later
       → Rises (next_of kept) log × (next_of kept ≤ next_of later)
-  rises kept later [] log out h = (subst (Rises (next_of kept)) (sym h.0) tt, (let e : next_of later ≡ next_of kept = ap next_of h.2 in omega arith))
-  rises kept later (q ∷ qs) log out (first, others, says, more, mid, one, rest, log_is, out_is) =
-      elim (cases_lt q.0 (next_of kept)) [
-        | inl l ↦ (
-            let k = one.known l in
-            let r = rises mid later qs others more rest in
-            let same : next_of mid ≡ next_of kept = ap next_of k.2 in (
-              subst (Rises (next_of kept)) (sym (log_is ∙ ap (λ x. x ++ others) k.0)) (subst (λ n. Rises n others) same r.0),
-              (let b = r.1 in omega arith),
-            )
-            )
-        | inr l ↦ (
-            let k = one.fresh l in
-            let r = rises mid later qs others more rest in
-            let same : next_of mid ≡ q.0 + 1 = ap next_of k.3 in (
-              subst (Rises (next_of kept)) (sym (log_is ∙ ap (λ x. x ++ others) k.1)) (l, subst (λ n. Rises n others) same r.0),
-              (let b = r.1 in omega arith),
-            )
-            )
-      ]
+  rises _ _ _ _ _ (no_request kept) = (tt, omega arith)
+  rises _ _ _ _ _ (request kept _ later q qs _ others _ out (known l) h) = rises kept later qs others out h
+  rises _ _ _ _ _ (request kept _ later q qs _ others _ out (fresh says l) h) =
+      let r = rises (Some (call q.0 q.1 says)) later qs others out h in ((l, r.0), (let b = r.1 in omega arith))
 
   -- Requests, and then requests.
-  pub serves_then : (kept mid later : Option (Execution Q R)) (qs ps : List (ℕ × Q)) (log more : List (Execution Q R)) (out says : List (ℕ × R))
-      → ServesAll equal passes kept qs log out mid → ServesAll equal passes mid ps more says later → ServesAll equal passes kept (qs ++ ps) (log ++ more) (out ++ says) later
-  serves_then kept mid later [] ps log more out says h k =
-      subst (λ x. ServesAll equal passes x ps (log ++ more) (out ++ says) later) h.2
-      (subst (λ l. ServesAll equal passes mid ps (l ++ more) (out ++ says) later) (sym h.0) (subst (λ o. ServesAll equal passes mid ps more (o ++ says) later) (sym h.1) k))
-  serves_then kept mid later (q ∷ qs) ps log more out says (first, others, one_says, rest_says, next, one, rest, log_is, out_is) k = (
-    first,
-    others ++ more,
-    one_says,
-    rest_says ++ says,
-    next,
-    one,
-    serves_then next mid later qs ps others more rest_says says rest k,
-    ap (λ l. l ++ more) log_is ∙ append_assoc first others more,
-    ap (λ o. o ++ says) out_is ∙ append_assoc one_says rest_says says,
-  )
+  pub serves_then : (kept mid later : Option (Execution Q R)) (qs ps : List (ℕ × Q)) (log logs : List (Execution Q R)) (out says : List (ℕ × R))
+      → ServesAll equal passes kept qs log out mid → ServesAll equal passes mid ps logs says later → ServesAll equal passes kept (qs ++ ps) (log ++ logs) (out ++ says) later
+  serves_then _ _ later _ ps _ logs _ says (no_request kept) k = k
+  serves_then _ _ later _ ps _ logs _ says (request kept next mid q qs first others said out one h) k =
+      rw (append_assoc first others logs, append_assoc said out says)
+      (request kept next later q (qs ++ ps) first (others ++ logs) said (out ++ says) one (serves_then next mid later qs ps others logs out says h k))
+
+  -- One request that isn't executed.
+  knows : (kept later : Option (Execution Q R)) (n : ℕ) (q : Q) (out : List (ℕ × R)) → n < next_of kept
+      → again equal passes kept n q ≡ out → later ≡ kept → ServesAll equal passes kept ((n, q) ∷ []) [] out later
+  knows kept later n q out l is e =
+      rw (e, ← is, ← append-nil (again equal passes kept n q)) (request kept kept kept (n, q) [] [] [] (again equal passes kept n q) [] (known l) (no_request kept))
 
 module _ {A Q R : Type 0} (executes : A → Q → R → A → Type 0) (equal : Q → Q → Bool) (passes : ℕ → ℕ → Option R) (limit : ℕ) (writes : ℕ × R → Option Tree) (valid : ℕ × R → Type 0) where
   -- what such a service does
@@ -187,18 +163,18 @@ module _ {A Q R : Type 0} (executes : A → Q → R → A → Type 0) (equal : Q
 
   -- no request
   pub executes_none : (a : A) (kept : Option (Execution Q R)) (unsent : Bool) (place : SenderPlace) → Makes a a kept kept unsent unsent place place []
-  executes_none a kept unsent place = record { log = []; out = []; fates = []; served = (refl, refl, refl); rises = tt; ran = refl; replied = says_none limit writes valid place; sentinel = refl; told = refl }
+  executes_none a kept unsent place = record { log = []; out = []; fates = []; served = no_request kept; rises = tt; ran = refl; replied = says_none limit writes valid place; sentinel = refl; told = refl }
 
   -- requests, and then requests
   pub executes_then : (a b c : A) (kept mid later : Option (Execution Q R)) (u v w : Bool) (here there end : SenderPlace) (qs ps : List (ℕ × Q))
       → Makes a b kept mid u v here there qs → Makes b c mid later v w there end ps → Makes a c kept later u w here end (qs ++ ps)
   executes_then a b c kept mid later u v w here there end qs ps p q =
-      let served = serves_then equal passes kept mid later qs ps p.log q.log p.out q.out p.served q.served in record {
+      let served = serves_then kept mid later qs ps p.log q.log p.out q.out p.served q.served in record {
         log = p.log ++ q.log;
         out = p.out ++ q.out;
         fates = p.fates ++ q.fates;
         served = served;
-        rises = (rises equal passes kept later (qs ++ ps) (p.log ++ q.log) (p.out ++ q.out) served).0;
+        rises = (rises kept later (qs ++ ps) (p.log ++ q.log) (p.out ++ q.out) served).0;
         ran = folds_then (Runs executes) a b c p.log q.log p.ran q.ran;
         replied = says_then limit writes valid here there end p.out q.out p.fates q.fates p.sentinel p.replied q.replied;
         sentinel = q.sentinel ∙ p.sentinel;
@@ -231,6 +207,27 @@ module _ {A Q R : Type 0} (executes : A → Q → R → A → Type 0) (equal : Q
       by true e = absurd (let d = eqb-true k.number n e in omega (arith, d, l))
       by false e = refl
 
+  -- one request, for which this was said
+  one_said : (old new : A) (kept later : Option (Execution Q R)) (u v : Bool) (here there : SenderPlace)
+      (n : ℕ) (q : Q) (p : ℕ × R) (log : List (Execution Q R)) (x : Result (Unit {0}) SendError)
+      → HasSent limit (writes p) (valid p) here there x
+      → ServesAll equal passes kept ((n, q) ∷ []) log (p ∷ []) later
+      → FoldsTo (Runs executes) old log new → v ≡ unsent_by_result u x
+      → Makes old new kept later u v here there ((n, q) ∷ [])
+  one_said old new kept later u v here there n q p log x h served ran t =
+      let one = says_one limit writes valid p here there x h in
+      record {
+        log = log;
+        out = p ∷ [];
+        fates = one.0 ∷ [];
+        served = served;
+        rises = (rises kept later ((n, q) ∷ []) log (p ∷ []) served).0;
+        ran = ran;
+        replied = one.1;
+        sentinel = h.sentinel;
+        told = t ∙ told_of limit writes valid p here there x h u;
+      }
+
   -- a request for which nothing was done, and of which this was said
   unserved : (old new : A) (kept later : Option (Execution Q R)) (u v : Bool) (here there : SenderPlace) (n : ℕ) (q : Q) (said : Option R) (same : Type 0) (r : Option (Result (Unit {0}) SendError))
       → n < next_of kept → again equal passes kept n q ≡ notices said → later ≡ kept → new ≡ old → (same → there ≡ here)
@@ -241,7 +238,7 @@ module _ {A Q R : Type 0} (executes : A → Q → R → A → Type 0) (equal : Q
         log = [];
         out = [];
         fates = [];
-        served = ([], [], [], [], later, record { known = λ m. (refl, sym is, e); fresh = λ m. absurd (omega (arith, l, m)) }, (refl, refl, refl), refl, refl);
+        served = knows kept later n q [] l is e;
         rises = tt;
         ran = sym stays;
         replied = subst (λ z. SaysAll limit writes valid here z [] []) (sym stands) (says_none limit writes valid here);
@@ -251,18 +248,8 @@ module _ {A Q R : Type 0} (executes : A → Q → R → A → Type 0) (equal : Q
   unserved old new kept later u v here there n q None same (Some r) l is e stays unsaid z t = absurd z
   unserved old new kept later u v here there n q (Some said) same None l is e stays unsaid z t = absurd z
   unserved old new kept later u v here there n q (Some said) same (Some r) l is e stays unsaid z t =
-      let one = says_one limit writes valid (no_call, said) here there r z in
-      record {
-        log = [];
-        out = (no_call, said) ∷ [];
-        fates = one.0 ∷ [];
-        served = ([], [], (no_call, said) ∷ [], [], later, record { known = λ m. (refl, sym is, e); fresh = λ m. absurd (omega (arith, l, m)) }, (refl, refl, refl), refl, refl);
-        rises = tt;
-        ran = sym stays;
-        replied = one.1;
-        sentinel = z.sentinel;
-        told = t ∙ told_of limit writes valid (no_call, said) here there r z u;
-      }
+      one_said old new kept later u v here there n q (no_call, said) [] r z
+      (knows kept later n q ((no_call, said) ∷ []) l is e) (sym stays) t
 
   -- what one request did
   one_served : (old new : A) (kept later : Option (Execution Q R)) (u v : Bool) (here there : SenderPlace) (n : ℕ) (q : Q) (same : Type 0) (r : Served) → (same → there ≡ here)
@@ -271,33 +258,14 @@ module _ {A Q R : Type 0} (executes : A → Q → R → A → Type 0) (equal : Q
   one_served old new kept later u v here there n q same (Executed x) unsaid (l, says, ran, e) (p, f, said) t =
       let is : p ≡ call n q says = which (sym f ∙ e) in
       let said_so = subst (λ (v : Execution Q R). HasSent limit (writes (v.number, v.says)) (valid (v.number, v.says)) here there x) is said in
-      let one = says_one limit writes valid (n, says) here there x said_so in
-      record {
-        log = call n q says ∷ [];
-        out = (n, says) ∷ [];
-        fates = one.0 ∷ [];
-        served = (call n q says ∷ [], [], (n, says) ∷ [], [], later, record { known = λ m. absurd (omega (arith, l, m)); fresh = λ m. (says, refl, refl, e) }, (refl, refl, refl), refl, refl);
-        rises = (l, tt);
-        ran = (new, ran, refl);
-        replied = one.1;
-        sentinel = said.sentinel;
-        told = t ∙ told_of limit writes valid (n, says) here there x said_so u;
-      }
+      let served = request kept _ _ (n, q) [] _ [] _ [] (fresh says l) (no_request (Some (call n q says))) in
+      one_said old new kept later u v here there n q (n, says) (call n q says ∷ []) x said_so (rw e served) (new, ran, refl) t
   one_served old new kept later u v here there n q same (Again x) unsaid ((k, is, numbered, alike), e, stays) (p, f, said) t =
       let kept_is : p ≡ k = which (sym f ∙ e ∙ is) in
       let said_so = subst (λ (v : Execution Q R). HasSent limit (writes (v.number, v.says)) (valid (v.number, v.says)) here there x) kept_is said in
-      let one = says_one limit writes valid (k.number, k.says) here there x said_so in
-      record {
-        log = [];
-        out = (k.number, k.says) ∷ [];
-        fates = one.0 ∷ [];
-        served = ([], [], (k.number, k.says) ∷ [], [], later, record { known = λ m. (refl, sym (ap (λ o. again equal passes o n q) is ∙ said_again k n q numbered alike), e); fresh = λ m. absurd (let d : next_of kept ≡ k.number + 1 = ap next_of is in omega (arith, d, m, numbered)) }, (refl, refl, refl), refl, refl);
-        rises = tt;
-        ran = sym stays;
-        replied = one.1;
-        sentinel = said.sentinel;
-        told = t ∙ told_of limit writes valid (k.number, k.says) here there x said_so u;
-      }
+      let below : n < next_of kept = (let d : next_of kept ≡ k.number + 1 = ap next_of is in omega (arith, d, numbered)) in
+      one_said old new kept later u v here there n q (k.number, k.says) [] x said_so
+      (knows kept later n q ((k.number, k.says) ∷ []) below (ap (λ o. again equal passes o n q) is ∙ said_again k n q numbered alike) e) (sym stays) t
   one_served old new kept later u v here there n q same (Other r) unsaid ((k, is, numbered, differs), e, stays) (p, f, z) t =
       let kept_is : p ≡ k = which (sym f ∙ e ∙ is) in
       unserved old new kept later u v here there n q (passes n k.number) same r (let d : next_of kept ≡ k.number + 1 = ap next_of is in omega (arith, d, numbered)) (ap (λ o. again equal passes o n q) is ∙ not_again k n q differs) e stays unsaid

@@ -8,10 +8,10 @@ use Rattle.link.specs.declared.sender.SendError.{SendError}
 use Rattle.link.specs.declared.session.Fate.{Fate}
 use Rattle.link.specs.declared.session.Fate.TheVariants.{Done, Refused, Broken}
 use Rattle.link.specs.declared.receiver.Answer.{Answer}
-use Rattle.link.specs.declared.receiver.Answer.TheVariants.{Value, Damaged, TooLong, Cut}
+use Rattle.link.specs.declared.receiver.Answer.TheVariants.{Value}
 use Rattle.calls.specs.Calls.{Execution, call, next_of, no_call, ServesAll, Rises}
 use Rattle.link.specs.Senders.{SenderPlace, sender_place}
-use Rattle.calls.specs.Places.{SaysAll}
+use Rattle.link.specs.Fates.{SendsAll}
 use Rattle.calls.specs.declared.server.Server.{Server}
 use Rattle.calls.specs.declared.server.LastCall.{LastCall}
 use Rattle.calls.specs.declared.service.Service.{Service}
@@ -32,6 +32,11 @@ kept_of s = kept_as s.last
 -- what sends the replies
 abbrev pub sender_of : {W Q R : Type 0} {N : ℕ} → Server W Q R N → Sender W N
 sender_of s = s.sender
+
+-- Messages were sent one after another, with these fates: they are one session of link's.
+abbrev pub SaysAll : {V : Type 0} → ℕ → (V → Option Tree) → (V → Type 0) → SenderPlace → SenderPlace → List V → List Fate → Type 0
+SaysAll limit writes valid old new messages fates =
+    SendsAll limit old.sentinel writes valid old.clean new.clean old.line new.line messages fates
 
 -- what an execution makes of an application
 abbrev pub Runs : {A Q R : Type 0} → (A → Q → R → A → Type 0) → A → Execution Q R → A → Type 0
@@ -94,9 +99,7 @@ unsent_of unsent (f ∷ fates) = unsent_of (unsent_by_fate unsent f) fates
 abbrev pub requests_of : {V : Type 0} → List (Answer V) → List V
 requests_of [] = []
 requests_of (Value v ∷ more) = v ∷ requests_of more
-requests_of (Damaged ∷ more) = requests_of more
-requests_of (TooLong ∷ more) = requests_of more
-requests_of (Cut ∷ more) = requests_of more
+requests_of (_ ∷ more) = requests_of more
 
 -- What was executed of requests, and replied: some of them, in their order, each number once at most and above those before; the
 -- replies are one session. Whether one of them wasn't sent whole is told.
@@ -114,9 +117,7 @@ pub record Executes {A Q R : Type 0} (executes : A → Q → R → A → Type 0)
 -- One answer of the line: a request is served, and anything else changes nothing.
 abbrev pub TakesAnswer : {A Q R : Type 0} → (A → Q → R → A → Type 0) → (Q → Q → Bool) → (ℕ → ℕ → Option R) → A → A → Option (Execution Q R) → Option (Execution Q R) → Bool → Bool → (same : Type 0) → (ℕ × R → Result (Unit {0}) SendError → Type 0) → Answer (ℕ × Q) → Type 0
 TakesAnswer executes equal passes old new kept later unsent unsent' same sends (Value p) = (r : Served) × IsServed executes equal old new kept later p.0 p.1 r × IsReplied passes same sends later p.0 r × (unsent' ≡ unsent_by unsent r)
-TakesAnswer executes equal passes old new kept later unsent unsent' same sends Damaged = (new ≡ old) × (later ≡ kept) × same × (unsent' ≡ unsent)
-TakesAnswer executes equal passes old new kept later unsent unsent' same sends TooLong = (new ≡ old) × (later ≡ kept) × same × (unsent' ≡ unsent)
-TakesAnswer executes equal passes old new kept later unsent unsent' same sends Cut = (new ≡ old) × (later ≡ kept) × same × (unsent' ≡ unsent)
+TakesAnswer executes equal passes old new kept later unsent unsent' same sends _ = (new ≡ old) × (later ≡ kept) × same × (unsent' ≡ unsent)
 
 -- what a service makes of the answers of a line
 abbrev pub ServiceHears : {A W Q R : Type 0} {N : ℕ} → (A → Q → R → A → Type 0) → (Q → Q → Bool) → (ℕ → ℕ → Option R) → (W → LineState) → (ℕ × R → Option Tree) → (ℕ × R → Type 0) → Service A W Q R N → List (Answer (ℕ × Q)) → Service A W Q R N → Type 0

@@ -3,7 +3,7 @@ use Rattle.std.specs.Prelude.{◌≡◌, ℕ, Bool, is_none, ◌==◌, if◌then
 use Rattle.std.proofs.Common.{◌++◌, refl, sym, ap, ◌∙◌}
 use Rattle.link.specs.Each.{HearerLaws}
 use Rattle.link.specs.declared.receiver.Answer.{Answer}
-use Rattle.link.specs.declared.receiver.Answer.TheVariants.{Value, Damaged, TooLong, Cut}
+use Rattle.link.specs.declared.receiver.Answer.TheVariants.{Value}
 use Rattle.calls.specs.Asking.{Asker, asker_of, number_of, sender_of, stepped, ends}
 use Rattle.calls.specs.declared.waiting.Waiting.{Waiting}
 
@@ -28,9 +28,7 @@ after_reply w (Some p) n r = if n == p.0 then record { asker = stepped w.asker e
 -- an answer of the line: only a reply changes anything
 abbrev pub after_answer : {Q R : Type 0} → Waiter Q R → Answer (ℕ × R) → Waiter Q R
 after_answer w (Value p) = after_reply w w.asker.pending p.0 p.1
-after_answer w Damaged = w
-after_answer w TooLong = w
-after_answer w Cut = w
+after_answer w _ = w
 
 -- answers one after another
 abbrev pub after_answers : {Q R : Type 0} → Waiter Q R → List (Answer (ℕ × R)) → Waiter Q R

@@ -1,8 +1,7 @@
 -- What one call over two lines makes of the application.
 use Rattle.std.proofs.Common.{◌≡◌, ◌<◌, ℕ, Bool, List, [], ◌∷◌, map, Option, Some, None, refl, sym, ap, ◌∙◌, subst, inl, inr, ◌⊎◌, arith}
 use Rattle.std.specs.Prelude.{IfSome}
-use Rattle.std.specs.List.{AllByRecursion, AllZip, FoldsTo, zip}
-use Rattle.std.proofs.lemmas.Bool.{cases_lt}
+use Rattle.std.specs.List.{AllZip, FoldsTo, zip}
 use Rattle.std.proofs.lemmas.List.{append-nil}
 use Rattle.postcard_tree.specs.Tree.{Tree}
 use Rattle.postcard_tree.specs.Alike.{AlikePairs}
@@ -11,12 +10,11 @@ use Rattle.link.specs.Fates.{IsSendOf}
 use Rattle.link.specs.declared.receiver.Answer.{Answer}
 use Rattle.link_laws.specs.Values.{runs_of, values_sent}
 use Rattle.link_laws.specs.Sessions.{all_sent, no_session, then_session, takes_run, all_written}
-use Rattle.calls.specs.Calls.{Execution, next_of, no_call, ServesAll, Rises, In, OnePerNumber, ExecutesOnce}
+use Rattle.calls.specs.Calls.{Execution, call, no_call, ServesAll, known, fresh, no_request, request, Rises, In, OnePerNumber, ExecutesOnce}
 use Rattle.calls.specs.Serving.{Runs, requests_of}
 use Rattle.calls_laws.specs.Heard.{HearsSent}
 use Rattle.calls_laws.specs.Headline.{WentOver, WasExecuted, RepliesAreRight}
 use Rattle.calls_laws.specs.Exchange.{ExecutedOnce, ExecutedAtMostOnce, LeftBy, HeardFront, AsksOnly, ServesLine, TakesReply}
-use Rattle.calls.specs.ServedLaws.{in_joined as in_parts}
 
 -- the values of a session are its messages
 values_beside : {V : Type 0} (P : V → Send → Type 0) (values : List V) (xs : List Send) → AllZip P values xs → map (λ (c : V × Send). c.0) (zip values xs) ≡ values
@@ -39,28 +37,19 @@ module _ {V : Type 0} (takes : Tree → Type 0) (holds : List ℕ → Tree → T
   sent_are messages bytes l =
       append-nil (map (λ (c : V × Send). c.0) (zip messages l.said.sends)) ∙ values_beside (λ v x. IsSendOf limit (writes v) (valid v) x) messages l.said.sends l.said.of
 
--- all that are in a list of one alone are that one
-in_only : {V : Type 0} (x : V) (xs : List V) → AllByRecursion (λ m. m ≡ x) xs → (y : V) → In y xs → y ≡ x
-in_only x [] h y i = absurd i
-in_only x (z ∷ xs) h y (inl e) = e ∙ h.0
-in_only x (z ∷ xs) h y (inr i) = in_only x xs h.1 y i
-
 module _ {Q R : Type 0} where
   -- what was executed was heard
-  was_heard : (equal : Q → Q → Bool) (passes : ℕ → ℕ → Option R) (kept later : Option (Execution Q R)) (qs : List (ℕ × Q)) (log : List (Execution Q R)) (out : List (ℕ × R)) → ServesAll equal passes kept qs log out later → (e : Execution Q R) → In e log → In (e.number, e.asks) qs
-  was_heard equal passes kept later [] log out h e i = absurd (subst (In e) h.0 i)
-  was_heard equal passes kept later (q ∷ qs) log out (first, others, says, more, mid, one, rest, log_is, out_is) e i =
-      elim (in_parts e first others (subst (In e) log_is i)) [
-        | inr k ↦ inr (was_heard equal passes mid later qs others more rest e k)
-        | inl k ↦ elim (cases_lt q.0 (next_of kept)) [
-          | inl l ↦ absurd (subst (In e) (one.known l).0 k)
-          | inr l ↦ inl (here e q ((one.fresh l).0) (subst (In e) (one.fresh l).1 k))
-        ]
-      ]
-    where
-      here : (e : Execution Q R) (q : ℕ × Q) (says : R) → In e ((let x : Execution Q R = record { number = q.0; asks = q.1; says = says } in x) ∷ []) → ◌≡◌ {A = ℕ × Q} (e.number, e.asks) q
-      here e q says (inl f) = ap (λ (x : Execution Q R). let p : ℕ × Q = (x.number, x.asks) in p) f
-      here e q says (inr f) = absurd f
+  was_heard : {equal : Q → Q → Bool} {passes : ℕ → ℕ → Option R} (kept later : Option (Execution Q R))
+      (qs : List (ℕ × Q)) (log : List (Execution Q R)) (out : List (ℕ × R))
+      → ServesAll equal passes kept qs log out later → (e : Execution Q R) → In e log
+      → In (e.number, e.asks) qs
+  was_heard _ _ _ _ _ (no_request kept) e i = absurd i
+  was_heard _ _ _ _ _ (request kept _ later q qs _ log _ out (known l) h) e i =
+      inr (was_heard kept later qs log out h e i)
+  was_heard _ _ _ _ _ (request kept _ later q qs _ log _ out (fresh says l) h) e (inl f) =
+      inl (rw f refl)
+  was_heard _ _ _ _ _ (request kept _ later q qs _ log _ out (fresh says l) h) e (inr i) =
+      inr (was_heard (Some (call q.0 q.1 says)) later qs log out h e i)
 
   -- executions that rise and have one number alone are one at most
   at_most_one : (n m : ℕ) (log : List (Execution Q R)) → Rises m log → ((e : Execution Q R) → In e log → e.number ≡ n) → (log ≡ []) ⊎ ((e : Execution Q R) × (log ≡ e ∷ []))
@@ -81,11 +70,16 @@ module _ {A Q R : Type 0} (executes : A → Q → R → A → Type 0) (equal : Q
   heard_alike w i =
       let over = went_over takes holds reads writes valid taken limit s asks.messages requests serves.heard asks.left serves.over in
       let v = hears limit s (zip asks.messages asks.left.said.sends ∷ []) serves.heard over.front over.rest over.is over.of over.parts over.heard w i in
-      let same : v.0 ≡ x = in_only x asks.messages asks.only v.0 (subst (In v.0) (sent_are takes holds reads writes valid taken limit s asks.messages requests asks.left) v.1) in
+      let sent = sent_are takes holds reads writes valid taken limit s asks.messages requests asks.left in
+      let same : v.0 ≡ x = asks.only v.0 (subst (In v.0) sent v.1) in
       (sym (ap (λ p. p.0) same) ∙ v.2.0, subst (λ p. alike_asked p.1 w.1) same v.2.1)
 
+  alike_executed : (e : Execution Q R) → In e serves.log → (x.0 ≡ e.number) × alike_asked x.1 e.asks
+  alike_executed e i =
+      heard_alike (e.number, e.asks) (was_heard None serves.later _ serves.log serves.out serves.served e i)
+
   numbered : (e : Execution Q R) → In e serves.log → e.number ≡ x.0
-  numbered e i = sym (heard_alike (e.number, e.asks) (was_heard equal passes None serves.later (requests_of serves.heard) serves.log serves.out serves.served e i)).0
+  numbered e i = sym (alike_executed e i).0
 
   rising : Rises 0 serves.log
   rising = (once equal passes None serves.later (requests_of serves.heard) serves.log serves.out serves.served).0
@@ -105,13 +99,13 @@ module _ {A Q R : Type 0} (executes : A → Q → R → A → Type 0) (equal : Q
       asks = one.0.asks;
       says = one.0.says;
       executed = ran_one serves.log one.0 one.1 serves.ran;
-      asks_alike = (heard_alike (one.0.number, one.0.asks) (was_heard equal passes None serves.later (requests_of serves.heard) serves.log serves.out serves.served one.0 (subst (In one.0) (sym one.1) (inl refl)))).1;
+      asks_alike = (alike_executed one.0 (subst (In one.0) (sym one.1) (inl refl))).1;
       says_so = tt;
     })
   ]
 
   one_number : OnePerNumber asks.messages
-  one_number a b i j e = in_only x asks.messages asks.only a i ∙ sym (in_only x asks.messages asks.only b j)
+  one_number a b i j e = asks.only a i ∙ sym (asks.only b j)
 
   -- the reply that was taken, by the law of whole lines
   taken_was_said : (r : R) → TakesReply holds' reads' limit' s' pending replies r → WasExecuted alike_asked alike_said 0 serves.log x.0 x.1 r
@@ -149,22 +143,9 @@ module _ {A Q R : Type 0} (executes : A → Q → R → A → Type 0) (equal : Q
             )
       ]
 
-module _ {A Q R : Type 0} (executes : A → Q → R → A → Type 0) (equal : Q → Q → Bool) (passes : ℕ → ℕ → Option R) (alike_asked : Q → Q → Type 0) (alike_said : R → R → Type 0)
-    {takes : Tree → Type 0} {holds : List ℕ → Tree → Type 0} {reads : Tree → ℕ × Q → Type 0} {writes : ℕ × Q → Option Tree} {valid : ℕ × Q → Type 0}
-    {takes' : Tree → Type 0} {holds' : List ℕ → Tree → Type 0} {reads' : Tree → ℕ × R → Type 0} {writes' : ℕ × R → Option Tree} {valid' : ℕ × R → Type 0}
-    (taken : (v : ℕ × Q) (t : Tree) → valid v → writes v ≡ Some t → takes t) (taken' : (v : ℕ × R) (t : Tree) → valid' v → writes' v ≡ Some t → takes' t)
-    (hears : HearsSent takes holds reads (AlikePairs (λ m m'. m ≡ m') alike_asked) writes valid) (once : ExecutesOnce Q R)
-    (right : RepliesAreRight alike_asked alike_said (WentOver takes holds reads writes valid) (WentOver takes' holds' reads' writes' valid'))
-    {limit s limit' s' : ℕ} {old new : A} {x : ℕ × Q} {pending : Option (ℕ × Q)} {requests requests' replies replies' : List ℕ} where
   -- what came of a call: the reply, where one was taken, and what the application did
-  pub outcome : AsksOnly limit s writes valid x pending requests → ServesLine executes equal passes holds reads writes' valid' limit s limit' s' old new requests' replies → requests' ≡ requests → replies' ≡ replies
-      → (said : Option R) → IfSome said (TakesReply holds' reads' limit' s' pending replies')
-      → IfSome said (λ r. ExecutedOnce executes alike_asked old new x.1 (λ says. alike_said says r)) × ExecutedAtMostOnce {R = R} executes alike_asked old new x.1
-  outcome asks serves e f said takes_it =
-      let there = subst (λ b. ServesLine executes equal passes holds reads writes' valid' limit s limit' s' old new b replies) e serves in
-      (of said takes_it there, executed_at_most_once executes equal passes alike_asked alike_said taken taken' hears once right asks there)
-    where
-      of : (o : Option R) → IfSome o (TakesReply holds' reads' limit' s' pending replies') → ServesLine executes equal passes holds reads writes' valid' limit s limit' s' old new requests replies
-          → IfSome o (λ r. ExecutedOnce executes alike_asked old new x.1 (λ says. alike_said says r))
-      of None t there = tt
-      of (Some r) t there = reply_is_right executes equal passes alike_asked alike_said taken taken' hears once right asks there r (subst (λ b. TakesReply holds' reads' limit' s' pending b r) f t)
+  pub outcome : (said : Option R) → IfSome said (TakesReply holds' reads' limit' s' pending replies)
+      → IfSome said (λ r. ExecutedOnce executes alike_asked old new x.1 (λ says. alike_said says r))
+      × ExecutedAtMostOnce {R = R} executes alike_asked old new x.1
+  outcome None t = (tt, executed_at_most_once)
+  outcome (Some r) t = (reply_is_right r t, executed_at_most_once)

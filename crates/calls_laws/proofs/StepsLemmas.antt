@@ -1,14 +1,12 @@
 -- What each side of an exchange does, by what the calls say.
 use Rattle.std.proofs.Common.{◌≡◌, ◌<◌, ℕ, Bool, true, false, cond, eqb, if◌then◌else◌, List, [], ◌∷◌, ◌++◌, Option, Some, None, Result, Ok, Err, refl, sym, ap, ◌∙◌, subst, inl, inr, ◌⊎◌}
-use Rattle.std.specs.List.{AllByRecursion}
 use Rattle.std.specs.Prelude.{IfSome}
 use Rattle.std.proofs.lemmas.Bool.{eqb-true}
 use Rattle.postcard_tree.specs.Tree.{Tree}
 use Rattle.line_io.specs.Device.{LineState}
-use Rattle.line_io.specs.Transfers.{HasRead}
 use Rattle.link.specs.Decoding.{Inside}
 use Rattle.link.specs.Listening.{IsReceived, HasGiven}
-use Rattle.link.specs.Each.{HasReadNow, IsHeardNow}
+use Rattle.link.specs.Each.{HasReadNow, IsHeardNow, gave_now}
 use Rattle.link.specs.declared.reception.Reception.{Reception}
 use Rattle.link.specs.declared.sender.SendError.{SendError}
 use Rattle.link.specs.declared.receiver.Answer.{Answer}
@@ -19,7 +17,7 @@ use Rattle.calls.specs.Calls.{Execution, no_call, In, ServesAll}
 use Rattle.link.specs.Senders.{SenderPlace, HasSent}
 use Rattle.calls.specs.Asking.{Asker, stepped, calls, ends, IsCalled, IsRepeated}
 use Rattle.calls.specs.Serving.{requests_of, Executes}
-use Rattle.calls.specs.ServedLaws.{in_first, which as inside, says_none, says_one, says_then}
+use Rattle.calls.specs.ServedLaws.{in_first, in_joined, alone, which as inside, says_none, says_one, says_then}
 use Rattle.calls.specs.Waits.{Waiter, is_over, anew, after_reply, after_answers}
 use Rattle.calls.specs.declared.client.CallError.{CallError}
 use Rattle.calls.specs.declared.client.CallError.TheVariants.{Full, Idle, Unsent}
@@ -36,7 +34,7 @@ module _ {Q : Type 0} (limit : ℕ) (writes : ℕ × Q → Option Tree) (valid :
         fates = x.0 ∷ [];
         said = x.1;
         sentinel = h.sentinel;
-        only = (refl, tt);
+        only = λ m i. alone _ m i;
         sent = λ p f. (inside (sym f ∙ ap (λ (a : Asker Q). a.pending) e), inl refl);
         numbered = λ p f. subst (λ (x : ℕ × Q). x.0 < no_call) (inside (sym (ap (λ (a : Asker Q). a.pending) e) ∙ f)) l;
       }
@@ -51,15 +49,11 @@ module _ {Q : Type 0} (limit : ℕ) (writes : ℕ × Q → Option Tree) (valid :
         fates = [];
         said = says_none limit writes valid P;
         sentinel = refl;
-        only = tt;
+        only = λ m i. absurd i;
         sent = λ p f. absurd (let no : ◌≡◌ {A = Option (ℕ × Q)} None (Some p) = sym idle ∙ sym (ap (λ (a : Asker Q). a.pending) h.0) ∙ f in cc);
         numbered = λ p f. absurd (let no : ◌≡◌ {A = Option (ℕ × Q)} None (Some p) = sym idle ∙ sym (ap (λ (a : Asker Q). a.pending) h.0) ∙ f in cc);
       })
   called old new q (Err Idle) P P' same stays idle h = absurd h
-
-  all_more : (x p : ℕ × Q) (ms : List (ℕ × Q)) → AllByRecursion (λ m. m ≡ x) ms → p ≡ x → AllByRecursion (λ m. m ≡ x) (ms ++ (p ∷ []))
-  all_more x p [] h e = (e, tt)
-  all_more x p (m ∷ ms) h e = (h.0, all_more x p ms h.1 e)
 
   one_more : (x p : ℕ × Q) (old new : Asker Q) (r : Result (Unit {0}) SendError) (P0 P P' : SenderPlace) → Repeats limit writes valid x old.pending P0 P → new ≡ old → old.pending ≡ Some p
       → HasSent limit (writes p) (valid p) P P' r → Repeats limit writes valid x new.pending P0 P'
@@ -70,7 +64,10 @@ module _ {Q : Type 0} (limit : ℕ) (writes : ℕ × Q → Option Tree) (valid :
         fates = k.fates ++ (one.0 ∷ []);
         said = says_then limit writes valid P0 P P' k.messages (p ∷ []) k.fates (one.0 ∷ []) k.sentinel k.said one.1;
         sentinel = h.sentinel ∙ k.sentinel;
-        only = all_more x p k.messages k.only (k.sent p is).0;
+        only = λ m i. elim (in_joined m k.messages (p ∷ []) i) [
+          | inl j ↦ k.only m j
+          | inr j ↦ alone p m j ∙ (k.sent p is).0
+        ];
         sent = λ q f. let z = k.sent q (sym (ap (λ (a : Asker Q). a.pending) e) ∙ f) in (z.0, in_first x k.messages (p ∷ []) z.1);
         numbered = λ q f. k.numbered q (sym (ap (λ (a : Asker Q). a.pending) e) ∙ f);
       }
@@ -89,15 +86,10 @@ abbrev pub telling : List ℕ → ℕ → ℕ → LineState
 telling bytes faults calls_left = record { told = Some bytes; faults = faults; calls_left = calls_left }
 
 -- it gave a front of that
-pub front_read : (end : End) (old new : List ℕ) (f g c d : ℕ) (bytes : List ℕ) → HasRead (telling old f c) (telling new g d) end bytes → old ≡ bytes ++ new
-front_read Ended old new f g c d bytes h = h.0.came
-front_read ReadFault old new f g c d bytes h = h.0.came
-front_read NoMemory old new f g c d bytes h = h.0.came
-
--- the same where there may be more
-front_so_far : (end : Option End) (old new : List ℕ) (f g c d : ℕ) (bytes : List ℕ) → HasReadNow (telling old f c) (telling new g d) end bytes → old ≡ bytes ++ new
-front_so_far None old new f g c d bytes h = h.0.came
-front_so_far (Some end) old new f g c d bytes h = front_read end old new f g c d bytes h
+pub front_read : (end : Option End) (old new : List ℕ) (f g c d : ℕ) (bytes : List ℕ)
+    → HasReadNow (telling old f c) (telling new g d) end bytes → old ≡ bytes ++ new
+front_read end old new f g c d bytes h =
+    (gave_now (telling old f c) (telling new g d) end bytes h).came
 
 module _ {D V : Type 0} (inside : D → Inside) (holds : List ℕ → Tree → Type 0) (reads : Tree → V → Type 0) (limit s : ℕ) (r : Reception D) (bytes : List ℕ) (answers : List (Answer V)) where
   -- nothing was lost
@@ -113,7 +105,12 @@ module _ {D V : Type 0} (inside : D → Inside) (holds : List ℕ → Tree → T
   -- What was heard, of a reader that tells what comes.
   pub heard_of : (end : Option End) (all old new : List ℕ) (f g c d : ℕ) → old ≡ all
       → HasReadNow (telling old f c) (telling new g d) end bytes → IsHeardNow inside holds reads limit s true end r answers bytes → HeardFront holds reads limit s all answers
-  heard_of end all old new f g c d e k h = record { front = bytes; rest = new; parts = sym e ∙ front_so_far end old new f g c d bytes k; heard = inr (heard_on end h) }
+  heard_of end all old new f g c d e k h = record {
+    front = bytes;
+    rest = new;
+    parts = sym e ∙ front_read end old new f g c d bytes k;
+    heard = inr (heard_on end h);
+  }
 
 module _ {Q R : Type 0} where
   -- a reply was said to a client that waits: before these answers, or by one of them to its pending call

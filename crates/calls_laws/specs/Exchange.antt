@@ -1,14 +1,13 @@
 -- One call over two lines: what each side did, and what it means to the application.
 use Rattle.std.specs.Prelude.{◌≡◌, ◌⊎◌, ◌<◌, ℕ, Bool, List, [], ◌++◌, false, Option, Some, None}
 use Rattle.std.specs.Borrow.{RattleType}
-use Rattle.std.specs.List.{FoldsTo, AllByRecursion}
+use Rattle.std.specs.List.{FoldsTo}
 use Rattle.std.specs.Mem.{FitsInMemory}
 use Rattle.postcard_tree.specs.Tree.{Tree}
 use Rattle.link.specs.Listening.{ReceiverFitsInMemory}
 use Rattle.calls.specs.Calls.{Execution, no_call, ServesAll, In}
 use Rattle.link.specs.Senders.{SenderPlace}
-use Rattle.calls.specs.Places.{SaysAll}
-use Rattle.calls.specs.Serving.{Runs, requests_of}
+use Rattle.calls.specs.Serving.{SaysAll, Runs, requests_of}
 use Rattle.link.specs.declared.session.Fate.{Fate}
 use Rattle.link.specs.declared.receiver.Answer.{Answer}
 use Rattle.calls_laws.specs.Heard.{WasHeard}
@@ -55,7 +54,7 @@ pub record Repeats {Q : Type 0} (limit : ℕ) (writes : ℕ × Q → Option Tree
   pub fates : List Fate
   pub said : SaysAll limit writes valid start stop messages fates
   pub sentinel : stop.sentinel ≡ start.sentinel
-  pub only : AllByRecursion (λ m. m ≡ asked) messages
+  pub only : (m : ℕ × Q) → In m messages → m ≡ asked
   pub sent : (p : ℕ × Q) → pending ≡ Some p → (p ≡ asked) × In asked messages
   pub numbered : (p : ℕ × Q) → pending ≡ Some p → p.0 < no_call
 
@@ -63,7 +62,7 @@ pub record Repeats {Q : Type 0} (limit : ℕ) (writes : ℕ × Q → Option Tree
 pub record AsksOnly {Q : Type 0} (limit s : ℕ) (writes : ℕ × Q → Option Tree) (valid : ℕ × Q → Type 0) (asked : ℕ × Q) (pending : Option (ℕ × Q)) (bytes : List ℕ) : Type 0 where
   pub messages : List (ℕ × Q)
   pub left : LeftBy limit s writes valid messages bytes
-  pub only : AllByRecursion (λ m. m ≡ asked) messages
+  pub only : (m : ℕ × Q) → In m messages → m ≡ asked
   pub sent : (p : ℕ × Q) → pending ≡ Some p → (p ≡ asked) × In asked messages
   pub numbered : (p : ℕ × Q) → pending ≡ Some p → p.0 < no_call
 

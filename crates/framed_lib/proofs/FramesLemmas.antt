@@ -46,7 +46,9 @@ module _ (hex : Bool) (sentinel : ℕ) where
   framed-parts : (done later : List Send) → text_of_all (done ++ later) ≡ shown_of done ++ later-shown done later
   framed-parts done later =
       let a = session_line sentinel false done in let b = session_line sentinel (clean_after_all false done) later in
-      ap (λ x. shown hex x ++ shown_end hex) (line_then sentinel false done later) ∙ (ap (λ x. x ++ shown_end hex) (shown-append hex a b) ∙ append_assoc (shown hex a) (shown hex b) (shown_end hex))
+      ap (λ x. shown hex x ++ shown_end hex) (line_then sentinel false done later)
+      ∙ (ap (λ x. x ++ shown_end hex) (shown-append hex a b)
+      ∙ append_assoc (shown hex a) (shown hex b) (shown_end hex))
 
   all-shown : (text rest : List ℕ) (done sends : List Send) → Sent text rest done → length rest ≡ 0 → AreSendsOf (lines_in text) sends → text_of_all sends ≡ shown_of done ++ shown_end hex
   all-shown text rest done sends s none a =

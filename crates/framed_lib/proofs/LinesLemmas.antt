@@ -91,7 +91,8 @@ same Cut v m = rw m (refl, refl)
 
 pub all-same : {A : Type 0} → (answers : List (Answer (String A))) (verdicts : List Verdict)
     → AllZip (Matches reads_text) answers verdicts
-    → (answer_lines answers ≡ lines_of verdicts) × (list_all has_value answers ≡ list_all is_value verdicts)
+    → (answer_lines answers ≡ lines_of verdicts)
+    × (list_all has_value answers ≡ list_all is_value verdicts)
 all-same [] [] h = (refl, refl)
 all-same [] (v ∷ vs) h = absurd h
 all-same (a ∷ more) [] h = absurd h

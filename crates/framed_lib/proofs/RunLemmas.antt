@@ -9,6 +9,7 @@ use Rattle.line_io.specs.Calls.{WentOut-then, BrokeOff-then}
 use Rattle.line_io.specs.declared.transfers.End.{End}
 use Rattle.framed_lib.specs.Program.{Program, Due, CarriesOut, DeviceFails, SayingFails, RunEnds, Behind}
 use Rattle.framed_lib.specs.Working.{Worked, Reports}
+use Rattle.framed_lib.proofs.WorkLemmas.{carried}
 
 low : (b : Bool) (status : ℕ) → status ≡ (if b then 0 else 1) → status < 3
 low true status e = omega arith
@@ -25,16 +26,8 @@ module _ (way : Option Bool) (hex : Bool) (sentinel : ℕ) (r : Option End → L
     (w : Fate → List ℕ → Type 0) (start mid new : LineState) where
   said_so : {due : Due} {fate : Fate} {v t : List ℕ → Type 0} → ((said : List ℕ) → v said → t said)
       → CarriesOut way hex sentinel r w due fate v → CarriesOut way hex sentinel r w due fate t
-  said_so f h = record {
-    end = h.end;
-    text = h.text;
-    out = h.out;
-    said = h.said;
-    is = h.is;
-    read = h.read;
-    wrote = h.wrote;
-    told = f h.said h.told;
-  }
+  said_so f h =
+      carried h.end h.text h.out h.said h.is h.read h.wrote (f h.said h.told)
 
   -- a last line that was said, and one that wasn't
   told : {due : Due} {fate : Fate} {line : List ℕ} → Writing mid new whole line
@@ -71,7 +64,8 @@ module _ (way : Option Bool) (hex : Bool) (sentinel : ℕ) (r : Option End → L
         range = omega (arith, p.0);
       }
   ends (Err stop.ReadFault) status h (inl p) = fails status p.0 (inl (inl (told p.1 h)))
-  ends (Err stop.ReadFault) status h (inr p) = fails status p.0 (inr (inr (inl (inl (untold p.1 h)))))
+  ends (Err stop.ReadFault) status h (inr p) =
+      fails status p.0 (inr (inr (inl (inl (untold p.1 h)))))
   ends (Err stop.WriteFault) status h (inl p) = fails status p.0 (inl (inr (told p.1 h)))
   ends (Err stop.WriteFault) status h (inr p) =
       fails status p.0 (inr (inr (inl (inr (untold p.1 h)))))

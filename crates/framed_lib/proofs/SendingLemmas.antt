@@ -8,9 +8,8 @@ use Rattle.std.proofs.lemmas.List.Splits.{slice_split_at, slice_split_none, leng
 use Rattle.link.specs.Run.{Send, completed, refused, broken, written, clean_after, session_line}
 use Rattle.link.specs.Fates.{clean_after_all}
 use Rattle.link.specs.Lemmas.SendLaws.{clean_then, line_then}
-use Rattle.framed_lib.specs.Pieces.{LacksMark, pieces}
 use Rattle.framed_lib.specs.Program.{SaysFirst}
-use Rattle.framed_lib.specs.Sending.{filled, lines_in, IsSendOfLine, AreSendsOf, is_whole, said_of, refusals, Sent}
+use Rattle.framed_lib.specs.Sending.{LacksMark, pieces, filled, lines_in, IsSendOfLine, AreSendsOf, is_whole, said_of, refusals, Sent}
 use Rattle.std.specs.Str.{IsUtf8}
 use Rattle.std.proofs.Math.Seq.{take-append_seam, drop-append-add, get_or-append_seam}
 use Rattle.std.proofs.lemmas.Str.{IsUtf8-take, IsUtf8-drop, IsCharBoundary-before_ascii, IsCharBoundary-after_ascii}
@@ -120,17 +119,6 @@ refusals-more n done x e =
 
 pub all-more : (good sent : Bool) (done : List Send) (x : Send) → good ≡ list_all is_whole done → sent ≡ is_whole x → good && sent ≡ list_all is_whole (done ++ x ∷ [])
 all-more good sent done x g s = rw (g, s) (ap (λ b. list_all is_whole done && b) (sym (and-true (is_whole x))) ∙ sym (list_all-append is_whole done (x ∷ [])))
-
-module _ (text rest line : List ℕ) (later : List (List ℕ)) (number : ℕ) (done : List Send) (p : Sent text rest done) (next : lines_in rest ≡ line ∷ later)
-    (n : number ≡ length done + 1) (breaks untold : List ℕ → Type 0)
-    (fail : (x : Send) → breaks (said_of number x) → untold (refusals 1 done ++ said_of number x)) where
-  -- a line that ends the work on all lines
-  pub stops : (x : Send) × IsSendOfLine line x × breaks (said_of number x) → (said : List ℕ) × SaysFirst text said × untold said
-  stops h = (
-    refusals 1 (done ++ h.0 ∷ []),
-    Sent-first text rest line later done h.0 p next h.1,
-    rw (refusals-more number done h.0 n) (fail h.0 h.2),
-  )
 
 -- What comes of a line is one thing
 

@@ -37,7 +37,8 @@ unpacked strict hex sentinel text stream verdicts good h a g = inl (record {
   status_is = ap (λ x. if x then 0 else 1) g;
 })
 
--- bytes that lie in memory were read to their end, or a front of them before a value that found no memory
+-- Bytes that lie in memory were read to their end, or a front of them before a value that found
+-- no memory.
 abbrev pub ReadsWhole : List ℕ → Option End → List ℕ → Type 0
 ReadsWhole stream (Some Ended) bytes = stream ≡ bytes
 ReadsWhole stream (Some NoMemory) bytes = (rest : List ℕ) × (stream ≡ bytes ++ rest)
@@ -81,17 +82,19 @@ module _ (strict : Bool) (sentinel : ℕ) (text : List ℕ) (r : Option End → 
         → ReadsWhole stream e bytes → TellsAnswers strict sentinel e bytes good written w
         → Worked (Some strict) true sentinel r w t (outcome_of e written good)
     digits-worked (Some Ended) bytes (Ok u) s a =
-        let p = unpacked strict true sentinel text bytes a.verdicts good (rw s at h) a.are a.values in
+        let h = (rw s at h) in
+        let p = unpacked strict true sentinel text bytes a.verdicts good h a.are a.values in
         carried _ text _ [] (refl, p) q a.went quiet
     digits-worked (Some Ended) bytes (Err fault) s a =
-        let p = unpacked strict true sentinel text bytes a.verdicts good (rw s at h) a.are a.values in
+        let h = (rw s at h) in
+        let p = unpacked strict true sentinel text bytes a.verdicts good h a.are a.values in
         carried _ text _ [] (inl (_, p)) q a.broke quiet
     digits-worked (Some NoMemory) bytes (Ok u) s a =
-        carried (Some Ended) text _ [] ((stream, h, first strict sentinel bytes s.0 a.verdicts s.1 a.are), refl)
-        q a.went quiet
+        let f = first strict sentinel bytes s.0 a.verdicts s.1 a.are in
+        carried (Some Ended) text _ [] ((stream, h, f), refl) q a.went quiet
     digits-worked (Some NoMemory) bytes (Err fault) s a =
-        carried _ text _ [] (inr ((stream, h, first strict sentinel bytes s.0 a.verdicts s.1 a.are), refl))
-        q a.broke quiet
+        let f = first strict sentinel bytes s.0 a.verdicts s.1 a.are in
+        carried _ text _ [] (inr ((stream, h, f), refl)) q a.broke quiet
     digits-worked (Some ReadFault) bytes written s a = absurd s
     digits-worked None bytes written s a = absurd s
 
@@ -99,7 +102,8 @@ module _ (strict : Bool) (sentinel : ℕ) (text : List ℕ) (r : Option End → 
 abbrev pub at_bytes : List ℕ → ℕ → LineState
 at_bytes bytes calls = record { told = Some bytes; faults = 0; calls_left = calls }
 
--- It meets no fault, and where it has calls enough it is read to its end, or to where memory is wanting, if reading doesn't stop before.
+-- It meets no fault, and where it has calls enough it is read to its end, or to where memory is
+-- wanting, if reading doesn't stop before.
 pub ends-whole : (stream rest bytes : List ℕ) (calls left : ℕ) → length stream + 1 < calls
     → (e : Option End) → (e ≡ None → ⊥)
     → UsesFew (at_bytes stream calls) (at_bytes rest left) (last_call e)

@@ -1,6 +1,5 @@
 pub mod Lines
 pub mod Output
-pub mod Pieces
 pub mod Program
 pub mod Sending
 pub mod Whole

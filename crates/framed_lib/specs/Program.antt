@@ -201,7 +201,8 @@ module _ (way : Option Bool) (hex : Bool) (sentinel : ℕ)
   abbrev pub DeviceFails : (List ℕ → Type 0) → Type 0
   DeviceFails says = ReadFails (Behind read_failed says) ⊎ WriteFails (Behind write_failed says)
 
-  -- Standard error failed, there or while the last line was said: it has a beginning of what was to be said.
+  -- Standard error failed, there or while the last line was said: it has a beginning of what was to
+  -- be said.
   abbrev pub SayingFails : (List ℕ → Type 0) → Type 0
   SayingFails says = SaysInVain says ⊎ (DeviceFails says ⊎ LacksMemory (Behind no_memory says))
 

@@ -1,9 +1,16 @@
 -- The sends of a text's lines, and what is said of lines that are refused.
-use Rattle.std.specs.Prelude.{◌≡◌, ℕ, ◌+◌, Bool, true, false, List, [], ◌∷◌, ◌++◌, codes, decimal, IsUtf8, ◌⊎◌}
-use Rattle.std.specs.List.{AllZip}
+use Rattle.std.specs.Prelude.{◌≡◌, ℕ, ◌+◌, Bool, true, false, List, [], ◌∷◌, ◌++◌, codes, decimal, IsUtf8, ◌⊎◌, ◌==◌, All}
+use Rattle.std.specs.List.{AllZip, slice_split}
 use Rattle.postcard_tree.specs.Tree.{IsTree, text_of}
 use Rattle.link.specs.Run.{Send, completed, refused, broken, IsFramed}
-use Rattle.framed_lib.specs.Pieces.{pieces}
+
+-- no byte is the mark
+abbrev pub LacksMark : ℕ → List ℕ → Type 0
+LacksMark mark bytes = All (λ b. (b == mark) ≡ false) bytes
+
+-- what stands between the marks, and before the first and after the last: at least one piece
+abbrev pub pieces : ℕ → List ℕ → List (List ℕ)
+pieces mark bytes = slice_split (λ b. b == mark) bytes
 
 -- the pieces but for an empty one at the end
 abbrev pub filled : List (List ℕ) → List (List ℕ)

@@ -1,10 +1,10 @@
 ghost use Rattle.std.specs.Prelude.{◌≡◌, ◌<◌, [], length, ◌++◌, ◌∷◌, MatchOption, IfSome, IsUtf8};
-ghost use Rattle.framed_lib.specs.Pieces.{LacksMark};
-ghost use Rattle.framed_lib.specs.Sending.{lines_in};
+ghost use Rattle.framed_lib.specs.Sending.{LacksMark, lines_in};
 
 use memchr::memchr;
 
 /// The bytes before the first one that is `mark`, and those after it.
+#[tactic(auto, using(std::proofs::lemmas::Grind::elements))]
 pub fn split_at_mark(bytes: &[u8], mark: u8) -> Option<(&[u8], &[u8])>
     ensures { MatchOption result (LacksMark mark bytes.now)
         (λ p. (bytes.now ≡ p.0.now ++ (mark ∷ p.1.now)) × LacksMark mark p.0.now) }

@@ -69,7 +69,8 @@ fn work<R: Inlet, W: Outlet, E: Outlet>(
     writer: W,
     faults: &mut E,
 ) -> (W, Result<u8, Stop>)
-    ensures { Worked (unpacking mode) hex sentinel (HasReadNow (R.line reader.old) (R.line reader.new))
+    ensures { Worked (unpacking mode) hex sentinel
+        (HasReadNow (R.line reader.old) (R.line reader.new))
         (Writing (W.line writer) (W.line result.0))
         (Writing (E.line faults.old) (E.line faults.new)) result.1 }
 {

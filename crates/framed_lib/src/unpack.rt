@@ -90,7 +90,8 @@ fn unpack_hex<R: Inlet, W: Outlet, E: Outlet>(
     writer: W,
     faults: &mut E,
 ) -> (W, Result<u8, Stop>)
-    ensures { Worked (Some strict) true sentinel (HasReadNow (R.line reader.old) (R.line reader.new))
+    ensures { Worked (Some strict) true sentinel
+        (HasReadNow (R.line reader.old) (R.line reader.new))
         (Writing (W.line writer) (W.line result.0))
         (Writing (E.line faults.old) (E.line faults.new)) result.1 }
 {

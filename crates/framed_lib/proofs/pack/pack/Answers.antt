@@ -10,7 +10,8 @@ use Rattle.framed_lib.proofs.pack.pack.Goals as goal
 
 pub returns-in-NoMemory : goal.returns-in-NoMemory
 returns-in-NoMemory g c =
-    let reading = HasRead (g.R.Inlet.line c.args.reader.now) (g.R.Inlet.line c.read_to_end.new.inlet) NoMemory in
+    let line = g.R.Inlet.line in
+    let reading = HasRead (line c.args.reader.now) (line c.read_to_end.new.inlet) NoMemory in
     let lost = read-front reading c.new-text.ensures.items (c.in-NoMemory.ensures.memory refl) in
     carried (Some NoMemory) (c.read_to_end.new.bytes.items ++ lost.0) [] [] (refl, refl) lost.1
     (WentOut-none _) (WentOut-none _)
@@ -21,5 +22,15 @@ returns-in_default g c =
     let broke = (rw c.deref-3.ensures.value at c.in_default.ensures.err) in
     carried (Some Ended) c.read_to_end.new.bytes.items
     (framed_text c.args.hex (session_line c.args.sentinel false sent.0)) (refusals 1 sent.0)
-    (inl (_, record { sends = sent.0; are = sent.1; out_is = refl; said_is = refl; status_is = refl }))
-    (read-whole c.new-text.ensures.items (c.in-Ended.ensures.ended refl)) (broke sent.0 sent.1) sent.3
+    (inl (
+      _,
+      record {
+        sends = sent.0;
+        are = sent.1;
+        out_is = refl;
+        said_is = refl;
+        status_is = refl;
+      },
+    ))
+    (read-whole c.new-text.ensures.items (c.in-Ended.ensures.ended refl))
+    (broke sent.0 sent.1) sent.3

@@ -1,22 +1,27 @@
-use Rattle.std.proofs.Common.{◌≡◌, ◌+◌, ◌∷◌, ◌++◌, [], length, ap, arith}
+use Rattle.std.proofs.Common.{◌≡◌, ◌+◌, ◌∷◌, ◌++◌, [], length, ap, arith, ℕ, List}
 use Rattle.std.proofs.lemmas.List.{length-append}
 use Rattle.line_io.specs.Transfers.{Writing, broken}
-use Rattle.framed_lib.specs.Sending.{lines_in}
+use Rattle.framed_lib.specs.Program.{SaysFirst}
+use Rattle.framed_lib.specs.Sending.{refusals}
 use Rattle.framed_lib.proofs.OutputLemmas.{on_err, put-done, put-broke}
-use Rattle.framed_lib.proofs.SendingLemmas.{stops, Sent-all, Sent-more, refusals-more, all-more}
+use Rattle.framed_lib.proofs.SendingLemmas.{Sent-first, Sent-all, Sent-more, refusals-more, all-more}
 use Rattle.framed_lib.proofs.refusals.judge_lines.Goals as goal
 
 pub returns-in_err-sendable-clause-err : goal.returns-in_err-sendable-clause-err
 returns-in_err-sendable-clause-err g c =
     let i = c.loop-line.invariant in
-    let cut = c.in-Some.ensures in
-    on_err _
-    (stops c.args.text.now c.loop-line.rest.now c.in-Some.line.now (lines_in c.in-Some.after.now) (c.loop-line.lines + 1) i.0 i.1
-    cut.line.0 (let n = i.3 in omega arith)
-    (λ bytes. Writing (g.E.Outlet.line c.loop-line.faults) (g.E.Outlet.line c.judge_line.new.faults) broken (c.loop-line.held.items ++ bytes))
-    (λ bytes. Writing (g.E.Outlet.line c.args.faults.now) (g.E.Outlet.line c.judge_line.new.faults) broken bytes)
-    (λ x b. put-broke _ i.2 b)
-    c.in_err-sendable.ensures.err)
+    let counted = i.3 in
+    let one = c.in_err-sendable.ensures.err in
+    let sends = i.0 ++ one.0 ∷ [] in
+    let said = refusals-more (c.loop-line.lines + 1) i.0 one.0 (omega arith) in
+    let first : SaysFirst c.args.text.now (refusals 1 sends) =
+    Sent-first _ c.loop-line.rest.now c.in-Some.line.now _ i.0 one.0 i.1
+    c.in-Some.ensures.line.0 one.1 in
+    let line = g.E.Outlet.line in
+    let h : (said : List ℕ) × SaysFirst c.args.text.now said
+    × Writing (line c.args.faults.now) (line c.judge_line.new.faults) broken said =
+    (refusals 1 sends, first, rw said (put-broke _ i.2 one.2)) in
+    on_err _ h
 
 pub judge_line-requires : goal.judge_line-requires
 judge_line-requires g c = λ t. (c.in-Some.ensures.utf8 (c.loop-line.invariant.6 t)).0

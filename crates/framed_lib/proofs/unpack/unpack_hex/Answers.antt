@@ -9,7 +9,8 @@ use Rattle.framed_lib.proofs.unpack.unpack_hex.Goals as goal
 
 pub returns-in-NoMemory : goal.returns-in-NoMemory
 returns-in-NoMemory g c =
-    let reading = HasRead (g.R.Inlet.line c.args.reader.now) (g.R.Inlet.line c.read_to_end.new.inlet) NoMemory in
+    let line = g.R.Inlet.line in
+    let reading = HasRead (line c.args.reader.now) (line c.read_to_end.new.inlet) NoMemory in
     let lost = read-front reading c.new-text.ensures.items (c.in-NoMemory.ensures.memory refl) in
     carried (Some NoMemory) (c.read_to_end.new.bytes.items ++ lost.0) [] [] (refl, refl) lost.1
     (WentOut-none _) (WentOut-none _)
@@ -18,14 +19,16 @@ pub returns-in_default : goal.returns-in_default
 returns-in_default g c =
     carried (Some Ended) c.read_to_end.new.bytes.items [] bad_hex
     (refl, refl, (c.if-not-decode_hex.ensures.bad refl, refl))
-    (read-whole c.new-text.ensures.items (c.in-Ended.ensures.ended refl)) (WentOut-none _) c.in_default.ensures.err
+    (read-whole c.new-text.ensures.items (c.in-Ended.ensures.ended refl))
+    (WentOut-none _) c.in_default.ensures.err
 
 pub returns-then-not-decode_hex : goal.returns-then-not-decode_hex
 returns-then-not-decode_hex g c =
     let bad = c.if-not-decode_hex.ensures.bad refl in
     carried (Some Ended) c.read_to_end.new.bytes.items [] bad_hex
     (refl, inr (record { not_hex = bad; out_is = refl; said_is = refl; status_is = refl }))
-    (read-whole c.new-text.ensures.items (c.in-Ended.ensures.ended refl)) (WentOut-none _) c.in-Ok.ensures.ok
+    (read-whole c.new-text.ensures.items (c.in-Ended.ensures.ended refl))
+    (WentOut-none _) c.in-Ok.ensures.ok
 
 pub returns : goal.returns
 returns g c =
@@ -34,7 +37,8 @@ returns g c =
     let device = c.new-device.result in
     let same : device.rest.now ≡ c.deref.result.now = (let k = c.new-device.ensures.told in cc) in
     let read =
-    ends-whole device.rest.now _ t.told.0 device.calls _ (omega (arith, c.new-device.ensures.calls, ap length same)) told.end
+    ends-whole device.rest.now _ t.told.0 device.calls _
+    (omega (arith, c.new-device.ensures.calls, ap length same)) told.end
     (λ none. (let no : false ≡ true = (t.stopped none).0 in cc)) t.few t.told.1 in
     rw c.outcome.ensures
     (digits-worked c.args.strict c.args.sentinel c.read_to_end.new.bytes.items
@@ -42,5 +46,6 @@ returns g c =
     (Writing (g.W.Outlet.line c.args.writer) (g.W.Outlet.line told.writer))
     (Writing (g.E.Outlet.line c.args.faults.now) (g.E.Outlet.line c.args.faults.now))
     told.good (WentOut-none _) c.decode_hex.new.text.items (c.if-not-decode_hex.ensures.ok refl)
-    (read-whole c.new-text.ensures.items (c.in-Ended.ensures.ended refl)) told.end t.told.0 told.written
+    (read-whole c.new-text.ensures.items (c.in-Ended.ensures.ended refl))
+    told.end t.told.0 told.written
     (rw (same ∙ c.deref.ensures.value) at read) t.told.2)

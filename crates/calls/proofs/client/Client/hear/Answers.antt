@@ -1,5 +1,5 @@
 use Rattle.std.proofs.Common.{refl}
-use Rattle.calls.proofs.PendingLemmas.{numbered}
+use Rattle.calls.proofs.WaitedLemmas.{numbered}
 use Rattle.calls.proofs.client.Client.hear.Goals as goal
 
 pub returns-clause-accepts : goal.returns-clause-accepts

@@ -1,6 +1,6 @@
 use Rattle.std.proofs.Common.{sym, ap, ◌∙◌}
 use Rattle.calls.specs.Waits.{Waiter}
-use Rattle.calls.proofs.UnheardLemmas.{unheard}
+use Rattle.calls.proofs.WaitedLemmas.{unheard}
 use Rattle.calls.proofs.waiting.WaitingHearerTuple2U64.hear.Goals as goal
 
 pub returns-in_default : goal.returns-in_default
