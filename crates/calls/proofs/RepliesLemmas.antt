@@ -18,7 +18,8 @@ noticed (Some r) p i = ap (λ x. x.0) (alone (no_call, r) p i)
 
 module _ {Q R : Type 0} (equal : Q → Q → Bool) (passes : ℕ → ℕ → Option R) where
   -- what is said again by a call's number is what is kept, by its number, and to what is the same
-  repeated : (kept : Option (Execution Q R)) (n : ℕ) (q : Q) (p : ℕ × R) → p.0 < no_call → In p (again equal passes kept n q) → (p.0 ≡ n) × KeptFor equal kept p.0 q p.1
+  repeated : (kept : Option (Execution Q R)) (n : ℕ) (q : Q) (p : ℕ × R) → p.0 < no_call
+      → In p (again equal passes kept n q) → (p.0 ≡ n) × KeptFor equal kept p.0 q p.1
   repeated None n q p z i = absurd i
   repeated (Some e) n q p z i = numbered (eqb e.number n) refl i
     where
@@ -46,64 +47,81 @@ module _ {Q R : Type 0} (equal : Q → Q → Bool) (passes : ℕ → ℕ → Opt
       → Found p kept (q ∷ qs) (call q.0 q.1 says ∷ log)
   said_now p q says kept qs log e f = inl (q.1, inl (rw (e, f) refl), inl (numbered p.0 q e))
 
-  pub found : (kept later : Option (Execution Q R)) (qs : List (ℕ × Q)) (log : List (Execution Q R)) (out : List (ℕ × R)) → ServesAll equal passes kept qs log out later → (p : ℕ × R) → p.0 < no_call → In p out → Found p kept qs log
-  found _ _ _ _ _ (no_request kept) p z i = absurd i
-  found _ _ _ _ _ (request kept _ later q qs _ others _ out (known l) h) p z i =
+  pub found : {kept later : Option (Execution Q R)} {qs : List (ℕ × Q)}
+      {log : List (Execution Q R)} {out : List (ℕ × R)}
+      → ServesAll equal passes kept qs log out later
+      → (p : ℕ × R) → p.0 < no_call → In p out → Found p kept qs log
+  found no_request p z i = absurd i
+  found (request {kept = kept} {q = q} {out = out} (known l) h) p z i =
       elim (in_joined p (again equal passes kept q.0 q.1) out i) [
         | inl a ↦ (let r = repeated kept q.0 q.1 p z a in inr (q.1, inl (numbered p.0 q r.0), r.1))
-        | inr a ↦ elim (found kept later qs others out h p z a) [
+        | inr a ↦ elim (found h p z a) [
           | inl f ↦ inl (f.0, f.1, inr f.2)
           | inr f ↦ inr (f.0, inr f.1, f.2)
         ]
       ]
-  found _ _ _ _ _ (request kept _ later q qs _ others _ out (fresh says l) h) p z (inl a) =
-      said_now p q says kept qs others (ap (λ x. x.0) a) (ap (λ x. x.1) a)
-  found _ _ _ _ _ (request kept _ later q qs _ others _ out (fresh says l) h) p z (inr a) =
-      elim (found (Some (call q.0 q.1 says)) later qs others out h p z a) [
+  found (request {kept = kept} {q = q} {qs = qs} {log = log} (fresh says l) h) p z (inl a) =
+      said_now p q says kept qs log (ap (λ x. x.0) a) (ap (λ x. x.1) a)
+  found (request {kept = kept} {q = q} {qs = qs} {log = log} (fresh says l) h) p z (inr a) =
+      elim (found h p z a) [
         | inl f ↦ inl (f.0, inr f.1, inr f.2)
-        | inr f ↦ said_now p q says kept qs others (sym f.2.0) (sym f.2.2)
+        | inr f ↦ said_now p q says kept qs log (sym f.2.0) (sym f.2.2)
       ]
 
   -- what is kept was kept before, or executed
-  kept_before : (kept later : Option (Execution Q R)) (qs : List (ℕ × Q)) (log : List (Execution Q R)) (out : List (ℕ × R)) → ServesAll equal passes kept qs log out later → (e : Execution Q R) → later ≡ Some e → (kept ≡ Some e) ⊎ In e log
-  kept_before _ _ _ _ _ (no_request kept) e is = inl is
-  kept_before _ _ _ _ _ (request kept _ later q qs _ others _ out (known l) h) e is = kept_before kept later qs others out h e is
-  kept_before _ _ _ _ _ (request kept _ later q qs _ others _ out (fresh says l) h) e is =
-      elim (kept_before (Some (call q.0 q.1 says)) later qs others out h e is) [
-        | inl m ↦ inr (inl (sym (which m)))
-        | inr i ↦ inr (inr i)
-      ]
+  kept_before : {kept later : Option (Execution Q R)} {qs : List (ℕ × Q)}
+      {log : List (Execution Q R)} {out : List (ℕ × R)}
+      → ServesAll equal passes kept qs log out later
+      → (e : Execution Q R) → later ≡ Some e → (kept ≡ Some e) ⊎ In e log
+  kept_before no_request e is = inl is
+  kept_before (request (known l) h) e is = kept_before h e is
+  kept_before (request (fresh says l) h) e is = elim (kept_before h e is) [
+    | inl m ↦ inr (inl (sym (which m)))
+    | inr i ↦ inr (inr i)
+  ]
 
   -- what a new server replies to one request, by what it executed before and now
-  pub to_the_same : (before : List (ℕ × Q)) (log : List (Execution Q R)) (out : List (ℕ × R)) (mid : Option (Execution Q R)) (n : ℕ) (q : Q) (p : ℕ × R) (now : List (Execution Q R)) (said : List (ℕ × R)) (later : Option (Execution Q R))
-      → p.0 < no_call → ServesAll equal passes None before log out mid → Serves equal passes mid n q now said later → In p said
-      → (p.0 ≡ n) × (executed : Q) × ((executed ≡ q) ⊎ (equal executed q ≡ true)) × In (call n executed p.1) (log ++ now)
-  to_the_same before log out mid n q p _ _ _ z h (fresh says l) (inl e) =
-      (ap (λ x. x.0) e, q, inl refl, in_before (call n q p.1) log _ (inl (ap (λ x. call n q x.1) e)))
-  to_the_same before log out mid n q p _ _ _ z h (fresh says l) (inr e) = absurd e
-  to_the_same before log out mid n q p _ _ _ z h (known l) i = let r = repeated mid n q p z i in kept_one mid refl r.0 r.1
+  pub to_the_same : {before : List (ℕ × Q)} {log : List (Execution Q R)} {out : List (ℕ × R)}
+      {mid : Option (Execution Q R)} {n : ℕ} {q : Q} (p : ℕ × R) {now : List (Execution Q R)}
+      {said : List (ℕ × R)} {later : Option (Execution Q R)} → p.0 < no_call
+      → ServesAll equal passes None before log out mid → Serves equal passes mid n q now said later
+      → In p said → (p.0 ≡ n) × (executed : Q) × ((executed ≡ q) ⊎ (equal executed q ≡ true))
+      × In (call n executed p.1) (log ++ now)
+  to_the_same {log = log} {n = n} {q = q} p z h (fresh says l) (inl e) = (
+    ap (λ x. x.0) e,
+    q,
+    inl refl,
+    in_before (call n q p.1) log (call n q says ∷ []) (inl (ap (λ x. call n q x.1) e)),
+  )
+  to_the_same p z h (fresh says l) (inr e) = absurd e
+  to_the_same {log = log} {mid = mid} {n = n} {q = q} p z h (known l) i =
+      let r = repeated mid n q p z i in kept_one mid refl r.0 r.1
     where
-      kept_one : (o : Option (Execution Q R)) → mid ≡ o → p.0 ≡ n → KeptFor equal o p.0 q p.1 → (p.0 ≡ n) × (executed : Q) × ((executed ≡ q) ⊎ (equal executed q ≡ true)) × In (call n executed p.1) (log ++ [])
+      kept_one : (o : Option (Execution Q R)) → mid ≡ o → p.0 ≡ n → KeptFor equal o p.0 q p.1
+          → (p.0 ≡ n) × (executed : Q) × ((executed ≡ q) ⊎ (equal executed q ≡ true))
+          × In (call n executed p.1) (log ++ [])
       kept_one None e f g = absurd g
-      kept_one (Some k) e f g = elim (kept_before None mid before log out h k e) [
+      kept_one (Some k) e f g = elim (kept_before h k e) [
         | inl z ↦ absurd (let no : ◌≡◌ {A = Option (Execution Q R)} None (Some k) = z in cc)
         | inr j ↦ (
             let is : k ≡ call n k.asks p.1 = rw (← f, ← g.0, ← g.2) refl in
-            (f, k.asks, inr g.1, in_first (call n k.asks p.1) log [] (subst (λ x. In x log) is j)))
+            let here = in_first (call n k.asks p.1) log [] (subst (λ x. In x log) is j) in
+            (f, k.asks, inr g.1, here))
       ]
 
   -- what was replied is below what is executed later
-  pub below : (kept later : Option (Execution Q R)) (qs : List (ℕ × Q)) (log : List (Execution Q R)) (out : List (ℕ × R)) → ServesAll equal passes kept qs log out later → (p : ℕ × R) → p.0 < no_call → In p out → p.0 < next_of later
-  below _ _ _ _ _ (no_request kept) p z i = absurd i
-  below _ _ _ _ _ (request kept _ later q qs _ others _ out (known l) h) p z i =
+  pub below : {kept later : Option (Execution Q R)} {qs : List (ℕ × Q)}
+      {log : List (Execution Q R)} {out : List (ℕ × R)}
+      → ServesAll equal passes kept qs log out later
+      → (p : ℕ × R) → p.0 < no_call → In p out → p.0 < next_of later
+  below no_request p z i = absurd i
+  below (request {kept = kept} {q = q} {out = out} (known l) h) p z i =
       elim (in_joined p (again equal passes kept q.0 q.1) out i) [
-        | inl a ↦ omega (arith, l, (repeated kept q.0 q.1 p z a).0, (rises kept later qs others out h).1)
-        | inr a ↦ below kept later qs others out h p z a
+        | inl a ↦ omega (arith, l, (repeated kept q.0 q.1 p z a).0, (rises h).1)
+        | inr a ↦ below h p z a
       ]
-  below _ _ _ _ _ (request kept _ later q qs _ others _ out (fresh says l) h) p z (inl a) =
-      omega (arith, ap (λ x. x.0) a, (rises (Some (call q.0 q.1 says)) later qs others out h).1)
-  below _ _ _ _ _ (request kept _ later q qs _ others _ out (fresh says l) h) p z (inr a) =
-      below (Some (call q.0 q.1 says)) later qs others out h p z a
+  below (request (fresh says l) h) p z (inl a) = omega (arith, ap (λ x. x.0) a, (rises h).1)
+  below (request (fresh says l) h) p z (inr a) = below h p z a
 
 module _ {Q R : Type 0} where
   pub above : (n : ℕ) (log : List (Execution Q R)) → Rises n log → (e : Execution Q R) → In e log → n ≤ e.number

@@ -45,12 +45,12 @@ pub data Serves {Q R : Type 0} (equal : Q → Q → Bool) (passes : ℕ → ℕ 
 pub data ServesAll {Q R : Type 0} (equal : Q → Q → Bool) (passes : ℕ → ℕ → Option R)
     : Option (Execution Q R) → List (ℕ × Q) → List (Execution Q R) → List (ℕ × R)
     → Option (Execution Q R) → Type 0 where
-  no_request : (kept : Option (Execution Q R)) → ServesAll equal passes kept [] [] [] kept
-  request : (kept mid later : Option (Execution Q R)) (q : ℕ × Q) (qs : List (ℕ × Q))
-      (first others : List (Execution Q R)) (says out : List (ℕ × R))
+  no_request : {kept : Option (Execution Q R)} → ServesAll equal passes kept [] [] [] kept
+  request : {kept mid later : Option (Execution Q R)} {q : ℕ × Q} {qs : List (ℕ × Q)}
+      {first log : List (Execution Q R)} {says out : List (ℕ × R)}
       → Serves equal passes kept q.0 q.1 first says mid
-      → ServesAll equal passes mid qs others out later
-      → ServesAll equal passes kept (q ∷ qs) (first ++ others) (says ++ out) later
+      → ServesAll equal passes mid qs log out later
+      → ServesAll equal passes kept (q ∷ qs) (first ++ log) (says ++ out) later
 
 -- each number is at least this, and above the one before
 abbrev pub Rises : {Q R : Type 0} → ℕ → List (Execution Q R) → Type 0

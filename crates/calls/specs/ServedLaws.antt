@@ -73,8 +73,11 @@ module _ {V : Type 0} (limit : ℕ) (writes : V → Option Tree) (valid : V → 
   said_of v old new r (completed t) i h l =
       let k = rw i.0 at h in ((i.1, k.valid), inl (omega (arith, l)), omega (arith, k.done))
   said_of v old new r refused i h l =
-      let k = rw i.1 at h in (refusal limit (writes v) i.0 i.2, inl (omega (arith, l)), omega (arith, ap (λ z. z.faults) k.unchanged))
-  said_of v old new r (broken t n) i h l = let k = rw i.0 at h in ((i.1, k.valid), one_failed old.line new.line k.line, h.once)
+      let k = rw i.1 at h in
+      let same = ap (λ z. z.faults) k.unchanged in
+      (refusal limit (writes v) i.0 i.2, inl (omega (arith, l)), omega (arith, same))
+  said_of v old new r (broken t n) i h l =
+      let k = rw i.0 at h in ((i.1, k.valid), one_failed old.line new.line k.line, h.once)
 
   -- one message
   pub says_one : (v : V) (old new : SenderPlace) (r : Result (Unit {0}) SendError) → HasSent limit (writes v) (valid v) old new r → (f : Fate) × SaysAll limit writes valid old new (v ∷ []) (f ∷ [])
@@ -135,26 +138,31 @@ which e = cc
 
 module _ {Q R : Type 0} {equal : Q → Q → Bool} {passes : ℕ → ℕ → Option R} where
   -- Each number that is executed is above those before, and what is kept only rises.
-  pub rises : (kept later : Option (Execution Q R)) (qs : List (ℕ × Q)) (log : List (Execution Q R)) (out : List (ℕ × R)) → ServesAll equal passes kept qs log out later
+  pub rises : {kept later : Option (Execution Q R)} {qs : List (ℕ × Q)} {log : List (Execution Q R)}
+      {out : List (ℕ × R)} → ServesAll equal passes kept qs log out later
       → Rises (next_of kept) log × (next_of kept ≤ next_of later)
-  rises _ _ _ _ _ (no_request kept) = (tt, omega arith)
-  rises _ _ _ _ _ (request kept _ later q qs _ others _ out (known l) h) = rises kept later qs others out h
-  rises _ _ _ _ _ (request kept _ later q qs _ others _ out (fresh says l) h) =
-      let r = rises (Some (call q.0 q.1 says)) later qs others out h in ((l, r.0), (let b = r.1 in omega arith))
+  rises no_request = (tt, omega arith)
+  rises (request (known l) h) = rises h
+  rises (request (fresh says l) h) = let r = rises h in ((l, r.0), omega (arith, l, r.1))
 
   -- Requests, and then requests.
-  pub serves_then : (kept mid later : Option (Execution Q R)) (qs ps : List (ℕ × Q)) (log logs : List (Execution Q R)) (out says : List (ℕ × R))
-      → ServesAll equal passes kept qs log out mid → ServesAll equal passes mid ps logs says later → ServesAll equal passes kept (qs ++ ps) (log ++ logs) (out ++ says) later
-  serves_then _ _ later _ ps _ logs _ says (no_request kept) k = k
-  serves_then _ _ later _ ps _ logs _ says (request kept next mid q qs first others said out one h) k =
-      rw (append_assoc first others logs, append_assoc said out says)
-      (request kept next later q (qs ++ ps) first (others ++ logs) said (out ++ says) one (serves_then next mid later qs ps others logs out says h k))
+  pub serves_then : {kept mid later : Option (Execution Q R)} {qs ps : List (ℕ × Q)}
+      {log logs : List (Execution Q R)} {out says : List (ℕ × R)}
+      → ServesAll equal passes kept qs log out mid → ServesAll equal passes mid ps logs says later
+      → ServesAll equal passes kept (qs ++ ps) (log ++ logs) (out ++ says) later
+  serves_then no_request k = k
+  serves_then {logs = logs} {says = more}
+      (request {first = first} {log = log} {says = says} {out = out} one h) k =
+      rw (append_assoc first log logs, append_assoc says out more) (request one (serves_then h k))
 
   -- One request that isn't executed.
-  knows : (kept later : Option (Execution Q R)) (n : ℕ) (q : Q) (out : List (ℕ × R)) → n < next_of kept
-      → again equal passes kept n q ≡ out → later ≡ kept → ServesAll equal passes kept ((n, q) ∷ []) [] out later
-  knows kept later n q out l is e =
-      rw (e, ← is, ← append-nil (again equal passes kept n q)) (request kept kept kept (n, q) [] [] [] (again equal passes kept n q) [] (known l) (no_request kept))
+  knows : {kept later : Option (Execution Q R)} {n : ℕ} {q : Q} (out : List (ℕ × R))
+      → n < next_of kept → again equal passes kept n q ≡ out → later ≡ kept
+      → ServesAll equal passes kept ((n, q) ∷ []) [] out later
+  knows {kept = kept} {n = n} {q = q} out l is e =
+      let says = again equal passes kept n q in
+      rw (e, ← is, ← append-nil says)
+      (request {q = (n, q)} {first = []} {log = []} {says = says} {out = []} (known l) no_request)
 
 module _ {A Q R : Type 0} (executes : A → Q → R → A → Type 0) (equal : Q → Q → Bool) (passes : ℕ → ℕ → Option R) (limit : ℕ) (writes : ℕ × R → Option Tree) (valid : ℕ × R → Type 0) where
   -- what such a service does
@@ -163,18 +171,18 @@ module _ {A Q R : Type 0} (executes : A → Q → R → A → Type 0) (equal : Q
 
   -- no request
   pub executes_none : (a : A) (kept : Option (Execution Q R)) (unsent : Bool) (place : SenderPlace) → Makes a a kept kept unsent unsent place place []
-  executes_none a kept unsent place = record { log = []; out = []; fates = []; served = no_request kept; rises = tt; ran = refl; replied = says_none limit writes valid place; sentinel = refl; told = refl }
+  executes_none a kept unsent place = record { log = []; out = []; fates = []; served = no_request; rises = tt; ran = refl; replied = says_none limit writes valid place; sentinel = refl; told = refl }
 
   -- requests, and then requests
   pub executes_then : (a b c : A) (kept mid later : Option (Execution Q R)) (u v w : Bool) (here there end : SenderPlace) (qs ps : List (ℕ × Q))
       → Makes a b kept mid u v here there qs → Makes b c mid later v w there end ps → Makes a c kept later u w here end (qs ++ ps)
   executes_then a b c kept mid later u v w here there end qs ps p q =
-      let served = serves_then kept mid later qs ps p.log q.log p.out q.out p.served q.served in record {
+      let served = serves_then p.served q.served in record {
         log = p.log ++ q.log;
         out = p.out ++ q.out;
         fates = p.fates ++ q.fates;
         served = served;
-        rises = (rises kept later (qs ++ ps) (p.log ++ q.log) (p.out ++ q.out) served).0;
+        rises = (rises served).0;
         ran = folds_then (Runs executes) a b c p.log q.log p.ran q.ran;
         replied = says_then limit writes valid here there end p.out q.out p.fates q.fates p.sentinel p.replied q.replied;
         sentinel = q.sentinel ∙ p.sentinel;
@@ -208,8 +216,9 @@ module _ {A Q R : Type 0} (executes : A → Q → R → A → Type 0) (equal : Q
       by false e = refl
 
   -- one request, for which this was said
-  one_said : (old new : A) (kept later : Option (Execution Q R)) (u v : Bool) (here there : SenderPlace)
-      (n : ℕ) (q : Q) (p : ℕ × R) (log : List (Execution Q R)) (x : Result (Unit {0}) SendError)
+  one_said : (old new : A) (kept later : Option (Execution Q R)) (u v : Bool)
+      (here there : SenderPlace) (n : ℕ) (q : Q) (p : ℕ × R) (log : List (Execution Q R))
+      (x : Result (Unit {0}) SendError)
       → HasSent limit (writes p) (valid p) here there x
       → ServesAll equal passes kept ((n, q) ∷ []) log (p ∷ []) later
       → FoldsTo (Runs executes) old log new → v ≡ unsent_by_result u x
@@ -221,7 +230,7 @@ module _ {A Q R : Type 0} (executes : A → Q → R → A → Type 0) (equal : Q
         out = p ∷ [];
         fates = one.0 ∷ [];
         served = served;
-        rises = (rises kept later ((n, q) ∷ []) log (p ∷ []) served).0;
+        rises = (rises served).0;
         ran = ran;
         replied = one.1;
         sentinel = h.sentinel;
@@ -238,7 +247,7 @@ module _ {A Q R : Type 0} (executes : A → Q → R → A → Type 0) (equal : Q
         log = [];
         out = [];
         fates = [];
-        served = knows kept later n q [] l is e;
+        served = knows [] l is e;
         rises = tt;
         ran = sym stays;
         replied = subst (λ z. SaysAll limit writes valid here z [] []) (sym stands) (says_none limit writes valid here);
@@ -249,7 +258,7 @@ module _ {A Q R : Type 0} (executes : A → Q → R → A → Type 0) (equal : Q
   unserved old new kept later u v here there n q (Some said) same None l is e stays unsaid z t = absurd z
   unserved old new kept later u v here there n q (Some said) same (Some r) l is e stays unsaid z t =
       one_said old new kept later u v here there n q (no_call, said) [] r z
-      (knows kept later n q ((no_call, said) ∷ []) l is e) (sym stays) t
+      (knows ((no_call, said) ∷ []) l is e) (sym stays) t
 
   -- what one request did
   one_served : (old new : A) (kept later : Option (Execution Q R)) (u v : Bool) (here there : SenderPlace) (n : ℕ) (q : Q) (same : Type 0) (r : Served) → (same → there ≡ here)
@@ -258,14 +267,17 @@ module _ {A Q R : Type 0} (executes : A → Q → R → A → Type 0) (equal : Q
   one_served old new kept later u v here there n q same (Executed x) unsaid (l, says, ran, e) (p, f, said) t =
       let is : p ≡ call n q says = which (sym f ∙ e) in
       let said_so = subst (λ (v : Execution Q R). HasSent limit (writes (v.number, v.says)) (valid (v.number, v.says)) here there x) is said in
-      let served = request kept _ _ (n, q) [] _ [] _ [] (fresh says l) (no_request (Some (call n q says))) in
-      one_said old new kept later u v here there n q (n, says) (call n q says ∷ []) x said_so (rw e served) (new, ran, refl) t
+      let served = request {q = (n, q)} {first = call n q says ∷ []} {log = []}
+      {says = (n, says) ∷ []} {out = []} (fresh says l) no_request in
+      one_said old new kept later u v here there n q (n, says) (call n q says ∷ []) x said_so
+      (rw e served) (new, ran, refl) t
   one_served old new kept later u v here there n q same (Again x) unsaid ((k, is, numbered, alike), e, stays) (p, f, said) t =
       let kept_is : p ≡ k = which (sym f ∙ e ∙ is) in
       let said_so = subst (λ (v : Execution Q R). HasSent limit (writes (v.number, v.says)) (valid (v.number, v.says)) here there x) kept_is said in
-      let below : n < next_of kept = (let d : next_of kept ≡ k.number + 1 = ap next_of is in omega (arith, d, numbered)) in
+      let d : next_of kept ≡ k.number + 1 = ap next_of is in
+      let same = ap (λ o. again equal passes o n q) is ∙ said_again k n q numbered alike in
       one_said old new kept later u v here there n q (k.number, k.says) [] x said_so
-      (knows kept later n q ((k.number, k.says) ∷ []) below (ap (λ o. again equal passes o n q) is ∙ said_again k n q numbered alike) e) (sym stays) t
+      (knows ((k.number, k.says) ∷ []) (omega (arith, d, numbered)) same e) (sym stays) t
   one_served old new kept later u v here there n q same (Other r) unsaid ((k, is, numbered, differs), e, stays) (p, f, z) t =
       let kept_is : p ≡ k = which (sym f ∙ e ∙ is) in
       unserved old new kept later u v here there n q (passes n k.number) same r (let d : next_of kept ≡ k.number + 1 = ap next_of is in omega (arith, d, numbered)) (ap (λ o. again equal passes o n q) is ∙ not_again k n q differs) e stays unsaid

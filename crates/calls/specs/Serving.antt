@@ -117,7 +117,8 @@ pub record Executes {A Q R : Type 0} (executes : A → Q → R → A → Type 0)
 -- One answer of the line: a request is served, and anything else changes nothing.
 abbrev pub TakesAnswer : {A Q R : Type 0} → (A → Q → R → A → Type 0) → (Q → Q → Bool) → (ℕ → ℕ → Option R) → A → A → Option (Execution Q R) → Option (Execution Q R) → Bool → Bool → (same : Type 0) → (ℕ × R → Result (Unit {0}) SendError → Type 0) → Answer (ℕ × Q) → Type 0
 TakesAnswer executes equal passes old new kept later unsent unsent' same sends (Value p) = (r : Served) × IsServed executes equal old new kept later p.0 p.1 r × IsReplied passes same sends later p.0 r × (unsent' ≡ unsent_by unsent r)
-TakesAnswer executes equal passes old new kept later unsent unsent' same sends _ = (new ≡ old) × (later ≡ kept) × same × (unsent' ≡ unsent)
+TakesAnswer executes equal passes old new kept later unsent unsent' same sends _ =
+    (new ≡ old) × (later ≡ kept) × same × (unsent' ≡ unsent)
 
 -- what a service makes of the answers of a line
 abbrev pub ServiceHears : {A W Q R : Type 0} {N : ℕ} → (A → Q → R → A → Type 0) → (Q → Q → Bool) → (ℕ → ℕ → Option R) → (W → LineState) → (ℕ × R → Option Tree) → (ℕ × R → Type 0) → Service A W Q R N → List (Answer (ℕ × Q)) → Service A W Q R N → Type 0

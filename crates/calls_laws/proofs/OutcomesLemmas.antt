@@ -10,7 +10,7 @@ use Rattle.link.specs.Fates.{IsSendOf}
 use Rattle.link.specs.declared.receiver.Answer.{Answer}
 use Rattle.link_laws.specs.Values.{runs_of, values_sent}
 use Rattle.link_laws.specs.Sessions.{all_sent, no_session, then_session, takes_run, all_written}
-use Rattle.calls.specs.Calls.{Execution, call, no_call, ServesAll, known, fresh, no_request, request, Rises, In, OnePerNumber, ExecutesOnce}
+use Rattle.calls.specs.Calls.{Execution, no_call, ServesAll, known, fresh, no_request, request, Rises, In, OnePerNumber, ExecutesOnce}
 use Rattle.calls.specs.Serving.{Runs, requests_of}
 use Rattle.calls_laws.specs.Heard.{HearsSent}
 use Rattle.calls_laws.specs.Headline.{WentOver, WasExecuted, RepliesAreRight}
@@ -39,17 +39,14 @@ module _ {V : Type 0} (takes : Tree → Type 0) (holds : List ℕ → Tree → T
 
 module _ {Q R : Type 0} where
   -- what was executed was heard
-  was_heard : {equal : Q → Q → Bool} {passes : ℕ → ℕ → Option R} (kept later : Option (Execution Q R))
-      (qs : List (ℕ × Q)) (log : List (Execution Q R)) (out : List (ℕ × R))
-      → ServesAll equal passes kept qs log out later → (e : Execution Q R) → In e log
-      → In (e.number, e.asks) qs
-  was_heard _ _ _ _ _ (no_request kept) e i = absurd i
-  was_heard _ _ _ _ _ (request kept _ later q qs _ log _ out (known l) h) e i =
-      inr (was_heard kept later qs log out h e i)
-  was_heard _ _ _ _ _ (request kept _ later q qs _ log _ out (fresh says l) h) e (inl f) =
-      inl (rw f refl)
-  was_heard _ _ _ _ _ (request kept _ later q qs _ log _ out (fresh says l) h) e (inr i) =
-      inr (was_heard (Some (call q.0 q.1 says)) later qs log out h e i)
+  was_heard : {equal : Q → Q → Bool} {passes : ℕ → ℕ → Option R}
+      {kept later : Option (Execution Q R)} {qs : List (ℕ × Q)} {log : List (Execution Q R)}
+      {out : List (ℕ × R)} → ServesAll equal passes kept qs log out later
+      → (e : Execution Q R) → In e log → In (e.number, e.asks) qs
+  was_heard no_request e i = absurd i
+  was_heard (request (known l) h) e i = inr (was_heard h e i)
+  was_heard (request (fresh says l) h) e (inl f) = inl (rw f refl)
+  was_heard (request (fresh says l) h) e (inr i) = inr (was_heard h e i)
 
   -- executions that rise and have one number alone are one at most
   at_most_one : (n m : ℕ) (log : List (Execution Q R)) → Rises m log → ((e : Execution Q R) → In e log → e.number ≡ n) → (log ≡ []) ⊎ ((e : Execution Q R) × (log ≡ e ∷ []))
@@ -70,13 +67,14 @@ module _ {A Q R : Type 0} (executes : A → Q → R → A → Type 0) (equal : Q
   heard_alike w i =
       let over = went_over takes holds reads writes valid taken limit s asks.messages requests serves.heard asks.left serves.over in
       let v = hears limit s (zip asks.messages asks.left.said.sends ∷ []) serves.heard over.front over.rest over.is over.of over.parts over.heard w i in
-      let sent = sent_are takes holds reads writes valid taken limit s asks.messages requests asks.left in
+      let sent =
+      sent_are takes holds reads writes valid taken limit s asks.messages requests asks.left in
       let same : v.0 ≡ x = asks.only v.0 (subst (In v.0) sent v.1) in
       (sym (ap (λ p. p.0) same) ∙ v.2.0, subst (λ p. alike_asked p.1 w.1) same v.2.1)
 
   alike_executed : (e : Execution Q R) → In e serves.log → (x.0 ≡ e.number) × alike_asked x.1 e.asks
   alike_executed e i =
-      heard_alike (e.number, e.asks) (was_heard None serves.later _ serves.log serves.out serves.served e i)
+      heard_alike (e.number, e.asks) (was_heard serves.served e i)
 
   numbered : (e : Execution Q R) → In e serves.log → e.number ≡ x.0
   numbered e i = sym (alike_executed e i).0

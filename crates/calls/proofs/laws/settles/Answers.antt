@@ -6,6 +6,6 @@ use Rattle.calls.proofs.laws.settles.Goals as goal
 
 pub returns : goal.returns
 returns g c equal passes kept mid later qs qs' log log' out out' n r small before behind i e j =
-    let low : n < next_of mid = below equal passes kept mid qs log out before (n, r) small i in
-    let high : next_of mid ≤ e.number = above (next_of mid) log' (rises mid later qs' log' out' behind).0 e j in
+    let low : n < next_of mid = below equal passes before (n, r) small i in
+    let high : next_of mid ≤ e.number = above (next_of mid) log' (rises behind).0 e j in
     omega arith
