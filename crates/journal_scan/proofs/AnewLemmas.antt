@@ -1,16 +1,16 @@
 -- Records that are read of a log one after another, and appended anew.
 use Rattle.std.proofs.Common.{◌≡◌, ℕ, ◌+◌, ◌-◌, ◌^◌, ◌<◌, ◌≤◌, min, max, true, List, [], ◌∷◌, ◌++◌, length, take, Option, Some, None, Result, Ok, Err, refl, sym, ap, ◌∙◌, subst, append_assoc, arith}
-use Rattle.std.specs.Prelude.{IfOk, IfErr, IfSome, IsErrAnd}
+use Rattle.std.specs.Prelude.{IfErr, IfSome}
 use Rattle.std.specs.List.{AllZip}
-use Rattle.std.proofs.lemmas.List.{append-nil, take_all, take-append-le, length-append}
-use Rattle.std.proofs.lemmas.Result.{err_from_is_err_and}
+use Rattle.std.proofs.lemmas.List.{append-nil, take_all, length-append, length-take}
 use Rattle.std.proofs.Math.Seq.{take-append-add}
 use Rattle.cobs.specs.Frames.{shortest_frame}
+use Rattle.cobs.specs.Sentinel.{frame_for}
 use Rattle.line_io.specs.Device.{LineState, Grew, Wrote}
-use Rattle.line_io.specs.Calls.{Wrote-none, Wrote-then}
+use Rattle.line_io.specs.Calls.{Wrote-then}
 use Rattle.postcard_tree.specs.Tree.{Tree, byte, number, character, sequence, group, part, end}
 use Rattle.postcard_tree.specs.Spelling.{short}
-use Rattle.postcard.specs.Written.{UnlessRefused}
+use Rattle.postcard.specs.Written.{WrittenWhole, UnlessRefused}
 use Rattle.link.specs.Stream.{Verdict, ended, unfinished, IsAnswer, HoldsExactly, begun_answers, cut_answers, Answers}
 use Rattle.link.specs.Run.{sent}
 use Rattle.link.specs.Pushes.{Matches}
@@ -20,15 +20,16 @@ use Rattle.link.specs.declared.receiver.Answer.{Answer}
 use Rattle.link.specs.declared.receiver.Answer.TheVariants.{Value, Damaged, TooLong, Cut}
 use Rattle.journal.specs.Values.{values_joined, values_done, none_in_begun}
 use Rattle.journal.specs.Records.{numbered, record_of, takes_record, reads_record}
-use Rattle.journal_scan.specs.declared.scanning.Scan.{Scan}
+use Rattle.journal_scan.specs.declared.closing.ClosedScan.{ClosedScan}
 use Rattle.journal_scan.specs.declared.scanning.Stretch.{Stretch}
 use Rattle.journal_scan.specs.declared.repairing.Repaired.{Repaired}
 use Rattle.journal_scan.specs.declared.repairing.RepairError.{RepairError}
 use Rattle.journal_scan.specs.declared.repairing.RepairError.TheVariants.{Read, Refused, Line, Sync}
 use Rattle.journal_scan.specs.Tallies.{behind_greatest}
 use Rattle.journal_scan.specs.Checks.{numbers_of}
-use Rattle.journal_scan.specs.Scanning.{IsScanning, Found, FoundAll, FoundLast, offset_of, with_zero, told_with_zero}
-use Rattle.journal_scan.specs.Repairs.{appended_anew, rewritten, IsTreeOf, AreTreesOf, AreReadIn, AreReadFirst, IsRepaired, IsPartlyRepaired, record_read, WentAnew, GoesAnew, StopsAnew, LastGoesAnew, LastStopsAnew, last_record, IfRefused, IfUnsynced}
+use Rattle.journal_scan.specs.Scanning.{Found, FoundAll, with_zero, told_with_zero}
+use Rattle.journal_scan.specs.Closing.{IsClosing, Begins, FoundClosed, passed_by}
+use Rattle.journal_scan.specs.Repairs.{appended_anew, rewritten, IsTreeOf, AreTreesOf, AreReadIn, AreReadFirst, IsRepaired, IsPartlyRepaired, record_read, WentAnew, GoesAnew, StopsAnew, IfRefused, IfUnsynced}
 use Rattle.journal_scan.proofs.GapsLemmas.{behind_push}
 use Rattle.journal_scan.proofs.StretchesLemmas.{numbers_joined}
 
@@ -47,9 +48,9 @@ pub record ReadsTo (takes : Tree → Type 0) (limit : ℕ) (bytes : List ℕ) (a
   pub are : values_of answers ≡ ts
 
 -- A scan stands behind stretches of which these are the records' trees.
-pub record ReadsBehind (takes : Tree → Type 0) (limit : ℕ) (bytes : List ℕ) (scan : Scan) (ts : List Tree) : Type 0 where
-  pub scanning : IsScanning limit bytes scan
-  pub to : ReadsTo takes limit bytes (offset_of scan) ts
+pub record ReadsBehind (takes : Tree → Type 0) (limit : ℕ) (bytes : List ℕ) (scan : ClosedScan) (ts : List Tree) : Type 0 where
+  pub closing : IsClosing limit bytes scan
+  pub to : ReadsTo takes limit (with_zero bytes) (passed_by bytes scan) ts
 
 module _ {V : Type 0} (reads : Tree → V → Type 0) (writes : V → Option Tree) (back : (t : Tree) (v : V) → reads t v → writes v ≡ Some t) where
   same_some : (u v : Tree) → Some u ≡ Some v → u ≡ v
@@ -100,10 +101,6 @@ module _ {V : Type 0} (reads : Tree → V → Type 0) (writes : V → Option Tre
       are = values_joined h.answers (f.is.verdict ∷ []) ∙ ap (λ x. x ++ values_of (f.is.verdict ∷ [])) h.are ∙ ap (λ x. ts ++ x) (values_read s.answer f.is.verdict us f.is.says o);
     }
 
-    pub one_read : (old new : Scan) (ts us : List Tree) (s : Stretch V) → ReadsBehind takes limit bytes old ts → IsScanning limit bytes new
-        → FoundAll takes reads limit bytes (offset_of old) (offset_of new) (Some s) → AreTreesOf writes (record_read s.answer) us → ReadsBehind takes limit bytes new (ts ++ us)
-    one_read old new ts us s h k f o = record { scanning = k; to = one_more (offset_of old) (offset_of new) ts us s h.to f o }
-
     -- a record that was read within the limit isn't refused for its length
     never_refused : (old new : ℕ) (s : Stretch V) (held now : LineState) (most : ℕ) (x : _) → limit < most + 1
         → FoundAll takes reads limit bytes old new (Some s) → StopsAnew writes most s.answer held now (Refused x) → ⊥
@@ -122,12 +119,6 @@ module _ {V : Type 0} (reads : Tree → V → Type 0) (writes : V → Option Tre
         go Cut v m is k = k
 
 module _ (takes : Tree → Type 0) (limit : ℕ) (bytes : List ℕ) where
-  pub none_read : (scan : Scan) → IsScanning limit bytes scan → ended 0 (take (offset_of scan) bytes) ≡ [] → ReadsBehind takes limit bytes scan []
-  none_read scan h e = record {
-    scanning = h;
-    to = record { answers = []; each = subst (λ ps. AllZip (IsAnswer (HoldsExactly (takes_record takes)) limit) ps []) (sym e) tt; are = refl };
-  }
-
   -- all that is read
   pub all_read : (at : ℕ) (ts : List Tree) → ReadsTo takes limit bytes at ts → ended 0 bytes ≡ ended 0 (take at bytes) → AreReadIn takes limit bytes ts
   all_read at ts h e =
@@ -151,22 +142,6 @@ module _ (takes : Tree → Type 0) (limit : ℕ) (bytes : List ℕ) where
   -- nothing is read of no bytes
   pub nothing_read : AreReadFirst takes limit bytes []
   nothing_read = record { count = 0; answers = begun_answers limit []; given = record { done = []; each = tt; whole = refl }; are = none_in_begun limit [] }
-
--- the same in a longer log
-reads_longer : (takes : Tree → Type 0) (limit : ℕ) (bytes more : List ℕ) (at : ℕ) (ts : List Tree) → at ≤ length bytes → ReadsTo takes limit bytes at ts → ReadsTo takes limit (bytes ++ more) at ts
-reads_longer takes limit bytes more at ts l h = record {
-  answers = h.answers;
-  each = subst (λ x. AllZip (IsAnswer (HoldsExactly (takes_record takes)) limit) (ended 0 x) h.answers) (sym (take-append-le at bytes more l)) h.each;
-  are = h.are;
-}
-
--- before the zero that stands behind a log
-reads_before : (takes : Tree → Type 0) (limit : ℕ) (bytes : List ℕ) (scan : Scan) (ts : List Tree) → ReadsBehind takes limit bytes scan ts → ReadsTo takes limit (with_zero bytes) (offset_of scan) ts
-reads_before takes limit bytes scan ts h = reads_longer takes limit bytes (0 ∷ []) (offset_of scan) ts h.scanning.within h.to
-
--- all of a log with a zero behind it was gone over
-all_taken : (bytes : List ℕ) → ended 0 (with_zero bytes) ≡ ended 0 (take (length bytes + 1) (with_zero bytes))
-all_taken bytes = ap (ended 0) (sym (take_all (length bytes + 1) (with_zero bytes) (omega (arith, length-append bytes (0 ∷ [])))))
 
 -- a fact of the bytes with a zero behind them, where they are told
 pub if_with_zero : (held : Option (List ℕ)) (P : List ℕ → Type 0) → ((bytes : List ℕ) → held ≡ Some bytes → P (with_zero bytes)) → IfSome (told_with_zero held) P
@@ -217,10 +192,6 @@ if_stopped writes most Damaged old new Sync P h = absurd h
 if_stopped writes most TooLong old new Sync P h = absurd h
 if_stopped writes most Cut old new Sync P h = absurd h
 
--- a fact of an error that is passed on
-pub if_passed : {T E : Type 0} (r : Result T E) (e : E) (P : E → Type 0) → IsErrAnd r (λ y. y ≡ e) → P e → IfErr r P
-if_passed r e P h p = let a = err_from_is_err_and r h in rw a.1 (subst P (sym a.2) p)
-
 -- nothing was appended, or only a front of the zero
 pub none_appended : (takes : Tree → Type 0) (limit : ℕ) (held : Option (List ℕ)) (old new : LineState) → Wrote old new [] → IsPartlyRepaired takes limit (told_with_zero held) old new
 none_appended takes limit held old new w = record { trees = []; count = 0; read = if_with_zero held (λ bytes. AreReadFirst takes limit bytes []) (λ bytes e. nothing_read takes limit (with_zero bytes)); wrote = w }
@@ -233,7 +204,7 @@ none_if None h = refl
 none_if (Some bytes) h = absurd (h bytes refl)
 
 -- The records behind which a scan stands were appended anew, and are counted.
-pub record RepairedSoFar {V : Type 0} (takes : Tree → Type 0) (writes : V → Option Tree) (limit : ℕ) (held : Option (List ℕ)) (old now : LineState) (repaired : Repaired) (scan : Scan) : Type 0 where
+pub record RepairedSoFar {V : Type 0} (takes : Tree → Type 0) (writes : V → Option Tree) (limit : ℕ) (held : Option (List ℕ)) (old now : LineState) (repaired : Repaired) (scan : ClosedScan) : Type 0 where
   pub records : List (ℕ × V)
   pub trees : List Tree
   pub of : AreTreesOf writes records trees
@@ -241,6 +212,12 @@ pub record RepairedSoFar {V : Type 0} (takes : Tree → Type 0) (writes : V → 
   pub records_are : repaired.records ≡ min (length records) (2 ^ 64 - 1)
   pub next_is : repaired.next ≡ behind_greatest (numbers_of records)
   pub behind : (bytes : List ℕ) → held ≡ Some bytes → ReadsBehind takes limit bytes scan trees
+
+-- a record whose frame stands in front of a buffer went out
+pub went_anew : (m : ℕ) (writes : Option Tree) (n k : ℕ) (b : List ℕ) (old new : LineState) → WrittenWhole (record_of m writes) (λ bytes. (n ≡ length (shortest_frame bytes) + 1) × (take n b ≡ frame_for 0 bytes ++ 0 ∷ []))
+    → n ≤ k → Wrote old new (take k (take n b)) → WentAnew writes m old new
+went_anew m None n k b old new h l w = absurd h
+went_anew m (Some v) n k b old new h l w = record { value = v; is = refl; wrote = subst (Wrote old new) (take_all k (take n b) (omega (arith, length-take n b, l)) ∙ h.1.1) w }
 
 -- what one answer adds
 module _ {V : Type 0} (writes : V → Option Tree) (old new : LineState) (repaired later : Repaired) where
@@ -256,158 +233,49 @@ module _ {V : Type 0} (writes : V → Option Tree) (old new : LineState) (repair
 
 -- the steps of a repair
 module _ {V : Type 0} (reads : Tree → V → Type 0) (writes : V → Option Tree) (back : (t : Tree) (v : V) → reads t v → writes v ≡ Some t) (takes : Tree → Type 0) (limit : ℕ) (held : Option (List ℕ)) (old : LineState) where
-  pub repair_begins : (now : LineState) (repaired : Repaired) (scan : Scan) → Wrote old now (0 ∷ []) → repaired.records ≡ 0 → repaired.next ≡ 0
-      → ((bytes : List ℕ) → IsScanning limit bytes scan) → offset_of scan ≡ 0 → RepairedSoFar takes writes limit held old now repaired scan
-  repair_begins now repaired scan w e f stands at = record {
+  pub repair_begins : (now : LineState) (repaired : Repaired) (scan : ClosedScan) → Wrote old now (0 ∷ []) → repaired.records ≡ 0 → repaired.next ≡ 0
+      → ((bytes : List ℕ) → Begins limit bytes scan) → RepairedSoFar takes writes limit held old now repaired scan
+  repair_begins now repaired scan w e f begins = record {
     records = [];
     trees = [];
     of = tt;
     wrote = w;
     records_are = e;
     next_is = f;
-    behind = λ bytes h. none_read takes limit bytes scan (stands bytes) (ap (λ n. ended 0 (take n bytes)) at);
+    behind = λ bytes h. record {
+      closing = (begins bytes).0;
+      to = subst (λ n. ReadsTo takes limit (with_zero bytes) n []) (sym (begins bytes).1) record { answers = []; each = tt; are = refl };
+    };
   }
 
-  module _ {now : LineState} {repaired : Repaired} {scan : Scan} (h : RepairedSoFar takes writes limit held old now repaired scan) where
-    -- behind the last stretch that a zero ends
-    pub repair_passes : (later : Scan) → ((bytes : List ℕ) → held ≡ Some bytes → IsScanning limit bytes scan → IsScanning limit bytes later)
-        → ((bytes : List ℕ) → held ≡ Some bytes → IsScanning limit bytes scan → FoundAll {V = V} takes reads limit bytes (offset_of scan) (offset_of later) None) → RepairedSoFar takes writes limit held old now repaired later
-    repair_passes later stands found = record {
+  module _ {now : LineState} {repaired : Repaired} {scan : ClosedScan} (h : RepairedSoFar takes writes limit held old now repaired scan) where
+    so_far : IfSome (told_with_zero held) (λ bytes. AreReadFirst takes limit bytes h.trees)
+    so_far = if_with_zero held (λ bytes. AreReadFirst takes limit bytes h.trees) (λ bytes x. some_read takes limit (with_zero bytes) (passed_by bytes scan) h.trees (h.behind bytes x).to)
+
+    -- it was broken off between two stretches
+    pub repair_stops : (new : LineState) → new.told ≡ now.told → now.faults ≤ new.faults → IsPartlyRepaired takes limit (told_with_zero held) old new
+    repair_stops new e l = record { trees = h.trees; count = length (rewritten h.trees); read = so_far; wrote = wrote_still old now new _ (all_anew old now now h.trees h.wrote) e l }
+
+    -- all of it was appended
+    pub repair_ends : (later : ClosedScan) (new : LineState) → ((bytes : List ℕ) → held ≡ Some bytes → IsClosing limit bytes scan → FoundClosed {V = V} takes reads limit bytes scan later None) → new.told ≡ now.told → now.faults ≤ new.faults
+        → IsRepaired takes writes limit (told_with_zero held) old new repaired
+    repair_ends later new found e l = record {
       records = h.records;
       trees = h.trees;
       of = h.of;
-      wrote = h.wrote;
+      read = if_with_zero held (λ bytes. AreReadIn takes limit bytes h.trees) (λ bytes x. let k = h.behind bytes x in all_read takes limit (with_zero bytes) (passed_by bytes scan) h.trees k.to (found bytes x k.closing).1.1);
+      wrote = wrote_still old now new (rewritten h.trees) h.wrote e l;
       records_are = h.records_are;
       next_is = h.next_is;
-      behind = λ bytes x.
-          let k = h.behind bytes x in
-          let f = found bytes x k.scanning in
-          record {
-            scanning = stands bytes x k.scanning;
-            to = record {
-              answers = k.to.answers;
-              each = subst (λ ps. AllZip (IsAnswer (HoldsExactly (takes_record takes)) limit) ps k.to.answers) (sym (ap (ended 0) (take_all (offset_of later) bytes (omega (arith, f.0))) ∙ f.1)) k.to.each;
-              are = k.to.are;
-            };
-          };
     }
-
-    -- it was broken off between two of them
-    pub repair_stops : (new : LineState) → new.told ≡ now.told → now.faults ≤ new.faults → IsPartlyRepaired takes limit (told_with_zero held) old new
-    repair_stops new e l = record {
-      trees = h.trees;
-      count = length (rewritten h.trees);
-      read = if_with_zero held (λ bytes. AreReadFirst takes limit bytes h.trees) (λ bytes x. some_read takes limit (with_zero bytes) (offset_of scan) h.trees (reads_before takes limit bytes scan h.trees (h.behind bytes x)));
-      wrote = wrote_still old now new _ (all_anew old now now h.trees h.wrote) e l;
-    }
-
-    -- what a zero behind the log ends was appended too, where it is a record
-    module _ (ends : (bytes : List ℕ) → held ≡ Some bytes → IsScanning limit bytes scan → offset_of scan ≡ length bytes) where
-      reads_last : (last : Option (Stretch V)) (us : List Tree) → AreTreesOf writes (last_record last) us → (bytes : List ℕ) → held ≡ Some bytes → FoundLast takes reads limit bytes last
-          → ReadsTo takes limit (with_zero bytes) (length bytes + 1) (h.trees ++ us)
-      reads_last None [] o bytes x f =
-          let k = h.behind bytes x in
-          let before = subst (λ n. ReadsTo takes limit (with_zero bytes) n h.trees) (ends bytes x k.scanning) (reads_before takes limit bytes scan h.trees k) in
-          record {
-            answers = before.answers;
-            each = subst (λ ps. AllZip (IsAnswer (HoldsExactly (takes_record takes)) limit) ps before.answers) (sym f) before.each;
-            are = before.are ∙ sym (append-nil h.trees);
-          }
-      reads_last None (u ∷ us) o bytes x f = absurd o
-      reads_last (Some s) us o bytes x f =
-          let k = h.behind bytes x in
-          let before = subst (λ n. ReadsTo takes limit (with_zero bytes) n h.trees) (ends bytes x k.scanning) (reads_before takes limit bytes scan h.trees k) in
-          one_more reads writes back takes limit (with_zero bytes) (length bytes) (length bytes + 1) h.trees us s before f o
-
-      last_goes : (new : LineState) (next : Repaired) → LastGoesAnew takes reads writes scan now new repaired next → IsRepaired takes writes limit (told_with_zero held) old new next
-      last_goes new next g =
-          let rs = last_record g.last in
-          let sizes : length rs ≡ length g.trees = sym (zip_length (IsTreeOf writes) rs g.trees g.of) in
-          let all : length (h.records ++ rs) ≡ length h.records + length g.trees = length-append h.records rs ∙ ap (λ n. length h.records + n) sizes in
-          record {
-            records = h.records ++ rs;
-            trees = h.trees ++ g.trees;
-            of = zip_joined (IsTreeOf writes) h.records rs h.trees g.trees h.of g.of;
-            read = if_with_zero held (λ bytes. AreReadIn takes limit bytes (h.trees ++ g.trees)) (λ bytes x. let k = h.behind bytes x in
-                all_read takes limit (with_zero bytes) (length bytes + 1) (h.trees ++ g.trees) (reads_last g.last g.trees g.of bytes x (g.found limit bytes k.scanning (ends bytes x k.scanning))) (all_taken bytes));
-            wrote = more_anew old now new h.trees g.trees h.wrote g.wrote;
-            records_are = min_more repaired.records next.records (length h.records) (length g.trees) (2 ^ 64 - 1) h.records_are g.records_are ∙ ap (λ n. min n (2 ^ 64 - 1)) (sym all);
-            next_is = g.next_is (numbers_of h.records) h.next_is ∙ ap behind_greatest (sym (numbers_joined h.records rs));
-          }
-
-      -- all of it was appended
-      pub repair_ends : (mid new : LineState) (next : Repaired) → LastGoesAnew takes reads writes scan now mid repaired next → new.told ≡ mid.told → mid.faults ≤ new.faults
-          → IsRepaired takes writes limit (told_with_zero held) old new next
-      repair_ends mid new next g e l =
-          let r = last_goes mid next g in
-          record { records = r.records; trees = r.trees; of = r.of; read = r.read; wrote = wrote_still old mid new (rewritten r.trees) r.wrote e l; records_are = r.records_are; next_is = r.next_is }
-
-      -- but it couldn't be synced
-      pub repair_unsynced : (mid new : LineState) (next : Repaired) → LastGoesAnew takes reads writes scan now mid repaired next → new.told ≡ mid.told → mid.faults ≤ new.faults
-          → IsPartlyRepaired takes limit (told_with_zero held) old new
-      repair_unsynced mid new next g e l =
-          let ts = h.trees ++ g.trees in
-          record {
-            trees = ts;
-            count = length (rewritten ts);
-            read = if_with_zero held (λ bytes. AreReadFirst takes limit bytes ts) (λ bytes x. let k = h.behind bytes x in
-                some_read takes limit (with_zero bytes) (length bytes + 1) ts (reads_last g.last g.trees g.of bytes x (g.found limit bytes k.scanning (ends bytes x k.scanning))));
-            wrote = wrote_still old mid new _ (all_anew old mid mid ts (more_anew old now mid h.trees g.trees h.wrote g.wrote)) e l;
-          }
-
-      -- it was broken off inside that record
-      pub last_breaks : (new : LineState) (most : ℕ) (e : RepairError) → LastStopsAnew takes reads writes most scan now new e → IsPartlyRepaired takes limit (told_with_zero held) old new
-      last_breaks new most (Read x) st = record {
-        trees = h.trees;
-        count = length (rewritten h.trees);
-        read = if_with_zero held (λ bytes. AreReadFirst takes limit bytes h.trees) (λ bytes x. some_read takes limit (with_zero bytes) (offset_of scan) h.trees (reads_before takes limit bytes scan h.trees (h.behind bytes x)));
-        wrote = all_anew old new new h.trees (subst (Wrote old new) (append-nil (rewritten h.trees)) (Wrote-then _ _ _ _ _ h.wrote st));
-      }
-      last_breaks new most Line st = go st.last.answer refl st.stops
-        where
-          go : (a : Answer (ℕ × V)) → a ≡ st.last.answer → StopsAnew writes most a now new Line → IsPartlyRepaired takes limit (told_with_zero held) old new
-          go (Value r) q b =
-              let us = numbered r.0 b.value ∷ [] in
-              let ts = h.trees ++ us in
-              record {
-                trees = ts;
-                count = length (rewritten h.trees) + b.count;
-                read = if_with_zero held (λ bytes. AreReadFirst takes limit bytes ts) (λ bytes x. let k = h.behind bytes x in
-                    some_read takes limit (with_zero bytes) (length bytes + 1) ts
-                    (reads_last (Some st.last) us (subst (λ z. AreTreesOf writes (record_read z) us) q ((b.value, b.is, refl), tt)) bytes x (st.found limit bytes k.scanning (ends bytes x k.scanning))));
-                wrote = front_anew old now new h.trees (numbered r.0 b.value) b.count h.wrote b.wrote;
-              }
-          go Damaged q b = absurd b
-          go TooLong q b = absurd b
-          go Cut q b = absurd b
-      last_breaks new most (Refused x) st = go st.last.answer st.stops
-        where
-          go : (a : Answer (ℕ × V)) → StopsAnew writes most a now new (Refused x) → IsPartlyRepaired takes limit (told_with_zero held) old new
-          go (Value r) b = record {
-            trees = h.trees;
-            count = length (rewritten h.trees);
-            read = if_with_zero held (λ bytes. AreReadFirst takes limit bytes h.trees) (λ bytes x. some_read takes limit (with_zero bytes) (offset_of scan) h.trees (reads_before takes limit bytes scan h.trees (h.behind bytes x)));
-            wrote = all_anew old new new h.trees (subst (Wrote old new) (append-nil (rewritten h.trees)) (Wrote-then _ _ _ _ _ h.wrote b.0));
-          }
-          go Damaged b = absurd b
-          go TooLong b = absurd b
-          go Cut b = absurd b
-      last_breaks new most Sync st = absurd st
-
-      -- nor is that record refused
-      pub last_fits : (new : LineState) (most : ℕ) (e : RepairError) → limit < most + 1 → LastStopsAnew takes reads writes most scan now new e → IfRefused e (held ≡ None)
-      last_fits new most (Read x) l st = tt
-      last_fits new most (Refused x) l st =
-          none_if held (λ bytes y. let k = h.behind bytes y in
-          never_refused reads writes back takes limit (with_zero bytes) (length bytes) (length bytes + 1) st.last now new most x l (st.found limit bytes k.scanning (ends bytes y k.scanning)) st.stops)
-      last_fits new most Line l st = tt
-      last_fits new most Sync l st = tt
 
     -- one stretch more
-    module _ (later : Scan) (s : Stretch V) (stands : (bytes : List ℕ) → held ≡ Some bytes → IsScanning limit bytes scan → IsScanning limit bytes later)
-        (found : (bytes : List ℕ) → held ≡ Some bytes → IsScanning limit bytes scan → FoundAll takes reads limit bytes (offset_of scan) (offset_of later) (Some s)) where
+    module _ (later : ClosedScan) (s : Stretch V) (found : (bytes : List ℕ) → held ≡ Some bytes → IsClosing limit bytes scan → FoundClosed takes reads limit bytes scan later (Some s)) where
       reads_on : (us : List Tree) → AreTreesOf writes (record_read s.answer) us → (bytes : List ℕ) → held ≡ Some bytes → ReadsBehind takes limit bytes later (h.trees ++ us)
-      reads_on us o bytes x = let k = h.behind bytes x in one_read reads writes back takes limit bytes scan later h.trees us s k (stands bytes x k.scanning) (found bytes x k.scanning) o
+      reads_on us o bytes x =
+          let k = h.behind bytes x in
+          let f = found bytes x k.closing in
+          record { closing = f.0; to = one_more reads writes back takes limit (with_zero bytes) (passed_by bytes scan) (passed_by bytes later) h.trees us s k.to f.1 o }
 
       pub repair_goes : (new : LineState) (next : Repaired) → GoesAnew writes s.answer now new repaired next → RepairedSoFar takes writes limit held old new next later
       repair_goes new next goes =
@@ -434,13 +302,13 @@ module _ {V : Type 0} (reads : Tree → V → Type 0) (writes : V → Option Tre
                 trees = ts;
                 count = length (rewritten h.trees) + st.count;
                 read = if_with_zero held (λ bytes. AreReadFirst takes limit bytes ts)
-                    (λ bytes x. some_read takes limit (with_zero bytes) (offset_of later) ts (reads_before takes limit bytes later ts (reads_on (numbered r.0 st.value ∷ []) (subst (λ b. AreTreesOf writes (record_read b) (numbered r.0 st.value ∷ [])) q ((st.value, st.is, refl), tt)) bytes x)));
+                    (λ bytes x. some_read takes limit (with_zero bytes) (passed_by bytes later) ts (reads_on (numbered r.0 st.value ∷ []) (subst (λ b. AreTreesOf writes (record_read b) (numbered r.0 st.value ∷ [])) q ((st.value, st.is, refl), tt)) bytes x).to);
                 wrote = front_anew old now new h.trees (numbered r.0 st.value) st.count h.wrote st.wrote;
               }
           go (Value r) q (Refused x) st = record {
             trees = h.trees;
             count = length (rewritten h.trees);
-            read = if_with_zero held (λ bytes. AreReadFirst takes limit bytes h.trees) (λ bytes x. some_read takes limit (with_zero bytes) (offset_of scan) h.trees (reads_before takes limit bytes scan h.trees (h.behind bytes x)));
+            read = so_far;
             wrote = all_anew old new new h.trees (subst (Wrote old new) (append-nil (rewritten h.trees)) (Wrote-then _ _ _ _ _ h.wrote st.0));
           }
           go (Value r) q (Read x) st = absurd st
@@ -453,44 +321,6 @@ module _ {V : Type 0} (reads : Tree → V → Type 0) (writes : V → Option Tre
       pub repair_fits : (new : LineState) (most : ℕ) (e : RepairError) → limit < most + 1 → StopsAnew writes most s.answer now new e → IfRefused e (held ≡ None)
       repair_fits new most (Read x) l st = tt
       repair_fits new most (Refused x) l st =
-          none_if held (λ bytes y. never_refused reads writes back takes limit bytes (offset_of scan) (offset_of later) s now new most x l (found bytes y (h.behind bytes y).scanning) st)
+          none_if held (λ bytes y. never_refused reads writes back takes limit (with_zero bytes) (passed_by bytes scan) (passed_by bytes later) s now new most x l (found bytes y (h.behind bytes y).closing).1 st)
       repair_fits new most Line l st = tt
       repair_fits new most Sync l st = tt
-
--- what appending the record of the last stretch says of the whole
-module _ {V : Type 0} (takes : Tree → Type 0) (reads : Tree → V → Type 0) (writes : V → Option Tree) (scan : Scan) (old new : LineState) where
-  pub no_last : ((limit : ℕ) (bytes : List ℕ) → IsScanning limit bytes scan → offset_of scan ≡ length bytes → FoundLast takes reads limit bytes None) → (repaired : Repaired) → repaired.records ≤ 2 ^ 64 - 1
-      → LastGoesAnew takes reads writes scan old old repaired repaired
-  no_last found repaired l = record {
-    last = None;
-    found = found;
-    trees = [];
-    of = tt;
-    wrote = Wrote-none old;
-    records_are = omega (arith, l);
-    next_is = λ ns h. h ∙ ap behind_greatest (sym (append-nil ns));
-  }
-
-  module _ (s : Stretch V) (found : (limit : ℕ) (bytes : List ℕ) → IsScanning limit bytes scan → offset_of scan ≡ length bytes → FoundLast takes reads limit bytes (Some s)) where
-    pub last_some : (repaired : Repaired) (r : Result Repaired RepairError) → IfOk r (λ later. GoesAnew writes s.answer old new repaired later) → IfOk r (λ later. LastGoesAnew takes reads writes scan old new repaired later)
-    last_some repaired (Ok later) h = record { last = Some s; found = found; trees = h.trees; of = h.of; wrote = h.wrote; records_are = h.records_are; next_is = h.next_is }
-    last_some repaired (Err e) h = tt
-
-    never_read : (a : Answer (ℕ × V)) (most : ℕ) (x : _) → StopsAnew writes most a old new (Read x) → ⊥
-    never_read (Value r) most x h = h
-    never_read Damaged most x h = h
-    never_read TooLong most x h = h
-    never_read Cut most x h = h
-
-    never_sync : (a : Answer (ℕ × V)) (most : ℕ) → StopsAnew writes most a old new Sync → ⊥
-    never_sync (Value r) most h = h
-    never_sync Damaged most h = h
-    never_sync TooLong most h = h
-    never_sync Cut most h = h
-
-    pub last_stops : (most : ℕ) (r : Result Repaired RepairError) → IfErr r (λ e. StopsAnew writes most s.answer old new e) → IfErr r (λ e. LastStopsAnew takes reads writes most scan old new e)
-    last_stops most (Ok later) h = tt
-    last_stops most (Err (Read x)) h = absurd (never_read s.answer most x h)
-    last_stops most (Err (Refused x)) h = record { last = s; found = found; stops = h }
-    last_stops most (Err Line) h = record { last = s; found = found; stops = h }
-    last_stops most (Err Sync) h = absurd (never_sync s.answer most h)

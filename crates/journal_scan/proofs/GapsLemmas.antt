@@ -1,9 +1,8 @@
 -- Ranges of numbers, and what one number more makes of them.
-use Rattle.std.proofs.Common.{◌≡◌, ◌↔◌, ◌⊎◌, ℕ, ◌+◌, ◌-◌, ◌^◌, ◌<◌, ◌≤◌, max, min, nat_lt, true, false, List, [], ◌∷◌, ◌++◌, length, get_or, take, drop, refl, sym, ap, ◌∙◌, subst, inl, inr, append_assoc, arith}
-use Rattle.std.specs.Prelude.{Bool, if◌then◌else◌}
+use Rattle.std.proofs.Common.{◌≡◌, ◌↔◌, ◌⊎◌, ℕ, ◌+◌, ◌-◌, ◌^◌, ◌<◌, ◌≤◌, max, min, List, [], ◌∷◌, ◌++◌, length, get_or, take, drop, refl, sym, ap, ◌∙◌, subst, inl, inr, append_assoc, arith}
 use Rattle.std.proofs.Math.ListN.{set}
 use Rattle.std.specs.List.{Contains, insert}
-use Rattle.std.proofs.lemmas.Bool.{ltb-true, ltb-false, lt-ltb, le-ltb}
+use Rattle.std.proofs.lemmas.Bool.{lt-ltb, le-ltb, cases_lt, cases_eq}
 use Rattle.std.proofs.lemmas.List.{length-append, length-take, take_more, drop_more, take-append-drop, take-set, drop-set, set-append_left, set-append_right, get_or_default}
 use Rattle.std.proofs.lemmas.List.Elements.{Contains-push, Contains-push_cases, Contains-append_left, Contains-append_right, Contains-append_cases}
 use Rattle.journal_scan.specs.declared.tallies.Gap.{Gap}
@@ -56,15 +55,6 @@ pub behind_push : (ns : List ℕ) (n : ℕ) → behind_greatest (ns ++ n ∷ [])
 behind_push [] n = omega arith
 behind_push (m ∷ ns) n = omega (arith, behind_push ns n)
 
--- one number is another, or isn't
-eq_or : (a b : ℕ) → (a ≡ b) ⊎ (a ≡ b → ⊥)
-eq_or a b = go (nat_lt a b) (nat_lt b a) refl refl
-  where
-    go : (x y : Bool) → nat_lt a b ≡ x → nat_lt b a ≡ y → (a ≡ b) ⊎ (a ≡ b → ⊥)
-    go false false e f = inl (omega (arith, ltb-false a b e, ltb-false b a f))
-    go true y e f = inr (λ h. omega (arith, ltb-true a b e, h))
-    go false true e f = inr (λ h. omega (arith, ltb-true b a f, h))
-
 not_in_none : (k : ℕ) → Contains {X = ℕ} [] k → ⊥
 not_in_none k h = omega (arith, h.1)
 
@@ -79,7 +69,7 @@ pub contains_or : (xs : List ℕ) (k : ℕ) → Contains xs k ⊎ (Contains xs k
 contains_or [] k = inr (not_in_none k)
 contains_or (x ∷ xs) k = elim (contains_or xs k) [
   | inl e ↦ inl (Contains-append_right (x ∷ []) xs k e)
-  | inr e ↦ elim (eq_or x k) [
+  | inr e ↦ elim (cases_eq x k) [
     | inl y ↦ inl (subst (Contains (x ∷ xs)) y (Contains-append_left (x ∷ []) xs x (Contains-push [] x)))
     | inr y ↦ inr (λ h. elim (contains_cases x xs k h) [ inl z ↦ y z | inr z ↦ e z ])
   ]
@@ -90,84 +80,83 @@ pub contains_below : (ns : List ℕ) (k : ℕ) → Contains ns k → k < 2 ^ 64 
 contains_below [] k h l = absurd (not_in_none k h)
 contains_below (n ∷ ns) k h l = elim (contains_cases n ns k h) [ inl e ↦ omega (arith, e, l) | inr e ↦ omega (arith, contains_below ns k e l) ]
 
-abbrev low : Gap → ℕ → Gap
-low g n = record { first = g.first; last = n - 1 }
+-- the range of the numbers from one up to another
+gap_is : (a b : ℕ) → a < b → gap_before a b ≡ record { first = a; last = b - 1 } ∷ []
+gap_is a b l = rw (lt-ltb a b l) refl
 
-abbrev high : Gap → ℕ → Gap
-high g n = record { first = n + 1; last = g.last }
+no_gap : (a b : ℕ) → b ≤ a → gap_before a b ≡ []
+no_gap a b l = rw (le-ltb a b l) refl
 
-without_is : (g : Gap) (n : ℕ) (b c : Bool) → nat_lt g.first n ≡ b → nat_lt n g.last ≡ c → gaps_without g n ≡ (if b then low g n ∷ [] else []) ++ (if c then high g n ∷ [] else [])
-without_is g n b c e f =
-    ap (λ x. (if x then low g n ∷ [] else []) ++ (if nat_lt n g.last then high g n ∷ [] else [])) e ∙ ap (λ x. (if b then low g n ∷ [] else []) ++ (if x then high g n ∷ [] else [])) f
+record IsRange (a b : ℕ) (w : List Gap) : Type 0 where
+  inside : (k : ℕ) → LiesIn w k → (a ≤ k) × (k < b)
+  all : (k : ℕ) → a ≤ k → k < b → LiesIn w k
+  apart : (from : ℕ) → (a < b → from ≤ a) → AreApart from w
+  behind : (from : ℕ) → (b ≤ a → from ≤ b + 1) → behind_ranges from w ≤ b + 1
+
+is_range : (a b : ℕ) → IsRange a b (gap_before a b)
+is_range a b = elim (cases_lt a b) [
+  | inl l ↦ rw (gap_is a b l) record {
+    inside = λ k. elim [ inl z ↦ (z.0, omega (arith, z, l)) | inr z ↦ absurd z ];
+    all = λ k p q. inl (p, omega (arith, q));
+    apart = λ from h. (h l, omega (arith, l), tt);
+    behind = λ from h. omega (arith, l);
+  }
+  | inr l ↦ rw (no_gap a b l) record {
+    inside = λ k z. absurd z;
+    all = λ k p q. absurd (omega (arith, p, q, l));
+    apart = λ from h. tt;
+    behind = λ from h. h l;
+  }
+]
 
 -- what is left of a range
-pub record IsLeft (from n : ℕ) (g : Gap) (w : List Gap) : Type 0 where
-  pub apart : AreApart from w
-  pub behind : behind_ranges from w ≤ g.last + 2
-  pub inside : (k : ℕ) → LiesIn w k → (g.first ≤ k) × (k ≤ g.last) × (k ≡ n → ⊥)
-  pub all : (k : ℕ) → g.first ≤ k → k ≤ g.last → (k ≡ n → ⊥) → LiesIn w k
+record IsLeft (from n : ℕ) (g : Gap) (w : List Gap) : Type 0 where
+  apart : AreApart from w
+  behind : behind_ranges from w ≤ g.last + 2
+  inside : (k : ℕ) → LiesIn w k → (g.first ≤ k) × (k ≤ g.last) × (k ≡ n → ⊥)
+  all : (k : ℕ) → g.first ≤ k → k ≤ g.last → (k ≡ n → ⊥) → LiesIn w k
 
-pub is_left : (from n : ℕ) (g : Gap) → from ≤ g.first → g.first ≤ n → n ≤ g.last → IsLeft from n g (gaps_without g n)
-is_left from n g f l m = go (nat_lt g.first n) (nat_lt n g.last) refl refl
-  where
-    split : (k : ℕ) → (k ≡ n → ⊥) → (k < n) ⊎ (n < k)
-    split k r = go2 (nat_lt k n) refl
-      where
-        go2 : (b : Bool) → nat_lt k n ≡ b → (k < n) ⊎ (n < k)
-        go2 true e = inl (ltb-true k n e)
-        go2 false e = inr (omega (arith, ltb-false k n e, r))
-
-    go : (b c : Bool) → nat_lt g.first n ≡ b → nat_lt n g.last ≡ c → IsLeft from n g (gaps_without g n)
-    go true true e h =
-        let x = ltb-true g.first n e in
-        let y = ltb-true n g.last h in
-        subst (IsLeft from n g) (sym (without_is g n true true e h)) record {
-          apart = (f, omega (arith, x), (omega (arith, x), omega (arith, y), tt));
-          behind = omega arith;
-          inside = λ k. elim [ inl z ↦ (omega (arith, z), omega (arith, z, y), λ q. omega (arith, z, q, x)) | inr z ↦ elim z [ inl q ↦ (omega (arith, q, x), omega (arith, q), λ r. omega (arith, q, r)) | inr q ↦ absurd q ] ];
-          all = λ k p q r. elim (split k r) [ inl z ↦ inl (p, omega (arith, z)) | inr z ↦ inr (inl (omega (arith, z), q)) ];
-        }
-    go true false e h =
-        let x = ltb-true g.first n e in
-        let y = ltb-false n g.last h in
-        subst (IsLeft from n g) (sym (without_is g n true false e h)) record {
-          apart = (f, omega (arith, x), tt);
-          behind = omega (arith, m);
-          inside = λ k. elim [ inl z ↦ (omega (arith, z), omega (arith, z, m), λ q. omega (arith, z, q, x)) | inr z ↦ absurd z ];
-          all = λ k p q r. elim (split k r) [ inl z ↦ inl (p, omega (arith, z)) | inr z ↦ absurd (omega (arith, z, y, q)) ];
-        }
-    go false true e h =
-        let x = ltb-false g.first n e in
-        let y = ltb-true n g.last h in
-        subst (IsLeft from n g) (sym (without_is g n false true e h)) record {
-          apart = (omega (arith, f, l), omega (arith, y), tt);
-          behind = omega arith;
-          inside = λ k. elim [ inl z ↦ (omega (arith, z, l), omega (arith, z), λ q. omega (arith, z, q)) | inr z ↦ absurd z ];
-          all = λ k p q r. elim (split k r) [ inl z ↦ absurd (omega (arith, z, x, p)) | inr z ↦ inl (omega (arith, z), q) ];
-        }
-    go false false e h =
-        let x = ltb-false g.first n e in
-        let y = ltb-false n g.last h in
-        subst (IsLeft from n g) (sym (without_is g n false false e h)) record {
-          apart = tt;
-          behind = omega (arith, f, l, m);
-          inside = λ k z. absurd z;
-          all = λ k p q r. absurd (r (omega (arith, p, q, x, y)));
-        }
+is_left : (from n : ℕ) (g : Gap) → from ≤ g.first → g.first ≤ n → n ≤ g.last → IsLeft from n g (gaps_without g n)
+is_left from n g f l m =
+    let low = gap_before g.first n in
+    let high = gap_before (n + 1) (g.last + 1) in
+    let a = is_range g.first n in
+    let b = is_range (n + 1) (g.last + 1) in
+    let before : behind_ranges from low ≤ n + 1 = a.behind from (λ _. omega (arith, f, l)) in
+    let behind : behind_ranges (behind_ranges from low) high ≤ (g.last + 1) + 1 = b.behind (behind_ranges from low) (λ _. omega (arith, before, m)) in
+    record {
+      apart = apart_joined from low high (a.apart from (λ _. f)) (b.apart (behind_ranges from low) (λ _. before));
+      behind = omega (arith, behind_joined from low high, behind);
+      inside = λ k h. elim ((lies_joined low high k).0 h) [
+        | inl z ↦ (let i = a.inside k z in (i.0, omega (arith, i, m), λ e. omega (arith, i, e)))
+        | inr z ↦ (let i = b.inside k z in (omega (arith, i, l), omega (arith, i), λ e. omega (arith, i, e)))
+      ];
+      all = λ k p q r. elim (cases_lt k n) [
+        | inl z ↦ (lies_joined low high k).1 (inl (a.all k p z))
+        | inr z ↦ (lies_joined low high k).1 (inr (b.all k (omega (arith, z, r)) (omega (arith, q))))
+      ];
+    }
 
 module _ {ns : List ℕ} {next : ℕ} {gaps : List Gap} {count : ℕ} (t : Tallies ns next gaps count) (n : ℕ) where
-  -- a number that was counted before
-  pub one_again : n < next → (LiesIn gaps n → ⊥) → Tallies (ns ++ n ∷ []) next gaps (min (count + 1) (2 ^ 64 - 1))
-  one_again l none = record {
-    next_is = omega (arith, l, t.next_is, behind_push ns n);
+  -- with one number more
+  tallied : (later : ℕ) (now : List Gap) → later ≡ max next (min (n + 1) (2 ^ 64 - 1)) → ((k : ℕ) → LiesIn now k → (k < later) × (Contains ns k → ⊥) × (n ≡ k → ⊥))
+      → ((k : ℕ) → k < later → (Contains ns k → ⊥) → (n ≡ k → ⊥) → LiesIn now k) → AreApart 0 now → (later < 2 ^ 64 - 1 → behind_ranges 0 now ≤ later)
+      → Tallies (ns ++ n ∷ []) later now (min (count + 1) (2 ^ 64 - 1))
+  tallied later now e only all apart under = record {
+    next_is = omega (arith, e, t.next_is, behind_push ns n);
     missing = λ k. (
-      λ h. let m = (t.missing k).0 h in (m.0, λ c. elim (Contains-push_cases ns n k c) [ inl e ↦ m.1 e | inr e ↦ none (subst (LiesIn gaps) (sym e) h) ]),
-      λ h. (t.missing k).1 (h.0, λ e. h.1 (Contains-append_left ns (n ∷ []) k e)),
+      λ h. (let q = only k h in (q.0, λ c. elim (Contains-push_cases ns n k c) [ inl x ↦ q.1 x | inr x ↦ q.2 x ])),
+      λ h. all k h.0 (λ c. h.1 (Contains-append_left ns (n ∷ []) k c)) (λ x. h.1 (subst (Contains (ns ++ n ∷ [])) x (Contains-push ns n))),
     );
-    apart = t.apart;
+    apart = apart;
+    under = under;
     count_is = omega (arith, t.count_is, length-append ns (n ∷ []));
-    under = t.under;
   }
+
+  -- one that was counted before
+  pub one_again : n < next → (LiesIn gaps n → ⊥) → Tallies (ns ++ n ∷ []) next gaps (min (count + 1) (2 ^ 64 - 1))
+  one_again l none =
+      tallied next gaps (omega (arith, l)) (λ k h. (let m = (t.missing k).0 h in (m.0, m.1, λ e. none (subst (LiesIn gaps) (sym e) h)))) (λ k p q r. (t.missing k).1 (p, q)) t.apart t.under
 
   pub was_counted : n < next → (LiesIn gaps n → ⊥) → Contains ns n
   was_counted l none = elim (contains_or ns n) [ inl e ↦ e | inr e ↦ absurd (none ((t.missing n).1 (l, e))) ]
@@ -175,75 +164,25 @@ module _ {ns : List ℕ} {next : ℕ} {gaps : List Gap} {count : ℕ} (t : Talli
   pub not_counted : next ≤ n → n < 2 ^ 64 - 1 → Contains ns n → ⊥
   not_counted l m h = omega (arith, l, t.next_is, contains_below ns n h m)
 
--- the range before a number that is further ahead
-pub record IsAhead (next n : ℕ) (w : List Gap) : Type 0 where
-  pub inside : (k : ℕ) → LiesIn w k → (next ≤ k) × (k < n)
-  pub all : (k : ℕ) → next ≤ k → k < n → LiesIn w k
-  pub apart : (from : ℕ) → (next < n → from ≤ next) → AreApart from w
-  pub behind : (from : ℕ) → (next ≡ n → from ≤ next) → behind_ranges from w ≤ n + 1
-
-pub is_ahead : (next n : ℕ) → next ≤ n → IsAhead next n (gap_before next n)
-is_ahead next n l = go (nat_lt next n) refl
-  where
-    go : (b : Bool) → nat_lt next n ≡ b → IsAhead next n (if b then record { first = next; last = n - 1 } ∷ [] else [])
-    go true e =
-        let x = ltb-true next n e in
-        record {
-          inside = λ k. elim [ inl z ↦ (z.0, omega (arith, z, x)) | inr z ↦ absurd z ];
-          all = λ k p q. inl (p, omega (arith, q));
-          apart = λ from h. (h x, omega (arith, x), tt);
-          behind = λ from h. omega (arith, x);
-        }
-    go false e =
-        let x = ltb-false next n e in
-        record {
-          inside = λ k z. absurd z;
-          all = λ k p q. absurd (omega (arith, p, q, x));
-          apart = λ from h. tt;
-          behind = λ from h. (let same : next ≡ n = omega (arith, l, x) in let m : from ≤ next = h same in omega (arith, m, same));
-        }
-
-module _ {ns : List ℕ} {next : ℕ} {gaps : List Gap} {count : ℕ} (t : Tallies ns next gaps count) (n : ℕ) where
-  -- a number that isn't below the next one
-  pub one_next : next ≤ n → n < 2 ^ 64 → Tallies (ns ++ n ∷ []) (min (n + 1) (2 ^ 64 - 1)) (gaps ++ gap_before next n) (min (count + 1) (2 ^ 64 - 1))
-  one_next l m =
+  -- one that isn't below the next one
+  pub one_next : (later : ℕ) (now : List Gap) → next ≤ n → n < 2 ^ 64 → later ≡ min (n + 1) (2 ^ 64 - 1) → now ≡ gaps ++ gap_before next n → Tallies (ns ++ n ∷ []) later now (min (count + 1) (2 ^ 64 - 1))
+  one_next later now l m later_is now_is =
       let w = gap_before next n in
-      let a = is_ahead next n l in
-      record {
-        next_is = omega (arith, l, m, t.next_is, behind_push ns n);
-        missing = λ k. (
-          λ h. elim ((lies_joined gaps w k).0 h) [
-            | inl e ↦ (
-                let q = (t.missing k).0 e in
-                (omega (arith, q.0, l, m), λ c. elim (Contains-push_cases ns n k c) [ inl y ↦ q.1 y | inr y ↦ omega (arith, y, q.0, l) ])
-                )
-            | inr e ↦ (
-                let q = a.inside k e in
-                (omega (arith, q, m), λ c. elim (Contains-push_cases ns n k c) [ inl y ↦ omega (arith, q, t.next_is, contains_below ns k y (omega (arith, q, m))) | inr y ↦ omega (arith, y, q) ])
-                )
-          ],
-          λ h. elim (eq_or k n) [
-            | inl e ↦ absurd (h.1 (subst (Contains (ns ++ n ∷ [])) (sym e) (Contains-push ns n)))
-            | inr e ↦ elim (below_or k next) [
-              | inl y ↦ (lies_joined gaps w k).1 (inl ((t.missing k).1 (y, λ c. h.1 (Contains-append_left ns (n ∷ []) k c))))
-              | inr y ↦ (lies_joined gaps w k).1 (inr (a.all k y (omega (arith, h.0, e))))
-            ]
-          ],
-        );
-        apart = apart_joined 0 gaps w t.apart (a.apart (behind_ranges 0 gaps) (λ x. t.under (omega (arith, x, m))));
-        count_is = omega (arith, t.count_is, length-append ns (n ∷ []));
-        under = λ x. (let b = behind_joined 0 gaps w in let c = a.behind (behind_ranges 0 gaps) (λ y. t.under (omega (arith, x, y))) in omega (arith, b, c, x));
-      }
-    where
-      below_or : (k n : ℕ) → (k < n) ⊎ (n ≤ k)
-      below_or k n = go (nat_lt k n) refl
-        where
-          go : (b : Bool) → nat_lt k n ≡ b → (k < n) ⊎ (n ≤ k)
-          go true e = inl (ltb-true k n e)
-          go false e = inr (ltb-false k n e)
-
-  pub counted_next : (later : ℕ) (now : List Gap) → next ≤ n → n < 2 ^ 64 → later ≡ min (n + 1) (2 ^ 64 - 1) → now ≡ gaps ++ gap_before next n → Tallies (ns ++ n ∷ []) later now (min (count + 1) (2 ^ 64 - 1))
-  counted_next later now l m e f = subst (λ x. Tallies (ns ++ n ∷ []) x now (min (count + 1) (2 ^ 64 - 1))) (sym e) (subst (λ x. Tallies (ns ++ n ∷ []) (min (n + 1) (2 ^ 64 - 1)) x (min (count + 1) (2 ^ 64 - 1))) (sym f) (one_next l m))
+      let a = is_range next n in
+      rw now_is (tallied later (gaps ++ w) (omega (arith, later_is, l, m))
+      (λ k h. elim ((lies_joined gaps w k).0 h) [
+        | inl e ↦ (let q = (t.missing k).0 e in (omega (arith, later_is, q.0, l, m), q.1, λ x. omega (arith, x, q.0, l)))
+        | inr e ↦ (let q = a.inside k e in (omega (arith, later_is, q, m), λ c. omega (arith, q, t.next_is, contains_below ns k c (omega (arith, q, m))), λ x. omega (arith, x, q)))
+      ])
+      (λ k p q r. elim (cases_lt k next) [
+        | inl y ↦ (lies_joined gaps w k).1 (inl ((t.missing k).1 (y, q)))
+        | inr y ↦ (lies_joined gaps w k).1 (inr (a.all k y (omega (arith, later_is, p, r))))
+      ])
+      (apart_joined 0 gaps w t.apart (a.apart (behind_ranges 0 gaps) (λ x. t.under (omega (arith, x, m)))))
+      (λ x. (
+      let b = behind_joined 0 gaps w in
+      let c = a.behind (behind_ranges 0 gaps) (λ y. (let u = t.under (omega (arith, later_is, x, y, l)) in omega (arith, u, l))) in
+      omega (arith, later_is, b, c, x))))
 
 -- a number in one of the ranges
 module _ {ns : List ℕ} {next count : ℕ} (front rest : List Gap) (g : Gap) (n : ℕ) (t : Tallies ns next (front ++ (g ∷ rest)) count) (f : g.first ≤ n) (m : n ≤ g.last) where
@@ -252,29 +191,13 @@ module _ {ns : List ℕ} {next count : ℕ} (front rest : List Gap) (g : Gap) (n
 
   pub one_late : Tallies (ns ++ n ∷ []) next (front ++ (gaps_without g n ++ rest)) (min (count + 1) (2 ^ 64 - 1))
   one_late =
-      let w = gaps_without g n in
-      let from = behind_ranges 0 front in
-      let parts = apart_front 0 front (g ∷ rest) t.apart in
-      let left = is_left from n g parts.1.0 f m in
-      let here = (t.missing n).0 lies_here in
-      let before : (k : ℕ) → LiesIn front k → k + 2 ≤ from = λ k h. lies_before 0 front k parts.0 h in
-      let behind : (k : ℕ) → LiesIn rest k → g.last + 2 ≤ k = λ k h. lies_behind (g.last + 2) rest k parts.1.2 h in
-      record {
-        next_is = omega (arith, here.0, t.next_is, behind_push ns n);
-        missing = λ k. (
-          λ h. (let q = old k h in let r = (t.missing k).0 q.0 in (r.0, λ c. elim (Contains-push_cases ns n k c) [ inl y ↦ r.1 y | inr y ↦ q.1 (sym y) ])),
-          λ h. new k ((t.missing k).1 (h.0, λ c. h.1 (Contains-append_left ns (n ∷ []) k c))) (λ e. h.1 (subst (Contains (ns ++ n ∷ [])) (sym e) (Contains-push ns n))),
-        );
-        apart = apart_joined 0 front (w ++ rest) parts.0 (apart_joined from w rest left.apart (apart_earlier (g.last + 2) (behind_ranges from w) rest left.behind parts.1.2));
-        count_is = omega (arith, t.count_is, length-append ns (n ∷ []));
-        under = λ x. (
-            let u = t.under x in
-            let b : behind_ranges 0 (front ++ (g ∷ rest)) ≡ behind_ranges (g.last + 2) rest = behind_joined 0 front (g ∷ rest) in
-            let c : behind_ranges 0 (front ++ (w ++ rest)) ≡ behind_ranges (behind_ranges from w) rest = behind_joined 0 front (w ++ rest) ∙ behind_joined from w rest in
-            let d = behind_earlier (g.last + 2) (behind_ranges from w) rest left.behind in
-            omega (arith, u, b, c, d)
-            );
-      }
+      tallied t n next (front ++ (w ++ rest)) (omega (arith, ((t.missing n).0 lies_here).0)) (λ k h. (let q = old k h in let r = (t.missing k).0 q.0 in (r.0, r.1, λ e. q.1 (sym e)))) (λ k p q r. new k ((t.missing k).1 (p, q)) (λ e. r (sym e)))
+      (apart_joined 0 front (w ++ rest) parts.0 (apart_joined (behind_ranges 0 front) w rest left.apart (apart_earlier (g.last + 2) (behind_ranges (behind_ranges 0 front) w) rest left.behind parts.1.2)))
+      (λ x. (
+      let b : behind_ranges 0 (front ++ (g ∷ rest)) ≡ behind_ranges (g.last + 2) rest = behind_joined 0 front (g ∷ rest) in
+      let c : behind_ranges 0 (front ++ (w ++ rest)) ≡ behind_ranges (behind_ranges (behind_ranges 0 front) w) rest = behind_joined 0 front (w ++ rest) ∙ behind_joined (behind_ranges 0 front) w rest in
+      let d = behind_earlier (g.last + 2) (behind_ranges (behind_ranges 0 front) w) rest left.behind in
+      omega (arith, t.under x, b, c, d)))
     where
       w : List Gap
       w = gaps_without g n
@@ -305,32 +228,37 @@ module _ {ns : List ℕ} {next count : ℕ} (front rest : List Gap) (g : Gap) (n
 
 -- the edits of a list of ranges at a place
 module _ (xs : List Gap) (i n : ℕ) (g d : Gap) (l : i < length xs) (is : g ≡ get_or xs i g) where
-  there : get_or xs i d ≡ g
-  there = get_or_default xs i d g l ∙ sym is
-
   abbrev left_there : List Gap
   left_there = take i xs ++ (gaps_without (get_or xs i d) n ++ drop (i + 1) xs)
 
-  there_is : (b c : Bool) → nat_lt g.first n ≡ b → nat_lt n g.last ≡ c → left_there ≡ take i xs ++ (((if b then low g n ∷ [] else []) ++ (if c then high g n ∷ [] else [])) ++ drop (i + 1) xs)
-  there_is b c e f = ap (λ x. take i xs ++ (x ++ drop (i + 1) xs)) (ap (λ x. gaps_without x n) there ∙ without_is g n b c e f)
+  abbrev low : Gap
+  low = record { first = g.first; last = n - 1 }
+
+  abbrev high : Gap
+  high = record { first = n + 1; last = g.last }
+
+  left_is : (w : List Gap) → gaps_without g n ≡ w → take i xs ++ (w ++ drop (i + 1) xs) ≡ left_there
+  left_is w e = ap (λ x. take i xs ++ (x ++ drop (i + 1) xs)) (sym e ∙ ap (λ x. gaps_without x n) (is ∙ sym (get_or_default xs i d g l)))
 
   set_there : (y : Gap) → set xs i y ≡ take i xs ++ (y ∷ drop (i + 1) xs)
   set_there y = sym (take-append-drop i (set xs i y)) ∙ ap (λ x. x ++ drop i (set xs i y)) (take-set xs i y) ∙ ap (λ x. take i xs ++ x) (drop-set xs i y l)
 
-  pub cut_low : g.first < n → g.last ≤ n → set xs i (low g n) ≡ left_there
-  cut_low a b = set_there (low g n) ∙ sym (there_is true false (lt-ltb g.first n a) (le-ltb n g.last b))
+  is_high : n < g.last → gap_before (n + 1) (g.last + 1) ≡ high ∷ []
+  is_high b = gap_is (n + 1) (g.last + 1) (omega (arith, b)) ∙ ap (λ m. record { first = n + 1; last = m } ∷ []) (let e : (g.last + 1) - 1 ≡ g.last = omega arith in e)
 
-  pub cut_high : n ≤ g.first → n < g.last → set xs i (high g n) ≡ left_there
-  cut_high a b = set_there (high g n) ∙ sym (there_is false true (le-ltb g.first n a) (lt-ltb n g.last b))
+  pub cut_low : g.first < n → g.last ≤ n → set xs i low ≡ left_there
+  cut_low a b = set_there low ∙ left_is (low ∷ []) (ap (λ x. x ++ gap_before (n + 1) (g.last + 1)) (gap_is g.first n a) ∙ ap (λ x. low ∷ x) (no_gap (n + 1) (g.last + 1) (omega (arith, b))))
 
-  pub cut_both : g.first < n → n < g.last → set (insert xs (i + 1) (high g n)) i (low g n) ≡ left_there
+  pub cut_high : n ≤ g.first → n < g.last → set xs i high ≡ left_there
+  cut_high a b = set_there high ∙ left_is (high ∷ []) (ap (λ x. x ++ gap_before (n + 1) (g.last + 1)) (no_gap g.first n a) ∙ is_high b)
+
+  pub cut_both : g.first < n → n < g.last → set (insert xs (i + 1) high) i low ≡ left_there
   cut_both a b =
       let size : length (take (i + 1) xs) ≡ i + 1 = length-take (i + 1) xs ∙ omega (arith, l) in
-      let inside : i < length (take (i + 1) xs) = omega (arith, size) in
-      let first : set (take (i + 1) xs) i (low g n) ≡ take i xs ++ (low g n ∷ []) =
-      ap (λ x. set x i (low g n)) (take_more xs i d l) ∙ set_last (take i xs) (get_or xs i d) (low g n) i (length-take i xs ∙ omega (arith, l)) in
-      set-append_left (take (i + 1) xs) (high g n ∷ drop (i + 1) xs) i (low g n) inside ∙ ap (λ x. x ++ (high g n ∷ drop (i + 1) xs)) first
-      ∙ append_assoc (take i xs) (low g n ∷ []) (high g n ∷ drop (i + 1) xs) ∙ sym (there_is true true (lt-ltb g.first n a) (lt-ltb n g.last b))
+      let first : set (take (i + 1) xs) i low ≡ take i xs ++ (low ∷ []) =
+      ap (λ x. set x i low) (take_more xs i d l) ∙ set_last (take i xs) (get_or xs i d) low i (length-take i xs ∙ omega (arith, l)) in
+      set-append_left (take (i + 1) xs) (high ∷ drop (i + 1) xs) i low (omega (arith, size)) ∙ ap (λ x. x ++ (high ∷ drop (i + 1) xs)) first
+      ∙ append_assoc (take i xs) (low ∷ []) (high ∷ drop (i + 1) xs) ∙ left_is (low ∷ high ∷ []) (ap (λ x. x ++ gap_before (n + 1) (g.last + 1)) (gap_is g.first n a) ∙ ap (λ x. low ∷ x) (is_high b))
     where
       set_last : (ys : List Gap) (x y : Gap) (k : ℕ) → length ys ≡ k → set (ys ++ x ∷ []) k y ≡ ys ++ y ∷ []
       set_last ys x y k e = set-append_right ys (x ∷ []) k k y e (omega arith) ∙ ap (λ j. ys ++ set (x ∷ []) j y) (let z : k - k ≡ 0 = omega arith in z)
@@ -347,8 +275,7 @@ module _ {ns : List ℕ} {next : ℕ} {gaps : List Gap} {count : ℕ} (t : Talli
   parted = subst (λ x. Tallies ns next x count) split t
 
   pub counted_late : (later : ℕ) (now : List Gap) → later ≡ next → ((g : Gap) → now ≡ take i gaps ++ (gaps_without (get_or gaps i g) n ++ drop (i + 1) gaps)) → Tallies (ns ++ n ∷ []) later now (min (count + 1) (2 ^ 64 - 1))
-  counted_late later now e h =
-      subst (λ x. Tallies (ns ++ n ∷ []) x now (min (count + 1) (2 ^ 64 - 1))) (sym e) (subst (λ x. Tallies (ns ++ n ∷ []) next x (min (count + 1) (2 ^ 64 - 1))) (sym (h any)) (one_late (take i gaps) (drop (i + 1) gaps) (get_or gaps i any) n parted (f any) (m any)))
+  counted_late later now e h = rw e (rw (h any) (one_late (take i gaps) (drop (i + 1) gaps) (get_or gaps i any) n parted (f any) (m any)))
 
   pub not_counted_late : Contains ns n → ⊥
   not_counted_late = ((parted.missing n).0 (lies_here (take i gaps) (drop (i + 1) gaps) (get_or gaps i any) n parted (f any) (m any))).1

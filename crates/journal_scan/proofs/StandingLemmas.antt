@@ -19,6 +19,7 @@ use Rattle.link.specs.declared.receiver.Answer.TheVariants.{Value, Damaged, TooL
 use Rattle.link.specs.declared.receiver.NoMemory.{NoMemory}
 use Rattle.journal.specs.Records.{takes_record, reads_record}
 use Rattle.journal_scan.specs.declared.scanning.Stretch.{Stretch}
+use Rattle.journal_scan.specs.Stretches.{is_past, ended_stretch}
 use Rattle.journal_scan.specs.Scanning.{ScanStands, IsNextStretch, Found, FoundLast, with_zero}
 use Rattle.journal_scan.proofs.WalkingLemmas.{no_zero_more, alone_ended, alone_unfinished, zero_ended, zero_unfinished, behind_of, first_of, push_quiet, push_answer}
 
@@ -88,6 +89,18 @@ stands_new limit at r bytes l e h =
 -- one that read other bytes from where it is
 pub stands_read : {limit at from : ℕ} {r : Reception CobsDecoderOwned} {past : Bool} {unread bytes : List ℕ} (now rest : List ℕ) → ScanStands limit r at from past unread bytes → drop at bytes ≡ now ++ rest → ScanStands limit r at from past now bytes
 stands_read now rest s e = record { within = s.within; rest = rest; unread_is = e; from_is = s.from_is; behind = s.behind; past_is = s.past_is }
+
+-- where the unfinished stretch begins behind what was found
+abbrev pub next_begin : {V : Type 0} → ℕ → ℕ → Option (Stretch V) → ℕ
+next_begin from at None = from
+next_begin from at (Some s) = at
+
+-- what a push of the bytes that were read says, which leaves these of them
+abbrev pub StandsPushed : {V : Type 0} → (Tree → Type 0) → (Tree → V → Type 0) → ℕ → ℕ → ℕ → ℕ → Reception CobsDecoderOwned → List ℕ → List ℕ → Result (Option (Answer (ℕ × V))) NoMemory → Type 0
+StandsPushed takes reads limit at from used now left bytes (Ok o) =
+    ScanStands limit now (at + used) (next_begin from (at + used) (ended_stretch from (at + (used - 1)) o)) (is_past o) left bytes
+    × Found takes reads limit bytes at (at + used) (ended_stretch from (at + (used - 1)) o)
+StandsPushed takes reads limit at from used now left bytes (Err e) = ScanStands limit now (at + used) (at + used) false left bytes
 
 module _ {limit at from : ℕ} {r : Reception CobsDecoderOwned} {past : Bool} {unread bytes : List ℕ} (s : ScanStands limit r at from past unread bytes) where
   abbrev stream : List ℕ
@@ -211,38 +224,33 @@ module _ {limit at from : ℕ} {r : Reception CobsDecoderOwned} {past : Bool} {u
     later_behind : IsBehind in_owner limit 0 now (take (at + used) bytes)
     later_behind = subst (IsBehind in_owner limit 0 now) (sym (moved at used unread s.rest bytes s.within s.unread_is l).taken) (stands stream s.behind)
 
-    pub pushed_none : Answered {V = ℕ × V} holds (reads_record reads) limit 0 u unread used (Ok None) → ScanStands limit now (at + used) from past (drop used unread) bytes × (ended 0 (take (at + used) bytes) ≡ ended 0 (take at bytes))
+    pushed_none : Answered {V = ℕ × V} holds (reads_record reads) limit 0 u unread used (Ok None) → ScanStands limit now (at + used) from false (drop used unread) bytes × (ended 0 (take (at + used) bytes) ≡ ended 0 (take at bytes))
     pushed_none (a, e, p) =
         let k = push_quiet holds limit u unread used nonzero fits first_byte (subst (IsPush holds limit 0 u unread used) e p) in
-        subst (λ b. ScanStands limit now (at + used) from b (drop used unread) bytes × (ended 0 (take (at + used) bytes) ≡ ended 0 (take at bytes))) (sym fresh) (stands_on used now false l k.0 k.1 later_behind)
+        stands_on used now false l k.0 k.1 later_behind
 
-    pub pushed_over : Answered {V = ℕ × V} holds (reads_record reads) limit 0 u unread used (Ok (Some TooLong)) → ScanStands limit now (at + used) from true (drop used unread) bytes × (ended 0 (take (at + used) bytes) ≡ ended 0 (take at bytes))
+    pushed_over : Answered {V = ℕ × V} holds (reads_record reads) limit 0 u unread used (Ok (Some TooLong)) → ScanStands limit now (at + used) from true (drop used unread) bytes × (ended 0 (take (at + used) bytes) ≡ ended 0 (take at bytes))
     pushed_over (a, says, p) = elim (push_answer holds limit u unread used nonzero fits first_byte says.0 some l (subst (IsPush holds limit 0 u unread used) says.2 p)) [
       | inl e ↦ absurd (omega (arith, not_less limit (length (u ++ take (used - 1) unread)) e.fits, subst (IsAnswer holds limit (u ++ take (used - 1) unread)) says.1 e.is))
       | inr e ↦ stands_on used now true l e.nonzero e.long later_behind
     ]
 
-    pub pushed_found : (x : Answer (ℕ × V)) → ((y : Verdict) → Matches (reads_record reads) x y → y ≡ too_long → ⊥) → Answered holds (reads_record reads) limit 0 u unread used (Ok (Some x))
-        → ScanStands limit now (at + used) (at + used) past (drop used unread) bytes × IsNextStretch holds (reads_record reads) limit bytes at (at + used) from (at + (used - 1)) x
+    pushed_found : (x : Answer (ℕ × V)) → ((y : Verdict) → Matches (reads_record reads) x y → y ≡ too_long → ⊥) → Answered holds (reads_record reads) limit 0 u unread used (Ok (Some x))
+        → ScanStands limit now (at + used) (at + used) false (drop used unread) bytes × IsNextStretch holds (reads_record reads) limit bytes at (at + used) from (at + (used - 1)) x
     pushed_found x other (a, says, p) = elim (push_answer holds limit u unread used nonzero fits first_byte says.0 some l (subst (IsPush holds limit 0 u unread used) says.2 p)) [
       | inl e ↦ (
-        subst (λ b. ScanStands limit now (at + used) (at + used) b (drop used unread) bytes) (sym fresh) (stands_found (take (used - 1) unread) used now l e.are e.nonzero (λ _. later_behind)),
+        stands_found (take (used - 1) unread) used now l e.are e.nonzero (λ _. later_behind),
         found holds (reads_record reads) (take (used - 1) unread) used x says.0 says.1 some l e.are e.nonzero e.some e.is,
       )
       | inr e ↦ absurd (other says.0 says.1 e.is)
     ]
 
-    pub pushed_lost : IsLost holds limit 0 u unread used → ScanStands limit now (at + used) (at + used) past (drop used unread) bytes
-    pushed_lost h = subst (λ b. ScanStands limit now (at + used) (at + used) b (drop used unread) bytes) (sym fresh) (stands_between used now l (none_begun limit (unfinished 0 (u ++ take used unread)) h.after) (λ _. later_behind))
+    pushed_lost : IsLost holds limit 0 u unread used → ScanStands limit now (at + used) (at + used) false (drop used unread) bytes
+    pushed_lost h = stands_between used now l (none_begun limit (unfinished 0 (u ++ take used unread)) h.after) (λ _. later_behind)
 
     -- all of it
-    abbrev pub Step : Result (Option (Answer (ℕ × V))) NoMemory → Type 0
-    Step (Ok None) = ScanStands limit now (at + used) from past (drop used unread) bytes × (ended 0 (take (at + used) bytes) ≡ ended 0 (take at bytes))
-    Step (Ok (Some TooLong)) = ScanStands limit now (at + used) from true (drop used unread) bytes × (ended 0 (take (at + used) bytes) ≡ ended 0 (take at bytes))
-    Step (Ok (Some x)) = ScanStands limit now (at + used) (at + used) past (drop used unread) bytes × IsNextStretch holds (reads_record reads) limit bytes at (at + used) from (at + (used - 1)) x
-    Step (Err e) = ScanStands limit now (at + used) (at + used) past (drop used unread) bytes
-
-    pub pushed : (result : Result (Option (Answer (ℕ × V))) NoMemory) → ((stream : List ℕ) → IsBehind in_owner limit 0 r stream → Answered holds (reads_record reads) limit 0 stream unread used result) → Step result
+    pub pushed : (result : Result (Option (Answer (ℕ × V))) NoMemory) → ((stream : List ℕ) → IsBehind in_owner limit 0 r stream → Answered holds (reads_record reads) limit 0 stream unread used result)
+        → StandsPushed takes reads limit at from used now (drop used unread) bytes result
     pushed (Ok None) h = pushed_none (h u own)
     pushed (Ok (Some TooLong)) h = pushed_over (h u own)
     pushed (Ok (Some (Value v))) h = pushed_found (Value v) (λ y m e. not_so (ap is_too_long (sym m.2 ∙ e))) (h u own)
@@ -282,46 +290,28 @@ module _ {limit at from : ℕ} {r : Reception CobsDecoderOwned} {past : Bool} {u
   pub stands_passed : {V : Type 0} (rule : List ℕ → Tree → Type 0) (reads : Tree → V → Type 0) (now : Reception CobsDecoderOwned) (later : List ℕ) → past ≡ true → unread ≡ 0 ∷ later → IsBehind in_owner limit 0 now []
       → ScanStands limit now (at + 1) (at + 1) false later bytes × IsNextStretch rule reads limit bytes at (at + 1) from at TooLong
   stands_passed rule reads now later e z h =
-      let zero_more : at + (1 - 1) ≡ at = omega arith in
-      let k = behind_of stream [] in
-      let within : 1 ≤ length unread = omega (arith, ap length z) in
-      let long : limit < length u = ltb-true limit (length u) (sym s.past_is ∙ e) in
-      let are : take 1 unread ≡ [] ++ 0 ∷ [] = ap (take 1) z in
-      let n : NoZero (u ++ []) = subst NoZero (sym (append-nil u)) k.nonzero in
-      let t = stands_found [] 1 now within are n (λ g. same_behind limit now [] (take (at + 1) bytes) (ap (λ c. if c then over else kept []) (no_less limit) ∙ sym g) h) in
-      let size : length (u ++ []) ≡ length u = ap length (append-nil u) in
-      let f = found rule reads [] 1 TooLong too_long refl (omega arith) within are n (omega (arith, size, long)) (omega (arith, size, long)) in
-      (subst (λ x. ScanStands limit now (at + 1) (at + 1) false x bytes) (ap (drop 1) z) t, subst (λ to. IsNextStretch rule reads limit bytes at (at + 1) from to TooLong) zero_more f)
+      let n : NoZero (u ++ []) = subst NoZero (sym (append-nil u)) (behind_of stream []).nonzero in
+      let t = stands_found [] 1 now (omega (arith, ap length z)) (ap (take 1) z) n (λ g. same_behind limit now [] (take (at + 1) bytes) (ap (λ c. if c then over else kept []) (no_less limit) ∙ sym g) h) in
+      (subst (λ x. ScanStands limit now (at + 1) (at + 1) false x bytes) (ap (drop 1) z) t, passed_found rule reads later e z)
 
--- what a push of a piece says that is what was read; what is left of it stands behind the bytes that were used
-module _ {V : Type 0} (takes : Tree → Type 0) (reads : Tree → V → Type 0) (limit at from : ℕ) (past : Bool) (bytes room : List ℕ) (start used : ℕ) (now : Reception CobsDecoderOwned) where
-  abbrev pub Later : Result (Option (Answer (ℕ × V))) NoMemory → Type 0
-  Later (Ok None) = ScanStands limit now (at + used) from past (drop (start + used) room) bytes × (ended 0 (take (at + used) bytes) ≡ ended 0 (take at bytes))
-  Later (Ok (Some TooLong)) = ScanStands limit now (at + used) from true (drop (start + used) room) bytes × (ended 0 (take (at + used) bytes) ≡ ended 0 (take at bytes))
-  Later (Ok (Some x)) =
-      ScanStands limit now (at + used) (at + used) past (drop (start + used) room) bytes × IsNextStretch (HoldsExactly (takes_record takes)) (reads_record reads) limit bytes at (at + used) from (at + (used - 1)) x
-  Later (Err e) = ScanStands limit now (at + used) (at + used) past (drop (start + used) room) bytes
+-- of a piece that is what was read; what is left of it stands behind the bytes that were used
+pub stands_later : {V : Type 0} (takes : Tree → Type 0) (reads : Tree → V → Type 0) (room : List ℕ) (start used : ℕ) (now : Reception CobsDecoderOwned) {limit at from : ℕ} {past : Bool} {bytes : List ℕ} {r : Reception CobsDecoderOwned} → ScanStands limit r at from past (drop start room) bytes → past ≡ false
+    → (from ≡ at → (later : List ℕ) → drop start room ≡ 0 ∷ later → ⊥) → (piece : List ℕ) → piece ≡ drop start room → 0 < used → used ≤ length piece
+    → ((stream : List ℕ) → IsBehind in_owner limit 0 r stream → IsBehind in_owner limit 0 now (stream ++ take used piece))
+    → (result : Result (Option (Answer (ℕ × V))) NoMemory) → ((stream : List ℕ) → IsBehind in_owner limit 0 r stream → Answered (HoldsExactly (takes_record takes)) (reads_record reads) limit 0 stream piece used result)
+    → (outcome : Result (Option (Answer (ℕ × V))) NoMemory) → result ≡ outcome → StandsPushed takes reads limit at from used now (drop (start + used) room) bytes outcome
+stands_later takes reads room start used now {limit} {at} {from} {past} {bytes} {r} s fresh first piece same some l stands result answers outcome e =
+    let here = subst (λ p. ScanStands limit r at from past p bytes) (sym same) s in
+    let begins = subst (λ p. from ≡ at → (later : List ℕ) → p ≡ 0 ∷ later → ⊥) (sym same) first in
+    subst (StandsPushed takes reads limit at from used now (drop (start + used) room) bytes) e
+    (subst (λ left. StandsPushed takes reads limit at from used now left bytes result) (ap (drop used) same ∙ drop-drop used start room) (pushed here takes reads used now fresh begins some l stands result answers))
 
-  later_of : {r : Reception CobsDecoderOwned} (s : ScanStands limit r at from past (drop start room) bytes) (fresh : past ≡ false) (first : from ≡ at → (later : List ℕ) → drop start room ≡ 0 ∷ later → ⊥) (some : 0 < used) (l : used ≤ length (drop start room))
-      (stands : (stream : List ℕ) → IsBehind in_owner limit 0 r stream → IsBehind in_owner limit 0 now (stream ++ take used (drop start room)))
-      (result : Result (Option (Answer (ℕ × V))) NoMemory) → Step s takes reads used now fresh first some l stands result → Later result
-  later_of s fresh first some l stands (Ok None) h = subst (λ x. ScanStands limit now (at + used) from past x bytes × (ended 0 (take (at + used) bytes) ≡ ended 0 (take at bytes))) (drop-drop used start room) h
-  later_of s fresh first some l stands (Ok (Some TooLong)) h = subst (λ x. ScanStands limit now (at + used) from true x bytes × (ended 0 (take (at + used) bytes) ≡ ended 0 (take at bytes))) (drop-drop used start room) h
-  later_of s fresh first some l stands (Ok (Some (Value v))) h = (subst (λ x. ScanStands limit now (at + used) (at + used) past x bytes) (drop-drop used start room) h.0, h.1)
-  later_of s fresh first some l stands (Ok (Some Damaged)) h = (subst (λ x. ScanStands limit now (at + used) (at + used) past x bytes) (drop-drop used start room) h.0, h.1)
-  later_of s fresh first some l stands (Ok (Some Cut)) h = (subst (λ x. ScanStands limit now (at + used) (at + used) past x bytes) (drop-drop used start room) h.0, h.1)
-  later_of s fresh first some l stands (Err e) h = subst (λ x. ScanStands limit now (at + used) (at + used) past x bytes) (drop-drop used start room) h
-
-  pub stands_later : {r : Reception CobsDecoderOwned} → ScanStands limit r at from past (drop start room) bytes → past ≡ false → (from ≡ at → (later : List ℕ) → drop start room ≡ 0 ∷ later → ⊥)
-      → (piece : List ℕ) → piece ≡ drop start room → 0 < used → used ≤ length piece
-      → ((stream : List ℕ) → IsBehind in_owner limit 0 r stream → IsBehind in_owner limit 0 now (stream ++ take used piece))
-      → (result outcome : Result (Option (Answer (ℕ × V))) NoMemory) → ((stream : List ℕ) → IsBehind in_owner limit 0 r stream → Answered (HoldsExactly (takes_record takes)) (reads_record reads) limit 0 stream piece used result)
-      → result ≡ outcome → Later outcome
-  stands_later {r} s fresh first piece same some l stands result outcome answers e =
-      let bound : used ≤ length (drop start room) = subst (λ p. used ≤ length p) same l in
-      let on = subst (λ p. (stream : List ℕ) → IsBehind in_owner limit 0 r stream → IsBehind in_owner limit 0 now (stream ++ take used p)) same stands in
-      let says = subst (λ p. (stream : List ℕ) → IsBehind in_owner limit 0 r stream → Answered (HoldsExactly (takes_record takes)) (reads_record reads) limit 0 stream p used result) same answers in
-      subst Later e (later_of s fresh first some bound on result (pushed s takes reads used now fresh first some bound on result says))
+-- the same by what was found, and whether the stretch is too long
+pub stands_by : {V : Type 0} (takes : Tree → Type 0) (reads : Tree → V → Type 0) (limit at from used : ℕ) (now : Reception CobsDecoderOwned) (left bytes : List ℕ) (o : Option (Answer (ℕ × V))) (past : Bool) (x : Option (Stretch V)) → past ≡ is_past o → ended_stretch from (at + (used - 1)) o ≡ x
+    → StandsPushed takes reads limit at from used now left bytes (Ok o) → ScanStands limit now (at + used) (next_begin from (at + used) x) past left bytes × Found takes reads limit bytes at (at + used) x
+stands_by takes reads limit at from used now left bytes o past x e f h =
+    subst (λ y. ScanStands limit now (at + used) (next_begin from (at + used) y) past left bytes × Found takes reads limit bytes at (at + used) y) f
+    (subst (λ b. ScanStands limit now (at + used) (next_begin from (at + used) (ended_stretch from (at + (used - 1)) o)) b left bytes × Found takes reads limit bytes at (at + used) (ended_stretch from (at + (used - 1)) o)) (sym e) h)
 
 -- from an offset before which no more stretch ends
 pub next_from : {V : Type 0} {holds : List ℕ → Tree → Type 0} {reads : Tree → V → Type 0} {limit first old new from to : ℕ} {bytes : List ℕ} {answer : Answer V} → ended 0 (take old bytes) ≡ ended 0 (take first bytes)
@@ -329,9 +319,9 @@ pub next_from : {V : Type 0} {holds : List ℕ → Tree → Type 0} {reads : Tre
 next_from e n = record { stretch = n.stretch; is = n.is; behind = n.behind; next = n.next ∙ ap (λ x. x ++ n.stretch ∷ []) e }
 
 module _ {V : Type 0} (takes : Tree → Type 0) (reads : Tree → V → Type 0) (limit : ℕ) (bytes : List ℕ) (first old new : ℕ) where
-  pub found_from : (o : Option (Stretch V)) → ended 0 (take old bytes) ≡ ended 0 (take first bytes) → Found takes reads limit bytes old new o → Found takes reads limit bytes first new o
-  found_from None e f = f ∙ e
-  found_from (Some s) e f = next_from e f
+  pub found_from : (o x : Option (Stretch V)) → o ≡ x → ended 0 (take old bytes) ≡ ended 0 (take first bytes) → Found takes reads limit bytes old new o → Found takes reads limit bytes first new x
+  found_from o None is e f = subst (Found takes reads limit bytes old new) is f ∙ e
+  found_from o (Some s) is e f = next_from e (subst (Found takes reads limit bytes old new) is f)
 
 -- in a longer log
 pub stands_longer : {limit at from : ℕ} {r : Reception CobsDecoderOwned} {past : Bool} {unread : List ℕ} (bytes more : List ℕ) → ScanStands limit r at from past unread bytes → ScanStands limit r at from past unread (bytes ++ more)
@@ -368,29 +358,12 @@ module _ {V : Type 0} (takes : Tree → Type 0) (reads : Tree → V → Type 0) 
   last_over e = last_is (Some (record { from = from; to = at; answer = TooLong })) (passed_found (stands_before_zero s end) holds_at_end (reads_record reads) [] e refl)
 
   -- one is that the receiver answers
-  abbrev pub AtEnd : Result (Option (Answer (ℕ × V))) NoMemory → Type 0
-  AtEnd (Ok None) = FoundLast {V = V} takes reads limit bytes None
-  AtEnd (Ok (Some TooLong)) = FoundLast {V = V} takes reads limit bytes None
-  AtEnd (Ok (Some x)) = FoundLast takes reads limit bytes (Some (record { from = from; to = at; answer = x }))
-  AtEnd (Err e) = Unit {0}
-
-  same_place : at + (1 - 1) ≡ at
-  same_place = omega arith
-
-  module _ (used : ℕ) (now : Reception CobsDecoderOwned) (fresh : past ≡ false) (begun_there : from ≡ at → ⊥) (some : 0 < used) (l : used ≤ 1) (stands : (stream : List ℕ) → IsBehind in_owner limit 0 r stream → IsBehind in_owner limit 0 now (stream ++ take used (0 ∷ []))) where
-    none_first : from ≡ at → (later : List ℕ) → 0 ∷ [] ≡ 0 ∷ later → ⊥
-    none_first e later same = begun_there e
-
-    one : used ≡ 1
-    one = omega (arith, some, l)
-
-    of_step : (result : Result (Option (Answer (ℕ × V))) NoMemory) → Step (stands_before_zero s end) takes reads used now fresh none_first some l stands result → AtEnd result
-    of_step (Ok None) h = last_is None (subst (λ n. ended 0 (take (at + n) (with_zero bytes)) ≡ ended 0 (take at (with_zero bytes))) one h.1)
-    of_step (Ok (Some TooLong)) h = last_is None (subst (λ n. ended 0 (take (at + n) (with_zero bytes)) ≡ ended 0 (take at (with_zero bytes))) one h.1)
-    of_step (Ok (Some (Value v))) h = last_is (Some (record { from = from; to = at; answer = Value v })) (subst (λ m. IsNextStretch holds_at_end (reads_record reads) limit (with_zero bytes) at (at + 1) from m (Value v)) same_place (subst (λ n. IsNextStretch holds_at_end (reads_record reads) limit (with_zero bytes) at (at + n) from (at + (n - 1)) (Value v)) one h.1))
-    of_step (Ok (Some Damaged)) h = last_is (Some (record { from = from; to = at; answer = Damaged })) (subst (λ m. IsNextStretch holds_at_end (reads_record reads) limit (with_zero bytes) at (at + 1) from m Damaged) same_place (subst (λ n. IsNextStretch holds_at_end (reads_record reads) limit (with_zero bytes) at (at + n) from (at + (n - 1)) Damaged) one h.1))
-    of_step (Ok (Some Cut)) h = last_is (Some (record { from = from; to = at; answer = Cut })) (subst (λ m. IsNextStretch holds_at_end (reads_record reads) limit (with_zero bytes) at (at + 1) from m Cut) same_place (subst (λ n. IsNextStretch holds_at_end (reads_record reads) limit (with_zero bytes) at (at + n) from (at + (n - 1)) Cut) one h.1))
-    of_step (Err e) h = tt
-
-    pub pushed_last : (result outcome : Result (Option (Answer (ℕ × V))) NoMemory) → ((stream : List ℕ) → IsBehind in_owner limit 0 r stream → Answered holds_at_end (reads_record reads) limit 0 stream (0 ∷ []) used result) → result ≡ outcome → AtEnd outcome
-    pushed_last result outcome answers e = subst AtEnd e (of_step result (pushed (stands_before_zero s end) takes reads used now fresh none_first some l stands result answers))
+  pub pushed_last : (used : ℕ) (now : Reception CobsDecoderOwned) → past ≡ false → (from ≡ at → ⊥) → 0 < used → used ≤ 1 → ((stream : List ℕ) → IsBehind in_owner limit 0 r stream → IsBehind in_owner limit 0 now (stream ++ take used (0 ∷ [])))
+      → (result : Result (Option (Answer (ℕ × V))) NoMemory) → ((stream : List ℕ) → IsBehind in_owner limit 0 r stream → Answered holds_at_end (reads_record reads) limit 0 stream (0 ∷ []) used result) → (o : Option (Answer (ℕ × V))) → result ≡ Ok o
+      → FoundLast takes reads limit bytes (ended_stretch from at o)
+  pushed_last used now fresh begun_there some l stands result answers o e =
+      let h = pushed (stands_before_zero s end) takes reads used now fresh (λ e later same. begun_there e) some l stands result answers in
+      let found = (subst (StandsPushed takes reads limit at from used now (drop used (0 ∷ [])) (with_zero bytes)) e h).1 in
+      let one : used ≡ 1 = omega (arith, some, l) in
+      let back : at + (1 - 1) ≡ at = omega arith in
+      last_is (ended_stretch from at o) (subst (λ to. Found takes reads limit (with_zero bytes) at (at + 1) (ended_stretch from to o)) back (subst (λ n. Found takes reads limit (with_zero bytes) at (at + n) (ended_stretch from (at + (n - 1)) o)) one found))

@@ -1,50 +1,19 @@
 -- The stretches that a scan found one after another.
-use Rattle.std.proofs.Common.{◌≡◌, ℕ, ◌+◌, ◌-◌, ◌^◌, ◌<◌, Bool, true, false, List, [], ◌∷◌, ◌++◌, length, take, Option, Some, None, Result, Ok, Err, refl, sym, ap, ◌∙◌, subst, append_assoc, arith}
+use Rattle.std.proofs.Common.{◌≡◌, ℕ, ◌+◌, ◌-◌, ◌^◌, ◌<◌, ◌≤◌, Bool, true, false, List, [], ◌∷◌, ◌++◌, length, take, Option, Some, None, Result, Ok, Err, refl, sym, ap, ◌∙◌, subst, append_assoc, arith}
 use Rattle.std.specs.Prelude.{IfSome, IfOk, IsTrue, ◌↔◌, if◌then◌else◌}
-use Rattle.link.specs.declared.receiver.Answer.TheVariants.{Value}
 use Rattle.std.specs.List.{Contains}
 use Rattle.std.proofs.lemmas.List.{append-nil, take_all, take-append-le, length-append}
 use Rattle.postcard_tree.specs.Tree.{Tree}
 use Rattle.link.specs.Stream.{ended}
 use Rattle.link.specs.Lemmas.Givens.{zip_one}
-use Rattle.journal_scan.specs.declared.scanning.Stretch.{Stretch}
-use Rattle.journal_scan.specs.declared.scanning.Scan.{Scan}
-use Rattle.journal_scan.specs.Scanning.{IsScanning, IsStretchAt, FoundAll, FoundLast, offset_of, with_zero}
-use Rattle.journal_scan.specs.Checks.{StandAt, AreStretches, IsChecked, IsRest, JudgesLast, IsAgain, listed_rest, record_in, records_in, numbers_of}
-use Rattle.journal.specs.Visits.{VisitorLaws}
-use Rattle.journal_scan.specs.declared.tallies.Tally.{Tally}
-use Rattle.journal_scan.specs.Tallies.{IsTally}
 use Rattle.link.specs.declared.receiver.Answer.{Answer}
-
--- a scan stands behind these stretches
-pub record StandsBehind {V : Type 0} (takes : Tree → Type 0) (reads : Tree → V → Type 0) (limit : ℕ) (bytes : List ℕ) (scan : Scan) (stretches : List (Stretch V)) : Type 0 where
-  pub scanning : IsScanning limit bytes scan
-  pub are : StandAt takes reads limit bytes (ended 0 (take (offset_of scan) bytes)) stretches
-
-module _ {V : Type 0} (takes : Tree → Type 0) (reads : Tree → V → Type 0) (limit : ℕ) (bytes : List ℕ) where
-  pub none_behind : (scan : Scan) → IsScanning limit bytes scan → ended 0 (take (offset_of scan) bytes) ≡ [] → StandsBehind takes reads limit bytes scan []
-  none_behind scan h e = record { scanning = h; are = subst (λ ps. StandAt takes reads limit bytes ps []) (sym e) tt }
-
-  pub one_behind : (old new : Scan) (stretches : List (Stretch V)) (s : Stretch V) → StandsBehind takes reads limit bytes old stretches → IsScanning limit bytes new → FoundAll takes reads limit bytes (offset_of old) (offset_of new) (Some s)
-      → StandsBehind takes reads limit bytes new (stretches ++ s ∷ [])
-  one_behind old new stretches s h k f = record { scanning = k; are = subst (λ ps. StandAt takes reads limit bytes ps (stretches ++ s ∷ [])) (sym f.next) (zip_one _ _ _ f.stretch s h.are f.is) }
-
-  pub all_behind : (old new : Scan) (stretches : List (Stretch V)) → StandsBehind takes reads limit bytes old stretches → FoundAll takes reads limit bytes (offset_of old) (offset_of new) None → AreStretches takes reads limit bytes stretches
-  all_behind old new stretches h f = subst (λ ps. StandAt takes reads limit bytes ps stretches) (sym f.1) h.are
-
-pub records_joined : {V : Type 0} (counted : ℕ → V → Bool) (a b : List (Stretch V)) → records_in counted (a ++ b) ≡ records_in counted a ++ records_in counted b
-records_joined counted [] b = refl
-records_joined counted (s ∷ a) b = ap (λ x. record_in counted s.answer ++ x) (records_joined counted a b) ∙ sym (append_assoc (record_in counted s.answer) (records_in counted a) (records_in counted b))
-
-pub records_more : {V : Type 0} (counted : ℕ → V → Bool) (a : List (Stretch V)) (s : Stretch V) → records_in counted (a ++ s ∷ []) ≡ records_in counted a ++ record_in counted s.answer
-records_more counted a s = records_joined counted a (s ∷ []) ∙ ap (λ x. records_in counted a ++ x) (append-nil (record_in counted s.answer))
-
-pub numbers_joined : {V : Type 0} (a b : List (ℕ × V)) → numbers_of (a ++ b) ≡ numbers_of a ++ numbers_of b
-numbers_joined [] b = refl
-numbers_joined (r ∷ a) b = ap (λ x. r.0 ∷ x) (numbers_joined a b)
-
-pub numbers_more : {V : Type 0} (counted : ℕ → V → Bool) (a : List (Stretch V)) (s : Stretch V) → numbers_of (records_in counted (a ++ s ∷ [])) ≡ numbers_of (records_in counted a) ++ numbers_of (record_in counted s.answer)
-numbers_more counted a s = ap numbers_of (records_more counted a s) ∙ numbers_joined (records_in counted a) (record_in counted s.answer)
+use Rattle.link.specs.declared.receiver.Answer.TheVariants.{Value}
+use Rattle.journal_scan.specs.declared.scanning.Stretch.{Stretch}
+use Rattle.journal_scan.specs.declared.closing.ClosedScan.{ClosedScan}
+use Rattle.journal_scan.specs.Scanning.{IsStretchAt, FoundAll, FoundLast, offset_of, with_zero}
+use Rattle.journal_scan.specs.Closing.{IsClosing, Begins, FoundClosed, passed_by}
+use Rattle.journal_scan.specs.Checks.{StandAt, AreStretches, IsAgain, record_in, records_in, numbers_of}
+use Rattle.journal_scan.proofs.StandingLemmas.{next_from}
 
 -- in a longer log
 stretch_longer : {V : Type 0} {holds : List ℕ → Tree → Type 0} {reads : Tree → V → Type 0} {limit : ℕ} {bytes p : List ℕ} {from to : ℕ} {answer : Answer V} (more : List ℕ)
@@ -64,26 +33,74 @@ stretch_longer {p = p} more h = record {
 }
 
 module _ {V : Type 0} (takes : Tree → Type 0) (reads : Tree → V → Type 0) (limit : ℕ) (bytes : List ℕ) where
-  stand_longer : (more : List ℕ) (ps : List (List ℕ)) (stretches : List (Stretch V)) → StandAt takes reads limit bytes ps stretches → StandAt takes reads limit (bytes ++ more) ps stretches
-  stand_longer more [] [] h = tt
-  stand_longer more [] (s ∷ stretches) h = absurd h
-  stand_longer more (p ∷ ps) [] h = absurd h
-  stand_longer more (p ∷ ps) (s ∷ stretches) h = (stretch_longer more h.0, stand_longer more ps stretches h.1)
+  within_zero : (at : ℕ) → at ≤ length bytes → ended 0 (take at (with_zero bytes)) ≡ ended 0 (take at bytes)
+  within_zero at l = ap (ended 0) (take-append-le at bytes (0 ∷ []) l)
 
-  all_of : ended 0 (take (length bytes + 1) (with_zero bytes)) ≡ ended 0 (with_zero bytes)
-  all_of = ap (ended 0) (take_all (length bytes + 1) (with_zero bytes) (omega (arith, length-append bytes (0 ∷ []))))
+  all_taken : ended 0 (take (length bytes + 1) (with_zero bytes)) ≡ ended 0 (with_zero bytes)
+  all_taken = ap (ended 0) (take_all (length bytes + 1) (with_zero bytes) (omega (arith, length-append bytes (0 ∷ []))))
 
-  front_of : ended 0 (take (length bytes) (with_zero bytes)) ≡ ended 0 bytes
-  front_of = ap (ended 0) (take-append-le (length bytes) bytes (0 ∷ []) (omega arith) ∙ take_all (length bytes) bytes (omega arith))
+  -- a stretch that stands before the zero behind a log
+  pub closed_some : (old new : ℕ) (s : Stretch V) → old ≤ length bytes → new ≤ length bytes → FoundAll takes reads limit bytes old new (Some s) → FoundAll takes reads limit (with_zero bytes) old new (Some s)
+  closed_some old new s l m f = record {
+    stretch = f.stretch;
+    is = stretch_longer (0 ∷ []) f.is;
+    behind = f.behind;
+    next = within_zero new m ∙ f.next ∙ ap (λ x. x ++ f.stretch ∷ []) (sym (within_zero old l));
+  }
 
-  -- with what a zero behind the log ends
-  pub last_behind : (stretches : List (Stretch V)) (o : Option (Stretch V)) → AreStretches takes reads limit bytes stretches → FoundLast takes reads limit bytes o → AreStretches takes reads limit (with_zero bytes) (stretches ++ listed_rest o)
-  last_behind stretches None h f =
-      subst (AreStretches takes reads limit (with_zero bytes)) (sym (append-nil stretches))
-      (subst (λ ps. StandAt takes reads limit (with_zero bytes) ps stretches) (sym (sym all_of ∙ f ∙ front_of)) (stand_longer (0 ∷ []) (ended 0 bytes) stretches h))
-  last_behind stretches (Some s) h f =
-      subst (λ ps. StandAt takes reads limit (with_zero bytes) ps (stretches ++ s ∷ [])) (sym (sym all_of ∙ f.next ∙ ap (λ x. x ++ f.stretch ∷ []) front_of))
-      (zip_one _ (ended 0 bytes) stretches f.stretch s (stand_longer (0 ∷ []) (ended 0 bytes) stretches h) f.is)
+  -- what that zero ends
+  pub closed_last : (old : ℕ) (o : Option (Stretch V)) → old ≤ length bytes → ended 0 bytes ≡ ended 0 (take old bytes) → FoundLast takes reads limit bytes o → FoundAll takes reads limit (with_zero bytes) old (length bytes + 1) o
+  closed_last old o l e f = go o f
+    where
+      same : ended 0 (take (length bytes) (with_zero bytes)) ≡ ended 0 (take old (with_zero bytes))
+      same = within_zero (length bytes) (omega arith) ∙ ap (ended 0) (take_all (length bytes) bytes (omega arith)) ∙ e ∙ sym (within_zero old l)
+
+      go : (o : Option (Stretch V)) → FoundLast takes reads limit bytes o → FoundAll takes reads limit (with_zero bytes) old (length bytes + 1) o
+      go None f = (sym (length-append bytes (0 ∷ [])), sym all_taken ∙ f ∙ same)
+      go (Some s) f = next_from same f
+
+  -- and nothing behind it
+  pub closed_none : FoundAll {V = V} takes reads limit (with_zero bytes) (length bytes + 1) (length bytes + 1) None
+  closed_none = (sym (length-append bytes (0 ∷ [])), sym all_taken)
+
+-- a scan stands behind these stretches
+pub record StandsBehind {V : Type 0} (takes : Tree → Type 0) (reads : Tree → V → Type 0) (limit : ℕ) (bytes : List ℕ) (scan : ClosedScan) (stretches : List (Stretch V)) : Type 0 where
+  pub closing : IsClosing limit bytes scan
+  pub are : StandAt takes reads limit (with_zero bytes) (ended 0 (take (passed_by bytes scan) (with_zero bytes))) stretches
+
+module _ {V : Type 0} (takes : Tree → Type 0) (reads : Tree → V → Type 0) (limit : ℕ) (bytes : List ℕ) where
+  pub none_behind : (scan : ClosedScan) → Begins limit bytes scan → StandsBehind takes reads limit bytes scan []
+  none_behind scan h = record { closing = h.0; are = subst (λ n. StandAt takes reads limit (with_zero bytes) (ended 0 (take n (with_zero bytes))) []) (sym h.1) tt }
+
+  module _ (old new : ClosedScan) (stretches : List (Stretch V)) (h : StandsBehind takes reads limit bytes old stretches) where
+    pub one_behind : (s : Stretch V) → FoundClosed takes reads limit bytes old new (Some s) → StandsBehind takes reads limit bytes new (stretches ++ s ∷ [])
+    one_behind s f = record { closing = f.0; are = subst (λ ps. StandAt takes reads limit (with_zero bytes) ps (stretches ++ s ∷ [])) (sym f.1.next) (zip_one _ _ _ f.1.stretch s h.are f.1.is) }
+
+    -- these are all
+    pub all_behind : FoundClosed takes reads limit bytes old new None → AreStretches takes reads limit (with_zero bytes) (stretches ++ [])
+    all_behind f = subst (AreStretches takes reads limit (with_zero bytes)) (sym (append-nil stretches)) (subst (λ ps. StandAt takes reads limit (with_zero bytes) ps stretches) (sym f.1.1) h.are)
+
+    -- so are these, the last of which ends where the log does
+    pub left_behind : (s : Stretch V) → new.closed ≡ true → FoundClosed takes reads limit bytes old new (Some s) → AreStretches takes reads limit (with_zero bytes) (stretches ++ s ∷ []) × (s.to ≡ length bytes)
+    left_behind s c f =
+        let at : passed_by bytes new ≡ length bytes + 1 = ap (λ b. if b then length bytes + 1 else offset_of new.scan) c in (
+          subst (λ ps. StandAt takes reads limit (with_zero bytes) ps (stretches ++ s ∷ [])) (ap (λ n. ended 0 (take n (with_zero bytes))) at ∙ all_taken takes reads limit bytes) (one_behind s f).are,
+          omega (arith, at, f.1.behind),
+        )
+
+pub records_joined : {V : Type 0} (counted : ℕ → V → Bool) (a b : List (Stretch V)) → records_in counted (a ++ b) ≡ records_in counted a ++ records_in counted b
+records_joined counted [] b = refl
+records_joined counted (s ∷ a) b = ap (λ x. record_in counted s.answer ++ x) (records_joined counted a b) ∙ sym (append_assoc (record_in counted s.answer) (records_in counted a) (records_in counted b))
+
+pub records_more : {V : Type 0} (counted : ℕ → V → Bool) (a : List (Stretch V)) (s : Stretch V) → records_in counted (a ++ s ∷ []) ≡ records_in counted a ++ record_in counted s.answer
+records_more counted a s = records_joined counted a (s ∷ []) ∙ ap (λ x. records_in counted a ++ x) (append-nil (record_in counted s.answer))
+
+pub numbers_joined : {V : Type 0} (a b : List (ℕ × V)) → numbers_of (a ++ b) ≡ numbers_of a ++ numbers_of b
+numbers_joined [] b = refl
+numbers_joined (r ∷ a) b = ap (λ x. r.0 ∷ x) (numbers_joined a b)
+
+pub numbers_more : {V : Type 0} (counted : ℕ → V → Bool) (a : List (Stretch V)) (s : Stretch V) → numbers_of (records_in counted (a ++ s ∷ [])) ≡ numbers_of (records_in counted a) ++ numbers_of (record_in counted s.answer)
+numbers_more counted a s = ap numbers_of (records_more counted a s) ∙ numbers_joined (records_in counted a) (record_in counted s.answer)
 
 -- a fact of the bytes, where they are told
 pub if_told : (held : Option (List ℕ)) (P : List ℕ → Type 0) → ((bytes : List ℕ) → held ≡ Some bytes → P bytes) → IfSome held P
@@ -103,20 +120,3 @@ again_counted counted r a numbers again e t h = subst (λ x. IsAgain numbers (re
     go : (b : Bool) → b ≡ true → IsAgain numbers (if b then r ∷ [] else []) again
     go true q = h
     go false q = cc
-
--- a log was checked to its end
-module _ {V W : Type 0} {told : W → List (Stretch V) → W → Type 0} (laws : VisitorLaws told) (counted : ℕ → V → Bool) (takes : Tree → Type 0) (reads : Tree → V → Type 0) (limit : ℕ) (held : Option (List ℕ)) where
-  pub checked_last : (scan : Scan) (old mid new : W) (tally later : Tally) (unfinished : Option (Stretch V)) (stretches : List (Stretch V))
-      → told old stretches mid → IsTally (numbers_of (records_in counted stretches)) tally
-      → ((bytes : List ℕ) → held ≡ Some bytes → IsScanning limit bytes scan × (offset_of scan ≡ length bytes) × AreStretches takes reads limit bytes stretches)
-      → JudgesLast told counted takes reads scan mid new tally later unfinished → IsChecked told counted takes reads limit held old new later unfinished
-  checked_last scan old mid new tally later unfinished stretches h t b j = record {
-    stretches = stretches ++ j.also;
-    handed = laws.more old mid new stretches j.also h j.handed;
-    are = if_told held (λ bytes. AreStretches takes reads limit (with_zero bytes) ((stretches ++ j.also) ++ listed_rest unfinished)) (λ bytes e.
-        let k = b bytes e in
-        subst (AreStretches takes reads limit (with_zero bytes)) (ap (λ x. stretches ++ x) j.all ∙ sym (append_assoc stretches j.also (listed_rest unfinished)))
-        (last_behind takes reads limit bytes stretches j.last k.2 (j.found limit bytes k.0 k.1)));
-    tallied = subst (λ ns. IsTally ns later) (sym (ap numbers_of (records_joined counted stretches j.also) ∙ numbers_joined (records_in counted stretches) (records_in counted j.also))) (j.tallied (numbers_of (records_in counted stretches)) t);
-    rest = if_told held (λ bytes. IsRest bytes unfinished) (λ bytes e. let k = b bytes e in j.rest limit bytes k.0 k.1);
-  }

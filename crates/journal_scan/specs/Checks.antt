@@ -1,5 +1,5 @@
 -- What a log's stretches are as a whole, and what checking it finds.
-use Rattle.std.specs.Prelude.{◌≡◌, ◌↔◌, ℕ, ◌-◌, ◌^◌, ◌<◌, Bool, true, false, IsTrue, List, [], ◌∷◌, ◌++◌, length, map, if◌then◌else◌, Option, Some, None, IfSome}
+use Rattle.std.specs.Prelude.{◌≡◌, ◌↔◌, ℕ, ◌-◌, ◌^◌, ◌<◌, Bool, false, IsTrue, List, [], ◌∷◌, ◌++◌, length, map, if◌then◌else◌, Option, Some, None, IfSome}
 use Rattle.std.specs.List.{AllZip, Contains}
 use Rattle.postcard_tree.specs.Tree.{Tree}
 use Rattle.link.specs.Stream.{ended, HoldsExactly}
@@ -11,8 +11,7 @@ use Rattle.journal_scan.specs.declared.tallies.Tally.{Tally}
 use Rattle.journal_scan.specs.declared.scanning.ScanError.TheVariants.{Fault, NoMemory}
 use Rattle.journal_scan.specs.declared.checking.CheckError.{CheckError}
 use Rattle.journal_scan.specs.declared.checking.CheckError.TheVariants.{Read, Halted}
-use Rattle.journal_scan.specs.declared.scanning.Scan.{Scan}
-use Rattle.journal_scan.specs.Scanning.{IsScanning, IsStretchAt, FoundLast, offset_of, with_zero}
+use Rattle.journal_scan.specs.Scanning.{IsStretchAt, with_zero}
 use Rattle.journal_scan.specs.Tallies.{IsTally}
 
 -- these stretches of a log are these bytes, one after another, each with its place and its answer, strictly
@@ -56,26 +55,6 @@ IsNoRecord Cut = Unit {0}
 abbrev pub IsRest : {V : Type 0} → List ℕ → Option (Stretch V) → Type 0
 IsRest bytes None = Unit {0}
 IsRest bytes (Some s) = (s.to ≡ length bytes) × IsNoRecord s.answer
-
--- a fact where a test failed
-abbrev pub OnFalse : Bool → Type 0 → Type 0
-OnFalse true P = Unit {0}
-OnFalse false P = P
-
--- What a zero behind a log ends was judged: the watcher was told of it and it was counted where it is a record, and else it is left.
-pub record JudgesLast {V W : Type 0} (told : W → List (Stretch V) → W → Type 0)
-    (counted : ℕ → V → Bool) (takes : Tree → Type 0) (reads : Tree → V → Type 0) (scan : Scan)
-    (old new : W) (tally later : Tally) (unfinished : Option (Stretch V)) : Type 0 where
-  pub last : Option (Stretch V)
-  pub found : (limit : ℕ) (bytes : List ℕ) → IsScanning limit bytes scan
-      → offset_of scan ≡ length bytes → FoundLast takes reads limit bytes last
-  pub also : List (Stretch V)
-  pub handed : told old also new
-  pub all : listed_rest last ≡ also ++ listed_rest unfinished
-  pub tallied : (numbers : List ℕ) → IsTally numbers tally
-      → IsTally (numbers ++ numbers_of (records_in counted also)) later
-  pub rest : (limit : ℕ) (bytes : List ℕ) → IsScanning limit bytes scan
-      → offset_of scan ≡ length bytes → IsRest bytes unfinished
 
 -- A log was checked, with a zero behind it, as opening it puts one there: the watcher was told of its stretches, in order, but for
 -- the last one where no zero ends that and it is no record; and what is kept is the tally of the records among them that count.

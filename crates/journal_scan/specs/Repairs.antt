@@ -1,5 +1,5 @@
 -- What appending the records of a log anew writes.
-use Rattle.std.specs.Prelude.{◌≡◌, ℕ, ◌+◌, ◌-◌, ◌^◌, ◌<◌, min, true, List, [], ◌∷◌, ◌++◌, length, map, take, Option, Some, None, IfSome}
+use Rattle.std.specs.Prelude.{◌≡◌, ℕ, ◌+◌, ◌-◌, ◌^◌, ◌<◌, min, true, List, [], ◌∷◌, ◌++◌, length, map, take, Option, Some, IfSome}
 use Rattle.std.specs.List.{AllZip}
 use Rattle.cobs.specs.Frames.{shortest_frame}
 use Rattle.line_io.specs.Device.{LineState, Wrote}
@@ -13,9 +13,6 @@ use Rattle.link.specs.declared.receiver.Answer.TheVariants.{Value, Damaged, TooL
 use Rattle.journal.specs.Records.{numbered, record_of, takes_record}
 use Rattle.journal_scan.specs.Checks.{numbers_of}
 use Rattle.journal_scan.specs.Tallies.{behind_greatest}
-use Rattle.journal_scan.specs.Scanning.{IsScanning, FoundLast, offset_of}
-use Rattle.journal_scan.specs.declared.scanning.Scan.{Scan}
-use Rattle.journal_scan.specs.declared.scanning.Stretch.{Stretch}
 use Rattle.journal_scan.specs.declared.scanning.ScanError.TheVariants.{Fault, NoMemory}
 use Rattle.journal_scan.specs.declared.repairing.Repaired.{Repaired}
 use Rattle.journal_scan.specs.declared.repairing.RepairError.{RepairError}
@@ -94,15 +91,6 @@ pub record BrokeAnew (writes : Option Tree) (n : ℕ) (old new : LineState) : Ty
   pub count : ℕ
   pub wrote : Wrote old new (take count (sent 0 true (numbered n value)))
 
--- it wasn't appended: a front of it was, or it was refused, since it takes more than so many bytes
-abbrev pub StoppedAnew : Option Tree → ℕ → ℕ → LineState → LineState → RepairError → Type 0
-StoppedAnew writes n most old new Line = BrokeAnew writes n old new
-StoppedAnew writes n most old new (Refused e) =
-    Wrote old new []
-    × UnlessRefused (record_of n writes) (λ bytes. most < length (shortest_frame bytes))
-StoppedAnew writes n most old new (Read e) = ⊥
-StoppedAnew writes n most old new Sync = ⊥
-
 -- the record that an answer is was appended anew, where it is one, and is counted
 pub record GoesAnew {V : Type 0} (writes : V → Option Tree) (answer : Answer (ℕ × V))
     (old new : LineState) (repaired later : Repaired) : Type 0 where
@@ -113,48 +101,14 @@ pub record GoesAnew {V : Type 0} (writes : V → Option Tree) (answer : Answer (
   pub next_is : (ns : List ℕ) → repaired.next ≡ behind_greatest ns
       → later.next ≡ behind_greatest (ns ++ numbers_of (record_read answer))
 
--- it wasn't
+-- it wasn't: a front of it was, or it was refused, since it takes more than so many bytes
 abbrev pub StopsAnew : {V : Type 0} → (V → Option Tree) → ℕ → Answer (ℕ × V)
     → LineState → LineState → RepairError → Type 0
-StopsAnew writes most (Value r) old new e =
-    StoppedAnew (writes r.1) r.0 most old new e
-StopsAnew writes most Damaged old new e = ⊥
-StopsAnew writes most TooLong old new e = ⊥
-StopsAnew writes most Cut old new e = ⊥
-
--- the record that a stretch is, where there is one and it is one
-abbrev pub last_record : {V : Type 0} → Option (Stretch V) → List (ℕ × V)
-last_record None = []
-last_record (Some s) = record_read s.answer
-
--- What a zero behind the log ends was appended anew, where it is a record, and is counted.
-pub record LastGoesAnew {V : Type 0} (takes : Tree → Type 0) (reads : Tree → V → Type 0)
-    (writes : V → Option Tree) (scan : Scan) (old new : LineState) (repaired later : Repaired) : Type 0 where
-  pub last : Option (Stretch V)
-  pub found : (limit : ℕ) (bytes : List ℕ) → IsScanning limit bytes scan
-      → offset_of scan ≡ length bytes → FoundLast takes reads limit bytes last
-  pub trees : List Tree
-  pub of : AreTreesOf writes (last_record last) trees
-  pub wrote : Wrote old new (appended_anew trees)
-  pub records_are : later.records ≡ min (repaired.records + length trees) (2 ^ 64 - 1)
-  pub next_is : (ns : List ℕ) → repaired.next ≡ behind_greatest ns
-      → later.next ≡ behind_greatest (ns ++ numbers_of (last_record last))
-
--- it wasn't
-pub record StopsAtLast {V : Type 0} (takes : Tree → Type 0) (reads : Tree → V → Type 0)
-    (writes : V → Option Tree) (most : ℕ) (scan : Scan) (old new : LineState) (e : RepairError) : Type 0 where
-  pub last : Stretch V
-  pub found : (limit : ℕ) (bytes : List ℕ) → IsScanning limit bytes scan
-      → offset_of scan ≡ length bytes → FoundLast takes reads limit bytes (Some last)
-  pub stops : StopsAnew writes most last.answer old new e
-
--- it wasn't, or had no memory
-abbrev pub LastStopsAnew : {V : Type 0} → (Tree → Type 0) → (Tree → V → Type 0)
-    → (V → Option Tree) → ℕ → Scan → LineState → LineState → RepairError → Type 0
-LastStopsAnew takes reads writes most scan old new (Read e) = Wrote old new []
-LastStopsAnew takes reads writes most scan old new (Refused e) = StopsAtLast takes reads writes most scan old new (Refused e)
-LastStopsAnew takes reads writes most scan old new Line = StopsAtLast takes reads writes most scan old new Line
-LastStopsAnew takes reads writes most scan old new Sync = ⊥
+StopsAnew writes most (Value r) old new Line = BrokeAnew (writes r.1) r.0 old new
+StopsAnew writes most (Value r) old new (Refused e) =
+    Wrote old new []
+    × UnlessRefused (record_of r.0 (writes r.1)) (λ bytes. most < length (shortest_frame bytes))
+StopsAnew writes most a old new e = ⊥
 
 -- why a repair was broken off: the log's store failed, or the destination did
 abbrev pub RepairCause : RepairError → Type 0 → Type 0 → Type 0

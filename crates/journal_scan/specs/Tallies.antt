@@ -42,14 +42,13 @@ pub record Tallies (numbers : List ℕ) (next : ℕ) (gaps : List Gap) (count : 
 abbrev pub IsTally : List ℕ → Tally → Type 0
 IsTally numbers tally = Tallies numbers tally.next tally.gaps.items tally.count
 
+-- the range of the numbers from one up to another, where there are any
+abbrev pub gap_before : ℕ → ℕ → List Gap
+gap_before from n = if nat_lt from n then record { first = from; last = n - 1 } ∷ [] else []
+
 -- the ranges that are left of one without a number in it
 abbrev pub gaps_without : Gap → ℕ → List Gap
-gaps_without g n = (if nat_lt g.first n then record { first = g.first; last = n - 1 } ∷ [] else [])
-    ++ (if nat_lt n g.last then record { first = n + 1; last = g.last } ∷ [] else [])
-
--- the range of the numbers from the next one up to this one, where there are any
-abbrev pub gap_before : ℕ → ℕ → List Gap
-gap_before next n = if nat_lt next n then record { first = next; last = n - 1 } ∷ [] else []
+gaps_without g n = gap_before g.first n ++ gap_before (n + 1) (g.last + 1)
 
 -- The number behind the greatest of some is above each of them, but for 2^64 - 1.
 abbrev pub StandsAboveAll : Type 0

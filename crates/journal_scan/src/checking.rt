@@ -1,11 +1,12 @@
 //! Checking a log: what isn't a record, and which numbers no record has.
-ghost use Rattle.std.specs.Prelude.{◌≡◌, ℕ, ◌≤◌, List, ◌++◌, OnOk, IfOk, IfErr};
+ghost use Rattle.std.specs.Prelude.{◌≡◌, ℕ, ◌≤◌, true, List, ◌++◌, OnOk, IfOk, IfErr};
 ghost use Rattle.line_io.specs.Transfers.{Failed};
 ghost use Rattle.journal.specs.Reading.{HaltsBehind};
-ghost use Rattle.journal_scan.specs.Checks.{IsChecked, IsNoRecord, JudgesLast, OnFalse, CheckCause, IsAgain, record_in, numbers_of};
+ghost use Rattle.journal_scan.specs.Checks.{IsChecked, IsNoRecord, CheckCause, IsAgain, record_in, numbers_of};
 ghost use Rattle.journal_scan.specs.Tallies.{IsTally};
 
-use crate::scanning::{Scan, ScanError, Stretch};
+use crate::closing::ClosedScan;
+use crate::scanning::{ScanError, Stretch};
 use crate::tallies::Tally;
 use crate::watching::Watcher;
 use link::{Answer, NoMemory};
@@ -34,15 +35,15 @@ pub struct Report<T> {
     pub unfinished: Option<Stretch<T>>,
 }
 
-// Whether an answer is a record.
-fn is_record<T>(answer: &Answer<(u64, T)>) -> bool
-    ensures { OnFalse result (IsNoRecord answer.now) }
+// Whether a stretch is left over: it only ends where the log does, and isn't a record. Then the watcher isn't told of it.
+fn is_left_over<T>(closed: bool, answer: &Answer<(u64, T)>) -> bool
+    ensures { result ≡ true → (closed ≡ true) × IsNoRecord answer.now }
 {
     match answer {
-        Answer::Value(_) => true,
-        Answer::Damaged => false,
-        Answer::TooLong => false,
-        Answer::Cut => false,
+        Answer::Value(_) => false,
+        Answer::Damaged => closed,
+        Answer::TooLong => closed,
+        Answer::Cut => closed,
     }
 }
 
@@ -70,48 +71,6 @@ fn count_record<T, W: Watcher<T>>(
     }
 }
 
-// Judges what stands behind the last zero as it will be once the log is opened, with a zero behind it: where that is a record the
-// watcher is told of it.
-fn judge_last<T: DeserializeOwned + Exact, W: Watcher<T>>(
-    alloc: Global,
-    scan: Scan,
-    tally: Tally,
-    watcher: &mut W,
-) -> Result<Report<T>, CheckError>
-    ensures judged { IfOk result (λ r. JudgesLast W.told W.counted T.form.takes T.form.reads scan
-        watcher.old watcher.new tally r.tally r.unfinished) }
-    ensures cause { IfErr result (λ e. CheckCause ⊥ (W.halts watcher.old) e) }
-{
-    let mut tally = tally;
-    let stretch = match scan.finish::<T>(alloc) {
-        Ok(Some(stretch)) => stretch,
-        Ok(None) => {
-            return Ok(Report {
-                tally,
-                unfinished: None,
-            });
-        }
-        Err(e) => return Err(CheckError::Read(e)),
-    };
-    if !is_record(&stretch.answer) {
-        return Ok(Report {
-            tally,
-            unfinished: Some(stretch),
-        });
-    }
-    let again = match count_record(watcher, &mut tally, &stretch) {
-        Ok(again) => again,
-        Err(_) => return Err(CheckError::Read(ScanError::NoMemory)),
-    };
-    match watcher.tell(stretch, again) {
-        Ok(()) => Ok(Report {
-            tally,
-            unfinished: None,
-        }),
-        Err(_) => Err(CheckError::Halted),
-    }
-}
-
 /// Goes over a log to its end, tells the watcher of each stretch that a zero ends, and answers which numbers are missing among the
 /// records that count. What stands behind the last zero is judged as opening the log will, which puts a zero behind it: a record
 /// there is told and counted as any other, and what is none is answered. Keeps one stretch, one read's bytes and the ranges that
@@ -132,17 +91,24 @@ pub fn check<T: DeserializeOwned + Exact, S: Store, W: Watcher<T>>(
         (HaltsBehind W.told W.halts watcher.old) e) }
     ensures more { (S.line store.old).faults ≤ (S.line store.new).faults }
 {
-    let mut scan = match Scan::new(alloc, limit, 0) {
+    let mut scan = match ClosedScan::new(alloc, limit) {
         Ok(scan) => scan,
         Err(e) => return Err(CheckError::Read(e)),
     };
     let mut tally = Tally::new(alloc);
     loop {
-        let stretch = match scan.next_ended::<T, S>(alloc, store) {
+        let stretch = match scan.next::<T, S>(alloc, store) {
             Ok(Some(stretch)) => stretch,
-            Ok(None) => return judge_last(alloc, scan, tally, watcher),
+            Ok(None) => {
+                let unfinished = None;
+                return Ok(Report { tally, unfinished });
+            }
             Err(e) => return Err(CheckError::Read(e)),
         };
+        if is_left_over(scan.closed, &stretch.answer) {
+            let unfinished = Some(stretch);
+            return Ok(Report { tally, unfinished });
+        }
         let again = match count_record(watcher, &mut tally, &stretch) {
             Ok(again) => again,
             Err(_) => return Err(CheckError::Read(ScanError::NoMemory)),

@@ -2,6 +2,7 @@
 #![tactic(auto)]
 
 mod checking;
+mod closing;
 pub mod laws;
 mod opening;
 mod repairing;

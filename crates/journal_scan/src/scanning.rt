@@ -4,6 +4,7 @@ ghost use Rattle.line_io.specs.Transfers.{Failed};
 ghost use Rattle.link.specs.Laws.{EndsBetween};
 ghost use Rattle.link.specs.Stream.{ended};
 ghost use Rattle.stores.specs.Store.{EndsBefore};
+ghost use Rattle.journal_scan.specs.Stretches.{is_past, ended_stretch};
 
 use link::{Answer, OwnedReceiver, Pushed};
 use postcard::{DeserializeOwned, Exact};
@@ -35,6 +36,33 @@ pub struct Stretch<T> {
     pub to: u64,
     /// What it is.
     pub answer: Answer<(u64, T)>,
+}
+
+// Whether a stretch was answered as too long.
+fn is_too_long<T>(answer: &Option<Answer<T>>) -> bool
+    ensures { result ≡ is_past answer.now }
+{
+    match answer {
+        None => false,
+        Some(Answer::Value(_)) => false,
+        Some(Answer::Damaged) => false,
+        Some(Answer::TooLong) => true,
+        Some(Answer::Cut) => false,
+    }
+}
+
+// The stretch that an answer ends: none where it is too long, since that is answered before its zero is there.
+fn stretch_of<T>(from: u64, to: u64, answer: Option<Answer<(u64, T)>>) -> Option<Stretch<T>>
+    ensures { result ≡ ended_stretch from to answer }
+{
+    let answer = match answer {
+        None => return None,
+        Some(Answer::TooLong) => return None,
+        Some(Answer::Value(record)) => Answer::Value(record),
+        Some(Answer::Damaged) => Answer::Damaged,
+        Some(Answer::Cut) => Answer::Cut,
+    };
+    Some(Stretch { from, to, answer })
 }
 
 /// Goes over a log, and keeps one read's bytes of it.
@@ -165,31 +193,20 @@ impl Scan {
         let to = self.at + (used - 1) as u64;
         self.start += used;
         self.at += used as u64;
-        match answer {
-            Ok(None) => Ok(None),
-            Ok(Some(Answer::TooLong)) => {
-                self.past = true;
-                Ok(None)
-            }
-            Ok(Some(Answer::Value(record))) => {
-                self.from = self.at;
-                let answer = Answer::Value(record);
-                Ok(Some(Stretch { from, to, answer }))
-            }
-            Ok(Some(Answer::Damaged)) => {
-                self.from = self.at;
-                let answer = Answer::Damaged;
-                Ok(Some(Stretch { from, to, answer }))
-            }
-            Ok(Some(Answer::Cut)) => {
-                self.from = self.at;
-                let answer = Answer::Cut;
-                Ok(Some(Stretch { from, to, answer }))
-            }
+        let answer = match answer {
+            Ok(answer) => answer,
             Err(_) => {
                 self.from = self.at;
-                Err(ScanError::NoMemory)
+                return Err(ScanError::NoMemory);
             }
+        };
+        self.past = is_too_long(&answer);
+        match stretch_of(from, to, answer) {
+            Some(stretch) => {
+                self.from = self.at;
+                Ok(Some(stretch))
+            }
+            None => Ok(None),
         }
     }
 
@@ -303,6 +320,31 @@ impl Scan {
         }
     }
 
+    // What a zero behind the log ends, where the scan stands at the log's end. It goes on no more then.
+    pub(crate) fn close<T: DeserializeOwned + Exact>(
+        &mut self,
+        alloc: Global,
+    ) -> Result<Option<Stretch<T>>, ScanError>
+        ensures found { IfOk result (λ o. (limit : ℕ) (bytes : List ℕ)
+            → IsScanning limit bytes self.old → offset_of self.old ≡ length bytes
+            → FoundLast T.form.takes T.form.reads limit bytes o) }
+        ensures memory { IfErr result (λ e. (e ≡ ScanError.NoMemory) × (T.form.growing ≡ true)) }
+    {
+        let (from, to) = (self.from, self.at);
+        if from == to {
+            return Ok(None);
+        }
+        if self.past {
+            let answer = Answer::TooLong;
+            return Ok(Some(Stretch { from, to, answer }));
+        }
+        let Pushed { answer, .. } = self.receiver.push_strict::<(u64, T)>(alloc, &[0]);
+        match answer {
+            Ok(answer) => Ok(stretch_of(from, to, answer)),
+            Err(_) => Err(ScanError::NoMemory),
+        }
+    }
+
     /// What stands behind the last zero, where anything does, as it is once a zero stands behind it: opening the log puts one there.
     /// The scan stands at the end of what the store holds, as it does where `next_ended` answered nothing.
     pub fn finish<T: DeserializeOwned + Exact>(
@@ -313,38 +355,7 @@ impl Scan {
             → offset_of self ≡ length bytes → FoundLast T.form.takes T.form.reads limit bytes o) }
         ensures memory { IfErr result (λ e. (e ≡ ScanError.NoMemory) × (T.form.growing ≡ true)) }
     {
-        let Scan {
-            mut receiver,
-            at,
-            from,
-            past,
-            ..
-        } = self;
-        let to = at;
-        if from == to {
-            return Ok(None);
-        }
-        if past {
-            let answer = Answer::TooLong;
-            return Ok(Some(Stretch { from, to, answer }));
-        }
-        let Pushed { answer, .. } = receiver.push_strict::<(u64, T)>(alloc, &[0]);
-        match answer {
-            Ok(None) => Ok(None),
-            Ok(Some(Answer::TooLong)) => Ok(None),
-            Ok(Some(Answer::Value(record))) => {
-                let answer = Answer::Value(record);
-                Ok(Some(Stretch { from, to, answer }))
-            }
-            Ok(Some(Answer::Damaged)) => {
-                let answer = Answer::Damaged;
-                Ok(Some(Stretch { from, to, answer }))
-            }
-            Ok(Some(Answer::Cut)) => {
-                let answer = Answer::Cut;
-                Ok(Some(Stretch { from, to, answer }))
-            }
-            Err(_) => Err(ScanError::NoMemory),
-        }
+        let mut scan = self;
+        scan.close(alloc)
     }
 }

@@ -1,8 +1,9 @@
-use Rattle.std.proofs.Common.{◌∷◌, ◌++◌, [], take, refl, sym, ap, ◌∙◌, subst, inl, arith, rules}
-use Rattle.link.specs.Stream.{ended}
-use Rattle.journal_scan.specs.Scanning.{FoundAll, offset_of}
+use Rattle.std.proofs.Common.{◌≡◌, ℕ, List, ◌∷◌, ◌++◌, [], None, Some, refl, sym, ◌∙◌, subst, rules}
+use Rattle.journal_scan.specs.Closing.{FoundClosed}
+use Rattle.journal_scan.specs.Checks.{AreStretches, IsRest}
+use Rattle.journal_scan.specs.Scanning.{with_zero}
 use Rattle.journal_scan.specs.Tallies.{IsTally}
-use Rattle.journal_scan.proofs.StretchesLemmas.{none_behind, one_behind, all_behind, numbers_more, ok_by, checked_last}
+use Rattle.journal_scan.proofs.StretchesLemmas.{none_behind, one_behind, all_behind, left_behind, numbers_more, if_told}
 use Rattle.journal_scan.proofs.checking.check.Goals as goal
 
 pub loop-stretch-init : goal.loop-stretch-init
@@ -13,7 +14,7 @@ loop-stretch-init g c = record {
   stretches = [];
   handed = g.met.W.Watcher.laws.nothing c.args.watcher.now;
   tallied = c.new-tally.ensures;
-  behind = λ bytes h. none_behind g.T.Readable.form.takes g.T.Readable.form.reads c.args.limit bytes c.in-Ok.scan (c.in-Ok.ensures.stands bytes (omega arith) (inl refl)) (ap (λ n. ended 0 (take n bytes)) c.in-Ok.ensures.at);
+  behind = λ bytes h. none_behind g.T.Readable.form.takes g.T.Readable.form.reads c.args.limit bytes c.in-Ok.scan (c.in-Ok.ensures.begins bytes);
 }
 
 pub loop-stretch-preserved : goal.loop-stretch-preserved
@@ -29,20 +30,38 @@ loop-stretch-preserved g c =
       tallied = subst (λ ns. IsTally ns c.count_record.new.tally) (sym (numbers_more g.W.Judge.counted before.stretches s)) (c.in-Ok-count_record.ensures.counted _ before.tallied);
       behind = λ bytes h.
           let k = before.behind bytes h in
-          let there = before.held ∙ h in
-          let f = subst (λ o. FoundAll g.T.Readable.form.takes g.T.Readable.form.reads c.args.limit bytes (offset_of c.loop-stretch.scan) (offset_of c.next_ended.new.self) o) c.in-Ok-Some.field-0-is (c.in-Ok-Some.ensures.found c.args.limit bytes there k.scanning) in
-          one_behind g.T.Readable.form.takes g.T.Readable.form.reads c.args.limit bytes c.loop-stretch.scan c.next_ended.new.self before.stretches s k (c.in-Ok-Some.ensures.stands c.args.limit bytes there k.scanning) f;
+          let f = subst (λ o. FoundClosed g.T.Readable.form.takes g.T.Readable.form.reads c.args.limit bytes c.loop-stretch.scan c.next.new.self o) c.in-Ok-Some.field-0-is (c.in-Ok-Some.ensures.found c.args.limit bytes (before.held ∙ h) k.closing) in
+          one_behind g.T.Readable.form.takes g.T.Readable.form.reads c.args.limit bytes c.loop-stretch.scan c.next.new.self before.stretches k s f;
     }
 
 pub returns-in-Ok-None-clause-checked : goal.returns-in-Ok-None-clause-checked
 returns-in-Ok-None-clause-checked g c =
     let before = c.loop-stretch.invariant in
-    let scan = c.next_ended.new.self in
-    ok_by c.judge_last.result c.judge_last.ensures.judged (λ r j.
-    checked_last g.met.W.Watcher.laws g.W.Judge.counted g.T.Readable.form.takes g.T.Readable.form.reads c.args.limit (g.S.Store.line c.args.store.now).told scan _ _ _ _ _ r.unfinished before.stretches before.handed before.tallied
-    (λ bytes h.
-    let found = subst (λ o. FoundAll g.T.Readable.form.takes g.T.Readable.form.reads c.args.limit bytes (offset_of c.loop-stretch.scan) (offset_of scan) o) c.in-Ok-None.field-0-is (c.in-Ok-None.ensures.found c.args.limit bytes (before.held ∙ h) (before.behind bytes h).scanning) in (
-      c.in-Ok-None.ensures.stands c.args.limit bytes (before.held ∙ h) (before.behind bytes h).scanning,
-      found.0,
-      all_behind g.T.Readable.form.takes g.T.Readable.form.reads c.args.limit bytes c.loop-stretch.scan scan before.stretches (before.behind bytes h) found,
-    )) j)
+    record {
+      stretches = before.stretches;
+      handed = before.handed;
+      are = if_told (g.S.Store.line c.args.store.now).told (λ bytes. AreStretches g.T.Readable.form.takes g.T.Readable.form.reads c.args.limit (with_zero bytes) (before.stretches ++ [])) (λ bytes h.
+          let k = before.behind bytes h in
+          let f = subst (λ o. FoundClosed g.T.Readable.form.takes g.T.Readable.form.reads c.args.limit bytes c.loop-stretch.scan c.next.new.self o) c.in-Ok-None.field-0-is (c.in-Ok-None.ensures.found c.args.limit bytes (before.held ∙ h) k.closing) in
+          all_behind g.T.Readable.form.takes g.T.Readable.form.reads c.args.limit bytes c.loop-stretch.scan c.next.new.self before.stretches k f);
+      tallied = before.tallied;
+      rest = if_told (g.S.Store.line c.args.store.now).told (λ bytes. IsRest {V = g.row.T.Denot} bytes None) (λ bytes h. tt);
+    }
+
+pub returns-then-is_left_over-clause-checked : goal.returns-then-is_left_over-clause-checked
+returns-then-is_left_over-clause-checked g c =
+    let before = c.loop-stretch.invariant in
+    let s = c.in-Ok-Some.stretch in
+    let held = (g.S.Store.line c.args.store.now).told in
+    let left = c.is_left_over.ensures c.if-is_left_over.true in
+    let ends = λ (bytes : List ℕ) (h : held ≡ Some bytes). (
+    let k = before.behind bytes h in
+    let f = subst (λ o. FoundClosed g.T.Readable.form.takes g.T.Readable.form.reads c.args.limit bytes c.loop-stretch.scan c.next.new.self o) c.in-Ok-Some.field-0-is (c.in-Ok-Some.ensures.found c.args.limit bytes (before.held ∙ h) k.closing) in
+    left_behind g.T.Readable.form.takes g.T.Readable.form.reads c.args.limit bytes c.loop-stretch.scan c.next.new.self before.stretches k s left.0 f) in
+    record {
+      stretches = before.stretches;
+      handed = before.handed;
+      are = if_told held (λ bytes. AreStretches g.T.Readable.form.takes g.T.Readable.form.reads c.args.limit (with_zero bytes) (before.stretches ++ s ∷ [])) (λ bytes h. (ends bytes h).0);
+      tallied = before.tallied;
+      rest = if_told held (λ bytes. IsRest bytes (Some s)) (λ bytes h. ((ends bytes h).1, left.1));
+    }

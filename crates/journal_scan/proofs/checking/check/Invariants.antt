@@ -1,6 +1,6 @@
-use Rattle.std.proofs.Common.{◌≡◌, ◌-◌, ◌^◌, ℕ, List, Some}
+use Rattle.std.proofs.Common.{◌≡◌, ℕ, List, Some}
 use Rattle.journal_scan.specs.declared.scanning.Stretch.{Stretch}
-use Rattle.journal_scan.specs.Scanning.{offset_of}
+use Rattle.journal_scan.specs.Closing.{left_of}
 use Rattle.journal_scan.specs.Tallies.{IsTally}
 use Rattle.journal_scan.specs.Checks.{records_in, numbers_of}
 use Rattle.journal_scan.proofs.StretchesLemmas.{StandsBehind}
@@ -19,4 +19,4 @@ invariant-loop-stretch g l = record {
 }
 
 abbrev pub decreases-loop-stretch : goal.decreases-loop-stretch
-decreases-loop-stretch g l = 2 ^ 64 - offset_of l.scan
+decreases-loop-stretch g l = left_of l.scan

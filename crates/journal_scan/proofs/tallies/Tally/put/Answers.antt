@@ -1,5 +1,5 @@
 use Rattle.std.proofs.Common.{◌≡◌, true, false, refl, rules}
-use Rattle.journal_scan.proofs.GapsLemmas.{one_again, was_counted, not_counted, counted_next, counted_late, not_counted_late}
+use Rattle.journal_scan.proofs.GapsLemmas.{one_again, was_counted, not_counted, one_next, counted_late, not_counted_late}
 use Rattle.journal_scan.proofs.tallies.Tally.put.Goals as goal
 
 never : ◌≡◌ false true → ⊥
@@ -18,7 +18,7 @@ pub returns-in-None-clause-again : goal.returns-in-None-clause-again
 returns-in-None-clause-again c numbers t l = (λ _. was_counted t c.args.number c.if-number-self.true (c.in-None.ensures t.apart), λ _. refl)
 
 pub returns-clause-put : goal.returns-clause-put
-returns-clause-put c numbers t = counted_next t c.args.number _ _ c.if-number-self.false (search rules) c.saturating_add-self.ensures c.in_ok-pass_to.ensures.ahead
+returns-clause-put c numbers t = one_next t c.args.number _ _ c.if-number-self.false (search rules) c.saturating_add-self.ensures c.in_ok-pass_to.ensures.ahead
 
 pub returns-clause-again : goal.returns-clause-again
 returns-clause-again c numbers t l = (λ e. absurd (never e), λ h. absurd (not_counted t c.args.number c.if-number-self.false l h))

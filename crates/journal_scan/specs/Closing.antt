@@ -1,0 +1,32 @@
+-- Where a scan of a log with a zero behind it stands, and what it finds.
+use Rattle.std.specs.Prelude.{◌≡◌, ℕ, ◌+◌, ◌-◌, ◌^◌, Bool, true, false, List, length, Option, if◌then◌else◌}
+use Rattle.postcard_tree.specs.Tree.{Tree}
+use Rattle.journal_scan.specs.declared.scanning.Stretch.{Stretch}
+use Rattle.journal_scan.specs.declared.closing.ClosedScan.{ClosedScan}
+use Rattle.journal_scan.specs.Scanning.{IsScanning, FoundAll, offset_of, with_zero}
+
+-- a fact where a test failed
+abbrev pub OnFalse : Bool → Type 0 → Type 0
+OnFalse true P = Unit {0}
+OnFalse false P = P
+
+-- until the zero behind the log was passed it is a scan of these bytes
+abbrev pub IsClosing : ℕ → List ℕ → ClosedScan → Type 0
+IsClosing limit bytes scan = OnFalse scan.closed (IsScanning limit bytes scan.scan)
+
+-- how many of these bytes and the zero behind them it passed
+abbrev pub passed_by : List ℕ → ClosedScan → ℕ
+passed_by bytes scan = if scan.closed then length bytes + 1 else offset_of scan.scan
+
+-- it passed nothing yet
+abbrev pub Begins : ℕ → List ℕ → ClosedScan → Type 0
+Begins limit bytes scan = IsClosing limit bytes scan × (passed_by bytes scan ≡ 0)
+
+-- what is next in a log with a zero behind it: a stretch, or no further one ends
+abbrev pub FoundClosed : {V : Type 0} → (Tree → Type 0) → (Tree → V → Type 0) → ℕ → List ℕ → ClosedScan → ClosedScan → Option (Stretch V) → Type 0
+FoundClosed takes reads limit bytes old new o =
+    IsClosing limit bytes new × FoundAll takes reads limit (with_zero bytes) (passed_by bytes old) (passed_by bytes new) o
+
+-- more than the bytes that it has still to pass
+abbrev pub left_of : ClosedScan → ℕ
+left_of scan = if scan.closed then 0 else (2 ^ 64 - offset_of scan.scan) + 1

@@ -1,0 +1,64 @@
+//! Going over a log as opening it will leave it: with a zero behind it.
+ghost use Rattle.std.specs.Prelude.{◌≡◌, ◌<◌, ◌≤◌, ℕ, List, Err, Some, OnOk, IfOk, IfErr, IfSome};
+ghost use Rattle.line_io.specs.Transfers.{Failed};
+
+use crate::scanning::{Scan, ScanError, Stretch};
+use postcard::{DeserializeOwned, Exact};
+use std::alloc::Global;
+use stores::Store;
+
+/// Goes over a log with a zero behind it, so that what stands behind its last zero is a stretch as any other.
+#[derive(Drop)]
+pub(crate) struct ClosedScan {
+    scan: Scan,
+    /// Whether the zero behind the log was passed.
+    pub closed: bool,
+}
+
+impl ClosedScan {
+    ghost use Rattle.journal_scan.specs.Closing.{IsClosing, Begins, FoundClosed, left_of};
+
+    /// From the log's first byte on.
+    pub fn new(alloc: Global, limit: usize) -> Result<ClosedScan, ScanError>
+        ensures begins { IfOk result (λ scan. (bytes : List ℕ) → Begins limit bytes scan) }
+        ensures memory { IfErr result (λ e. e ≡ ScanError.NoMemory) }
+    {
+        match Scan::new(alloc, limit, 0) {
+            Ok(scan) => Ok(ClosedScan {
+                scan,
+                closed: false,
+            }),
+            Err(e) => Err(e),
+        }
+    }
+
+    /// The next stretch; nothing behind the last one.
+    pub fn next<T: DeserializeOwned + Exact, S: Store>(
+        &mut self,
+        alloc: Global,
+        store: &mut S,
+    ) -> Result<Option<Stretch<T>>, ScanError>
+        ensures found { IfOk result (λ o. (limit : ℕ) (bytes : List ℕ)
+            → (S.line store.old).told ≡ Some bytes → IsClosing limit bytes self.old
+            → FoundClosed T.form.takes T.form.reads limit bytes self.old self.new o) }
+        ensures on { IfOk result (λ o. IfSome o (λ _. left_of self.new < left_of self.old)) }
+        ensures held { (S.line store.new).told ≡ (S.line store.old).told }
+        ensures settled { S.settled store.new ≡ S.settled store.old }
+        ensures quiet { OnOk result ((S.line store.new).faults ≡ (S.line store.old).faults) }
+        ensures fault { result ≡ Err ScanError.Fault
+            → Failed (S.line store.old) (S.line store.new) }
+        ensures more { (S.line store.old).faults ≤ (S.line store.new).faults }
+    {
+        if self.closed {
+            return Ok(None);
+        }
+        match self.scan.next_ended::<T, S>(alloc, store) {
+            Ok(Some(stretch)) => Ok(Some(stretch)),
+            Ok(None) => {
+                self.closed = true;
+                self.scan.close(alloc)
+            }
+            Err(e) => Err(e),
+        }
+    }
+}
