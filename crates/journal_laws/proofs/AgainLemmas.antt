@@ -1,21 +1,23 @@
 -- What is read of what repairing a log wrote, and of a front of a log.
-use Rattle.std.proofs.Common.{◌≡◌, ◌↔◌, ℕ, zero, suc, ◌≤◌, List, [], ◌∷◌, ◌++◌, length, map, take, drop, true, false, refl, sym, ap, ◌∙◌, subst, inr, append_assoc}
+use Rattle.std.proofs.Common.{◌≡◌, ◌↔◌, ℕ, zero, suc, List, [], ◌∷◌, ◌++◌, map, take, drop, true, refl, sym, ap, ◌∙◌, subst, inr, append_assoc}
 use Rattle.std.proofs.lemmas.List.{append-nil, take-append-drop}
 use Rattle.std.specs.List.{AllZip}
 use Rattle.cobs.specs.Sentinel.{masked, frame_for}
 use Rattle.postcard_tree.specs.Spelling.{short}
 use Rattle.journal_scan.specs.Scanning.{with_zero}
 use Rattle.postcard_tree.specs.Tree.{Tree}
-use Rattle.link.specs.Stream.{Verdict, cut, damaged, too_long, value, ended, unfinished, IsAnswer, HoldsExactly, begun_answers, cut_answers, Answers}
-use Rattle.link.specs.Run.{sent, line, IsFramed, IsRun}
+use Rattle.link.specs.Stream.{Verdict, value, ended, unfinished, IsAnswer, HoldsExactly, begun_answers, cut_answers, Answers}
+use Rattle.link.specs.Run.{sent, line, IsRun}
 use Rattle.link.specs.Laws.{IsTold, HasOneAnswer}
 use Rattle.link.specs.Lemmas.Pieces.{ended_skip, unfinished_skip, ended_behind, ended_alone, ends_at}
+use Rattle.link.specs.Lemmas.HeardLaws.{zip_parts}
 use Rattle.link.specs.Roads.{values_of}
 use Rattle.journal.specs.Values.{values_joined, values_done, none_in_begun}
 use Rattle.journal.specs.Records.{takes_record}
 use Rattle.journal_scan.specs.Repairs.{appended_anew, rewritten, AreReadIn, AreReadFirst}
 use Rattle.journal_laws.specs.Laws.{anew}
-use Rattle.journal_laws.proofs.MendingLemmas.{told_anew, AllOf, session_anew}
+use Rattle.journal_laws.proofs.RunsLemmas.{ends_none}
+use Rattle.journal_laws.proofs.MendingLemmas.{told_anew, run_anew, framed_strictly}
 
 values_back : (ts : List Tree) → values_of (map value ts) ≡ ts
 values_back [] = refl
@@ -30,24 +32,10 @@ behind_zero holds limit stream answers =
       λ h. record { done = h.done; each = subst (λ ps. AllZip (IsAnswer holds limit) ps h.done) (sym e) h.each; whole = h.whole ∙ ap (λ x. h.done ++ x) (sym f) },
     )
 
-module _ (takes : Tree → Type 0) (limit : ℕ) where
-  framed_strictly : (p : List ℕ) (t : Tree) → IsAnswer (HoldsExactly takes) limit p (value t) → IsFramed takes limit t
-  framed_strictly p t h = record { taken = h.1.0; within = subst (λ x. length x ≤ limit) h.1.1 h.0 }
-
-  all_framed_strictly : (ps : List (List ℕ)) (answers : List Verdict) → AllZip (IsAnswer (HoldsExactly takes) limit) ps answers → AllOf (IsFramed takes limit) (values_of answers)
-  all_framed_strictly [] [] z = tt
-  all_framed_strictly [] (a ∷ answers) z = absurd z
-  all_framed_strictly (p ∷ ps) [] z = absurd z
-  all_framed_strictly (p ∷ ps) (value t ∷ answers) z = (framed_strictly p t z.0, all_framed_strictly ps answers z.1)
-  all_framed_strictly (p ∷ ps) (damaged ∷ answers) z = all_framed_strictly ps answers z.1
-  all_framed_strictly (p ∷ ps) (too_long ∷ answers) z = all_framed_strictly ps answers z.1
-  all_framed_strictly (p ∷ ps) (cut ∷ answers) z = all_framed_strictly ps answers z.1
-
 -- what is read of a log, appended anew, is a run
 read_run : (takes : Tree → Type 0) (limit : ℕ) (bytes : List ℕ) (ts : List Tree) → AreReadIn takes limit bytes ts → IsRun (takes_record takes) limit 0 (anew ts)
 read_run takes limit bytes ts a =
-    let all = all_framed_strictly (takes_record takes) limit (ended 0 bytes) a.whole.done a.whole.each in
-    (session_anew (takes_record takes) limit 0 false ts (subst (AllOf (IsFramed (takes_record takes) limit)) (sym (values_done a.whole) ∙ a.are) all), tt)
+    subst (λ us. IsRun (takes_record takes) limit 0 (anew us)) a.are (run_anew (takes_record takes) (HoldsExactly (takes_record takes)) limit (framed_strictly (takes_record takes) limit) 0 bytes a.answers a.whole)
 
 rewritten_line : (t : Tree) (ts : List Tree) → rewritten (t ∷ ts) ≡ line 0 (anew (t ∷ ts))
 rewritten_line t ts = sym (append-nil (rewritten (t ∷ ts)))
@@ -84,7 +72,7 @@ ends_with_zero front (t ∷ ts) =
 
 -- one more zero ends nothing there
 zero_ends_none : (ts : List Tree) → ended 0 (with_zero (rewritten ts)) ≡ ended 0 (rewritten ts)
-zero_ends_none ts = ended_behind 0 (rewritten ts) (0 ∷ []) (inr (ends_with_zero [] ts)) ∙ ap (λ x. ended 0 (rewritten ts) ++ x) (ended_skip 0 []) ∙ append-nil (ended 0 (rewritten ts))
+zero_ends_none ts = ends_none (rewritten ts) (inr (ends_with_zero [] ts))
 
 -- where the same stretches are ended the same records are read
 reads_same : (takes : Tree → Type 0) (limit : ℕ) (x y : List ℕ) (us : List Tree) → ended 0 x ≡ ended 0 y → AreReadIn takes limit x us → AreReadIn takes limit y us
@@ -117,17 +105,6 @@ more_ended a b =
       are = ap (λ x. ended 0 (x ++ b)) h.whole ∙ ap (ended 0) (append_assoc h.front tail b) ∙ ended_behind 0 h.front (tail ++ b) h.between ∙ ap (λ x. x ++ ended 0 (tail ++ b)) (sym own);
     }
 
-record ZipFront {A B : Type 0} (R : A → B → Type 0) (xs : List A) (ys : List B) : Type 0 where
-  first : List B
-  others : List B
-  whole : ys ≡ first ++ others
-  each : AllZip R xs first
-
-zip_front : {A B : Type 0} (R : A → B → Type 0) (xs zs : List A) (ys : List B) → AllZip R (xs ++ zs) ys → ZipFront R xs ys
-zip_front R [] zs ys h = record { first = []; others = ys; whole = refl; each = tt }
-zip_front R (x ∷ xs) zs [] h = absurd h
-zip_front R (x ∷ xs) zs (y ∷ ys) h = let k = zip_front R xs zs ys h.1 in record { first = y ∷ k.first; others = k.others; whole = ap (λ l. y ∷ l) k.whole; each = (h.0, k.each) }
-
 fronts : (k : ℕ) (a b : List ℕ) → (j : ℕ) × (take k a ≡ take j (a ++ b))
 fronts zero a b = (0, refl)
 fronts (suc k) [] b = (0, refl)
@@ -144,11 +121,11 @@ repairs_in_fronts takes limit one bytes ts us count f w =
     let strict = IsAnswer (HoldsExactly (takes_record takes)) limit in
     let a = take f.count bytes in
     let m = more_ended a (drop f.count bytes) in
-    let z = zip_front strict (ended 0 a) m.more w.whole.done (subst (λ ps. AllZip strict ps w.whole.done) (ap (ended 0) (sym (take-append-drop f.count bytes)) ∙ m.are) w.whole.each) in
+    let z = zip_parts strict (ended 0 a) m.more w.whole.done (subst (λ ps. AllZip strict ps w.whole.done) (ap (ended 0) (sym (take-append-drop f.count bytes)) ∙ m.are) w.whole.each) in
     let said = begun_answers limit (unfinished 0 a) in
-    let same : z.first ++ said ≡ f.answers = one.given a (z.first ++ said) f.answers (record { done = z.first; each = z.each; whole = refl }) f.given in
-    let first : values_of z.first ≡ ts = sym (append-nil (values_of z.first)) ∙ ap (λ x. values_of z.first ++ x) (sym (none_in_begun limit (unfinished 0 a))) ∙ sym (values_joined z.first said) ∙ ap values_of same ∙ f.are in
-    let all : us ≡ ts ++ values_of z.others = sym w.are ∙ values_done w.whole ∙ ap values_of z.whole ∙ values_joined z.first z.others ∙ ap (λ x. x ++ values_of z.others) first in
-    let bytes_are : rewritten us ≡ rewritten ts ++ appended_anew (values_of z.others) = ap rewritten all ∙ ap (λ x. 0 ∷ x) (anew_joined ts (values_of z.others)) in
-    let k = fronts count (rewritten ts) (appended_anew (values_of z.others)) in
+    let same : z.us ++ said ≡ f.answers = one.given a (z.us ++ said) f.answers (record { done = z.us; each = z.first; whole = refl }) f.given in
+    let first : values_of z.us ≡ ts = sym (append-nil (values_of z.us)) ∙ ap (λ x. values_of z.us ++ x) (sym (none_in_begun limit (unfinished 0 a))) ∙ sym (values_joined z.us said) ∙ ap values_of same ∙ f.are in
+    let all : us ≡ ts ++ values_of z.vs = sym w.are ∙ values_done w.whole ∙ ap values_of z.whole ∙ values_joined z.us z.vs ∙ ap (λ x. x ++ values_of z.vs) first in
+    let bytes_are : rewritten us ≡ rewritten ts ++ appended_anew (values_of z.vs) = ap rewritten all ∙ ap (λ x. 0 ∷ x) (anew_joined ts (values_of z.vs)) in
+    let k = fronts count (rewritten ts) (appended_anew (values_of z.vs)) in
     (k.0, k.1 ∙ ap (take k.0) (sym bytes_are))

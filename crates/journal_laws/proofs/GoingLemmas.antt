@@ -2,8 +2,6 @@
 use Rattle.std.proofs.Common.{◌≡◌, ℕ, ◌+◌, ◌-◌, ◌<◌, ◌^◌, min, true, false, List, [], ◌∷◌, ◌++◌, length, Option, Some, None, Ok, refl, sym, ap, ◌∙◌, subst, append_assoc, arith}
 use Rattle.std.proofs.lemmas.List.{append-nil, length-append}
 use Rattle.std.specs.Prelude.{Bool, IfSome}
-use Rattle.cobs.specs.Sentinel.{frame_for}
-use Rattle.postcard_tree.specs.Spelling.{short}
 use Rattle.line_io.specs.Device.{LineState, Grew, Wrote}
 use Rattle.line_io.specs.Calls.{Wrote-none, Wrote-then}
 use Rattle.postcard_tree.specs.Tree.{Tree, IsTree}
@@ -14,7 +12,7 @@ use Rattle.journal.specs.Records.{numbered, takes_record}
 use Rattle.journal.specs.Appending.{Appended}
 use Rattle.journal_laws.specs.Numbers.{LogEvent, appended, appends, opened, after, history, IsHistory, HasBytes, read_of}
 use Rattle.journal_laws.specs.Sessions.{AppendsAll, HistoryGoesOn}
-use Rattle.journal_laws.proofs.RunsLemmas.{runs_joined}
+use Rattle.journal_laws.proofs.RunsLemmas.{runs_joined, frame_more}
 
 line_more : (n : ℕ) (ts : List Tree) (t : Tree) → session_line 0 true (appends numbered n ts) ++ sent 0 true (numbered (n + length ts) t) ≡ session_line 0 true (appends numbered n (ts ++ t ∷ []))
 line_more n [] t = ap (λ m. sent 0 true (numbered m t)) (let e : n + 0 ≡ n = omega arith in e) ∙ sym (append-nil (sent 0 true (numbered n t)))
@@ -29,10 +27,7 @@ module _ (takes : Tree → Type 0) (limit : ℕ) where
 
   -- a session that begins behind an opening's sentinel
   session_opened : (any : Tree) (n : ℕ) (ts : List Tree) → IsFramed takes limit any → IsSession takes limit 0 true (appends numbered n ts) → IsSession takes limit 0 false (opened any (appends numbered n ts))
-  session_opened any n [] f h = ((f, some_sent any), tt)
-    where
-      some_sent : (t : Tree) → 1 < length (sent 0 false t)
-      some_sent t = omega (arith, length-append (frame_for 0 (short t)) (0 ∷ []))
+  session_opened any n [] f h = ((f, frame_more 0 any), tt)
   session_opened any n (t ∷ ts) f h = h
 
 length_more : (ts : List Tree) (t : Tree) → length (ts ++ t ∷ []) ≡ length ts + 1
@@ -67,15 +62,6 @@ history_more : (any : Tree) (run : List (List Send)) (events : List LogEvent) (e
 history_more any run [] e = refl
 history_more any run (d ∷ events) e = history_more any (after 0 numbered any run d) events e
 
-module _ (takes : Tree → Type 0) (limit : ℕ) (any : Tree) where
-  run_of : (run : List (List Send)) (events : List LogEvent) → IsHistory takes limit 0 numbered any run events → IsRun takes limit 0 (history 0 numbered any run events)
-  run_of run [] d = d
-  run_of run (e ∷ events) d = run_of (after 0 numbered any run e) events d
-
-  of_run : (run : List (List Send)) (events : List LogEvent) → IsRun takes limit 0 (history 0 numbered any run events) → IsHistory takes limit 0 numbered any run events
-  of_run run [] d = d
-  of_run run (e ∷ events) d = of_run (after 0 numbered any run e) events d
-
 -- the bytes behind told ones
 pub told_on : (old bytes : List ℕ) (new : Option (List ℕ)) (f g : ℕ) → Grew (Some old) new f g bytes → g ≡ f → new ≡ Some (old ++ bytes)
 told_on old bytes None f g w e = absurd (omega (arith, w))
@@ -101,16 +87,15 @@ module _ {V : Type 0} (takes : Tree → Type 0) (writes : V → Option Tree) (li
       let count = length (read_of run) in
       let more = same_numbers n count p.trees e (λ l. below (omega (arith, l, zip_length (λ v t. writes v ≡ Some t) values p.trees p.of))) in
       let are : IsSession (takes_record takes) limit 0 true (appends numbered count p.trees) = subst (λ x. IsSession (takes_record takes) limit 0 true x) more p.are in
-      let is_run = run_of (takes_record takes) limit any [] events is in
       let joined : IsRun (takes_record takes) limit 0 (after 0 numbered any run (appended p.trees)) =
-      runs_joined (takes_record takes) limit 0 run (opened any (appends numbered count p.trees) ∷ []) is_run (session_opened (takes_record takes) limit any count p.trees f are, tt) in
+      runs_joined (takes_record takes) limit 0 run (opened any (appends numbered count p.trees) ∷ []) is (session_opened (takes_record takes) limit any count p.trees f are, tt) in
       let behind = history_more any [] events (appended p.trees) in
       let bytes : new.told ≡ Some ((line 0 run ++ 0 ∷ []) ++ session_line 0 true (appends numbered n p.trees)) =
       told_on (line 0 run ++ 0 ∷ []) (session_line 0 true (appends numbered n p.trees)) new.told old.faults new.faults (subst (λ x. Grew x new.told old.faults new.faults (session_line 0 true (appends numbered n p.trees))) held p.wrote.grew) p.quiet in
       record {
         trees = p.trees;
         of = p.of;
-        is_history = of_run (takes_record takes) limit any [] (events ++ appended p.trees ∷ []) (subst (λ r. IsRun (takes_record takes) limit 0 r) (sym behind) joined);
+        is_history = subst (λ r. IsRun (takes_record takes) limit 0 r) (sym behind) joined;
         bytes = bytes ∙ ap (λ x. Some x) (append_assoc (line 0 run) (0 ∷ []) (session_line 0 true (appends numbered n p.trees)) ∙ ap (λ x. line 0 run ++ (0 ∷ session_line 0 true x)) more
-            ∙ sym (has numbered any run (appended p.trees) is_run) ∙ ap (λ r. line 0 r) (sym behind));
+            ∙ sym (has numbered any run (appended p.trees) is) ∙ ap (λ r. line 0 r) (sym behind));
       }

@@ -11,7 +11,7 @@ use Rattle.link.specs.Run.{line}
 use Rattle.link.specs.Pushes.{Matches}
 use Rattle.link.specs.Roads.{values_of}
 use Rattle.link.specs.Lemmas.MaskLaws.{unmasked}
-use Rattle.link.specs.Lemmas.Pieces.{ended_skip, ended_behind, unfinished_alone, unfinished_behind, none_unfinished}
+use Rattle.link.specs.Lemmas.Pieces.{unfinished_alone, unfinished_behind, none_unfinished}
 use Rattle.link.specs.declared.receiver.Answer.{Answer}
 use Rattle.link.specs.declared.receiver.Answer.TheVariants.{Value, Damaged, TooLong, Cut}
 use Rattle.journal.specs.Records.{numbered, takes_record, reads_record}
@@ -23,6 +23,7 @@ use Rattle.journal_scan.specs.declared.scanning.Stretch.{Stretch}
 use Rattle.journal_scan.specs.declared.checking.Report.{Report}
 use Rattle.journal_laws.specs.Numbers.{Counted, read_of, history, CountsOn}
 use Rattle.journal_laws.specs.Together.{AllCount, numbers_on, JudgesAnyHistory}
+use Rattle.journal_laws.proofs.RunsLemmas.{ends_none}
 use Rattle.journal_laws.proofs.GoingLemmas.{told_on}
 use Rattle.journal_laws.proofs.OpenedLemmas.{none_said, most, number_is, told_of}
 
@@ -52,11 +53,7 @@ module _ (log : List ℕ) where
   abbrev held : List ℕ
   held = log ++ 0 ∷ []
 
-  -- one more zero ends nothing
-  ends_none : ended 0 (with_zero held) ≡ ended 0 held
-  ends_none = ended_behind 0 held (0 ∷ []) (inr (log, refl)) ∙ ap (λ x. ended 0 held ++ x) (ended_skip 0 []) ∙ append-nil (ended 0 held)
-
-  -- and no stretch stands at the end
+  -- no stretch stands at the end
   none_at : {V : Type 0} {holds : List ℕ → Tree → Type 0} {reads : Tree → V → Type 0} {limit from to : ℕ} {p : List ℕ} {answer : Answer V}
       → IsStretchAt holds reads limit (with_zero held) p from to answer → to ≡ length held → ⊥
   none_at {p = p} h e =
@@ -77,7 +74,7 @@ module _ {V : Type 0} (takes : Tree → Type 0) (reads : Tree → V → Type 0) 
   all_said : (o : Option (Stretch V)) → o ≡ None → AreStretches takes reads limit (with_zero (held log)) (stretches ++ listed_rest o) → Said takes reads limit (ended 0 (held log)) stretches
   all_said o e h =
       let alone = subst (λ x. AreStretches takes reads limit (with_zero (held log)) x) (ap (λ x. stretches ++ listed_rest x) e ∙ append-nil stretches) h in
-      said takes reads limit (with_zero (held log)) (ended 0 (held log)) stretches (subst (λ ps. StandAt takes reads limit (with_zero (held log)) ps stretches) (ends_none log) alone)
+      said takes reads limit (with_zero (held log)) (ended 0 (held log)) stretches (subst (λ ps. StandAt takes reads limit (with_zero (held log)) ps stretches) (ends_none (held log) (inr (log, refl))) alone)
 
 -- the answers to a log that ends with a zero are those to its stretches
 answers_of : (holds : List ℕ → Tree → Type 0) (limit : ℕ) (log : List ℕ) (verdicts : List Verdict) → AllZip (IsAnswer holds limit) (ended 0 (held log)) verdicts → Answers holds limit 0 (held log) verdicts
@@ -89,6 +86,10 @@ answers_of holds limit log verdicts h = record {
 
 -- the numbers of counted records
 module _ {V : Type 0} (reads : Tree → V → Type 0) (counts : ℕ → V → Bool) where
+  none_there : (n : ℕ) (v : Verdict) (vs : List Verdict) (rest : List (ℕ × V)) → values_of (v ∷ vs) ≡ values_of vs → Counted numbered n (values_of (v ∷ vs)) → AllCount reads counts (values_of (v ∷ vs))
+      → ((m : ℕ) → Counted numbered m (values_of vs) → AllCount reads counts (values_of vs) → numbers_of rest ≡ numbers_on m (length (values_of vs))) → numbers_of rest ≡ numbers_on n (length (values_of (v ∷ vs)))
+  none_there n v vs rest e k q f = f n (subst (Counted numbered n) e k) (subst (AllCount reads counts) e q) ∙ ap (λ ts. numbers_on n (length ts)) (sym e)
+
   one_number : (n : ℕ) (a : Answer (ℕ × V)) (v : Verdict) (vs : List Verdict) (rest : List (ℕ × V)) → Matches (reads_record reads) a v
       → Counted numbered n (values_of (v ∷ vs)) → AllCount reads counts (values_of (v ∷ vs))
       → ((m : ℕ) → Counted numbered m (values_of vs) → AllCount reads counts (values_of vs) → numbers_of rest ≡ numbers_on m (length (values_of vs)))
@@ -99,12 +100,9 @@ module _ {V : Type 0} (reads : Tree → V → Type 0) (counts : ℕ → V → Bo
       let is = number_is reads n t all.0.0 r all.0.1 h in
       ap (λ b. numbers_of ((if b then r ∷ [] else []) ++ rest)) (count.0 r h) ∙ ap (λ m. m ∷ numbers_of rest) is.0 ∙ ap (λ ms. n ∷ ms) (f (n + 1) all.1 count.1)
       ∙ ap (λ u. numbers_on n (length (values_of (u ∷ vs)))) (sym e)
-  one_number n Damaged v vs rest e k q f =
-      f n (subst (λ u. Counted numbered n (values_of (u ∷ vs))) e k) (subst (λ u. AllCount reads counts (values_of (u ∷ vs))) e q) ∙ ap (λ u. numbers_on n (length (values_of (u ∷ vs)))) (sym e)
-  one_number n TooLong v vs rest e k q f =
-      f n (subst (λ u. Counted numbered n (values_of (u ∷ vs))) e k) (subst (λ u. AllCount reads counts (values_of (u ∷ vs))) e q) ∙ ap (λ u. numbers_on n (length (values_of (u ∷ vs)))) (sym e)
-  one_number n Cut v vs rest e k q f =
-      f n (subst (λ u. Counted numbered n (values_of (u ∷ vs))) e k) (subst (λ u. AllCount reads counts (values_of (u ∷ vs))) e q) ∙ ap (λ u. numbers_on n (length (values_of (u ∷ vs)))) (sym e)
+  one_number n Damaged v vs rest e k q f = none_there n v vs rest (ap (λ u. values_of (u ∷ vs)) e) k q f
+  one_number n TooLong v vs rest e k q f = none_there n v vs rest (ap (λ u. values_of (u ∷ vs)) e) k q f
+  one_number n Cut v vs rest e k q f = none_there n v vs rest (ap (λ u. values_of (u ∷ vs)) e) k q f
 
   all_numbers : (n : ℕ) (stretches : List (Stretch V)) (vs : List Verdict) → AllZip (λ s v. Matches (reads_record reads) s.answer v) stretches vs
       → Counted numbered n (values_of vs) → AllCount reads counts (values_of vs) → numbers_of (records_in counts stretches) ≡ numbers_on n (length (values_of vs))

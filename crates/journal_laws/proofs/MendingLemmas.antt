@@ -4,7 +4,7 @@ use Rattle.std.proofs.lemmas.List.{append-nil, length-map}
 use Rattle.std.specs.List.{AllZip}
 use Rattle.postcard_tree.specs.Tree.{Tree}
 use Rattle.postcard.specs.Frames.{Holds}
-use Rattle.link.specs.Stream.{Verdict, cut, damaged, too_long, value, ended, IsAnswer, Answers}
+use Rattle.link.specs.Stream.{Verdict, cut, damaged, too_long, value, ended, IsAnswer, HoldsExactly, Answers}
 use Rattle.link.specs.Run.{completed, IsFramed, IsSession, IsRun, told_session, told}
 use Rattle.link.specs.Laws.{IsLeast}
 use Rattle.link.specs.Roads.{values_of}
@@ -20,31 +20,34 @@ pub told_anew : (s : ℕ) (ts : List Tree) → told s (anew ts) ≡ map value ts
 told_anew s ts = append-nil (told_session s false [] (map completed ts)) ∙ told_anew_in s false [] ts
 
 -- each of these
-abbrev pub AllOf : (Tree → Type 0) → List Tree → Type 0
+abbrev AllOf : (Tree → Type 0) → List Tree → Type 0
 AllOf P [] = Unit {0}
 AllOf P (t ∷ ts) = P t × AllOf P ts
 
-pub session_anew : (takes : Tree → Type 0) (limit s : ℕ) (clean : Bool) (ts : List Tree) → AllOf (IsFramed takes limit) ts → IsSession takes limit s clean (map completed ts)
+session_anew : (takes : Tree → Type 0) (limit s : ℕ) (clean : Bool) (ts : List Tree) → AllOf (IsFramed takes limit) ts → IsSession takes limit s clean (map completed ts)
 session_anew takes limit s clean [] h = tt
 session_anew takes limit s clean (t ∷ ts) h = (h.0, session_anew takes limit s true ts h.1)
 
-module _ (takes : Tree → Type 0) (limit : ℕ) (least : IsLeast takes limit) where
-  framed_answer : (p : List ℕ) (t : Tree) → IsAnswer (Holds takes) limit p (value t) → IsFramed takes limit t
-  framed_answer p t h = record { taken = h.1.taken; within = (let l = least p t h in let m : length p ≤ limit = h.0 in omega (arith, l, m)) }
-
-  all_framed : (ps : List (List ℕ)) (answers : List Verdict) → AllZip (IsAnswer (Holds takes) limit) ps answers → AllOf (IsFramed takes limit) (values_of answers)
+-- what is read can be appended, where each stretch that holds a tree is one that can
+module _ (takes : Tree → Type 0) (holds : List ℕ → Tree → Type 0) (limit : ℕ) (framed : (p : List ℕ) (t : Tree) → IsAnswer holds limit p (value t) → IsFramed takes limit t) where
+  all_framed : (ps : List (List ℕ)) (answers : List Verdict) → AllZip (IsAnswer holds limit) ps answers → AllOf (IsFramed takes limit) (values_of answers)
   all_framed [] [] z = tt
   all_framed [] (a ∷ answers) z = absurd z
   all_framed (p ∷ ps) [] z = absurd z
-  all_framed (p ∷ ps) (value t ∷ answers) z = (framed_answer p t z.0, all_framed ps answers z.1)
+  all_framed (p ∷ ps) (value t ∷ answers) z = (framed p t z.0, all_framed ps answers z.1)
   all_framed (p ∷ ps) (damaged ∷ answers) z = all_framed ps answers z.1
   all_framed (p ∷ ps) (too_long ∷ answers) z = all_framed ps answers z.1
   all_framed (p ∷ ps) (cut ∷ answers) z = all_framed ps answers z.1
 
-  -- whatever is read can be appended anew
-  pub run_anew : (s : ℕ) (stream : List ℕ) (answers : List Verdict) → Answers (Holds takes) limit s stream answers → IsRun takes limit s (anew (values_of answers))
+  pub run_anew : (s : ℕ) (stream : List ℕ) (answers : List Verdict) → Answers holds limit s stream answers → IsRun takes limit s (anew (values_of answers))
   run_anew s stream answers h =
       (session_anew takes limit s false (values_of answers) (subst (AllOf (IsFramed takes limit)) (sym (values_done h)) (all_framed (ended s stream) h.done h.each)), tt)
+
+pub framed_ordinarily : (takes : Tree → Type 0) (limit : ℕ) → IsLeast takes limit → (p : List ℕ) (t : Tree) → IsAnswer (Holds takes) limit p (value t) → IsFramed takes limit t
+framed_ordinarily takes limit least p t h = record { taken = h.1.taken; within = (let l = least p t h in let m : length p ≤ limit = h.0 in omega (arith, l, m)) }
+
+pub framed_strictly : (takes : Tree → Type 0) (limit : ℕ) (p : List ℕ) (t : Tree) → IsAnswer (HoldsExactly takes) limit p (value t) → IsFramed takes limit t
+framed_strictly takes limit p t h = record { taken = h.1.0; within = subst (λ x. length x ≤ limit) h.1.1 h.0 }
 
 -- a part of values is values
 pub record ValuesIn (ts : List Tree) (us rest : List Verdict) : Type 0 where

@@ -60,6 +60,11 @@ record GoesOnBy {V : Type 0} (n : ℕ) (c : Numbering) (before through : ℕ) (a
   counted : Counted numbered m (values_of vs)
   long : n + length (values_of (v ∷ vs)) ≡ m + length (values_of vs)
 
+none_counted : {V : Type 0} (n : ℕ) (c : Numbering) (before through : ℕ) (a : Answer (ℕ × V)) (v : Verdict) (vs : List Verdict) → believed c before a ≡ a → past c.next a ≡ c.next → (numbered_behind c through a).next ≡ c.next
+    → values_of (v ∷ vs) ≡ values_of vs → Counted numbered n (values_of (v ∷ vs)) → c.next ≡ min n most → GoesOnBy n c before through a v vs
+none_counted n c before through a v vs same past_is next_is e k at =
+    record { m = n; same = same; past_is = past_is ∙ at; next_is = next_is ∙ at; counted = subst (Counted numbered n) e k; long = ap (λ ts. n + length ts) e }
+
 one_counted : {V : Type 0} (reads : Tree → V → Type 0) (n : ℕ) (c : Numbering) (before through : ℕ) (a : Answer (ℕ × V)) (v : Verdict) (vs : List Verdict)
     → Matches (reads_record reads) a v → Counted numbered n (values_of (v ∷ vs)) → c.next ≡ min n most → GoesOnBy n c before through a v vs
 one_counted reads n c before through (Value r) v vs (t, h, e) k at =
@@ -78,30 +83,9 @@ one_counted reads n c before through (Value r) v vs (t, h, e) k at =
       counted = all.1;
       long = ap (λ u. n + length (values_of (u ∷ vs))) e ∙ (let z : n + length (t ∷ values_of vs) ≡ (n + 1) + length (values_of vs) = omega arith in z);
     }
-one_counted reads n c before through Damaged v vs e k at = record {
-  m = n;
-  same = refl;
-  past_is = at;
-  next_is = at;
-  counted = subst (λ u. Counted numbered n (values_of (u ∷ vs))) e k;
-  long = ap (λ u. n + length (values_of (u ∷ vs))) e;
-}
-one_counted reads n c before through TooLong v vs e k at = record {
-  m = n;
-  same = refl;
-  past_is = at;
-  next_is = at;
-  counted = subst (λ u. Counted numbered n (values_of (u ∷ vs))) e k;
-  long = ap (λ u. n + length (values_of (u ∷ vs))) e;
-}
-one_counted reads n c before through Cut v vs e k at = record {
-  m = n;
-  same = refl;
-  past_is = at;
-  next_is = at;
-  counted = subst (λ u. Counted numbered n (values_of (u ∷ vs))) e k;
-  long = ap (λ u. n + length (values_of (u ∷ vs))) e;
-}
+one_counted reads n c before through Damaged v vs e k at = none_counted n c before through Damaged v vs refl refl refl (ap (λ u. values_of (u ∷ vs)) e) k at
+one_counted reads n c before through TooLong v vs e k at = none_counted n c before through TooLong v vs refl refl refl (ap (λ u. values_of (u ∷ vs)) e) k at
+one_counted reads n c before through Cut v vs e k at = none_counted n c before through Cut v vs refl refl refl (ap (λ u. values_of (u ∷ vs)) e) k at
 
 -- of a counted log all answers are handed on as they are
 all_counted : {V : Type 0} (reads : Tree → V → Type 0) (n : ℕ) (c : Numbering) (located : List (Located V)) (verdicts : List Verdict)

@@ -59,23 +59,19 @@ opened any (completed t ∷ sends) = completed t ∷ sends
 opened any (refused ∷ sends) = opened any sends
 opened any (broken t k ∷ sends) = broken t (suc k) ∷ sends
 
--- the sends of an event behind its opening
-abbrev pub sends_of : (ℕ → Tree → Tree) → ℕ → List Tree → List Send
-sends_of numbered n vs = appends numbered n vs
-
 -- the sends of an event whose last append was broken off behind k bytes
 abbrev pub sends_broken : (ℕ → Tree → Tree) → ℕ → List Tree → Tree → ℕ → List Send
 sends_broken numbered n vs v k = appends numbered n vs ++ (broken (numbered (n + length vs) v) k ∷ [])
 
 -- the run behind one more event
 abbrev pub after : ℕ → (ℕ → Tree → Tree) → Tree → List (List Send) → LogEvent → List (List Send)
-after s numbered any run (appended vs) = run ++ (opened any (sends_of numbered (length (read_of run)) vs) ∷ [])
+after s numbered any run (appended vs) = run ++ (opened any (appends numbered (length (read_of run)) vs) ∷ [])
 after s numbered any run (broke vs v k) = run ++ (opened any (sends_broken numbered (length (read_of run)) vs v k) ∷ [])
 after s numbered any run (crashed k n) = left s k run ++ openings any n
 
 -- the bytes of a log behind an event, by those before it
 abbrev pub bytes_after : ℕ → (ℕ → Tree → Tree) → List (List Send) → LogEvent → List ℕ
-bytes_after s numbered run (appended vs) = line s run ++ (s ∷ session_line s true (sends_of numbered (length (read_of run)) vs))
+bytes_after s numbered run (appended vs) = line s run ++ (s ∷ session_line s true (appends numbered (length (read_of run)) vs))
 bytes_after s numbered run (broke vs v k) = line s run ++ (s ∷ session_line s true (sends_broken numbered (length (read_of run)) vs v k))
 bytes_after s numbered run (crashed k n) = take k (line s run) ++ replicate n s
 
@@ -91,8 +87,7 @@ history s numbered any run (e ∷ events) = history s numbered any (after s numb
 
 -- what is appended has a frame within the limit, and what is broken off leaves fewer bytes than the whole
 abbrev pub IsHistory : (Tree → Type 0) → ℕ → ℕ → (ℕ → Tree → Tree) → Tree → List (List Send) → List LogEvent → Type 0
-IsHistory takes limit s numbered any run [] = IsRun takes limit s run
-IsHistory takes limit s numbered any run (e ∷ events) = IsHistory takes limit s numbered any (after s numbered any run e) events
+IsHistory takes limit s numbered any run events = IsRun takes limit s (history s numbered any run events)
 
 -- Whatever crashes a log went through: what an opening reads carries the numbers from 0 on, none missing and none twice.
 pub record IsCountedAt (s : ℕ) (numbered : ℕ → Tree → Tree) (any : Tree) (events : List LogEvent) (answers : List Verdict) : Type 0 where
