@@ -15,53 +15,9 @@ use Rattle.journal_scan.specs.Closing.{IsClosing, Begins, FoundClosed, passed_by
 use Rattle.journal_scan.specs.Checks.{StandAt, AreStretches, IsAgain, record_in, records_in, numbers_of}
 use Rattle.journal_scan.proofs.StandingLemmas.{next_from}
 
--- in a longer log
-stretch_longer : {V : Type 0} {holds : List ℕ → Tree → Type 0} {reads : Tree → V → Type 0} {limit : ℕ} {bytes p : List ℕ} {from to : ℕ} {answer : Answer V} (more : List ℕ)
-    → IsStretchAt holds reads limit bytes p from to answer → IsStretchAt holds reads limit (bytes ++ more) p from to answer
-stretch_longer {p = p} more h = record {
-  front = h.front;
-  rest = h.rest ++ more;
-  bytes_are = ap (λ x. x ++ more) h.bytes_are ∙ append_assoc h.front (p ++ 0 ∷ h.rest) more ∙ ap (λ x. h.front ++ x) (append_assoc p (0 ∷ h.rest) more);
-  from_is = h.from_is;
-  to_is = h.to_is;
-  between = h.between;
-  nonzero = h.nonzero;
-  some = h.some;
-  verdict = h.verdict;
-  says = h.says;
-  is = h.is;
-}
-
-module _ {V : Type 0} (takes : Tree → Type 0) (reads : Tree → V → Type 0) (limit : ℕ) (bytes : List ℕ) where
-  within_zero : (at : ℕ) → at ≤ length bytes → ended 0 (take at (with_zero bytes)) ≡ ended 0 (take at bytes)
-  within_zero at l = ap (ended 0) (take-append-le at bytes (0 ∷ []) l)
-
-  all_taken : ended 0 (take (length bytes + 1) (with_zero bytes)) ≡ ended 0 (with_zero bytes)
-  all_taken = ap (ended 0) (take_all (length bytes + 1) (with_zero bytes) (omega (arith, length-append bytes (0 ∷ []))))
-
-  -- a stretch that stands before the zero behind a log
-  pub closed_some : (old new : ℕ) (s : Stretch V) → old ≤ length bytes → new ≤ length bytes → FoundAll takes reads limit bytes old new (Some s) → FoundAll takes reads limit (with_zero bytes) old new (Some s)
-  closed_some old new s l m f = record {
-    stretch = f.stretch;
-    is = stretch_longer (0 ∷ []) f.is;
-    behind = f.behind;
-    next = within_zero new m ∙ f.next ∙ ap (λ x. x ++ f.stretch ∷ []) (sym (within_zero old l));
-  }
-
-  -- what that zero ends
-  pub closed_last : (old : ℕ) (o : Option (Stretch V)) → old ≤ length bytes → ended 0 bytes ≡ ended 0 (take old bytes) → FoundLast takes reads limit bytes o → FoundAll takes reads limit (with_zero bytes) old (length bytes + 1) o
-  closed_last old o l e f = go o f
-    where
-      same : ended 0 (take (length bytes) (with_zero bytes)) ≡ ended 0 (take old (with_zero bytes))
-      same = within_zero (length bytes) (omega arith) ∙ ap (ended 0) (take_all (length bytes) bytes (omega arith)) ∙ e ∙ sym (within_zero old l)
-
-      go : (o : Option (Stretch V)) → FoundLast takes reads limit bytes o → FoundAll takes reads limit (with_zero bytes) old (length bytes + 1) o
-      go None f = (sym (length-append bytes (0 ∷ [])), sym all_taken ∙ f ∙ same)
-      go (Some s) f = next_from same f
-
-  -- and nothing behind it
-  pub closed_none : FoundAll {V = V} takes reads limit (with_zero bytes) (length bytes + 1) (length bytes + 1) None
-  closed_none = (sym (length-append bytes (0 ∷ [])), sym all_taken)
+-- all of a log with a zero behind it
+all_taken : (bytes : List ℕ) → ended 0 (take (length bytes + 1) (with_zero bytes)) ≡ ended 0 (with_zero bytes)
+all_taken bytes = ap (ended 0) (take_all (length bytes + 1) (with_zero bytes) (omega (arith, length-append bytes (0 ∷ []))))
 
 -- a scan stands behind these stretches
 pub record StandsBehind {V : Type 0} (takes : Tree → Type 0) (reads : Tree → V → Type 0) (limit : ℕ) (bytes : List ℕ) (scan : ClosedScan) (stretches : List (Stretch V)) : Type 0 where
@@ -84,7 +40,7 @@ module _ {V : Type 0} (takes : Tree → Type 0) (reads : Tree → V → Type 0) 
     pub left_behind : (s : Stretch V) → new.closed ≡ true → FoundClosed takes reads limit bytes old new (Some s) → AreStretches takes reads limit (with_zero bytes) (stretches ++ s ∷ []) × (s.to ≡ length bytes)
     left_behind s c f =
         let at : passed_by bytes new ≡ length bytes + 1 = ap (λ b. if b then length bytes + 1 else offset_of new.scan) c in (
-          subst (λ ps. StandAt takes reads limit (with_zero bytes) ps (stretches ++ s ∷ [])) (ap (λ n. ended 0 (take n (with_zero bytes))) at ∙ all_taken takes reads limit bytes) (one_behind s f).are,
+          subst (λ ps. StandAt takes reads limit (with_zero bytes) ps (stretches ++ s ∷ [])) (ap (λ n. ended 0 (take n (with_zero bytes))) at ∙ all_taken bytes) (one_behind s f).are,
           omega (arith, at, f.1.behind),
         )
 
