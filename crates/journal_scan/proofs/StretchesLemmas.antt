@@ -1,8 +1,8 @@
 -- The stretches that a scan found one after another.
-use Rattle.std.proofs.Common.{◌≡◌, ℕ, ◌+◌, ◌-◌, ◌^◌, ◌<◌, ◌≤◌, Bool, true, false, List, [], ◌∷◌, ◌++◌, length, take, Option, Some, None, Result, Ok, Err, refl, sym, ap, ◌∙◌, subst, append_assoc, arith}
+use Rattle.std.proofs.Common.{◌≡◌, ℕ, ◌+◌, ◌-◌, ◌^◌, ◌<◌, Bool, true, false, List, [], ◌∷◌, ◌++◌, length, take, Option, Some, None, Result, Ok, Err, refl, sym, ap, ◌∙◌, subst, append_assoc, arith}
 use Rattle.std.specs.Prelude.{IfSome, IfOk, IsTrue, ◌↔◌, if◌then◌else◌}
 use Rattle.std.specs.List.{Contains}
-use Rattle.std.proofs.lemmas.List.{append-nil, take_all, take-append-le, length-append}
+use Rattle.std.proofs.lemmas.List.{append-nil, take_all, length-append}
 use Rattle.postcard_tree.specs.Tree.{Tree}
 use Rattle.link.specs.Stream.{ended}
 use Rattle.link.specs.Lemmas.Givens.{zip_one}
@@ -10,10 +10,9 @@ use Rattle.link.specs.declared.receiver.Answer.{Answer}
 use Rattle.link.specs.declared.receiver.Answer.TheVariants.{Value}
 use Rattle.journal_scan.specs.declared.scanning.Stretch.{Stretch}
 use Rattle.journal_scan.specs.declared.closing.ClosedScan.{ClosedScan}
-use Rattle.journal_scan.specs.Scanning.{IsStretchAt, FoundAll, FoundLast, offset_of, with_zero}
+use Rattle.journal_scan.specs.Scanning.{offset_of, with_zero}
 use Rattle.journal_scan.specs.Closing.{IsClosing, Begins, FoundClosed, passed_by}
 use Rattle.journal_scan.specs.Checks.{StandAt, AreStretches, IsAgain, record_in, records_in, numbers_of}
-use Rattle.journal_scan.proofs.StandingLemmas.{next_from}
 
 -- all of a log with a zero behind it
 all_taken : (bytes : List ℕ) → ended 0 (take (length bytes + 1) (with_zero bytes)) ≡ ended 0 (with_zero bytes)
