@@ -28,7 +28,7 @@ use Rattle.journal_scan.specs.declared.repairing.RepairError.TheVariants.{Read, 
 use Rattle.journal_scan.specs.Tallies.{behind_greatest}
 use Rattle.journal_scan.specs.Checks.{numbers_of}
 use Rattle.journal_scan.specs.Scanning.{Found, FoundAll, with_zero, told_with_zero}
-use Rattle.journal_scan.specs.Closing.{IsClosing, Begins, FoundClosed, passed_by}
+use Rattle.journal_scan.specs.Closing.{IsClosing, HasPassedNone, FoundClosed, passed_by}
 use Rattle.journal_scan.specs.Repairs.{appended_anew, rewritten, IsTreeOf, AreTreesOf, AreReadIn, AreReadFirst, IsRepaired, IsPartlyRepaired, record_read, WentAnew, GoesAnew, StopsAnew, IfRefused, IfUnsynced}
 use Rattle.journal_scan.proofs.GapsLemmas.{behind_push}
 use Rattle.journal_scan.proofs.StretchesLemmas.{numbers_joined}
@@ -234,7 +234,7 @@ module _ {V : Type 0} (writes : V → Option Tree) (old new : LineState) (repair
 -- the steps of a repair
 module _ {V : Type 0} (reads : Tree → V → Type 0) (writes : V → Option Tree) (back : (t : Tree) (v : V) → reads t v → writes v ≡ Some t) (takes : Tree → Type 0) (limit : ℕ) (held : Option (List ℕ)) (old : LineState) where
   pub repair_begins : (now : LineState) (repaired : Repaired) (scan : ClosedScan) → Wrote old now (0 ∷ []) → repaired.records ≡ 0 → repaired.next ≡ 0
-      → ((bytes : List ℕ) → Begins limit bytes scan) → RepairedSoFar takes writes limit held old now repaired scan
+      → ((bytes : List ℕ) → HasPassedNone limit bytes scan) → RepairedSoFar takes writes limit held old now repaired scan
   repair_begins now repaired scan w e f begins = record {
     records = [];
     trees = [];

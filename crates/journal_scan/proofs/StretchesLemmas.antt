@@ -11,7 +11,7 @@ use Rattle.link.specs.declared.receiver.Answer.TheVariants.{Value}
 use Rattle.journal_scan.specs.declared.scanning.Stretch.{Stretch}
 use Rattle.journal_scan.specs.declared.closing.ClosedScan.{ClosedScan}
 use Rattle.journal_scan.specs.Scanning.{offset_of, with_zero}
-use Rattle.journal_scan.specs.Closing.{IsClosing, Begins, FoundClosed, passed_by}
+use Rattle.journal_scan.specs.Closing.{IsClosing, HasPassedNone, FoundClosed, passed_by}
 use Rattle.journal_scan.specs.Checks.{StandAt, AreStretches, IsAgain, record_in, records_in, numbers_of}
 
 -- all of a log with a zero behind it
@@ -24,7 +24,7 @@ pub record StandsBehind {V : Type 0} (takes : Tree → Type 0) (reads : Tree →
   pub are : StandAt takes reads limit (with_zero bytes) (ended 0 (take (passed_by bytes scan) (with_zero bytes))) stretches
 
 module _ {V : Type 0} (takes : Tree → Type 0) (reads : Tree → V → Type 0) (limit : ℕ) (bytes : List ℕ) where
-  pub none_behind : (scan : ClosedScan) → Begins limit bytes scan → StandsBehind takes reads limit bytes scan []
+  pub none_behind : (scan : ClosedScan) → HasPassedNone limit bytes scan → StandsBehind takes reads limit bytes scan []
   none_behind scan h = record { closing = h.0; are = subst (λ n. StandAt takes reads limit (with_zero bytes) (ended 0 (take n (with_zero bytes))) []) (sym h.1) tt }
 
   module _ (old new : ClosedScan) (stretches : List (Stretch V)) (h : StandsBehind takes reads limit bytes old stretches) where

@@ -19,8 +19,8 @@ abbrev pub passed_by : List ℕ → ClosedScan → ℕ
 passed_by bytes scan = if scan.closed then length bytes + 1 else offset_of scan.scan
 
 -- it passed nothing yet
-abbrev pub Begins : ℕ → List ℕ → ClosedScan → Type 0
-Begins limit bytes scan = IsClosing limit bytes scan × (passed_by bytes scan ≡ 0)
+abbrev pub HasPassedNone : ℕ → List ℕ → ClosedScan → Type 0
+HasPassedNone limit bytes scan = IsClosing limit bytes scan × (passed_by bytes scan ≡ 0)
 
 -- what is next in a log with a zero behind it: a stretch, or no further one ends
 abbrev pub FoundClosed : {V : Type 0} → (Tree → Type 0) → (Tree → V → Type 0) → ℕ → List ℕ → ClosedScan → ClosedScan → Option (Stretch V) → Type 0

@@ -16,11 +16,11 @@ pub(crate) struct ClosedScan {
 }
 
 impl ClosedScan {
-    ghost use Rattle.journal_scan.specs.Closing.{IsClosing, Begins, FoundClosed, left_of};
+    ghost use Rattle.journal_scan.specs.Closing.{IsClosing, HasPassedNone, FoundClosed, left_of};
 
     /// From the log's first byte on.
     pub fn new(alloc: Global, limit: usize) -> Result<ClosedScan, ScanError>
-        ensures begins { IfOk result (λ scan. (bytes : List ℕ) → Begins limit bytes scan) }
+        ensures begins { IfOk result (λ scan. (bytes : List ℕ) → HasPassedNone limit bytes scan) }
         ensures memory { IfErr result (λ e. e ≡ ScanError.NoMemory) }
     {
         match Scan::new(alloc, limit, 0) {
