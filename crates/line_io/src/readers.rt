@@ -145,12 +145,15 @@ impl<R: Read> Inlet for Reads<R> {
         ensures bytes { Gave (reads_line R.remaining self.old)
             (reads_line R.remaining self.new) (moved_front result room.new) }
         ensures end { result ≡ Some 0 → 0 < length room.new
-            → IfSome (reads_told R.remaining self.new) (λ rest. rest ≡ []) }
-        ensures faults { reads_faults self.new
-            ≡ reads_faults self.old + read_faults (reads_calls self.old) result }
-        ensures calls { reads_calls self.new ≡ reads_calls self.old - 1 }
-        ensures spent { reads_calls self.old ≡ 0 → result ≡ None }
-        ensures silent { 0 < reads_faults self.new → reads_told R.remaining self.new ≡ None }
+            → IfSome (reads_line R.remaining self.new).told (λ rest. rest ≡ []) }
+        ensures faults { (reads_line R.remaining self.new).faults
+            ≡ (reads_line R.remaining self.old).faults
+            + read_faults (reads_line R.remaining self.old).calls_left result }
+        ensures calls { (reads_line R.remaining self.new).calls_left
+            ≡ (reads_line R.remaining self.old).calls_left - 1 }
+        ensures spent { (reads_line R.remaining self.old).calls_left ≡ 0 → result ≡ None }
+        ensures silent { 0 < (reads_line R.remaining self.new).faults
+            → (reads_line R.remaining self.new).told ≡ None }
         ensures inner { MatchOption result
             (Keeps (R.remaining (inner_reader self.old)) (R.remaining (inner_reader self.new)))
             (λ n. Consumes (R.remaining (inner_reader self.old))
