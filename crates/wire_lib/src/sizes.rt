@@ -81,31 +81,98 @@ fn size_of_node(sizes: &[Option<u64>], node: &Node) -> Option<u64> {
     }
 }
 
-/// The greatest sizes of nodes, where those of the types inside are among these.
-fn next_sizes(
-    alloc: Global,
-    nodes: &[Node],
-    sizes: &[Option<u64>],
-) -> Result<Vec<Option<u64>>, AllocError> {
-    let mut next = Vec::new(alloc);
-    for node in nodes {
-        next.push(size_of_node(sizes, node))?;
+/// The place of the part of a node behind so many others, of those on whose sizes its own depends.
+fn part_of(node: &Node, before: usize) -> Option<usize> {
+    match node {
+        Node::Struct(parts) | Node::Enum(parts) => match parts.get(before) {
+            Some(part) => Some(*part),
+            None => None,
+        },
+        Node::Array(0, _) | Node::ListUpTo(0, _) => None,
+        Node::Option(inner) | Node::Array(_, inner) | Node::ListUpTo(_, inner) if before == 0 => {
+            Some(*inner)
+        }
+        _ => None,
     }
-    Ok(next)
+}
+
+/// A node whose parts are gone into, and how many of them were.
+#[derive(Clone, Copy, Drop)]
+struct Begun {
+    place: usize,
+    parts: usize,
+}
+
+/// The sizes that are known, and which nodes were gone into.
+#[derive(Drop)]
+struct Sizes {
+    known: Vec<Option<u64>>,
+    met: Vec<bool>,
+}
+
+impl Sizes {
+    /// Nothing is known of so many nodes.
+    fn new(alloc: Global, count: usize) -> Result<Sizes, AllocError> {
+        let mut known = Vec::new(alloc);
+        let mut met = Vec::new(alloc);
+        for _ in 0..count {
+            known.push(None)?;
+            met.push(false)?;
+        }
+        Ok(Sizes { known, met })
+    }
+
+    /// Begins a node, unless it was met.
+    fn begin(&mut self, begun: &mut Vec<Begun>, place: usize) -> Result<(), AllocError> {
+        if let Some(met) = self.met.get_mut(place)
+            && !*met
+        {
+            *met = true;
+            begun.push(Begun { place, parts: 0 })?;
+        }
+        Ok(())
+    }
+
+    /// Goes into the next part of the node that was begun last; behind all of them its size is known.
+    fn step(&mut self, nodes: &[Node], begun: &mut Vec<Begun>) -> Result<bool, AllocError> {
+        let Some(Begun { place, parts }) = begun.pop() else {
+            return Ok(false);
+        };
+        let Some(node) = nodes.get(place) else {
+            return Ok(true);
+        };
+        if let Some(part) = part_of(node, parts) {
+            begun.push(Begun {
+                place,
+                parts: parts.saturating_add(1),
+            })?;
+            self.begin(begun, part)?;
+        } else {
+            let size = size_of_node(&self.known, node);
+            if let Some(known) = self.known.get_mut(place) {
+                *known = size;
+            }
+        }
+        Ok(true)
+    }
 }
 
 /// How many bytes a value of each type of a table takes at most, unframed; nothing where there is no such number: for texts, bytes
 /// and lists without a greatest length, for a type that holds itself, and past 2^64.
+///
+/// Each node is gone into once, behind the types inside.
 pub fn greatest_sizes(alloc: Global, nodes: &[Node]) -> Result<Vec<Option<u64>>, AllocError> {
-    let mut sizes = Vec::new(alloc);
-    for _ in 0..nodes.len() {
-        let next = next_sizes(alloc, nodes, &sizes)?;
-        if next.as_slice() == sizes.as_slice() {
-            break;
+    let mut sizes = Sizes::new(alloc, nodes.len())?;
+    let mut begun = Vec::new(alloc);
+    for place in 0..nodes.len() {
+        sizes.begin(&mut begun, place)?;
+        for _ in 0..u64::MAX {
+            if !sizes.step(nodes, &mut begun)? {
+                break;
+            }
         }
-        sizes = next;
     }
-    Ok(sizes)
+    Ok(sizes.known)
 }
 
 /// Whether values of the type at that place take no bytes.
