@@ -9,13 +9,14 @@ use Rattle.postcard_tree.specs.Tree.{Tree}
 use Rattle.link.specs.Stream.{Verdict, value, ended, unfinished, IsAnswer, HoldsExactly, begun_answers, cut_answers, Answers}
 use Rattle.link.specs.Run.{sent, line, IsRun}
 use Rattle.link.specs.Laws.{IsTold, HasOneAnswer}
-use Rattle.link.specs.Lemmas.Pieces.{ended_skip, unfinished_skip, ended_behind, ended_alone, ends_at}
+use Rattle.link.specs.Lemmas.Pieces.{ended_skip, ended_behind, ended_alone, ends_at}
 use Rattle.link.specs.Lemmas.HeardLaws.{zip_parts}
 use Rattle.link.specs.Roads.{values_of}
 use Rattle.journal.specs.Values.{values_joined, values_done, none_in_begun}
 use Rattle.journal.specs.Records.{takes_record}
 use Rattle.journal_scan.specs.Repairs.{appended_anew, rewritten, AreReadIn, AreReadFirst}
 use Rattle.journal_laws.specs.Laws.{anew}
+use Rattle.journal_laws.specs.Again.{RepairsAgain}
 use Rattle.journal_laws.proofs.RunsLemmas.{ends_none}
 use Rattle.journal_laws.proofs.MendingLemmas.{told_anew, run_anew, framed_strictly}
 
@@ -23,42 +24,15 @@ values_back : (ts : List Tree) → values_of (map value ts) ≡ ts
 values_back [] = refl
 values_back (t ∷ ts) = ap (λ x. t ∷ x) (values_back ts)
 
--- a zero in front changes no answer
-behind_zero : (holds : List ℕ → Tree → Type 0) (limit : ℕ) (stream : List ℕ) (answers : List Verdict) → Answers holds limit 0 (0 ∷ stream) answers ↔ Answers holds limit 0 stream answers
-behind_zero holds limit stream answers =
-    let e = ended_skip 0 stream in
-    let f = ap (λ u. begun_answers limit u ++ cut_answers limit u) (unfinished_skip 0 stream) in (
-      λ h. record { done = h.done; each = subst (λ ps. AllZip (IsAnswer holds limit) ps h.done) e h.each; whole = h.whole ∙ ap (λ x. h.done ++ x) f },
-      λ h. record { done = h.done; each = subst (λ ps. AllZip (IsAnswer holds limit) ps h.done) (sym e) h.each; whole = h.whole ∙ ap (λ x. h.done ++ x) (sym f) },
-    )
-
 -- what is read of a log, appended anew, is a run
 read_run : (takes : Tree → Type 0) (limit : ℕ) (bytes : List ℕ) (ts : List Tree) → AreReadIn takes limit bytes ts → IsRun (takes_record takes) limit 0 (anew ts)
 read_run takes limit bytes ts a =
     subst (λ us. IsRun (takes_record takes) limit 0 (anew us)) a.are (run_anew (takes_record takes) (HoldsExactly (takes_record takes)) limit (framed_strictly (takes_record takes) limit) 0 bytes a.answers a.whole)
 
-rewritten_line : (t : Tree) (ts : List Tree) → rewritten (t ∷ ts) ≡ line 0 (anew (t ∷ ts))
-rewritten_line t ts = sym (append-nil (rewritten (t ∷ ts)))
-
-module _ (takes : Tree → Type 0) (limit : ℕ) where
-  abbrev strictly : List ℕ → Tree → Type 0
-  strictly = HoldsExactly (takes_record takes)
-
-  pub repairs_again : IsTold (takes_record takes) (HoldsExactly (takes_record takes)) limit 0 → (bytes : List ℕ) (ts us : List Tree) → AreReadIn takes limit bytes ts → AreReadIn takes limit (rewritten ts) us ↔ (us ≡ ts)
-  repairs_again told bytes [] us a = (
-    λ h. sym h.are ∙ ap values_of ((told [] h.answers tt).0 ((behind_zero strictly limit [] h.answers).0 h.whole)),
-    λ e. record { answers = []; whole = (behind_zero strictly limit [] []).1 ((told [] [] tt).1 refl); are = sym e },
-  )
-  repairs_again told bytes (t ∷ ts) us a =
-      let run = read_run takes limit bytes (t ∷ ts) a in
-      let same = rewritten_line t ts in (
-        λ h. sym h.are ∙ ap values_of ((told (anew (t ∷ ts)) h.answers run).0 (subst (λ x. Answers strictly limit 0 x h.answers) same h.whole) ∙ told_anew 0 (t ∷ ts)) ∙ values_back (t ∷ ts),
-        λ e. record {
-          answers = map value (t ∷ ts);
-          whole = subst (λ x. Answers strictly limit 0 x (map value (t ∷ ts))) (sym same) ((told (anew (t ∷ ts)) (map value (t ∷ ts)) run).1 (sym (told_anew 0 (t ∷ ts))));
-          are = values_back (t ∷ ts) ∙ sym e;
-        },
-      )
+-- what a repair writes ends the stretches of that run
+same_ended : (ts : List Tree) → ended 0 (rewritten ts) ≡ ended 0 (line 0 (anew ts))
+same_ended [] = ended_skip 0 []
+same_ended (t ∷ ts) = ap (ended 0) (sym (append-nil (rewritten (t ∷ ts))))
 
 -- records appended anew end with a zero
 ends_with_zero : (front : List ℕ) (ts : List Tree) → (x : List ℕ) × ((front ++ 0 ∷ []) ++ appended_anew ts ≡ x ++ 0 ∷ [])
@@ -83,12 +57,21 @@ reads_same takes limit x y us e h =
     let w : Answers strictly limit 0 y all = record { done = h.whole.done; each = subst (λ ps. AllZip (IsAnswer strictly limit) ps h.whole.done) e h.whole.each; whole = refl } in
     record { answers = all; whole = w; are = values_done w ∙ sym (values_done h.whole) ∙ h.are }
 
--- so what is read behind one more zero
-pub repairs_again_closed : (takes : Tree → Type 0) (limit : ℕ) (ts us : List Tree) → AreReadIn takes limit (rewritten ts) us ↔ (us ≡ ts) → AreReadIn takes limit (with_zero (rewritten ts)) us ↔ (us ≡ ts)
-repairs_again_closed takes limit ts us h = (
-  λ k. h.0 (reads_same takes limit (with_zero (rewritten ts)) (rewritten ts) us (zero_ends_none ts) k),
-  λ e. reads_same takes limit (rewritten ts) (with_zero (rewritten ts)) us (sym (zero_ends_none ts)) (h.1 e),
-)
+-- so what is read again, behind one more zero too
+pub repairs_again : (takes : Tree → Type 0) (limit : ℕ) → IsTold (takes_record takes) (HoldsExactly (takes_record takes)) limit 0 → RepairsAgain takes limit
+repairs_again takes limit told bytes ts us a = (by (rewritten ts) (same_ended ts), by (with_zero (rewritten ts)) (zero_ends_none ts ∙ same_ended ts))
+  where
+    log : List ℕ
+    log = line 0 (anew ts)
+
+    run : IsRun (takes_record takes) limit 0 (anew ts)
+    run = read_run takes limit bytes ts a
+
+    by : (x : List ℕ) → ended 0 x ≡ ended 0 log → AreReadIn takes limit x us ↔ (us ≡ ts)
+    by x e = (
+      λ k. let h = reads_same takes limit x log us e k in sym h.are ∙ ap values_of ((told (anew ts) h.answers run).0 h.whole ∙ told_anew 0 ts) ∙ values_back ts,
+      λ k. reads_same takes limit log x us (sym e) (record { answers = map value ts; whole = (told (anew ts) (map value ts) run).1 (sym (told_anew 0 ts)); are = values_back ts ∙ sym k }),
+    )
 
 -- the stretches that are ended in a front are the first ones
 record MoreEnded (a b : List ℕ) : Type 0 where

@@ -7,13 +7,14 @@ use Rattle.cobs.specs.Frames.{shortest_frame}
 use Rattle.cobs.specs.Sentinel.{frame_for}
 use Rattle.postcard_tree.specs.Tree.{Tree}
 use Rattle.postcard_tree.specs.Spelling.{short}
-use Rattle.link.specs.Stream.{damaged, value}
-use Rattle.link.specs.Run.{Send, completed, refused, broken, written, sent, clean_after, session_line, line, told_broken, told_session, told, frame_bytes}
+use Rattle.link.specs.Stream.{damaged, value, Answers}
+use Rattle.link.specs.Run.{Send, completed, refused, broken, written, sent, clean_after, session_line, line, told_broken, told_session, told, frame_bytes, IsRun}
+use Rattle.link.specs.Laws.{IsTold}
 use Rattle.link.specs.Roads.{values_of}
 use Rattle.link_laws.specs.Crashes.{broken_at, left_of, left, IsLeft}
-use Rattle.journal_laws.specs.Numbers.{read_broken, read_in, read_of, Counted, LogEvent, appended, broke, crashed, appends, opening, openings, opened, sends_broken, after, history, HasBytes}
+use Rattle.journal_laws.specs.Numbers.{read_broken, read_in, read_of, Counted, LogEvent, appended, broke, crashed, appends, opening, openings, opened, sends_broken, after, history, HasBytes, CountsOn}
 use Rattle.journal.specs.Values.{values_joined}
-use Rattle.journal_laws.proofs.RunsLemmas.{lines_joined}
+use Rattle.journal_laws.proofs.RunsLemmas.{lines_joined, runs_joined, frame_more}
 
 -- What is told where something comes later
 
@@ -44,7 +45,7 @@ read_session s clean later (broken t k ∷ xs) h =
     values_joined (told_broken t (frame_bytes clean k) (session_line s false xs ++ later)) (told_session s false later xs)
     ∙ ap (λ x. x ++ values_of (told_session s false later xs)) first ∙ ap (λ x. read_broken t (frame_bytes clean k) ++ x) (read_session s false later xs h)
 
-pub read_run : (s : ℕ) (any : Tree) (run : List (List Send)) → values_of (told s (run ++ (opening any ∷ []))) ≡ read_of run
+read_run : (s : ℕ) (any : Tree) (run : List (List Send)) → values_of (told s (run ++ (opening any ∷ []))) ≡ read_of run
 read_run s any [] = refl
 read_run s any (xs ∷ run) =
     let later = line s (run ++ (opening any ∷ [])) in
@@ -54,7 +55,7 @@ read_run s any (xs ∷ run) =
 
 -- What a crash leaves is a beginning
 
-abbrev pub Begins : List Tree → List Tree → Type 0
+abbrev Begins : List Tree → List Tree → Type 0
 Begins xs ys = (rest : List Tree) × (xs ++ rest ≡ ys)
 
 begins_behind : (xs ys zs : List Tree) → Begins ys zs → Begins (xs ++ ys) (xs ++ zs)
@@ -63,14 +64,14 @@ begins_behind xs ys zs (rest, e) = (rest, append_assoc xs ys rest ∙ ap (λ z. 
 begins_more : (xs ys zs : List Tree) → Begins xs ys → Begins xs (ys ++ zs)
 begins_more xs ys zs (rest, e) = (rest ++ zs, sym (append_assoc xs rest zs) ∙ ap (λ z. z ++ zs) e)
 
--- of a broken-off append at most it is read
-at_most : (t : Tree) (k : ℕ) (later : List Tree) → Begins (read_broken t k ++ []) (t ∷ later)
-at_most t zero later = (t ∷ later, refl)
-at_most t (suc k) later = go (ltb (suc k) (length (shortest_frame (short t))))
+-- of a broken-off append nothing is read, or it
+either_read : (P : List Tree → Type 0) (t : Tree) (k : ℕ) → P [] → P (t ∷ []) → P (read_broken t k)
+either_read P t zero none one = none
+either_read P t (suc k) none one = go (ltb (suc k) (length (shortest_frame (short t))))
   where
-    go : (c : Bool) → Begins (cond c [] (t ∷ []) ++ []) (t ∷ later)
-    go true = (t ∷ later, refl)
-    go false = (later, refl)
+    go : (c : Bool) → P (cond c [] (t ∷ []))
+    go true = none
+    go false = one
 
 -- one that was broken off earlier
 earlier : (t : Tree) (k j : ℕ) (later : List Tree) → k ≤ j → Begins (read_broken t k ++ []) (read_broken t j ++ later)
@@ -92,7 +93,8 @@ none_at_zero true t = refl
 none_at_zero false t = refl
 
 cut_begins : (s : ℕ) (clean : Bool) (k : ℕ) (x : Send) (xs : List Send) → k < length (written s clean x) → Begins (read_in clean (broken_at k x ∷ [])) (read_in clean (x ∷ xs))
-cut_begins s clean k (completed t) xs l = at_most t (frame_bytes clean k) (read_in true xs)
+cut_begins s clean k (completed t) xs l =
+    either_read (λ x. Begins (x ++ []) (t ∷ read_in true xs)) t (frame_bytes clean k) (t ∷ read_in true xs, refl) (read_in true xs, refl)
 cut_begins s clean k refused xs l = absurd (omega (arith, l))
 cut_begins s clean k (broken t j) xs l = earlier t (frame_bytes clean k) (frame_bytes clean j) (read_in false xs) (frame_bytes_grow clean k j (omega (arith, l, length-take j (sent s clean t))))
 
@@ -116,28 +118,18 @@ whole_left s clean k (x ∷ xs) l =
     rw (le-ltb k (length (written s clean x)) (omega (arith, l, long))) (ap (λ z. x ∷ z) (whole_left s (clean_after clean x) (k - length (written s clean x)) xs (omega (arith, l, long))))
 
 -- nothing is left
-nothing_first : (s : ℕ) (clean : Bool) (x : Send) → 0 < length (written s clean x) → read_in clean (broken_at 0 x ∷ []) ≡ []
-nothing_first s clean (completed t) l = ap (λ x. x ++ []) (none_at_zero clean t)
-nothing_first s clean refused l = refl
-nothing_first s clean (broken t j) l = ap (λ x. x ++ []) (none_at_zero clean t)
-
 some_sent : (s : ℕ) (clean : Bool) (t : Tree) → 0 < length (sent s clean t)
 some_sent s true t = omega (arith, length-append (frame_for s (short t)) (s ∷ []))
 some_sent s false t = omega (arith, length-append (frame_for s (short t)) (s ∷ []))
 
-unwritten : (s : ℕ) (clean : Bool) (x : Send) (xs : List Send) → length (written s clean x) ≤ 0 → read_in (clean_after clean x) xs ≡ [] → read_in clean (x ∷ xs) ≡ []
-unwritten s clean (completed t) xs l h = absurd (omega (arith, l, some_sent s clean t))
-unwritten s clean refused xs l h = h
-unwritten s clean (broken t zero) xs l h = ap (λ x. x ++ read_in false xs) (none_at_zero clean t) ∙ h
-unwritten s clean (broken t (suc j)) xs l h = absurd (omega (arith, l, length-take (suc j) (sent s clean t), some_sent s clean t))
-
 nothing_in : (s : ℕ) (clean : Bool) (xs : List Send) → read_in clean (left_of s clean 0 xs) ≡ []
 nothing_in s clean [] = refl
-nothing_in s clean (x ∷ xs) = elim (cases_lt 0 (length (written s clean x))) [
-  | inl l ↦ rw (lt-ltb 0 (length (written s clean x)) l) (nothing_first s clean x l)
-  | inr l ↦ rw (le-ltb 0 (length (written s clean x)) l) (unwritten s clean x (left_of s (clean_after clean x) (0 - length (written s clean x)) xs) l
-      (ap (λ n. read_in (clean_after clean x) (left_of s (clean_after clean x) n xs)) (let e : 0 - length (written s clean x) ≡ 0 = omega arith in e) ∙ nothing_in s (clean_after clean x) xs))
-]
+nothing_in s clean (completed t ∷ xs) = rw (lt-ltb 0 (length (sent s clean t)) (some_sent s clean t)) (ap (λ x. x ++ []) (none_at_zero clean t))
+nothing_in s clean (refused ∷ xs) = nothing_in s clean xs
+nothing_in s clean (broken t zero ∷ xs) = ap (λ x. x ++ read_in false (left_of s false 0 xs)) (none_at_zero clean t) ∙ nothing_in s false xs
+nothing_in s clean (broken t (suc j) ∷ xs) =
+    let some : 0 < length (take (suc j) (sent s clean t)) = omega (arith, length-take (suc j) (sent s clean t), some_sent s clean t) in
+    rw (lt-ltb 0 (length (take (suc j) (sent s clean t))) some) (ap (λ x. x ++ []) (none_at_zero clean t))
 
 nothing_left : (s : ℕ) (run : List (List Send)) → read_of (left s 0 run) ≡ []
 nothing_left s [] = refl
@@ -145,7 +137,7 @@ nothing_left s (xs ∷ run) =
     ap (λ x. x ++ read_of (left s (0 - length (session_line s false xs)) run)) (nothing_in s false xs)
     ∙ ap (λ n. read_of (left s n run)) (let e : 0 - length (session_line s false xs) ≡ 0 = omega arith in e) ∙ nothing_left s run
 
-pub left_begins : (s k : ℕ) (run : List (List Send)) → Begins (read_of (left s k run)) (read_of run)
+left_begins : (s k : ℕ) (run : List (List Send)) → Begins (read_of (left s k run)) (read_of run)
 left_begins s k [] = ([], refl)
 left_begins s k (xs ∷ run) = elim (cases_lt k (length (session_line s false xs))) [
   | inl l ↦ (
@@ -174,19 +166,12 @@ counted_appends : (numbered : ℕ → Tree → Tree) (clean : Bool) (n : ℕ) (v
 counted_appends numbered clean n [] = tt
 counted_appends numbered clean n (v ∷ vs) = ((v, refl), counted_appends numbered true (n + 1) vs)
 
-counted_one : (numbered : ℕ → Tree → Tree) (n k : ℕ) (v : Tree) → Counted numbered n (read_broken (numbered n v) k ++ [])
-counted_one numbered n zero v = tt
-counted_one numbered n (suc k) v = go (ltb (suc k) (length (shortest_frame (short (numbered n v)))))
-  where
-    go : (c : Bool) → Counted numbered n (cond c [] (numbered n v ∷ []) ++ [])
-    go true = tt
-    go false = ((v, refl), tt)
-
 counted_broken : (numbered : ℕ → Tree → Tree) (clean : Bool) (n m k : ℕ) (vs : List Tree) (v : Tree) → m ≡ n + length vs
     → Counted numbered n (read_in clean (appends numbered n vs ++ (broken (numbered m v) k ∷ [])))
 counted_broken numbered clean n m k [] v e =
     let same : m ≡ n = e ∙ omega arith in
-    subst (λ x. Counted numbered n (read_broken (numbered x v) (frame_bytes clean k) ++ [])) (sym same) (counted_one numbered n (frame_bytes clean k) v)
+    subst (λ x. Counted numbered n (read_broken (numbered x v) (frame_bytes clean k) ++ [])) (sym same)
+    (either_read (λ x. Counted numbered n (x ++ [])) (numbered n v) (frame_bytes clean k) tt ((v, refl), tt))
 counted_broken numbered clean n m k (w ∷ vs) v e = ((w, refl), counted_broken numbered true (n + 1) m k vs v (e ∙ omega arith))
 
 read_joined : (run later : List (List Send)) → read_of (run ++ later) ≡ read_of run ++ read_of later
@@ -219,9 +204,21 @@ step s numbered any run (crashed k n) c =
     subst (Counted numbered 0) (sym (read_joined (left s k run) (openings any n) ∙ ap (λ x. read_of (left s k run) ++ x) (read_openings any n) ∙ append-nil (read_of (left s k run))))
     (counted_begins numbered (read_of (left s k run)) (read_of run) (left_begins s k run) c)
 
-pub counted : (s : ℕ) (numbered : ℕ → Tree → Tree) (any : Tree) (run : List (List Send)) (events : List LogEvent) → Counted numbered 0 (read_of run) → Counted numbered 0 (read_of (history s numbered any run events))
+counted : (s : ℕ) (numbered : ℕ → Tree → Tree) (any : Tree) (run : List (List Send)) (events : List LogEvent) → Counted numbered 0 (read_of run) → Counted numbered 0 (read_of (history s numbered any run events))
 counted s numbered any run [] c = c
 counted s numbered any run (e ∷ events) c = counted s numbered any (after s numbered any run e) events (step s numbered any run e c)
+
+-- What an opening reads is counted.
+pub counts_by : (takes : Tree → Type 0) (holds : List ℕ → Tree → Type 0) (limit s : ℕ) → IsTold takes holds limit s → CountsOn takes holds limit s
+counts_by takes holds limit s tells numbered any events answers framed d h =
+    let run = history s numbered any [] events in
+    let is : IsRun takes limit s (run ++ (opening any ∷ [])) = runs_joined takes limit s run (opening any ∷ []) d (((framed, frame_more s any), tt), tt) in
+    let told_is : answers ≡ told s (run ++ (opening any ∷ [])) = (tells (run ++ (opening any ∷ [])) answers is).0 (subst (λ x. Answers holds limit s x answers) (sym (lines_joined s run (opening any ∷ []))) h) in
+    let are : values_of answers ≡ read_of run = ap values_of told_is ∙ read_run s any run in
+    record {
+      counted = subst (Counted numbered 0) (sym are) (counted s numbered any [] events tt);
+      are = are;
+    }
 
 -- Bytes
 

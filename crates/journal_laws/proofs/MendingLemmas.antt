@@ -1,15 +1,15 @@
 -- Records appended anew, and logs that were damaged.
-use Rattle.std.proofs.Common.{◌≡◌, ℕ, ◌≤◌, Bool, true, false, List, [], ◌∷◌, ◌++◌, length, map, refl, sym, ap, ◌∙◌, subst, arith}
+use Rattle.std.proofs.Common.{◌≡◌, ℕ, ◌+◌, ◌≤◌, Bool, true, false, List, [], ◌∷◌, ◌++◌, length, map, refl, sym, ap, ◌∙◌, subst, arith}
 use Rattle.std.proofs.lemmas.List.{append-nil, length-map}
 use Rattle.std.specs.List.{AllZip}
 use Rattle.postcard_tree.specs.Tree.{Tree}
 use Rattle.postcard.specs.Frames.{Holds}
 use Rattle.link.specs.Stream.{Verdict, cut, damaged, too_long, value, ended, IsAnswer, HoldsExactly, Answers}
 use Rattle.link.specs.Run.{completed, IsFramed, IsSession, IsRun, told_session, told}
-use Rattle.link.specs.Laws.{IsLeast}
+use Rattle.link.specs.Laws.{sentinels, IsLeast, IsTold, IsLocal}
 use Rattle.link.specs.Roads.{values_of}
 use Rattle.journal.specs.Values.{values_done}
-use Rattle.journal_laws.specs.Laws.{anew}
+use Rattle.journal_laws.specs.Laws.{anew, LosesTouched}
 
 told_anew_in : (s : ℕ) (clean : Bool) (later : List ℕ) (ts : List Tree) → told_session s clean later (map completed ts) ≡ map value ts
 told_anew_in s clean later [] = refl
@@ -50,14 +50,14 @@ pub framed_strictly : (takes : Tree → Type 0) (limit : ℕ) (p : List ℕ) (t 
 framed_strictly takes limit p t h = record { taken = h.1.0; within = subst (λ x. length x ≤ limit) h.1.1 h.0 }
 
 -- a part of values is values
-pub record ValuesIn (ts : List Tree) (us rest : List Verdict) : Type 0 where
-  pub first : List Tree
-  pub others : List Tree
-  pub whole : ts ≡ first ++ others
-  pub are : us ≡ map value first
-  pub rest_are : rest ≡ map value others
+record ValuesIn (ts : List Tree) (us rest : List Verdict) : Type 0 where
+  first : List Tree
+  others : List Tree
+  whole : ts ≡ first ++ others
+  are : us ≡ map value first
+  rest_are : rest ≡ map value others
 
-pub values_in : (ts : List Tree) (us rest : List Verdict) → map value ts ≡ us ++ rest → ValuesIn ts us rest
+values_in : (ts : List Tree) (us rest : List Verdict) → map value ts ≡ us ++ rest → ValuesIn ts us rest
 values_in ts [] rest e = record { first = []; others = ts; whole = refl; are = refl; rest_are = sym e }
 values_in [] (u ∷ us) rest e = absurd (cc)
 values_in (t ∷ ts) (u ∷ us) rest e =
@@ -66,5 +66,24 @@ values_in (t ∷ ts) (u ∷ us) rest e =
     let h = values_in ts us rest tail in
     record { first = t ∷ h.first; others = h.others; whole = ap (λ x. t ∷ x) h.whole; are = ap (λ x. x ∷ us) head ∙ ap (λ x. value t ∷ x) h.are; rest_are = h.rest_are }
 
-pub count_values : (ts : List Tree) → length (map value ts) ≡ length ts
-count_values ts = length-map ts value
+-- what damage at one place leaves
+pub loses_by : (takes : Tree → Type 0) (holds : List ℕ → Tree → Type 0) (limit s : ℕ) → IsTold takes holds limit s → IsLocal holds limit s → LosesTouched takes holds limit s
+loses_by takes holds limit s tells local ts a x y b answers d e h =
+    let heard = (tells (anew ts) (map value ts) d).1 (sym (told_anew s ts)) in
+    let was = subst (λ z. Answers holds limit s z (map value ts)) e heard in
+    let l = local a x y b (map value ts) answers was h in
+    let p = l.4 in
+    let q = l.5 in
+    let first = values_in ts l.0 (p.0 ++ l.1) p.1 in
+    let second = values_in first.others p.0 l.1 (sym first.rest_are) in
+    let few : length p.0 ≤ sentinels s x + 1 = p.2 in
+    record {
+      before = first.first;
+      lost = second.first;
+      behind = second.others;
+      instead = q.0;
+      were = first.whole ∙ ap (λ z. first.first ++ z) second.whole;
+      few = subst (λ n. n ≤ sentinels s x + 1) (ap length second.are ∙ length-map second.first value) few;
+      are = q.1 ∙ ap (λ z. z ++ (q.0 ++ l.1)) first.are ∙ ap (λ z. map value first.first ++ (q.0 ++ z)) second.rest_are;
+      little = q.2;
+    }
