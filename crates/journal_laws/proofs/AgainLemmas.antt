@@ -6,7 +6,7 @@ use Rattle.cobs.specs.Sentinel.{masked, frame_for}
 use Rattle.postcard_tree.specs.Spelling.{short}
 use Rattle.journal_scan.specs.Scanning.{with_zero}
 use Rattle.postcard_tree.specs.Tree.{Tree}
-use Rattle.link.specs.Stream.{Verdict, value, ended, unfinished, IsAnswer, HoldsExactly, begun_answers, cut_answers, Answers}
+use Rattle.link.specs.Stream.{value, ended, unfinished, IsAnswer, HoldsExactly, begun_answers, cut_answers, Answers}
 use Rattle.link.specs.Run.{sent, line, IsRun}
 use Rattle.link.specs.Laws.{IsTold, HasOneAnswer}
 use Rattle.link.specs.Lemmas.Pieces.{ended_skip, ended_behind, ended_alone, ends_at}
