@@ -6,6 +6,10 @@ use Rattle.watch_lib.specs.declared.rate.Rate.{Rate}
 abbrev pub capped : ℕ → ℕ
 capped n = min n (2 ^ 64 - 1)
 
+-- it counts one more
+abbrev pub CountsOneMore : ℕ → ℕ → Type 0
+CountsOneMore old new = new ≡ capped (old + 1)
+
 -- how many of these windows are this one
 abbrev pub count_at : ℕ → List ℕ → ℕ
 count_at w [] = 0

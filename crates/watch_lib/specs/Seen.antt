@@ -47,6 +47,10 @@ CountsToo a old new = (answers : List (Answer Value)) → HasCounted old answers
 abbrev pub as_answer : Value → Answer Value
 as_answer v = answer.Value v
 
+-- whatever the table has counted, it counts this message too
+abbrev pub CountsMessage : Value → Table → Table → Type 0
+CountsMessage v old new = CountsToo (as_answer v) old new
+
 -- what frames are read as
 abbrev pub reading_of : Viewer → Reading
 reading_of v = v.reading

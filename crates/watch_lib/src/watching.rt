@@ -1,13 +1,13 @@
 //! A stream of frames, as a table of what came.
-ghost use Rattle.std.specs.Prelude.{◌≡◌, ℕ, ◌+◌, ◌<◌, ◌≤◌, List, [], ◌++◌, length, take, IfOk, OnOk};
+ghost use Rattle.std.specs.Prelude.{◌≡◌, ℕ, ◌<◌, ◌≤◌, List, [], ◌++◌, length, take, IfOk, OnOk};
 ghost use Rattle.link.specs.Decoding.{in_owner};
 ghost use Rattle.link.specs.Receivers.{IsBehind};
 ghost use Rattle.link.specs.Pushes.{Answered};
 ghost use Rattle.link.specs.declared.receiver.Answer.{Answer as Answers};
 ghost use Rattle.schemas.specs.declared.value.Value.{Value as Values};
 ghost use Rattle.wire_lib.specs.Received.{held_by, read_by, are_all_values};
-ghost use Rattle.watch_lib.specs.Rates.{capped};
-ghost use Rattle.watch_lib.specs.Seen.{HasSeen, HasCounted, CountsToo, StandsStill, as_answer, reading_of, added_by_end};
+ghost use Rattle.watch_lib.specs.Rates.{CountsOneMore};
+ghost use Rattle.watch_lib.specs.Seen.{HasSeen, HasCounted, CountsToo, CountsMessage, StandsStill, reading_of, added_by_end};
 
 use crate::front::keep_front;
 use crate::kinds::{kind_of, rows_of, text_of};
@@ -66,7 +66,7 @@ impl<'a> Viewer<'a> {
         window: u64,
         lines: &mut Vec<u8>,
     ) -> Result<(), AllocError>
-        ensures counted { OnOk result (CountsToo (as_answer value.now) self.old.table self.new.table) }
+        ensures counted { OnOk result (CountsMessage value.now self.old.table self.new.table) }
         ensures same { StandsStill self.old self.new }
     {
         let alloc = self.reading.alloc;
@@ -86,7 +86,7 @@ impl<'a> Viewer<'a> {
         stretch: usize,
         lines: &mut Vec<u8>,
     ) -> Result<(), AllocError>
-        ensures damaged { OnOk result (self.new.table.damaged ≡ capped (self.old.table.damaged + 1)) }
+        ensures damaged { OnOk result (CountsOneMore self.old.table.damaged self.new.table.damaged) }
         ensures rows { self.new.table.rows ≡ self.old.table.rows }
         ensures same { StandsStill self.old self.new }
     {
