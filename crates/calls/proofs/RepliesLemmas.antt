@@ -1,15 +1,8 @@
 -- What a server executes and replies.
 use Rattle.std.proofs.Common.{◌≡◌, ℕ, ◌+◌, ◌<◌, ◌≤◌, Bool, true, false, cond, eqb, List, [], ◌∷◌, ◌++◌, Option, Some, None, refl, sym, ap, ◌∙◌, subst, inl, inr, ◌⊎◌, arith}
 use Rattle.std.proofs.lemmas.Bool.{eqb-true}
-use Rattle.calls.specs.Calls.{Execution, call, next_of, no_call, notices, again, Serves, ServesAll, known, fresh, no_request, request, KeptFor, Rises, In, Among}
+use Rattle.calls.specs.Calls.{Execution, call, next_of, no_call, notices, again, Serves, ServesAll, known, fresh, no_request, request, KeptFor, Rises, In}
 use Rattle.calls.specs.ServedLaws.{in_joined, in_before, in_first, alone, rises, which}
-
-pub in_some : {A : Type 0} (x : A) (xs ys : List A) → Among xs ys → In x xs → In x ys
-in_some x [] ys a i = absurd i
-in_some x (y ∷ xs) [] a i = absurd a
-in_some x (y ∷ xs) (z ∷ ys) (inl a) (inl i) = inl (i ∙ a.0)
-in_some x (y ∷ xs) (z ∷ ys) (inl a) (inr i) = inr (in_some x xs ys a.1 i)
-in_some x (y ∷ xs) (z ∷ ys) (inr a) i = inr (in_some x (y ∷ xs) ys a i)
 
 -- a notice goes out by the greatest number
 noticed : {R : Type 0} (said : Option R) (p : ℕ × R) → In p (notices said) → p.0 ≡ no_call
@@ -39,13 +32,10 @@ module _ {Q R : Type 0} (equal : Q → Q → Bool) (passes : ℕ → ℕ → Opt
   abbrev Found : ℕ × R → Option (Execution Q R) → List (ℕ × Q) → List (Execution Q R) → Type 0
   Found p kept qs log = ((q : Q) × In (call p.0 q p.1) log × In (p.0, q) qs) ⊎ ((asked : Q) × In (p.0, asked) qs × KeptFor equal kept p.0 asked p.1)
 
-  numbered : (n : ℕ) (q : ℕ × Q) → n ≡ q.0 → ◌≡◌ {A = ℕ × Q} (n, q.1) q
-  numbered n q e = rw e refl
-
   said_now : (p : ℕ × R) (q : ℕ × Q) (says : R) (kept : Option (Execution Q R)) (qs : List (ℕ × Q))
       (log : List (Execution Q R)) → p.0 ≡ q.0 → p.1 ≡ says
       → Found p kept (q ∷ qs) (call q.0 q.1 says ∷ log)
-  said_now p q says kept qs log e f = inl (q.1, inl (rw (e, f) refl), inl (numbered p.0 q e))
+  said_now p q says kept qs log e f = inl (q.1, inl (rw (e, f) refl), inl (ap (λ n. (n, q.1)) e))
 
   pub found : {kept later : Option (Execution Q R)} {qs : List (ℕ × Q)}
       {log : List (Execution Q R)} {out : List (ℕ × R)}
@@ -54,7 +44,7 @@ module _ {Q R : Type 0} (equal : Q → Q → Bool) (passes : ℕ → ℕ → Opt
   found no_request p z i = absurd i
   found (request {kept = kept} {q = q} {out = out} (known l) h) p z i =
       elim (in_joined p (again equal passes kept q.0 q.1) out i) [
-        | inl a ↦ (let r = repeated kept q.0 q.1 p z a in inr (q.1, inl (numbered p.0 q r.0), r.1))
+        | inl a ↦ (let r = repeated kept q.0 q.1 p z a in inr (q.1, inl (ap (λ n. (n, q.1)) r.0), r.1))
         | inr a ↦ elim (found h p z a) [
           | inl f ↦ inl (f.0, f.1, inr f.2)
           | inr f ↦ inr (f.0, inr f.1, f.2)

@@ -1,5 +1,5 @@
 -- What a client asks.
-use Rattle.std.specs.Prelude.{◌≡◌, ℕ, ◌+◌, ◌<◌, ◌≤◌, List, [], ◌∷◌, ◌++◌, Option, Some, None, IfSome, Result, Ok, Err}
+use Rattle.std.specs.Prelude.{◌≡◌, ℕ, ◌+◌, ◌<◌, ◌≤◌, List, [], ◌∷◌, ◌++◌, Option, Some, None, IfSome, Result, Ok, Err, option_to_list}
 use Rattle.calls.specs.Calls.{no_call, OnePerNumber}
 use Rattle.link.specs.declared.sender.Sender.{Sender}
 use Rattle.link.specs.declared.sender.SendError.{SendError}
@@ -31,15 +31,10 @@ pub data Step (Q : Type 0) : Type 0 where
   repeats : Step Q
   ends : Step Q
 
--- what there is, as a list
-abbrev pub listed : {P : Type 0} → Option P → List P
-listed None = []
-listed (Some p) = p ∷ []
-
 -- what a step sends
 abbrev pub tried : {Q : Type 0} → Asker Q → Step Q → List (ℕ × Q)
 tried a (calls q) = (a.next, q) ∷ []
-tried a repeats = listed a.pending
+tried a repeats = option_to_list a.pending
 tried a ends = []
 
 -- where it stands then

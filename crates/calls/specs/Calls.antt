@@ -1,5 +1,6 @@
 -- Calls by number: what a server executes and replies, what a client asks, and what lines that lose messages make of it.
 use Rattle.std.specs.Prelude.{◌≡◌, ◌⊎◌, ℕ, ◌+◌, ◌<◌, ◌≤◌, ◌==◌, Bool, true, if◌then◌else◌, List, [], ◌∷◌, ◌++◌, Option, Some, None}
+use Rattle.link.specs.Run.{Among}
 
 -- a call that was executed: its number, what it asked, and what was said to it
 pub record Execution (Q R : Type 0) : Type 0 where
@@ -66,12 +67,6 @@ ExecutesOnce Q R = (equal : Q → Q → Bool) (passes : ℕ → ℕ → Option R
 abbrev pub In : {A : Type 0} → A → List A → Type 0
 In x [] = ⊥
 In x (y ∷ ys) = (x ≡ y) ⊎ In x ys
-
--- the first are some of the second, in their order: what a line that loses messages brings
-abbrev pub Among : {A : Type 0} → List A → List A → Type 0
-Among [] ys = Unit {0}
-Among (x ∷ xs) [] = ⊥
-Among (x ∷ xs) (y ∷ ys) = ((x ≡ y) × Among xs ys) ⊎ Among (x ∷ xs) ys
 
 -- a number stands for one request, however often it is sent
 abbrev pub OnePerNumber : {Q : Type 0} → List (ℕ × Q) → Type 0

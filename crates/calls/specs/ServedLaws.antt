@@ -5,7 +5,7 @@ use Rattle.std.proofs.lemmas.Bool.{eq-eqb, eqb-true}
 use Rattle.std.proofs.lemmas.List.{append-nil}
 use Rattle.line_io.specs.Device.{LineState}
 use Rattle.postcard_tree.specs.Tree.{Tree}
-use Rattle.link.specs.Run.{Send, completed, refused, broken, written}
+use Rattle.link.specs.Run.{Among, Send, completed, refused, broken, written}
 use Rattle.line_io.specs.Transfers.{Failed}
 use Rattle.link.specs.Senders.{IsSent, IsRefusal}
 use Rattle.cobs.specs.Frames.{shortest_frame}
@@ -42,6 +42,14 @@ pub in_first : {A : Type 0} (x : A) (xs ys : List A) → In x xs → In x (xs ++
 in_first x [] ys i = absurd i
 in_first x (y ∷ xs) ys (inl e) = inl e
 in_first x (y ∷ xs) ys (inr i) = inr (in_first x xs ys i)
+
+-- What is in some of a list is in it.
+pub in_some : {A : Type 0} (x : A) (xs ys : List A) → Among xs ys → In x xs → In x ys
+in_some x [] ys a i = absurd i
+in_some x (y ∷ xs) [] a i = absurd a
+in_some x (y ∷ xs) (z ∷ ys) (inl a) (inl i) = inl (i ∙ a.0)
+in_some x (y ∷ xs) (z ∷ ys) (inl a) (inr i) = inr (in_some x xs ys a.1 i)
+in_some x (y ∷ xs) (z ∷ ys) (inr a) i = inr (in_some x (y ∷ xs) ys a i)
 
 pub alone : {A : Type 0} (x y : A) → In y (x ∷ []) → y ≡ x
 alone x y (inl e) = e
@@ -93,16 +101,13 @@ module _ {V : Type 0} (limit : ℕ) (writes : V → Option Tree) (valid : V → 
           fated = refl;
           did = subst (λ b. Did old.line new.line b (broke x + 0)) line (record {
             wrote = h.wrote;
-            few = subst (FewBroke old.line new.line) (plus_none (broke x)) o.1;
+            few = subst (FewBroke old.line new.line) (let e : broke x ≡ broke x + 0 = omega arith in e) o.1;
             once = omega (arith, o.2);
             calls = h.calls;
           });
           then = h.then;
         },
       )
-    where
-      plus_none : (n : ℕ) → n ≡ n + 0
-      plus_none n = omega arith
 
   -- Whether it was sent whole is told alike by the answer and by what became of it.
   told_alike : (v : V) (r : Result (Unit {0}) SendError) (x : Send) (unsent : Bool) → IsSent limit (writes v) r x → unsent_by_result unsent r ≡ unsent_by_fate unsent (fate_of x)

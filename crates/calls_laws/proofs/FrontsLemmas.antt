@@ -3,14 +3,15 @@ use Rattle.std.proofs.Common.{◌≡◌, ℕ, List, [], ◌∷◌, ◌++◌, len
 use Rattle.std.specs.List.{AllZip, AllByRecursion}
 use Rattle.std.proofs.Math.Seq.{take-append_seam}
 use Rattle.postcard_tree.specs.Tree.{Tree}
-use Rattle.link.specs.Stream.{Verdict, value, damaged, too_long, cut, unfinished, cut_answers, Answers}
+use Rattle.link.specs.Stream.{Verdict, unfinished, cut_answers, Answers}
 use Rattle.link.specs.Run.{Send, completed, refused, broken, line, told, IsRun}
 use Rattle.link.specs.Roads.{values_of}
 use Rattle.link.specs.Pushes.{Matches}
 use Rattle.link.specs.Listening.{IsReceived, HasGiven, Loss, through, answers_before, bytes_through}
+use Rattle.link.specs.Lemmas.ValueLaws.{values_joined}
 use Rattle.link.specs.Laws.{IsTold, HasOneAnswer, StartsAnywhere}
 use Rattle.link_laws.specs.Answered.{Sends}
-use Rattle.link_laws.specs.Crashes.{tried_in, tried, Among, left, IsHeardBetween, IsLeft}
+use Rattle.link_laws.specs.Crashes.{tried_in, tried, left, IsHeardBetween, IsLeft}
 use Rattle.link_laws.specs.Pieced.{AreOfTheWhole}
 use Rattle.link_laws.specs.Values.{sends_of, runs_of, AreSends, values_sent}
 use Rattle.link.specs.declared.receiver.Answer.{Answer}
@@ -19,30 +20,11 @@ use Rattle.line_io.specs.declared.transfers.End.{End}
 use Rattle.line_io.specs.declared.transfers.End.TheVariants.{Ended, ReadFault, NoMemory}
 use Rattle.calls.specs.Calls.{In}
 use Rattle.calls.specs.Serving.{requests_of}
-use Rattle.calls.specs.ServedLaws.{in_joined as in_parts, in_first, in_before as in_second, requests_then}
+use Rattle.calls.specs.ServedLaws.{in_some, in_joined as in_parts, in_first, in_before as in_second, requests_then}
 use Rattle.calls_laws.specs.Heard.{WasHeard}
 
-in_among : (x : Tree) (xs ys : List Tree) → Among xs ys → In x xs → In x ys
-in_among x [] ys a i = absurd i
-in_among x (y ∷ xs) [] a i = absurd a
-in_among x (y ∷ xs) (z ∷ ys) (inl a) (inl i) = inl (i ∙ a.0)
-in_among x (y ∷ xs) (z ∷ ys) (inl a) (inr i) = inr (in_among x xs ys a.1 i)
-in_among x (y ∷ xs) (z ∷ ys) (inr a) i = inr (in_among x (y ∷ xs) ys a i)
-
 in_front : (t : Tree) (us vs : List Verdict) → In t (values_of us) → In t (values_of (us ++ vs))
-in_front t [] vs i = absurd i
-in_front t (value u ∷ us) vs (inl e) = inl e
-in_front t (value u ∷ us) vs (inr i) = inr (in_front t us vs i)
-in_front t (damaged ∷ us) vs i = in_front t us vs i
-in_front t (too_long ∷ us) vs i = in_front t us vs i
-in_front t (cut ∷ us) vs i = in_front t us vs i
-
-in_behind : (t : Tree) (us vs : List Verdict) → In t (values_of vs) → In t (values_of (us ++ vs))
-in_behind t [] vs i = i
-in_behind t (value u ∷ us) vs i = inr (in_behind t us vs i)
-in_behind t (damaged ∷ us) vs i = in_behind t us vs i
-in_behind t (too_long ∷ us) vs i = in_behind t us vs i
-in_behind t (cut ∷ us) vs i = in_behind t us vs i
+in_front t us vs i = subst (In t) (sym (values_joined us vs)) (in_first t (values_of us) (values_of vs) i)
 
 module _ {V : Type 0} (reads : Tree → V → Type 0) where
   -- a value among answers was read from a tree among the verdicts
@@ -87,7 +69,7 @@ module _ (takes : Tree → Type 0) (holds : List ℕ → Tree → Type 0) (limit
   was_tried run front rest us is parts h t i =
       let k = left_is run (length front) is in
       let b = between (left s (length front) run) us k.is_run (subst (λ x. Answers holds limit s x us) (front_is run front rest is parts) h) in
-      in_among t (tried (left s (length front) run)) (tried run) k.tried_before (in_among t (values_of us) (tried (left s (length front) run)) b.none_invented i)
+      in_some t (tried (left s (length front) run)) (tried run) k.tried_before (in_some t (values_of us) (tried (left s (length front) run)) b.none_invented i)
 
   -- the answers to such a front
   told_front : (run : List (List Send)) (front rest : List ℕ) → IsRun takes limit s run → line s run ≡ front ++ rest → Answers holds limit s front (told s (left s (length front) run))
@@ -119,7 +101,7 @@ module _ (takes : Tree → Type 0) (holds : List ℕ → Tree → Type 0) (limit
               (r.0, subst (λ us. In r.0 (values_of us)) (sym b.2) (in_front r.0 l.given.verdicts (b.0 ∷ b.1) r.1), r.2))
           | inr k ↦ (
               let r = heard_among z.1 losses later rest z.2 g w k in
-              (r.0, subst (λ us. In r.0 (values_of us)) (sym z.3) (in_behind r.0 z.0 z.1 r.1), r.2))
+              (r.0, subst (λ us. In r.0 (values_of us)) (sym z.3) (subst (In r.0) (sym (values_joined z.0 z.1)) (in_second r.0 (values_of z.0) (values_of z.1) r.1)), r.2))
         ]
 
     -- a value that was heard, however the reading ended, was read from a tree that was tried

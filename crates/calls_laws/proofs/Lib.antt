@@ -1,4 +1,3 @@
 pub mod FrontsLemmas
 pub mod OutcomesLemmas
-pub mod RightLemmas
 pub mod StepsLemmas

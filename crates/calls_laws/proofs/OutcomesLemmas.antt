@@ -1,8 +1,9 @@
 -- What one call over two lines makes of the application.
 use Rattle.std.proofs.Common.{◌≡◌, ◌<◌, ℕ, Bool, List, [], ◌∷◌, map, Option, Some, None, refl, sym, ap, ◌∙◌, subst, inl, inr, ◌⊎◌, arith}
 use Rattle.std.specs.Prelude.{IfSome}
-use Rattle.std.specs.List.{AllZip, FoldsTo, zip}
+use Rattle.std.specs.List.{FoldsTo, zip}
 use Rattle.std.proofs.lemmas.List.{append-nil}
+use Rattle.std.proofs.lemmas.Slice.Zip.{AllZip-long, firsts-zip}
 use Rattle.postcard_tree.specs.Tree.{Tree}
 use Rattle.postcard_tree.specs.Alike.{AlikePairs}
 use Rattle.link.specs.Run.{Send, line}
@@ -15,12 +16,6 @@ use Rattle.calls.specs.Serving.{Runs, requests_of}
 use Rattle.calls_laws.specs.Heard.{HearsSent}
 use Rattle.calls_laws.specs.Headline.{WentOver, WasExecuted, RepliesAreRight}
 use Rattle.calls_laws.specs.Exchange.{ExecutedOnce, ExecutedAtMostOnce, LeftBy, HeardFront, AsksOnly, ServesLine, TakesReply}
-
--- the values of a session are its messages
-values_beside : {V : Type 0} (P : V → Send → Type 0) (values : List V) (xs : List Send) → AllZip P values xs → map (λ (c : V × Send). c.0) (zip values xs) ≡ values
-values_beside P [] xs h = refl
-values_beside P (v ∷ values) [] h = absurd h
-values_beside P (v ∷ values) (x ∷ xs) h = ap (λ l. v ∷ l) (values_beside P values xs h.1)
 
 module _ {V : Type 0} (takes : Tree → Type 0) (holds : List ℕ → Tree → Type 0) (reads : Tree → V → Type 0) (writes : V → Option Tree) (valid : V → Type 0) (taken : (v : V) (t : Tree) → valid v → writes v ≡ Some t → takes t) (limit s : ℕ) where
   -- what one sender left, and what was heard of a front of it
@@ -35,7 +30,7 @@ module _ {V : Type 0} (takes : Tree → Type 0) (holds : List ℕ → Tree → T
 
   pub sent_are : (messages : List V) (bytes : List ℕ) (l : LeftBy limit s writes valid messages bytes) → values_sent (zip messages l.said.sends ∷ []) ≡ messages
   sent_are messages bytes l =
-      append-nil (map (λ (c : V × Send). c.0) (zip messages l.said.sends)) ∙ values_beside (λ v x. IsSendOf limit (writes v) (valid v) x) messages l.said.sends l.said.of
+      append-nil (map (λ (c : V × Send). c.0) (zip messages l.said.sends)) ∙ firsts-zip messages l.said.sends (AllZip-long (λ v x. IsSendOf limit (writes v) (valid v) x) messages l.said.sends l.said.of)
 
 module _ {Q R : Type 0} where
   -- what was executed was heard
@@ -62,37 +57,26 @@ module _ {A Q R : Type 0} (executes : A → Q → R → A → Type 0) (equal : Q
     (right : RepliesAreRight alike_asked alike_said (WentOver takes holds reads writes valid) (WentOver takes' holds' reads' writes' valid'))
     {limit s limit' s' : ℕ} {old new : A} {x : ℕ × Q} {pending : Option (ℕ × Q)} {requests replies : List ℕ}
     (asks : AsksOnly limit s writes valid x pending requests) (serves : ServesLine executes equal passes holds reads writes' valid' limit s limit' s' old new requests replies) where
-  -- each request that was heard has the number, and is alike the one that was asked
-  heard_alike : (w : ℕ × Q) → In w (requests_of serves.heard) → (x.0 ≡ w.0) × alike_asked x.1 w.1
-  heard_alike w i =
-      let over = went_over takes holds reads writes valid taken limit s asks.messages requests serves.heard asks.left serves.over in
-      let v = hears limit s (zip asks.messages asks.left.said.sends ∷ []) serves.heard over.front over.rest over.is over.of over.parts over.heard w i in
-      let sent =
-      sent_are takes holds reads writes valid taken limit s asks.messages requests asks.left in
-      let same : v.0 ≡ x = asks.only v.0 (subst (In v.0) sent v.1) in
-      (sym (ap (λ p. p.0) same) ∙ v.2.0, subst (λ p. alike_asked p.1 w.1) same v.2.1)
-
+  -- each request that was executed has the number, and is alike the one that was asked
   alike_executed : (e : Execution Q R) → In e serves.log → (x.0 ≡ e.number) × alike_asked x.1 e.asks
   alike_executed e i =
-      heard_alike (e.number, e.asks) (was_heard serves.served e i)
+      let over = went_over takes holds reads writes valid taken limit s asks.messages requests serves.heard asks.left serves.over in
+      let v = hears limit s (zip asks.messages asks.left.said.sends ∷ []) serves.heard over.front over.rest over.is over.of over.parts over.heard (e.number, e.asks) (was_heard serves.served e i) in
+      let same : v.0 ≡ x = asks.only v.0 (subst (In v.0) (sent_are takes holds reads writes valid taken limit s asks.messages requests asks.left) v.1) in
+      (sym (ap (λ p. p.0) same) ∙ v.2.0, subst (λ p. alike_asked p.1 e.asks) same v.2.1)
 
-  numbered : (e : Execution Q R) → In e serves.log → e.number ≡ x.0
-  numbered e i = sym (alike_executed e i).0
-
-  rising : Rises 0 serves.log
-  rising = (once equal passes None serves.later (requests_of serves.heard) serves.log serves.out serves.served).0
+  one_at_most : (serves.log ≡ []) ⊎ ((e : Execution Q R) × (serves.log ≡ e ∷ []))
+  one_at_most =
+      at_most_one x.0 0 serves.log (once equal passes None serves.later (requests_of serves.heard) serves.log serves.out serves.served).0 (λ e i. sym (alike_executed e i).0)
 
   -- the application ran one execution alone
   ran_one : (log : List (Execution Q R)) (e : Execution Q R) → log ≡ e ∷ [] → FoldsTo (Runs executes) old log new → executes old e.asks e.says new
   ran_one log e one ran =
       let r = subst (λ l. FoldsTo (Runs executes) old l new) one ran in subst (λ a. executes old e.asks e.says a) r.2 r.1
 
-  ran_none : (log : List (Execution Q R)) → log ≡ [] → FoldsTo (Runs executes) old log new → new ≡ old
-  ran_none log none ran = sym (subst (λ l. FoldsTo (Runs executes) old l new) none ran)
-
   pub executed_at_most_once : ExecutedAtMostOnce {R = R} executes alike_asked old new x.1
-  executed_at_most_once = elim (at_most_one x.0 0 serves.log rising numbered) [
-    | inl none ↦ inl (ran_none serves.log none serves.ran)
+  executed_at_most_once = elim one_at_most [
+    | inl none ↦ inl (sym (subst (λ l. FoldsTo (Runs executes) old l new) none serves.ran))
     | inr one ↦ inr (record {
       asks = one.0.asks;
       says = one.0.says;
@@ -101,9 +85,6 @@ module _ {A Q R : Type 0} (executes : A → Q → R → A → Type 0) (equal : Q
       says_so = tt;
     })
   ]
-
-  one_number : OnePerNumber asks.messages
-  one_number a b i j e = asks.only a i ∙ sym (asks.only b j)
 
   -- the reply that was taken, by the law of whole lines
   taken_was_said : (r : R) → TakesReply holds' reads' limit' s' pending replies r → WasExecuted alike_asked alike_said 0 serves.log x.0 x.1 r
@@ -117,7 +98,7 @@ module _ {A Q R : Type 0} (executes : A → Q → R → A → Type 0) (equal : Q
       serves.served
       (went_over takes' holds' reads' writes' valid' taken' limit' s' serves.out replies t.heard serves.left t.over)
       (sent_are takes' holds' reads' writes' valid' taken' limit' s' serves.out replies serves.left)
-      (subst OnePerNumber (sym sent) one_number)
+      (subst OnePerNumber (sym sent) (λ a b i j e. asks.only a i ∙ sym (asks.only b j)))
       (subst (In x) (sym sent) (asks.sent (t.number, t.asked) t.is_pending).1)
       (subst (λ p. In (p.0, r) (requests_of t.heard)) is t.said)) [
         | inl w ↦ w
@@ -127,7 +108,7 @@ module _ {A Q R : Type 0} (executes : A → Q → R → A → Type 0) (equal : Q
   pub reply_is_right : (r : R) → TakesReply holds' reads' limit' s' pending replies r → ExecutedOnce executes alike_asked old new x.1 (λ says. alike_said says r)
   reply_is_right r t =
       let w = taken_was_said r t in
-      elim (at_most_one x.0 0 serves.log rising numbered) [
+      elim one_at_most [
         | inl none ↦ absurd (subst (In w.call) none w.executed)
         | inr one ↦ (
             let e : w.call ≡ one.0 = elim (subst (In w.call) one.1 w.executed) [ inl k ↦ k | inr k ↦ absurd k ] in

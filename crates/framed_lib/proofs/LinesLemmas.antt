@@ -1,12 +1,12 @@
 -- The lines of answers, and of the trees that they were read from.
 use Rattle.std.proofs.Math.Seq.{drop-cons, take-length}
-use Rattle.std.proofs.Common.{take, drop, get_or, add-one, ◌+◌, ◌-◌, ◌≡◌, ℕ, zero, suc, ◌<◌, ◌≤◌, ◌==◌, Bool, true, false, ◌||◌, if◌then◌else◌, arith, List, [], ◌∷◌, ◌++◌, length, refl, sym, ap, ◌∙◌}
+use Rattle.std.proofs.Common.{take, drop, get_or, add-one, ◌+◌, ◌-◌, ◌≡◌, ℕ, suc, ◌<◌, ◌==◌, Bool, true, false, ◌||◌, if◌then◌else◌, arith, List, [], ◌∷◌, ◌++◌, length, refl, sym, ap, ◌∙◌}
 use Rattle.std.specs.List.{list_all, AllZip}
 use Rattle.std.specs.Prelude.{flat_map, string_bytes, Option, Some, None}
 use Rattle.std.specs.declared.string.String.{String}
 use Rattle.std.proofs.lemmas.Grind.{flat_map-append}
 use Rattle.std.proofs.lemmas.Bool.{eqb-true, ne_eqb}
-use Rattle.std.proofs.lemmas.List.{take-append-drop, length-drop, length-take}
+use Rattle.std.proofs.lemmas.List.{take-append-drop, length-drop, length-take, get_or-take}
 use Rattle.memchr.specs.Find.{is_byte2}
 use Rattle.postcard_tree.specs.Tree.{Tree, byte, number, character, sequence, group, Trees, end, part}
 use Rattle.postcard_tree.specs.Reading.{ReadsAll, ReadsByte, ReadsText}
@@ -43,19 +43,13 @@ plain-all (b ∷ text) h =
     ap (λ x. x ++ flat_map escape text) (neither (b == 92) (b == 10) (92 ∷ 92 ∷ []) (92 ∷ 110 ∷ []) (b ∷ []) (h 0 (omega arith)))
     ∙ ap (λ x. b ∷ x) (plain-all text (λ k l e. h (suc k) (omega (arith, l)) e))
 
-front-byte : (text : List ℕ) (n k : ℕ) → k < n → n ≤ length text → get_or (take n text) k 0 ≡ get_or text k 0
-front-byte [] n k l m = absurd (omega arith)
-front-byte (b ∷ text) zero k l m = absurd (omega arith)
-front-byte (b ∷ text) (suc n) zero l m = refl
-front-byte (b ∷ text) (suc n) (suc k) l m = front-byte text n k (omega (arith, l)) (omega (arith, m))
-
 -- the bytes before the first one that is escaped
 pub plain-front : (text : List ℕ) (at : ℕ) → at < length text → ((k : ℕ) → k < at → is_byte2 92 10 (get_or text k 0) ≡ true → ⊥)
     → flat_map escape (take at text) ≡ take at text
 plain-front text at l h =
     plain-all (take at text)
     (λ k m e. let within : k < at = omega (arith, m, length-take at text) in
-    h k within (ap (is_byte2 92 10) (sym (front-byte text at k within (omega (arith, l)))) ∙ e))
+    h k within (ap (is_byte2 92 10) (sym (get_or-take at text k 0 within)) ∙ e))
 
 other-one : (p q : Bool) → (p || q) ≡ true → p ≡ false → q ≡ true
 other-one true q e f = cc

@@ -1,12 +1,14 @@
 -- The sends of a text's lines, line by line.
 use Rattle.std.proofs.Common.{◌≡◌, ℕ, ◌+◌, ◌<◌, ◌==◌, inl, inr, Bool, ◌&&◌, ◌||◌, false, List, [], ◌∷◌, ◌++◌, length, refl, sym, ap, ◌∙◌, arith, append_assoc, get_or, take, drop, length-append}
 use Rattle.std.proofs.Math.Bool.{and-true, or-true, or-false}
-use Rattle.std.proofs.lemmas.List.{append-nil}
+use Rattle.std.proofs.lemmas.List.{append-nil, nil_from_length}
+use Rattle.std.proofs.lemmas.Slice.Zip.{all_zipped_more}
 use Rattle.std.specs.List.{list_all}
 use Rattle.std.proofs.lemmas.List.Folds.{list_all-append}
 use Rattle.std.proofs.lemmas.List.Splits.{slice_split_at, slice_split_none, length-slice_split}
 use Rattle.link.specs.Run.{Send, completed, refused, broken, written, clean_after, session_line}
 use Rattle.link.specs.Fates.{clean_after_all}
+use Rattle.link.specs.Lemmas.HeardLaws.{zip_parts, zip_once}
 use Rattle.link.specs.Lemmas.SendLaws.{clean_then, line_then}
 use Rattle.framed_lib.specs.Program.{SaysFirst}
 use Rattle.framed_lib.specs.Sending.{LacksMark, pieces, filled, lines_in, IsSendOfLine, AreSendsOf, is_whole, said_of, refusals, Sent}
@@ -15,7 +17,7 @@ use Rattle.std.proofs.Math.Seq.{take-append_seam, drop-append-add, get_or-append
 use Rattle.std.proofs.lemmas.Str.{IsUtf8-take, IsUtf8-drop, IsCharBoundary-before_ascii, IsCharBoundary-after_ascii}
 
 -- A text that is UTF-8 is so on each side of a line feed.
-utf8-cut : (line tail : List ℕ) → IsUtf8 (line ++ 10 ∷ tail) → IsUtf8 line × IsUtf8 tail
+pub utf8-cut : (line tail : List ℕ) → IsUtf8 (line ++ 10 ∷ tail) → IsUtf8 line × IsUtf8 tail
 utf8-cut line tail u =
     let text = line ++ 10 ∷ tail in
     let long : length line < length text = omega (arith, length-append line (10 ∷ tail)) in
@@ -23,9 +25,6 @@ utf8-cut line tail u =
     let front : IsUtf8 (take (length line) text) = IsUtf8-take text (length line) u (IsCharBoundary-before_ascii text (length line) long small) in
     let behind : IsUtf8 (drop (length line + 1) text) = IsUtf8-drop text (length line + 1) u (IsCharBoundary-after_ascii text (length line) u long small) in
     (rw (take-append_seam line (10 ∷ tail)) at front, rw (drop-append-add line (10 ∷ tail) 1) at behind)
-
-pub utf8-line : (text line tail : List ℕ) → text ≡ line ++ 10 ∷ tail → IsUtf8 text → IsUtf8 line × IsUtf8 tail
-utf8-line text line tail e u = utf8-cut line tail (rw e at u)
 
 pieces-some : (bytes : List ℕ) → 0 < length (pieces 10 bytes)
 pieces-some bytes = omega (arith, length-slice_split (λ b. b == 10) bytes)
@@ -35,7 +34,7 @@ filled-more line [] some = absurd (omega arith)
 filled-more [] (p ∷ ps) some = refl
 filled-more (b ∷ bytes) (p ∷ ps) some = refl
 
-lines-more : (line tail : List ℕ) → LacksMark 10 line → lines_in (line ++ 10 ∷ tail) ≡ line ∷ lines_in tail
+pub lines-more : (line tail : List ℕ) → LacksMark 10 line → lines_in (line ++ 10 ∷ tail) ≡ line ∷ lines_in tail
 lines-more line tail h = ap filled (slice_split_at (λ b. b == 10) line 10 tail h refl) ∙ filled-more line (pieces 10 tail) (pieces-some tail)
 
 filled-last : (rest : List ℕ) → 0 < length rest → filled (rest ∷ []) ≡ rest ∷ []
@@ -45,33 +44,19 @@ filled-last (b ∷ rest) some = refl
 pub lines-last : (rest : List ℕ) → LacksMark 10 rest → 0 < length rest → lines_in rest ≡ rest ∷ []
 lines-last rest h some = ap filled (slice_split_none (λ b. b == 10) rest h) ∙ filled-last rest some
 
-lines-none : (rest : List ℕ) → length rest ≡ 0 → lines_in rest ≡ []
-lines-none [] h = refl
-lines-none (b ∷ rest) h = absurd (omega arith)
-
-sends-more : (lines : List (List ℕ)) (done : List Send) (line : List ℕ) (x : Send) → AreSendsOf lines done → IsSendOfLine line x → AreSendsOf (lines ++ line ∷ []) (done ++ x ∷ [])
-sends-more [] [] line x e o = (o, tt)
-sends-more [] (d ∷ done) line x e o = absurd e
-sends-more (l ∷ lines) [] line x e o = absurd e
-sends-more (l ∷ lines) (d ∷ done) line x e o = (e.0, sends-more lines done line x e.1 o)
-
 pub Sent-none : (text : List ℕ) → Sent text text []
 Sent-none text = record { seen = []; lines_are = refl; are = tt }
-
--- the next line of the rest, and those behind it
-pub next-line : (rest line tail : List ℕ) → rest ≡ line ++ 10 ∷ tail → LacksMark 10 line → lines_in rest ≡ line ∷ lines_in tail
-next-line rest line tail e h = ap lines_in e ∙ lines-more line tail h
 
 pub Sent-more : (text rest line tail : List ℕ) (done : List Send) (x : Send) → Sent text rest done
     → lines_in rest ≡ line ∷ lines_in tail → IsSendOfLine line x → Sent text tail (done ++ x ∷ [])
 Sent-more text rest line tail done x p e o = record {
   seen = p.seen ++ line ∷ [];
   lines_are = p.lines_are ∙ (ap (λ l. p.seen ++ l) e ∙ sym (append_assoc p.seen (line ∷ []) (lines_in tail)));
-  are = sends-more p.seen done line x p.are o;
+  are = all_zipped_more IsSendOfLine p.seen done line x p.are o;
 }
 
 pub Sent-all : (text rest : List ℕ) (done : List Send) → Sent text rest done → length rest ≡ 0 → AreSendsOf (lines_in text) done
-Sent-all text rest done p h = rw (p.lines_are, lines-none rest h, append-nil p.seen) p.are
+Sent-all text rest done p h = rw (p.lines_are, ap lines_in (nil_from_length rest h), append-nil p.seen) p.are
 
 -- standard error failed at the refusal of a line
 pub Sent-first : (text rest line : List ℕ) (later : List (List ℕ)) (done : List Send) (x : Send) → Sent text rest done → lines_in rest ≡ line ∷ later
@@ -81,7 +66,7 @@ Sent-first text rest line later done x p e o = record {
   later = later;
   lines_are = p.lines_are ∙ (ap (λ l. p.seen ++ l) e ∙ sym (append_assoc p.seen (line ∷ []) later));
   sends = done ++ x ∷ [];
-  are = sends-more p.seen done line x p.are o;
+  are = all_zipped_more IsSendOfLine p.seen done line x p.are o;
   said_is = refl;
 }
 
@@ -132,21 +117,12 @@ one-send line refused refused p q = refl
 one-send line (broken t k) y p q = absurd p
 one-send line x (broken t k) p q = absurd q
 
--- the sends of lines begin with those of the first ones
-pub sends-split : (seen more : List (List ℕ)) (done sends : List Send) → AreSendsOf (seen ++ more) sends → AreSendsOf seen done
-    → (later : List Send) × (sends ≡ done ++ later) × AreSendsOf more later
-sends-split [] more [] sends p q = (sends, refl, p)
-sends-split [] more (d ∷ done) sends p q = absurd q
-sends-split (l ∷ seen) more [] sends p q = absurd q
-sends-split (l ∷ seen) more (d ∷ done) [] p q = absurd p
-sends-split (l ∷ seen) more (d ∷ done) (x ∷ sends) p q =
-    let k = sends-split seen more done sends p.1 q.1 in
-    (k.0, ap (λ y. y ∷ sends) (one-send l x d p.0 q.0) ∙ ap (λ ys. d ∷ ys) k.1, k.2)
-
 -- the sends of a text's lines begin with those of its first lines
 pub Sent-split : (text rest : List ℕ) (done sends : List Send) → Sent text rest done → AreSendsOf (lines_in text) sends
     → (later : List Send) × (sends ≡ done ++ later) × AreSendsOf (lines_in rest) later
-Sent-split text rest done sends p h = sends-split p.seen (lines_in rest) done sends (rw p.lines_are at h) p.are
+Sent-split text rest done sends p h =
+    let z = zip_parts IsSendOfLine p.seen (lines_in rest) sends (rw p.lines_are at h) in
+    (z.vs, z.whole ∙ ap (λ x. x ++ z.vs) (zip_once IsSendOfLine one-send p.seen z.us done z.first p.are), z.second)
 
 pub none-sent : (rest : List ℕ) (later : List Send) → length rest ≡ 0 → AreSendsOf (lines_in rest) later → later ≡ []
 none-sent [] [] l a = refl

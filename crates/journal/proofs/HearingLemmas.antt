@@ -1,11 +1,9 @@
 -- How answers are handed on, push by push, and what is read of a store so far.
-use Rattle.line_io.specs.Device.{LineState, read_faults}
-use Rattle.line_io.specs.Transfers.{Failed}
-use Rattle.std.proofs.Common.{◌≡◌, ℕ, zero, suc, ◌+◌, ◌-◌, ◌<◌, ◌≤◌, ◌/◌, ◌^◌, min, nat_lt, Bool, true, false, get_or, List, [], ◌∷◌, ◌++◌, length, take, drop, Option, Some, None, Result, Ok, Err, refl, sym, ap, ◌∙◌, subst, inl, inr, append_assoc, arith, rules}
+use Rattle.std.proofs.Common.{◌≡◌, ℕ, ◌+◌, ◌-◌, ◌<◌, ◌≤◌, ◌/◌, ◌^◌, min, nat_lt, Bool, true, false, get_or, List, [], ◌∷◌, ◌++◌, length, take, drop, Option, Some, None, Result, Ok, Err, refl, sym, ap, ◌∙◌, subst, inl, inr, append_assoc, arith, rules}
 use Rattle.std.specs.Prelude.{IfSome, IfErr, IsErrAnd, if◌then◌else◌}
 use Rattle.std.proofs.lemmas.Result.{err_from_is_err_and}
 use Rattle.std.proofs.lemmas.Bool.{lt-ltb, le-ltb, cases_lt}
-use Rattle.std.proofs.lemmas.List.{append-nil, take-append-drop, take-append-le, take_all, take_more, length-take, length-append}
+use Rattle.std.proofs.lemmas.List.{append-nil, take-append-le, take_all, take_more, length-take, length-append}
 use Rattle.std.proofs.Math.Seq.{take-add}
 use Rattle.postcard_tree.specs.Tree.{Tree}
 use Rattle.cobs.specs.declared.dec.heapless.CobsDecoderHeapless.{CobsDecoderHeapless}
@@ -235,9 +233,6 @@ then_more {holds} {reads} laws first old mid new receiver answers before count s
   hears = subst (λ z. HearsLog holds reads first receiver z count stream) (append_assoc answers before h.more) h.hears;
 }
 
-pub parts_on : (piece done rest : List ℕ) (used : ℕ) → piece ≡ done ++ rest → piece ≡ (done ++ take used rest) ++ drop used rest
-parts_on piece done rest used e = e ∙ sym (append_assoc done (take used rest) (drop used rest) ∙ ap (λ x. done ++ x) (take-append-drop used rest))
-
 -- n bytes more were read
 more_read : (bytes room : List ℕ) (at n : ℕ) → n ≤ length room → drop at bytes ≡ take n room ++ drop (at + n) bytes → take (at + n) bytes ≡ take at bytes ++ take n room
 more_read bytes room at n l e =
@@ -259,19 +254,6 @@ reads_all (Some bytes) at P Q e h f = subst Q (take_all at bytes e) (f (take at 
 pub reads_none : (held : Option (List ℕ)) (P : List ℕ → Type 0) → P [] → IfSome held (λ bytes. P (take 0 bytes))
 reads_none None P h = tt
 reads_none (Some bytes) P h = h
-
--- a read that was no fault
-pub no_fault : (before now after left n : ℕ) → after ≡ now + read_faults left (Some n) → now ≡ before → after ≡ before
-no_fault before now after zero n f q = omega (arith, f)
-no_fault before now after (suc left) n f q = omega (arith, f)
-
--- a fault, or no call was left
-pub read_failed : (first before after : LineState) → after.faults ≡ before.faults + read_faults before.calls_left None → after.calls_left ≡ before.calls_left - 1 → before.faults ≡ first.faults → Failed first after
-read_failed first before after f e q = by_calls before.calls_left f e
-  where
-    by_calls : (left : ℕ) → after.faults ≡ before.faults + read_faults left None → after.calls_left ≡ left - 1 → Failed first after
-    by_calls zero f e = inr (omega arith)
-    by_calls (suc left) f e = inl (omega (arith, f))
 
 -- what is said at a fault, of the bytes so far
 pub handed_to : {S V : Type 0} {N : ℕ} (took : S → List (Answer (ℕ × V)) → S → Type 0) (judging : Judging (ℕ × V)) (first : ℕ) (old new : S) (receiver : Reception (CobsDecoderHeapless N)) (count : Count) (held : Option (List ℕ))

@@ -1,5 +1,4 @@
 pub mod Records
-pub mod Values
 pub mod Visits
 pub mod Places
 pub mod Reading

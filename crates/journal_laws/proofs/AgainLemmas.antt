@@ -1,5 +1,5 @@
 -- What is read of what repairing a log wrote, and of a front of a log.
-use Rattle.std.proofs.Common.{◌≡◌, ◌↔◌, ℕ, zero, suc, List, [], ◌∷◌, ◌++◌, map, take, drop, true, refl, sym, ap, ◌∙◌, subst, inr, append_assoc}
+use Rattle.std.proofs.Common.{◌≡◌, ◌↔◌, ℕ, zero, suc, List, [], ◌∷◌, ◌++◌, map, take, drop, refl, sym, ap, ◌∙◌, subst, inr, append_assoc}
 use Rattle.std.proofs.lemmas.List.{append-nil, take-append-drop}
 use Rattle.std.specs.List.{AllZip}
 use Rattle.cobs.specs.Sentinel.{masked, frame_for}
@@ -7,14 +7,14 @@ use Rattle.postcard_tree.specs.Spelling.{short}
 use Rattle.journal_scan.specs.Scanning.{with_zero}
 use Rattle.postcard_tree.specs.Tree.{Tree}
 use Rattle.link.specs.Stream.{value, ended, unfinished, IsAnswer, HoldsExactly, begun_answers, cut_answers, Answers}
-use Rattle.link.specs.Run.{sent, line, IsRun}
+use Rattle.link.specs.Run.{line, IsRun}
 use Rattle.link.specs.Laws.{IsTold, HasOneAnswer}
 use Rattle.link.specs.Lemmas.Pieces.{ended_skip, ended_behind, ended_alone, ends_at}
 use Rattle.link.specs.Lemmas.HeardLaws.{zip_parts}
 use Rattle.link.specs.Roads.{values_of}
-use Rattle.journal.specs.Values.{values_joined, values_done, none_in_begun}
+use Rattle.link.specs.Lemmas.ValueLaws.{values_joined, values_done, none_in_begun}
 use Rattle.journal.specs.Records.{takes_record}
-use Rattle.journal_scan.specs.Repairs.{appended_anew, rewritten, AreReadIn, AreReadFirst}
+use Rattle.journal_scan.specs.Repairs.{appended_anew, anew_joined, rewritten, AreReadIn, AreReadFirst}
 use Rattle.journal_laws.specs.Laws.{anew}
 use Rattle.journal_laws.specs.Again.{RepairsAgain}
 use Rattle.journal_laws.proofs.RunsLemmas.{ends_none}
@@ -92,10 +92,6 @@ fronts : (k : ℕ) (a b : List ℕ) → (j : ℕ) × (take k a ≡ take j (a ++ 
 fronts zero a b = (0, refl)
 fronts (suc k) [] b = (0, refl)
 fronts (suc k) (x ∷ a) b = let h = fronts k a b in (suc h.0, ap (λ y. x ∷ y) h.1)
-
-anew_joined : (ts us : List Tree) → appended_anew (ts ++ us) ≡ appended_anew ts ++ appended_anew us
-anew_joined [] us = refl
-anew_joined (t ∷ ts) us = ap (λ x. sent 0 true t ++ x) (anew_joined ts us) ∙ sym (append_assoc (sent 0 true t) (appended_anew ts) (appended_anew us))
 
 -- of a front of a log the first records are read
 pub repairs_in_fronts : (takes : Tree → Type 0) (limit : ℕ) → HasOneAnswer (HoldsExactly (takes_record takes)) limit 0 → (bytes : List ℕ) (ts us : List Tree) (count : ℕ) → AreReadFirst takes limit bytes ts → AreReadIn takes limit bytes us

@@ -13,8 +13,9 @@ use Rattle.link.specs.Laws.{IsTold}
 use Rattle.link.specs.Roads.{values_of}
 use Rattle.link_laws.specs.Crashes.{broken_at, left_of, left, IsLeft}
 use Rattle.journal_laws.specs.Numbers.{read_broken, read_in, read_of, Counted, LogEvent, appended, broke, crashed, appends, opening, openings, opened, sends_broken, after, history, HasBytes, CountsOn}
-use Rattle.journal.specs.Values.{values_joined}
-use Rattle.journal_laws.proofs.RunsLemmas.{lines_joined, runs_joined, frame_more}
+use Rattle.link.specs.Lemmas.ValueLaws.{values_joined}
+use Rattle.link.specs.Lemmas.SendLaws.{lines_joined, runs_joined}
+use Rattle.journal_laws.proofs.RunsLemmas.{frame_more}
 
 -- What is told where something comes later
 

@@ -5,14 +5,14 @@ use Rattle.std.specs.Prelude.{Bool, IfSome}
 use Rattle.line_io.specs.Device.{LineState, Grew, Wrote}
 use Rattle.line_io.specs.Calls.{Wrote-none, Wrote-then}
 use Rattle.postcard_tree.specs.Tree.{Tree, IsTree}
-use Rattle.link.specs.Lemmas.Givens.{zip_one}
-use Rattle.link.specs.Lemmas.HeardLaws.{zip_length}
+use Rattle.std.proofs.lemmas.Slice.Zip.{all_zipped_more, AllZip-long}
 use Rattle.link.specs.Run.{Send, completed, sent, written, session_line, line, IsSend, IsFramed, IsSession, IsRun}
 use Rattle.journal.specs.Records.{numbered, takes_record}
 use Rattle.journal.specs.Appending.{Appended}
 use Rattle.journal_laws.specs.Numbers.{LogEvent, appended, appends, opened, after, history, IsHistory, HasBytes, read_of}
 use Rattle.journal_laws.specs.Sessions.{AppendsAll, HistoryGoesOn}
-use Rattle.journal_laws.proofs.RunsLemmas.{runs_joined, frame_more}
+use Rattle.link.specs.Lemmas.SendLaws.{runs_joined}
+use Rattle.journal_laws.proofs.RunsLemmas.{frame_more}
 
 line_more : (n : ℕ) (ts : List Tree) (t : Tree) → session_line 0 true (appends numbered n ts) ++ sent 0 true (numbered (n + length ts) t) ≡ session_line 0 true (appends numbered n (ts ++ t ∷ []))
 line_more n [] t = ap (λ m. sent 0 true (numbered m t)) (let e : n + 0 ≡ n = omega arith in e) ∙ sym (append-nil (sent 0 true (numbered n t)))
@@ -30,9 +30,6 @@ module _ (takes : Tree → Type 0) (limit : ℕ) where
   session_opened any n [] f h = ((f, frame_more 0 any), tt)
   session_opened any n (t ∷ ts) f h = h
 
-length_more : (ts : List Tree) (t : Tree) → length (ts ++ t ∷ []) ≡ length ts + 1
-length_more ts t = length-append ts (t ∷ [])
-
 module _ {V : Type 0} (takes : Tree → Type 0) (writes : V → Option Tree) (limit n : ℕ) (old : LineState) where
   pub none_appended : AppendsAll takes writes limit n n old old []
   none_appended = record { trees = []; of = tt; are = tt; wrote = Wrote-none old; quiet = refl; next_is = omega arith }
@@ -49,12 +46,12 @@ module _ {V : Type 0} (takes : Tree → Type 0) (writes : V → Option Tree) (li
       let bytes : Wrote mid new (sent 0 true (numbered now t)) = subst (λ x. Wrote mid new (written 0 true x)) done q.wrote in
       record {
         trees = p.trees ++ t ∷ [];
-        of = zip_one (λ v t. writes v ≡ Some t) values p.trees v t p.of q.is.1.1;
+        of = all_zipped_more (λ v t. writes v ≡ Some t) values p.trees v t p.of q.is.1.1;
         are = session_more (takes_record takes) limit n p.trees t p.are (subst (λ m. IsFramed (takes_record takes) limit (numbered m t)) here
             (record { taken = ((refl, omega (arith, l)), (taken t q.is.1.1, tt)); within = omega (arith, framed.within) }));
         wrote = subst (λ b. Wrote old new b) (ap (λ m. session_line 0 true (appends numbered n p.trees) ++ sent 0 true (numbered m t)) here ∙ line_more n p.trees t) (Wrote-then _ _ _ _ _ p.wrote bytes);
         quiet = quiet ∙ p.quiet;
-        next_is = omega (arith, e, here, length_more p.trees t);
+        next_is = omega (arith, e, here, length-append p.trees (t ∷ []));
       }
 
 -- one event more
@@ -85,7 +82,7 @@ module _ {V : Type 0} (takes : Tree → Type 0) (writes : V → Option Tree) (li
   goes_on any events n next old new values f is held e p below =
       let run = history 0 numbered any [] events in
       let count = length (read_of run) in
-      let more = same_numbers n count p.trees e (λ l. below (omega (arith, l, zip_length (λ v t. writes v ≡ Some t) values p.trees p.of))) in
+      let more = same_numbers n count p.trees e (λ l. below (omega (arith, l, AllZip-long (λ v t. writes v ≡ Some t) values p.trees p.of))) in
       let are : IsSession (takes_record takes) limit 0 true (appends numbered count p.trees) = subst (λ x. IsSession (takes_record takes) limit 0 true x) more p.are in
       let joined : IsRun (takes_record takes) limit 0 (after 0 numbered any run (appended p.trees)) =
       runs_joined (takes_record takes) limit 0 run (opened any (appends numbered count p.trees) ∷ []) is (session_opened (takes_record takes) limit any count p.trees f are, tt) in

@@ -10,6 +10,7 @@ use Rattle.link.specs.Stream.{Verdict, ended, unfinished, IsAnswer, HoldsExactly
 use Rattle.link.specs.Run.{line}
 use Rattle.link.specs.Pushes.{Matches}
 use Rattle.link.specs.Roads.{values_of}
+use Rattle.link.specs.Lemmas.HeardLaws.{empty_ending}
 use Rattle.link.specs.Lemmas.MaskLaws.{unmasked}
 use Rattle.link.specs.Lemmas.Pieces.{unfinished_alone, unfinished_behind, none_unfinished}
 use Rattle.link.specs.declared.receiver.Answer.{Answer}
@@ -25,7 +26,7 @@ use Rattle.journal_laws.specs.Numbers.{Counted, read_of, history, CountsOn}
 use Rattle.journal_laws.specs.Together.{AllCount, numbers_on, JudgesAnyHistory}
 use Rattle.journal_laws.proofs.RunsLemmas.{ends_none}
 use Rattle.journal_laws.proofs.GoingLemmas.{told_on}
-use Rattle.journal_laws.proofs.OpenedLemmas.{none_said, most, number_is, told_of}
+use Rattle.journal_laws.proofs.OpenedLemmas.{most, number_is, told_of}
 
 -- what is said of each stretch of a log
 record Said {V : Type 0} (takes : Tree → Type 0) (reads : Tree → V → Type 0) (limit : ℕ) (ps : List (List ℕ)) (stretches : List (Stretch V)) : Type 0 where
@@ -81,7 +82,7 @@ answers_of : (holds : List ℕ → Tree → Type 0) (limit : ℕ) (log : List �
 answers_of holds limit log verdicts h = record {
   done = verdicts;
   each = h;
-  whole = sym (ap (λ u. verdicts ++ (begun_answers limit u ++ cut_answers limit u)) (none_unfinished 0 (held log) (inr (log, refl))) ∙ ap (λ x. verdicts ++ x) (none_said limit) ∙ append-nil verdicts);
+  whole = sym (ap (λ u. verdicts ++ (begun_answers limit u ++ cut_answers limit u)) (none_unfinished 0 (held log) (inr (log, refl))) ∙ ap (λ x. verdicts ++ x) (empty_ending limit) ∙ append-nil verdicts);
 }
 
 -- the numbers of counted records

@@ -8,7 +8,7 @@ use Rattle.link.specs.Stream.{Verdict, cut, damaged, too_long, value, ended, IsA
 use Rattle.link.specs.Run.{completed, IsFramed, IsSession, IsRun, told_session, told}
 use Rattle.link.specs.Laws.{sentinels, IsLeast, IsTold, IsLocal}
 use Rattle.link.specs.Roads.{values_of}
-use Rattle.journal.specs.Values.{values_done}
+use Rattle.link.specs.Lemmas.ValueLaws.{values_done}
 use Rattle.journal_laws.specs.Laws.{anew, LosesTouched}
 
 told_anew_in : (s : ℕ) (clean : Bool) (later : List ℕ) (ts : List Tree) → told_session s clean later (map completed ts) ≡ map value ts

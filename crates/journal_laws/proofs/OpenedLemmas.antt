@@ -6,12 +6,13 @@ use Rattle.std.proofs.lemmas.Bool.{le-ltb}
 use Rattle.std.proofs.lemmas.List.{append-nil}
 use Rattle.line_io.specs.Device.{LineState, Grew}
 use Rattle.postcard_tree.specs.Tree.{Tree}
-use Rattle.link.specs.Stream.{Verdict, begun_answers, cut_answers, Answers}
+use Rattle.link.specs.Stream.{Verdict, Answers}
 use Rattle.link.specs.Judged.{Judging}
 use Rattle.link.specs.Run.{line}
 use Rattle.link.specs.Pushes.{Matches}
 use Rattle.link.specs.Roads.{values_of}
 use Rattle.link.specs.Laws.{Appends}
+use Rattle.link.specs.Lemmas.HeardLaws.{empty_ending}
 use Rattle.link.specs.declared.receiver.Answer.{Answer}
 use Rattle.link.specs.declared.receiver.Answer.TheVariants.{Value, Damaged, TooLong, Cut}
 use Rattle.journal.specs.Records.{numbered, takes_record, reads_record, past, past_all}
@@ -34,14 +35,6 @@ all_read r s f [] [] h = tt
 all_read r s f [] (x ∷ xs) h = absurd h
 all_read r s f (a ∷ answers) [] h = absurd h
 all_read r s f (a ∷ answers) (x ∷ xs) h = (one_read r s f a x h.0, all_read r s f answers xs h.1)
-
--- of no stretch nothing is said
-pub none_said : (limit : ℕ) → begun_answers limit [] ++ cut_answers limit [] ≡ []
-none_said limit = rw (le-ltb limit 0 (omega arith)) refl
-
--- an empty stream has no answers
-nothing : (holds : List ℕ → Tree → Type 0) (limit s : ℕ) → Answers holds limit s [] []
-nothing holds limit s = record { done = []; each = tt; whole = sym (none_said limit) }
 
 -- the number of a record
 pub number_is : {V : Type 0} (reads : Tree → V → Type 0) (n : ℕ) (t v : Tree) (r : ℕ × V) → t ≡ numbered n v → reads_record reads t r → (r.0 ≡ n) × (n < 2 ^ 64)
@@ -121,7 +114,7 @@ module _ {S V : Type 0} (took : S → List (Answer (ℕ × V)) → S → Type 0)
       let matching = all_read judging.reads (reads_record reads) records (answers_in read.located) vs read.given.matching in
       let whole : Answers judging.holds limit 0 (log ++ 0 ∷ []) vs =
       subst (λ x. Answers judging.holds limit 0 x vs) (append-nil (log ++ 0 ∷ []))
-      ((append (log ++ 0 ∷ []) [] vs (inr (log, refl))).1 (vs, [], read.given.given, nothing judging.holds limit 0, sym (append-nil vs))) in
+      ((append (log ++ 0 ∷ []) [] vs (inr (log, refl))).1 (vs, [], read.given.given, record { done = []; each = tt; whole = sym (empty_ending limit) }, sym (append-nil vs))) in
       let c = counts numbered any events vs framed is whole in
       let all = all_counted reads 0 (numbered_from 0) read.located vs matching c.counted refl in
       let same : told.answers ≡ answers_in read.located = read.handed_on ∙ all.0 in

@@ -3,10 +3,10 @@ use Rattle.std.specs.Prelude.{◌≡◌, ◌↔◌, ℕ, ◌+◌, ◌≤◌, Lis
 use Rattle.postcard_tree.specs.Tree.{Tree}
 use Rattle.postcard.specs.Frames.{Holds}
 use Rattle.link.specs.Stream.{Verdict, value, HoldsExactly, Given, Answers}
-use Rattle.link.specs.Run.{Send, completed, IsRun, line}
+use Rattle.link.specs.Run.{Among, Send, completed, IsRun, line}
 use Rattle.link.specs.Laws.{sentinels}
 use Rattle.link.specs.Roads.{values_of}
-use Rattle.link_laws.specs.Crashes.{tried, Among, LiesBetween, left}
+use Rattle.link_laws.specs.Crashes.{tried, LiesBetween, left}
 use Rattle.journal.specs.Places.{least_record}
 
 -- What a crash leaves of a history is the line of what is left of its run; and what is read of that and of whatever sessions come

@@ -1,5 +1,5 @@
 -- Records that are read of a log one after another, and appended anew.
-use Rattle.std.proofs.Common.{◌≡◌, ℕ, ◌+◌, ◌-◌, ◌^◌, ◌<◌, ◌≤◌, min, max, true, List, [], ◌∷◌, ◌++◌, length, take, Option, Some, None, Result, Ok, Err, refl, sym, ap, ◌∙◌, subst, append_assoc, arith}
+use Rattle.std.proofs.Common.{◌≡◌, ℕ, ◌+◌, ◌-◌, ◌^◌, ◌<◌, ◌≤◌, min, max, true, List, [], ◌∷◌, ◌++◌, length, take, Option, Some, None, Result, Ok, Err, refl, sym, ap, ◌∙◌, subst, arith}
 use Rattle.std.specs.Prelude.{IfErr, IfSome}
 use Rattle.std.specs.List.{AllZip}
 use Rattle.std.proofs.lemmas.List.{append-nil, take_all, length-append, length-take}
@@ -15,10 +15,11 @@ use Rattle.link.specs.Stream.{Verdict, ended, unfinished, IsAnswer, HoldsExactly
 use Rattle.link.specs.Run.{sent}
 use Rattle.link.specs.Pushes.{Matches}
 use Rattle.link.specs.Roads.{values_of}
-use Rattle.link.specs.Lemmas.HeardLaws.{zip_joined, zip_length}
+use Rattle.link.specs.Lemmas.HeardLaws.{zip_joined}
+use Rattle.std.proofs.lemmas.Slice.Zip.{AllZip-long}
 use Rattle.link.specs.declared.receiver.Answer.{Answer}
 use Rattle.link.specs.declared.receiver.Answer.TheVariants.{Value, Damaged, TooLong, Cut}
-use Rattle.journal.specs.Values.{values_joined, values_done, none_in_begun}
+use Rattle.link.specs.Lemmas.ValueLaws.{values_joined, values_done, none_in_begun}
 use Rattle.journal.specs.Records.{numbered, record_of, takes_record, reads_record}
 use Rattle.journal_scan.specs.declared.closing.ClosedScan.{ClosedScan}
 use Rattle.journal_scan.specs.declared.scanning.Stretch.{Stretch}
@@ -29,17 +30,9 @@ use Rattle.journal_scan.specs.Tallies.{behind_greatest}
 use Rattle.journal_scan.specs.Checks.{numbers_of}
 use Rattle.journal_scan.specs.Scanning.{Found, FoundAll, with_zero, told_with_zero}
 use Rattle.journal_scan.specs.Closing.{IsClosing, HasPassedNone, FoundClosed, passed_by}
-use Rattle.journal_scan.specs.Repairs.{appended_anew, rewritten, IsTreeOf, AreTreesOf, AreReadIn, AreReadFirst, IsRepaired, IsPartlyRepaired, record_read, WentAnew, GoesAnew, StopsAnew, IfRefused, IfUnsynced}
+use Rattle.journal_scan.specs.Repairs.{appended_anew, anew_joined, rewritten, IsTreeOf, AreTreesOf, AreReadIn, AreReadFirst, IsRepaired, IsPartlyRepaired, record_read, WentAnew, GoesAnew, StopsAnew, IfRefused, IfUnsynced}
 use Rattle.journal_scan.proofs.GapsLemmas.{behind_push}
 use Rattle.journal_scan.proofs.StretchesLemmas.{numbers_joined}
-
--- the bytes of records one behind another
-pub anew_joined : (ts us : List Tree) → appended_anew (ts ++ us) ≡ appended_anew ts ++ appended_anew us
-anew_joined [] us = refl
-anew_joined (t ∷ ts) us = ap (λ x. sent 0 true t ++ x) (anew_joined ts us) ∙ sym (append_assoc (sent 0 true t) (appended_anew ts) (appended_anew us))
-
-pub one_anew : (t : Tree) → appended_anew (t ∷ []) ≡ sent 0 true t
-one_anew t = append-nil (sent 0 true t)
 
 -- Of the stretches that zeros end before an offset these are the records' trees.
 pub record ReadsTo (takes : Tree → Type 0) (limit : ℕ) (bytes : List ℕ) (at : ℕ) (ts : List Tree) : Type 0 where
@@ -53,9 +46,6 @@ pub record ReadsBehind (takes : Tree → Type 0) (limit : ℕ) (bytes : List ℕ
   pub to : ReadsTo takes limit (with_zero bytes) (passed_by bytes scan) ts
 
 module _ {V : Type 0} (reads : Tree → V → Type 0) (writes : V → Option Tree) (back : (t : Tree) (v : V) → reads t v → writes v ≡ Some t) where
-  same_some : (u v : Tree) → Some u ≡ Some v → u ≡ v
-  same_some u v e = cc
-
   -- the tree that a record was read from is the one that it writes
   tree_read : (r : ℕ × V) (t : Tree) → reads_record reads t r → IsTreeOf writes r t
   tree_read r (byte b) h = absurd h
@@ -76,7 +66,7 @@ module _ {V : Type 0} (reads : Tree → V → Type 0) (writes : V → Option Tre
   )
 
   one_tree : (r : ℕ × V) (t u : Tree) → IsTreeOf writes r t → IsTreeOf writes r u → t ≡ u
-  one_tree r t u h k = h.2 ∙ ap (numbered r.0) (same_some h.0 k.0 (sym h.1 ∙ k.1)) ∙ sym k.2
+  one_tree r t u h k = h.2 ∙ ap (numbered r.0) (let e : Some h.0 ≡ Some k.0 = sym h.1 ∙ k.1 in cc) ∙ sym k.2
 
   -- what is read of a stretch is the tree of the record that is appended anew, where it is one
   values_read : (a : Answer (ℕ × V)) (v : Verdict) (us : List Tree) → Matches (reads_record reads) a v → AreTreesOf writes (record_read a) us → values_of (v ∷ []) ≡ us
@@ -156,7 +146,7 @@ module _ (old mid new : LineState) (ts : List Tree) where
   pub front_anew : (t : Tree) (k : ℕ) → Wrote old mid (rewritten ts) → Wrote mid new (take k (sent 0 true t))
       → Wrote old new (take (length (rewritten ts) + k) (rewritten (ts ++ t ∷ [])))
   front_anew t k w v =
-      let bytes : rewritten (ts ++ t ∷ []) ≡ rewritten ts ++ sent 0 true t = ap (λ x. 0 ∷ x) (anew_joined ts (t ∷ []) ∙ ap (λ y. appended_anew ts ++ y) (one_anew t)) in
+      let bytes : rewritten (ts ++ t ∷ []) ≡ rewritten ts ++ sent 0 true t = ap (λ x. 0 ∷ x) (anew_joined ts (t ∷ []) ∙ ap (λ y. appended_anew ts ++ y) (append-nil (sent 0 true t))) in
       subst (Wrote old new) (sym (take-append-add (rewritten ts) (sent 0 true t) k) ∙ ap (take (length (rewritten ts) + k)) (sym bytes)) (Wrote-then _ _ _ _ _ w v)
 
   pub all_anew : Wrote old mid (rewritten ts) → Wrote old mid (take (length (rewritten ts)) (rewritten ts))
@@ -171,12 +161,6 @@ wrote_still old mid new bs w e l = record { grew = subst (λ x. Grew old.told x 
     go None (Some y) h = h
     go (Some x) None h = omega (arith, h, l)
     go (Some x) (Some y) h = h
-
-pub wrote_zero : (old new : LineState) (n : ℕ) → 0 < n → n ≤ 1 → Wrote old new (take n (0 ∷ [])) → Wrote old new (0 ∷ [])
-wrote_zero old new n l m w = let one : n ≡ 1 = omega (arith, l, m) in subst (λ k. Wrote old new (take k (0 ∷ []))) one w
-
-min_more : (a b n m k : ℕ) → a ≡ min n k → b ≡ min (a + m) k → b ≡ min (n + m) k
-min_more a b n m k e f = omega arith
 
 pub on_any : {T E : Type 0} (r : Result T E) (P : Type 0) → P → IfErr r (λ _. P)
 on_any (Ok x) P p = tt
@@ -196,12 +180,18 @@ if_stopped writes most Cut old new Sync P h = absurd h
 pub none_appended : (takes : Tree → Type 0) (limit : ℕ) (held : Option (List ℕ)) (old new : LineState) → Wrote old new [] → IsPartlyRepaired takes limit (told_with_zero held) old new
 none_appended takes limit held old new w = record { trees = []; count = 0; read = if_with_zero held (λ bytes. AreReadFirst takes limit bytes []) (λ bytes e. nothing_read takes limit (with_zero bytes)); wrote = w }
 
-pub none_went : (old new : LineState) (n : ℕ) (bs : List ℕ) → n ≡ 0 → Wrote old new (take n bs) → Wrote old new []
-none_went old new n bs e w = subst (λ k. Wrote old new (take k bs)) e w
+pub went_so : (old new : LineState) (n m : ℕ) (bs : List ℕ) → n ≡ m → Wrote old new (take n bs) → Wrote old new (take m bs)
+went_so old new n m bs e w = subst (λ k. Wrote old new (take k bs)) e w
 
 none_if : (held : Option (List ℕ)) → ((bytes : List ℕ) → held ≡ Some bytes → ⊥) → held ≡ None
 none_if None h = refl
 none_if (Some bytes) h = absurd (h bytes refl)
+
+-- what was found, of the bytes that were told at first
+pub found_told : {V : Type 0} (takes : Tree → Type 0) (reads : Tree → V → Type 0) (limit : ℕ) (now held : Option (List ℕ)) (scan later : ClosedScan) (o x : Option (Stretch V)) → now ≡ held → o ≡ x
+    → ((limit : ℕ) (bytes : List ℕ) → now ≡ Some bytes → IsClosing limit bytes scan → FoundClosed takes reads limit bytes scan later o)
+    → (bytes : List ℕ) → held ≡ Some bytes → IsClosing limit bytes scan → FoundClosed takes reads limit bytes scan later x
+found_told takes reads limit now held scan later o x e f found bytes h k = subst (FoundClosed takes reads limit bytes scan later) f (found limit bytes (e ∙ h) k)
 
 -- The records behind which a scan stands were appended anew, and are counted.
 pub record RepairedSoFar {V : Type 0} (takes : Tree → Type 0) (writes : V → Option Tree) (limit : ℕ) (held : Option (List ℕ)) (old now : LineState) (repaired : Repaired) (scan : ClosedScan) : Type 0 where
@@ -226,7 +216,7 @@ module _ {V : Type 0} (writes : V → Option Tree) (old new : LineState) (repair
   goes_one r w e f = record {
     trees = numbered r.0 w.value ∷ [];
     of = ((w.value, w.is, refl), tt);
-    wrote = subst (Wrote old new) (sym (one_anew (numbered r.0 w.value))) w.wrote;
+    wrote = subst (Wrote old new) (sym (append-nil (sent 0 true (numbered r.0 w.value)))) w.wrote;
     records_are = e;
     next_is = λ ns h. f ∙ ap (λ x. max x (min (r.0 + 1) (2 ^ 64 - 1))) h ∙ sym (behind_push ns r.0);
   }
@@ -279,14 +269,14 @@ module _ {V : Type 0} (reads : Tree → V → Type 0) (writes : V → Option Tre
 
       pub repair_goes : (new : LineState) (next : Repaired) → GoesAnew writes s.answer now new repaired next → RepairedSoFar takes writes limit held old new next later
       repair_goes new next goes =
-          let sizes : length (record_read s.answer) ≡ length goes.trees = sym (zip_length (IsTreeOf writes) (record_read s.answer) goes.trees goes.of) in
+          let sizes : length (record_read s.answer) ≡ length goes.trees = sym (AllZip-long (IsTreeOf writes) (record_read s.answer) goes.trees goes.of) in
           let all : length (h.records ++ record_read s.answer) ≡ length h.records + length goes.trees = length-append h.records (record_read s.answer) ∙ ap (λ n. length h.records + n) sizes in
           record {
             records = h.records ++ record_read s.answer;
             trees = h.trees ++ goes.trees;
             of = zip_joined (IsTreeOf writes) h.records (record_read s.answer) h.trees goes.trees h.of goes.of;
             wrote = more_anew old now new h.trees goes.trees h.wrote goes.wrote;
-            records_are = min_more repaired.records next.records (length h.records) (length goes.trees) (2 ^ 64 - 1) h.records_are goes.records_are ∙ ap (λ n. min n (2 ^ 64 - 1)) (sym all);
+            records_are = omega (arith, h.records_are, goes.records_are, all);
             next_is = goes.next_is (numbers_of h.records) h.next_is ∙ ap behind_greatest (sym (numbers_joined h.records (record_read s.answer)));
             behind = reads_on goes.trees goes.of;
           }

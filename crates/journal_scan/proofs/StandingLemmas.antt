@@ -1,15 +1,16 @@
 -- What each step of a scan makes of where it stands.
 use Rattle.std.proofs.Common.{◌≡◌, ℕ, ◌+◌, ◌-◌, ◌<◌, ◌≤◌, nat_lt, Bool, true, false, List, [], ◌∷◌, ◌++◌, length, take, drop, Option, Some, None, Result, Ok, Err, refl, sym, ap, ◌∙◌, subst, inl, inr, append_assoc, arith}
 use Rattle.std.specs.Prelude.{if◌then◌else◌}
-use Rattle.std.proofs.lemmas.Bool.{ltb-true, ltb-false, lt-ltb, le-ltb}
+use Rattle.std.proofs.lemmas.Bool.{ltb-true, ltb-false, lt-ltb}
 use Rattle.std.proofs.lemmas.List.{append-nil, length-append, length-take, take-append-le, drop-append-le, take-append-drop, length-drop, drop-drop, drop_all, nil_from_length}
 use Rattle.std.proofs.Math.Seq.{take-add}
 use Rattle.cobs.specs.Frames.{NoZero}
 use Rattle.cobs.specs.declared.dec.owned.CobsDecoderOwned.{CobsDecoderOwned}
 use Rattle.postcard_tree.specs.Tree.{Tree}
-use Rattle.link.specs.Stream.{Verdict, value, damaged, too_long, cut, Begun, kept, over, begun, ended, unfinished, IsAnswer, HoldsExactly}
+use Rattle.link.specs.Stream.{Verdict, value, too_long, Begun, kept, over, begun, ended, unfinished, IsAnswer, HoldsExactly}
 use Rattle.link.specs.Laws.{EndsBetween}
 use Rattle.link.specs.Lemmas.Pieces.{none_unfinished, ended_skip}
+use Rattle.link.specs.Lemmas.RoadLaws.{no_ended}
 use Rattle.link.specs.Pushes.{IsPush, IsLost, Matches, Answered}
 use Rattle.link.specs.Decoding.{in_owner}
 use Rattle.link.specs.Receivers.{IsBehind, IsAt}
@@ -21,7 +22,7 @@ use Rattle.journal.specs.Records.{takes_record, reads_record}
 use Rattle.journal_scan.specs.declared.scanning.Stretch.{Stretch}
 use Rattle.journal_scan.specs.Stretches.{is_past, ended_stretch}
 use Rattle.journal_scan.specs.Scanning.{ScanStands, IsNextStretch, Found, FoundLast, with_zero}
-use Rattle.journal_scan.proofs.WalkingLemmas.{no_zero_more, alone_ended, alone_unfinished, zero_ended, zero_unfinished, behind_of, first_of, push_quiet, push_answer}
+use Rattle.journal_scan.proofs.WalkingLemmas.{lt_zero, no_zero_more, alone_unfinished, zero_ended, zero_unfinished, behind_of, first_of, push_quiet, push_answer}
 
 -- what is begun depends on the unfinished stretch alone
 abbrev begun_by : ℕ → List ℕ → Begun
@@ -30,35 +31,12 @@ begun_by limit u = if nat_lt limit (length u) then over else kept u
 same_behind : (limit : ℕ) (r : Reception CobsDecoderOwned) (x y : List ℕ) → begun limit 0 x ≡ begun limit 0 y → IsBehind in_owner limit 0 r x → IsBehind in_owner limit 0 r y
 same_behind limit r x y e h = subst (IsAt in_owner limit 0 r) e h
 
-not_less : (a b : ℕ) → nat_lt a b ≡ false → b ≤ a
-not_less a b e = ltb-false a b e
-
-no_less : (n : ℕ) → nat_lt n 0 ≡ false
-no_less n = le-ltb n 0 (omega arith)
-
 none_begun : (limit : ℕ) (x : List ℕ) → kept [] ≡ begun_by limit x → x ≡ []
 none_begun limit x e = go (nat_lt limit (length x)) e
   where
-    is_kept : Begun → ℕ
-    is_kept (kept p) = 1
-    is_kept over = 0
-
-    bytes_of : Begun → List ℕ
-    bytes_of (kept p) = p
-    bytes_of over = []
-
     go : (b : Bool) → kept [] ≡ (if b then over else kept x) → x ≡ []
-    go false e = sym (ap bytes_of e)
-    go true e = absurd (omega (arith, ap is_kept e))
-
-abbrev is_too_long : Verdict → ℕ
-is_too_long (value t) = 0
-is_too_long damaged = 0
-is_too_long too_long = 1
-is_too_long cut = 0
-
-not_so : ◌≡◌ {A = ℕ} 0 1 → ⊥
-not_so e = omega (arith, e)
+    go false e = cc
+    go true e = cc
 
 -- so many of the bytes that were read were gone over
 pub record Moved (at used : ℕ) (unread rest bytes : List ℕ) : Type 0 where
@@ -83,7 +61,7 @@ stands_new limit at r bytes l e h =
       unread_is = refl;
       from_is = omega (arith, ap length none);
       behind = same_behind limit r [] (take at bytes) (ap (begun_by limit) (sym none)) h;
-      past_is = sym (ap (λ u. nat_lt limit (length u)) none ∙ no_less limit);
+      past_is = sym (ap (λ u. nat_lt limit (length u)) none ∙ lt_zero limit);
     }
 
 -- one that read other bytes from where it is
@@ -108,9 +86,6 @@ module _ {limit at from : ℕ} {r : Reception CobsDecoderOwned} {past : Bool} {u
 
   abbrev u : List ℕ
   u = unfinished 0 (take at bytes)
-
-  at_begin : from ≡ at → u ≡ []
-  at_begin e = nil_from_length u (omega (arith, e, s.from_is))
 
   -- the place of a stretch that a zero ends
   pub found : {V : Type 0} (holds : List ℕ → Tree → Type 0) (reads : Tree → V → Type 0) (later : List ℕ) (used : ℕ) (answer : Answer V) (v : Verdict) → Matches reads answer v → 0 < used → used ≤ length unread → take used unread ≡ later ++ 0 ∷ []
@@ -153,8 +128,8 @@ module _ {limit at from : ℕ} {r : Reception CobsDecoderOwned} {past : Bool} {u
         rest = s.rest;
         unread_is = m.left;
         from_is = omega (arith, ap length none);
-        behind = h (ap (begun_by limit) none ∙ ap (λ b. if b then over else kept []) (no_less limit));
-        past_is = sym (ap (λ x. nat_lt limit (length x)) none ∙ no_less limit);
+        behind = h (ap (begun_by limit) none ∙ ap (λ b. if b then over else kept []) (lt_zero limit));
+        past_is = sym (ap (λ x. nat_lt limit (length x)) none ∙ lt_zero limit);
       }
 
   -- behind a zero that ends a stretch
@@ -180,7 +155,7 @@ module _ {limit at from : ℕ} {r : Reception CobsDecoderOwned} {past : Bool} {u
           behind = h;
           past_is = sym (ap (λ x. nat_lt limit (length x)) same ∙ past_now);
         },
-        ap (ended 0) m.taken ∙ k.more_ended ∙ ap (λ x. ended 0 stream ++ x) (alone_ended w z) ∙ append-nil (ended 0 stream),
+        ap (ended 0) m.taken ∙ k.more_ended ∙ ap (λ x. ended 0 stream ++ x) (no_ended w z) ∙ append-nil (ended 0 stream),
       )
 
   -- a zero before a stretch
@@ -188,7 +163,7 @@ module _ {limit at from : ℕ} {r : Reception CobsDecoderOwned} {past : Bool} {u
   stands_zero later e z =
       let m = moved at 1 unread s.rest bytes s.within s.unread_is (omega (arith, ap length z)) in
       let k = behind_of stream (take 1 unread) in
-      let none = at_begin e in
+      let none : u ≡ [] = nil_from_length u (omega (arith, e, s.from_is)) in
       let all : u ++ take 1 unread ≡ 0 ∷ [] = ap (λ x. x ++ take 1 unread) none ∙ ap (take 1) z in
       let none_now : unfinished 0 (take (at + 1) bytes) ≡ [] = ap (unfinished 0) m.taken ∙ k.more_unfinished ∙ ap (unfinished 0) all ∙ zero_unfinished [] tt in (
         record {
@@ -231,7 +206,7 @@ module _ {limit at from : ℕ} {r : Reception CobsDecoderOwned} {past : Bool} {u
 
     pushed_over : Answered {V = ℕ × V} holds (reads_record reads) limit 0 u unread used (Ok (Some TooLong)) → ScanStands limit now (at + used) from true (drop used unread) bytes × (ended 0 (take (at + used) bytes) ≡ ended 0 (take at bytes))
     pushed_over (a, says, p) = elim (push_answer holds limit u unread used nonzero fits first_byte says.0 some l (subst (IsPush holds limit 0 u unread used) says.2 p)) [
-      | inl e ↦ absurd (omega (arith, not_less limit (length (u ++ take (used - 1) unread)) e.fits, subst (IsAnswer holds limit (u ++ take (used - 1) unread)) says.1 e.is))
+      | inl e ↦ absurd (omega (arith, ltb-false limit (length (u ++ take (used - 1) unread)) e.fits, subst (IsAnswer holds limit (u ++ take (used - 1) unread)) says.1 e.is))
       | inr e ↦ stands_on used now true l e.nonzero e.long later_behind
     ]
 
@@ -253,9 +228,9 @@ module _ {limit at from : ℕ} {r : Reception CobsDecoderOwned} {past : Bool} {u
         → StandsPushed takes reads limit at from used now (drop used unread) bytes result
     pushed (Ok None) h = pushed_none (h u own)
     pushed (Ok (Some TooLong)) h = pushed_over (h u own)
-    pushed (Ok (Some (Value v))) h = pushed_found (Value v) (λ y m e. not_so (ap is_too_long (sym m.2 ∙ e))) (h u own)
-    pushed (Ok (Some Damaged)) h = pushed_found Damaged (λ y m e. not_so (ap is_too_long (sym m ∙ e))) (h u own)
-    pushed (Ok (Some Cut)) h = pushed_found Cut (λ y m e. not_so (ap is_too_long (sym m ∙ e))) (h u own)
+    pushed (Ok (Some (Value v))) h = pushed_found (Value v) (λ y m e. let same : value m.0 ≡ too_long = sym m.2 ∙ e in cc) (h u own)
+    pushed (Ok (Some Damaged)) h = pushed_found Damaged (λ y m e. cc) (h u own)
+    pushed (Ok (Some Cut)) h = pushed_found Cut (λ y m e. cc) (h u own)
     pushed (Err e) h = pushed_lost (h u own)
 
   -- a byte of a stretch that is too long
@@ -291,7 +266,7 @@ module _ {limit at from : ℕ} {r : Reception CobsDecoderOwned} {past : Bool} {u
       → ScanStands limit now (at + 1) (at + 1) false later bytes × IsNextStretch rule reads limit bytes at (at + 1) from at TooLong
   stands_passed rule reads now later e z h =
       let n : NoZero (u ++ []) = subst NoZero (sym (append-nil u)) (behind_of stream []).nonzero in
-      let t = stands_found [] 1 now (omega (arith, ap length z)) (ap (take 1) z) n (λ g. same_behind limit now [] (take (at + 1) bytes) (ap (λ c. if c then over else kept []) (no_less limit) ∙ sym g) h) in
+      let t = stands_found [] 1 now (omega (arith, ap length z)) (ap (take 1) z) n (λ g. same_behind limit now [] (take (at + 1) bytes) (ap (λ c. if c then over else kept []) (lt_zero limit) ∙ sym g) h) in
       (subst (λ x. ScanStands limit now (at + 1) (at + 1) false x bytes) (ap (drop 1) z) t, passed_found rule reads later e z)
 
 -- of a piece that is what was read; what is left of it stands behind the bytes that were used

@@ -5,7 +5,7 @@ use Rattle.std.specs.List.{Contains}
 use Rattle.std.proofs.lemmas.List.{append-nil, take_all, length-append}
 use Rattle.postcard_tree.specs.Tree.{Tree}
 use Rattle.link.specs.Stream.{ended}
-use Rattle.link.specs.Lemmas.Givens.{zip_one}
+use Rattle.std.proofs.lemmas.Slice.Zip.{all_zipped_more}
 use Rattle.link.specs.declared.receiver.Answer.{Answer}
 use Rattle.link.specs.declared.receiver.Answer.TheVariants.{Value}
 use Rattle.journal_scan.specs.declared.scanning.Stretch.{Stretch}
@@ -29,7 +29,7 @@ module _ {V : Type 0} (takes : Tree → Type 0) (reads : Tree → V → Type 0) 
 
   module _ (old new : ClosedScan) (stretches : List (Stretch V)) (h : StandsBehind takes reads limit bytes old stretches) where
     pub one_behind : (s : Stretch V) → FoundClosed takes reads limit bytes old new (Some s) → StandsBehind takes reads limit bytes new (stretches ++ s ∷ [])
-    one_behind s f = record { closing = f.0; are = subst (λ ps. StandAt takes reads limit (with_zero bytes) ps (stretches ++ s ∷ [])) (sym f.1.next) (zip_one _ _ _ f.1.stretch s h.are f.1.is) }
+    one_behind s f = record { closing = f.0; are = subst (λ ps. StandAt takes reads limit (with_zero bytes) ps (stretches ++ s ∷ [])) (sym f.1.next) (all_zipped_more _ _ _ f.1.stretch s h.are f.1.is) }
 
     -- these are all
     pub all_behind : FoundClosed takes reads limit bytes old new None → AreStretches takes reads limit (with_zero bytes) (stretches ++ [])
@@ -47,15 +47,12 @@ pub records_joined : {V : Type 0} (counted : ℕ → V → Bool) (a b : List (St
 records_joined counted [] b = refl
 records_joined counted (s ∷ a) b = ap (λ x. record_in counted s.answer ++ x) (records_joined counted a b) ∙ sym (append_assoc (record_in counted s.answer) (records_in counted a) (records_in counted b))
 
-pub records_more : {V : Type 0} (counted : ℕ → V → Bool) (a : List (Stretch V)) (s : Stretch V) → records_in counted (a ++ s ∷ []) ≡ records_in counted a ++ record_in counted s.answer
-records_more counted a s = records_joined counted a (s ∷ []) ∙ ap (λ x. records_in counted a ++ x) (append-nil (record_in counted s.answer))
-
 pub numbers_joined : {V : Type 0} (a b : List (ℕ × V)) → numbers_of (a ++ b) ≡ numbers_of a ++ numbers_of b
 numbers_joined [] b = refl
 numbers_joined (r ∷ a) b = ap (λ x. r.0 ∷ x) (numbers_joined a b)
 
 pub numbers_more : {V : Type 0} (counted : ℕ → V → Bool) (a : List (Stretch V)) (s : Stretch V) → numbers_of (records_in counted (a ++ s ∷ [])) ≡ numbers_of (records_in counted a) ++ numbers_of (record_in counted s.answer)
-numbers_more counted a s = ap numbers_of (records_more counted a s) ∙ numbers_joined (records_in counted a) (record_in counted s.answer)
+numbers_more counted a s = ap numbers_of (records_joined counted a (s ∷ []) ∙ ap (λ x. records_in counted a ++ x) (append-nil (record_in counted s.answer))) ∙ numbers_joined (records_in counted a) (record_in counted s.answer)
 
 -- a fact of the bytes, where they are told
 pub if_told : (held : Option (List ℕ)) (P : List ℕ → Type 0) → ((bytes : List ℕ) → held ≡ Some bytes → P bytes) → IfSome held P

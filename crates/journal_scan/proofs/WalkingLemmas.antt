@@ -11,16 +11,14 @@ use Rattle.link.specs.Stream.{Verdict, too_long, ended, unfinished, IsAnswer, Gi
 use Rattle.link.specs.Laws.{EndsBetween}
 use Rattle.link.specs.Pushes.{IsPush}
 use Rattle.link.specs.Lemmas.MaskLaws.{unmasked}
-use Rattle.link.specs.Lemmas.Pieces.{Parted, alone, more, parted, ends_at, ended_at, unfinished_at, ended_alone, unfinished_alone, ended_behind, unfinished_behind}
+use Rattle.link.specs.Lemmas.RoadLaws.{no_ended}
+use Rattle.link.specs.Lemmas.Pieces.{Parted, alone, more, parted, ends_at, ended_at, unfinished_at, unfinished_alone, ended_behind, unfinished_behind}
 
 pub no_zero_more : (p : List ℕ) (b : ℕ) → NoZero p → 0 < b → NoZero (p ++ b ∷ [])
 no_zero_more [] b z l = (l, tt)
 no_zero_more (c ∷ p) b z l = (z.0, no_zero_more p b z.1 l)
 
 -- a stretch alone, and one with a zero behind it
-pub alone_ended : (p : List ℕ) → NoZero p → ended 0 p ≡ []
-alone_ended p z = ap (ended 0) (sym (unmasked p)) ∙ ended_alone 0 p z
-
 pub alone_unfinished : (p : List ℕ) → NoZero p → unfinished 0 p ≡ p
 alone_unfinished p z = ap (unfinished 0) (sym (unmasked p)) ∙ unfinished_alone 0 p z
 
@@ -46,7 +44,7 @@ behind_of stream x =
     let u = unfinished 0 stream in
     let whole : stream ≡ k.front ++ u = k.whole ∙ ap (λ y. k.front ++ y) (unmasked u) in
     let all : stream ++ x ≡ k.front ++ (u ++ x) = ap (λ y. y ++ x) whole ∙ append_assoc k.front u x in
-    let front : ended 0 stream ≡ ended 0 k.front = ap (ended 0) whole ∙ ended_behind 0 k.front u k.between ∙ ap (λ y. ended 0 k.front ++ y) (alone_ended u k.nonzero) ∙ append-nil (ended 0 k.front) in
+    let front : ended 0 stream ≡ ended 0 k.front = ap (ended 0) whole ∙ ended_behind 0 k.front u k.between ∙ ap (λ y. ended 0 k.front ++ y) (no_ended u k.nonzero) ∙ append-nil (ended 0 k.front) in
     record {
       front = k.front;
       between = k.between;
@@ -95,7 +93,7 @@ said_one R p [] v z e = absurd z
 said_one R p (d ∷ []) v z e = subst (R p) (sym (ap (λ l. get_or l 0 too_long) e)) z.0
 said_one R p (d ∷ c ∷ done) v z e = absurd z.1
 
-lt_zero : (n : ℕ) → nat_lt n 0 ≡ false
+pub lt_zero : (n : ℕ) → nat_lt n 0 ≡ false
 lt_zero n = le-ltb n 0 (omega arith)
 
 module _ (holds : List ℕ → Tree → Type 0) (limit : ℕ) where
@@ -113,7 +111,7 @@ module _ (holds : List ℕ → Tree → Type 0) (limit : ℕ) where
   pub given_none : (u : List ℕ) → NoZero u → nat_lt limit (length u) ≡ false → Given holds limit 0 u []
   given_none u z l = record {
     done = [];
-    each = subst (λ es. AllZip (IsAnswer holds limit) es []) (sym (alone_ended u z)) tt;
+    each = subst (λ es. AllZip (IsAnswer holds limit) es []) (sym (no_ended u z)) tt;
     whole = sym (ap (begun_answers limit) (alone_unfinished u z) ∙ ap (λ b. if b then too_long ∷ [] else []) l);
   }
 
@@ -198,7 +196,7 @@ module _ (holds : List ℕ → Tree → Type 0) (limit : ℕ) (u rest : List ℕ
           }
       go (suc n) b =
           let n_zero : NoZero (u ++ take used rest) = subst NoZero (sym whole) (no_zero_more w l.byte before.0 (omega (arith, b))) in
-          let s = over_said holds limit (u ++ take used rest) v (alone_ended (u ++ take used rest) n_zero) given in
+          let s = over_said holds limit (u ++ take used rest) v (no_ended (u ++ take used rest) n_zero) given in
           inr record {
             nonzero = n_zero;
             long = ap (λ y. nat_lt limit (length y)) (sym (alone_unfinished (u ++ take used rest) n_zero)) ∙ s.1;

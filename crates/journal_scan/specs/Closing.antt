@@ -1,5 +1,6 @@
 -- Where a scan of a log with a zero behind it stands, and what it finds.
-use Rattle.std.specs.Prelude.{◌≡◌, ℕ, ◌+◌, ◌-◌, ◌^◌, Bool, true, false, List, length, Option, if◌then◌else◌}
+use Rattle.std.specs.Prelude.{◌≡◌, ℕ, ◌+◌, ◌-◌, ◌^◌, Bool, true, false, List, length, Option}
+use Rattle.std.specs.Prelude.{if◌then◌else◌}
 use Rattle.postcard_tree.specs.Tree.{Tree}
 use Rattle.journal_scan.specs.declared.scanning.Stretch.{Stretch}
 use Rattle.journal_scan.specs.declared.closing.ClosedScan.{ClosedScan}
@@ -23,9 +24,10 @@ abbrev pub HasPassedNone : ℕ → List ℕ → ClosedScan → Type 0
 HasPassedNone limit bytes scan = IsClosing limit bytes scan × (passed_by bytes scan ≡ 0)
 
 -- what is next in a log with a zero behind it: a stretch, or no further one ends
-abbrev pub FoundClosed : {V : Type 0} → (Tree → Type 0) → (Tree → V → Type 0) → ℕ → List ℕ → ClosedScan → ClosedScan → Option (Stretch V) → Type 0
-FoundClosed takes reads limit bytes old new o =
-    IsClosing limit bytes new × FoundAll takes reads limit (with_zero bytes) (passed_by bytes old) (passed_by bytes new) o
+abbrev pub FoundClosed : {V : Type 0} → (Tree → Type 0) → (Tree → V → Type 0) → ℕ → List ℕ
+    → ClosedScan → ClosedScan → Option (Stretch V) → Type 0
+FoundClosed takes reads limit bytes old new o = IsClosing limit bytes new
+    × FoundAll takes reads limit (with_zero bytes) (passed_by bytes old) (passed_by bytes new) o
 
 -- more than the bytes that it has still to pass
 abbrev pub left_of : ClosedScan → ℕ

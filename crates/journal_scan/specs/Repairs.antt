@@ -1,5 +1,6 @@
 -- What appending the records of a log anew writes.
 use Rattle.std.specs.Prelude.{◌≡◌, ℕ, ◌+◌, ◌-◌, ◌^◌, ◌<◌, min, true, List, [], ◌∷◌, ◌++◌, length, map, take, Option, Some, IfSome}
+use Rattle.std.proofs.Common.{refl, sym, ap, ◌∙◌, append_assoc}
 use Rattle.std.specs.List.{AllZip}
 use Rattle.cobs.specs.Frames.{shortest_frame}
 use Rattle.line_io.specs.Device.{LineState, Wrote}
@@ -21,6 +22,13 @@ use Rattle.journal_scan.specs.declared.repairing.RepairError.TheVariants.{Read, 
 -- the bytes of records that are appended one behind another, each its frame and a zero
 abbrev pub appended_anew : List Tree → List ℕ
 appended_anew ts = session_line 0 true (map completed ts)
+
+-- those of records and then of others
+pub anew_joined : (ts us : List Tree)
+    → appended_anew (ts ++ us) ≡ appended_anew ts ++ appended_anew us
+anew_joined [] us = refl
+anew_joined (t ∷ ts) us = ap (λ x. sent 0 true t ++ x) (anew_joined ts us)
+    ∙ sym (append_assoc (sent 0 true t) (appended_anew ts) (appended_anew us))
 
 -- the bytes of a repaired log: a zero, and then its records
 abbrev pub rewritten : List Tree → List ℕ

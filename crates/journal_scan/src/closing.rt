@@ -7,7 +7,8 @@ use postcard::{DeserializeOwned, Exact};
 use std::alloc::Global;
 use stores::Store;
 
-/// Goes over a log with a zero behind it, so that what stands behind its last zero is a stretch as any other.
+/// Goes over a log with a zero behind it, so that what stands behind its last zero is a stretch as
+/// any other.
 #[derive(Drop)]
 pub(crate) struct ClosedScan {
     scan: Scan,

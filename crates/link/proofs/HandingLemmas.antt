@@ -1,11 +1,11 @@
 -- How answers are handed on and kept, push by push, also behind a value that had no memory.
-use Rattle.std.proofs.Common.{◌≡◌, ◌-◌, ◌<◌, ◌≤◌, ◌+◌, Bool, false, ℕ, arith, List, [], ◌∷◌, ◌++◌, length, take, Option, Some, None, Result, Ok, Err, refl, sym, ap, ◌∙◌, subst, inl, inr, append_assoc, append-nil, length-append, length-take-le, zero, suc, ◌⊎◌, true, drop, is_err, IsErr, OnOk, OnErr, take-append-drop, nat_lt, if◌then◌else◌}
-use Rattle.line_io.specs.Device.{LineState, Gave, read_faults}
-use Rattle.line_io.specs.Calls.{Gave-none, Gave-then, Failed-later}
+use Rattle.std.proofs.Common.{◌≡◌, ◌-◌, ◌<◌, ◌≤◌, ◌+◌, Bool, false, ℕ, arith, List, [], ◌∷◌, ◌++◌, length, take, Option, Some, None, Result, Ok, Err, refl, sym, ap, ◌∙◌, subst, inl, inr, append_assoc, append-nil, length-append, length-take-le, true, drop, is_err, IsErr, OnOk, OnErr, take-append-drop, nat_lt, if◌then◌else◌}
+use Rattle.line_io.specs.Device.{LineState, Gave}
+use Rattle.line_io.specs.Calls.{Gave-then, Failed-later}
 use Rattle.postcard_tree.specs.Tree.{Tree}
 use Rattle.link.specs.Link.{Inside, IsBehind, Judging, IsLost, Answered, kept, over, begun, EndsBetween, IsAt}
-use Rattle.line_io.specs.Transfers.{HasRead, Failed}
-use Rattle.link.specs.Listening.{KeepsAnswer, Hears, IsHeard, Loss, through, answers_before, bytes_through, EndsAtLoss, StopsAt, Recovers}
+use Rattle.line_io.specs.Transfers.{HasRead}
+use Rattle.link.specs.Listening.{KeepsAnswer, Hears, IsHeard, Loss, through, answers_before, bytes_through, StopsAt, Recovers}
 use Rattle.line_io.specs.declared.transfers.End.{End}
 use Rattle.line_io.specs.declared.transfers.End.TheVariants.{Ended, ReadFault, NoMemory as NoneLeft}
 use Rattle.link.specs.declared.reception.Reception.{Reception}
@@ -19,9 +19,6 @@ module _ {H V : Type 0} (hears : H → List (Answer V) → H → Type 0) (laws :
   -- nothing was handed on
   pub handed_none : (h : H) (P : List (Answer V) → Type 0) → P [] → Handed hears h h P
   handed_none h P p = record { answers = []; heard = laws.none h; so = p }
-
-  pub handed_one : (h k : H) (a : Answer V) (P : List (Answer V) → Type 0) → hears h (a ∷ []) k → P (a ∷ []) → Handed hears h k P
-  handed_one h k a P e p = record { answers = a ∷ []; heard = e; so = p }
 
   -- the same where the others are known to be behind these
   pub handed_next : (h m k : H) (P Q R : List (Answer V) → Type 0) (p : Handed hears h m P) → Handed hears m k Q → ((ys : List (Answer V)) → Q ys → R (p.answers ++ ys)) → Handed hears h k R
@@ -116,10 +113,6 @@ read_then u v w a b NoneLeft g q h = (Gave-then _ _ _ _ _ g h.0, h.1 ∙ q)
 pub few_then : (k m n : ℕ) (a b : List ℕ) (last : ℕ) → k ≤ m + length a + 0 → m ≤ n + length b + last → k ≤ n + length (a ++ b) + last
 few_then k m n a b last p q = omega (arith, p, q, length-append a b)
 
--- no call was used
-pub uses_none : (w : LineState) → UsesFew w w 0
-uses_none w = record { bytes = []; gave = Gave-none w; few = omega arith }
-
 -- few calls, and then few others
 pub uses_then : (u v w : LineState) (last : ℕ) → UsesFew u v 0 → UsesFew v w last → UsesFew u w last
 uses_then u v w last p q = record {
@@ -158,25 +151,6 @@ module _ {V : Type 0} (holds : List ℕ → Tree → Type 0) (reads : Tree → V
   pub lost_by : (answer : Result (Option (Answer V)) NoMemory) → Answered holds reads limit s front rest used answer → IsErr answer → IsLost holds limit s front rest used
   lost_by (Ok x) h e = cc
   lost_by (Err e) h n = h
-
-pub parts_on : (piece done rest : List ℕ) (used : ℕ) → piece ≡ done ++ rest → piece ≡ (done ++ take used rest) ++ drop used rest
-parts_on piece done rest used e = e ∙ sym (append_assoc done (take used rest) (drop used rest) ∙ ap (λ x. done ++ x) (take-append-drop used rest))
-
--- a fault, or no call was left
-pub read_failed : (old new : LineState) → new.faults ≡ old.faults + read_faults old.calls_left None → new.calls_left ≡ old.calls_left - 1 → Failed old new
-read_failed old new f e = failed_by old.faults new.faults old.calls_left new.calls_left f e
-  where
-    failed_by : (before after left calls : ℕ) → after ≡ before + read_faults left None → calls ≡ left - 1 → (before < after) ⊎ (calls ≡ 0)
-    failed_by before after zero calls f e = inr (omega arith)
-    failed_by before after (suc left) calls f e = inl (omega (arith, f))
-
--- a read that was no fault
-pub read_quiet : (before now after left n : ℕ) → after ≡ now + read_faults left (Some n) → now ≡ before → after ≡ before
-read_quiet before now after zero n f q = omega (arith, f)
-read_quiet before now after (suc left) n f q = omega (arith, f)
-
-pub nothing_taken : (n : ℕ) (s : List ℕ) → n ≡ 0 → take n s ≡ []
-nothing_taken n s e = ap (λ m. take m s) e
 
 -- behind a stream that ends between stretches what comes begins as behind nothing
 begun_on : (limit s : ℕ) (x y : List ℕ) → EndsBetween s x
@@ -218,10 +192,6 @@ module _ {D V : Type 0} (inside : D → Inside) (holds : List ℕ → Tree → T
   module _ (r : Reception D) (answers : List (Answer V)) (stream piece left : List ℕ) (p : StopsAt inside holds reads limit s r answers stream piece left) where
     pub stopped_parts : stream ++ piece ≡ through p.loss ++ left
     stopped_parts = p.parts ∙ sym (whole p.loss left p.left_is)
-
-    -- what is left may be passed over
-    pub stopped_at : EndsAtLoss holds reads limit s answers (stream ++ piece)
-    stopped_at = record { loss = p.loss; said = p.said; parts = p.parts }
 
     stops_between : IsAt inside limit s r (kept [])
     stops_between = subst (IsAt inside limit s r) (sym p.loss.lost.after) p.after

@@ -110,9 +110,6 @@ module _ (limit : ℕ) (writes : Option Tree) (valid : Type 0) (old new : Sender
         line = k.2;
       }
 
-plus_none : (n : ℕ) → n ≡ n + 0
-plus_none n = omega arith
-
 -- one more
 pub one_sent : {V : Type 0} (limit s : ℕ) (writes : V → Option Tree) (valid : V → Type 0) (clean now later : Bool) (u v w : LineState) (values : List V) (value : V) (fates : List Fate) (fate : Fate)
     → SendsAll limit s writes valid clean now u v values fates → SendsOne limit s (writes value) (valid value) now later v w fate
@@ -122,6 +119,6 @@ one_sent limit s writes valid clean now later u v w values value fates fate p q 
   are = (q.is, tt);
   of = (q.of, tt);
   fated = ap (λ f. f ∷ []) q.fated;
-  did = subst (λ b. Did v w b (broke q.send + 0)) (sym (append-nil (written s now q.send))) (subst (Did v w (written s now q.send)) (plus_none (broke q.send)) q.did);
+  did = subst (λ b. Did v w b (broke q.send + 0)) (sym (append-nil (written s now q.send))) (subst (Did v w (written s now q.send)) (let e : broke q.send ≡ broke q.send + 0 = omega arith in e) q.did);
   then = q.then;
 })

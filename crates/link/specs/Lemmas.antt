@@ -5,6 +5,7 @@ pub mod FeedLaws
 pub mod HeardLaws
 pub mod MaskLaws
 pub mod SendLaws
+pub mod ValueLaws
 pub mod RunLaws
 pub mod RoadLaws
 pub mod Lengths

@@ -7,12 +7,12 @@ pub use Rattle.link.specs.Stream.{HoldsExactly}
 -- The answers of a stream before its end is known, and of a whole one; what is begun of it behind its last sentinel.
 pub use Rattle.link.specs.Stream.{Verdict, value, damaged, too_long, cut, Given, Answers, Begun, kept, over, begun, IsAnswer, begun_answers, cut_answers, ended, unfinished, pieces}
 -- A receiver stands behind a stream, under its limit and sentinel; no stretch is begun; limit and sentinel stay.
-pub use Rattle.link.specs.Receivers.{IsBehind, IsBetween, limit_of, sentinel_of, SameTerms, IsAt}
+pub use Rattle.link.specs.Receivers.{IsBehind, OnBegun, IsBetween, limit_of, sentinel_of, SameTerms, IsAt}
 pub use Rattle.link.specs.Decoding.{Inside, in_array, in_owner}
 pub use Rattle.link.specs.Listening.{ReceiverFitsInMemory}
 -- What a push behind a stream answers, and how long the answered stretch is; what the end of the stream adds.
-pub use Rattle.link.specs.Pushes.{Answered, IsPush, IsLost, IsStretchOf, Matches, begun_length, finished, IsBegun, listed}
-pub use Rattle.link.specs.Lending.{AnswersBy, StandsBy}
+pub use Rattle.link.specs.Pushes.{Answered, IsPush, IsLost, IsStretchOf, Matches, begun_length, finished, IsBegun}
+pub use Rattle.link.specs.Lending.{StandsFurther, AnswersPush, TellsStretch, AnswersBy, StandsBy}
 -- What a reader of messages says and owes, and a reader of fronts.
 pub use Rattle.link.specs.Judged.{Judging, IsJudged, ReadsStretch, FrontLaws, front_laws, HoldsBy}
 -- What is received of all that a reader gives, by how the reading ended; at its end, after a fault, out of memory.
@@ -24,7 +24,7 @@ pub use Rattle.link.specs.Listening.{Hears, Loss, Recovers, EndsAtLoss}
 pub use Rattle.link.specs.Gathering.{AccumulatorFitsInMemory, AreLooped, AreThoseFor}
 pub use Rattle.link.specs.InPlace.{ReadsNext, AnswersNext, KeptUnlessEnded}
 -- What a run of sends leaves on a line, and what is to be told of it; a send by its answer; a session by its fates.
-pub use Rattle.link.specs.Run.{Send, sent, written, session_line, line, told, completed, refused, broken, clean_after, IsFramed, framed, frame_bytes, IsSend, IsSession, IsRun, told_send, told_session, told_broken}
+pub use Rattle.link.specs.Run.{Send, sent, written, session_line, line, told, completed, refused, broken, clean_after, IsFramed, framed, frame_bytes, IsSend, IsSession, IsRun, told_send, told_session, told_broken, Among}
 pub use Rattle.link.specs.Senders.{HasSent, OnRefusal, sender_place, writer_of, clean_of, SenderPlace, IsSent, IsRefusal, UnlessRefusal}
 pub use Rattle.link.specs.Fates.{SendsAll, SenderFitsInMemory, IsSendOf, fate_of, IsCarried, clean_after_all, broke, brokens, Did, FewBroke}
 pub use Rattle.link.specs.Framed.{framing_of, lent_as}

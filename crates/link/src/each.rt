@@ -2,7 +2,8 @@
 ghost use Rattle.std.specs.Prelude.{◌≡◌, ℕ, ◌-◌, ◌<◌, ◌≤◌, Bool, true, false, List, [], ◌∷◌, ◌++◌, length, Some, None, OnOk, OnErr, IfErr};
 ghost use Rattle.link.specs.Steps.{Course};
 ghost use Rattle.link.specs.Finds.{IsTaken, lent_message};
-ghost use Rattle.link.specs.Receivers.{IsBehind, SameTerms};
+ghost use Rattle.link.specs.Receivers.{SameTerms};
+ghost use Rattle.link.specs.Lending.{StandsFurther};
 ghost use Rattle.link.specs.Listening.{Hears, IsHeard, IsKeptDue, StopsAt};
 ghost use Rattle.link.specs.Each.{Handed, HandsOn, Withholds, HearerLaws, Adds, AddsBy, ListensBy, Listens, IsAsked, HearsOut, MayLackMemory};
 ghost use Rattle.link.specs.declared.receiver.Answer.{Answer};
@@ -74,8 +75,7 @@ fn hand<V, M: MessageReader<V>, H: Hearer<V>>(
 impl<D: Decoding> Reception<D> {
     // Uses a piece up without an answer.
     fn pass_over(&mut self, piece: &[u8])
-        ensures stands { (limit s : ℕ) (stream : List ℕ) → IsBehind D.inside limit s self.old stream
-            → IsBehind D.inside limit s self.new (stream ++ piece.now) }
+        ensures stands { StandsFurther D.inside self.old self.new piece.now }
         ensures same { SameTerms D.inside self.old self.new }
     {
         let mut rest = piece;

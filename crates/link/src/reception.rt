@@ -1,11 +1,11 @@
 //! Receiving values from a stream that comes in pieces.
-ghost use Rattle.std.specs.Prelude.{◌≡◌, ℕ, ◌<◌, ◌≤◌, ◌↔◌, length, List, [], ◌++◌, take, true, OnErr, IsTrue, IfSome, MatchOption};
+ghost use Rattle.std.specs.Prelude.{◌≡◌, ℕ, ◌<◌, ◌≤◌, ◌↔◌, length, List, [], take, true, OnErr, IsTrue, IfSome, MatchOption};
 ghost use Rattle.postcard.specs.Frames.{Holds};
 ghost use Rattle.cobs.specs.Frames.{NoZero};
 ghost use Rattle.cobs.specs.Sentinel.{masked};
 ghost use Rattle.link.specs.Stream.{Begun, kept, begun, HoldsExactly};
 ghost use Rattle.link.specs.Steps.{Event, event_at, begun_at, Course, course_of, RunsOn, RunsPast};
-ghost use Rattle.link.specs.Pushes.{Answered, IsStretchOf, begun_length, finished};
+ghost use Rattle.link.specs.Pushes.{begun_length, finished};
 ghost use Rattle.link.specs.Finds.{Finds, IsWithin, IsTaken, Brings, Replies, front_of, lent_message};
 
 use crate::decoding::Decoding;
@@ -70,7 +70,8 @@ pub(crate) fn read<V, M: MessageReader<V>>(
 }
 
 impl<D: Decoding> Reception<D> {
-    ghost use Rattle.link.specs.Receivers.{IsAt, IsBehind, SameTerms, buffer_in, limit_of, sentinel_of, IsBetween};
+    ghost use Rattle.link.specs.Receivers.{IsAt, IsBehind, OnBegun, SameTerms, buffer_in, limit_of, sentinel_of, IsBetween};
+    ghost use Rattle.link.specs.Lending.{StandsFurther, AnswersPush, TellsStretch};
 
     /// How many bytes a stretch may have.
     pub fn limit(&self) -> usize
@@ -279,15 +280,10 @@ impl<D: Decoding> Reception<D> {
     pub fn push<T: DeserializeOwned>(&mut self, alloc: Global, piece: &[u8]) -> Pushed<T>
         ensures within { result.used ≤ length piece.now }
         ensures forward { 0 < length piece.now → 0 < result.used }
-        ensures stands { (limit s : ℕ) (stream : List ℕ) → IsBehind D.inside limit s self.old stream
-            → IsBehind D.inside limit s self.new (stream ++ take result.used piece.now) }
-        ensures answers { (limit s : ℕ) (stream : List ℕ)
-            → IsBehind D.inside limit s self.old stream
-            → Answered (Holds T.form.takes) T.form.reads limit s stream piece.now result.used
-            result.answer }
-        ensures stretch { (limit s : ℕ) (stream : List ℕ)
-            → IsBehind D.inside limit s self.old stream
-            → IsStretchOf s stream piece.now result.used result.answer result.stretch }
+        ensures stands { StandsFurther D.inside self.old self.new (take result.used piece.now) }
+        ensures answers { AnswersPush D.inside (Holds T.form.takes) T.form.reads self.old piece.now
+            result }
+        ensures stretch { TellsStretch D.inside self.old piece.now result }
         ensures memory { OnErr result.answer (T.form.growing ≡ true) }
         ensures same { SameTerms D.inside self.old self.new }
     {
@@ -303,15 +299,10 @@ impl<D: Decoding> Reception<D> {
     ) -> Pushed<T>
         ensures within { result.used ≤ length piece.now }
         ensures forward { 0 < length piece.now → 0 < result.used }
-        ensures stands { (limit s : ℕ) (stream : List ℕ) → IsBehind D.inside limit s self.old stream
-            → IsBehind D.inside limit s self.new (stream ++ take result.used piece.now) }
-        ensures answers { (limit s : ℕ) (stream : List ℕ)
-            → IsBehind D.inside limit s self.old stream → Answered
-            (HoldsExactly T.form.takes) T.form.reads
-            limit s stream piece.now result.used result.answer }
-        ensures stretch { (limit s : ℕ) (stream : List ℕ)
-            → IsBehind D.inside limit s self.old stream
-            → IsStretchOf s stream piece.now result.used result.answer result.stretch }
+        ensures stands { StandsFurther D.inside self.old self.new (take result.used piece.now) }
+        ensures answers { AnswersPush D.inside (HoldsExactly T.form.takes) T.form.reads self.old
+            piece.now result }
+        ensures stretch { TellsStretch D.inside self.old piece.now result }
         ensures memory { OnErr result.answer (T.form.growing ≡ true) }
         ensures same { SameTerms D.inside self.old self.new }
     {
@@ -328,15 +319,10 @@ impl<D: Decoding> Reception<D> {
     ) -> Pushed<V>
         ensures within { result.used ≤ length piece.now }
         ensures forward { 0 < length piece.now → 0 < result.used }
-        ensures stands { (limit s : ℕ) (stream : List ℕ) → IsBehind D.inside limit s self.old stream
-            → IsBehind D.inside limit s self.new (stream ++ take result.used piece.now) }
-        ensures answers { (limit s : ℕ) (stream : List ℕ)
-            → IsBehind D.inside limit s self.old stream
-            → Answered (M.judging messages.now).holds (M.judging messages.now).reads
-            limit s stream piece.now result.used result.answer }
-        ensures stretch { (limit s : ℕ) (stream : List ℕ)
-            → IsBehind D.inside limit s self.old stream
-            → IsStretchOf s stream piece.now result.used result.answer result.stretch }
+        ensures stands { StandsFurther D.inside self.old self.new (take result.used piece.now) }
+        ensures answers { AnswersPush D.inside (M.judging messages.now).holds
+            (M.judging messages.now).reads self.old piece.now result }
+        ensures stretch { TellsStretch D.inside self.old piece.now result }
         ensures memory { OnErr result.answer ((M.judging messages.now).growing ≡ true) }
         ensures same { SameTerms D.inside self.old self.new }
     {
@@ -351,24 +337,21 @@ impl<D: Decoding> Reception<D> {
     /// Whether no stretch is begun. After a `TooLong` one is, until its sentinel.
     pub fn is_between(&self) -> bool
         ensures state { IsTrue result ↔ IsBetween self.now }
-        ensures begun { (limit s : ℕ) (stream : List ℕ) → IsBehind D.inside limit s self.now stream
-            → (IsTrue result ↔ (begun limit s stream ≡ kept [])) }
+        ensures begun { OnBegun D.inside self.now (λ b. IsTrue result ↔ (b ≡ kept [])) }
     {
         !self.past && self.count == 0
     }
 
     /// How many bytes a begun stretch has so far: 0 where none is begun, and after a `TooLong`.
     pub fn begun_bytes(&self) -> usize
-        ensures { (limit s : ℕ) (stream : List ℕ) → IsBehind D.inside limit s self.now stream
-            → result ≡ begun_length (begun limit s stream) }
+        ensures { OnBegun D.inside self.now (λ b. result ≡ begun_length b) }
     {
         self.count
     }
 
     // What the end of the stream adds.
     pub(crate) fn ending<T>(&self) -> Option<Answer<T>>
-        ensures { (limit s : ℕ) (stream : List ℕ) → IsBehind D.inside limit s self.now stream
-            → result ≡ finished (begun limit s stream) }
+        ensures { OnBegun D.inside self.now (λ b. result ≡ finished b) }
     {
         if self.past {
             return None;
@@ -382,8 +365,7 @@ impl<D: Decoding> Reception<D> {
     /// Ends the stream as `finish` does, and begins a new one: what comes is answered as by a receiver that was given nothing. It
     /// takes no memory.
     pub fn restart<T>(&mut self) -> Option<Answer<T>>
-        ensures answer { (limit s : ℕ) (stream : List ℕ) → IsBehind D.inside limit s self.old stream
-            → result ≡ finished (begun limit s stream) }
+        ensures answer { OnBegun D.inside self.old (λ b. result ≡ finished b) }
         ensures anew { (limit s : ℕ) (stream : List ℕ) → IsBehind D.inside limit s self.old stream
             → IsBehind D.inside limit s self.new [] }
         ensures between { IsBetween self.new }
@@ -398,12 +380,11 @@ impl<D: Decoding> Reception<D> {
 }
 
 impl<D: Decoding + Drop> Reception<D> {
-    ghost use Rattle.link.specs.Receivers.{IsBehind};
+    ghost use Rattle.link.specs.Receivers.{OnBegun};
 
     /// Ends the stream: `Cut` for a stretch that was begun and not answered, else nothing.
     pub fn finish<T>(self) -> Option<Answer<T>>
-        ensures { (limit s : ℕ) (stream : List ℕ) → IsBehind D.inside limit s self stream
-            → result ≡ finished (begun limit s stream) }
+        ensures { OnBegun D.inside self (λ b. result ≡ finished b) }
     {
         self.ending()
     }

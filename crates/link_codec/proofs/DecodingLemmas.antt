@@ -1,5 +1,5 @@
 -- What a decoder answers, by what its receiver did.
-use Rattle.std.proofs.Common.{◌≡◌, ℕ, ◌+◌, ◌-◌, ◌≤◌, Bool, List, [], ◌∷◌, ◌++◌, length, take, drop, Option, Some, None, Result, Ok, Err, refl, sym, ap, ◌∙◌, subst, inl, inr, arith, length-append, append-nil, append_assoc}
+use Rattle.std.proofs.Common.{◌≡◌, ℕ, ◌+◌, ◌-◌, ◌≤◌, Bool, List, [], ◌∷◌, ◌++◌, length, take, drop, Option, Some, None, Result, Ok, Err, refl, sym, ap, ◌∙◌, subst, inl, inr, arith, length-append, append-nil, append_assoc, option_to_list}
 use Rattle.std.specs.Prelude.{IfNone}
 use Rattle.std.specs.Coded.{Coded-set, coded_ℕ}
 use Rattle.std.proofs.Math.Logic.{∥∥₁_elim}
@@ -10,7 +10,7 @@ use Rattle.postcard_tree.specs.Tree.{Tree}
 use Rattle.link.specs.declared.decoding.Decoding.{Ghosts}
 use Rattle.link.specs.Judged.{Judging}
 use Rattle.link.specs.Stream.{Verdict, Given, kept, begun}
-use Rattle.link.specs.Pushes.{IsPush, IsLost, IsLeast, IsBegun, Answered, listed, finished}
+use Rattle.link.specs.Pushes.{IsPush, IsLost, IsLeast, IsBegun, Answered, finished}
 use Rattle.link.specs.declared.receiver.Answer.{Answer}
 use Rattle.link.specs.declared.receiver.NoMemory.{NoMemory as NoAnswer}
 use Rattle.link_codec.specs.declared.error.DecodeError.{DecodeError}
@@ -51,7 +51,7 @@ module _ (holds : List ℕ → Tree → Type 0) (limit s : ℕ) (stream : List �
 
     push_joined : (a : Option Verdict) → IsPush holds limit s (stream ++ xs) more n a → IsPush holds limit s stream (xs ++ more) (length xs + n) a
     push_joined a h = record {
-      gives = λ answers g. subst (λ x. Given holds limit s x (answers ++ listed a)) (bytes_joined n) (h.gives answers (past answers g));
+      gives = λ answers g. subst (λ x. Given holds limit s x (answers ++ option_to_list a)) (bytes_joined n) (h.gives answers (past answers g));
       least = least_joined h.least;
       whole = λ e. omega (arith, h.whole e, length-append xs more);
     }

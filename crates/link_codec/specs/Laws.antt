@@ -8,7 +8,7 @@ use Rattle.postcard_tree.specs.Tree.{Tree}
 use Rattle.link.specs.Stream.{Verdict, value, damaged, too_long, IsAnswer, begun_answers, Given, ended, unfinished}
 use Rattle.link.specs.Pushes.{IsPush, IsLost, IsLeast, Answered}
 use Rattle.link.specs.declared.receiver.Answer.{Answer}
-use Rattle.link.specs.Lemmas.HeardLaws.{zip_length}
+use Rattle.std.proofs.lemmas.Slice.Zip.{AllZip-long}
 use Rattle.link_codec.specs.declared.error.DecodeError.{DecodeError}
 use Rattle.link_codec.specs.declared.error.DecodeError.TheVariants.{NoMemory, Io}
 use Rattle.link_codec.specs.Gives.{GivenBy, AddsAnswer, gives_answers}
@@ -18,8 +18,8 @@ use Rattle.tokio_util.specs.Codec.Next.{decoded, partial, IsStable, EndIsPartial
 same_count : (holds : List ℕ → Tree → Type 0) (limit s : ℕ) (stream : List ℕ) (us vs : List Verdict)
     → Given holds limit s stream us → Given holds limit s stream vs → length us ≡ length vs
 same_count holds limit s stream us vs g h =
-    let first = zip_length (IsAnswer holds limit) (ended s stream) g.done g.each in
-    let second = zip_length (IsAnswer holds limit) (ended s stream) h.done h.each in
+    let first = AllZip-long (IsAnswer holds limit) (ended s stream) g.done g.each in
+    let second = AllZip-long (IsAnswer holds limit) (ended s stream) h.done h.each in
     omega (arith, ap length g.whole, ap length h.whole, length-append g.done (begun_answers limit (unfinished s stream)), length-append h.done (begun_answers limit (unfinished s stream)), first, second)
 
 -- that stretches have no answers is absurd

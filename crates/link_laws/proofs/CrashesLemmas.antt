@@ -1,33 +1,13 @@
 -- What a crash leaves, and what is told of it.
-use Rattle.std.proofs.Common.{◌≡◌, ℕ, zero, suc, ◌-◌, ◌<◌, ◌≤◌, Bool, true, false, cond, ltb, List, [], ◌∷◌, ◌++◌, length, take, refl, sym, ap, ◌∙◌, subst, inl, inr, arith, append_assoc}
+use Rattle.std.proofs.Common.{◌≡◌, ℕ, zero, suc, ◌-◌, ◌<◌, ◌≤◌, Bool, true, false, cond, ltb, List, [], ◌∷◌, ◌++◌, length, take, refl, sym, ap, ◌∙◌, subst, inl, inr, arith}
 use Rattle.std.proofs.lemmas.Bool.{le-ltb, lt-ltb, cases_lt}
 use Rattle.std.proofs.lemmas.List.{length-take, take-append-le, append-nil}
 use Rattle.postcard_tree.specs.Tree.{Tree}
-use Rattle.link.specs.Stream.{Verdict, cut, damaged, too_long, value}
-use Rattle.link.specs.Run.{Send, completed, refused, broken, written, sent, clean_after, session_line, line, IsSend, IsSession, IsRun, told_broken, told_session, told, frame_bytes}
+use Rattle.link.specs.Stream.{damaged, value}
+use Rattle.link.specs.Run.{Among, Send, completed, refused, broken, written, sent, clean_after, session_line, line, IsSend, IsSession, IsRun, told_broken, told_session, told, frame_bytes}
 use Rattle.link.specs.Roads.{values_of}
-use Rattle.link_laws.specs.Crashes.{done_in, done, tried_in, tried, Among, LiesBetween, broken_at, left_of, left}
-
-values_joined : (us vs : List Verdict) → values_of (us ++ vs) ≡ values_of us ++ values_of vs
-values_joined [] vs = refl
-values_joined (value t ∷ us) vs = ap (λ x. t ∷ x) (values_joined us vs)
-values_joined (damaged ∷ us) vs = values_joined us vs
-values_joined (too_long ∷ us) vs = values_joined us vs
-values_joined (cut ∷ us) vs = values_joined us vs
-
-among_later : (xs : List Tree) (y : Tree) (ys : List Tree) → Among xs ys → Among xs (y ∷ ys)
-among_later [] y ys h = tt
-among_later (x ∷ xs) y ys h = inr h
-
-among_behind : (xs bs ys : List Tree) → Among xs ys → Among xs (bs ++ ys)
-among_behind xs [] ys h = h
-among_behind xs (b ∷ bs) ys h = among_later xs b (bs ++ ys) (among_behind xs bs ys h)
-
-among_joined : (xs ys us vs : List Tree) → Among xs ys → Among us vs → Among (xs ++ us) (ys ++ vs)
-among_joined [] ys us vs h k = among_behind us ys vs k
-among_joined (x ∷ xs) [] us vs h k = absurd h
-among_joined (x ∷ xs) (y ∷ ys) us vs (inl h) k = inl (h.0, among_joined xs ys us vs h.1 k)
-among_joined (x ∷ xs) (y ∷ ys) us vs (inr h) k = inr (among_joined (x ∷ xs) ys us vs h k)
+use Rattle.link.specs.Lemmas.ValueLaws.{values_joined}
+use Rattle.link_laws.specs.Crashes.{done_in, done, tried_in, tried, among_behind, among_joined, LiesBetween, broken_at, left_of, left}
 
 -- what is told of a send that was broken off
 broken_told : (t : Tree) (k : ℕ) (later : List ℕ) → Among (values_of (told_broken t k later)) (t ∷ [])
@@ -126,14 +106,6 @@ module _ (takes : Tree → Type 0) (limit s : ℕ) where
   pub run_left : (k : ℕ) (run : List (List Send)) → IsRun takes limit s run → IsRun takes limit s (left s k run)
   run_left k [] d = tt
   run_left k (xs ∷ run) d = (session_left false k xs d.0, run_left (k - length (session_line s false xs)) run d.1)
-
-  pub runs_joined : (run later : List (List Send)) → IsRun takes limit s run → IsRun takes limit s later → IsRun takes limit s (run ++ later)
-  runs_joined [] later d e = e
-  runs_joined (xs ∷ run) later d e = (d.0, runs_joined run later d.1 e)
-
-pub lines_joined : (s : ℕ) (run later : List (List Send)) → line s (run ++ later) ≡ line s run ++ line s later
-lines_joined s [] later = refl
-lines_joined s (xs ∷ run) later = ap (λ z. session_line s false xs ++ z) (lines_joined s run later) ∙ sym (append_assoc (session_line s false xs) (line s run) (line s later))
 
 -- what is left was tried before
 tried_at : (k : ℕ) (x : Send) (xs : List Send) → Among (tried_in (broken_at k x ∷ [])) (tried_in (x ∷ xs))

@@ -2,7 +2,6 @@ pub mod ProvedLemmas
 pub mod StrictLemmas
 pub mod ValuedLemmas
 pub mod PushingLemmas
-pub mod RenewingLemmas
 pub mod RunHeardLemmas
 pub mod CrashesLemmas
 pub mod TellingLemmas

@@ -5,6 +5,7 @@ use Rattle.std.specs.List.{AllZip}
 use Rattle.std.proofs.lemmas.Bool.{le-ltb, lt-ltb, eq-eqb, ne_eqb, cases_lt, cases_eq}
 use Rattle.std.proofs.lemmas.List.{append-nil, length-append, length-map, take_at}
 use Rattle.std.proofs.lemmas.List.Sums.{sum_by-cons}
+use Rattle.std.proofs.lemmas.Slice.Zip.{AllZip-long}
 use Rattle.cobs.specs.Frames.{NoZero}
 use Rattle.cobs.specs.Sentinel.{masked}
 use Rattle.postcard_tree.specs.Tree.{Tree}
@@ -14,7 +15,7 @@ use Rattle.link.specs.Run.{line, told}
 use Rattle.link.specs.Laws.{IsTold, HasOneAnswer, EndsBetween, Appends, through_last, behind_first, sentinels, HasBetween, IsLocal, StartsAnywhere, IsDamagedInFronts}
 use Rattle.link.specs.Lemmas.Facts.{Facts, Breaking, front_holds_nothing, holds_it, exactly_holds, one_tree, one_tree_exactly, one_answer}
 use Rattle.link.specs.Lemmas.Pieces.{UpToLast, ends_at, ended_count, none_unfinished, isn't_sentinel}
-use Rattle.link.specs.Lemmas.HeardLaws.{IsOne, heard_once, heard_joined, heard_parts, zip_length, at_end, empty_ending}
+use Rattle.link.specs.Lemmas.HeardLaws.{IsOne, heard_once, heard_joined, heard_parts, at_end, empty_ending}
 use Rattle.link_laws.proofs.TellingLemmas.{Holding, told_of_run}
 
 pub once : (holds : List ℕ → Tree → Type 0) (limit s : ℕ) → IsOne holds → HasOneAnswer holds limit s
@@ -128,7 +129,7 @@ module _ (holds : List ℕ → Tree → Type 0) (limit s : ℕ) where
         length-append g.done (begun_answers limit (unfinished s a)),
         ap (λ p. length (begun_answers limit p)) (none_unfinished s a e),
         ap length (none_begun limit),
-        zip_length (IsAnswer holds limit) (ended s a) g.done g.each,
+        AllZip-long (IsAnswer holds limit) (ended s a) g.done g.each,
         ended_count s a,
       )
 
@@ -139,7 +140,7 @@ module _ (holds : List ℕ → Tree → Type 0) (limit s : ℕ) where
         ap length h.whole,
         length-append h.done (at_end limit (unfinished s a)),
         short_end limit (unfinished s a),
-        zip_length (IsAnswer holds limit) (ended s a) h.done h.each,
+        AllZip-long (IsAnswer holds limit) (ended s a) h.done h.each,
         ended_count s a,
       )
 

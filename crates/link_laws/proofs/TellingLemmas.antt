@@ -2,7 +2,7 @@
 use Rattle.std.proofs.Common.{◌≡◌, ℕ, zero, suc, ◌<◌, ◌≤◌, Bool, true, false, cond, ltb, List, [], ◌∷◌, ◌++◌, length, take, drop, refl, sym, ap, ◌∙◌, subst, inl, inr, ◌⊎◌, arith, append_assoc}
 use Rattle.std.specs.Prelude.{bit_xor}
 use Rattle.std.proofs.lemmas.Bool.{le-ltb, ltb-true, ltb-false}
-use Rattle.std.proofs.lemmas.List.{take_all, take-append-drop, length-take, take-append-le, length-append, length-drop, append-nil, length-map}
+use Rattle.std.proofs.lemmas.List.{take_all, take-append-drop, length-take, take-append-le, length-append, length-drop, append-nil, length-map, take-map}
 use Rattle.postcard_tree.specs.Tree.{Tree}
 use Rattle.postcard_tree.specs.Spelling.{short}
 use Rattle.postcard.specs.Frames.{Holds}
@@ -17,11 +17,6 @@ NoZero-take : (n : ℕ) (p : List ℕ) → NoZero p → NoZero (take n p)
 NoZero-take zero p z = tt
 NoZero-take (suc n) [] z = tt
 NoZero-take (suc n) (b ∷ p) z = (z.0, NoZero-take n p z.1)
-
-masked-take : (s k : ℕ) (p : List ℕ) → take k (masked s p) ≡ masked s (take k p)
-masked-take s zero p = refl
-masked-take s (suc k) [] = refl
-masked-take s (suc k) (b ∷ p) = ap (λ x. bit_xor s b ∷ x) (masked-take s k p)
 
 short_ending : (limit : ℕ) (p : List ℕ) → 0 < length p → length p ≤ limit → at_end limit p ≡ cut ∷ []
 short_ending limit [] l m = absurd (omega arith)
@@ -107,7 +102,7 @@ module _ (takes : Tree → Type 0) (facts : Facts takes) (breaking : Breaking ta
       let f = shortest_frame (short t) in
       let m : k ≤ length f = omega (arith, length-append (masked s f) (s ∷ []), length-map f (bit_xor s)) in
       let lm : k ≤ length (masked s f) = omega (arith, length-map f (bit_xor s)) in
-      let front : take k (sent s true t) ≡ masked s (take k f) = take-append-le k (masked s f) (s ∷ []) lm ∙ masked-take s k f in
+      let front : take k (sent s true t) ≡ masked s (take k f) = take-append-le k (masked s f) (s ∷ []) lm ∙ take-map (bit_xor s) k f in
       heard_of (IsAnswer holds limit) (at_end limit) s _ _ _ _ (sym (append_assoc (take k (sent s true t)) (session_line s false xs) later ∙ ap (λ x. x ++ (session_line s false xs ++ later)) front)) refl
       (broken_off t k (session_line s false xs ++ later) answers d m (follows_session xs later fo) h)
 

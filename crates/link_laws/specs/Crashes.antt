@@ -1,8 +1,9 @@
 -- What is heard of a run lies between what was completed and what was tried; and what a crash leaves of a line.
-use Rattle.std.specs.Prelude.{◌≡◌, ◌⊎◌, ℕ, ◌-◌, Bool, false, List, [], ◌∷◌, ◌++◌, length, take, if◌then◌else◌, nat_lt}
+use Rattle.std.specs.Prelude.{◌≡◌, ℕ, ◌-◌, Bool, false, List, [], ◌∷◌, ◌++◌, length, take, if◌then◌else◌, nat_lt}
+use Rattle.std.proofs.Common.{inl, inr}
 use Rattle.postcard_tree.specs.Tree.{Tree}
 use Rattle.link.specs.Stream.{Verdict, Answers}
-use Rattle.link.specs.Run.{Send, completed, refused, broken, written, clean_after, session_line, line, IsRun}
+use Rattle.link.specs.Run.{Among, Send, completed, refused, broken, written, clean_after, session_line, line, IsRun}
 use Rattle.link.specs.Roads.{values_of}
 
 -- the trees of the sends that completed
@@ -29,11 +30,18 @@ abbrev pub tried : List (List Send) → List Tree
 tried [] = []
 tried (session ∷ run) = tried_in session ++ tried run
 
--- the first are some of the second, in their order
-abbrev pub Among : List Tree → List Tree → Type 0
-Among [] ys = Unit {0}
-Among (x ∷ xs) [] = ⊥
-Among (x ∷ xs) (y ∷ ys) = ((x ≡ y) × Among xs ys) ⊎ Among (x ∷ xs) ys
+-- some of a list are some of a longer one
+pub among_behind : (xs bs ys : List Tree) → Among xs ys → Among xs (bs ++ ys)
+among_behind xs [] ys h = h
+among_behind [] (b ∷ bs) ys h = tt
+among_behind (x ∷ xs) (b ∷ bs) ys h = inr (among_behind (x ∷ xs) bs ys h)
+
+pub among_joined : (xs ys us vs : List Tree) → Among xs ys → Among us vs
+    → Among (xs ++ us) (ys ++ vs)
+among_joined [] ys us vs h k = among_behind us ys vs k
+among_joined (x ∷ xs) [] us vs h k = absurd h
+among_joined (x ∷ xs) (y ∷ ys) us vs (inl h) k = inl (h.0, among_joined xs ys us vs h.1 k)
+among_joined (x ∷ xs) (y ∷ ys) us vs (inr h) k = inr (among_joined (x ∷ xs) ys us vs h k)
 
 -- these are heard where those completed and these were tried
 pub record LiesBetween (run : List (List Send)) (heard : List Tree) : Type 0 where

@@ -1,10 +1,10 @@
 -- What a receiver answers to a piece is what is added to the answers of the stream.
-use Rattle.std.proofs.Common.{◌≡◌, ℕ, ◌≤◌, List, [], ◌∷◌, ◌++◌, length, take, Option, Some, None, Result, Ok, Err, refl, sym, ap, ◌∙◌, subst, append_assoc, ◌+◌, ◌-◌, arith, length-append, length-take, take-take}
+use Rattle.std.proofs.Common.{◌≡◌, ℕ, ◌≤◌, List, [], ◌∷◌, ◌++◌, length, take, Option, Some, None, Result, Ok, Err, refl, sym, ap, ◌∙◌, subst, append_assoc, ◌+◌, ◌-◌, arith, length-append, length-take, take-take, option_to_list}
 use Rattle.cobs.specs.Frames.{Frame}
 use Rattle.postcard_tree.specs.Tree.{Tree}
 use Rattle.link.specs.Stream.{Verdict, value, damaged, too_long, unfinished, Begun, kept, begun}
 use Rattle.link.specs.Steps.{Event, quiet, ended, passed, course_of}
-use Rattle.link.specs.Pushes.{IsBegun, listed, IsLeast, IsPush, IsLost, Matches, Answered, IsStretchOf}
+use Rattle.link.specs.Pushes.{IsBegun, IsLeast, IsPush, IsLost, Matches, Answered, IsStretchOf}
 use Rattle.link.specs.Finds.{Replies, IsSpan}
 use Rattle.link.specs.declared.receiver.Answer.{Answer}
 use Rattle.link.specs.declared.receiver.Answer.TheVariants.{Value, Damaged, TooLong, Cut}
@@ -17,9 +17,9 @@ module _ (holds : List ℕ → Tree → Type 0) (limit s : ℕ) (b : Begun) (pie
   is_least : IsLeast holds limit s stream piece (course_of limit s b piece).used
   is_least = record { same = λ answers g u l. (comes holds limit s b piece).least stream answers i g u l }
 
-  is_push : (a : Option Verdict) → AnswersEvent holds limit (course_of limit s b piece).event (listed a) → (a ≡ None → (course_of limit s b piece).event ≡ quiet) → IsPush holds limit s stream piece (course_of limit s b piece).used a
+  is_push : (a : Option Verdict) → AnswersEvent holds limit (course_of limit s b piece).event (option_to_list a) → (a ≡ None → (course_of limit s b piece).event ≡ quiet) → IsPush holds limit s stream piece (course_of limit s b piece).used a
   is_push a h q = record {
-    gives = λ answers g. (comes holds limit s b piece).given stream answers (listed a) i g h;
+    gives = λ answers g. (comes holds limit s b piece).given stream answers (option_to_list a) i g h;
     least = is_least;
     whole = λ e. (comes holds limit s b piece).whole (q e);
   }

@@ -1,25 +1,21 @@
 -- What a push adds to the answers of a stream, and what its end adds.
-use Rattle.std.proofs.Common.{◌≡◌, ℕ, List, [], ◌∷◌, ◌++◌, length, take, Option, Some, None, Result, Ok, Err, refl, sym, ap, ◌∙◌, subst, inl, inr, arith, append-nil, append_assoc, nat_lt, if◌then◌else◌}
+use Rattle.std.proofs.Common.{◌≡◌, ℕ, List, [], ◌∷◌, ◌++◌, length, take, Option, Some, None, Result, Ok, Err, refl, sym, ap, ◌∙◌, subst, inl, inr, arith, append-nil, append_assoc, nat_lt, if◌then◌else◌, option_to_list}
 use Rattle.std.specs.List.{AllZip}
 use Rattle.std.proofs.lemmas.Bool.{cases_lt, lt-ltb, le-ltb}
+use Rattle.std.proofs.lemmas.Slice.Zip.{all_zipped_more}
 use Rattle.postcard_tree.specs.Tree.{Tree}
-use Rattle.link.specs.Link.{Inside, Verdict, cut, begun_answers, cut_answers, unfinished, begun, kept, over, Given, Answers, listed, Matches, Answered, finished, IsBehind, HasGiven, HasAnswered, Hears, KeepsAnswer}
-use Rattle.link.specs.Lemmas.HeardLaws.{zip_joined}
+use Rattle.link.specs.Link.{Inside, Verdict, cut, begun_answers, cut_answers, unfinished, begun, kept, over, Given, Answers, Matches, Answered, finished, IsBehind, HasGiven, HasAnswered, Hears, KeepsAnswer}
 use Rattle.link.specs.declared.reception.Reception.{Reception}
 use Rattle.link.specs.declared.receiver.Answer.{Answer}
 use Rattle.link.specs.declared.receiver.Answer.TheVariants.{Cut}
 use Rattle.link.specs.declared.receiver.NoMemory.{NoMemory}
 
-pub zip_one : {A B : Type 0} (R : A → B → Type 0) (xs : List A) (ys : List B) (x : A) (y : B)
-    → AllZip R xs ys → R x y → AllZip R (xs ++ x ∷ []) (ys ++ y ∷ [])
-zip_one R xs ys x y h r = zip_joined R xs (x ∷ []) ys (y ∷ []) h (r, tt)
-
 module _ {V : Type 0} (holds : List ℕ → Tree → Type 0) (reads : Tree → V → Type 0) (limit s : ℕ) (front rest : List ℕ) (answers new : List (Answer V)) (used : ℕ) where
-  kept_none : (vs : List Verdict) (a : Option Verdict) → a ≡ None → AllZip (Matches reads) answers vs → AllZip (Matches reads) answers (vs ++ listed a)
-  kept_none vs a e h = subst (λ o. AllZip (Matches reads) answers (vs ++ listed o)) (sym e) (subst (λ x. AllZip (Matches reads) answers x) (sym (append-nil vs)) h)
+  kept_none : (vs : List Verdict) (a : Option Verdict) → a ≡ None → AllZip (Matches reads) answers vs → AllZip (Matches reads) answers (vs ++ option_to_list a)
+  kept_none vs a e h = subst (λ o. AllZip (Matches reads) answers (vs ++ option_to_list o)) (sym e) (subst (λ x. AllZip (Matches reads) answers x) (sym (append-nil vs)) h)
 
-  kept_some : (vs : List Verdict) (x : Answer V) (y : Verdict) (a : Option Verdict) → a ≡ Some y → Matches reads x y → AllZip (Matches reads) answers vs → AllZip (Matches reads) (answers ++ x ∷ []) (vs ++ listed a)
-  kept_some vs x y a e m h = subst (λ o. AllZip (Matches reads) (answers ++ x ∷ []) (vs ++ listed o)) (sym e) (zip_one (Matches reads) answers vs x y h m)
+  kept_some : (vs : List Verdict) (x : Answer V) (y : Verdict) (a : Option Verdict) → a ≡ Some y → Matches reads x y → AllZip (Matches reads) answers vs → AllZip (Matches reads) (answers ++ x ∷ []) (vs ++ option_to_list a)
+  kept_some vs x y a e m h = subst (λ o. AllZip (Matches reads) (answers ++ x ∷ []) (vs ++ option_to_list o)) (sym e) (all_zipped_more (Matches reads) answers vs x y h m)
 
   -- what is given of the stream and the bytes that a push used
   pub kept_given : (answer : Result (Option (Answer V)) NoMemory)
@@ -27,14 +23,14 @@ module _ {V : Type 0} (holds : List ℕ → Tree → Type 0) (reads : Tree → V
       → Answered holds reads limit s front rest used answer → KeepsAnswer answer answers new
       → HasGiven holds reads limit s new (front ++ take used rest)
   kept_given (Ok None) g (a, says, push) k = record {
-    verdicts = g.verdicts ++ listed a;
+    verdicts = g.verdicts ++ option_to_list a;
     given = push.gives g.verdicts g.given;
-    matching = subst (λ x. AllZip (Matches reads) x (g.verdicts ++ listed a)) (sym k) (kept_none g.verdicts a says g.matching);
+    matching = subst (λ x. AllZip (Matches reads) x (g.verdicts ++ option_to_list a)) (sym k) (kept_none g.verdicts a says g.matching);
   }
   kept_given (Ok (Some x)) g (a, says, push) k = record {
-    verdicts = g.verdicts ++ listed a;
+    verdicts = g.verdicts ++ option_to_list a;
     given = push.gives g.verdicts g.given;
-    matching = subst (λ z. AllZip (Matches reads) z (g.verdicts ++ listed a)) (sym k) (kept_some g.verdicts x says.0 a says.2 says.1 g.matching);
+    matching = subst (λ z. AllZip (Matches reads) z (g.verdicts ++ option_to_list a)) (sym k) (kept_some g.verdicts x says.0 a says.2 says.1 g.matching);
   }
   kept_given (Err e) g h k = absurd k
 
@@ -86,7 +82,7 @@ module _ (holds : List ℕ → Tree → Type 0) (limit s : ℕ) (stream : List �
           let short = le-ltb limit (length (b ∷ p)) l in
           let more : new ≡ answers ++ Cut ∷ [] = rw short at k in
           let one : cut ∷ [] ≡ cut_answers limit (b ∷ p) = rw short refl in
-          record { verdicts = g.verdicts ++ cut ∷ []; all = all_of g.verdicts (cut ∷ []) g.given (one ∙ ap (cut_answers limit) e); matching = subst (λ x. AllZip (Matches reads) x (g.verdicts ++ cut ∷ [])) (sym more) (zip_one (Matches reads) answers g.verdicts Cut cut g.matching refl) })
+          record { verdicts = g.verdicts ++ cut ∷ []; all = all_of g.verdicts (cut ∷ []) g.given (one ∙ ap (cut_answers limit) e); matching = subst (λ x. AllZip (Matches reads) x (g.verdicts ++ cut ∷ [])) (sym more) (all_zipped_more (Matches reads) answers g.verdicts Cut cut g.matching refl) })
     ]
 
     -- what the end of a stream adds

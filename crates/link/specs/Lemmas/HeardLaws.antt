@@ -32,14 +32,6 @@ zip_parts R (x ∷ xs) ys (a ∷ all) h =
     let r = zip_parts R xs ys all h.1 in
     record { us = a ∷ r.us; vs = r.vs; first = (h.0, r.first); second = r.second; whole = ap (λ y. a ∷ y) r.whole }
 
--- they are equally long
-pub zip_length : {A B : Type 0} (R : A → B → Type 0) (xs : List A) (us : List B) → AllZip R xs us
-    → length us ≡ length xs
-zip_length R [] [] h = refl
-zip_length R [] (u ∷ us) h = absurd h
-zip_length R (x ∷ xs) [] h = absurd h
-zip_length R (x ∷ xs) (u ∷ us) h = omega (arith, zip_length R xs us h.1)
-
 -- of each stretch there is at most one answer
 abbrev pub IsOne : {A B : Type 0} → (A → B → Type 0) → Type 0
 IsOne {A} {B} R = (x : A) (u v : B) → R x u → R x v → u ≡ v

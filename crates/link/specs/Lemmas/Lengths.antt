@@ -1,6 +1,7 @@
 -- Two lengths tell what sending makes, and no stretch that holds a tree is shorter than the tree's frame.
-use Rattle.std.proofs.Common.{◌≡◌, ◌≢◌, ℕ, ◌+◌, ◌<◌, ◌≤◌, List, [], ◌∷◌, ◌++◌, length, Option, refl, sym, ap, ◌∙◌, subst, inl, inr, ◌⊎◌, arith, length-append, append-nil}
+use Rattle.std.proofs.Common.{◌≡◌, ◌≢◌, ℕ, ◌+◌, ◌<◌, ◌≤◌, List, [], ◌∷◌, ◌++◌, length, take, drop, Option, refl, sym, ap, ◌∙◌, subst, inl, inr, ◌⊎◌, arith, length-append, append-nil, append_assoc, take-append-drop}
 use Rattle.std.proofs.lemmas.Bool.{cases_eq}
+use Rattle.std.proofs.lemmas.List.{nil_from_length}
 use Rattle.cobs.specs.Frames.{Frame, shortest_frame, most_length}
 use Rattle.cobs.specs.FrameLaws.{HasOneOther, GrowsWithItsBytes, IsWithinLengths}
 use Rattle.cobs.specs.Thinner.{IsThinner}
@@ -32,9 +33,10 @@ shortest_or_longer other frame message f = elim (same_or_not frame (shortest_fra
   | inr n ↦ inr (ap length ((other frame message).0 (f, n)).1 ∙ length-append (shortest_frame message) (1 ∷ []))
 ]
 
-pub none_left : (x : List ℕ) → length x ≡ 0 → x ≡ []
-none_left [] e = refl
-none_left (b ∷ x) e = absurd (omega arith)
+pub parts_on : (piece done rest : List ℕ) (used : ℕ) → piece ≡ done ++ rest
+    → piece ≡ (done ++ take used rest) ++ drop used rest
+parts_on piece done rest used e = e ∙ sym (append_assoc done (take used rest) (drop used rest)
+    ∙ ap (λ x. done ++ x) (take-append-drop used rest))
 
 within_front : (b a c : List ℕ) → IsThinner a b → IsThinner a (b ++ c)
 within_front b [] c w = tt
@@ -75,7 +77,7 @@ module _ (takes : Tree → Type 0) (facts : Facts takes) (other : HasOneOther) w
             | inr l ↦ absurd (omega arith)
           ] in
           let n : length h.front ≡ length (short t) = ap length front in
-          let same : h.message ≡ short t = h.begins ∙ ap (λ x. h.front ++ x) (none_left h.rest (omega arith)) ∙ append-nil h.front ∙ front in
+          let same : h.message ≡ short t = h.begins ∙ ap (λ x. h.front ++ x) (nil_from_length h.rest (omega arith)) ∙ append-nil h.front ∙ front in
           elim (shortest_or_longer other p h.message h.frame) [
             | inl e ↦ (h.taken, e ∙ ap shortest_frame same)
             | inr l ↦ absurd (omega arith)

@@ -13,20 +13,10 @@ use Rattle.postcard.specs.Feeds.{Feeds}
 use Rattle.link.specs.Stream.{Verdict, value, damaged, too_long, cut, IsContent, IsAnswer, Heard, Answers, pieces, ended_of, unfinished_of, ended, unfinished}
 use Rattle.link.specs.Roads.{values_of, AllFit, ReadsInPlace, nothing, skipped, answered, unanswered, IsSameInPlace, Loops, done, stopped, used_up, consumed, overfull, failed, success, joined, AreValues, AreFirst, IsSameByAccumulator}
 use Rattle.link.specs.Lemmas.Facts.{some_bytes}
+use Rattle.link.specs.Lemmas.ValueLaws.{values_joined, values_done}
 use Rattle.link.specs.Lemmas.MaskLaws.{unmasked as plain, NoZero-append as nonzero_joined}
 use Rattle.link.specs.Lemmas.HeardLaws.{IsOne, zip_once, heard_of, heard_skip, heard_ended, heard_alone, at_end}
 use Rattle.link.specs.Lemmas.Pieces.{Parted, alone, more, parted, masked_twice, pieces_at, pieces_alone, ended_skip, ended_at, ended_alone}
-
-values_joined : (us vs : List Verdict) → values_of vs ≡ [] → values_of (us ++ vs) ≡ values_of us
-values_joined [] vs e = e
-values_joined (value t ∷ us) vs e = ap (λ x. t ∷ x) (values_joined us vs e)
-values_joined (damaged ∷ us) vs e = values_joined us vs e
-values_joined (too_long ∷ us) vs e = values_joined us vs e
-values_joined (cut ∷ us) vs e = values_joined us vs e
-
-no_values_at_end : (limit : ℕ) (p : List ℕ) → values_of (at_end limit p) ≡ []
-no_values_at_end limit [] = grind arith
-no_values_at_end limit (b ∷ p) = grind arith
 
 -- under a limit that they fit, stretches are answered as without one
 contents : (holds : List ℕ → Tree → Type 0) (room : ℕ) (ps : List (List ℕ)) (us : List Verdict)
@@ -83,8 +73,8 @@ module _ (holds : List ℕ → Tree → Type 0) (s : ℕ) where
   same_in_place one room stream us vs f h k =
       let i = in_place_heard k in
       let same : h.done ≡ i.done = zip_once (IsContent holds) (one_content holds one) (ended s stream) h.done i.done (contents holds room (ended s stream) h.done f h.each) i.each in
-      ap values_of h.whole ∙ values_joined h.done (at_end room (unfinished s stream)) (no_values_at_end room (unfinished s stream))
-      ∙ ap values_of same ∙ sym (ap values_of i.whole ∙ values_joined i.done (unended (unfinished s stream)) (no_values_unended (unfinished s stream)))
+      values_done h ∙ ap values_of same ∙ sym (ap values_of i.whole ∙ values_joined i.done (unended (unfinished s stream))
+      ∙ ap (λ x. values_of i.done ++ x) (no_values_unended (unfinished s stream)) ∙ append-nil (values_of i.done))
 
 -- By an accumulator
 
@@ -149,7 +139,7 @@ fed_by room held piece kept C O A g keeps full answers over = elim (zeroed piece
 ]
 
 -- the stretches of a stream without a sentinel, and behind the first
-no_ended : (p : List ℕ) → NoZero p → ended 0 p ≡ []
+pub no_ended : (p : List ℕ) → NoZero p → ended 0 p ≡ []
 no_ended p z = ap (ended 0) (sym (plain p)) ∙ ended_alone 0 p z
 
 first_ended : (b : ℕ) (p stream : List ℕ) → NoZero (b ∷ p)
@@ -344,5 +334,5 @@ same_by_accumulator takes reads growing values s one may_stop room pieces answer
     let fit : AllFit room 0 x = subst (AllFit room 0) line (subst (AllByRecursion (λ q. length q < room)) (same_ended s (joined pieces)) f) in
     let heard : Answers (Holds takes) room 0 x answers = subst (λ y. Answers (Holds takes) room 0 y answers) line (same_heard s (IsAnswer (Holds takes) room) (at_end room) (joined pieces) answers h) in
     let g = gathered takes reads growing may_stop room l one heard.done k tt fit (contents (Holds takes) room (ended 0 x) heard.done fit heard.each) in
-    let same : values_of answers ≡ values_of heard.done = ap values_of heard.whole ∙ values_joined heard.done (at_end room (unfinished 0 x)) (no_values_at_end room (unfinished 0 x)) in
+    let same : values_of answers ≡ values_of heard.done = values_done heard in
     subst (λ ts. AreFirst reads growing may_stop ts values) (sym same) g

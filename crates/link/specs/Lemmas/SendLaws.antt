@@ -1,10 +1,10 @@
--- Sessions of one sender, one behind the other, are a session.
-use Rattle.std.proofs.Common.{◌≡◌, ℕ, ◌+◌, ◌≤◌, Bool, List, [], ◌∷◌, ◌++◌, map, Option, refl, sym, ap, ◌∙◌, subst, inl, inr, arith, append_assoc}
+-- Sessions of one sender, one behind the other, are a session; and runs are a run.
+use Rattle.std.proofs.Common.{◌≡◌, ℕ, ◌+◌, ◌≤◌, Bool, false, List, [], ◌∷◌, ◌++◌, map, Option, refl, sym, ap, ◌∙◌, subst, inl, inr, arith, append_assoc}
 use Rattle.std.proofs.lemmas.List.{map-append}
 use Rattle.line_io.specs.Device.{LineState}
 use Rattle.line_io.specs.Calls.{Wrote-none, Wrote-then}
 use Rattle.postcard_tree.specs.Tree.{Tree, IsTree}
-use Rattle.link.specs.Link.{Send, written, clean_after, session_line, IsSession, IsSendOf, fate_of, brokens, clean_after_all, Did, FewBroke, SendsAll}
+use Rattle.link.specs.Link.{Send, written, clean_after, session_line, line, IsSession, IsRun, IsSendOf, fate_of, brokens, clean_after_all, Did, FewBroke, SendsAll}
 use Rattle.link.specs.declared.session.Fate.{Fate}
 use Rattle.link.specs.Lemmas.HeardLaws.{zip_joined}
 
@@ -24,6 +24,17 @@ line_then s clean (x ∷ xs) ys = ap (λ b. written s clean x ++ b) (line_then s
 session_then : (limit s : ℕ) (clean : Bool) (xs ys : List Send) → IsSession IsTree limit s clean xs → IsSession IsTree limit s (clean_after_all clean xs) ys → IsSession IsTree limit s clean (xs ++ ys)
 session_then limit s clean [] ys h k = k
 session_then limit s clean (x ∷ xs) ys h k = (h.0, session_then limit s (clean_after clean x) xs ys h.1 k)
+
+pub runs_joined : (takes : Tree → Type 0) (limit s : ℕ) (run later : List (List Send))
+    → IsRun takes limit s run → IsRun takes limit s later → IsRun takes limit s (run ++ later)
+runs_joined takes limit s [] later d e = e
+runs_joined takes limit s (xs ∷ run) later d e = (d.0, runs_joined takes limit s run later d.1 e)
+
+pub lines_joined : (s : ℕ) (run later : List (List Send))
+    → line s (run ++ later) ≡ line s run ++ line s later
+lines_joined s [] later = refl
+lines_joined s (xs ∷ run) later = ap (λ z. session_line s false xs ++ z) (lines_joined s run later)
+    ∙ sym (append_assoc (session_line s false xs) (line s run) (line s later))
 
 few_then : (u v w : LineState) (m n k : ℕ) → FewBroke u v m → FewBroke v w n → w.calls_left ≤ v.calls_left → v.faults ≤ w.faults → k ≡ m + n → FewBroke u w k
 few_then u v w m n k (inl p) (inl q) l z e = inl (omega arith)

@@ -1,4 +1,5 @@
-use Rattle.link_laws.proofs.CrashesLemmas.{line_of_left, run_left, tried_left, runs_joined, lines_joined}
+use Rattle.link.specs.Lemmas.SendLaws.{runs_joined, lines_joined}
+use Rattle.link_laws.proofs.CrashesLemmas.{line_of_left, run_left, tried_left}
 use Rattle.link_laws.proofs.left.Goals as goal
 
 pub returns-clause-front : goal.returns-clause-front

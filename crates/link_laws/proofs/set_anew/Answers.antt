@@ -1,6 +1,6 @@
 use Rattle.postcard.specs.Frames.{Holds}
 use Rattle.link.specs.Stream.{HoldsExactly}
-use Rattle.link_laws.proofs.RenewingLemmas.{set_anew}
+use Rattle.link_laws.proofs.PushingLemmas.{set_anew}
 use Rattle.link_laws.proofs.set_anew.Goals as goal
 
 pub returns : goal.returns

@@ -1,6 +1,7 @@
 use Rattle.std.proofs.Common.{refl, ap, subst, inl, inr}
 use Rattle.calls.specs.Calls.{call, In, KeptFor}
-use Rattle.calls.proofs.RepliesLemmas.{in_some, found}
+use Rattle.calls.specs.ServedLaws.{in_some}
+use Rattle.calls.proofs.RepliesLemmas.{found}
 use Rattle.calls.proofs.laws.matches.Goals as goal
 
 pub returns : goal.returns

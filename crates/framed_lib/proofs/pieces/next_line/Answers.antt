@@ -1,5 +1,6 @@
 use Rattle.std.proofs.Common.{◌≡◌, ◌<◌, ◌+◌, ◌∷◌, length, ap, ◌∙◌, arith, length-append}
-use Rattle.framed_lib.proofs.SendingLemmas.{next-line, lines-last, utf8-line}
+use Rattle.framed_lib.specs.Sending.{lines_in}
+use Rattle.framed_lib.proofs.SendingLemmas.{lines-more, lines-last, utf8-cut}
 use Rattle.framed_lib.proofs.pieces.next_line.Goals as goal
 
 pub returns-in-Some-clause-line : goal.returns-in-Some-clause-line
@@ -8,7 +9,7 @@ returns-in-Some-clause-line c =
     let longer : length c.args.text.now ≡ length c.in-Some.line.now + length (10 ∷ c.in-Some.after.now) =
     ap length cut.0 ∙ length-append c.in-Some.line.now (10 ∷ c.in-Some.after.now) in
     let fewer : length c.in-Some.after.now < length c.args.text.now = omega arith in
-    (next-line _ _ _ cut.0 cut.1, fewer)
+    (ap lines_in cut.0 ∙ lines-more c.in-Some.line.now c.in-Some.after.now cut.1, fewer)
 
 pub returns-in-None-clause-line : goal.returns-in-None-clause-line
 returns-in-None-clause-line c =
@@ -16,4 +17,4 @@ returns-in-None-clause-line c =
     (lines-last _ c.in-None.ensures some, some)
 
 pub returns-in-Some-clause-utf8 : goal.returns-in-Some-clause-utf8
-returns-in-Some-clause-utf8 c = λ u. utf8-line _ _ _ c.in-Some.ensures.0 u
+returns-in-Some-clause-utf8 c = λ u. utf8-cut c.in-Some.line.now c.in-Some.after.now (rw c.in-Some.ensures.0 at u)

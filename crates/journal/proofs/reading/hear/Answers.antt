@@ -1,9 +1,10 @@
-use Rattle.std.proofs.Common.{◌≡◌, ℕ, ◌+◌, ◌<◌, ◌≤◌, List, [], ◌∷◌, ◌++◌, length, take, refl, sym, ◌∙◌, ap, subst, append_assoc, arith, rules}
-use Rattle.std.proofs.lemmas.List.{append-nil, length-append, length-take, length-drop}
+use Rattle.std.proofs.Common.{◌≡◌, ◌+◌, ◌<◌, ◌≤◌, [], ◌++◌, length, take, refl, sym, ◌∙◌, ap, subst, append_assoc, arith, rules}
+use Rattle.std.proofs.lemmas.List.{append-nil, nil_from_length, length-append, length-take, length-drop}
 use Rattle.link.specs.Decoding.{in_array}
+use Rattle.link.specs.Lemmas.Lengths.{parts_on}
 use Rattle.link.specs.Receivers.{IsBehind}
 use Rattle.journal.specs.Reading.{numbering_of, IsReadTo}
-use Rattle.journal.proofs.HearingLemmas.{read_on, parts_on, heard_none, handed_more}
+use Rattle.journal.proofs.HearingLemmas.{read_on, heard_none, handed_more}
 use Rattle.journal.proofs.reading.hear.Goals as goal
 
 pub loop-rest-init : goal.loop-rest-init
@@ -48,13 +49,8 @@ loop-rest-preserved g c =
       on = omega (arith, heard_is, left, c.loop-rest.invariant.on);
     }
 
--- nothing is left
-empty : (xs : List ℕ) → length xs ≡ 0 → xs ≡ []
-empty [] e = refl
-empty (x ∷ xs) e = absurd (omega arith)
-
 pub returns-clause-heard : goal.returns-clause-heard
 returns-clause-heard g c first stream answers h =
     let k = c.loop-rest.invariant.heard first stream answers h in
-    let none : c.loop-rest.rest.now ≡ [] = empty c.loop-rest.rest.now (search rules) in
+    let none : c.loop-rest.rest.now ≡ [] = nil_from_length c.loop-rest.rest.now (search rules) in
     rw (k.1 ∙ ap (λ x. k.0 ++ x) none ∙ append-nil k.0) k.2

@@ -1,8 +1,9 @@
 use Rattle.std.proofs.Common.{◌≡◌, ℕ, ◌+◌, ◌-◌, ◌<◌, zero, suc, Option, None, Some, List, [], ◌++◌, length, take, refl, sym, ap, subst, ◌∙◌, arith, rules}
 use Rattle.std.specs.Prelude.{IfSome}
 use Rattle.std.proofs.lemmas.List.{length-take}
+use Rattle.line_io.specs.Calls.{Failed-later, read_quiet, read_failed}
 use Rattle.journal.specs.Reading.{HearsMore, IsHanded, numbering_of}
-use Rattle.journal.proofs.HearingLemmas.{read_whole, reads_on, reads_all, reads_none, heard_first, then_more, no_fault, read_failed, handed_to, few_calls, cause_on, if_passed}
+use Rattle.journal.proofs.HearingLemmas.{read_whole, reads_on, reads_all, reads_none, heard_first, then_more, handed_to, few_calls, cause_on, if_passed}
 use Rattle.journal.proofs.reading.read_all.Goals as goal
 
 pub loop-n-init : goal.loop-n-init
@@ -28,7 +29,7 @@ loop-n-preserved g c = record {
       let before = c.loop-n.invariant.so_far in
       let more = c.in_ok-count-in-Some.ensures.handed in
       (before.0 ++ more.0, g.met.V.Visitor.laws.more _ _ _ _ _ before.1 more.1);
-  quiet = no_fault _ _ _ _ _ c.in-Some.ensures.faults c.loop-n.invariant.quiet;
+  quiet = read_quiet _ _ _ _ _ c.in-Some.ensures.faults c.loop-n.invariant.quiet;
   heard =
       let took = g.V.Visitor.took in
       let P : List ℕ → Type 0 = λ stream. HearsMore took (g.M.MessageReader.judging c.args.messages.now).holds (g.M.MessageReader.judging c.args.messages.now).reads c.args.first c.args.visitor.now c.loop-n.visitor c.loop-n.receiver [] c.loop-n.count stream in
@@ -44,7 +45,7 @@ loop-n-preserved g c = record {
 }
 
 pub returns-in-None-clause-cause : goal.returns-in-None-clause-cause
-returns-in-None-clause-cause g c = read_failed (g.S.Store.line c.args.store.now) (g.S.Store.line c.loop-n.store) (g.S.Store.line c.read_at.new.self) c.in-None.ensures.faults c.in-None.ensures.calls c.loop-n.invariant.quiet
+returns-in-None-clause-cause g c = Failed-later (g.S.Store.line c.args.store.now) (g.S.Store.line c.loop-n.store) (g.S.Store.line c.read_at.new.self) c.loop-n.invariant.quiet (read_failed (g.S.Store.line c.loop-n.store) (g.S.Store.line c.read_at.new.self) c.in-None.ensures.faults c.in-None.ensures.calls)
 
 pub returns-in-Some-eq0-clause-read : goal.returns-in-Some-eq0-clause-read
 returns-in-Some-eq0-clause-read g c =

@@ -1,7 +1,6 @@
-use Rattle.std.proofs.Common.{◌≡◌, ◌∷◌, [], List, ℕ, Some, refl, ◌∙◌, subst, arith}
+use Rattle.std.proofs.Common.{◌∷◌, [], refl, ◌∙◌, arith}
 use Rattle.line_io.specs.Calls.{Wrote-none}
-use Rattle.journal_scan.specs.Closing.{IsClosing, FoundClosed}
-use Rattle.journal_scan.proofs.AnewLemmas.{if_stopped, none_appended, none_went, on_any, wrote_zero, repair_begins, repair_ends, repair_stops, repair_goes, repair_breaks, repair_fits}
+use Rattle.journal_scan.proofs.AnewLemmas.{if_stopped, none_appended, went_so, on_any, found_told, repair_begins, repair_ends, repair_stops, repair_goes, repair_breaks, repair_fits}
 use Rattle.journal_scan.proofs.repairing.repair.Goals as goal
 use Rattle.journal_scan.proofs.repairing.repair.Goals.{in-Ok-sync, in-Err-sync}
 
@@ -12,7 +11,7 @@ pub returns-in-Err-clause-partly : goal.returns-in-Err-clause-partly
 returns-in-Err-clause-partly g c = none_appended g.T.Readable.form.takes c.args.limit _ _ _ (Wrote-none (g.D.Store.line c.args.to.now))
 
 pub returns-then-put-eq0-clause-partly : goal.returns-then-put-eq0-clause-partly
-returns-then-put-eq0-clause-partly g c = none_appended g.T.Readable.form.takes c.args.limit _ _ _ (none_went _ _ c.put.result (0 ∷ []) (omega arith) c.put.ensures.bytes)
+returns-then-put-eq0-clause-partly g c = none_appended g.T.Readable.form.takes c.args.limit _ _ _ (went_so _ _ c.put.result 0 (0 ∷ []) (omega arith) c.put.ensures.bytes)
 
 pub loop-stretch-init : goal.loop-stretch-init
 loop-stretch-init g c = record {
@@ -23,14 +22,13 @@ loop-stretch-init g c = record {
   safe = c.put.ensures.settled;
   quiet = c.put.ensures.quiet (omega arith);
   so_far = repair_begins g.T.Readable.form.reads g.T.Readable.form.writes g.met.T.Exact.writes_back g.T.Readable.form.takes c.args.limit _ _ _ _ c.in-Ok.scan
-      (wrote_zero _ _ c.put.result (omega arith) (omega arith) c.put.ensures.bytes) refl refl c.in-Ok.ensures.begins;
+      (went_so _ _ c.put.result 1 (0 ∷ []) (omega arith) c.put.ensures.bytes) refl refl c.in-Ok.ensures.begins;
 }
 
 pub returns-in-Ok-None-clause-repaired : goal.returns-in-Ok-None-clause-repaired
 returns-in-Ok-None-clause-repaired g c =
     let before = c.loop-stretch.invariant in
-    let found = λ (bytes : List ℕ) (h : (g.S.Store.line c.args.from.now).told ≡ Some bytes) (k : IsClosing c.args.limit bytes c.loop-stretch.scan).
-    subst (FoundClosed g.T.Readable.form.takes g.T.Readable.form.reads c.args.limit bytes c.loop-stretch.scan c.next.new.self) c.in-Ok-None.field-0-is (c.in-Ok-None.ensures.found c.args.limit bytes (before.held ∙ h) k) in
+    let found = found_told g.T.Readable.form.takes g.T.Readable.form.reads c.args.limit _ _ c.loop-stretch.scan c.next.new.self _ _ before.held c.in-Ok-None.field-0-is c.in-Ok-None.ensures.found in
     elim c.match-sync.branch [
       | in-Ok-sync w ↦ rw w.result-is (repair_ends g.T.Readable.form.reads g.T.Readable.form.writes g.met.T.Exact.writes_back g.T.Readable.form.takes c.args.limit _ _ before.so_far c.next.new.self _ found c.sync.ensures.held c.sync.ensures.more)
       | in-Err-sync w ↦ rw w.result-is tt
@@ -42,8 +40,7 @@ returns-in-Ok-None-clause-partly g c = on_any c.match-sync.result _ (repair_stop
 pub returns-in-Ok-None-clause-unsynced : goal.returns-in-Ok-None-clause-unsynced
 returns-in-Ok-None-clause-unsynced g c =
     let before = c.loop-stretch.invariant in
-    let found = λ (bytes : List ℕ) (h : (g.S.Store.line c.args.from.now).told ≡ Some bytes) (k : IsClosing c.args.limit bytes c.loop-stretch.scan).
-    subst (FoundClosed g.T.Readable.form.takes g.T.Readable.form.reads c.args.limit bytes c.loop-stretch.scan c.next.new.self) c.in-Ok-None.field-0-is (c.in-Ok-None.ensures.found c.args.limit bytes (before.held ∙ h) k) in
+    let found = found_told g.T.Readable.form.takes g.T.Readable.form.reads c.args.limit _ _ c.loop-stretch.scan c.next.new.self _ _ before.held c.in-Ok-None.field-0-is c.in-Ok-None.ensures.found in
     elim c.match-sync.branch [
       | in-Ok-sync w ↦ rw w.result-is tt
       | in-Err-sync w ↦ rw w.result-is (c.loop-stretch.repaired, repair_ends g.T.Readable.form.reads g.T.Readable.form.writes g.met.T.Exact.writes_back g.T.Readable.form.takes c.args.limit _ _ before.so_far c.next.new.self _ found c.sync.ensures.held c.sync.ensures.more)
@@ -55,15 +52,13 @@ returns-in-Err-next-clause-partly g c = repair_stops g.T.Readable.form.reads g.T
 pub returns-in-Err-append_answer-clause-partly : goal.returns-in-Err-append_answer-clause-partly
 returns-in-Err-append_answer-clause-partly g c =
     let before = c.loop-stretch.invariant in
-    let found = λ (bytes : List ℕ) (h : (g.S.Store.line c.args.from.now).told ≡ Some bytes) (k : IsClosing c.args.limit bytes c.loop-stretch.scan).
-    subst (FoundClosed g.T.Readable.form.takes g.T.Readable.form.reads c.args.limit bytes c.loop-stretch.scan c.next.new.self) c.in-Ok-Some.field-0-is (c.in-Ok-Some.ensures.found c.args.limit bytes (before.held ∙ h) k) in
+    let found = found_told g.T.Readable.form.takes g.T.Readable.form.reads c.args.limit _ _ c.loop-stretch.scan c.next.new.self _ _ before.held c.in-Ok-Some.field-0-is c.in-Ok-Some.ensures.found in
     repair_breaks g.T.Readable.form.reads g.T.Readable.form.writes g.met.T.Exact.writes_back g.T.Readable.form.takes c.args.limit _ _ before.so_far c.next.new.self c.in-Ok-Some.stretch found _ _ c.in-Err-append_answer.e c.in-Err-append_answer.ensures.stops
 
 pub returns-in-Err-append_answer-clause-fits : goal.returns-in-Err-append_answer-clause-fits
 returns-in-Err-append_answer-clause-fits g c =
     let before = c.loop-stretch.invariant in
-    let found = λ (bytes : List ℕ) (h : (g.S.Store.line c.args.from.now).told ≡ Some bytes) (k : IsClosing c.args.limit bytes c.loop-stretch.scan).
-    subst (FoundClosed g.T.Readable.form.takes g.T.Readable.form.reads c.args.limit bytes c.loop-stretch.scan c.next.new.self) c.in-Ok-Some.field-0-is (c.in-Ok-Some.ensures.found c.args.limit bytes (before.held ∙ h) k) in
+    let found = found_told g.T.Readable.form.takes g.T.Readable.form.reads c.args.limit _ _ c.loop-stretch.scan c.next.new.self _ _ before.held c.in-Ok-Some.field-0-is c.in-Ok-Some.ensures.found in
     repair_fits g.T.Readable.form.reads g.T.Readable.form.writes g.met.T.Exact.writes_back g.T.Readable.form.takes c.args.limit _ _ before.so_far c.next.new.self c.in-Ok-Some.stretch found _ _ c.in-Err-append_answer.e (omega (arith, c.deref_mut.ensures.len, before.room)) c.in-Err-append_answer.ensures.stops
 
 pub returns-in-Err-append_answer-clause-unsynced : goal.returns-in-Err-append_answer-clause-unsynced
@@ -72,8 +67,7 @@ returns-in-Err-append_answer-clause-unsynced g c = if_stopped g.T.Readable.form.
 pub loop-stretch-preserved : goal.loop-stretch-preserved
 loop-stretch-preserved g c =
     let before = c.loop-stretch.invariant in
-    let found = λ (bytes : List ℕ) (h : (g.S.Store.line c.args.from.now).told ≡ Some bytes) (k : IsClosing c.args.limit bytes c.loop-stretch.scan).
-    subst (FoundClosed g.T.Readable.form.takes g.T.Readable.form.reads c.args.limit bytes c.loop-stretch.scan c.next.new.self) c.in-Ok-Some.field-0-is (c.in-Ok-Some.ensures.found c.args.limit bytes (before.held ∙ h) k) in
+    let found = found_told g.T.Readable.form.takes g.T.Readable.form.reads c.args.limit _ _ c.loop-stretch.scan c.next.new.self _ _ before.held c.in-Ok-Some.field-0-is c.in-Ok-Some.ensures.found in
     record {
       held = c.in-Ok-Some.ensures.held ∙ before.held;
       settled = c.in-Ok-Some.ensures.settled ∙ before.settled;
@@ -87,8 +81,7 @@ loop-stretch-preserved g c =
 pub loop-stretch-preserved-in-Ok-append_answer : goal.loop-stretch-preserved-in-Ok-append_answer
 loop-stretch-preserved-in-Ok-append_answer g c =
     let before = c.loop-stretch.invariant in
-    let found = λ (bytes : List ℕ) (h : (g.S.Store.line c.args.from.now).told ≡ Some bytes) (k : IsClosing c.args.limit bytes c.loop-stretch.scan).
-    subst (FoundClosed g.T.Readable.form.takes g.T.Readable.form.reads c.args.limit bytes c.loop-stretch.scan c.next.new.self) c.in-Ok-Some.field-0-is (c.in-Ok-Some.ensures.found c.args.limit bytes (before.held ∙ h) k) in
+    let found = found_told g.T.Readable.form.takes g.T.Readable.form.reads c.args.limit _ _ c.loop-stretch.scan c.next.new.self _ _ before.held c.in-Ok-Some.field-0-is c.in-Ok-Some.ensures.found in
     record {
       held = c.in-Ok-Some.ensures.held ∙ before.held;
       settled = c.in-Ok-Some.ensures.settled ∙ before.settled;

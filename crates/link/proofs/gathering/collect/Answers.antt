@@ -1,12 +1,12 @@
 use Rattle.std.proofs.Common.{[], ◌++◌, take, refl, sym, ◌∙◌, arith, length-take-le}
-use Rattle.line_io.specs.Calls.{Gave-none, Gave-then}
+use Rattle.line_io.specs.Calls.{Gave-none, Gave-then, read_quiet}
 use Rattle.postcard.specs.Gathers.{sentinel_of}
-use Rattle.link.proofs.HandingLemmas.{on_ok, on_err, read_quiet, uses_none, uses_then, uses_read, uses_last, taken_some}
+use Rattle.link.proofs.HandingLemmas.{on_ok, on_err, uses_then, uses_read, uses_last, taken_some}
 use Rattle.link.proofs.FetchingLemmas.{gathers_no_bytes, gathers_more}
 use Rattle.link.proofs.gathering.collect.Goals as goal
 
 pub loop-n-init : goal.loop-n-init
-loop-n-init g c = (uses_none _, [], Gave-none _, refl, gathers_no_bytes _ _ _ _ _ _ _, refl)
+loop-n-init g c = (record { bytes = []; gave = Gave-none _; few = omega arith }, [], Gave-none _, refl, gathers_no_bytes _ _ _ _ _ _ _, refl)
 
 pub returns-then-is_err-clause-gathered : goal.returns-then-is_err-clause-gathered
 returns-then-is_err-clause-gathered g c =

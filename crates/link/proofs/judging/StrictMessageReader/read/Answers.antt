@@ -1,11 +1,8 @@
-use Rattle.std.proofs.Common.{◌≡◌, Bool, true, false}
+use Rattle.link.specs.Firsts.{not_both}
 use Rattle.link.specs.Lemmas.Facts.{exactly_holds}
 use Rattle.link.specs.Lemmas.Lengths.{by_lengths}
 use Rattle.link.proofs.ReadingLemmas.{holds_none, front_facts, sent_value, not_sent}
 use Rattle.link.proofs.judging.StrictMessageReader.read.Goals as goal
-
-not_both : (b : Bool) → b ≡ false → b ≡ true → ⊥
-not_both b e h = cc
 
 pub returns-then-is_sent-clause-value : goal.returns-then-is_sent-clause-value
 returns-then-is_sent-clause-value g c =
@@ -21,7 +18,7 @@ returns-else-is_sent-clause-value g c =
     let laws = g.F.FrontReader.laws r in
     let facts = front_facts _ _ laws c.message_of_a_frame.ensures.one c.frames_of_a_message.ensures.shortest c.short_is_a_spelling.ensures in
     let lengths = by_lengths (g.F.FrontReader.takes r) facts c.frames_of_a_message.ensures.other c.short_is_the_shortest.ensures in
-    not_sent (g.F.FrontReader.takes r) (g.F.FrontReader.reads r) g.V.Readable.form.writes facts lengths laws.taken (g.met.F.ExactReader.writes_back r) c.args.message.now _ c.in-Ok.value c.args.stretch c.in-Ok.ensures.value.1 _ c.is_sent.ensures (λ x. not_both c.is_sent.result c.if-is_sent.false x)
+    not_sent (g.F.FrontReader.takes r) (g.F.FrontReader.reads r) g.V.Readable.form.writes facts lengths laws.taken (g.met.F.ExactReader.writes_back r) c.args.message.now _ c.in-Ok.value c.args.stretch c.in-Ok.ensures.value.1 _ c.is_sent.ensures (λ x. not_both c.is_sent.result x c.if-is_sent.false)
 
 pub returns-in_ok-had_memory-in-Err-clause-value : goal.returns-in_ok-had_memory-in-Err-clause-value
 returns-in_ok-had_memory-in-Err-clause-value g c p f e t h =

@@ -1,15 +1,19 @@
 use Rattle.std.proofs.Common.{[], ◌∷◌, ◌++◌, Ok, refl, sym, ◌∙◌, subst, append-nil}
 use Rattle.link.specs.Listening.{KeepsAnswer, HasGiven, EndsAtLoss}
 use Rattle.link.specs.Lemmas.Givens.{ended_by}
-use Rattle.link.proofs.HandingLemmas.{handed_none, handed_one, handed_paused}
+use Rattle.link.proofs.HandingLemmas.{handed_none, handed_paused}
 use Rattle.link.proofs.reception.Reception.conclude_each.Goals as goal
 
 pub returns-in-Some-clause-handed : goal.returns-in-Some-clause-handed
 returns-in-Some-clause-handed g c =
     let a = c.in-Some.answer in
-    rw c.in-Ended.is (handed_paused g.H.Hearer.hears g.H.Hearer.laws _ _ _ _ (handed_one g.H.Hearer.hears g.H.Hearer.laws _ _ a _ c.hear.ensures (λ limit s stream given k.
-    ended_by (g.M.MessageReader.judging c.args.messages.now).holds limit s stream (g.M.MessageReader.judging c.args.messages.now).reads given (given ++ (a ∷ [])) k.given
-    (subst (λ o. KeepsAnswer (Ok o) given (given ++ (a ∷ []))) (sym c.in-Some.is ∙ c.ending.ensures limit s stream k.after) refl))) c.pause.ensures.heard)
+    rw c.in-Ended.is (handed_paused g.H.Hearer.hears g.H.Hearer.laws _ _ _ _ (record {
+      answers = a ∷ [];
+      heard = c.hear.ensures;
+      so = λ limit s stream given k.
+          ended_by (g.M.MessageReader.judging c.args.messages.now).holds limit s stream (g.M.MessageReader.judging c.args.messages.now).reads given (given ++ (a ∷ [])) k.given
+          (subst (λ o. KeepsAnswer (Ok o) given (given ++ (a ∷ []))) (sym c.in-Some.is ∙ c.ending.ensures limit s stream k.after) refl);
+    }) c.pause.ensures.heard)
 
 pub returns-in-None-clause-handed : goal.returns-in-None-clause-handed
 returns-in-None-clause-handed g c =

@@ -1,14 +1,14 @@
 use Rattle.std.proofs.Common.{[], ◌++◌, sym, ap, ◌∙◌, subst, append_assoc}
 use Rattle.link.specs.Receivers.{IsBehind}
 use Rattle.link.specs.Listening.{through, Recovers}
-use Rattle.link.proofs.HandingLemmas.{handed_as, handed_next, HasLost, stopped_at, stopped_parts, lost_first, heard_anew, lost_next, recovered}
+use Rattle.link.proofs.HandingLemmas.{handed_as, handed_next, HasLost, stopped_parts, lost_first, heard_anew, lost_next, recovered}
 use Rattle.link.proofs.reception.Reception.hand_by.Goals as goal
 
 pub returns-then-not-goes_on-clause-err : goal.returns-then-not-goes_on-clause-err
 returns-then-not-goes_on-clause-err g c =
     rw c.if-not-goes_on.true (handed_as g.H.Hearer.hears g.H.Hearer.laws _ _ _ _ c.in-Err.ensures.err (λ more all limit s stream given h.
     let stops = all limit s stream given h in (
-      stopped_at g.D.Decoding.inside (g.M.MessageReader.judging c.args.messages.now).holds (g.M.MessageReader.judging c.args.messages.now).reads limit s _ _ _ _ _ stops,
+      record { loss = stops.loss; said = stops.said; parts = stops.parts },
       subst (λ x. IsBehind g.D.Decoding.inside limit s c.pass_over.new.self x) (sym (stopped_parts g.D.Decoding.inside (g.M.MessageReader.judging c.args.messages.now).holds (g.M.MessageReader.judging c.args.messages.now).reads limit s _ _ _ _ _ stops))
           (c.pass_over.ensures.stands limit s _ stops.after),
     )))

@@ -1,8 +1,9 @@
 use Rattle.std.proofs.Common.{◌≡◌, ◌<◌, [], ◌++◌, length, take, refl, sym, ◌∙◌, ap, subst, append_assoc, arith, rules, append-nil}
 use Rattle.link.specs.Link.{begun, IsAt, IsBehind, Hears, HasGiven}
 use Rattle.link.specs.Lemmas.Givens.{kept_given}
-use Rattle.link.specs.Lemmas.Lengths.{none_left}
-use Rattle.link.proofs.HandingLemmas.{on_err, on_ok, lost_by, parts_on, handed_none, handed_next, handed_as, keeps_behind}
+use Rattle.std.proofs.lemmas.List.{nil_from_length}
+use Rattle.link.specs.Lemmas.Lengths.{parts_on}
+use Rattle.link.proofs.HandingLemmas.{on_err, on_ok, lost_by, handed_none, handed_next, handed_as, keeps_behind}
 use Rattle.link.specs.Lemmas.AnswerLaws.{behind_after, answered}
 use Rattle.link.proofs.FirstLemmas.{by_loss}
 use Rattle.link.proofs.reception.Reception.hand_on.Goals as goal
@@ -80,7 +81,7 @@ loop-rest-preserved g c =
 pub returns-clause-ok : goal.returns-clause-ok
 returns-clause-ok g c =
     let k = c.loop-rest.invariant.1 in
-    let none : c.loop-rest.rest.now ≡ [] = none_left c.loop-rest.rest.now (search rules) in
+    let none : c.loop-rest.rest.now ≡ [] = nil_from_length c.loop-rest.rest.now (search rules) in
     rw (k.1 ∙ ap (λ x. k.0 ++ x) none ∙ append-nil k.0) k.2
 
 pub returns-then-is_err-clause-shorter : goal.returns-then-is_err-clause-shorter

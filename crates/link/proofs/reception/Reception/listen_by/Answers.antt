@@ -1,5 +1,6 @@
 use Rattle.std.proofs.Common.{[], length, take, refl, ◌∙◌, ap, arith, Some, length-take-le}
-use Rattle.link.proofs.HandingLemmas.{read_failed, read_quiet, nothing_taken, handed_none, handed_paused, nothing_more, taken_some}
+use Rattle.line_io.specs.Calls.{read_failed, read_quiet}
+use Rattle.link.proofs.HandingLemmas.{handed_none, handed_paused, nothing_more, taken_some}
 use Rattle.link.proofs.reception.Reception.listen_by.Goals as goal
 
 pub returns-in-None-clause-heard : goal.returns-in-None-clause-heard
@@ -18,7 +19,7 @@ returns-in-None-clause-spent g c e = refl
 
 pub returns-in-Some-eq0-clause-heard : goal.returns-in-Some-eq0-clause-heard
 returns-in-Some-eq0-clause-heard g c =
-    let none = nothing_taken c.in-Some-eq0.field-0 c.read.new.room c.in-Some-eq0.field-0-test in (
+    let none = ap (λ n. take n c.read.new.room) c.in-Some-eq0.field-0-test in (
       record {
         bytes = take c.in-Some-eq0.field-0 c.read.new.room;
         read = (

@@ -1,7 +1,7 @@
 use Rattle.std.proofs.Common.{◌≡◌, [], ◌++◌, take, refl, sym, ◌∙◌, ap, subst, append_assoc, rules, append-nil}
 use Rattle.link.specs.Link.{begun, IsAt, IsBehind}
-use Rattle.link.specs.Lemmas.Lengths.{none_left}
-use Rattle.link.proofs.HandingLemmas.{parts_on}
+use Rattle.std.proofs.lemmas.List.{nil_from_length}
+use Rattle.link.specs.Lemmas.Lengths.{parts_on}
 use Rattle.link.specs.Lemmas.AnswerLaws.{behind_after}
 use Rattle.link.proofs.reception.Reception.pass_over.Goals as goal
 
@@ -29,5 +29,5 @@ loop-rest-preserved g c =
 pub returns-clause-stands : goal.returns-clause-stands
 returns-clause-stands g c limit s stream h =
     let k = c.loop-rest.invariant.1 limit s stream h in
-    let none : c.loop-rest.rest.now ≡ [] = none_left c.loop-rest.rest.now (search rules) in
+    let none : c.loop-rest.rest.now ≡ [] = nil_from_length c.loop-rest.rest.now (search rules) in
     rw (k.1 ∙ ap (λ x. k.0 ++ x) none ∙ append-nil k.0) k.2
