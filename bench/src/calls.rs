@@ -3,7 +3,7 @@
 /// What a call answers: whether it was done, and how many bytes it gave.
 #[repr(C)]
 #[derive(Clone, Copy)]
-struct Answer {
+pub struct Answer {
     done: bool,
     count: usize,
 }
@@ -74,9 +74,23 @@ pub struct Calls {
     records: Stream,
 }
 
-fn answered(answer: Answer) -> Option<usize> {
+pub fn answered(answer: Answer) -> Option<usize> {
     answer.done.then_some(answer.count)
 }
+
+/// Calls a C function that takes a record, with what else it takes before that and behind it.
+macro_rules! of_record {
+    ($call:expr, [$($before:expr),*], $record:expr, [$($behind:expr),*]) => {{
+        let crate::data::Record { number, big, text, perhaps, list } = *$record;
+        let (has, perhaps) = (perhaps.is_some(), perhaps.unwrap_or(0));
+        let (call, text_at, list_at) = ($call, text.as_ptr(), list.as_ptr());
+        // SAFETY: slices that don't overlap, each by its pointer and its length.
+        crate::calls::answered(unsafe {
+            call($($before,)* number, big, text_at, text.len(), has, perhaps, list_at, list.len() $(, $behind)*)
+        })
+    }};
+}
+pub(crate) use of_record;
 
 fn into_buffer(call: IntoBuffer, source: &[u8], dest: &mut [u8]) -> Option<usize> {
     // SAFETY: two slices that don't overlap, each by its pointer and its length.
@@ -189,28 +203,7 @@ impl Calls {
 
     #[inline]
     pub fn write(&self, record: &crate::data::Record<'_>, room: &mut [u8]) -> Option<usize> {
-        let crate::data::Record {
-            number,
-            big,
-            text,
-            perhaps,
-            list,
-        } = record;
-        // SAFETY: three slices that don't overlap, each by its pointer and its length.
-        answered(unsafe {
-            (self.write)(
-                *number,
-                *big,
-                text.as_ptr(),
-                text.len(),
-                perhaps.is_some(),
-                perhaps.unwrap_or(0),
-                list.as_ptr(),
-                list.len(),
-                room.as_mut_ptr(),
-                room.len(),
-            )
-        })
+        of_record!(self.write, [], record, [room.as_mut_ptr(), room.len()])
     }
 
     #[inline]

@@ -24,6 +24,19 @@ pub fn write(record: &Record<'_>, room: &mut [u8]) -> Option<usize> {
     Some(len + 1)
 }
 
+/// The same in an array of its own, with how much of it that is.
+pub fn write_array(record: &Record<'_>) -> Option<([u8; 256], usize)> {
+    let mut room = [0; 256];
+    let len = write(record, &mut room)?;
+    Some((room, len))
+}
+
+/// The same in a vector.
+pub fn write_vec(record: &Record<'_>) -> Option<Vec<u8>> {
+    let (room, len) = write_array(record)?;
+    Some(room[..len].to_vec())
+}
+
 /// The record of a frame that is decoded where it lies.
 pub fn read(frame: &mut [u8]) -> Option<Parts> {
     let len = windows::decode_in_place(frame)?;

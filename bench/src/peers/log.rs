@@ -64,11 +64,41 @@ fn record(message: &[u8]) -> Option<(u64, u32, String)> {
 pub fn open(log: &[u8]) -> Found {
     let mut store = log.to_vec();
     store.push(0);
+    read_store(&store)
+}
+
+/// Copies a log into a store, and reads it piece by piece.
+pub fn read_all(log: &[u8]) -> Found {
+    read_store(&log.to_vec())
+}
+
+/// Makes so many records, each where the one before it ends in the room.
+pub fn frame_records(text: &[u8], count: u32, room: &mut [u8]) -> Counted {
+    let mut counted = Counted::default();
+    let Ok(text) = std::str::from_utf8(text) else {
+        return counted;
+    };
+    for which in 0..count {
+        let mut spelling = Spelling::new();
+        spelling.number(which.into());
+        spell_value(&mut spelling, which, text);
+        let place = &mut room[counted.written..];
+        let end = runs::encode(&spelling.bytes[..spelling.len], place);
+        place[end] = 0;
+        counted.written += end + 1;
+        counted.calls += 1;
+    }
+    counted.sum = counted.calls;
+    counted
+}
+
+#[inline]
+fn read_store(store: &[u8]) -> Found {
     let mut found = Found::default();
     let mut receiver = Receiver::new();
     let mut piece = [0; EACH];
     let (mut next, mut through) = (0u64, 0usize);
-    let mut rest = &store[..];
+    let mut rest = store;
     while !rest.is_empty() {
         let piece = read(&mut rest, EACH, &mut piece);
         let heard = store.len() - rest.len();

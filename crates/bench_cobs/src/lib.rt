@@ -8,7 +8,8 @@ ghost use Rattle.cobs.specs.Reports.{frame_size};
 ghost use Rattle.cobs.specs.Sentinel.{masked, frame_for};
 ghost use Rattle.cobs.specs.Whole.{frame_in, decoded_from, decoded_into};
 
-use cobs::{CobsDecoder, CobsEncoder};
+use cobs::{CobsDecoder, CobsEncoder, DecodeResult, DecoderState, EncoderState, PushResult};
+use std::alloc::Global;
 
 /// What a call answers: whether it was done, and how many bytes it gave; 0 where it wasn't.
 #[repr(C)]
@@ -246,6 +247,119 @@ pub extern "C" fn cobs_c_feed(stream: &[u8], found: &mut Found) {
                 counts.values = counts.values.wrapping_add(1);
                 counts.sum = counts.sum.wrapping_add(len as u64);
             }
+            Err(_) => counts.refused = counts.refused.wrapping_add(1),
+        }
+    }
+    *found = counts;
+}
+
+/// As `cobs::encode_with_sentinel`. The caller owes room for the frame.
+#[unsafe(no_mangle)]
+pub extern "C" fn cobs_c_encode_with_sentinel(source: &[u8], dest: &mut [u8], sentinel: u8) -> usize
+    requires { length (shortest_frame source.now) ≤ length dest.old }
+    ensures length { result ≡ length (shortest_frame source.now) }
+    ensures frame { take result dest.new ≡ frame_for sentinel source.now }
+{
+    cobs::encode_with_sentinel(source, dest, sentinel)
+}
+
+/// As `cobs::encode_vec`, with the length of the frame alone. It isn't done where there is no
+/// memory.
+#[unsafe(no_mangle)]
+pub extern "C" fn cobs_c_encode_vec(alloc: Global, source: &[u8]) -> Answer
+    ensures { result.done ≡ true → result.count ≡ length (shortest_frame source.now) }
+{
+    match cobs::encode_vec(alloc, source) {
+        Ok(frame) => Answer {
+            done: true,
+            count: frame.len(),
+        },
+        Err(_) => Answer {
+            done: false,
+            count: 0,
+        },
+    }
+}
+
+/// As `cobs::decode_vec`, with the length of the message alone.
+#[unsafe(no_mangle)]
+pub extern "C" fn cobs_c_decode_vec(alloc: Global, source: &[u8]) -> Answer {
+    match cobs::decode_vec(alloc, source) {
+        Ok(message) => Answer {
+            done: true,
+            count: message.len(),
+        },
+        Err(_) => Answer {
+            done: false,
+            count: 0,
+        },
+    }
+}
+
+/// Puts a byte behind what is written, and answers how much is written then. What has no room is
+/// left out.
+#[inline(always)]
+fn put(dest: &mut [u8], len: usize, byte: u8) -> usize {
+    if dest.len() <= len {
+        return len;
+    }
+    dest[len] = byte;
+    len + 1
+}
+
+/// Puts a code in the place of a placeholder.
+#[inline(always)]
+fn put_code(dest: &mut [u8], at: usize, code: u8)
+    ensures room { length dest.new ≡ length dest.old }
+{
+    if at < dest.len() {
+        dest[at] = code;
+    }
+}
+
+/// A message byte by byte by a `cobs::EncoderState`, whose frame is written to the front of `dest`,
+/// as far as that has room. Answers how many bytes that is.
+#[unsafe(no_mangle)]
+pub extern "C" fn cobs_c_state_push(source: &[u8], dest: &mut [u8]) -> usize {
+    let mut len = put(dest, 0, 0);
+    let mut state = EncoderState::default();
+    for byte in source {
+        if !state.can_push() {
+            return 0;
+        }
+        match state.push(*byte) {
+            PushResult::AddSingle(byte) => len = put(dest, len, byte),
+            PushResult::ModifyFromStartAndSkip((at, code)) => {
+                put_code(dest, at, code);
+                len = put(dest, len, 0);
+            }
+            PushResult::ModifyFromStartAndPushAndSkip((at, code, byte)) => {
+                put_code(dest, at, code);
+                len = put(dest, len, byte);
+                len = put(dest, len, 0);
+            }
+        }
+    }
+    let (at, code) = state.finalize();
+    put_code(dest, at, code);
+    len
+}
+
+/// Hands each byte of a stream to a `cobs::DecoderState`, and counts the messages, the refusals,
+/// and the bytes of the messages.
+#[unsafe(no_mangle)]
+pub extern "C" fn cobs_c_state_feed(stream: &[u8], found: &mut Found) {
+    let mut state = DecoderState::Idle;
+    let mut counts = Found {
+        values: 0,
+        refused: 0,
+        sum: 0,
+    };
+    for byte in stream {
+        match state.feed(*byte) {
+            Ok(DecodeResult::DataComplete) => counts.values = counts.values.wrapping_add(1),
+            Ok(DecodeResult::DataContinue(_)) => counts.sum = counts.sum.wrapping_add(1),
+            Ok(DecodeResult::NoData) | Ok(DecodeResult::DataStart) => {}
             Err(_) => counts.refused = counts.refused.wrapping_add(1),
         }
     }

@@ -10,20 +10,32 @@ mod log;
 mod receiving;
 mod records;
 mod serving;
+mod spelled;
 mod sums;
 mod tables;
 
 pub use crate::answers::{Answer, Counted, Found, Parts};
-pub use crate::codec::{codec_c_decode, codec_c_encode};
+pub use crate::codec::{
+    codec_c_decode, codec_c_decode_owned, codec_c_decode_strict, codec_c_encode,
+};
 pub use crate::frames::{
     link_c_frame_into, postcard_c_allocvec, postcard_c_read_frame, postcard_c_size,
     postcard_c_write_frame,
 };
-pub use crate::listening::{link_c_listen, link_c_receive_each, link_c_send};
-pub use crate::log::{journal_c_append, journal_c_open};
+pub use crate::listening::{
+    link_c_listen, link_c_listen_until, link_c_receive_each, link_c_send, link_c_send_each,
+    link_c_send_for,
+};
+pub use crate::log::{journal_c_append, journal_c_frame, journal_c_open, journal_c_read_all};
 pub use crate::receiving::{
-    link_c_push, link_c_push_owned, link_c_push_strict, link_c_read_in_place, link_c_receive,
+    link_c_gather, link_c_push, link_c_push_for, link_c_push_owned, link_c_push_ref,
+    link_c_push_strict, link_c_read_in_place, link_c_receive, link_c_receive_owned,
+    link_c_receive_owned_strict, link_c_receive_strict,
 };
 pub use crate::serving::{calls_c_listen, calls_c_listen_sealed};
+pub use crate::spelled::{
+    postcard_c_read_frame_for, postcard_c_read_io, postcard_c_read_owned, postcard_c_take,
+    postcard_c_write_by, postcard_c_write_frame_for,
+};
 pub use crate::sums::{sealed_c_read, sealed_c_sum, sealed_c_write};
 pub use crate::tables::{schemas_c_read, schemas_c_table, schemas_c_write};

@@ -2,7 +2,7 @@
 ghost use Rattle.std.specs.Prelude.{⊤, OnOk, OnErr};
 
 use crate::answers::{Counted, Found, NONE_FOUND};
-use journal::{Halt, Journal, Visitor};
+use journal::{Halt, Journal, Visitor, frame_record, read_all};
 use link::{Answer, OfType, Strict};
 use std::alloc::Global;
 use stores::Memory;
@@ -96,4 +96,53 @@ pub extern "C" fn journal_c_open(alloc: Global, log: &[u8], found: &mut Found) {
     if opened.is_ok() {
         *found = counting.found;
     }
+}
+
+/// Reads a log that a store in memory holds by `read_all`, and counts what is read. Nothing is
+/// found where there is no memory for the store, nor where the reading ends early.
+#[unsafe(no_mangle)]
+pub extern "C" fn journal_c_read_all(alloc: Global, log: &[u8], found: &mut Found) {
+    *found = NONE_FOUND;
+    let mut bytes = Vec::new(alloc);
+    if bytes.extend_from_slice(log).is_err() {
+        return;
+    }
+    let mut store = Memory::new(bytes);
+    let mut counting = Counting { found: NONE_FOUND };
+    let read = read_all::<(u32, String), _, _, _, MOST>(
+        alloc,
+        &mut store,
+        0,
+        &Strict(OfType),
+        &mut counting,
+    );
+    if read.is_ok() {
+        *found = counting.found;
+    }
+}
+
+/// Makes so many records with this text by `frame_record`, each where the one before it ends in the
+/// room. Nothing is done where the text isn't UTF-8.
+#[unsafe(no_mangle)]
+pub extern "C" fn journal_c_frame(text: &[u8], count: u32, room: &mut [u8], counted: &mut Counted) {
+    let Ok(text) = std::str::from_utf8(text) else {
+        return;
+    };
+    let mut calls = 0u64;
+    let mut written = 0;
+    for which in 0..count {
+        if room.len() - written < 2 {
+            break;
+        }
+        match frame_record(u64::from(which), &(which, text), &mut room[written..]) {
+            Ok(n) => written += n,
+            Err(_) => break,
+        }
+        calls = calls.wrapping_add(1);
+    }
+    *counted = Counted {
+        calls,
+        sum: calls,
+        written,
+    };
 }

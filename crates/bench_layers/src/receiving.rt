@@ -1,10 +1,11 @@
 //! Receivers that are pushed, and what is received or read at once, as C functions.
 
 use crate::answers::{Found, NONE_FOUND};
-use crate::records::{Lent, Owned, count_answer, parts_of};
+use crate::records::{Lent, OTHER, Owned, count_answer, count_record, parts_of};
 use line_io::memory::In;
 use link::{
     Answer, Decoding, NoMemory, OwnedReceiver, Pushed, Receiver, Reception, read_in_place, receive,
+    receive_by_accumulator, receive_owned, receive_owned_strict, receive_strict,
 };
 use std::alloc::Global;
 
@@ -103,6 +104,59 @@ pub extern "C" fn link_c_push_owned(alloc: Global, stream: &[u8], piece: usize, 
     *found = counts;
 }
 
+/// The same by a receiver for another sentinel.
+#[unsafe(no_mangle)]
+pub extern "C" fn link_c_push_for(alloc: Global, stream: &[u8], piece: usize, found: &mut Found) {
+    let mut receiver = Receiver::<LIMIT>::new_with_sentinel(OTHER);
+    let mut counts = NONE_FOUND;
+    if piece > 0 {
+        for bytes in stream.chunks(piece) {
+            push_piece(alloc, &mut receiver, bytes, &mut counts);
+        }
+    }
+    *found = counts;
+}
+
+/// Pushes a piece until it is used up, of records whose texts are read where they lie.
+fn push_piece_ref(alloc: Global, receiver: &mut Receiver<LIMIT>, piece: &[u8], found: &mut Found) {
+    let mut rest = piece;
+    for _ in 0..piece.len() {
+        if rest.is_empty() {
+            return;
+        }
+        let Pushed { used, answer, .. } = receiver.push_ref::<Lent<'_>>(alloc, rest);
+        match answer {
+            Ok(Some(answer)) => count_lent(Ok(answer), found),
+            Ok(None) => {}
+            Err(e) => count_lent(Err(e), found),
+        }
+        rest = &rest[used..];
+    }
+}
+
+/// Pushes a stream in pieces of `piece` bytes into a receiver by `push_ref`, and counts the
+/// answers. Nothing is found where `piece` is 0.
+#[unsafe(no_mangle)]
+pub extern "C" fn link_c_push_ref(alloc: Global, stream: &[u8], piece: usize, found: &mut Found) {
+    let mut receiver = Receiver::<LIMIT>::new();
+    let mut counts = NONE_FOUND;
+    if piece > 0 {
+        for bytes in stream.chunks(piece) {
+            push_piece_ref(alloc, &mut receiver, bytes, &mut counts);
+        }
+    }
+    *found = counts;
+}
+
+/// Counts the answers of a list.
+fn count_answers(answers: Vec<Answer<Owned>>) -> Found {
+    let mut counts = NONE_FOUND;
+    for answer in answers {
+        count_answer(answer, &mut counts);
+    }
+    counts
+}
+
 /// Receives all that a line gives into a list by `receive`, of which each read gives `each` bytes, and counts it. Nothing is found where
 /// `each` is 0.
 #[unsafe(no_mangle)]
@@ -112,9 +166,69 @@ pub extern "C" fn link_c_receive(alloc: Global, stream: &[u8], each: usize, foun
         return;
     }
     let received = receive::<Owned, In<'_>, LIMIT>(alloc, In::new(stream, each, None));
+    *found = count_answers(received.answers);
+}
+
+/// The same by `receive_strict`.
+#[unsafe(no_mangle)]
+pub extern "C" fn link_c_receive_strict(
+    alloc: Global,
+    stream: &[u8],
+    each: usize,
+    found: &mut Found,
+) {
+    *found = NONE_FOUND;
+    if each == 0 {
+        return;
+    }
+    let received = receive_strict::<Owned, In<'_>, LIMIT>(alloc, In::new(stream, each, None));
+    *found = count_answers(received.answers);
+}
+
+/// The same by `receive_owned`.
+#[unsafe(no_mangle)]
+pub extern "C" fn link_c_receive_owned(
+    alloc: Global,
+    stream: &[u8],
+    each: usize,
+    found: &mut Found,
+) {
+    *found = NONE_FOUND;
+    if each == 0 {
+        return;
+    }
+    let reader = In::new(stream, each, None);
+    *found = count_answers(receive_owned::<Owned, In<'_>>(alloc, reader, LIMIT, 0).answers);
+}
+
+/// The same by `receive_owned_strict`.
+#[unsafe(no_mangle)]
+pub extern "C" fn link_c_receive_owned_strict(
+    alloc: Global,
+    stream: &[u8],
+    each: usize,
+    found: &mut Found,
+) {
+    *found = NONE_FOUND;
+    if each == 0 {
+        return;
+    }
+    let reader = In::new(stream, each, None);
+    *found = count_answers(receive_owned_strict::<Owned, In<'_>>(alloc, reader, LIMIT, 0).answers);
+}
+
+/// The same by `receive_by_accumulator`, which keeps values alone.
+#[unsafe(no_mangle)]
+pub extern "C" fn link_c_gather(alloc: Global, stream: &[u8], each: usize, found: &mut Found) {
+    *found = NONE_FOUND;
+    if each == 0 {
+        return;
+    }
+    let reader = In::new(stream, each, None);
+    let gathered = receive_by_accumulator::<Owned, In<'_>, LIMIT>(alloc, reader);
     let mut counts = NONE_FOUND;
-    for answer in received.answers {
-        count_answer(answer, &mut counts);
+    for record in gathered.values {
+        count_record(record, &mut counts);
     }
     *found = counts;
 }

@@ -9,6 +9,9 @@ pub(crate) type Owned = (u32, u64, String, Option<u16>, Vec<u16>);
 /// The record as it is read where its text lies.
 pub(crate) type Lent<'a> = (u32, u64, &'a str, Option<u16>, Vec<u16>);
 
+/// The sentinel of the rows that aren't for zero.
+pub(crate) const OTHER: u8 = 10;
+
 /// The sum of a list.
 fn total(list: &[u16]) -> u64 {
     let mut sum = 0u64;
@@ -19,7 +22,7 @@ fn total(list: &[u16]) -> u64 {
 }
 
 /// Counts a record: its number, its text's length and the sum of its list.
-fn count_record(record: Owned, found: &mut Found) {
+pub(crate) fn count_record(record: Owned, found: &mut Found) {
     let (number, _, text, _, list) = record;
     found.values = found.values.wrapping_add(1);
     found.sum = found.sum.wrapping_add(u64::from(number));
@@ -39,6 +42,20 @@ pub(crate) fn count_answer(answer: Answer<Owned>, found: &mut Found) {
 
 /// What a record holds.
 pub(crate) fn parts_of(record: Lent<'_>) -> Parts {
+    let (number, big, text, perhaps, list) = record;
+    Parts {
+        number,
+        big,
+        text_len: text.len(),
+        has: perhaps.is_some(),
+        perhaps: perhaps.unwrap_or(0),
+        list_len: list.len(),
+        sum: total(&list),
+    }
+}
+
+/// The same of one with a text of its own.
+pub(crate) fn parts_of_owned(record: Owned) -> Parts {
     let (number, big, text, perhaps, list) = record;
     Parts {
         number,
