@@ -1,6 +1,6 @@
 -- The bits of the bytes that are zero.
 use Rattle.std.proofs.Common.{◌≡◌, ℕ, zero, suc, ◌+◌, ◌*◌, ◌%◌, ◌^◌, ◌⊎◌, inl, inr, subst, take, length-take, ◌<◌, ◌≤◌, Bool, true, false, cond, eqb, ltb, w8, List, [], ◌∷◌, ◌++◌, ◌-◌, length, drop, map, get_or, set, refl, length-drop, ap, sym, ◌∙◌, arith}
-use Rattle.std.proofs.lemmas.List.{get_or-map, length-map, get_or-drop, get_or-take, drop-drop}
+use Rattle.std.proofs.lemmas.List.{length-take-le, get_or-map, length-map, get_or-drop, get_or-take, drop-drop}
 use Rattle.std.proofs.lemmas.Bool.{false≢true, eqb-true, eq-eqb, cases_lt, ltb-true, ltb-false}
 use Rattle.std.proofs.lemmas.Bool.Decides.{eqb_tells}
 use Rattle.std.proofs.lemmas.Nat.{pow_pos, pow-add}
@@ -13,7 +13,9 @@ use Rattle.std.specs.Int.{bit_at}
 use Rattle.std.specs.Simd.Lanes.{mask_l, sel_l, zip2, top}
 use mir.Val.{bits, hbits}
 use Rattle.cobs.specs.Codes.{Marks, Coding}
+use Rattle.cobs.specs.Sentinel.{masked}
 use Rattle.cobs.proofs.CodingLemmas.{is_more, front_at, all_at, zero_at}
+use Rattle.cobs.proofs.MaskingLemmas.{masked_drop, masked_take}
 
 is_one : (b : Bool) → cond {A = ℕ} b 1 0 ≡ 1 → b ≡ true
 is_one true e = refl
@@ -204,8 +206,32 @@ all_above n bytes least long some h k l = elim (cases_lt k 16) [
     same : (at i : ℕ) → at ≤ i → get_or bytes (at + (i - at)) 0 ≡ get_or bytes i 0
     same at i q = ap (λ j. get_or bytes j 0) (omega (arith, q))
 
--- four vectors of which the least lanes aren't zero
-pub all_clear : (bytes least : List ℕ) → length bytes ≡ 64 → length least ≡ 16 → mask_l (map (λ x. eqb x 0) least) ≡ 0
-    → ((j : ℕ) → j < 16 → (get_or least j 0 ≤ get_or (take 16 (drop 0 bytes)) j 0) × (get_or least j 0 ≤ get_or (take 16 (drop 16 bytes)) j 0) × (get_or least j 0 ≤ get_or (take 16 (drop 32 bytes)) j 0) × (get_or least j 0 ≤ get_or (take 16 (drop 48 bytes)) j 0))
+-- 16 lanes of 64 bytes
+pub lanes_long : (bytes : List ℕ) (at : ℕ) → length bytes ≡ 64 → at + 16 ≤ 64 → length (take 16 (drop at bytes)) ≡ 16
+lanes_long bytes at long l = length-take-le 16 (drop at bytes) (omega (arith, length-drop at bytes, long, l))
+
+-- the same of bytes that are XORed
+pub masked_lanes : (s at : ℕ) (bytes : List ℕ) → masked s (take 16 (drop at bytes)) ≡ take 16 (drop at (masked s bytes))
+masked_lanes s at bytes = sym (ap (take 16) (masked_drop s at bytes) ∙ masked_take s 16 (drop at bytes))
+
+-- the least lanes of four vectors, from the lesser ones of two and two
+pub least_of_four : (a b c d f g m a' b' c' d' : List ℕ) → a ≡ a' → b ≡ b' → c ≡ c' → d ≡ d' → length a ≡ 16 → length c ≡ 16
+    → length f ≡ length a → ((k : ℕ) → k < length a → get_or f k 0 ≤ get_or a k 0) → ((k : ℕ) → k < length a → get_or f k 0 ≤ get_or b k 0)
+    → ((k : ℕ) → k < length c → get_or g k 0 ≤ get_or c k 0) → ((k : ℕ) → k < length c → get_or g k 0 ≤ get_or d k 0)
+    → ((k : ℕ) → k < length f → get_or m k 0 ≤ get_or f k 0) → ((k : ℕ) → k < length f → get_or m k 0 ≤ get_or g k 0)
+    → (j : ℕ) → j < 16 → (get_or m j 0 ≤ get_or a' j 0) × (get_or m j 0 ≤ get_or b' j 0) × (get_or m j 0 ≤ get_or c' j 0) × (get_or m j 0 ≤ get_or d' j 0)
+least_of_four a b c d f g m a' b' c' d' ea eb ec ed la lc lf fa fb gc gd mf mg j q =
+    let x : j < length a = omega (arith, la, q) in
+    let y : j < length c = omega (arith, lc, q) in
+    let z : j < length f = omega (arith, lf, x) in (
+      omega (arith, mf j z, fa j x, ap (λ v. get_or v j 0) ea),
+      omega (arith, mf j z, fb j x, ap (λ v. get_or v j 0) eb),
+      omega (arith, mg j z, gc j y, ap (λ v. get_or v j 0) ec),
+      omega (arith, mg j z, gd j y, ap (λ v. get_or v j 0) ed),
+    )
+
+-- 64 bytes of which the least lanes are no less than others that aren't zero
+pub all_clear : (bytes lanes least : List ℕ) → length bytes ≡ 64 → ((j : ℕ) → j < 16 → 0 < get_or least j 0) → ((j : ℕ) → j < 16 → get_or least j 0 ≤ get_or lanes j 0)
+    → ((j : ℕ) → j < 16 → (get_or lanes j 0 ≤ get_or (take 16 (drop 0 bytes)) j 0) × (get_or lanes j 0 ≤ get_or (take 16 (drop 16 bytes)) j 0) × (get_or lanes j 0 ≤ get_or (take 16 (drop 32 bytes)) j 0) × (get_or lanes j 0 ≤ get_or (take 16 (drop 48 bytes)) j 0))
     → (k : ℕ) → k < 64 → 0 < get_or bytes k 0
-all_clear bytes least long few e h k l = omega (arith, all_above 1 bytes least long (λ j q. omega (arith, none_marked least e j (omega (arith, few, q)))) h k l)
+all_clear bytes lanes least long some lower h k l = omega (arith, all_above 1 bytes lanes long (λ j q. omega (arith, some j q, lower j q)) h k l)

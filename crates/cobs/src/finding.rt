@@ -53,13 +53,14 @@ fn before_near(bytes: &[u8], sentinel: u8) -> usize
     bytes.len()
 }
 
-// The same of at most 64 bytes.
+// The same of at most 64 bytes. That a byte is below 256 nothing else says of a buffer that is lent on.
 #[inline(always)]
 pub(crate) fn before_few(bytes: &[u8], sentinel: u8) -> usize
     requires { length bytes.now ≤ 64 }
     ensures within { result ≤ length bytes.now }
     ensures none { (k : ℕ) → k < result → slice_index bytes.now k ≢ sentinel }
     ensures end { result < length bytes.now → slice_index bytes.now result ≡ sentinel }
+    ensures bytes { (k : ℕ) → slice_index bytes.now k < 256 }
 {
     if bytes.len() < 4 {
         return before_near(bytes, sentinel);
@@ -107,10 +108,11 @@ fn before_far(bytes: &[u8], sentinel: u8) -> usize
 
 // The same of any number, by what is quicker.
 #[inline(always)]
-fn before_many(bytes: &[u8], sentinel: u8) -> usize
+pub(crate) fn before_many(bytes: &[u8], sentinel: u8) -> usize
     ensures within { result ≤ length bytes.now }
     ensures none { (k : ℕ) → k < result → slice_index bytes.now k ≢ sentinel }
     ensures end { result < length bytes.now → slice_index bytes.now result ≡ sentinel }
+    ensures bytes { (k : ℕ) → slice_index bytes.now k < 256 }
 {
     if bytes.len() <= 256 {
         before_by_64(bytes, sentinel)
@@ -136,27 +138,4 @@ pub fn before_sentinel(bytes: &[u8], sentinel: u8) -> usize
     } else {
         before_many(bytes, sentinel)
     }
-}
-
-// The same of at most 64 bytes, and that a byte is below 256, which nothing else says of a buffer that is lent on.
-#[inline(always)]
-pub(crate) fn few_end(bytes: &[u8], sentinel: u8) -> usize
-    requires { length bytes.now ≤ 64 }
-    ensures within { result ≤ length bytes.now }
-    ensures none { (k : ℕ) → k < result → slice_index bytes.now k ≢ sentinel }
-    ensures end { result < length bytes.now → slice_index bytes.now result ≡ sentinel }
-    ensures bytes { (k : ℕ) → slice_index bytes.now k < 256 }
-{
-    before_few(bytes, sentinel)
-}
-
-// The same of any number.
-#[inline(always)]
-pub(crate) fn end_in(bytes: &[u8], sentinel: u8) -> usize
-    ensures within { result ≤ length bytes.now }
-    ensures none { (k : ℕ) → k < result → slice_index bytes.now k ≢ sentinel }
-    ensures end { result < length bytes.now → slice_index bytes.now result ≡ sentinel }
-    ensures bytes { (k : ℕ) → slice_index bytes.now k < 256 }
-{
-    before_many(bytes, sentinel)
 }

@@ -167,22 +167,13 @@ fn load_masked(bytes: &[u8], at: usize, sentinel: u8) -> u8x16
     u8x16::splat(sentinel) ^ load::<16>(bytes, at)
 }
 
-// Whether none of 64 bytes is the sentinel; it is only told where that is seen at once.
+// Whether no lane is zero.
 #[inline(always)]
-pub(crate) fn is_clear(bytes: &[u8], sentinel: u8) -> bool
-    requires { length bytes.now ≡ 64 }
-    ensures { result ≡ true → (k : ℕ) → k < 64 → 0 < slice_index (masked sentinel bytes.now) k }
+fn is_positive(lanes: u8x16) -> bool
+    requires { length lanes ≡ 16 }
+    ensures { result ≡ true → (j : ℕ) → j < 16 → 0 < slice_index lanes j }
 {
-    let first = lesser(
-        load_masked(bytes, 0, sentinel),
-        load_masked(bytes, 16, sentinel),
-    );
-    let second = lesser(
-        load_masked(bytes, 32, sentinel),
-        load_masked(bytes, 48, sentinel),
-    );
-    let least = lesser(first, second);
-    least.simd_eq(u8x16::splat(0)).to_bitmask() == 0
+    lanes.simd_eq(u8x16::splat(0)).to_bitmask() == 0
 }
 
 // Of 64 bytes, each XORed with the sentinel, the least in each of the 16 places of a vector.
@@ -205,6 +196,15 @@ pub(crate) fn least_of_64(bytes: &[u8], sentinel: u8) -> u8x16
         load_masked(bytes, 48, sentinel),
     );
     lesser(first, second)
+}
+
+// Whether none of 64 bytes is the sentinel; it is only told where that is seen at once.
+#[inline(always)]
+pub(crate) fn is_clear(bytes: &[u8], sentinel: u8) -> bool
+    requires { length bytes.now ≡ 64 }
+    ensures { result ≡ true → (k : ℕ) → k < 64 → 0 < slice_index (masked sentinel bytes.now) k }
+{
+    is_positive(least_of_64(bytes, sentinel))
 }
 
 // Copies 64 bytes over a buffer, from a place on, each XORed with the sentinel. Answers the least of them, as they were, in each of
@@ -243,17 +243,7 @@ pub(crate) fn copy_clear_64(bytes: &[u8], buffer: &mut [u8], place: usize, senti
     ensures copied { buffer.new ≡ written_over place (masked sentinel bytes.now) buffer.old }
     ensures clear { result ≡ true → (k : ℕ) → k < 64 → 0 < slice_index bytes.now k }
 {
-    let least = copy_least(bytes, buffer, place, sentinel);
-    least.simd_eq(u8x16::splat(0)).to_bitmask() == 0
-}
-
-// Whether no lane is zero.
-#[inline(always)]
-fn is_positive(lanes: u8x16) -> bool
-    requires { length lanes ≡ 16 }
-    ensures { result ≡ true → (j : ℕ) → j < 16 → 0 < slice_index lanes j }
-{
-    lanes.simd_eq(u8x16::splat(0)).to_bitmask() == 0
+    is_positive(copy_least(bytes, buffer, place, sentinel))
 }
 
 // Copies 64 bytes over a buffer, from a place on, each XORed with the sentinel, if none of them is seen to be it: else nothing is
@@ -300,8 +290,7 @@ pub(crate) fn copy_clear(bytes: &[u8], buffer: &mut [u8], place: usize, sentinel
     let fourth = copy_least(&bytes[190..254], buffer, place + 190, sentinel);
     let front = lesser(first, second);
     let back = lesser(third, fourth);
-    let least = lesser(front, back);
-    least.simd_eq(u8x16::splat(0)).to_bitmask() == 0
+    is_positive(lesser(front, back))
 }
 
 // Whether none of 255 bytes, a code and as many as a full block has, is the sentinel; it is only told where that is seen at once.
@@ -318,8 +307,7 @@ pub(crate) fn is_clear_255(bytes: &[u8], sentinel: u8) -> bool
         least_of_64(&bytes[127..191], sentinel),
         least_of_64(&bytes[191..255], sentinel),
     );
-    let least = lesser(first, second);
-    least.simd_eq(u8x16::splat(0)).to_bitmask() == 0
+    is_positive(lesser(first, second))
 }
 
 // Whether 64 bytes are this one: with all of its bits turned they then give 255.
@@ -328,16 +316,7 @@ pub(crate) fn are_all(byte: u8, bytes: &[u8]) -> bool
     requires { length bytes.now ≡ 64 }
     ensures { result ≡ true → (k : ℕ) → k < 64 → slice_index bytes.now k ≡ byte }
 {
-    let turned = byte ^ u8::MAX;
-    let first = lesser(
-        load_masked(bytes, 0, turned),
-        load_masked(bytes, 16, turned),
-    );
-    let second = lesser(
-        load_masked(bytes, 32, turned),
-        load_masked(bytes, 48, turned),
-    );
-    let least = lesser(first, second);
+    let least = least_of_64(bytes, byte ^ u8::MAX);
     least.simd_eq(u8x16::splat(u8::MAX)).to_bitmask() == 0xFFFF
 }
 

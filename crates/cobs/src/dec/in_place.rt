@@ -9,7 +9,7 @@ use super::progress::Progress;
 use super::report::{DecodeError, DecodeReport};
 use super::state::DecoderState;
 use super::window::{put_zeros, same_by_64};
-use crate::finding::{before_by_64, end_in, few_end};
+use crate::finding::{before_by_64, before_few, before_many};
 use crate::masks::mask;
 use crate::moves::{is_clear_255, move_down};
 
@@ -146,7 +146,7 @@ fn decode_near_in_place(buf: &mut [u8], sentinel: u8) -> Option<Result<DecodeRep
     ensures bytes { (k : ℕ) → slice_index buf.old k < 256 }
 {
     if buf.len() <= 64 {
-        let few = few_end(buf, sentinel);
+        let few = before_few(buf, sentinel);
         return Some(decode_ended_in_place(buf, few, sentinel));
     }
     let end = near_end(buf, sentinel);
@@ -200,7 +200,7 @@ fn decode_long_in_place<const COPY: usize>(
         let _ = progress.take_in(buf, byte);
         read += 1;
     }
-    let end = read + end_in(&buf[read..], sentinel);
+    let end = read + before_many(&buf[read..], sentinel);
     while read < end {
         let taken = progress.take_within(buf, read, end, sentinel);
         if 0 < taken {
@@ -222,25 +222,9 @@ fn decode_long_in_place<const COPY: usize>(
     }
 }
 
-// As `decode_in_place_report`.
+// As `decode_in_place_report_with_sentinel`, by the copy of that number.
 #[inline(always)]
-fn decode_unmasked(buf: &mut [u8]) -> Result<DecodeReport, DecodeError>
-    ensures answer { result ≡ in_place (stretch (masked 0 buf.old)) }
-    ensures buffer { buf.new ≡ overwritten (part (stretch (masked 0 buf.old))) buf.old }
-    ensures bytes { (k : ℕ) → slice_index buf.old k < 256 }
-{
-    if let Some(answer) = decode_near_in_place(buf, 0) {
-        return answer;
-    }
-    match decode_long_in_place::<0>(buf, 0) {
-        Ok(DecodeReport { parsed, decoded }) => Ok(DecodeReport { parsed, decoded }),
-        Err(error) => Err(error),
-    }
-}
-
-// As `decode_in_place_report_with_sentinel`.
-#[inline(always)]
-fn decode_masked(buf: &mut [u8], sentinel: u8) -> Result<DecodeReport, DecodeError>
+fn decode_by<const COPY: usize>(buf: &mut [u8], sentinel: u8) -> Result<DecodeReport, DecodeError>
     ensures answer { result ≡ in_place (stretch (masked sentinel buf.old)) }
     ensures buffer { buf.new ≡ overwritten (part (stretch (masked sentinel buf.old))) buf.old }
     ensures bytes { (k : ℕ) → slice_index buf.old k < 256 }
@@ -248,7 +232,7 @@ fn decode_masked(buf: &mut [u8], sentinel: u8) -> Result<DecodeReport, DecodeErr
     if let Some(answer) = decode_near_in_place(buf, sentinel) {
         return answer;
     }
-    match decode_long_in_place::<1>(buf, sentinel) {
+    match decode_long_in_place::<COPY>(buf, sentinel) {
         Ok(DecodeReport { parsed, decoded }) => Ok(DecodeReport { parsed, decoded }),
         Err(error) => Err(error),
     }
@@ -261,9 +245,9 @@ pub(crate) fn decode_either(buf: &mut [u8], sentinel: u8) -> Result<DecodeReport
     ensures buffer { buf.new ≡ overwritten (part (stretch (masked sentinel buf.old))) buf.old }
 {
     if sentinel == 0 {
-        decode_unmasked(buf)
+        decode_by::<0>(buf, 0)
     } else {
-        decode_masked(buf, sentinel)
+        decode_by::<1>(buf, sentinel)
     }
 }
 
@@ -283,7 +267,7 @@ pub fn decode_in_place_report(buf: &mut [u8]) -> Result<DecodeReport, DecodeErro
     ensures rest { drop (length (stretch buf.old)) buf.new
         ≡ drop (length (stretch buf.old)) buf.old }
 {
-    decode_unmasked(buf)
+    decode_by::<0>(buf, 0)
 }
 
 /// As `decode_in_place_report`, of the bytes before the first sentinel, or all where there is none, each XORed with the
@@ -311,7 +295,7 @@ pub fn decode_in_place_report_with_sentinel(
     ensures rest { let n = length (stretch (masked sentinel buf.old)) in
         drop n buf.new ≡ drop n buf.old }
 {
-    decode_masked(buf, sentinel)
+    decode_by::<1>(buf, sentinel)
 }
 
 /// As `decode_in_place_report`, with the length of the message alone.

@@ -114,7 +114,6 @@ pub fn encode_with_sentinel(source: &[u8], dest: &mut [u8], sentinel: u8) -> usi
 /// ```
 /// assert_eq!(encoded_length(&[10, 11, 0, 12]), 5);
 /// ```
-#[tactic(auto, using(crate::proofs::LengthsLemmas::frame_at_least, crate::proofs::LengthsLemmas::frame_at_most))]
 #[inline(never)]
 pub fn encoded_length(source: &[u8]) -> usize
     ensures frame { result ≡ length (shortest_frame source.now) }

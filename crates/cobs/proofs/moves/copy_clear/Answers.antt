@@ -1,77 +1,124 @@
-use Rattle.std.proofs.Common.{◌≡◌, ◌+◌, ◌-◌, ◌<◌, ◌≤◌, ℕ, List, eqb, w8, length, length-take, length-drop, take, drop, get_or, inl, inr, refl, sym, ap, ◌∙◌, arith}
-use Rattle.std.proofs.lemmas.Bool.{cases_lt, eqb-true}
+use Rattle.std.proofs.Common.{◌≡◌, ◌+◌, ◌-◌, ◌<◌, ◌≤◌, ℕ, List, length, length-take, length-drop, take, drop, get_or, inl, inr, refl, sym, ap, ◌∙◌, arith}
+use Rattle.std.proofs.lemmas.Bool.{cases_lt}
 use Rattle.std.proofs.lemmas.List.{length-take-le, get_or-take, get_or-drop, take_all}
-use Rattle.std.proofs.lemmas.Simd.{bitmask_splat}
 use Rattle.cobs.specs.InPlace.{written_over}
 use Rattle.cobs.specs.Sentinel.{masked}
-use Rattle.cobs.proofs.LanesLemmas.{all_above, none_marked}
+use Rattle.cobs.proofs.LanesLemmas.{all_clear, least_of_four}
 use Rattle.cobs.proofs.WrittenLemmas.{written_next}
 use Rattle.cobs.proofs.moves.copy_clear.Goals as goal
 
-part : (from m : ℕ) (bytes : List ℕ) → ((k : ℕ) → k < 64 → 1 ≤ get_or (take m (drop from bytes)) k 0) → 64 ≤ m → (k : ℕ) → from ≤ k → k < from + 64 → 0 < get_or bytes k 0
-part from m bytes h l k a b =
-    let e : get_or (take m (drop from bytes)) (k - from) 0 ≡ get_or bytes k 0 =
-    get_or-take m (drop from bytes) (k - from) 0 (omega arith)
+long : (from : ℕ) (bytes : List ℕ) → length bytes ≡ 254 → from + 64 ≤ 254
+    → length (take 64 (drop from bytes)) ≡ 64
+long from bytes e l = omega (arith, length-take 64 (drop from bytes), length-drop from bytes, e, l)
+
+-- the least lanes of 64 bytes
+abbrev Lanes : List ℕ → List ℕ → Type 0
+Lanes lanes bytes = (j : ℕ) → j < 16 → (get_or lanes j 0 ≤ get_or (take 16 (drop 0 bytes)) j 0)
+    × (get_or lanes j 0 ≤ get_or (take 16 (drop 16 bytes)) j 0)
+    × (get_or lanes j 0 ≤ get_or (take 16 (drop 32 bytes)) j 0)
+    × (get_or lanes j 0 ≤ get_or (take 16 (drop 48 bytes)) j 0)
+
+part : (from : ℕ) (bytes lanes least : List ℕ) → length bytes ≡ 254 → from + 64 ≤ 254
+    → ((j : ℕ) → j < 16 → 0 < get_or least j 0)
+    → ((j : ℕ) → j < 16 → get_or least j 0 ≤ get_or lanes j 0)
+    → Lanes lanes (take 64 (drop from bytes))
+    → (k : ℕ) → from ≤ k → k < from + 64 → 0 < get_or bytes k 0
+part from bytes lanes least count l some lower h k a b =
+    let e : get_or (take 64 (drop from bytes)) (k - from) 0 ≡ get_or bytes k 0 =
+    get_or-take 64 (drop from bytes) (k - from) 0 (omega (arith, a, b))
     ∙ get_or-drop from bytes (k - from) 0
-    ∙ ap (λ j. get_or bytes j 0) (omega arith) in
-    omega (arith, e, h (k - from) (omega arith))
+    ∙ ap (λ j. get_or bytes j 0) (omega (arith, a)) in
+    omega (
+      arith,
+      e,
+      all_clear (take 64 (drop from bytes)) lanes least (long from bytes count l)
+          some lower h (k - from) (omega (arith, a, b)),
+    )
 
--- a quarter whose least bytes aren't zero
-quarter : (bytes lanes least : List ℕ) → length bytes ≡ 64 → ((j : ℕ) → j < 16 → 1 ≤ get_or least j 0) → ((j : ℕ) → j < 16 → get_or least j 0 ≤ get_or lanes j 0)
-    → ((j : ℕ) → j < 16 → (get_or lanes j 0 ≤ get_or (take 16 (drop 0 bytes)) j 0) × (get_or lanes j 0 ≤ get_or (take 16 (drop 16 bytes)) j 0) × (get_or lanes j 0 ≤ get_or (take 16 (drop 32 bytes)) j 0) × (get_or lanes j 0 ≤ get_or (take 16 (drop 48 bytes)) j 0))
-    → (k : ℕ) → k < 64 → 1 ≤ get_or bytes k 0
-quarter bytes lanes least long some lower h =
-    all_above 1 bytes least long some (λ j q. (
-      omega (arith, lower j q, (h j q).0),
-      omega (arith, lower j q, (h j q).1),
-      omega (arith, lower j q, (h j q).2),
-      omega (arith, lower j q, (h j q).3),
-    ))
+all_parts : (bytes a b d e least : List ℕ) → length bytes ≡ 254
+    → ((j : ℕ) → j < 16 → 0 < get_or least j 0)
+    → ((j : ℕ) → j < 16 → (get_or least j 0 ≤ get_or a j 0)
+    × (get_or least j 0 ≤ get_or b j 0)
+    × (get_or least j 0 ≤ get_or d j 0) × (get_or least j 0 ≤ get_or e j 0))
+    → Lanes a (take 64 (drop 0 bytes)) → Lanes b (take 64 (drop 64 bytes))
+    → Lanes d (take 64 (drop 128 bytes)) → Lanes e (take 64 (drop 190 bytes)) → (k : ℕ)
+    → k < 254 → 0 < get_or bytes k 0
+all_parts bytes a b d e least count some four ha hb hd he k l = elim (cases_lt k 64) [
+  | inl x ↦ part 0 bytes a least count (omega arith) some (λ j q. (four j q).0) ha k (omega arith)
+      (omega (arith, x))
+  | inr x ↦ elim (cases_lt k 128) [
+    | inl y ↦ part 64 bytes b least count (omega arith) some (λ j q. (four j q).1) hb k x
+        (omega (arith, y))
+    | inr y ↦ elim (cases_lt k 192) [
+      | inl z ↦ part 128 bytes d least count (omega arith) some (λ j q. (four j q).2) hd k y
+          (omega (arith, z))
+      | inr z ↦ part 190 bytes e least count (omega arith) some (λ j q. (four j q).3) he k
+          (omega (arith, z)) (omega (arith, l))
+    ]
+  ]
+]
 
-long : (from m : ℕ) (bytes : List ℕ) → length bytes ≡ 254 → m ≡ 64 → from + 64 ≤ 254 → length (take m (drop from bytes)) ≡ 64
-long from m bytes e is l = omega (arith, length-take m (drop from bytes), length-drop from bytes, e, is, l)
+-- four writes, of which the last begins among the bytes of the third
+copied : (s place : ℕ) (m old b1 b2 b3 b4 : List ℕ) → length m ≡ 254 → place + 254 ≤ length old
+    → b1 ≡ written_over place (masked s (take 64 m)) old
+    → b2 ≡ written_over (place + 64) (masked s (take 64 (drop 64 m))) b1
+    → b3 ≡ written_over (place + 128) (masked s (take 64 (drop 128 m))) b2
+    → b4 ≡ written_over (place + 190) (masked s (take 64 (drop 190 m))) b3
+    → b4 ≡ written_over place (masked s m) old
+copied s place m old b1 b2 b3 b4 count fits w1 w2 w3 w4 =
+    let room : place + length m ≤ length old = omega (arith, count, fits) in
+    let two : b2 ≡ written_over place (masked s (take (64 + 64) m)) old =
+    w2 ∙ written_next s place 64 64 64 (place + 64) m (take 64 (drop 64 m)) old b1 w1 refl
+    (omega arith) (omega arith) (omega (arith, count)) room (omega arith) in
+    let three : b3 ≡ written_over place (masked s (take (128 + 64) m)) old =
+    w3 ∙ written_next s place 128 128 64 (place + 128) m (take 64 (drop 128 m)) old b2 two refl
+    (omega arith) (omega arith) (omega (arith, count)) room (omega arith) in
+    w4
+    ∙ written_next s place 192 190 64 (place + 190) m (take 64 (drop 190 m)) old b3 three refl
+    (omega arith) (omega arith) (omega (arith, count)) room (omega arith)
+    ∙ ap (λ x. written_over place (masked s x) old) (take_all 254 m (omega (arith, count)))
 
 pub slice_bounds-copy_least-end : goal.slice_bounds-copy_least-end
-slice_bounds-copy_least-end c = sym (length-take-le 64 c.args.bytes.now (omega (arith, c.requires.count)))
+slice_bounds-copy_least-end c =
+    sym (length-take-le 64 c.args.bytes.now (omega (arith, c.requires.count)))
 
 pub copy_least-first-requires-clause-count : goal.copy_least-first-requires-clause-count
-copy_least-first-requires-clause-count c = length-take-le 64 c.args.bytes.now (omega (arith, c.requires.count))
+copy_least-first-requires-clause-count c = long 0 c.args.bytes.now c.requires.count (omega arith)
+
+pub copy_least-second-requires-clause-count : goal.copy_least-second-requires-clause-count
+copy_least-second-requires-clause-count c = long 64 c.args.bytes.now c.requires.count (omega arith)
+
+pub copy_least-third-requires-clause-count : goal.copy_least-third-requires-clause-count
+copy_least-third-requires-clause-count c = long 128 c.args.bytes.now c.requires.count (omega arith)
+
+pub copy_least-fourth-requires-clause-count : goal.copy_least-fourth-requires-clause-count
+copy_least-fourth-requires-clause-count c = long 190 c.args.bytes.now c.requires.count (omega arith)
+
+pub is_positive-requires : goal.is_positive-requires
+is_positive-requires c = c.lesser.ensures.long ∙ c.lesser-front.ensures.long
+    ∙ c.copy_least-first.ensures.long
 
 pub returns-clause-copied : goal.returns-clause-copied
 returns-clause-copied c =
-    let s = c.args.sentinel in
-    let place = c.args.place in
-    let m = c.args.bytes.now in
-    let old = c.args.buffer.now in
-    let room : place + length m ≤ length old = omega (arith, c.requires.count, c.requires.room) in
-    let one : c.copy_least-first.new.buffer ≡ written_over place (masked s (take 64 m)) old = c.copy_least-first.ensures.copied in
-    let two : c.copy_least-second.new.buffer ≡ written_over place (masked s (take (64 + 64) m)) old =
-    c.copy_least-second.ensures.copied ∙ written_next s place 64 64 64 (place + 64) m (take 64 (drop 64 m)) old c.copy_least-first.new.buffer one refl (omega arith) (omega arith) (omega (arith, c.requires.count)) room (omega arith) in
-    let three : c.copy_least-third.new.buffer ≡ written_over place (masked s (take (128 + 64) m)) old =
-    c.copy_least-third.ensures.copied ∙ written_next s place 128 128 64 (place + 128) m (take 64 (drop 128 m)) old c.copy_least-second.new.buffer two refl (omega arith) (omega arith) (omega (arith, c.requires.count)) room (omega arith) in
+    copied c.args.sentinel c.args.place c.args.bytes.now c.args.buffer.now
+    c.copy_least-first.new.buffer c.copy_least-second.new.buffer c.copy_least-third.new.buffer
+    c.copy_least-fourth.new.buffer
+    c.requires.count c.requires.room c.copy_least-first.ensures.copied
+    c.copy_least-second.ensures.copied c.copy_least-third.ensures.copied
     c.copy_least-fourth.ensures.copied
-    ∙ written_next s place 192 190 64 (place + 190) m (take 64 (drop 190 m)) old c.copy_least-third.new.buffer three refl (omega arith) (omega arith) (omega (arith, c.requires.count)) room (omega arith)
-    ∙ ap (λ x. written_over place (masked s x) old) (take_all 254 m (omega (arith, c.requires.count)))
 
 pub returns-clause-clear : goal.returns-clause-clear
-returns-clause-clear c = λ t k l.
-    let bytes = c.args.bytes.now in
-    let first = c.lesser-front.ensures in
-    let second = c.lesser-back.ensures in
-    let all = c.lesser-least.ensures in
-    let least = c.lesser-least.result in
-    let a : length c.lesser-front.result ≡ 16 = first.long ∙ c.copy_least-first.ensures.long in
-    let b : length c.lesser-back.result ≡ 16 = second.long ∙ c.copy_least-third.ensures.long in
-    let d : length least ≡ 16 = all.long ∙ a in
-    let e = sym (bitmask_splat w8 eqb least 16 0 d (omega arith)) ∙ eqb-true _ _ t in
-    let some : (j : ℕ) → j < 16 → 1 ≤ get_or least j 0 = λ j q. omega (arith, none_marked least e j (omega (arith, d, q))) in
-    elim (cases_lt k 64) [
-      | inl x ↦ part 0 64 bytes (quarter (take 64 bytes) c.copy_least-first.result least (long 0 64 bytes c.requires.count (omega arith) (omega arith)) some (λ j q. omega (arith, all.first j (omega (arith, a, q)), first.first j (omega (arith, a, first.long, q)))) c.copy_least-first.ensures.lanes) (omega arith) k (omega arith) (omega arith)
-      | inr x ↦ elim (cases_lt k 128) [
-        | inl y ↦ part 64 64 bytes (quarter (take 64 (drop 64 bytes)) c.copy_least-second.result least (long 64 64 bytes c.requires.count (omega arith) (omega arith)) some (λ j q. omega (arith, all.first j (omega (arith, a, q)), first.second j (omega (arith, a, first.long, q)))) c.copy_least-second.ensures.lanes) (omega arith) k (omega arith) (omega arith)
-        | inr y ↦ elim (cases_lt k 192) [
-          | inl z ↦ part 128 64 bytes (quarter (take 64 (drop 128 bytes)) c.copy_least-third.result least (long 128 64 bytes c.requires.count (omega arith) (omega arith)) some (λ j q. omega (arith, all.second j (omega (arith, a, q)), second.first j (omega (arith, b, second.long, q)))) c.copy_least-third.ensures.lanes) (omega arith) k (omega arith) (omega arith)
-          | inr z ↦ part 190 64 bytes (quarter (take 64 (drop 190 bytes)) c.copy_least-fourth.result least (long 190 64 bytes c.requires.count (omega arith) (omega arith)) some (λ j q. omega (arith, all.second j (omega (arith, a, q)), second.second j (omega (arith, b, second.long, q)))) c.copy_least-fourth.ensures.lanes) (omega arith) k (omega arith) (omega arith)
-        ]
-      ]
-    ]
+returns-clause-clear c = λ t.
+    let a = c.copy_least-first in
+    let b = c.copy_least-second in
+    let d = c.copy_least-third in
+    let e = c.copy_least-fourth in
+    let front = c.lesser-front in
+    let back = c.lesser-back in
+    all_parts c.args.bytes.now a.result b.result d.result e.result c.lesser.result c.requires.count
+    (c.is_positive.ensures t)
+    (least_of_four a.result b.result d.result e.result front.result back.result c.lesser.result
+    a.result b.result d.result e.result refl refl refl refl a.ensures.long d.ensures.long
+    front.ensures.long front.ensures.first front.ensures.second back.ensures.first
+    back.ensures.second c.lesser.ensures.first c.lesser.ensures.second)
+    a.ensures.lanes b.ensures.lanes d.ensures.lanes e.ensures.lanes

@@ -1,10 +1,13 @@
-use Rattle.std.proofs.Common.{◌∙◌, sym, eqb, w8, arith}
-use Rattle.std.proofs.lemmas.Bool.{eqb-true}
-use Rattle.std.proofs.lemmas.Simd.{bitmask_splat}
-use Rattle.cobs.proofs.LanesLemmas.{all_clear}
+use Rattle.cobs.proofs.LanesLemmas.{all_above}
 use Rattle.cobs.proofs.moves.copy_clear_64.Goals as goal
 
+pub is_positive-requires : goal.is_positive-requires
+is_positive-requires c = c.copy_least.ensures.long
+
+pub returns-clause-copied : goal.returns-clause-copied
+returns-clause-copied c = c.copy_least.ensures.copied
+
 pub returns-clause-clear : goal.returns-clause-clear
-returns-clause-clear c = λ t.
-    let least = c.copy_least-least.ensures in
-    all_clear c.args.bytes.now c.copy_least-least.result c.requires.count least.long (sym (bitmask_splat w8 eqb c.copy_least-least.result 16 0 least.long (omega arith)) ∙ eqb-true _ _ t) least.lanes
+returns-clause-clear c =
+    λ t. all_above 1 c.args.bytes.now c.copy_least.result c.requires.count (c.is_positive.ensures t)
+    c.copy_least.ensures.lanes

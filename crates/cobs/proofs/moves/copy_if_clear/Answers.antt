@@ -1,75 +1,56 @@
-use Rattle.std.proofs.Common.{◌≡◌, ◌∙◌, ◌+◌, ◌<◌, ◌≤◌, ℕ, List, get_or, ap, sym, length, take, drop, length-drop, arith}
-use Rattle.std.proofs.lemmas.List.{length-take-le, take_all}
+use Rattle.std.proofs.Common.{◌≡◌, ◌∙◌, ◌+◌, ◌≤◌, ℕ, List, ap, length, take, drop, arith}
 use Rattle.cobs.specs.InPlace.{written_over}
 use Rattle.cobs.specs.Sentinel.{masked}
-use Rattle.cobs.proofs.LanesLemmas.{all_above}
-use Rattle.cobs.proofs.MaskingLemmas.{masked_length, masked_take, masked_drop, masked_zero}
-use Rattle.cobs.proofs.WrittenLemmas.{written_next}
+use Rattle.cobs.proofs.LanesLemmas.{all_above, lanes_long, masked_lanes, least_of_four}
+use Rattle.cobs.proofs.MaskingLemmas.{masked_length, masked_zero}
+use Rattle.cobs.proofs.WrittenLemmas.{written_four}
 use Rattle.cobs.proofs.moves.copy_if_clear.Goals as goal
-use Rattle.cobs.proofs.moves.copy_if_clear.Goals.{After-lesser-least}
 
-module _ (c : After-lesser-least) where
-  abbrev bytes : List ℕ
-  bytes = masked c.args.sentinel c.args.bytes.now
+count : (s : ℕ) (bytes : List ℕ) → length bytes ≡ 64 → length (masked s bytes) ≡ 64
+count s bytes e = masked_length s bytes ∙ e
 
-  part : (at : ℕ) → masked c.args.sentinel (take 16 (drop at c.args.bytes.now)) ≡ take 16 (drop at bytes)
-  part at = sym (ap (take 16) (masked_drop c.args.sentinel at c.args.bytes.now) ∙ masked_take c.args.sentinel 16 (drop at c.args.bytes.now))
+long : (s at : ℕ) (bytes lanes : List ℕ) → length bytes ≡ 64 → at + 16 ≤ 64
+    → lanes ≡ masked s (take 16 (drop at bytes)) → length lanes ≡ 16
+long s at bytes lanes e l is = ap length is ∙ masked_length s (take 16 (drop at bytes))
+    ∙ lanes_long bytes at e l
 
-  count : length bytes ≡ 64
-  count = masked_length c.args.sentinel c.args.bytes.now ∙ c.requires.count
-
-  long : (at : ℕ) → at + 16 ≤ 64 → length (take 16 (drop at bytes)) ≡ 16
-  long at l = length-take-le 16 (drop at bytes) (omega (arith, length-drop at bytes, count, l))
-
-  l0 : c.load_masked-a.result ≡ take 16 (drop 0 bytes)
-  l0 = c.load_masked-a.ensures ∙ part 0
-
-  l1 : c.load_masked-b.result ≡ take 16 (drop 16 bytes)
-  l1 = c.load_masked-b.ensures ∙ part 16
-
-  l2 : c.load_masked-c.result ≡ take 16 (drop 32 bytes)
-  l2 = c.load_masked-c.ensures ∙ part 32
-
-  l3 : c.load_masked-d.result ≡ take 16 (drop 48 bytes)
-  l3 = c.load_masked-d.ensures ∙ part 48
-
-  first_long : length c.lesser-first.result ≡ 16
-  first_long = c.lesser-first.ensures.long ∙ ap length l0 ∙ long 0 (omega arith)
-
-  second_long : length c.lesser-second.result ≡ 16
-  second_long = c.lesser-second.ensures.long ∙ ap length l2 ∙ long 32 (omega arith)
-
-  least_long : length c.lesser-least.result ≡ 16
-  least_long = c.lesser-least.ensures.long ∙ first_long
-
-  all_positive : ((j : ℕ) → j < 16 → 0 < get_or c.lesser-least.result j 0) → (k : ℕ) → k < 64 → 0 < get_or bytes k 0
-  all_positive some k l = all_above 1 bytes c.lesser-least.result count (λ j q. some j q)
-      (λ j q.
-      let least = c.lesser-least.ensures in
-      let one = least.first j (omega (arith, first_long, q)) in
-      let two = least.second j (omega (arith, first_long, q)) in (
-        omega (arith, one, rw l0 at (c.lesser-first.ensures.first j (omega (arith, first_long, c.lesser-first.ensures.long, q)))),
-        omega (arith, one, rw l1 at (c.lesser-first.ensures.second j (omega (arith, first_long, c.lesser-first.ensures.long, q)))),
-        omega (arith, two, rw l2 at (c.lesser-second.ensures.first j (omega (arith, second_long, c.lesser-second.ensures.long, q)))),
-        omega (arith, two, rw l3 at (c.lesser-second.ensures.second j (omega (arith, second_long, c.lesser-second.ensures.long, q)))),
-      )) k l
+pub is_positive-requires : goal.is_positive-requires
+is_positive-requires c = c.lesser-least.ensures.long ∙ c.lesser-first.ensures.long
+    ∙ long c.args.sentinel 0 c.args.bytes.now c.load_masked-a.result c.requires.count (omega arith)
+    c.load_masked-a.ensures
 
 pub returns-clause-clear : goal.returns-clause-clear
-returns-clause-clear c = λ _. all_positive (goal.at.returns-clause-clear c).After-lesser-least (c.is_positive.ensures c.if-not-is_positive.false)
+returns-clause-clear c = λ _.
+    let s = c.args.sentinel in
+    let bytes = c.args.bytes.now in
+    all_above 1 (masked s bytes) c.lesser-least.result (count s bytes c.requires.count)
+    (c.is_positive.ensures c.if-not-is_positive.false)
+    (least_of_four c.load_masked-a.result c.load_masked-b.result c.load_masked-c.result
+    c.load_masked-d.result c.lesser-first.result c.lesser-second.result c.lesser-least.result
+    (take 16 (drop 0 (masked s bytes))) (take 16 (drop 16 (masked s bytes)))
+    (take 16 (drop 32 (masked s bytes))) (take 16 (drop 48 (masked s bytes)))
+    (c.load_masked-a.ensures ∙ masked_lanes s 0 bytes)
+    (c.load_masked-b.ensures ∙ masked_lanes s 16 bytes)
+    (c.load_masked-c.ensures ∙ masked_lanes s 32 bytes)
+    (c.load_masked-d.ensures ∙ masked_lanes s 48 bytes)
+    (long s 0 bytes c.load_masked-a.result c.requires.count (omega arith) c.load_masked-a.ensures)
+    (long s 32 bytes c.load_masked-c.result c.requires.count (omega arith)
+    c.load_masked-c.ensures)
+    c.lesser-first.ensures.long c.lesser-first.ensures.first c.lesser-first.ensures.second
+    c.lesser-second.ensures.first c.lesser-second.ensures.second c.lesser-least.ensures.first
+    c.lesser-least.ensures.second)
 
 pub returns-clause-copied : goal.returns-clause-copied
 returns-clause-copied c = λ _.
-    let e = (goal.at.returns-clause-copied c).After-lesser-least in
-    let place = c.args.place in
-    let m = masked c.args.sentinel c.args.bytes.now in
-    let old = c.args.buffer.now in
-    let room : place + length m ≤ length old = omega (arith, count e, c.requires.room) in
-    let one : c.store.new.buffer ≡ written_over place (masked 0 (take 16 m)) old = c.store.ensures ∙ ap (λ x. written_over place (masked 0 x) old) (l0 e) in
-    let two : c.store-2.new.buffer ≡ written_over place (masked 0 (take (16 + 16) m)) old =
-    c.store-2.ensures ∙ written_next 0 place 16 16 16 (place + 16) m c.load_masked-b.result old c.store.new.buffer one (l1 e) (omega arith) (omega arith) (omega (arith, count e)) room (omega arith) in
-    let three : c.store-3.new.buffer ≡ written_over place (masked 0 (take (32 + 16) m)) old =
-    c.store-3.ensures ∙ written_next 0 place 32 32 16 (place + 32) m c.load_masked-c.result old c.store-2.new.buffer two (l2 e) (omega arith) (omega arith) (omega (arith, count e)) room (omega arith) in
-    c.store-4.ensures
-    ∙ written_next 0 place 48 48 16 (place + 48) m c.load_masked-d.result old c.store-3.new.buffer three (l3 e) (omega arith) (omega arith) (omega (arith, count e)) room (omega arith)
-    ∙ ap (λ x. written_over place (masked 0 x) old) (take_all 64 m (omega (arith, count e)))
-    ∙ ap (λ x. written_over place x old) (masked_zero m)
+    let s = c.args.sentinel in
+    let bytes = c.args.bytes.now in
+    written_four 0 c.args.place (masked s bytes) c.args.buffer.now c.store.new.buffer
+    c.store-2.new.buffer c.store-3.new.buffer c.store-4.new.buffer
+    c.load_masked-a.result c.load_masked-b.result c.load_masked-c.result c.load_masked-d.result
+    (count s bytes c.requires.count) c.requires.room
+    (c.load_masked-a.ensures ∙ masked_lanes s 0 bytes)
+    (c.load_masked-b.ensures ∙ masked_lanes s 16 bytes)
+    (c.load_masked-c.ensures ∙ masked_lanes s 32 bytes)
+    (c.load_masked-d.ensures ∙ masked_lanes s 48 bytes)
+    c.store.ensures c.store-2.ensures c.store-3.ensures c.store-4.ensures
+    ∙ ap (λ x. written_over c.args.place x c.args.buffer.now) (masked_zero (masked s bytes))

@@ -1,23 +1,30 @@
-use Rattle.std.proofs.Common.{◌≡◌, ◌∙◌, ◌+◌, ◌≤◌, ap, length, take, arith}
-use Rattle.std.proofs.lemmas.List.{take_all}
-use Rattle.cobs.specs.InPlace.{written_over}
-use Rattle.cobs.specs.Sentinel.{masked}
-use Rattle.cobs.proofs.WrittenLemmas.{written_next}
+use Rattle.std.proofs.Common.{◌∙◌, ap, length, take, drop, arith}
+use Rattle.cobs.proofs.LanesLemmas.{lanes_long, least_of_four}
+use Rattle.cobs.proofs.WrittenLemmas.{written_four}
 use Rattle.cobs.proofs.moves.copy_least.Goals as goal
 
 pub returns-clause-copied : goal.returns-clause-copied
 returns-clause-copied c =
-    let s = c.args.sentinel in
-    let place = c.args.place in
-    let m = c.args.bytes.now in
-    let old = c.args.buffer.now in
-    let room : place + length m ≤ length old = omega (arith, c.requires.count, c.requires.room) in
-    let a : c.load-a.result ≡ take 16 m = c.load-a.ensures in
-    let one : c.store.new.buffer ≡ written_over place (masked s (take 16 m)) old = c.store.ensures ∙ ap (λ x. written_over place (masked s x) old) a in
-    let two : c.store-2.new.buffer ≡ written_over place (masked s (take (16 + 16) m)) old =
-    c.store-2.ensures ∙ written_next s place 16 16 16 (place + 16) m c.load-b.result old c.store.new.buffer one c.load-b.ensures (omega arith) (omega arith) (omega (arith, c.requires.count)) room (omega arith) in
-    let three : c.store-3.new.buffer ≡ written_over place (masked s (take (32 + 16) m)) old =
-    c.store-3.ensures ∙ written_next s place 32 32 16 (place + 32) m c.load-c.result old c.store-2.new.buffer two c.load-c.ensures (omega arith) (omega arith) (omega (arith, c.requires.count)) room (omega arith) in
-    c.store-4.ensures
-    ∙ written_next s place 48 48 16 (place + 48) m c.load-d.result old c.store-3.new.buffer three c.load-d.ensures (omega arith) (omega arith) (omega (arith, c.requires.count)) room (omega arith)
-    ∙ ap (λ x. written_over place (masked s x) old) (take_all 64 m (omega (arith, c.requires.count)))
+    written_four c.args.sentinel c.args.place c.args.bytes.now c.args.buffer.now c.store.new.buffer
+    c.store-2.new.buffer c.store-3.new.buffer c.store-4.new.buffer
+    c.load-a.result c.load-b.result c.load-c.result c.load-d.result c.requires.count c.requires.room
+    c.load-a.ensures c.load-b.ensures c.load-c.ensures c.load-d.ensures
+    c.store.ensures c.store-2.ensures c.store-3.ensures c.store-4.ensures
+
+pub returns-clause-long : goal.returns-clause-long
+returns-clause-long c = c.lesser.ensures.long ∙ c.lesser-first.ensures.long
+    ∙ ap length c.load-a.ensures ∙ lanes_long c.args.bytes.now 0 c.requires.count (omega arith)
+
+pub returns-clause-lanes : goal.returns-clause-lanes
+returns-clause-lanes c =
+    let bytes = c.args.bytes.now in
+    least_of_four c.load-a.result c.load-b.result c.load-c.result c.load-d.result
+    c.lesser-first.result c.lesser-second.result c.lesser.result
+    (take 16 (drop 0 bytes)) (take 16 (drop 16 bytes)) (take 16 (drop 32 bytes))
+    (take 16 (drop 48 bytes)) c.load-a.ensures c.load-b.ensures c.load-c.ensures
+    c.load-d.ensures
+    (ap length c.load-a.ensures ∙ lanes_long bytes 0 c.requires.count (omega arith))
+    (ap length c.load-c.ensures ∙ lanes_long bytes 32 c.requires.count (omega arith))
+    c.lesser-first.ensures.long c.lesser-first.ensures.first c.lesser-first.ensures.second
+    c.lesser-second.ensures.first c.lesser-second.ensures.second c.lesser.ensures.first
+    c.lesser.ensures.second

@@ -1,65 +1,99 @@
-use Rattle.std.proofs.Common.{◌≡◌, ◌+◌, ◌-◌, ◌<◌, ◌≤◌, ℕ, List, eqb, w8, length, length-take, length-drop, take, drop, get_or, inl, inr, sym, ap, ◌∙◌, arith}
-use Rattle.std.proofs.lemmas.Bool.{cases_lt, eqb-true}
+use Rattle.std.proofs.Common.{◌≡◌, ◌+◌, ◌-◌, ◌<◌, ◌≤◌, ℕ, List, length, length-take, length-drop, take, drop, get_or, inl, inr, refl, sym, ap, ◌∙◌, arith}
+use Rattle.std.proofs.lemmas.Bool.{cases_lt}
 use Rattle.std.proofs.lemmas.List.{length-take-le, get_or-take, get_or-drop}
-use Rattle.std.proofs.lemmas.Simd.{bitmask_splat}
 use Rattle.cobs.specs.Sentinel.{masked}
-use Rattle.cobs.proofs.LanesLemmas.{all_above, none_marked}
+use Rattle.cobs.proofs.LanesLemmas.{all_clear, least_of_four}
 use Rattle.cobs.proofs.MaskingLemmas.{masked_length, masked_take, masked_drop}
 use Rattle.cobs.proofs.moves.is_clear_255.Goals as goal
 
-part : (s from m : ℕ) (bytes : List ℕ) → ((k : ℕ) → k < 64 → 0 < get_or (masked s (take m (drop from bytes))) k 0) → 64 ≤ m → (k : ℕ) → from ≤ k → k < from + 64 → 0 < get_or (masked s bytes) k 0
-part s from m bytes h l k a b =
-    let e : get_or (masked s (take m (drop from bytes))) (k - from) 0 ≡ get_or (masked s bytes) k 0 =
-    ap (λ x. get_or x (k - from) 0) (sym (ap (take m) (masked_drop s from bytes) ∙ masked_take s m (drop from bytes)))
-    ∙ get_or-take m (drop from (masked s bytes)) (k - from) 0 (omega arith)
-    ∙ get_or-drop from (masked s bytes) (k - from) 0
-    ∙ ap (λ j. get_or (masked s bytes) j 0) (omega arith) in
-    omega (arith, e, h (k - from) (omega arith))
+long : (from : ℕ) (bytes : List ℕ) → length bytes ≡ 255 → from + 64 ≤ 255
+    → length (take 64 (drop from bytes)) ≡ 64
+long from bytes e l = omega (arith, length-take 64 (drop from bytes), length-drop from bytes, e, l)
 
--- a quarter whose least bytes aren't zero
-quarter : (s : ℕ) (bytes lanes least : List ℕ) → length bytes ≡ 64 → ((j : ℕ) → j < 16 → 1 ≤ get_or least j 0) → ((j : ℕ) → j < 16 → get_or least j 0 ≤ get_or lanes j 0)
-    → ((j : ℕ) → j < 16 → (get_or lanes j 0 ≤ get_or (take 16 (drop 0 (masked s bytes))) j 0) × (get_or lanes j 0 ≤ get_or (take 16 (drop 16 (masked s bytes))) j 0) × (get_or lanes j 0 ≤ get_or (take 16 (drop 32 (masked s bytes))) j 0) × (get_or lanes j 0 ≤ get_or (take 16 (drop 48 (masked s bytes))) j 0))
-    → (k : ℕ) → k < 64 → 0 < get_or (masked s bytes) k 0
-quarter s bytes lanes least long some lower h k l =
+-- the least lanes of 64 bytes
+abbrev Lanes : List ℕ → List ℕ → Type 0
+Lanes lanes bytes = (j : ℕ) → j < 16 → (get_or lanes j 0 ≤ get_or (take 16 (drop 0 bytes)) j 0)
+    × (get_or lanes j 0 ≤ get_or (take 16 (drop 16 bytes)) j 0)
+    × (get_or lanes j 0 ≤ get_or (take 16 (drop 32 bytes)) j 0)
+    × (get_or lanes j 0 ≤ get_or (take 16 (drop 48 bytes)) j 0)
+
+part : (s from : ℕ) (bytes lanes least : List ℕ) → length bytes ≡ 255 → from + 64 ≤ 255
+    → ((j : ℕ) → j < 16 → 0 < get_or least j 0)
+    → ((j : ℕ) → j < 16 → get_or least j 0 ≤ get_or lanes j 0)
+    → Lanes lanes (masked s (take 64 (drop from bytes)))
+    → (k : ℕ) → from ≤ k → k < from + 64 → 0 < get_or (masked s bytes) k 0
+part s from bytes lanes least count l some lower h k a b =
+    let piece = masked s (take 64 (drop from bytes)) in
+    let e : get_or piece (k - from) 0 ≡ get_or (masked s bytes) k 0 =
+    ap (λ x. get_or x (k - from) 0)
+    (sym (ap (take 64) (masked_drop s from bytes) ∙ masked_take s 64 (drop from bytes)))
+    ∙ get_or-take 64 (drop from (masked s bytes)) (k - from) 0 (omega (arith, a, b))
+    ∙ get_or-drop from (masked s bytes) (k - from) 0
+    ∙ ap (λ j. get_or (masked s bytes) j 0) (omega (arith, a)) in
     omega (
       arith,
-      all_above 1 (masked s bytes) least (masked_length s bytes ∙ long) some (λ j q. (
-        omega (arith, lower j q, (h j q).0),
-        omega (arith, lower j q, (h j q).1),
-        omega (arith, lower j q, (h j q).2),
-        omega (arith, lower j q, (h j q).3),
-      )) k l,
+      e,
+      all_clear piece lanes least
+          (masked_length s (take 64 (drop from bytes)) ∙ long from bytes count l) some lower h
+          (k - from) (omega (arith, a, b)),
     )
 
-long : (from m : ℕ) (bytes : List ℕ) → length bytes ≡ 255 → m ≡ 64 → from + 64 ≤ 255 → length (take m (drop from bytes)) ≡ 64
-long from m bytes e is l = omega (arith, length-take m (drop from bytes), length-drop from bytes, e, is, l)
+all_parts : (s : ℕ) (bytes a b d e least : List ℕ) → length bytes ≡ 255
+    → ((j : ℕ) → j < 16 → 0 < get_or least j 0)
+    → ((j : ℕ) → j < 16 → (get_or least j 0 ≤ get_or a j 0)
+    × (get_or least j 0 ≤ get_or b j 0)
+    × (get_or least j 0 ≤ get_or d j 0) × (get_or least j 0 ≤ get_or e j 0))
+    → Lanes a (masked s (take 64 (drop 0 bytes))) → Lanes b (masked s (take 64 (drop 63 bytes)))
+    → Lanes d (masked s (take 64 (drop 127 bytes)))
+    → Lanes e (masked s (take 64 (drop 191 bytes)))
+    → (k : ℕ) → k < 255 → 0 < get_or (masked s bytes) k 0
+all_parts s bytes a b d e least count some four ha hb hd he k l = elim (cases_lt k 64) [
+  | inl x ↦ part s 0 bytes a least count (omega arith) some (λ j q. (four j q).0) ha k (omega arith)
+      (omega (arith, x))
+  | inr x ↦ elim (cases_lt k 127) [
+    | inl y ↦ part s 63 bytes b least count (omega arith) some (λ j q. (four j q).1) hb k
+        (omega (arith, x)) (omega (arith, y))
+    | inr y ↦ elim (cases_lt k 191) [
+      | inl z ↦ part s 127 bytes d least count (omega arith) some (λ j q. (four j q).2) hd k y
+          (omega (arith, z))
+      | inr z ↦ part s 191 bytes e least count (omega arith) some (λ j q. (four j q).3) he k z
+          (omega (arith, l))
+    ]
+  ]
+]
 
 pub slice_bounds-least_of_64-end : goal.slice_bounds-least_of_64-end
-slice_bounds-least_of_64-end c = sym (length-take-le 64 c.args.bytes.now (omega (arith, c.requires)))
+slice_bounds-least_of_64-end c =
+    sym (length-take-le 64 c.args.bytes.now (omega (arith, c.requires)))
 
 pub least_of_64-requires : goal.least_of_64-requires
-least_of_64-requires c = length-take-le 64 c.args.bytes.now (omega (arith, c.requires))
+least_of_64-requires c = long 0 c.args.bytes.now c.requires (omega arith)
+
+pub least_of_64-requires-2 : goal.least_of_64-requires-2
+least_of_64-requires-2 c = long 63 c.args.bytes.now c.requires (omega arith)
+
+pub least_of_64-requires-3 : goal.least_of_64-requires-3
+least_of_64-requires-3 c = long 127 c.args.bytes.now c.requires (omega arith)
+
+pub least_of_64-requires-4 : goal.least_of_64-requires-4
+least_of_64-requires-4 c = long 191 c.args.bytes.now c.requires (omega arith)
+
+pub is_positive-requires : goal.is_positive-requires
+is_positive-requires c = c.lesser.ensures.long ∙ c.lesser-first.ensures.long
+    ∙ c.least_of_64.ensures.long
 
 pub returns : goal.returns
-returns c = λ t k l.
-    let s = c.args.sentinel in
-    let bytes = c.args.bytes.now in
-    let first = c.lesser-first.ensures in
-    let second = c.lesser-second.ensures in
-    let all = c.lesser-least.ensures in
-    let least = c.lesser-least.result in
-    let a : length c.lesser-first.result ≡ 16 = first.long ∙ c.least_of_64.ensures.long in
-    let b : length c.lesser-second.result ≡ 16 = second.long ∙ c.least_of_64-3.ensures.long in
-    let d : length least ≡ 16 = all.long ∙ a in
-    let e = sym (bitmask_splat w8 eqb least 16 0 d (omega arith)) ∙ eqb-true _ _ t in
-    let some : (j : ℕ) → j < 16 → 1 ≤ get_or least j 0 = λ j q. omega (arith, none_marked least e j (omega (arith, d, q))) in
-    elim (cases_lt k 64) [
-      | inl x ↦ part s 0 64 bytes (quarter s (take 64 bytes) c.least_of_64.result least (long 0 64 bytes c.requires (omega arith) (omega arith)) some (λ j q. omega (arith, all.first j (omega (arith, a, q)), first.first j (omega (arith, a, first.long, q)))) c.least_of_64.ensures.lanes) (omega arith) k (omega arith) (omega arith)
-      | inr x ↦ elim (cases_lt k 127) [
-        | inl y ↦ part s 63 64 bytes (quarter s (take 64 (drop 63 bytes)) c.least_of_64-2.result least (long 63 64 bytes c.requires (omega arith) (omega arith)) some (λ j q. omega (arith, all.first j (omega (arith, a, q)), first.second j (omega (arith, a, first.long, q)))) c.least_of_64-2.ensures.lanes) (omega arith) k (omega arith) (omega arith)
-        | inr y ↦ elim (cases_lt k 191) [
-          | inl z ↦ part s 127 64 bytes (quarter s (take 64 (drop 127 bytes)) c.least_of_64-3.result least (long 127 64 bytes c.requires (omega arith) (omega arith)) some (λ j q. omega (arith, all.second j (omega (arith, a, q)), second.first j (omega (arith, b, second.long, q)))) c.least_of_64-3.ensures.lanes) (omega arith) k (omega arith) (omega arith)
-          | inr z ↦ part s 191 64 bytes (quarter s (take 64 (drop 191 bytes)) c.least_of_64-4.result least (long 191 64 bytes c.requires (omega arith) (omega arith)) some (λ j q. omega (arith, all.second j (omega (arith, a, q)), second.second j (omega (arith, b, second.long, q)))) c.least_of_64-4.ensures.lanes) (omega arith) k (omega arith) (omega arith)
-        ]
-      ]
-    ]
+returns c = λ t.
+    let a = c.least_of_64 in
+    let b = c.least_of_64-2 in
+    let d = c.least_of_64-3 in
+    let e = c.least_of_64-4 in
+    let first = c.lesser-first in
+    let second = c.lesser-second in
+    all_parts c.args.sentinel c.args.bytes.now a.result b.result d.result e.result c.lesser.result
+    c.requires (c.is_positive.ensures t)
+    (least_of_four a.result b.result d.result e.result first.result second.result c.lesser.result
+    a.result b.result d.result e.result refl refl refl refl a.ensures.long d.ensures.long
+    first.ensures.long first.ensures.first first.ensures.second second.ensures.first
+    second.ensures.second c.lesser.ensures.first c.lesser.ensures.second)
+    a.ensures.lanes b.ensures.lanes d.ensures.lanes e.ensures.lanes

@@ -124,6 +124,17 @@ put_zeros-state-requires-clause-nonzero c =
     let e = (goal.at.put_zeros-state-requires-clause-nonzero c).After-copy_until-n in
     λ k q. rw (there e) (clear_at (bytes e) k (clear e).1 (omega (arith, q, ap length (there e))))
 
+pub put_zeros-state-requires-clause-short : goal.put_zeros-state-requires-clause-short
+put_zeros-state-requires-clause-short c =
+    let e = (goal.at.put_zeros-state-requires-clause-short c).After-copy_until-n in
+    omega (arith, ap length (there e), long e, within e, e.requires.few)
+
+pub returns-then-left-eq0-clause-within : goal.returns-then-left-eq0-clause-within
+returns-then-left-eq0-clause-within c = within (goal.at.returns-then-left-eq0-clause-within c).After-copy_until-n
+
+pub returns-else-left-eq0-clause-within : goal.returns-else-left-eq0-clause-within
+returns-else-left-eq0-clause-within c = within (goal.at.returns-else-left-eq0-clause-within c).After-copy_until-n
+
 pub returns-then-left-eq0-clause-answer : goal.returns-then-left-eq0-clause-answer
 returns-then-left-eq0-clause-answer c =
     whole (goal.at.returns-then-left-eq0-clause-answer c).After-copy_until-n c.put_zeros-state.new.out c.put_zeros-state.result c.put_zeros-state.auto.out c.put_zeros-state.ensures.out c.put_zeros-state.ensures.state (sym c.left.ensures ∙ c.if-left-eq0.true)

@@ -275,7 +275,7 @@ take_within-taken-requires-clause-inside g c =
     let read2 = c.loop-read.read in
     let r2 = c.loop-read.invariant.reading in
     let m : ℕ = length buf - read in
-    let end : read + c.end_in.result ≤ length source = within_source s source buf read c.loop-buf.progress r m c.end_in.result c.end_in.ensures.within c.end_in.ensures.none (omega (arith, c.loop-buf.invariant.inside, r.long)) in
+    let end : read + c.before_many.result ≤ length source = within_source s source buf read c.loop-buf.progress r m c.before_many.result c.before_many.ensures.within c.before_many.ensures.none (omega (arith, c.loop-buf.invariant.inside, r.long)) in
     omega (arith, end, r2.long)
 
 pub take_within-taken-requires-clause-behind : goal.take_within-taken-requires-clause-behind
@@ -294,7 +294,7 @@ take_within-taken-requires-clause-clear g c =
     let read2 = c.loop-read.read in
     let r2 = c.loop-read.invariant.reading in
     let m : ℕ = length buf - read in
-    let later = later_clear s source buf read c.loop-buf.progress r m c.end_in.result c.end_in.ensures.within c.end_in.ensures.none in
+    let later = later_clear s source buf read c.loop-buf.progress r m c.before_many.result c.before_many.ensures.within c.before_many.ensures.none in
     λ k a b. later buf2 read2 c.loop-read.progress r2 c.loop-read.invariant.from k a b
 
 pub loop-read-preserved-then-taken-gt0 : goal.loop-read-preserved-then-taken-gt0
@@ -309,9 +309,9 @@ loop-read-preserved-then-taken-gt0 g c =
     let r2 = c.loop-read.invariant.reading in
     let m : ℕ = length buf - read in
     let fits : (j : ℕ) → bit_xor s (get_or source j 0) < 256 = λ j. xor_of_8 s (get_or source j 0) c.ranges.sentinel.fits (c.requires.bytes j) in
-    let end : read + c.end_in.result ≤ length source = within_source s source buf read c.loop-buf.progress r m c.end_in.result c.end_in.ensures.within c.end_in.ensures.none (omega (arith, c.loop-buf.invariant.inside, r.long)) in
+    let end : read + c.before_many.result ≤ length source = within_source s source buf read c.loop-buf.progress r m c.before_many.result c.before_many.ensures.within c.before_many.ensures.none (omega (arith, c.loop-buf.invariant.inside, r.long)) in
     record {
-      reading = reading_front s source buf2 read2 c.loop-read.progress r2 (read + c.end_in.result) c.take_within-taken.result c.take_within-taken.new.self c.take_within-taken.new.buffer c.loop-read.invariant.within (omega (arith, end, r2.long)) fits (c.take_within-taken.ensures.front _ r2.reads.stands);
+      reading = reading_front s source buf2 read2 c.loop-read.progress r2 (read + c.before_many.result) c.take_within-taken.result c.take_within-taken.new.self c.take_within-taken.new.buffer c.loop-read.invariant.within (omega (arith, end, r2.long)) fits (c.take_within-taken.ensures.front _ r2.reads.stands);
       within = omega (arith, c.take_within-taken.ensures.within, c.loop-read.invariant.within);
       from = omega (arith, c.loop-read.invariant.from);
     }
@@ -328,9 +328,9 @@ take_in-requires-in-loop-read g c =
     let r2 = c.loop-read.invariant.reading in
     let m : ℕ = length buf - read in
     let fits : (j : ℕ) → bit_xor s (get_or source j 0) < 256 = λ j. xor_of_8 s (get_or source j 0) c.ranges.sentinel.fits (c.requires.bytes j) in
-    let end : read + c.end_in.result ≤ length source = within_source s source buf read c.loop-buf.progress r m c.end_in.result c.end_in.ensures.within c.end_in.ensures.none (omega (arith, c.loop-buf.invariant.inside, r.long)) in
-    let clear = source_clear s source buf read c.loop-buf.progress r m c.end_in.result c.end_in.ensures.within c.end_in.ensures.none in
-    let r3 = left s source buf2 read2 c.loop-read.progress r2 (read + c.end_in.result) c.take_within-taken.result c.take_within-taken.new.self c.take_within-taken.new.buffer c.loop-read.invariant.within (omega (arith, end, r2.long)) fits (c.take_within-taken.ensures.front _ r2.reads.stands) (omega (arith, c.if-taken-gt0.false)) in
+    let end : read + c.before_many.result ≤ length source = within_source s source buf read c.loop-buf.progress r m c.before_many.result c.before_many.ensures.within c.before_many.ensures.none (omega (arith, c.loop-buf.invariant.inside, r.long)) in
+    let clear = source_clear s source buf read c.loop-buf.progress r m c.before_many.result c.before_many.ensures.within c.before_many.ensures.none in
+    let r3 = left s source buf2 read2 c.loop-read.progress r2 (read + c.before_many.result) c.take_within-taken.result c.take_within-taken.new.self c.take_within-taken.new.buffer c.loop-read.invariant.within (omega (arith, end, r2.long)) fits (c.take_within-taken.ensures.front _ r2.reads.stands) (omega (arith, c.if-taken-gt0.false)) in
     positive s source c.take_within-taken.new.buffer read2 c.take_within-taken.new.self r3 (clear read2 c.loop-read.invariant.from c.loop-read-test.true) (omega (arith, end, c.loop-read-test.true))
 
 pub loop-read-preserved : goal.loop-read-preserved
@@ -345,9 +345,9 @@ loop-read-preserved g c =
     let r2 = c.loop-read.invariant.reading in
     let m : ℕ = length buf - read in
     let fits : (j : ℕ) → bit_xor s (get_or source j 0) < 256 = λ j. xor_of_8 s (get_or source j 0) c.ranges.sentinel.fits (c.requires.bytes j) in
-    let end : read + c.end_in.result ≤ length source = within_source s source buf read c.loop-buf.progress r m c.end_in.result c.end_in.ensures.within c.end_in.ensures.none (omega (arith, c.loop-buf.invariant.inside, r.long)) in
-    let clear = source_clear s source buf read c.loop-buf.progress r m c.end_in.result c.end_in.ensures.within c.end_in.ensures.none in
-    let r3 = left s source buf2 read2 c.loop-read.progress r2 (read + c.end_in.result) c.take_within-taken.result c.take_within-taken.new.self c.take_within-taken.new.buffer c.loop-read.invariant.within (omega (arith, end, r2.long)) fits (c.take_within-taken.ensures.front _ r2.reads.stands) (omega (arith, c.if-taken-gt0.false)) in
+    let end : read + c.before_many.result ≤ length source = within_source s source buf read c.loop-buf.progress r m c.before_many.result c.before_many.ensures.within c.before_many.ensures.none (omega (arith, c.loop-buf.invariant.inside, r.long)) in
+    let clear = source_clear s source buf read c.loop-buf.progress r m c.before_many.result c.before_many.ensures.within c.before_many.ensures.none in
+    let r3 = left s source buf2 read2 c.loop-read.progress r2 (read + c.before_many.result) c.take_within-taken.result c.take_within-taken.new.self c.take_within-taken.new.buffer c.loop-read.invariant.within (omega (arith, end, r2.long)) fits (c.take_within-taken.ensures.front _ r2.reads.stands) (omega (arith, c.if-taken-gt0.false)) in
     record {
       reading = byte_on s source c.take_within-taken.new.buffer read2 c.take_within-taken.new.self r3 c.take_in-in-loop-read.new.buffer c.take_in-in-loop-read.new.self fits (clear read2 c.loop-read.invariant.from c.loop-read-test.true) (omega (arith, end, c.loop-read-test.true)) c.take_in-in-loop-read.ensures.stands c.take_in-in-loop-read.ensures.buffer;
       within = omega (arith, c.loop-read-test.true);
@@ -356,9 +356,9 @@ loop-read-preserved g c =
 
 ends : (g : _) (c : After-feed g) → EndsAt c.args.sentinel c.loop-read.buf c.loop-read.read
 ends g c =
-    let end : c.loop-read.read ≡ c.loop-buf.read + c.end_in.result = omega (arith, c.loop-read.invariant.within, c.loop-read-test.false) in
-    ends_here c.args.sentinel c.loop-buf.read (length c.loop-buf.buf - c.loop-buf.read) c.end_in.result c.loop-read.read c.args.buf.now c.loop-buf.buf c.loop-read.buf c.loop-buf.progress c.loop-read.progress c.loop-buf.invariant.reading c.loop-read.invariant.reading
-    (omega arith) c.loop-buf.invariant.inside c.end_in.ensures.within end c.end_in.ensures.end
+    let end : c.loop-read.read ≡ c.loop-buf.read + c.before_many.result = omega (arith, c.loop-read.invariant.within, c.loop-read-test.false) in
+    ends_here c.args.sentinel c.loop-buf.read (length c.loop-buf.buf - c.loop-buf.read) c.before_many.result c.loop-read.read c.args.buf.now c.loop-buf.buf c.loop-read.buf c.loop-buf.progress c.loop-read.progress c.loop-buf.invariant.reading c.loop-read.invariant.reading
+    (omega arith) c.loop-buf.invariant.inside c.before_many.ensures.within end c.before_many.ensures.end
 
 pub returns-in-Ok-clause-answer : goal.returns-in-Ok-clause-answer
 returns-in-Ok-clause-answer g c =

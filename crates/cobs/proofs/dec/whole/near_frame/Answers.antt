@@ -27,3 +27,21 @@ returns-then-end-lt256-clause-frame c =
       | inl l ↦ near c.args.sentinel n m bytes l (omega arith) e.none e.end
       | inr l ↦ all c.args.sentinel n m bytes (omega (arith, l, e.within, length-take m bytes)) (omega (arith, l, c.if-end-lt256.true)) e.none
     ]
+
+pub returns-then-end-lt256-clause-within : goal.returns-then-end-lt256-clause-within
+returns-then-end-lt256-clause-within c = omega (arith, length-take c.before_by_64-end.result c.args.bytes.now)
+
+-- 256 bytes and more hold none
+many : (n m : ℕ) (bytes : List ℕ) → 256 ≤ n → n ≤ length (take m bytes) → (256 ≤ m) × (256 ≤ length bytes)
+many n m bytes l w = (omega (arith, l, w, length-take m bytes), omega (arith, l, w, length-take m bytes))
+
+pub returns-else-end-lt256-clause-many : goal.returns-else-end-lt256-clause-many
+returns-else-end-lt256-clause-many c = λ _. (many c.before_by_64-end.result c.min.result c.args.bytes.now c.if-end-lt256.false c.before_by_64-end.ensures.within).1
+
+pub returns-else-end-lt256-clause-clear : goal.returns-else-end-lt256-clause-clear
+returns-else-end-lt256-clause-clear c = λ _ k l e.
+    let m = c.min.result in
+    let n = c.before_by_64-end.result in
+    let w : 256 ≤ m = (many n m c.args.bytes.now c.if-end-lt256.false c.before_by_64-end.ensures.within).0 in
+    let most : 256 ≤ n = c.if-end-lt256.false in
+    c.before_by_64-end.ensures.none k (omega (arith, l, most)) (get_or-take m c.args.bytes.now k 0 (omega (arith, l, w)) ∙ e)

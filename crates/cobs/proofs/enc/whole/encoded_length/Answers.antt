@@ -2,7 +2,7 @@ use Rattle.std.proofs.Common.{◌≡◌, ◌<◌, ◌∙◌, get_or, length, tak
 use Rattle.std.proofs.lemmas.Bool.{eqb-true}
 use Rattle.std.proofs.lemmas.List.{take_rest, get_or-take}
 use Rattle.cobs.specs.Sentinel.{masked}
-use Rattle.cobs.proofs.LengthsLemmas.{counted_none, counted_zero, counted_full, counted_few, counted_all, frame_at_most, frame_reaches}
+use Rattle.cobs.proofs.LengthsLemmas.{counted_none, counted_zero, counted_full, counted_few, counted_all, frame_at_least, frame_at_most, frame_reaches}
 use Rattle.cobs.proofs.MaskingLemmas.{masked_zero}
 use Rattle.cobs.proofs.enc.whole.encoded_length.Goals as goal
 
@@ -11,6 +11,12 @@ loop-rest-init c = counted_none c.args.source.now
 
 pub overflow_add-full_runs : goal.overflow_add-full_runs
 overflow_add-full_runs c = omega (arith, counted_few _ _ _ c.loop-rest.invariant, frame_at_most c.args.source.now)
+
+pub overflow_add-full_runs-in-None : goal.overflow_add-full_runs-in-None
+overflow_add-full_runs-in-None c = omega (arith, counted_few _ _ _ c.loop-rest.invariant, frame_at_most c.args.source.now)
+
+pub overflow_add-result-2 : goal.overflow_add-result-2
+overflow_add-result-2 c = omega (arith, counted_all c.args.source.now _ _ (omega arith) c.loop-rest.invariant, frame_at_most c.args.source.now)
 
 pub loop-rest-preserved-in-Some : goal.loop-rest-preserved-in-Some
 loop-rest-preserved-in-Some c =
@@ -33,6 +39,9 @@ loop-rest-preserved c =
 
 pub returns-clause-frame : goal.returns-clause-frame
 returns-clause-frame c = counted_all c.args.source.now _ _ (omega arith) c.loop-rest.invariant
+
+pub returns-clause-at_least : goal.returns-clause-at_least
+returns-clause-at_least c = omega (arith, counted_all c.args.source.now _ _ (omega arith) c.loop-rest.invariant, frame_at_least c.args.source.now)
 
 pub returns-clause-at_most : goal.returns-clause-at_most
 returns-clause-at_most c = omega (arith, counted_all c.args.source.now _ _ (omega arith) c.loop-rest.invariant, frame_at_most c.args.source.now)
