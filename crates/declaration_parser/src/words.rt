@@ -42,7 +42,7 @@ pub const BY_HAND: &str =
 
 /// What is said of a type that holds itself.
 pub const HOLDS_ITSELF: &str =
-    "` holds itself: write it by hand, as the crate `samples` shows of `Chain`";
+    "` holds itself: write it by hand, as the crate `example_by_hand` shows of `Chain`";
 
 /// What is said of a word of a path.
 pub const IN_PATH: &str =

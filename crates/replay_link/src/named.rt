@@ -1,10 +1,10 @@
 //! The types of a link's values, by their names.
 use arrayvec::{ArrayString, ArrayVec};
+use example_by_hand::DataEnum;
 use postcard::de_flavors::Bytes;
 use postcard::fixint::LE;
 use postcard::{Deserialize, DeserializeOwned, Exact, Serialize};
 use replay_values::Shown;
-use samples::DataEnum;
 use std::collections::BTreeMap;
 
 /// What is asked of a type, once its name was read. Values are read from bytes of the kind `B`, which may lie in the room

@@ -2,11 +2,11 @@
 use crate::reading::{read, read_frame, read_owned};
 use crate::writing::write;
 use arrayvec::{ArrayString, ArrayVec};
+use example_by_hand::DataEnum;
 use postcard::fixint::{BE, LE};
 use postcard::{Deserialize, DeserializeOwned, Serialize};
 use replay::{Findings, Trouble, Words};
 use replay_values::Shown;
-use samples::DataEnum;
 use std::alloc::Global;
 use std::collections::BTreeMap;
 use std::mem;

@@ -2,8 +2,8 @@
 #![tactic(auto)]
 
 use arrayvec::{ArrayString, ArrayVec};
+use example_by_hand::DataEnum;
 use postcard::fixint::{BE, FixInt, LE};
-use samples::DataEnum;
 use std::alloc::{AllocError, Global};
 use std::collections::BTreeMap;
 

@@ -7,6 +7,7 @@ ghost use Rattle.link.specs.Each.{HeardAnyhow, heard_anyhow};
 
 use crate::checks::{all_true, are_bytes, are_fates, check, is_answer, is_told};
 use cobs::{CobsDecoderOwned, DecodeVecError};
+use example_by_hand::Chain;
 use line_io::memory::{In, Out};
 use link::{
     Answer, End, Fate, Gathered, Hearer, NoMemory, OfType, Ordinary, OwnedReceiver, Pushed,
@@ -23,7 +24,6 @@ use postcard::{
     to_allocvec_cobs, to_allocvec_cobs_with_sentinel, to_extend, to_io, to_slice, to_slice_cobs,
     to_stdvec, to_stdvec_cobs, to_stdvec_cobs_with_sentinel, to_vec, to_vec_cobs,
 };
-use samples::Chain;
 use std::alloc::{AllocError, Global};
 use std::collections::BTreeMap;
 

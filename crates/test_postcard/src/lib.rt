@@ -1,4 +1,4 @@
-//! Tests of `cobs`, `postcard_tree`, `postcard_ser`, `postcard_de`, `postcard` and `samples`, by their public calls alone:
+//! Tests of `cobs`, `postcard_tree`, `postcard_ser`, `postcard_de`, `postcard` and `example_by_hand`, by their public calls alone:
 //! outside vectors and worked rows, each call once on its happy path, each generic one at a concrete type, writers, readers
 //! and memory that fail, buffers that stay as they were, and the texts of these crates' errors.
 //!

@@ -1,10 +1,10 @@
-//! `samples`: what the types are on the wire, by published bytes.
+//! `example_by_hand`: what the types are on the wire, by published bytes.
 use crate::checks::{all_true, are_equal, check, check_all, fails, is_slice, is_text};
+use example_by_hand::*;
 use postcard::{
     Deserialize, DeserializeOwned, Error, Serialize, from_bytes, from_bytes_owned, take_from_bytes,
     to_slice,
 };
-use samples::*;
 use std::alloc::{AllocError, Global};
 
 // Whether a value is written as these bytes.

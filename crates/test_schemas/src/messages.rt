@@ -3,10 +3,10 @@
 use crate::checks::check_row;
 use crate::saying::{say_read, say_refused};
 use arrayvec::{ArrayString, ArrayVec};
+use example_by_hand::DataEnum;
 use example_station::messages::{Command, Packet, SensorReading};
 use postcard::fixint::{BE, LE};
 use postcard::{Deserialize, Serialize, to_slice};
-use samples::DataEnum;
 use schemas::{HasSchema, schema_of, take_from_bytes};
 use std::alloc::{AllocError, Global};
 use std::process::Abort;

@@ -49,13 +49,13 @@ pub(crate) const PAIRS: usize = 21;
 pub(crate) const TUPLE: usize = 22;
 /// `Result<(), String>`
 pub(crate) const RESULT: usize = 23;
-/// `DataEnum` of `samples`
+/// `DataEnum` of `example_by_hand`
 pub(crate) const ENUM: usize = 24;
 /// `Option<Vec<Result<(u8, String), [u16; 2]>>>`
 pub(crate) const NESTED: usize = 31;
 /// `BTreeMap<u16, String>`
 pub(crate) const MAP: usize = 32;
-/// `Chain` of `samples`, which holds itself
+/// `Chain` of `example_by_hand`, which holds itself
 pub(crate) const CHAIN: usize = 34;
 /// A type of itself alone.
 pub(crate) const ITSELF: usize = 36;
