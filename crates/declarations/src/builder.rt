@@ -13,8 +13,8 @@ use crate::{Error, Names};
 use declaration_parser::declaration::Declaration;
 use declaration_parser::faults::Faults;
 use declaration_parser::parser::plain_name;
-use declaration_parser::tokens::{Read, Token, is_among};
-use known::{KNOWN_CRATES, PRIMITIVE};
+use declaration_parser::tokens::{Read, Token};
+use known::KNOWN_CRATES;
 use schemas::Node;
 use std::alloc::{AllocError, Global};
 
@@ -283,9 +283,6 @@ impl<'a> Builder<'a, '_> {
             _ => {
                 self.wrong(&[TWICE]);
             }
-        }
-        if is_among(it.name, PRIMITIVE) {
-            self.wrong(&["a type of the language has this name: call it otherwise"]);
         }
     }
 

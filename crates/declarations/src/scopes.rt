@@ -6,6 +6,7 @@ mod uses;
 
 use declaration_parser::tokens::{Read, Token};
 pub use look::{Seen, Space};
+use paths::stem_of;
 use std::alloc::{AllocError, Global};
 use std::collections::BTreeMap;
 
@@ -30,25 +31,33 @@ pub enum Meaning<'a> {
     Twice,
 }
 
-/// A type, with whether it can be seen from elsewhere.
+/// Who sees what stands somewhere: others too, and on all devices or where a condition holds.
+#[derive(Clone, Copy, Drop)]
+struct Sight {
+    is_public: bool,
+    is_conditional: bool,
+}
+
+/// A type, with who sees it.
 #[derive(Clone, Copy, Drop)]
 struct Declared<'a> {
     meaning: Meaning<'a>,
-    is_public: bool,
+    sight: Sight,
 }
 
 /// What a constant is defined as; nothing, where it is in two ways.
 #[derive(Clone, Copy, Drop)]
 struct Constant<'a> {
     words: Option<&'a [Token]>,
-    is_public: bool,
+    sight: Sight,
 }
 
-/// What a `use` brings in: the names of its path, or of what it has all of.
+/// What a `use` brings in: the names of its path, or of what it has all of. A path that begins with
+/// `::` has that as its first name.
 #[derive(Drop)]
 struct Import<'a> {
     path: Vec<&'a str>,
-    is_public: bool,
+    sight: Sight,
     /// Whether another path brings in the same name.
     is_twice: bool,
 }
@@ -95,8 +104,15 @@ pub struct Scopes<'a> {
     /// Crates whose types are known by their names.
     crates: &'static [&'static str],
     scopes: Vec<Scope<'a>>,
-    /// The scope of each file.
+    /// The scope of each file, and that of the only file of a name; nothing where two have it.
     roots: Vec<usize>,
+    called: BTreeMap<&'a str, Option<usize>>,
+    /// All names of types and modules that files declare or bring in.
+    named: BTreeMap<&'a str, ()>,
+    /// Names of crates and files that are given to others.
+    misnamed: BTreeMap<&'a str, ()>,
+    /// Macros that declare a type by the name that is handed to them first.
+    makers: BTreeMap<&'a str, ()>,
     /// The scope that has a module of this name in a file of its own; nothing where two have.
     placed: BTreeMap<&'a str, Option<usize>>,
     /// The declared types of each name, and the scopes that define each constant, those of bodies left out.
@@ -136,6 +152,10 @@ impl<'a> Scopes<'a> {
             crates,
             scopes: Vec::new(alloc),
             roots: Vec::new(alloc),
+            called: BTreeMap::new(alloc),
+            named: BTreeMap::new(alloc),
+            misnamed: BTreeMap::new(alloc),
+            makers: BTreeMap::new(alloc),
             placed: BTreeMap::new(alloc),
             stands: BTreeMap::new(alloc),
             defined: BTreeMap::new(alloc),
@@ -145,9 +165,25 @@ impl<'a> Scopes<'a> {
             let root = scopes.scopes.len();
             scopes.add_scope(Kind::File, file, root)?;
             scopes.roots.push(root)?;
+            scopes.call(stem_of(read.file.as_str()), root)?;
             scopes.read_file(&read.tokens, root)?;
         }
         Ok(scopes)
+    }
+
+    /// Adds the name of a file, which has this scope.
+    fn call(&mut self, name: &'a str, root: usize) -> Result<(), AllocError> {
+        let only = if self.called.contains_key(name) {
+            None
+        } else {
+            Some(root)
+        };
+        put(&mut self.called, name, only)
+    }
+
+    /// Whether one of the files declares a type or a module of this name, or brings one in.
+    pub fn has(&self, name: &str) -> bool {
+        self.named.contains_key(name)
     }
 
     /// Adds a scope, and gives its place.
@@ -217,9 +253,12 @@ impl<'a> Scopes<'a> {
             return Ok(first);
         };
         let before = scope.types.get(name).copied();
-        let is_public = match before {
-            Some(declared) => declared.is_public,
-            None => true,
+        let sight = match before {
+            Some(declared) => declared.sight,
+            None => Sight {
+                is_public: true,
+                is_conditional: false,
+            },
         };
         let meaning = match before {
             Some(
@@ -232,7 +271,7 @@ impl<'a> Scopes<'a> {
                 if is_only => Meaning::Marked(it),
             _ => Meaning::Twice,
         };
-        put(&mut scope.types, name, Declared { meaning, is_public })?;
+        put(&mut scope.types, name, Declared { meaning, sight })?;
         Ok(first)
     }
 
@@ -263,6 +302,24 @@ impl<'a> Scopes<'a> {
     /// What a scope declares under a name.
     pub fn meaning(&self, scope: usize, name: &str) -> Option<Meaning<'a>> {
         Some(self.scopes.get(scope)?.types.get(name)?.meaning)
+    }
+
+    /// Whether what a scope or its module declares under a name, or brings in by it, is there under
+    /// a condition.
+    pub fn is_conditional(&self, scope: usize, name: &str) -> bool {
+        self.has_conditional(scope, name) || self.has_conditional(self.module_of(scope), name)
+    }
+
+    /// The same of a scope alone.
+    fn has_conditional(&self, scope: usize, name: &str) -> bool {
+        let Some(scope) = self.scopes.get(scope) else {
+            return false;
+        };
+        match (scope.types.get(name), scope.imports.get(name)) {
+            (Some(it), _) => it.sight.is_conditional,
+            (_, Some(it)) => it.sight.is_conditional,
+            _ => scope.has_conditional_glob(),
+        }
     }
 
     /// What a scope defines as this constant; nothing, where that is in two ways.

@@ -1,11 +1,11 @@
 //! The places of types that hold others in brackets.
 ghost use Rattle.std.specs.Prelude.{◌≡◌, ◌∷◌, [], IfOk};
 
-use super::Builder;
-use super::known::{integer_type, list_node};
+use super::known::{list_node, varint_type};
+use super::{Builder, Entry};
 use crate::Names;
-use declaration_parser::tokens::is_lifetime;
-use schemas::Node;
+use declaration_parser::tokens::{is_among, is_lifetime};
+use schemas::{IntegerType, Node};
 use std::alloc::{AllocError, Global};
 
 /// The places of what a `Result` holds: its value's, and its error's behind that.
@@ -26,8 +26,14 @@ impl<'a> Builder<'a, '_> {
         self.lifetime();
         self.owe(",");
         let place = self.place(depth);
-        self.owe(">");
+        self.close();
         place
+    }
+
+    /// Takes a `>`, and the comma that may stand before it.
+    pub(super) fn close(&mut self) {
+        self.take(",");
+        self.owe(">");
     }
 
     /// Behind `PhantomData`, whose type isn't sent.
@@ -70,7 +76,7 @@ impl<'a> Builder<'a, '_> {
     pub(super) fn inner(&mut self, depth: u32) -> usize {
         self.owe("<");
         let place = self.place(depth);
-        self.owe(">");
+        self.close();
         place
     }
 
@@ -81,7 +87,7 @@ impl<'a> Builder<'a, '_> {
         let first = self.place(depth);
         self.owe(",");
         let second = self.place(depth);
-        self.owe(">");
+        self.close();
         (first, second)
     }
 
@@ -96,15 +102,21 @@ impl<'a> Builder<'a, '_> {
     #[cycle(types)]
     pub(super) fn list(&mut self, depth: u32) -> usize {
         self.owe("<");
-        let is_byte = self.peek() == "u8";
+        let word = self.peek();
         let element = self.place(depth);
-        if self.take(",") {
+        if self.take(",") && self.peek() != ">" {
             let most = self.length();
             self.skip_hasher();
             self.owe(">");
             return self.add(Node::ListUpTo(most, element), Names::Nothing);
         }
         self.owe(">");
+        self.list_of(word, element)
+    }
+
+    /// A list of a type whose first word is this one; of bytes it is a buffer.
+    fn list_of(&mut self, word: &str, element: usize) -> usize {
+        let is_byte = word == "u8" && matches!(self.nodes.get(element), Some(Node::U8));
         self.add(list_node(is_byte, element), Names::Nothing)
     }
 
@@ -151,14 +163,18 @@ impl<'a> Builder<'a, '_> {
     }
 
     /// Behind `LE` or `BE`: an integer whose bytes stand in this order.
-    pub(super) fn ordered(&mut self, order: &str) -> usize {
+    #[cycle(types)]
+    pub(super) fn ordered(&mut self, order: &str, depth: u32) -> usize {
         self.owe("<");
-        let word = self.step();
-        self.owe(">");
-        match integer_type(word) {
-            Some(of) if order == "LE" => self.add(Node::LE(of), Names::Nothing),
-            Some(of) => self.add(Node::BE(of), Names::Nothing),
-            None => self.wrong(&[
+        let word = self.peek();
+        let before = self.nodes.len();
+        let place = self.place(depth);
+        self.close();
+        match varint_type(self.nodes.get(place)) {
+            Some(of) if !is_among(word, &["isize", "usize"]) => self.in_order(
+                order, of, before, place,
+            ),
+            _ => self.wrong(&[
                 "`",
                 word,
                 "` isn't an integer of 16 to 128 bits: write one, or its bytes as an array",
@@ -166,16 +182,32 @@ impl<'a> Builder<'a, '_> {
         }
     }
 
+    /// An integer in this order, at the place of its node, where that stands behind so many and so
+    /// is of no other type.
+    fn in_order(&mut self, order: &str, of: IntegerType, before: usize, place: usize) -> usize {
+        let node = if order == "LE" {
+            Node::LE(of)
+        } else {
+            Node::BE(of)
+        };
+        let names = Names::Nothing;
+        if place < before {
+            return self.add(node, names);
+        }
+        self.put(place, Entry { node, names });
+        place
+    }
+
     /// Behind `[`: an array, or what is lent as a slice.
     #[cycle(types)]
     pub(super) fn array(&mut self, depth: u32) -> usize {
-        let is_byte = self.peek() == "u8";
+        let word = self.peek();
         let element = self.place(depth);
         if self.take("]") {
-            return self.add(list_node(is_byte, element), Names::Nothing);
+            return self.list_of(word, element);
         }
         self.owe(";");
-        let count = self.length();
+        let count = self.array_length();
         self.owe("]");
         self.add(Node::Array(count, element), Names::Nothing)
     }
@@ -232,7 +264,7 @@ impl<'a> Builder<'a, '_> {
         let pair = self.key_and_value(depth);
         self.owe(",");
         let most = self.length();
-        self.owe(">");
+        self.close();
         self.add(Node::ListUpTo(most, pair), Names::Map)
     }
 

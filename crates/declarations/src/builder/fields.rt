@@ -15,6 +15,23 @@ const NO_BUFFER: &str =
 
 const NO_ARRAY: &str = "`with` is of an array here: write the type that is on the wire";
 
+const OTHER_CRATE: &str =
+    "`with` names a module or a type of these files here: write the type that is on the wire";
+
+/// What a path begins with that names a layout, and the crate where it is.
+fn roots_of(layout: Layout) -> &'static [(&'static str, &'static str)] {
+    match layout {
+        Layout::Little | Layout::Big => &[("postcard", "postcard")],
+        Layout::Buffer => &[("serde_bytes", "serde_bytes")],
+        Layout::Array => &[
+            ("BigArray", "serde_big_array"),
+            ("serde_big_array", "serde_big_array"),
+            ("serde_arrays", "serde_arrays"),
+        ],
+        Layout::Own => &[],
+    }
+}
+
 impl<'a> Builder<'a, '_> {
     /// The node of a declared type.
     #[cycle(types)]
@@ -98,6 +115,9 @@ impl<'a> Builder<'a, '_> {
     /// The place of a type whose bytes an attribute lays out otherwise.
     fn laid_out(&mut self, place: usize, layout: Layout) -> usize {
         let of = varint_type(self.nodes.get(place));
+        if !self.scopes.is_of_crate(self.here, roots_of(layout)) {
+            return self.wrong(&[OTHER_CRATE]);
+        }
         match (layout, of, self.nodes.get(place)) {
             (Layout::Little, Some(of), _) => self.add(Node::LE(of), Names::Nothing),
             (Layout::Big, Some(of), _) => self.add(Node::BE(of), Names::Nothing),

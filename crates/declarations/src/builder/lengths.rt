@@ -3,7 +3,7 @@ use super::{Builder, DEEPEST, Given};
 use crate::literals::literal;
 use crate::scopes::{Seen, Space};
 use crate::sums::{Operator, Sum};
-use declaration_parser::attributes::{closes, first_word, last_word, opens};
+use declaration_parser::attributes::{closes, first_word, opens};
 use declaration_parser::parser::plain_name;
 use declaration_parser::tokens::{Token, is_among};
 
@@ -20,12 +20,13 @@ const OF_NUMBERS: &[(&str, u64)] = &[
 /// How many numbers one length may be computed of.
 const MOST_NUMBERS: u32 = 10_000;
 
-/// The words at the front that are a length: what stands in braces, or up to what ends it.
-fn length_words(rest: &[Token]) -> &[Token] {
+/// The words at the front that are a length: what stands in braces, or up to what closes or ends
+/// it.
+fn length_words<'a>(rest: &'a [Token], ends: &[&str]) -> &'a [Token] {
     let mut depth: usize = 0;
     for (length, token) in rest.iter().enumerate() {
         let word = token.text.as_str();
-        if depth == 0 && (closes(word) || is_among(word, &[">", ",", ";"])) {
+        if depth == 0 && (closes(word) || is_among(word, ends)) {
             return rest.get(..length).unwrap_or(&[]);
         }
         if opens(word) {
@@ -48,6 +49,20 @@ fn greatest(word: &str) -> Option<u64> {
         return Some(u64::MAX);
     }
     None
+}
+
+/// What a type of numbers has under this name.
+fn of_type(word: &str, name: &str) -> Option<u64> {
+    match (word, name) {
+        // It isn't the same on all devices.
+        ("usize", _) => None,
+        (_, "MAX") => greatest(word),
+        ("u8" | "i8", "BITS") => Some(8),
+        ("u16" | "i16", "BITS") => Some(16),
+        ("u32" | "i32", "BITS") => Some(32),
+        ("u64" | "i64", "BITS") => Some(64),
+        _ => None,
+    }
 }
 
 /// A path at the front of words, and how many words it has.
@@ -109,9 +124,18 @@ impl<'a> Reading<'a> {
 }
 
 impl<'a> Builder<'a, '_> {
-    /// Takes a length.
+    /// Takes a length among others in angle brackets.
     pub(super) fn length(&mut self) -> u64 {
-        let words = length_words(self.rest);
+        self.length_of(length_words(self.rest, &[">", ",", ";"]))
+    }
+
+    /// Takes the length of an array, up to its bracket.
+    pub(super) fn array_length(&mut self) -> u64 {
+        self.length_of(length_words(self.rest, &[]))
+    }
+
+    /// Takes these words, which are a length.
+    fn length_of(&mut self, words: &'a [Token]) -> u64 {
         let (_, behind) = self.rest.split_at(words.len().min(self.rest.len()));
         if let [first, ..] = words {
             self.line = first.line;
@@ -161,6 +185,7 @@ impl<'a> Builder<'a, '_> {
             if reading.wants_number {
                 self.number(&mut reading, scope, depth)?;
             } else {
+                self.check_type(&reading, scope)?;
                 reading.behind_number()?;
             }
         }
@@ -169,6 +194,16 @@ impl<'a> Builder<'a, '_> {
             return None;
         }
         reading.sum.finished()
+    }
+
+    /// Refuses `as` with a name of the language that stands for another type.
+    fn check_type(&mut self, reading: &Reading<'a>, scope: usize) -> Option<()> {
+        match reading.rest {
+            [by, of, ..]
+                if by.text.as_str() == "as"
+                    && self.is_hidden(plain_name(of.text.as_str()), scope) => None,
+            _ => Some(()),
+        }
     }
 
     /// Takes a number from the front of words, or what opens.
@@ -207,16 +242,38 @@ impl<'a> Builder<'a, '_> {
                 return Some(number);
             }
         }
-        if path.len() == 4 && last_word(path) == "MAX" {
-            return greatest(word);
+        let names = self.names_in(path);
+        match self.constant(&names, scope) {
+            Some((words, there)) => self.value_of(words, there, depth - 1),
+            None => self.of_language(&names, scope),
         }
-        let (words, there) = self.constant(path, scope)?;
-        self.value_of(words, there, depth - 1)
+    }
+
+    /// What a type of the language has under a name, by a path of a scope that leads to it.
+    fn of_language(&mut self, names: &[&'a str], scope: usize) -> Option<u64> {
+        match names {
+            [of, name] if !self.is_hidden(of, scope) => of_type(of, name),
+            [before @ .., of, name] if self.scopes.is_of_known(scope, before) => of_type(of, name),
+            _ => None,
+        }
+    }
+
+    /// Whether the name of a type of the language stands for another where a scope uses it.
+    fn is_hidden(&mut self, word: &'a str, scope: usize) -> bool {
+        if self.given(word).is_some() {
+            return true;
+        }
+        if !self.scopes.has(word) {
+            return false;
+        }
+        match self.seen_in(scope, word, Space::Types) {
+            Seen::Known(name) => name != word,
+            seen => !matches!(seen, Seen::Module | Seen::ByGlob | Seen::Not),
+        }
     }
 
     /// What a constant is defined as that a path of a scope names, and the scope where it is.
-    fn constant(&mut self, path: &'a [Token], scope: usize) -> Option<(&'a [Token], usize)> {
-        let names = self.names_in(path);
+    fn constant(&mut self, names: &[&'a str], scope: usize) -> Option<(&'a [Token], usize)> {
         let (own, before) = names.split_last()?;
         let own = *own;
         let from = if before.is_empty() {

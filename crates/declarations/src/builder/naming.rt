@@ -1,5 +1,5 @@
 //! What a name stands for.
-use super::known::{EVERYWHERE, SENT_AS, is_known};
+use super::known::{EVERYWHERE, PRIMITIVE, SENT_AS, is_known};
 use super::{Builder, Given};
 use crate::scopes::{Marked, Meaning, Seen, Space};
 use declaration_parser::tokens::{Token, is_among};
@@ -30,6 +30,13 @@ const BROUGHT_IN: &str =
 /// What is said of a name that may be that of another module.
 const BY_GLOB: &str =
     "` may be what a `use` with `*` brings in: write its whole path, or name the file of its declaration too";
+
+/// What is said of a name of a module.
+const OF_MODULE: &str = "` is a module here: write the type that is on the wire";
+
+/// What is said of a name that every file has, where one gives it to another type at times.
+const AT_TIMES: &str =
+    "` is another type here under a condition: call it otherwise, or leave that type out";
 
 /// What a name stands for.
 #[derive(Clone, Copy, Drop)]
@@ -77,6 +84,14 @@ impl<'a> Builder<'a, '_> {
     /// What the name of a type stands for where it is read, or everywhere.
     pub(super) fn found(&mut self, word: &'a str) -> Found<'a> {
         let seen = self.seen(word, Space::Types);
+        let is_of_language = is_among(word, PRIMITIVE);
+        // Where a module has the name of one, the type is still the language's.
+        if seen == Seen::Module && !is_of_language {
+            return Found::Wrong(OF_MODULE);
+        }
+        if is_of_language || is_among(word, EVERYWHERE) {
+            return self.found_everywhere(word, seen);
+        }
         if let Some(found) = self.found_here(seen) {
             return found;
         }
@@ -86,10 +101,30 @@ impl<'a> Builder<'a, '_> {
         {
             return found;
         }
-        if by_glob && !is_among(word, EVERYWHERE) {
+        if by_glob {
             return Found::Wrong(BY_GLOB);
         }
         Found::Known(word)
+    }
+
+    /// What a name that every file has stands for, where it was seen so.
+    fn found_everywhere(&self, word: &'a str, seen: Seen<'a>) -> Found<'a> {
+        let is_own = matches!(seen, Seen::In(..));
+        if is_own && self.scopes.is_conditional(self.here, word) {
+            return Found::Wrong(AT_TIMES);
+        }
+        if let Some(found) = self.found_here(seen) {
+            return found;
+        }
+        if seen == Seen::ByGlob && self.found_in_others(word, false).is_some() {
+            return Found::Wrong(BY_GLOB);
+        }
+        Found::Known(word)
+    }
+
+    /// Whether every file has a name, and none of these gives it another meaning.
+    pub(super) fn is_same_everywhere(&self, word: &str) -> bool {
+        (is_among(word, PRIMITIVE) || is_among(word, EVERYWHERE)) && !self.scopes.has(word)
     }
 
     /// What was seen stands for, where that is clear.
@@ -102,7 +137,7 @@ impl<'a> Builder<'a, '_> {
                     .unwrap_or(Found::Wrong(BROUGHT_IN)),
             ),
             Seen::Doubtful => Some(Found::Wrong(DOUBTFUL)),
-            Seen::ByGlob | Seen::Not => None,
+            Seen::Module | Seen::ByGlob | Seen::Not => None,
         }
     }
 

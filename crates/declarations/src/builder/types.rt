@@ -1,5 +1,5 @@
 //! The places of types, by their words.
-use super::known::{PRIMITIVE, plain_node};
+use super::known::plain_node;
 use super::naming::Found;
 use super::{Bound, Builder, Given, Made, place_in};
 use crate::Names;
@@ -74,10 +74,14 @@ impl<'a> Builder<'a, '_> {
         let [before @ .., last] = names.as_slice() else {
             return 0;
         };
-        let root = before.first().copied().unwrap_or(last);
-        if self.scopes.known_crate(self.here, root).is_some() {
+        if self.scopes.is_of_known(self.here, before) {
             return self.known(last, depth);
         }
+        let root = match before {
+            [colons, root, ..] if *colons == "::" => root,
+            [root, ..] => root,
+            [] => last,
+        };
         match self.found_by_path(before, last) {
             Some(found) => self.resolved(found, last, depth),
             None => self.refuse_path(root, last),
@@ -88,6 +92,7 @@ impl<'a> Builder<'a, '_> {
     fn found_by_path(&mut self, before: &[&'a str], last: &'a str) -> Option<Found<'a>> {
         match self.scopes.scope_of(self.here, before) {
             Some(scope) if !before.is_empty() => self.found_in(scope, last),
+            _ if self.scopes.is_misnamed(before) => None,
             _ => self.found_in_others(last, true),
         }
     }
@@ -98,6 +103,8 @@ impl<'a> Builder<'a, '_> {
         let mut next = word;
         if word == ":" {
             self.owe(":");
+            let failed = names.push("::").is_err();
+            self.faults.note(failed);
             next = self.step();
         }
         for _ in 0..self.rest.len() {
@@ -120,7 +127,7 @@ impl<'a> Builder<'a, '_> {
             Some(Given::Wrong(name, why)) => return self.refuse(name, why),
             _ => {}
         }
-        if is_among(word, PRIMITIVE) {
+        if self.is_same_everywhere(word) {
             return self.known(word, depth);
         }
         if word == "Self" {
@@ -235,7 +242,7 @@ impl<'a> Builder<'a, '_> {
                 self.faults.note(failed);
             }
         }
-        self.owe(">");
+        self.close();
         given
     }
 
@@ -247,7 +254,7 @@ impl<'a> Builder<'a, '_> {
             _ => false,
         };
         let word = plain_name(self.peek());
-        let is_free = is_alone && self.given(word).is_none() && !is_among(word, PRIMITIVE);
+        let is_free = is_alone && self.given(word).is_none() && !self.is_same_everywhere(word);
         if is_free
             && word != "Self"
             && word != "_"
@@ -339,7 +346,7 @@ impl<'a> Builder<'a, '_> {
             "BTreeMap" | "HashMap" => return self.map(depth),
             "FnvIndexMap" | "LinearMap" => return self.map_up_to(depth),
             "ArrayString" => return self.text_up_to(),
-            "LE" | "BE" => return self.ordered(word),
+            "LE" | "BE" => return self.ordered(word, depth),
             "PhantomData" => return self.phantom(),
             "f32" => return self.add(Node::LE(IntegerType::U32), Names::Float),
             "f64" => return self.add(Node::LE(IntegerType::U64), Names::Float),

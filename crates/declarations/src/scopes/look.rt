@@ -1,5 +1,6 @@
 //! What a name stands for where it is used.
-use super::{Kind, Scopes};
+use super::{Kind, Scope, Scopes, Sight};
+use declaration_parser::tokens::first_letter;
 use std::alloc::{AllocError, Global};
 
 /// How many scopes one name is looked for in.
@@ -21,6 +22,8 @@ pub enum Seen<'a> {
     Known(&'a str),
     /// What something else has under this name, that a `use` brings in.
     Elsewhere(&'a str),
+    /// A module.
+    Module,
     /// Nothing that is written here; but a `*` may bring it in.
     ByGlob,
     /// One thing or another.
@@ -46,6 +49,14 @@ struct Search<'a> {
     before: Vec<Step<'a>>,
     seen: Seen<'a>,
     has_glob: bool,
+}
+
+/// Whether a path ends at a type, by its capital, of which `*` brings in variants.
+fn is_of_type(path: &[&str]) -> bool {
+    match path.last() {
+        Some(last) => matches!(first_letter(last), Some(first) if first.is_uppercase()),
+        None => false,
+    }
 }
 
 impl<'a> Search<'a> {
@@ -87,6 +98,34 @@ impl<'a> Search<'a> {
     }
 }
 
+impl Scope<'_> {
+    /// Who sees what this declares under a name, if it does.
+    fn declares(&self, name: &str, space: Space) -> Option<Sight> {
+        match space {
+            Space::Types => Some(self.types.get(name)?.sight),
+            Space::Constants => Some(self.constants.get(name)?.sight),
+        }
+    }
+
+    /// Whether a `use` with `*` is there under a condition.
+    pub(super) fn has_conditional_glob(&self) -> bool {
+        for glob in &self.globs {
+            if glob.sight.is_conditional {
+                return true;
+            }
+        }
+        false
+    }
+
+    /// Whether a `use` brings in a name under a condition.
+    pub(super) fn is_brought_at_times(&self, name: &str) -> bool {
+        match self.imports.get(name) {
+            Some(import) => import.sight.is_conditional,
+            None => false,
+        }
+    }
+}
+
 impl<'a> Scopes<'a> {
     /// What a scope has under a name, where that is used in another or in itself: what it declares, else what a `use` brings in
     /// by its name, else by `*`.
@@ -123,23 +162,31 @@ impl<'a> Scopes<'a> {
 
     /// Looks for a name in a scope.
     fn step(&self, search: &mut Search<'a>, step: Step<'a>) -> Result<(), AllocError> {
-        if let Some(is_public) = self.declares(step.scope, step.name, search.space) {
-            if is_public || step.sees_all {
-                search.note(Seen::In(step.scope, step.name));
-                return Ok(());
-            }
-        }
         let Some(scope) = self.scopes.get(step.scope) else {
             return Ok(());
         };
+        if let Some(sight) = scope.declares(step.name, search.space)
+            && (sight.is_public || step.sees_all)
+        {
+            search.note(if sight.is_conditional && scope.is_brought_at_times(step.name) {
+                Seen::Doubtful
+            } else {
+                Seen::In(step.scope, step.name)
+            });
+            return Ok(());
+        }
         if let Some(import) = scope.imports.get(step.name)
-            && (import.is_public || step.sees_all)
+            && (import.sight.is_public || step.sees_all)
         {
             if import.is_twice {
                 search.note(Seen::Doubtful);
                 return Ok(());
             }
             return self.follow(search, step, &import.path);
+        }
+        if search.space == Space::Types && self.has_module(step.scope, step.name) {
+            search.note(Seen::Module);
+            return Ok(());
         }
         self.step_on(search, step)
     }
@@ -159,15 +206,6 @@ impl<'a> Scopes<'a> {
         false
     }
 
-    /// Whether a scope declares a name, and then whether that can be seen from elsewhere.
-    fn declares(&self, scope: usize, name: &str, space: Space) -> Option<bool> {
-        let scope = self.scopes.get(scope)?;
-        match space {
-            Space::Types => Some(scope.types.get(name)?.is_public),
-            Space::Constants => Some(scope.constants.get(name)?.is_public),
-        }
-    }
-
     /// Looks where a path leads that brings in a name.
     fn follow(
         &self,
@@ -178,22 +216,38 @@ impl<'a> Scopes<'a> {
         let [before @ .., own] = path else {
             return Ok(());
         };
-        if let [root, ..] = before
-            && self.known_crate(step.scope, root).is_some()
-        {
+        if self.is_of_known(step.scope, before) {
             search.note(Seen::Known(own));
             return Ok(());
         }
-        match self.scope_of(step.scope, before) {
-            Some(scope) if !before.is_empty() => search.add(Step {
+        // A name alone is that of a crate, or of what stands beside the `use`.
+        let target = if before.is_empty() {
+            self.beside(step, own)
+        } else {
+            self.scope_of(step.scope, before)
+        };
+        match target {
+            Some(scope) => search.add(Step {
                 scope,
                 name: own,
                 sees_all: true,
             }),
-            _ => {
-                search.note(Seen::Elsewhere(own));
+            None => {
+                // In a module whose file has another name nothing is looked for by its name alone.
+                let name = if self.is_misnamed(before) { "" } else { *own };
+                search.note(Seen::Elsewhere(name));
                 Ok(())
             }
+        }
+    }
+
+    /// The scope of a step, where it has this other name.
+    fn beside(&self, step: Step<'a>, own: &str) -> Option<usize> {
+        let scope = self.scopes.get(step.scope)?;
+        if own != step.name && (scope.types.contains_key(own) || scope.imports.contains_key(own)) {
+            Some(step.scope)
+        } else {
+            None
         }
     }
 
@@ -203,7 +257,9 @@ impl<'a> Scopes<'a> {
             return Ok(());
         };
         for glob in &scope.globs {
-            if !glob.is_public && !step.sees_all {
+            if (!glob.sight.is_public && !step.sees_all)
+                || self.is_of_known(step.scope, &glob.path)
+            {
                 continue;
             }
             match self.scope_of(step.scope, &glob.path) {
@@ -212,6 +268,7 @@ impl<'a> Scopes<'a> {
                     name: step.name,
                     sees_all: self.is_round(target, search.origin),
                 })?,
+                None if is_of_type(&glob.path) => {}
                 // What a body brings in so hides what stands round it.
                 None if scope.kind == Kind::Body => search.note(Seen::ByGlob),
                 None => search.has_glob = true,

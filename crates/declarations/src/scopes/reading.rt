@@ -1,5 +1,5 @@
 //! What the words of a file declare, define and bring in, and in which scope.
-use super::{Constant, Declared, Kind, Meaning, Scopes, Stand, put, text_of};
+use super::{Constant, Declared, Kind, Meaning, Scopes, Sight, Stand, put, text_of};
 use declaration_parser::attributes::{closes, first_word, opens, same_words};
 use declaration_parser::parser::plain_name;
 use declaration_parser::tokens::{Token, first_letter, is_among, is_lifetime};
@@ -16,8 +16,16 @@ struct Within<'a> {
     modules: usize,
     /// The module whose brace is next.
     next: Option<usize>,
-    /// Whether a call of a macro encloses it, which may put it into the module.
+    /// Whether a macro or a call of one encloses it, which may put it into the module.
     is_macro: bool,
+    /// Whether the rules of a macro are next, and the name of the macro whose rules enclose it.
+    is_rules: bool,
+    maker: &'a str,
+    /// What is handed to that macro first, by the name that it has there.
+    handed: &'a str,
+    /// Whether an attribute before it has a condition, or names the file of a module.
+    is_conditional: bool,
+    has_path: bool,
     before: &'a str,
 }
 
@@ -95,15 +103,35 @@ fn is_name(word: &str) -> bool {
     }
 }
 
-impl Within<'_> {
+impl<'a> Within<'a> {
     /// Whether what stands here is of the file or of a module.
     fn is_top(self) -> bool {
         self.depth == self.modules
     }
 
-    /// Whether what stands here can be seen from elsewhere.
-    fn is_public(self) -> bool {
-        is_among(self.before, &["pub", ")"])
+    /// Who sees what stands here.
+    fn sight(self) -> Sight {
+        Sight {
+            is_public: is_among(self.before, &["pub", ")"]),
+            is_conditional: self.is_conditional || (self.is_macro && !self.is_top()),
+        }
+    }
+
+    /// Notes what a word says of the item that is next: of an attribute, or of a macro's rules.
+    fn note(&mut self, word: &'a str) {
+        match word {
+            ";" | "{" | "}" => {
+                self.is_rules = false;
+                self.is_conditional = false;
+                self.has_path = false;
+            }
+            "cfg" if self.before == "[" => self.is_conditional = true,
+            "=" if self.before == "path" => self.has_path = true,
+            "macro_rules" => self.is_rules = true,
+            _ if self.is_rules && self.before == "!" => self.maker = word,
+            _ if self.before == "$" && self.handed.is_empty() => self.handed = word,
+            _ => {}
+        }
     }
 }
 
@@ -117,6 +145,11 @@ impl<'a> Scopes<'a> {
             modules: 0,
             next: None,
             is_macro: false,
+            is_rules: false,
+            maker: "",
+            handed: "",
+            is_conditional: false,
+            has_path: false,
             before: "",
         };
         let mut rest = tokens;
@@ -137,7 +170,7 @@ impl<'a> Scopes<'a> {
         if opens(word) {
             next.depth = within.depth.saturating_add(1);
             if within.is_top() {
-                next.is_macro = within.before == "!";
+                next.is_macro = within.before == "!" || within.is_rules;
             }
             if let Some(module) = within.next {
                 next.module = module;
@@ -152,8 +185,11 @@ impl<'a> Scopes<'a> {
             }
             if next.is_top() {
                 next.body = None;
+                next.maker = "";
+                next.handed = "";
             }
         }
+        next.note(word);
         next.before = word;
         next
     }
@@ -172,7 +208,7 @@ impl<'a> Scopes<'a> {
         Ok(body)
     }
 
-    /// Adds what a word defines with those behind it.
+    /// Adds what a word defines or brings in with those behind it.
     fn read_word(
         &mut self,
         token: &'a Token,
@@ -183,30 +219,102 @@ impl<'a> Scopes<'a> {
             return Ok(());
         };
         let (name, mark) = (plain_name(text_of(second)), text_of(third));
-        if !is_name(name) && text_of(token) != "use" {
+        match text_of(token) {
+            word if name == "!" => self.read_call(word, behind, within),
+            word if name == "$" && mark == within.handed => self.read_maker(word, within),
+            "use" if name != "<" => {
+                let sight = within.sight();
+                let scope = self.scope_within(within)?;
+                self.read_use(scope, ended(behind), sight)
+            }
+            "crate" if mark == "as" && within.before == "extern" => self.read_crate(
+                name, behind, within,
+            ),
+            word if is_name(name) => self.read_item(word, behind, within),
+            _ => Ok(()),
+        }
+    }
+
+    /// Adds what the call of a macro brings in or declares, as far as that is known.
+    fn read_call(
+        &mut self,
+        word: &'a str,
+        behind: &'a [Token],
+        within: &Within<'a>,
+    ) -> Result<(), AllocError> {
+        let [_, _, first, ..] = behind else {
+            return Ok(());
+        };
+        if !within.is_top() {
             return Ok(());
         }
-        match text_of(token) {
+        if word == "include" {
+            return self.add_include(within.module, within.sight());
+        }
+        let name = plain_name(text_of(first));
+        if self.makers.contains_key(word) && is_name(name) {
+            return self.declare(within.module, name, Meaning::Unmarked, within.sight());
+        }
+        Ok(())
+    }
+
+    /// Keeps the name of a macro that declares a type by the name which is handed to it first.
+    fn read_maker(&mut self, word: &str, within: &Within<'a>) -> Result<(), AllocError> {
+        if within.maker.is_empty() || !is_among(word, &["struct", "enum", "union", "type"]) {
+            return Ok(());
+        }
+        put(&mut self.makers, within.maker, ())
+    }
+
+    /// Adds what a word defines with the name behind it.
+    fn read_item(
+        &mut self,
+        word: &'a str,
+        behind: &'a [Token],
+        within: &mut Within<'a>,
+    ) -> Result<(), AllocError> {
+        let [second, third, ..] = behind else {
+            return Ok(());
+        };
+        let (name, mark) = (plain_name(text_of(second)), text_of(third));
+        match word {
             "struct" | "enum" | "union" => self.read_type(name, second.line, within),
             "mod" if mark == "{" && within.is_top() => self.read_module(name, within),
-            "mod" if mark == ";" && within.is_top() => {
-                let only = if self.placed.contains_key(name) {
-                    None
-                } else {
-                    Some(within.module)
-                };
-                put(&mut self.placed, name, only)
-            }
+            "mod" if mark == ";" && within.is_top() => self.read_file_module(name, within),
             "type" => self.read_alias(name, behind, within),
             "const" if mark == ":" && !is_among(within.before, &["<", ",", "*"]) =>
                 self.read_constant(name, behind, within),
-            "use" => {
-                let is_public = within.is_public();
-                let scope = self.scope_within(within)?;
-                self.read_use(scope, ended(behind), is_public)
-            }
             _ => Ok(()),
         }
+    }
+
+    /// Adds a crate that has another name here.
+    fn read_crate(
+        &mut self,
+        own: &'a str,
+        behind: &'a [Token],
+        within: &mut Within<'a>,
+    ) -> Result<(), AllocError> {
+        let [_, _, name, ..] = behind else {
+            return Ok(());
+        };
+        let sight = within.sight();
+        let scope = self.scope_within(within)?;
+        self.add_crate(scope, own, plain_name(text_of(name)), sight)
+    }
+
+    /// Adds a module that has a file of its own.
+    fn read_file_module(&mut self, name: &'a str, within: &Within<'a>) -> Result<(), AllocError> {
+        put(&mut self.named, name, ())?;
+        if within.has_path {
+            put(&mut self.misnamed, name, ())?;
+        }
+        let only = if self.placed.contains_key(name) {
+            None
+        } else {
+            Some(within.module)
+        };
+        put(&mut self.placed, name, only)
     }
 
     /// Adds a declared type.
@@ -216,11 +324,11 @@ impl<'a> Scopes<'a> {
         line: usize,
         within: &mut Within<'a>,
     ) -> Result<(), AllocError> {
-        let is_public = within.is_public();
+        let sight = within.sight();
         let scope = self.scope_within(within)?;
         let file = self.file_at(scope);
         self.add_stand(name, Stand { file, line, scope })?;
-        self.declare(scope, name, Meaning::Unmarked, is_public)
+        self.declare(scope, name, Meaning::Unmarked, sight)
     }
 
     /// Adds where a type is declared.
@@ -240,8 +348,9 @@ impl<'a> Scopes<'a> {
         scope: usize,
         name: &'a str,
         meaning: Meaning<'a>,
-        is_public: bool,
+        sight: Sight,
     ) -> Result<(), AllocError> {
+        put(&mut self.named, name, ())?;
         let Some(scope) = self.scopes.get_mut(scope) else {
             return Ok(());
         };
@@ -267,11 +376,12 @@ impl<'a> Scopes<'a> {
             ) => Meaning::NoAlias,
             _ => Meaning::Twice,
         };
-        put(&mut scope.types, name, Declared { meaning, is_public })
+        put(&mut scope.types, name, Declared { meaning, sight })
     }
 
     /// Adds a module that is written here, which is next.
     fn read_module(&mut self, name: &'a str, within: &mut Within<'a>) -> Result<(), AllocError> {
+        put(&mut self.named, name, ())?;
         let file = self.file_at(within.module);
         let module = self.add_scope(Kind::Module, file, within.module)?;
         within.next = Some(module);
@@ -293,7 +403,7 @@ impl<'a> Scopes<'a> {
         behind: &'a [Token],
         within: &mut Within<'a>,
     ) -> Result<(), AllocError> {
-        let is_public = within.is_public();
+        let sight = within.sight();
         let meaning = if within.is_top() && is_plain_alias(behind) {
             Meaning::Alias(value_of(behind))
         } else {
@@ -306,7 +416,7 @@ impl<'a> Scopes<'a> {
         let scope = self.scope_within(within)?;
         let file = self.file_at(scope);
         self.add_stand(name, Stand { file, line, scope })?;
-        self.declare(scope, name, meaning, is_public)
+        self.declare(scope, name, meaning, sight)
     }
 
     /// Adds a constant; of one in a body nothing is known but that it is there.
@@ -316,7 +426,7 @@ impl<'a> Scopes<'a> {
         behind: &'a [Token],
         within: &mut Within<'a>,
     ) -> Result<(), AllocError> {
-        let is_public = within.is_public();
+        let sight = within.sight();
         let is_top = within.is_top();
         let now = if is_top { Some(value_of(behind)) } else { None };
         let place = self.scope_within(within)?;
@@ -337,7 +447,7 @@ impl<'a> Scopes<'a> {
             ) if same_words(before, now) => Some(now),
             _ => None,
         };
-        put(&mut scope.constants, name, Constant { words, is_public })?;
+        put(&mut scope.constants, name, Constant { words, sight })?;
         if is_top && before.is_none() {
             return self.add_defined(name, place);
         }

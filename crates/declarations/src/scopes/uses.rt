@@ -1,7 +1,7 @@
 //! What `use` brings into a scope, name by name.
-use super::{Import, Scopes, put, text_of};
+use super::{Import, Scopes, Sight, put, text_of};
 use declaration_parser::parser::plain_name;
-use declaration_parser::tokens::{Token, first_letter, is_among};
+use declaration_parser::tokens::{Token, is_among};
 use std::alloc::{AllocError, Global};
 
 /// The names before one in the words of a `use`, of which so many stand before each `{` that is open.
@@ -44,14 +44,6 @@ fn is_same(first: &[&str], second: &[&str], crates: &[&str]) -> bool {
     }
 }
 
-/// Whether a name begins with a capital, as those of types do.
-fn is_of_type(name: &str) -> bool {
-    match first_letter(name) {
-        Some(first) => first.is_uppercase(),
-        None => false,
-    }
-}
-
 impl<'a> Prefix<'a> {
     /// Goes back to what stands before the `{` that is open.
     fn cut(&mut self) {
@@ -66,6 +58,14 @@ impl<'a> Prefix<'a> {
     fn open(&mut self) -> Result<(), AllocError> {
         let length = self.names.len();
         self.kept.push(length)?;
+        Ok(())
+    }
+
+    /// Takes a colon, which tells of other crates where a path begins with it.
+    fn colon(&mut self) -> Result<(), AllocError> {
+        if self.names.is_empty() {
+            self.names.push("::")?;
+        }
         Ok(())
     }
 
@@ -85,7 +85,7 @@ impl<'a> Scopes<'a> {
         &mut self,
         scope: usize,
         words: &'a [Token],
-        is_public: bool,
+        sight: Sight,
     ) -> Result<(), AllocError> {
         let mut prefix = Prefix {
             alloc: self.alloc,
@@ -99,57 +99,71 @@ impl<'a> Scopes<'a> {
             };
             rest = behind;
             match (text_of(token), behind) {
-                (":", _) => {}
+                (":", _) => prefix.colon()?,
                 (",", _) => prefix.cut(),
                 ("{", _) => prefix.open()?,
                 ("}", _) => {
                     prefix.cut();
                     prefix.kept.pop();
                 }
-                ("*", _) => self.add_glob(scope, &prefix, is_public)?,
+                ("*", _) => {
+                    let path = copied(self.alloc, &prefix.names)?;
+                    self.add_glob(scope, path, sight)?;
+                }
                 (own, [by, other, after @ ..]) if text_of(by) == "as" => {
                     let path = prefix.with(plain_name(own))?;
-                    self.add_import(scope, plain_name(text_of(other)), path, is_public)?;
+                    self.add_import(scope, plain_name(text_of(other)), path, sight)?;
                     rest = after;
                 }
                 (own, [next, ..]) if text_of(next) == ":" => prefix.names.push(plain_name(own))?,
                 (own, _) => {
                     let path = prefix.with(plain_name(own))?;
                     let name = path.last().copied().unwrap_or("");
-                    self.add_import(scope, name, path, is_public)?;
+                    self.add_import(scope, name, path, sight)?;
                 }
             }
         }
         Ok(())
     }
 
-    /// Adds all that a module has; of a type that are its variants, which are no types.
+    /// Adds all that a module has.
     fn add_glob(
         &mut self,
         scope: usize,
-        prefix: &Prefix<'a>,
-        is_public: bool,
+        path: Vec<&'a str>,
+        sight: Sight,
     ) -> Result<(), AllocError> {
-        let path = copied(self.alloc, &prefix.names)?;
-        let is_known = match path.first() {
-            Some(root) => is_among(root, self.crates),
-            None => false,
-        };
-        let is_of_variants = match path.last() {
-            Some(last) => is_of_type(last),
-            None => false,
-        };
-        if is_known || is_of_variants {
-            return Ok(());
-        }
         if let Some(it) = self.scopes.get_mut(scope) {
             it.globs.push(Import {
                 path,
-                is_public,
+                sight,
                 is_twice: false,
             })?;
         }
         Ok(())
+    }
+
+    /// Adds what another file has that is written in here, of which nothing is known.
+    pub(super) fn add_include(&mut self, scope: usize, sight: Sight) -> Result<(), AllocError> {
+        let mut path = Vec::new(self.alloc);
+        path.push("include!")?;
+        self.add_glob(scope, path, sight)
+    }
+
+    /// Adds another name of a crate, which it has everywhere.
+    pub(super) fn add_crate(
+        &mut self,
+        scope: usize,
+        own: &'a str,
+        name: &'a str,
+        sight: Sight,
+    ) -> Result<(), AllocError> {
+        if !self.is_known(own) {
+            put(&mut self.misnamed, name, ())?;
+        }
+        let mut path = Vec::new(self.alloc);
+        path.push(own)?;
+        self.add_import(scope, name, path, sight)
     }
 
     /// Adds a name that is brought in.
@@ -158,8 +172,9 @@ impl<'a> Scopes<'a> {
         scope: usize,
         name: &'a str,
         path: Vec<&'a str>,
-        is_public: bool,
+        sight: Sight,
     ) -> Result<(), AllocError> {
+        put(&mut self.named, name, ())?;
         let crates = self.crates;
         let Some(it) = self.scopes.get_mut(scope) else {
             return Ok(());
@@ -173,7 +188,7 @@ impl<'a> Scopes<'a> {
             name,
             Import {
                 path,
-                is_public,
+                sight,
                 is_twice,
             },
         )

@@ -67,6 +67,9 @@ decreases-resolved l = 16 * l.depth + 10
 abbrev pub decreases-option : goal.decreases-option
 decreases-option l = 16 * l.depth + 2
 
+abbrev pub decreases-ordered : goal.decreases-ordered
+decreases-ordered l = 16 * l.depth + 1
+
 abbrev pub decreases-outcome : goal.decreases-outcome
 decreases-outcome l = 16 * l.depth + 2
 

@@ -1,0 +1,3 @@
+pub struct str(u8);
+// message
+struct A<'a> { s: &'a str }

@@ -1,0 +1,3 @@
+type Option<T> = core::option::Option<T>;
+// message
+struct A(Option<u8>);

@@ -1,0 +1,7 @@
+mod text {
+    // message
+    pub struct String { pub length: u8 }
+}
+use text::String;
+// message
+struct A(String, std::string::String);

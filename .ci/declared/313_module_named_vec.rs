@@ -1,0 +1,3 @@
+mod Vec {}
+// message
+struct A(Vec<u8>);

@@ -1,0 +1,3 @@
+extern crate own_texts as heapless;
+// message
+struct A(heapless::String);

@@ -1,0 +1,7 @@
+mod heapless {
+    // message
+    pub struct String(pub u16);
+}
+use heapless::*;
+// message
+struct A { s: String }

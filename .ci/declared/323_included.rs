@@ -1,0 +1,3 @@
+include!("types.rs");
+// message
+struct A(Level);

@@ -1,0 +1,4 @@
+#[cfg(feature = "wide")]
+type u8 = u16;
+// message
+struct A(u8);

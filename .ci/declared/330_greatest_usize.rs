@@ -1,0 +1,2 @@
+// message
+struct A([bool; usize::MAX / 0x1000_0000_0000_0000]);

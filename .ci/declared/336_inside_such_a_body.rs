@@ -1,0 +1,5 @@
+fn f() {
+    type u8 = u16;
+    // message
+    struct A(u8);
+}

@@ -1,0 +1,3 @@
+use core::fmt::Result;
+// message
+struct A(Result);

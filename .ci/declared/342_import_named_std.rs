@@ -1,0 +1,3 @@
+use other::texts as std;
+// message
+struct A(std::string::String);

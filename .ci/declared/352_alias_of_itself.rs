@@ -1,0 +1,3 @@
+type u8 = u8;
+// message
+struct A(u8);
