@@ -215,6 +215,7 @@ fn add_declarations<'a>(
     alloc: Global,
     purpose: Purpose,
     file: &'a Read,
+    by_hand: &ByHand<'a>,
     found: &mut Vec<Declaration<'a>>,
     faults: &mut Faults<'a>,
 )
@@ -225,12 +226,19 @@ fn add_declarations<'a>(
     faults.put(file.faults.as_str());
     faults.turn_to(file.file.as_str());
     refuse_renamed(&file.tokens, faults);
-    let mut by_hand = ByHand::new(alloc);
-    faults.note(by_hand.add_all(&file.tokens).is_err());
     let mut rest: &'a [Token] = &file.tokens;
     while !rest.is_empty() {
-        rest = read_front(alloc, purpose, file, &by_hand, rest, found, faults);
+        rest = read_front(alloc, purpose, file, by_hand, rest, found, faults);
     }
+}
+
+/// The types of all files that implement one of serde's traits by hand.
+fn by_hand_in<'a>(alloc: Global, files: &'a [Read]) -> Result<ByHand<'a>, AllocError> {
+    let mut by_hand = ByHand::new(alloc);
+    for file in files {
+        by_hand.add_all(&file.tokens)?;
+    }
+    Ok(by_hand)
 }
 
 /// Says that nothing is marked, where that is all that there is to say.
@@ -258,10 +266,11 @@ pub fn declarations(
     ensures accounted { IfOk result (λ r. string_bytes r.1 ≡ []
         → AreDeclaredIn r.0.items (tokens_in files.now)) }
 {
+    let by_hand = by_hand_in(alloc, files)?;
     let mut found = Vec::new(alloc);
     let mut faults = Faults::new(alloc);
     for file in files {
-        add_declarations(alloc, purpose, file, &mut found, &mut faults);
+        add_declarations(alloc, purpose, file, &by_hand, &mut found, &mut faults);
     }
     refuse_nothing(files, found.is_empty(), &mut faults);
     let faults = faults.finished()?;

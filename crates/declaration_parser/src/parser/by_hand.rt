@@ -5,7 +5,8 @@ use crate::words::BY_HAND;
 use std::alloc::{AllocError, Global};
 use std::collections::BTreeMap;
 
-/// The types of a file that implement one of serde's traits by hand, so that a file is gone over once for all of its types.
+/// The types of files that implement one of serde's traits by hand, so that each file is gone over
+/// once for all types.
 #[derive(Drop)]
 pub struct ByHand<'a> {
     written: BTreeMap<&'a str, ()>,
@@ -21,8 +22,9 @@ struct ImplHead {
     /// The traits that were named in it.
     writes: bool,
     reads: bool,
-    /// Whether the type is next.
+    /// Whether the type is next, or a name of the path that leads to it; and whether it may go on.
     is_next: bool,
+    is_path: bool,
 }
 
 impl ImplHead {
@@ -34,6 +36,7 @@ impl ImplHead {
             writes: false,
             reads: false,
             is_next: false,
+            is_path: false,
         }
     }
 
@@ -47,7 +50,10 @@ impl ImplHead {
 
     /// Goes over a word.
     fn go_over(&mut self, word: &str) {
-        self.is_next = self.is_head && self.depth == 0 && word == "for";
+        let is_first = self.is_head && self.depth == 0 && word == "for";
+        let is_name = self.is_next && word != ":";
+        self.is_path = is_first || is_name || (self.is_path && word == ":");
+        self.is_next = is_first || (self.is_path && word == ":");
         match word {
             "impl" => self.begin(),
             "<" => self.depth = self.depth.saturating_add(1),
