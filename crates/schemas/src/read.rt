@@ -1,10 +1,11 @@
 //! Reading a value by a schema.
 ghost use Rattle.std.specs.Prelude.{true};
-ghost use Rattle.postcard_tree.specs.Reading.{Spelled, TakesBool, RefusesBool, TakesByte, RefusesByte, TakesOctet, TakesNumber, RefusesGroups, IsShort, TakesCharacter, RefusesCharacter, TakesText, RefusesText, TakesSequence, RefusesSequence, RefusesBytes, TakesUpTo, RefusesUpTo, TakesTextUpTo, RefusesTextUpTo, TakesOption, RefusesOption, TakesArray, RefusesEach, GroupOf, TakesVariant, RefusesVariant};
+ghost use Rattle.postcard_tree.specs.Reading.{Spelled, IsShort};
 ghost use Rattle.postcard_tree.specs.Fixed.{TakesFixed};
 ghost use Rattle.postcard_de.specs.Deserializer.{OutcomeOf};
-ghost use Rattle.schemas.specs.Integers.{width_of};
-ghost use Rattle.schemas.specs.Schemas.{ReadsBy, AtTop, OfBool, OfU8, OfI8, OfU16, OfU32, OfU64, OfU128, OfI16, OfI32, OfI64, OfI128, OfLE, OfBE, OfChar, OfText, OfBytes, OfOption, OfList, OfGroup, OfVariant, EachHas, FieldsHave, PayloadHas, NodeHas, TakesFields, TakesPayload, TakesNode, RefusesFields, RefusesPayload, RefusesNode, SchemaTakes, SchemaHas, SchemaReads, SchemaRefuses};
+ghost use Rattle.schemas.specs.declared.node.Node.TheVariants as kind;
+ghost use Rattle.schemas.specs.Schemas.{ReadsBy, AtTop, OfLE, OfBE, SchemaReads, SchemaRefuses};
+ghost use Rattle.schemas.specs.Reading.{ReadsNode, ReadsLeaf, ReadsStructOf, ReadsEnumOf};
 
 use crate::{HasIntegerType, IntegerType, Node, Value};
 use postcard_de::de_flavors::Flavor;
@@ -13,88 +14,77 @@ use postcard_tree::fixint::{BE, LE};
 use postcard_tree::{Error, Result};
 
 fn read_bool<F: Flavor>(d: &mut Deserializer<F>) -> Result<Value>
-    ensures { OutcomeOf F.source d.old d.new result (Spelled (ReadsBy TakesBool (AtTop OfBool)))
-        RefusesBool true }
+    ensures { ReadsLeaf F.source kind.Bool d.old d.new result }
 {
     let v = d.deserialize_bool()?;
     Ok(Value::Bool(v))
 }
 
 fn read_u8<F: Flavor>(d: &mut Deserializer<F>) -> Result<Value>
-    ensures { OutcomeOf F.source d.old d.new result (Spelled (ReadsBy TakesByte (AtTop OfU8)))
-        RefusesByte true }
+    ensures { ReadsLeaf F.source kind.U8 d.old d.new result }
 {
     let v = d.deserialize_u8()?;
     Ok(Value::U8(v))
 }
 
 fn read_i8<F: Flavor>(d: &mut Deserializer<F>) -> Result<Value>
-    ensures { OutcomeOf F.source d.old d.new result (Spelled (ReadsBy TakesOctet (AtTop OfI8)))
-        RefusesByte true }
+    ensures { ReadsLeaf F.source kind.I8 d.old d.new result }
 {
     let v = d.deserialize_i8()?;
     Ok(Value::I8(v))
 }
 
 fn read_u16<F: Flavor>(d: &mut Deserializer<F>) -> Result<Value>
-    ensures { OutcomeOf F.source d.old d.new result
-        (Spelled (ReadsBy (TakesNumber 16) (AtTop OfU16))) (RefusesGroups 3 3) true }
+    ensures { ReadsLeaf F.source kind.U16 d.old d.new result }
 {
     let v = d.deserialize_u16()?;
     Ok(Value::U16(v))
 }
 
 fn read_u32<F: Flavor>(d: &mut Deserializer<F>) -> Result<Value>
-    ensures { OutcomeOf F.source d.old d.new result
-        (Spelled (ReadsBy (TakesNumber 32) (AtTop OfU32))) (RefusesGroups 5 15) true }
+    ensures { ReadsLeaf F.source kind.U32 d.old d.new result }
 {
     let v = d.deserialize_u32()?;
     Ok(Value::U32(v))
 }
 
 fn read_u64<F: Flavor>(d: &mut Deserializer<F>) -> Result<Value>
-    ensures { OutcomeOf F.source d.old d.new result
-        (Spelled (ReadsBy (TakesNumber 64) (AtTop OfU64))) (RefusesGroups 10 1) true }
+    ensures { ReadsLeaf F.source kind.U64 d.old d.new result }
 {
     let v = d.deserialize_u64()?;
     Ok(Value::U64(v))
 }
 
 fn read_u128<F: Flavor>(d: &mut Deserializer<F>) -> Result<Value>
-    ensures { OutcomeOf F.source d.old d.new result
-        (Spelled (ReadsBy (TakesNumber 128) (AtTop OfU128))) (RefusesGroups 19 3) true }
+    ensures { ReadsLeaf F.source kind.U128 d.old d.new result }
 {
     let v = d.deserialize_u128()?;
     Ok(Value::U128(v))
 }
 
 fn read_i16<F: Flavor>(d: &mut Deserializer<F>) -> Result<Value>
-    ensures { OutcomeOf F.source d.old d.new result
-        (Spelled (ReadsBy (TakesNumber 16) (AtTop OfI16))) (RefusesGroups 3 3) true }
+    ensures { ReadsLeaf F.source kind.I16 d.old d.new result }
 {
     let v = d.deserialize_i16()?;
     Ok(Value::I16(v))
 }
 
 fn read_i32<F: Flavor>(d: &mut Deserializer<F>) -> Result<Value>
-    ensures { OutcomeOf F.source d.old d.new result
-        (Spelled (ReadsBy (TakesNumber 32) (AtTop OfI32))) (RefusesGroups 5 15) true }
+    ensures { ReadsLeaf F.source kind.I32 d.old d.new result }
 {
     let v = d.deserialize_i32()?;
     Ok(Value::I32(v))
 }
 
 fn read_i64<F: Flavor>(d: &mut Deserializer<F>) -> Result<Value>
-    ensures { OutcomeOf F.source d.old d.new result
-        (Spelled (ReadsBy (TakesNumber 64) (AtTop OfI64))) (RefusesGroups 10 1) true }
+    ensures { ReadsLeaf F.source kind.I64 d.old d.new result }
 {
     let v = d.deserialize_i64()?;
     Ok(Value::I64(v))
 }
 
 fn read_i128<F: Flavor>(d: &mut Deserializer<F>) -> Result<Value>
-    ensures { OutcomeOf F.source d.old d.new result
-        (Spelled (ReadsBy (TakesNumber 128) (AtTop OfI128))) (RefusesGroups 19 3) true }
+    ensures { ReadsLeaf F.source kind.I128 d.old d.new result }
 {
     let v = d.deserialize_i128()?;
     Ok(Value::I128(v))
@@ -118,9 +108,7 @@ fn big_as<T: HasIntegerType, F: Flavor>(d: &mut Deserializer<F>) -> Result<Value
 }
 
 fn read_little<F: Flavor>(d: &mut Deserializer<F>, of: IntegerType) -> Result<Value>
-    ensures { OutcomeOf F.source d.old d.new result
-        (Spelled (ReadsBy (TakesFixed (width_of of)) (AtTop (OfLE of))))
-        (IsShort (width_of of)) true }
+    ensures { ReadsLeaf F.source (kind.LE of) d.old d.new result }
 {
     match of {
         IntegerType::U16 => little_as::<u16, F>(d),
@@ -135,9 +123,7 @@ fn read_little<F: Flavor>(d: &mut Deserializer<F>, of: IntegerType) -> Result<Va
 }
 
 fn read_big<F: Flavor>(d: &mut Deserializer<F>, of: IntegerType) -> Result<Value>
-    ensures { OutcomeOf F.source d.old d.new result
-        (Spelled (ReadsBy (TakesFixed (width_of of)) (AtTop (OfBE of))))
-        (IsShort (width_of of)) true }
+    ensures { ReadsLeaf F.source (kind.BE of) d.old d.new result }
 {
     match of {
         IntegerType::U16 => big_as::<u16, F>(d),
@@ -152,16 +138,14 @@ fn read_big<F: Flavor>(d: &mut Deserializer<F>, of: IntegerType) -> Result<Value
 }
 
 fn read_char<F: Flavor>(d: &mut Deserializer<F>) -> Result<Value>
-    ensures { OutcomeOf F.source d.old d.new result
-        (Spelled (ReadsBy TakesCharacter (AtTop OfChar))) RefusesCharacter true }
+    ensures { ReadsLeaf F.source kind.Char d.old d.new result }
 {
     let v = d.deserialize_char()?;
     Ok(Value::Char(v))
 }
 
 fn read_text<F: Flavor>(d: &mut Deserializer<F>) -> Result<Value>
-    ensures { OutcomeOf F.source d.old d.new result (Spelled (ReadsBy TakesText (AtTop OfText)))
-        RefusesText true }
+    ensures { ReadsLeaf F.source kind.Text d.old d.new result }
 {
     let v = d.deserialize_string()?;
     Ok(Value::Text(v))
@@ -169,8 +153,7 @@ fn read_text<F: Flavor>(d: &mut Deserializer<F>) -> Result<Value>
 
 // A text that is too long is taken whole before it is refused.
 fn read_text_up_to<F: Flavor>(d: &mut Deserializer<F>, most: u64) -> Result<Value>
-    ensures { OutcomeOf F.source d.old d.new result
-        (Spelled (ReadsBy (TakesTextUpTo most) (AtTop OfText))) (RefusesTextUpTo most) true }
+    ensures { ReadsLeaf F.source (kind.TextUpTo most) d.old d.new result }
 {
     let text = d.deserialize_string()?;
     if text.len() as u64 > most {
@@ -180,8 +163,7 @@ fn read_text_up_to<F: Flavor>(d: &mut Deserializer<F>, most: u64) -> Result<Valu
 }
 
 fn read_bytes<F: Flavor>(d: &mut Deserializer<F>) -> Result<Value>
-    ensures { OutcomeOf F.source d.old d.new result
-        (Spelled (ReadsBy (TakesSequence TakesByte) (AtTop OfBytes))) RefusesBytes true }
+    ensures { ReadsLeaf F.source kind.Bytes d.old d.new result }
 {
     let v = d.deserialize_byte_buf()?;
     Ok(Value::Bytes(v))
@@ -194,10 +176,7 @@ fn read_option<F: Flavor>(
     place: usize,
     depth: u32,
 ) -> Result<Value>
-    ensures { OutcomeOf F.source d.old d.new result
-        (Spelled (ReadsBy (TakesOption (SchemaTakes depth nodes.now place))
-        (AtTop (OfOption (SchemaHas depth nodes.now place)))))
-        (RefusesOption (SchemaRefuses depth nodes.now place)) true }
+    ensures { ReadsNode F.source depth nodes.now (kind.Option place) d.old d.new result }
 {
     if !d.deserialize_option()? {
         return Ok(Value::Absent);
@@ -217,11 +196,7 @@ fn read_list<F: Flavor>(
     place: usize,
     depth: u32,
 ) -> Result<Value>
-    ensures { OutcomeOf F.source d.old d.new result
-        (Spelled (ReadsBy (TakesSequence (SchemaTakes depth nodes.now place))
-        (AtTop (OfList (EachHas (SchemaHas depth nodes.now place))))))
-        (RefusesSequence (SchemaTakes depth nodes.now place)
-        (SchemaRefuses depth nodes.now place)) true }
+    ensures { ReadsNode F.source depth nodes.now (kind.List place) d.old d.new result }
 {
     let count = d.deserialize_u64()?;
     let mut items = Vec::new(d.allocator());
@@ -243,11 +218,7 @@ fn read_list_up_to<F: Flavor>(
     place: usize,
     depth: u32,
 ) -> Result<Value>
-    ensures { OutcomeOf F.source d.old d.new result
-        (Spelled (ReadsBy (TakesUpTo most (SchemaTakes depth nodes.now place))
-        (AtTop (OfList (EachHas (SchemaHas depth nodes.now place))))))
-        (RefusesUpTo most (SchemaTakes depth nodes.now place)
-        (SchemaRefuses depth nodes.now place)) true }
+    ensures { ReadsNode F.source depth nodes.now (kind.ListUpTo most place) d.old d.new result }
 {
     let count = d.deserialize_u64()?;
     let mut items = Vec::new(d.allocator());
@@ -271,11 +242,7 @@ fn read_array<F: Flavor>(
     place: usize,
     depth: u32,
 ) -> Result<Value>
-    ensures { OutcomeOf F.source d.old d.new result
-        (Spelled (ReadsBy (TakesArray count (SchemaTakes depth nodes.now place))
-        (AtTop (OfGroup (EachHas (SchemaHas depth nodes.now place))))))
-        (RefusesEach (SchemaTakes depth nodes.now place) (SchemaRefuses depth nodes.now place)
-        count) true }
+    ensures { ReadsNode F.source depth nodes.now (kind.Array count place) d.old d.new result }
 {
     let mut items = Vec::new(d.allocator());
     for _ in 0..count {
@@ -294,11 +261,7 @@ fn read_fields<F: Flavor>(
     fields: &[usize],
     depth: u32,
 ) -> Result<Value>
-    ensures { OutcomeOf F.source d.old d.new result
-        (Spelled (ReadsBy (GroupOf (TakesFields (SchemaTakes depth nodes.now) fields.now))
-        (AtTop (OfGroup (FieldsHave (SchemaHas depth nodes.now) fields.now)))))
-        (RefusesFields (SchemaTakes depth nodes.now) (SchemaRefuses depth nodes.now)
-        fields.now) true }
+    ensures { ReadsStructOf F.source depth nodes.now fields.now d.old d.new result }
 {
     let mut items = Vec::new(d.allocator());
     for i in 0..fields.len() {
@@ -317,10 +280,7 @@ fn read_variant<F: Flavor>(
     payloads: &[usize],
     depth: u32,
 ) -> Result<Value>
-    ensures { OutcomeOf F.source d.old d.new result
-        (Spelled (ReadsBy (TakesVariant (TakesPayload (SchemaTakes depth nodes.now) payloads.now))
-        (AtTop (OfVariant (PayloadHas (SchemaHas depth nodes.now) payloads.now)))))
-        (RefusesVariant (RefusesPayload (SchemaRefuses depth nodes.now) payloads.now)) true }
+    ensures { ReadsEnumOf F.source depth nodes.now payloads.now d.old d.new result }
 {
     let index = d.deserialize_enum()?;
     if index as usize >= payloads.len() {
@@ -340,10 +300,7 @@ fn read_node<F: Flavor>(
     node: &Node,
     depth: u32,
 ) -> Result<Value>
-    ensures { OutcomeOf F.source d.old d.new result
-        (Spelled (ReadsBy (TakesNode (SchemaTakes depth nodes.now) node.now)
-        (AtTop (NodeHas (SchemaHas depth nodes.now) node.now))))
-        (RefusesNode (SchemaTakes depth nodes.now) (SchemaRefuses depth nodes.now) node.now) true }
+    ensures { ReadsNode F.source depth nodes.now node.now d.old d.new result }
 {
     match node {
         Node::Bool => read_bool(d),
