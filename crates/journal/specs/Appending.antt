@@ -62,13 +62,23 @@ OnTried (Err (Refused e)) P = Unit {0}
 OnTried (Err Spent) P = Unit {0}
 OnTried (Err Full) P = Unit {0}
 
+-- where a log stands: its line, how many of the line's bytes no crash takes, the number of the next
+-- record, and whether an append or a sync failed
+pub record LogPlace : Type 0 where
+  pub line : LineState
+  pub settled : ℕ
+  pub next : ℕ
+  pub spent : Bool
+
 -- A log was opened: a zero was put behind what the store held; no crash takes any of that; and what is read of it was handed on.
 pub record IsOpened {S V : Type 0} (took : S → List (Answer (ℕ × V)) → S → Type 0)
-    (judging : Judging (ℕ × V)) (limit first : ℕ) (old new : LineState) (settled : ℕ)
-    (visitor later : S) (next : ℕ) (spent : Bool) : Type 0 where
-  pub wrote : Wrote old new (0 ∷ [])
-  pub quiet : new.faults ≡ old.faults
-  pub settles : Settles new.told settled
-  pub read : IfSome new.told (λ bytes. IsHanded took judging limit first visitor later next bytes)
-  pub few : IfSome new.told (λ bytes. old.calls_left ≤ new.calls_left + (length bytes + 3))
-  pub ready : spent ≡ false
+    (judging : Judging (ℕ × V)) (limit first : ℕ) (old : LineState) (log : LogPlace)
+    (visitor later : S) : Type 0 where
+  pub wrote : Wrote old log.line (0 ∷ [])
+  pub quiet : log.line.faults ≡ old.faults
+  pub settles : Settles log.line.told log.settled
+  pub read : IfSome log.line.told
+      (λ bytes. IsHanded took judging limit first visitor later log.next bytes)
+  pub few : IfSome log.line.told
+      (λ bytes. old.calls_left ≤ log.line.calls_left + (length bytes + 3))
+  pub ready : log.spent ≡ false

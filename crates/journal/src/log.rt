@@ -67,7 +67,7 @@ pub struct Journal<S, const N: usize> {
 }
 
 impl<S: Store, const N: usize> Journal<S, N> {
-    ghost use Rattle.journal.specs.Logs.{store_of, next_of, spent_of};
+    ghost use Rattle.journal.specs.Logs.{store_of, next_of, spent_of, log_place};
 
     /// Opens a log: puts a zero behind what is there, syncs, and hands what is read to the visitor. The first record of an empty
     /// log gets the number `first`, any other one the number behind the greatest that was read, and at least `first`.
@@ -87,8 +87,7 @@ impl<S: Store, const N: usize> Journal<S, N> {
         requires some { 1 < N }
         requires fits { ReceiverFitsInMemory N.row }
         ensures opened { IfOk result (λ j. IsOpened V.took (M.judging messages.now) N first
-            (S.line store) (S.line (store_of j)) (S.settled (store_of j))
-            visitor.old visitor.new (next_of j) (spent_of j)) }
+            (S.line store) (log_place S.line S.settled j) visitor.old visitor.new) }
         ensures cause { IfErr result (λ e. OpenCause (Failed (S.line store) (S.line e.store))
             (M.judging messages.now).growing (HaltsBehind V.took V.halts visitor.old) e.cause) }
     {

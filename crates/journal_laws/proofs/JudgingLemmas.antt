@@ -16,6 +16,7 @@ use Rattle.link.specs.Lemmas.Pieces.{unfinished_alone, unfinished_behind, none_u
 use Rattle.link.specs.declared.receiver.Answer.{Answer}
 use Rattle.link.specs.declared.receiver.Answer.TheVariants.{Value, Damaged, TooLong, Cut}
 use Rattle.journal.specs.Records.{numbered, takes_record, reads_record}
+use Rattle.journal.specs.Appending.{LogPlace}
 use Rattle.journal_scan.specs.Scanning.{IsStretchAt, with_zero}
 use Rattle.journal_scan.specs.Checks.{StandAt, AreStretches, IsRest, listed_rest, record_in, records_in, numbers_of}
 use Rattle.journal_scan.specs.Tallies.{IsTally, behind_greatest}
@@ -119,9 +120,11 @@ behind_on n (suc k) = let h = behind_on (n + 1) k in omega (arith, h)
 
 module _ {V W : Type 0} (told : W → List (Stretch V) → W → Type 0) (counts : ℕ → V → Bool) (takes : Tree → Type 0) (reads : Tree → V → Type 0) (limit : ℕ)
     (on : CountsOn (takes_record takes) (HoldsExactly (takes_record takes)) limit 0) where
-  pub judges_history : (old new : LineState) (settled : ℕ) (watcher later : W) (report : Report V) (next : ℕ) (spent : Bool)
-      → IsOpenedBy told counts takes reads limit old new settled watcher later report next spent → JudgesAnyHistory told counts takes reads limit old.told new.told watcher later report next
-  judges_history old new settled watcher later report next spent o any events framed is count e =
+  pub judges_history : (old : LineState) (place : LogPlace) (watcher later : W) (report : Report V)
+      → IsOpenedBy told counts takes reads limit old place watcher later report
+      → JudgesAnyHistory told counts takes reads limit old.told place.line.told watcher later report place.next
+  judges_history old place watcher later report o any events framed is count e =
+      let new = place.line in
       let log = line 0 (history 0 numbered any [] events) in
       let bytes : new.told ≡ Some (held log) = told_on log (0 ∷ []) new.told old.faults new.faults (subst (λ x. Grew x new.told old.faults new.faults (0 ∷ [])) e o.wrote.grew) o.quiet in
       let c = o.checked in

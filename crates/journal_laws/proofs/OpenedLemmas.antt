@@ -1,5 +1,5 @@
 -- What opening reads of a history.
-use Rattle.std.proofs.Common.{◌≡◌, ℕ, ◌+◌, ◌-◌, ◌<◌, ◌≤◌, ◌^◌, min, Bool, List, [], ◌∷◌, ◌++◌, length, Option, Some, None, refl, sym, ap, ◌∙◌, subst, inr, arith}
+use Rattle.std.proofs.Common.{◌≡◌, ℕ, ◌+◌, ◌-◌, ◌<◌, ◌≤◌, ◌^◌, min, List, [], ◌∷◌, ◌++◌, length, Option, Some, None, refl, sym, ap, ◌∙◌, subst, inr, arith}
 use Rattle.std.specs.Prelude.{IfSome}
 use Rattle.std.specs.List.{AllZip}
 use Rattle.std.proofs.lemmas.Bool.{le-ltb}
@@ -18,7 +18,7 @@ use Rattle.link.specs.declared.receiver.Answer.TheVariants.{Value, Damaged, TooL
 use Rattle.journal.specs.Records.{numbered, takes_record, reads_record, past, past_all}
 use Rattle.journal.specs.Places.{Located, answers_in, Numbering, numbered_from, furthest, believed, numbered_behind, all_believed}
 use Rattle.journal.specs.Reading.{IsHanded}
-use Rattle.journal.specs.Appending.{IsOpened}
+use Rattle.journal.specs.Appending.{LogPlace, IsOpened}
 use Rattle.journal_laws.specs.Numbers.{Counted, history, CountsOn}
 use Rattle.journal_laws.specs.Together.{OpensHistory}
 use Rattle.journal_laws.proofs.GoingLemmas.{told_on}
@@ -103,12 +103,14 @@ told_of (Some x) bytes P e h = let same : x ≡ bytes = cc in subst P same h
 
 module _ {S V : Type 0} (took : S → List (Answer (ℕ × V)) → S → Type 0) (takes : Tree → Type 0) (reads : Tree → V → Type 0) (limit : ℕ) (judging : Judging (ℕ × V))
     (counts : CountsOn (takes_record takes) judging.holds limit 0) (append : Appends judging.holds limit 0) (records : (t : Tree) (r : ℕ × V) → judging.reads t r → reads_record reads t r) where
-  pub opens_history : (old new : LineState) (settled : ℕ) (visitor later : S) (next : ℕ) (spent : Bool)
-      → IsOpened took judging limit 0 old new settled visitor later next spent → OpensHistory took takes reads limit old.told new.told visitor later next
-  opens_history old new settled visitor later next spent o any events framed is e =
+  pub opens_history : (old : LineState) (place : LogPlace) (visitor later : S)
+      → IsOpened took judging limit 0 old place visitor later
+      → OpensHistory took takes reads limit old.told place.line.told visitor later place.next
+  opens_history old place visitor later o any events framed is e =
+      let new = place.line in
       let log = line 0 (history 0 numbered any [] events) in
       let bytes : new.told ≡ Some (log ++ 0 ∷ []) = told_on log (0 ∷ []) new.told old.faults new.faults (subst (λ x. Grew x new.told old.faults new.faults (0 ∷ [])) e o.wrote.grew) o.quiet in
-      let told = told_of new.told (log ++ 0 ∷ []) (λ x. IsHanded took judging limit 0 visitor later next x) bytes o.read in
+      let told = told_of new.told (log ++ 0 ∷ []) (λ x. IsHanded took judging limit 0 visitor later place.next x) bytes o.read in
       let read = told.read in
       let vs = read.given.verdicts in
       let matching = all_read judging.reads (reads_record reads) records (answers_in read.located) vs read.given.matching in

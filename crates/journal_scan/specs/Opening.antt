@@ -7,6 +7,7 @@ use Rattle.journal_scan.specs.Checks.{IsChecked}
 use Rattle.journal_scan.specs.Tallies.{IsTally, behind_greatest}
 use Rattle.journal_scan.specs.declared.scanning.Stretch.{Stretch}
 use Rattle.journal_scan.specs.declared.checking.Report.{Report}
+use Rattle.journal.specs.Appending.{LogPlace}
 use Rattle.journal.specs.declared.reading.ReadError.{ReadError}
 use Rattle.journal.specs.declared.reading.ReadError.TheVariants.{Fault as ReadFault, NoMemory as ReadNoMemory, Halted as ReadHalted}
 use Rattle.journal_scan.specs.declared.scanning.ScanError.TheVariants.{Fault, NoMemory}
@@ -18,13 +19,15 @@ use Rattle.journal_scan.specs.declared.checking.CheckError.TheVariants.{Read, Ha
 pub record IsOpenedBy {V W : Type 0}
     (told : W → List (Stretch V) → W → Type 0) (counted : ℕ → V → Bool)
     (takes : Tree → Type 0) (reads : Tree → V → Type 0) (limit : ℕ)
-    (old new : LineState) (settled : ℕ) (watcher later : W) (report : Report V) (next : ℕ) (spent : Bool) : Type 0 where
-  pub wrote : Wrote old new (0 ∷ [])
-  pub quiet : new.faults ≡ old.faults
-  pub settles : Settles new.told settled
-  pub checked : IsChecked told counted takes reads limit new.told watcher later report.tally report.unfinished
-  pub next_is : (numbers : List ℕ) → IsTally numbers report.tally → next ≡ behind_greatest numbers
-  pub ready : spent ≡ false
+    (old : LineState) (log : LogPlace) (watcher later : W) (report : Report V) : Type 0 where
+  pub wrote : Wrote old log.line (0 ∷ [])
+  pub quiet : log.line.faults ≡ old.faults
+  pub settles : Settles log.line.told log.settled
+  pub checked : IsChecked told counted takes reads limit log.line.told watcher later
+      report.tally report.unfinished
+  pub next_is : (numbers : List ℕ) → IsTally numbers report.tally
+      → log.next ≡ behind_greatest numbers
+  pub ready : log.spent ≡ false
 
 -- a cause of a check, as reading a log says it
 abbrev pub IsReadErrorOf : CheckError → ReadError → Type 0

@@ -2,7 +2,7 @@
 ghost use Rattle.std.specs.Prelude.{◌<◌, true, IfOk, IfErr};
 ghost use Rattle.line_io.specs.Transfers.{Failed};
 ghost use Rattle.link.specs.Listening.{ReceiverFitsInMemory};
-ghost use Rattle.journal.specs.Logs.{store_of, next_of, spent_of};
+ghost use Rattle.journal.specs.Logs.{log_place};
 ghost use Rattle.journal.specs.Reading.{HaltsBehind, OpenCause};
 ghost use Rattle.journal_scan.specs.Opening.{IsOpenedBy, IsReadErrorOf};
 
@@ -38,8 +38,7 @@ pub fn open_by<T: DeserializeOwned + Exact, S: Store, W: Watcher<T>, const N: us
     requires some { 1 < N }
     requires fits { ReceiverFitsInMemory N.row }
     ensures opened { IfOk result (λ r. IsOpenedBy W.told W.counted T.form.takes T.form.reads N
-        (S.line store) (S.line (store_of r.0)) (S.settled (store_of r.0))
-        watcher.old watcher.new r.1 (next_of r.0) (spent_of r.0)) }
+        (S.line store) (log_place S.line S.settled r.0) watcher.old watcher.new r.1) }
     ensures cause { IfErr result (λ e. OpenCause (Failed (S.line store) (S.line e.store)) true
         (HaltsBehind W.told W.halts watcher.old) e.cause) }
 {
