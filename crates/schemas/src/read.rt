@@ -1,10 +1,9 @@
 //! Reading a value by a schema.
 ghost use Rattle.std.specs.Prelude.{true};
-ghost use Rattle.postcard_tree.specs.Reading.{Spelled, IsShort};
-ghost use Rattle.postcard_tree.specs.Fixed.{TakesFixed};
+ghost use Rattle.postcard_tree.specs.Reading.{Spelled};
 ghost use Rattle.postcard_de.specs.Deserializer.{OutcomeOf};
 ghost use Rattle.schemas.specs.declared.node.Node.TheVariants as kind;
-ghost use Rattle.schemas.specs.Schemas.{ReadsBy, AtTop, OfLE, OfBE, SchemaReads, SchemaRefuses};
+ghost use Rattle.schemas.specs.Schemas.{SchemaReads, SchemaRefuses};
 ghost use Rattle.schemas.specs.Reading.{ReadsNode, ReadsLeaf, ReadsStructOf, ReadsEnumOf};
 
 use crate::{HasIntegerType, IntegerType, Node, Value};
@@ -92,16 +91,14 @@ fn read_i128<F: Flavor>(d: &mut Deserializer<F>) -> Result<Value>
 
 // An integer of a type that is known by name.
 fn little_as<T: HasIntegerType, F: Flavor>(d: &mut Deserializer<F>) -> Result<Value>
-    ensures { OutcomeOf F.source d.old d.new result
-        (Spelled (ReadsBy (TakesFixed T.size) (AtTop (OfLE T.which)))) (IsShort T.size) true }
+    ensures { ReadsLeaf F.source (kind.LE T.which) d.old d.new result }
 {
     let read = LE::<T>::deserialize_owned(d)?;
     Ok(Value::LE(read.0.integer()))
 }
 
 fn big_as<T: HasIntegerType, F: Flavor>(d: &mut Deserializer<F>) -> Result<Value>
-    ensures { OutcomeOf F.source d.old d.new result
-        (Spelled (ReadsBy (TakesFixed T.size) (AtTop (OfBE T.which)))) (IsShort T.size) true }
+    ensures { ReadsLeaf F.source (kind.BE T.which) d.old d.new result }
 {
     let read = BE::<T>::deserialize_owned(d)?;
     Ok(Value::BE(read.0.integer()))
