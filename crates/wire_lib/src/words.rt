@@ -1,4 +1,7 @@
 //! The words that the program is called with.
+ghost use Rattle.std.specs.Prelude.{◌≡◌, ◌≢◌, [], ◌∷◌, None, Ok, codes, IfSome, IsErr};
+ghost use Rattle.hex.specs.Hex.{decode_sized};
+
 use crate::DEPTH;
 
 /// How many nodes `depth` lets a value nest in at most.
@@ -38,7 +41,10 @@ const PLAIN: Options = Options {
 };
 
 /// The byte of two hexadecimal digits.
-fn byte_of(digits: &str) -> Option<u8> {
+fn byte_of(digits: &str) -> Option<u8>
+    ensures some { IfSome result (λ byte. decode_sized digits.now 1 ≡ Ok (byte ∷ [])) }
+    ensures none { result ≡ None → IsErr (decode_sized digits.now 1) }
+{
     let mut byte = [0u8; 1];
     match hex::decode_to_slice(digits.as_bytes(), &mut byte) {
         Ok(()) => Some(byte[0]),
@@ -56,7 +62,13 @@ fn depth_of(value: &str) -> Option<u32> {
 }
 
 /// The options with a word that has a value behind `=`.
-fn with_value(options: Options, name: &str, value: &str) -> Option<Options> {
+fn with_value(options: Options, name: &str, value: &str) -> Option<Options>
+    ensures sentinel { name.now ≡ codes "sentinel"
+        → IfSome result (λ new. decode_sized value.now 1 ≡ Ok (new.sentinel ∷ [])) }
+    ensures none { name.now ≡ codes "sentinel" → result ≡ None → IsErr (decode_sized value.now 1) }
+    ensures other { name.now ≢ codes "sentinel"
+        → IfSome result (λ new. new.sentinel ≡ options.sentinel) }
+{
     let mut options = options;
     match name {
         "sentinel" => options.sentinel = byte_of(value)?,
