@@ -4,6 +4,7 @@
 //!
 //! The work is that of `wire_lib`.
 #![tactic(auto)]
+ghost use Rattle.std.specs.Prelude.{◌≡◌, ◌≤◌, IfOk, OnErr, if◌then◌else◌};
 
 mod about;
 mod sources;
@@ -305,7 +306,10 @@ fn words_of(rt: &HostRuntime) -> Option<Vec<String>> {
 }
 
 /// Says why a run ended, and gives its status.
-fn report(rt: &HostRuntime, ran: Ran) -> u8 {
+fn report(rt: &HostRuntime, ran: Ran) -> u8
+    ensures told { IfOk ran (λ good. result ≡ (if good then 0 else 1)) }
+    ensures failed { OnErr ran (2 ≤ result) }
+{
     let (said, status) = match ran {
         Ok(is_good) => return if is_good { 0 } else { 1 },
         Err(Stop::Wrong(lines)) => (eprint!(rt; "{lines}"), 2),
