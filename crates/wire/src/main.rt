@@ -4,6 +4,7 @@
 //!
 //! The work is that of `wire_lib`.
 #![tactic(auto)]
+
 ghost use Rattle.std.specs.Prelude.{◌≡◌, ◌≤◌, IfOk, OnErr, if◌then◌else◌};
 
 mod about;
