@@ -5,6 +5,7 @@ ghost use Rattle.link.specs.Receivers.{IsBehind, SameTerms};
 ghost use Rattle.link.specs.Pushes.{Answered, IsStretchOf};
 ghost use Rattle.link.specs.declared.receiver.Answer.{Answer as Answers};
 ghost use Rattle.schemas.specs.declared.value.Value.{Value as Values};
+ghost use Rattle.wire_lib.specs.Said.{stretch_line, known_to, SaysStretch};
 ghost use Rattle.wire_lib.specs.Received.{HasTold, held_by, read_by, reading_of, skip_of, is_a_value, are_all_values, added_at_end};
 
 use crate::print::{Look, PrintError, print_into};
@@ -83,25 +84,28 @@ impl<'a> Receiver<'a> {
         stretch: usize,
         left: &[u8],
         lines: &mut Vec<u8>,
-    ) -> Result<(), AllocError> {
+    ) -> Result<(), AllocError>
+        ensures { OnOk result (SaysStretch answer.now (self.now.at - 1 - stretch) (self.now.at - 1)
+            (known_to self.now.at self.now.reading.sentinel left.now)
+            lines.old.items lines.new.items) }
+    {
         let last = self.at.saturating_sub(1);
         let from = last.saturating_sub(stretch as u64);
         match answer {
             Answer::Value(value) => put_value_line(self.reading, value, lines),
             Answer::Damaged => {
-                let what = if self.is_deep.replace(false) {
-                    "too_deep"
+                if self.is_deep.replace(false) {
+                    put_stretch_line(self.reading.alloc, "too_deep", from, last, lines)
                 } else {
-                    "damaged"
-                };
-                put_stretch_line(self.reading.alloc, what, (from, last), lines)
+                    put_stretch_line(self.reading.alloc, "damaged", from, last, lines)
+                }
             }
             Answer::TooLong => {
                 let more = before_sentinel(left, self.reading.sentinel);
                 let so_far = self.at.saturating_add(more as u64);
-                put_stretch_line(self.reading.alloc, "too_long", (from, so_far), lines)
+                put_stretch_line(self.reading.alloc, "too_long", from, so_far, lines)
             }
-            Answer::Cut => put_stretch_line(self.reading.alloc, "cut", (from, last), lines),
+            Answer::Cut => put_stretch_line(self.reading.alloc, "cut", from, last, lines),
         }
     }
 
@@ -187,9 +191,9 @@ impl<'a> Receiver<'a> {
             → good ≡ are_all_values (answers ++ added_at_end self.entry stream)) }
     {
         let begun = self.receiver.begun_bytes() as u64;
-        let place = (self.at.saturating_sub(begun), self.at);
+        let from = self.at.saturating_sub(begun);
         if self.receiver.finish::<Value>().is_some() {
-            put_stretch_line(self.reading.alloc, "cut", place, lines)?;
+            put_stretch_line(self.reading.alloc, "cut", from, self.at, lines)?;
             return Ok(false);
         }
         Ok(self.is_good)
@@ -252,9 +256,12 @@ fn put_value_line(
 fn put_stretch_line(
     alloc: Global,
     what: &str,
-    (from, to): (u64, u64),
+    from: u64,
+    to: u64,
     lines: &mut Vec<u8>,
-) -> Result<(), AllocError> {
+) -> Result<(), AllocError>
+    ensures { OnOk result (lines.new.items ≡ lines.old.items ++ stretch_line what.now from to) }
+{
     let line = format!(in alloc; "{{\"{what}\":{{\"from\":{from},\"to\":{to}}}}}\n")?;
     lines.extend_from_slice(line.as_bytes())
 }
