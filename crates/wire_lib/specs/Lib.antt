@@ -1,3 +1,4 @@
+pub mod Parsed
 pub mod Received
 pub mod Said
 pub mod Sent

@@ -5,12 +5,15 @@ use Rattle.postcard_tree.specs.Tree.{IsTree}
 use Rattle.postcard_tree.specs.Spelling.{short}
 use Rattle.schemas.specs.declared.value.Value.{Value}
 use Rattle.schemas.specs.Values.{tree_of}
+use Rattle.wire_lib.specs.Parsed.{IsOfType}
 use Rattle.wire_lib.specs.declared.send.Sending.{Sending}
 use Rattle.wire_lib.specs.declared.send.Sender.{Sender}
 
--- The frame of a value, for the sentinel, which ends it. It is the shortest of its message, of at most 65536 bytes before that.
+-- The frame of a value of the type, for the sentinel, which ends it. It is the shortest of its message, of at most 65536 bytes
+-- before that.
 pub record IsFrameToSend (s : Sending) (frame : List ℕ) : Type 0 where
   pub value : Value
+  pub of_type : IsOfType s.depth s.schema.now.nodes.items s.place value
   pub is_tree : IsTree (tree_of value)
   pub framed : frame ≡ frame_for s.sentinel (short (tree_of value)) ++ s.sentinel ∷ []
   pub within : length frame ≤ 65536 + 1

@@ -1,6 +1,10 @@
 //! JSON as values.
+ghost use Rattle.std.specs.Prelude.{IfOk};
+ghost use Rattle.wire_lib.specs.Parsed.{IsOfType};
+
 use crate::floats::{float_of_number, float_of_word};
 use crate::looks::{PRESENT, has_text_keys, is_byte, is_empty, may_be_null};
+use crate::table::as_read;
 use crate::wrong::{ParseError, at_column, inside, inside_element, refusal};
 use declarations::{Names, Schema};
 use json::{Error, Reader, Scratch, Value as Json};
@@ -776,9 +780,9 @@ fn json_of<'a>(
 }
 
 /// That a text is no JSON, from so many bytes on.
-fn no_json(alloc: Global, text: &str, offset: usize) -> Parsed {
+fn no_json(alloc: Global, text: &str, offset: usize) -> ParseError {
     let before = text.get(..offset).unwrap_or(text).chars().count();
-    Err(at_column(alloc, before.saturating_add(1)))
+    at_column(alloc, before.saturating_add(1))
 }
 
 /// The value of the type at that place of the schema that a line of JSON is, as [`print`](crate::print::print) writes it, by
@@ -787,15 +791,20 @@ fn no_json(alloc: Global, text: &str, offset: usize) -> Parsed {
 /// without fields its name or an object with `null`.
 ///
 /// A number out of its type's range, a field too many, twice or too few, and another number of elements are refused, with
-/// the way to them.
-pub fn parse(alloc: Global, schema: &Schema, place: usize, depth: u32, line: &[u8]) -> Parsed {
+/// the way to them. What is answered was read by the type from what is written of it.
+pub fn parse(alloc: Global, schema: &Schema, place: usize, depth: u32, line: &[u8]) -> Parsed
+    ensures { IfOk result (λ v. IsOfType depth schema.now.nodes.items place v) }
+{
     let Ok(text) = from_utf8(line) else {
         return Err(refusal("the line isn't UTF-8"));
     };
     let mut scratch = Scratch::new(alloc);
     let mut reader = Reader::new(text, &mut scratch)?;
     match json_of(alloc, depth, &mut reader)? {
-        Some(json) => value_of_line(alloc, schema, place, depth, &json),
-        None => no_json(alloc, text, reader.offset()),
+        Some(json) => {
+            let value = value_of_line(alloc, schema, place, depth, &json)?;
+            as_read(alloc, schema, place, depth, &value)
+        }
+        None => Err(no_json(alloc, text, reader.offset())),
     }
 }

@@ -1,16 +1,22 @@
 //! Reading messages by a table of types.
-ghost use Rattle.std.specs.Prelude.{true, Some};
+ghost use Rattle.std.specs.Prelude.{true, Some, IfOk};
 ghost use Rattle.std.proofs.Common.{ap};
 ghost use Rattle.schemas.specs.Schemas.{SchemaTakes, SchemaReads};
 ghost use Rattle.schemas.specs.SchemaLaws.{schema_laws};
 ghost use Rattle.link.specs.Judged.{front_laws};
+ghost use Rattle.wire_lib.specs.Parsed.{IsOfType};
 
 use crate::words::DEEPEST;
+use crate::wrong::{ParseError, refusal};
+use declarations::Schema;
 use link::{ExactReader, FrontReader};
-use postcard::Error;
-use schemas::{Node, Value, from_bytes};
+use postcard::{Error, to_allocvec};
+use schemas::{Node, Value, from_bytes, take_from_bytes};
 use std::alloc::Global;
 use std::cell::Cell;
+
+/// What is said where a type doesn't read a value again.
+const NOT_OF_TYPE: &str = "what the line says isn't a value of the type";
 
 /// Reads the messages of a type that a table of types has.
 #[derive(Clone, Copy, Drop)]
@@ -54,4 +60,24 @@ impl FrontReader<Value> for TableReader<'_> {
 
 impl ExactReader<Value> for TableReader<'_> {
     ghost writes_back = { λ r t v h. ap Some h.1 };
+}
+
+/// The value as its type reads what is written of it, to the last byte; so it is one of that type.
+pub(crate) fn as_read(
+    alloc: Global,
+    schema: &Schema,
+    place: usize,
+    depth: u32,
+    value: &Value,
+) -> Result<Value, ParseError>
+    ensures { IfOk result (λ v. IsOfType depth schema.now.nodes.items place v) }
+{
+    let Ok(message) = to_allocvec(alloc, value) else {
+        return Err(ParseError::OutOfMemory);
+    };
+    match take_from_bytes(alloc, &schema.nodes, place, depth, &message) {
+        Ok((read, rest)) if rest.is_empty() => Ok(read),
+        Err(Error::OutOfMemory) => Err(ParseError::OutOfMemory),
+        _ => Err(refusal(NOT_OF_TYPE)),
+    }
 }
