@@ -7,7 +7,7 @@ use std::alloc::Global;
 use std::cell::Cell;
 use std::process::Abort;
 use wire_lib::DEPTH;
-use wire_lib::receive::{Reading, Receiver};
+use wire_lib::receive::{LinesOfFrames, Reading};
 use wire_lib::table::TableReader;
 
 // A zero; a value; a frame that lacks a byte; the value with a byte behind it; a beginning.
@@ -70,7 +70,12 @@ const RUNS: [Run; 3] = [
 const SIZES: [usize; 5] = [1, 2, 5, 6, 17];
 
 // Whether there is memory for the lines of a stream in pieces of so many bytes.
-fn takes(receiver: &mut Receiver<'_>, stream: &[u8], size: usize, lines: &mut Vec<u8>) -> bool {
+fn takes(
+    receiver: &mut LinesOfFrames<'_>,
+    stream: &[u8],
+    size: usize,
+    lines: &mut Vec<u8>,
+) -> bool {
     for piece in stream.chunks(size.max(1)) {
         if receiver.push(piece, lines).is_err() {
             return false;
@@ -90,7 +95,7 @@ fn has_its_lines(alloc: Global, schema: &Schema, run: &Run, size: usize) -> bool
         depth: DEPTH,
         sentinel: 0,
     };
-    let Ok(mut receiver) = Receiver::new(reading, run.from) else {
+    let Ok(mut receiver) = LinesOfFrames::new(reading, run.from) else {
         return false;
     };
     let mut lines = Vec::new(alloc);

@@ -19,8 +19,8 @@ use help::answer;
 use std::env;
 use std::io::{Read, Write};
 use std::process::ExitCode;
-use wire_lib::receive::{Reading, Receiver};
-use wire_lib::send::{Sender, Sending};
+use wire_lib::receive::{LinesOfFrames, Reading};
+use wire_lib::send::{FramesOfLines, Sending};
 use wire_lib::sizes::{bound_lists, greatest_sizes};
 use wire_lib::words::{Options, options_of};
 
@@ -90,7 +90,7 @@ fn without_blanks(rt: &HostRuntime, text: &[u8]) -> Result<Vec<u8>, Stop> {
 /// Hands the bytes of hexadecimal text on.
 fn receive_digits(
     rt: &HostRuntime,
-    receiver: &mut Receiver<'_>,
+    receiver: &mut LinesOfFrames<'_>,
     lines: &mut Vec<u8>,
 ) -> Result<(), Stop> {
     let text = read_whole(rt)?;
@@ -105,7 +105,7 @@ fn receive_digits(
 /// Hands bytes on as they come, and writes the lines of each read at its end.
 fn receive_bytes(
     rt: &HostRuntime,
-    receiver: &mut Receiver<'_>,
+    receiver: &mut LinesOfFrames<'_>,
     lines: &mut Vec<u8>,
 ) -> Result<(), Stop> {
     let mut room = [0u8; ROOM];
@@ -132,7 +132,7 @@ fn read(rt: &HostRuntime, schema: &Schema, place: usize, options: Options) -> Ra
         depth: options.depth,
         sentinel: options.sentinel,
     };
-    let mut receiver = Receiver::new(reading, options.from)?;
+    let mut receiver = LinesOfFrames::new(reading, options.from)?;
     let mut lines = Vec::new(rt.alloc());
     let received = if options.hex {
         receive_digits(rt, &mut receiver, &mut lines)
@@ -169,7 +169,7 @@ fn send(
 /// Makes frames of lines as they come. Those of each read are written at its end.
 fn send_reads(
     rt: &HostRuntime,
-    sender: &mut Sender<'_>,
+    sender: &mut FramesOfLines<'_>,
     hex: bool,
     frames: &mut Vec<u8>,
     wrongs: &mut String,
@@ -196,7 +196,7 @@ fn send_all(
     wrongs: &mut String,
 ) -> Ran {
     send(rt, hex, frames, wrongs)?;
-    let mut sender = Sender::new(sending);
+    let mut sender = FramesOfLines::new(sending);
     send_reads(rt, &mut sender, hex, frames, wrongs)?;
     let finished = sender.finish(frames, wrongs);
     send(rt, hex, frames, wrongs)?;

@@ -6,7 +6,7 @@ use Rattle.link.specs.Stream.{Begun, kept, over}
 use Rattle.link.specs.Pushes.{finished}
 use Rattle.link.specs.declared.receiver.Answer.{Answer}
 use Rattle.link.specs.declared.receiver.Answer.TheVariants as answer
-use Rattle.wire_lib.specs.declared.receive.Receiver.{Receiver}
+use Rattle.wire_lib.specs.declared.receive.LinesOfFrames.{LinesOfFrames}
 use Rattle.wire_lib.specs.Received.{HasTold, is_a_value, are_all_values, as_list}
 
 -- whether all are values, with one more
@@ -21,11 +21,11 @@ all_then (answer.TooLong ∷ xs) a = refl
 all_then (answer.Cut ∷ xs) a = refl
 
 -- none is added
-pub told_none : (r : Receiver) (stream : List ℕ) (xs : List (Answer Value)) → HasTold r stream xs → HasTold r (stream ++ []) (xs ++ [])
+pub told_none : (r : LinesOfFrames) (stream : List ℕ) (xs : List (Answer Value)) → HasTold r stream xs → HasTold r (stream ++ []) (xs ++ [])
 told_none r stream xs h = subst (λ x. HasTold r x (xs ++ [])) (sym (append-nil stream)) (subst (λ x. HasTold r stream x) (sym (append-nil xs)) h)
 
 -- some, and then others
-pub told_then : (r : Receiver) (stream x y : List ℕ) (xs ys zs : List (Answer Value)) → HasTold r ((stream ++ x) ++ y) ((xs ++ ys) ++ zs) → HasTold r (stream ++ (x ++ y)) (xs ++ (ys ++ zs))
+pub told_then : (r : LinesOfFrames) (stream x y : List ℕ) (xs ys zs : List (Answer Value)) → HasTold r ((stream ++ x) ++ y) ((xs ++ ys) ++ zs) → HasTold r (stream ++ (x ++ y)) (xs ++ (ys ++ zs))
 told_then r stream x y xs ys zs h = subst (λ z. HasTold r z (xs ++ (ys ++ zs))) (append_assoc stream x y) (subst (λ z. HasTold r ((stream ++ x) ++ y) z) (append_assoc xs ys zs) h)
 
 -- a piece in one part more

@@ -11,7 +11,7 @@ use Rattle.link.specs.Listening.{Hears}
 use Rattle.link.specs.declared.receiver.Answer.{Answer}
 use Rattle.link.specs.declared.receiver.Answer.TheVariants as answer
 use Rattle.wire_lib.specs.declared.receive.Reading.{Reading}
-use Rattle.wire_lib.specs.declared.receive.Receiver.{Receiver}
+use Rattle.wire_lib.specs.declared.receive.LinesOfFrames.{LinesOfFrames}
 
 -- which trees a stretch holds: those of the type, that nest in at most so many nodes, ordinarily or strictly
 abbrev pub held_by : Reading → List ℕ → Tree → Type 0
@@ -22,11 +22,11 @@ abbrev pub read_by : Reading → Tree → Value → Type 0
 read_by r = SchemaReads r.depth r.schema.now.nodes.items r.place
 
 -- what frames are read as
-abbrev pub reading_of : Receiver → Reading
+abbrev pub reading_of : LinesOfFrames → Reading
 reading_of r = r.reading
 
 -- how many bytes are still to be passed over
-abbrev pub skip_of : Receiver → ℕ
+abbrev pub skip_of : LinesOfFrames → ℕ
 skip_of r = r.skip
 
 -- whether an answer is a value
@@ -42,7 +42,7 @@ are_all_values (_ ∷ answers) = false
 
 -- Behind the bytes that are passed over the receiver was given this stream, these were its answers, and it knows whether all are
 -- values.
-pub record HasTold (r : Receiver) (stream : List ℕ) (answers : List (Answer Value)) : Type 0 where
+pub record HasTold (r : LinesOfFrames) (stream : List ℕ) (answers : List (Answer Value)) : Type 0 where
   pub hears : Hears in_owner (held_by r.reading) (read_by r.reading)
       65536 r.reading.sentinel r.receiver answers stream
   pub good : r.is_good ≡ are_all_values answers
@@ -53,5 +53,5 @@ as_list None = []
 as_list (Some a) = a ∷ []
 
 -- what the end of such a stream adds
-abbrev pub added_at_end : Receiver → List ℕ → List (Answer Value)
+abbrev pub added_at_end : LinesOfFrames → List ℕ → List (Answer Value)
 added_at_end r stream = as_list (finished (begun 65536 r.reading.sentinel stream))

@@ -7,7 +7,7 @@ use Rattle.schemas.specs.declared.value.Value.{Value}
 use Rattle.schemas.specs.Values.{tree_of}
 use Rattle.wire_lib.specs.Parsed.{IsOfType}
 use Rattle.wire_lib.specs.declared.send.Sending.{Sending}
-use Rattle.wire_lib.specs.declared.send.Sender.{Sender}
+use Rattle.wire_lib.specs.declared.send.FramesOfLines.{FramesOfLines}
 
 -- The frame of a value of the type, for the sentinel, which ends it. It is the shortest of its message, of at most 65536 bytes
 -- before that.
@@ -87,15 +87,15 @@ pub record HasMadeBy (s : Sending) (begun : List ℕ) (number : ℕ) (good : Boo
   pub good_is : good ≡ are_all_framed made
 
 -- what lines are sent as
-abbrev pub sending_of : Sender → Sending
+abbrev pub sending_of : FramesOfLines → Sending
 sending_of r = r.sending
 
 -- what came of the line that isn't ended
-abbrev pub begun_line : Sender → List ℕ
+abbrev pub begun_line : FramesOfLines → List ℕ
 begun_line r = r.line.items
 
 -- Of this text the sender has made these, one of each line that a line feed ended.
-abbrev pub HasMade : Sender → List ℕ → List LineMade → Type 0
+abbrev pub HasMade : FramesOfLines → List ℕ → List LineMade → Type 0
 HasMade r = HasMadeBy r.sending r.line.items r.number r.is_good
 
 -- The bytes of what was made were appended: of a frame to the frames alone, of a refusal to the refusals alone.

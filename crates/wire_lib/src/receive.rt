@@ -43,7 +43,7 @@ pub struct Reading<'a> {
 
 /// Reads a stream of frames in pieces, and makes a line of each answer.
 #[derive(Drop)]
-pub struct Receiver<'a> {
+pub struct LinesOfFrames<'a> {
     reading: Reading<'a>,
     receiver: OwnedReceiver,
     /// Whether the message that is looked at nests deeper than it may.
@@ -56,15 +56,15 @@ pub struct Receiver<'a> {
     is_good: bool,
 }
 
-impl<'a> Receiver<'a> {
+impl<'a> LinesOfFrames<'a> {
     /// A receiver of a stream of which so many bytes are passed over.
-    pub fn new(reading: Reading<'a>, from: u64) -> Result<Receiver<'a>, AllocError>
+    pub fn new(reading: Reading<'a>, from: u64) -> Result<LinesOfFrames<'a>, AllocError>
         ensures told { IfOk result (λ r. HasTold r [] []) }
         ensures reading { IfOk result (λ r. reading_of r ≡ reading.entry) }
         ensures skip { IfOk result (λ r. skip_of r ≡ from) }
     {
         match OwnedReceiver::new(reading.alloc, LIMIT, reading.sentinel) {
-            Ok(receiver) => Ok(Receiver {
+            Ok(receiver) => Ok(LinesOfFrames {
                 reading,
                 receiver,
                 is_deep: Cell::new(false),

@@ -37,7 +37,7 @@ fn append(to: &mut Vec<u8>, bytes: &[u8]) -> Sent
 
 /// The shortest frame of the value of the type at that place which a line of JSON is, with the sentinel that ends it.
 ///
-/// An error is that of [`parse`], or of a frame of more bytes than a [`Receiver`](crate::receive::Receiver) takes, or out of
+/// An error is that of [`parse`], or of a frame of more bytes than a [`LinesOfFrames`](crate::receive::LinesOfFrames) takes, or out of
 /// memory.
 pub fn frame_of(sending: Sending<'_>, line: &[u8]) -> Result<Vec<u8>, ParseError>
     ensures { IfOk result (λ frame. IsFrameToSend sending.entry frame.items) }
@@ -63,7 +63,7 @@ pub fn frame_of(sending: Sending<'_>, line: &[u8]) -> Result<Vec<u8>, ParseError
 
 /// Reads lines in pieces, and makes a frame of each.
 #[derive(Drop)]
-pub struct Sender<'a> {
+pub struct FramesOfLines<'a> {
     sending: Sending<'a>,
     /// What earlier pieces had of the line, and how many lines stand before it.
     line: Vec<u8>,
@@ -72,13 +72,13 @@ pub struct Sender<'a> {
     is_good: bool,
 }
 
-impl<'a> Sender<'a> {
+impl<'a> FramesOfLines<'a> {
     /// A sender of lines.
-    pub fn new(sending: Sending<'a>) -> Sender<'a>
+    pub fn new(sending: Sending<'a>) -> FramesOfLines<'a>
         ensures made { HasMade result [] [] }
         ensures sending { sending_of result ≡ sending.entry }
     {
-        Sender {
+        FramesOfLines {
             sending,
             line: Vec::new(sending.alloc),
             number: 0,

@@ -3,7 +3,7 @@ use Rattle.std.proofs.lemmas.List.{take_more}
 use Rattle.std.proofs.lemmas.Grind.{common_steps}
 use Rattle.wire_lib.specs.Sent.{HasMadeBy, LacksFeed}
 use Rattle.wire_lib.proofs.SentLemmas.{lacks_take, made_on, made_then, appended_none}
-use Rattle.wire_lib.proofs.send.Sender.push_line.Goals as goal
+use Rattle.wire_lib.proofs.send.FramesOfLines.push_line.Goals as goal
 
 pub returns-then-is_empty-clause-made : goal.returns-then-is_empty-clause-made
 returns-then-is_empty-clause-made c text made h =

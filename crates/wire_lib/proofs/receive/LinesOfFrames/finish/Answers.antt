@@ -1,7 +1,7 @@
 use Rattle.std.proofs.Common.{is_some, sym, ap, ◌∙◌}
 use Rattle.link.specs.Stream.{begun}
 use Rattle.wire_lib.proofs.ToldLemmas.{ends_badly}
-use Rattle.wire_lib.proofs.receive.Receiver.finish.Goals as goal
+use Rattle.wire_lib.proofs.receive.LinesOfFrames.finish.Goals as goal
 
 pub returns-then-is_some : goal.returns-then-is_some
 returns-then-is_some c stream answers h =

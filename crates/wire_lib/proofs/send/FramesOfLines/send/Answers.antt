@@ -1,7 +1,7 @@
 use Rattle.std.proofs.Common.{◌≡◌, ◌++◌, ap, ◌∙◌, string_bytes, refl}
 use Rattle.wire_lib.proofs.SentLemmas.{sent_framed, sent_refused}
 use Rattle.wire_lib.proofs.ToldLemmas.{on_ok_as}
-use Rattle.wire_lib.proofs.send.Sender.send.Goals as goal
+use Rattle.wire_lib.proofs.send.FramesOfLines.send.Goals as goal
 
 pub returns-in-Ok-clause-made : goal.returns-in-Ok-clause-made
 returns-in-Ok-clause-made c =

@@ -1,7 +1,7 @@
 use Rattle.std.proofs.Common.{◌++◌, subst}
 use Rattle.wire_lib.specs.Received.{HasTold}
 use Rattle.wire_lib.proofs.ToldLemmas.{on_ok_as}
-use Rattle.wire_lib.proofs.receive.Receiver.push.Goals as goal
+use Rattle.wire_lib.proofs.receive.LinesOfFrames.push.Goals as goal
 
 pub returns-clause-told : goal.returns-clause-told
 returns-clause-told c = on_ok_as c.push_all.result (λ told stream answers h.

@@ -1,6 +1,6 @@
 use Rattle.std.proofs.Common.{◌≡◌, ℕ, List, ◌++◌, length, string_bytes}
 use Rattle.wire_lib.specs.Sent.{LineMade, HasMade, AppendedApart}
-use Rattle.wire_lib.proofs.send.Sender.push.Given as goal
+use Rattle.wire_lib.proofs.send.FramesOfLines.push.Given as goal
 
 -- what is left of the piece, and what was made of what came before it
 abbrev pub invariant-loop-rest : goal.invariant-loop-rest

@@ -2,7 +2,7 @@ use Rattle.std.proofs.Common.{◌≡◌, ℕ, List, [], ◌∷◌, ◌++◌, tak
 use Rattle.std.proofs.lemmas.List.{append-nil}
 use Rattle.wire_lib.specs.Received.{HasTold}
 use Rattle.wire_lib.proofs.ToldLemmas.{told_none, told_then, parts_on}
-use Rattle.wire_lib.proofs.receive.Receiver.push_all.Goals as goal
+use Rattle.wire_lib.proofs.receive.LinesOfFrames.push_all.Goals as goal
 
 -- nothing is left
 empty : (xs : List ℕ) → length xs ≡ 0 → xs ≡ []

@@ -1,7 +1,7 @@
 use Rattle.std.proofs.Common.{◌≡◌, [], ◌∷◌, rules, arith}
 use Rattle.wire_lib.proofs.SentLemmas.{last_made}
 use Rattle.wire_lib.proofs.ToldLemmas.{on_ok_as}
-use Rattle.wire_lib.proofs.send.Sender.send_rest.Goals as goal
+use Rattle.wire_lib.proofs.send.FramesOfLines.send_rest.Goals as goal
 
 pub returns : goal.returns
 returns c =

@@ -5,7 +5,7 @@ use Rattle.link.specs.Pushes.{Answered}
 use Rattle.link.specs.Lemmas.Givens.{heard_behind}
 use Rattle.wire_lib.specs.Received.{held_by, read_by, are_all_values}
 use Rattle.wire_lib.proofs.ToldLemmas.{all_then}
-use Rattle.wire_lib.proofs.receive.Receiver.push_one.Goals as goal
+use Rattle.wire_lib.proofs.receive.LinesOfFrames.push_one.Goals as goal
 
 pub returns-in-Ok-None-clause-told : goal.returns-in-Ok-None-clause-told
 returns-in-Ok-None-clause-told g stream answers h =

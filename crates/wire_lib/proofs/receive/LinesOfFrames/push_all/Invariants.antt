@@ -2,7 +2,7 @@ use Rattle.std.proofs.Common.{◌≡◌, ℕ, List, ◌++◌, length}
 use Rattle.link.specs.declared.receiver.Answer.{Answer}
 use Rattle.schemas.specs.declared.value.Value.{Value}
 use Rattle.wire_lib.specs.Received.{HasTold, reading_of, skip_of}
-use Rattle.wire_lib.proofs.receive.Receiver.push_all.Given as goal
+use Rattle.wire_lib.proofs.receive.LinesOfFrames.push_all.Given as goal
 
 -- what is left of the piece, and that what came before it was told
 abbrev pub invariant-loop-rest : goal.invariant-loop-rest

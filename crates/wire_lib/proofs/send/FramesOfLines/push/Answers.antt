@@ -3,7 +3,7 @@ use Rattle.std.proofs.lemmas.List.{append-nil, append_assoc}
 use Rattle.wire_lib.specs.Sent.{HasMade, AppendedApart}
 use Rattle.wire_lib.proofs.SentLemmas.{appended_none, appended_then}
 use Rattle.wire_lib.proofs.ToldLemmas.{parts_on}
-use Rattle.wire_lib.proofs.send.Sender.push.Goals as goal
+use Rattle.wire_lib.proofs.send.FramesOfLines.push.Goals as goal
 
 -- nothing is left
 empty : (xs : List ℕ) → length xs ≡ 0 → xs ≡ []
