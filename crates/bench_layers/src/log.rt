@@ -131,11 +131,14 @@ pub extern "C" fn journal_c_frame(text: &[u8], count: u32, room: &mut [u8], coun
     let mut calls = 0u64;
     let mut written = 0;
     for which in 0..count {
-        if room.len() - written < 2 {
+        let Some(rest) = room.get_mut(written..) else {
+            break;
+        };
+        if rest.len() < 2 {
             break;
         }
-        match frame_record(u64::from(which), &(which, text), &mut room[written..]) {
-            Ok(n) => written += n,
+        match frame_record(u64::from(which), &(which, text), rest) {
+            Ok(n) => written = written.wrapping_add(n),
             Err(_) => break,
         }
         calls = calls.wrapping_add(1);
