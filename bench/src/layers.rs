@@ -813,7 +813,7 @@ fn line_rows() -> Vec<Row> {
     let mut rows = vec![
         making("`Sender::send`", room, |build| build.send, codec::send),
         Row { masked: true, ..making("`Sender::send` for 10", room, |build| build.send_for, codec::send) },
-        making("`send_each`, eight at once", room, |build| build.send_each, codec::send),
+        making("`send_each`, eight at once", room, |build| build.send_each, codec::send_eights),
     ];
     for piece in [64, 1024] {
         let of = |call: &str| format!("{call}, pieces of {piece}");

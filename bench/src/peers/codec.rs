@@ -70,12 +70,24 @@ pub fn encode(text: &[u8], values: u32, room: &mut [u8]) -> Counted {
 
 /// Sends so many values, each a number and this text, to the front of the room.
 pub fn send(text: &[u8], values: u32, room: &mut [u8]) -> Counted {
+    send_by(values, text, values, room)
+}
+
+/// The same in sessions of eight, of which each begins with a zero.
+pub fn send_eights(text: &[u8], values: u32, room: &mut [u8]) -> Counted {
+    send_by(8, text, values, room)
+}
+
+fn send_by(session: u32, text: &[u8], values: u32, room: &mut [u8]) -> Counted {
     let mut counted = Counted::default();
     let Ok(text) = std::str::from_utf8(text) else {
         return counted;
     };
     let mut line = Line::new(room);
     for which in 0..values {
+        if which != 0 && which % session == 0 {
+            line.begin();
+        }
         let mut spelling = Spelling::new();
         spell_value(&mut spelling, which, text);
         line.send(&spelling.bytes[..spelling.len]);

@@ -20,7 +20,12 @@ impl<'a> Line<'a> {
         Line { room, written, clean }
     }
 
-    /// Sends a message as a frame with a zero behind it, and before the first one.
+    /// Begins a session, whose first send has a zero in front.
+    pub fn begin(&mut self) {
+        self.clean = false;
+    }
+
+    /// Sends a message as a frame with a zero behind it, and before the first one of a session.
     #[inline]
     pub fn send(&mut self, message: &[u8]) {
         let mut frame = [0; FRAME + 2];
