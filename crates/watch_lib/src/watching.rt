@@ -86,7 +86,8 @@ impl<'a> Viewer<'a> {
         stretch: usize,
         lines: &mut Vec<u8>,
     ) -> Result<(), AllocError>
-        ensures damaged { OnOk result (CountsOneMore self.old.table.damaged self.new.table.damaged) }
+        ensures damaged { OnOk result
+            (CountsOneMore self.old.table.damaged self.new.table.damaged) }
         ensures rows { self.new.table.rows ≡ self.old.table.rows }
         ensures same { StandsStill self.old self.new }
     {
