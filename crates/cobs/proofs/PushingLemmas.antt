@@ -8,6 +8,7 @@ use Rattle.cobs.specs.Feeding.{at_zero}
 use Rattle.cobs.specs.Pieces.{answered, ended, first_answer, frame_left, buffer_left}
 use Rattle.cobs.specs.InPlace.{stretch, overwritten}
 use Rattle.cobs.specs.Reports.{report, parsed_size, frame_size}
+use Rattle.cobs.specs.Taking.{with_parsed}
 use Rattle.cobs.specs.Whole.{unpadded, frame_in, reported, decoded_from}
 use Rattle.cobs.specs.DecodingLaws.{moved}
 use Rattle.cobs.specs.declared.dec.report.DecodeReport.{DecodeReport}
@@ -16,6 +17,7 @@ use Rattle.cobs.specs.declared.dec.report.DecodeError.TheVariants.{EmptyFrame, I
 use Rattle.cobs.proofs.CutsLemmas.{first_moved}
 use Rattle.cobs.proofs.MessagesLemmas.{placed_zero}
 use Rattle.cobs.proofs.PassingLemmas.{passes, all_placed, placed_over, refuses}
+use Rattle.cobs.proofs.ShortLemmas.{as_at_zero}
 use Rattle.cobs.proofs.SourcesLemmas.{stretch_clear, stretch_of}
 
 -- all is before the first zero, or that comes
@@ -163,6 +165,11 @@ module _ (source rest dest : List ℕ) (r : rest ≡ unpadded source) where
     short_whole n parsed i p =
         ap (λ k. Ok (report k n)) (omega (arith, p))
         ∙ sym (short_is ∙ ap (λ q. reported (length source) (moved (length source - length rest) (answered q (0 + length frame + 1) (Ok None)))) i)
+
+    -- the same of an answer by slices
+    pub short_told : (answer : Result ℕ DecodeError) (parsed : ℕ) → into ≡ as_at_zero answer → parsed ≡ min (length source - length rest + length frame + 1) (length source) → with_parsed parsed answer ≡ decoded_from (length dest) source
+    short_told (Ok n) parsed i p = short_whole n parsed i p
+    short_told (Err x) parsed i p = short_refused x i
 
   -- the answer of the push
   pub pushed_refused : (x : DecodeError) → first_answer (length dest) [] rest 0 ≡ Err x → Err x ≡ decoded_from (length dest) source

@@ -3,23 +3,24 @@ use Rattle.std.proofs.Common.{◌≡◌, ◌≢◌, ℕ, pred, ◌+◌, ◌-◌,
 use Rattle.std.proofs.lemmas.List.{take_all, take_more, length-take-le}
 use Rattle.std.proofs.lemmas.Bool.{cases_lt, eq-eqb, ne_eqb, le-ltb, lt-ltb}
 use Rattle.std.proofs.lemmas.Bool.Decides.{eqb_tells}
-use Rattle.std.specs.Prelude.{bit_xor}
+use Rattle.std.specs.Prelude.{bit_xor, nat_lt, ◌==◌, if◌then◌else◌}
 use Rattle.cobs.specs.Frames.{NoZero, part, part_from, after, missing}
 use Rattle.cobs.specs.Feeding.{stands_by, standing, at_zero, placed}
-use Rattle.cobs.specs.InPlace.{in_place, overwritten}
+use Rattle.cobs.specs.InPlace.{in_place, stretch, overwritten}
 use Rattle.cobs.specs.Reports.{report}
 use Rattle.cobs.specs.Sentinel.{masked}
 use Rattle.cobs.specs.Streaming.{HasStreamed}
-use Rattle.cobs.specs.Taking.{left_in, TakesFront}
+use Rattle.cobs.specs.Taking.{left_in, answer_behind, with_parsed, TakesFront}
 use Rattle.cobs.specs.Whole.{decoded_into}
 use Rattle.cobs.specs.declared.dec.report.DecodeError.{DecodeError}
-use Rattle.cobs.specs.declared.dec.report.DecodeError.TheVariants.{InvalidFrame}
+use Rattle.cobs.specs.declared.dec.report.DecodeError.TheVariants.{InvalidFrame, TargetBufTooSmall}
 use Rattle.cobs.specs.declared.dec.state.DecoderState.{DecoderState}
 use Rattle.cobs.specs.declared.dec.progress.Progress.{Progress}
 use Rattle.cobs.proofs.DecodingLemmas.{part_shorter}
 use Rattle.cobs.proofs.MaskingLemmas.{masked_length, masked_drop}
 use Rattle.cobs.proofs.OverwritingLemmas.{overwritten_short, placed_on, length-overwritten}
 use Rattle.cobs.proofs.PassingLemmas.{all_placed, placed_over}
+use Rattle.cobs.proofs.ReadingLemmas.{Done}
 use Rattle.cobs.proofs.SourcesLemmas.{clear_at}
 use Rattle.cobs.proofs.WindowsLemmas.{one_part, one_after}
 use Rattle.cobs.proofs.WithinLemmas.{placed_front}
@@ -47,16 +48,40 @@ left_missing : (frame : List ℕ) (state : DecoderState) → state ≡ standing 
 left_missing [] state s l = absurd (omega arith)
 left_missing (code ∷ bytes) state s l = ap left_in s ∙ left_of (after 0 false (code ∷ bytes))
 
+-- an answer by what is missing
+answer_is : (room long less len : ℕ) (state : DecoderState) → left_in state ≡ less → len ≡ long → long ≤ room
+    → answer_behind state len ≡ (if less == 0 then (if nat_lt room long then Err TargetBufTooSmall else Ok long) else Err (InvalidFrame long))
+answer_is room long less len state s l fits = rw (s, l, le-ltb room long fits) refl
+
+-- the answer of decoding in place, which has room
+pub answer_in_place : (room : ℕ) (frame : List ℕ) → length (part frame) ≤ room → with_parsed (length frame) (decoded_into room frame) ≡ in_place frame
+answer_in_place room frame fits = elim (eqb_tells (missing frame) 0) [
+  | inl t ↦ rw (eq-eqb (missing frame) 0 t.1, le-ltb room (length (part frame)) fits) refl
+  | inr t ↦ rw (ne_eqb (missing frame) 0 t.1) refl
+]
+
+left_standing : (frame : List ℕ) → left_in (standing frame) ≡ missing frame
+left_standing [] = refl
+left_standing (code ∷ bytes) = left_of (after 0 false (code ∷ bytes))
+
+-- the same once all of a stretch was taken in
+pub done_answer : (source : List ℕ) (read : ℕ) (d : Progress) → Done source read d → with_parsed read (answer_behind d.state d.len) ≡ in_place (stretch source)
+done_answer source read d t =
+    let frame = stretch source in
+    let room = length (part frame) in
+    let left : left_in d.state ≡ missing frame = ap left_in t.stands ∙ left_standing frame in
+    ap (with_parsed read) (answer_is room room (missing frame) d.len d.state left t.counts (omega arith))
+    ∙ ap (λ n. with_parsed n (decoded_into room frame)) t.parsed
+    ∙ answer_in_place room frame (omega arith)
+
 module _ (room : ℕ) (frame : List ℕ) (d : Progress) (s : HasStreamed d frame) (some : 0 < length frame) (few : length frame < 2 ^ 64) (fits : length frame ≤ room + 1) where
   len_is : d.len ≡ length (part frame)
   len_is = omega (arith, s.len, few, part_shorter frame)
 
-  pub short_whole : left_in d.state ≡ 0 → Ok d.len ≡ decoded_into room frame
-  short_whole z =
-      rw (eq-eqb (missing frame) 0 (sym (left_missing frame d.state s.state some) ∙ z), le-ltb room (length (part frame)) (omega (arith, fits, part_shorter frame))) (ap (λ n. Ok n) len_is)
-
-  pub short_broken : left_in d.state ≢ 0 → Err (InvalidFrame d.len) ≡ decoded_into room frame
-  short_broken z = rw (ne_eqb (missing frame) 0 (λ e. z (left_missing frame d.state s.state some ∙ e))) (ap (λ n. Err (InvalidFrame n)) len_is)
+  pub short_answer : answer_behind d.state d.len ≡ decoded_into room frame
+  short_answer =
+      answer_is room (length (part frame)) (missing frame) d.len d.state (left_missing frame d.state s.state some) len_is
+      (omega (arith, fits, part_shorter frame))
 
 -- A frame of one window, whose code is first: behind the code of a full block there is none that isn't its.
 module _ (frame bytes : List ℕ) (code : ℕ) (f : frame ≡ code ∷ bytes) (few : length bytes ≤ 254) (some : 0 < code) (byte : code < 256) where
@@ -89,18 +114,12 @@ module _ (frame bytes : List ℕ) (code : ℕ) (f : frame ≡ code ∷ bytes) (f
     count : length (part frame) ≡ n
     count = sym (ap length message) ∙ long
 
-    pub window_whole : left_in state ≡ 0 → Ok n ≡ decoded_into (length old) frame
-    window_whole z = rw (eq-eqb (missing frame) 0 (sym left ∙ z), le-ltb (length old) (length (part frame)) fits) (ap (λ k. Ok k) (sym count))
-
-    pub window_broken : left_in state ≢ 0 → Err (InvalidFrame n) ≡ decoded_into (length old) frame
-    window_broken z = rw (ne_eqb (missing frame) 0 (λ e. z (left ∙ e))) (ap (λ k. Err (InvalidFrame k)) (sym count))
+    pub window_answer : answer_behind state n ≡ decoded_into (length old) frame
+    window_answer = answer_is (length old) (length (part frame)) (missing frame) n state left (sym count) fits
 
     -- the same as the answer of decoding in place
-    pub window_report : (end : ℕ) → end ≡ length frame → left_in state ≡ 0 → Ok (report end n) ≡ in_place frame
-    window_report end w z = rw (eq-eqb (missing frame) 0 (sym left ∙ z), w, count) refl
-
-    pub window_refused : left_in state ≢ 0 → Err (InvalidFrame n) ≡ in_place frame
-    window_refused z = rw (ne_eqb (missing frame) 0 (λ e. z (left ∙ e)), count) refl
+    pub window_report : (end : ℕ) → end ≡ length frame → with_parsed end (answer_behind state n) ≡ in_place frame
+    window_report end w = rw (w, window_answer) (answer_in_place (length old) frame fits)
 
     pub window_over : (new : List ℕ) → new ≡ out ++ drop n old → new ≡ overwritten (part frame) old
     window_over new put =

@@ -1,14 +1,15 @@
 -- What the streaming decoders do with what they are given, each byte XORed with the sentinel: what each keeps, and its buffer,
 -- before and afterwards.
-use Rattle.std.specs.Prelude.{◌≡◌, ◌≢◌, ℕ, ◌-◌, ◌<◌, ◌≤◌, false, List, [], ◌++◌, length, take, Option, Result, IfOk, OnErr, IfSome}
+use Rattle.std.specs.Prelude.{◌≡◌, ◌≢◌, ℕ, ◌-◌, ◌==◌, if◌then◌else◌, ◌<◌, ◌≤◌, false, List, [], ◌++◌, length, take, Option, Result, Ok, Err, IfOk, OnErr, IfSome}
 use Rattle.cobs.specs.Frames.{Frame, NoZero, part, part_from, after}
 use Rattle.cobs.specs.Feeding.{answer_of, frame_after, placed}
 use Rattle.cobs.specs.InPlace.{overwritten, written_over}
 use Rattle.cobs.specs.Pieces.{first_answer, frame_left, frame_met, buffer_left}
-use Rattle.cobs.specs.Reports.{parsed_size, frame_size}
+use Rattle.cobs.specs.Reports.{parsed_size, frame_size, report}
 use Rattle.cobs.specs.Streaming.{HasStreamed, Decoded}
 use Rattle.cobs.specs.Whole.{decoded_into}
 use Rattle.cobs.specs.declared.dec.report.DecodeError.{DecodeError}
+use Rattle.cobs.specs.declared.dec.report.DecodeError.TheVariants.{InvalidFrame}
 use Rattle.cobs.specs.declared.dec.state.DecoderState.{DecoderState}
 use Rattle.cobs.specs.declared.dec.state.DecoderState.TheVariants.{Idle, Grab, GrabChain}
 use Rattle.cobs.specs.declared.dec.report.DecodeReport.{DecodeReport}
@@ -77,3 +78,12 @@ abbrev pub left_behind : DecoderState → ℕ → DecoderState
 left_behind Idle n = Idle
 left_behind (Grab left) n = Grab (left - n)
 left_behind (GrabChain left) n = GrabChain (left - n)
+
+-- what is answered behind a whole frame, with so many bytes of a message, where a decoder stands so
+abbrev pub answer_behind : DecoderState → ℕ → Result ℕ DecodeError
+answer_behind state len = if left_in state == 0 then Ok len else Err (InvalidFrame len)
+
+-- an answer with how many bytes of the source were used
+abbrev pub with_parsed : ℕ → Result ℕ DecodeError → Result DecodeReport DecodeError
+with_parsed parsed (Ok decoded) = Ok (report parsed decoded)
+with_parsed parsed (Err e) = Err e

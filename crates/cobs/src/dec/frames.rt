@@ -4,10 +4,11 @@ ghost use Rattle.cobs.specs.Frames.{NoZero, part};
 ghost use Rattle.cobs.specs.InPlace.{stretch, overwritten};
 ghost use Rattle.cobs.specs.Sentinel.{masked};
 ghost use Rattle.cobs.specs.Streaming.{HasStreamed};
+ghost use Rattle.cobs.specs.Taking.{answer_behind, with_parsed};
 ghost use Rattle.cobs.specs.Whole.{decoded_into};
 
 use super::progress::Progress;
-use super::report::DecodeError;
+use super::report::{DecodeError, DecodeReport};
 use super::state::DecoderState;
 use super::window::{copy_until, decode_at_once, put_zeros};
 use crate::finding::before_sentinel;
@@ -15,6 +16,44 @@ use crate::moves::is_clear_255;
 
 // How many bytes a frame has at most whose message is of one window.
 const SHORT: usize = 255;
+
+// The answer behind a whole frame, with how many bytes of a message it has: it is one where no block is open.
+#[inline(always)]
+pub(crate) fn answer_behind(state: DecoderState, len: usize) -> Result<usize, DecodeError>
+    ensures { result ≡ answer_behind state len }
+{
+    if state.left() == 0 {
+        Ok(len)
+    } else {
+        Err(DecodeError::InvalidFrame { decoded_bytes: len })
+    }
+}
+
+// The same answer with how many bytes of the source were used.
+#[inline(always)]
+pub(crate) fn with_parsed(
+    answer: Result<usize, DecodeError>,
+    parsed: usize,
+) -> Result<DecodeReport, DecodeError>
+    ensures { result ≡ with_parsed parsed answer }
+{
+    match answer {
+        Ok(decoded) => Ok(DecodeReport { parsed, decoded }),
+        Err(error) => Err(error),
+    }
+}
+
+// The answer of a call that isn't compiled into its caller, as it is. It is told from where the call puts it, so that the caller's
+// quicker ways keep their answers in registers.
+#[inline(always)]
+pub(crate) fn apart<T: Copy>(answer: Result<T, DecodeError>) -> Result<T, DecodeError>
+    ensures { result ≡ answer }
+{
+    match answer {
+        Ok(told) => Ok(told),
+        Err(error) => Err(error),
+    }
+}
 
 // How far the bytes of a frame, each XORed with the sentinel, are taken in where none has room.
 fn count_frame(frame: &[u8], sentinel: u8) -> Progress
@@ -56,11 +95,7 @@ pub(crate) fn decode_short(
     let bytes = &frame[1..];
     let len = bytes.len();
     let state = decode_at_once(bytes, &mut dest[..len], code - 1, sentinel);
-    if state.left() == 0 {
-        Ok(len)
-    } else {
-        Err(DecodeError::InvalidFrame { decoded_bytes: len })
-    }
+    answer_behind(state, len)
 }
 
 // Takes in the bytes of a frame of any length, each XORed with the sentinel, for which there is room.
@@ -104,11 +139,7 @@ pub(crate) fn decode_whole(
         return decode_short(frame, dest, sentinel);
     }
     let Progress { state, len } = take_long(frame, dest, sentinel);
-    if state.left() == 0 {
-        Ok(len)
-    } else {
-        Err(DecodeError::InvalidFrame { decoded_bytes: len })
-    }
+    answer_behind(state, len)
 }
 
 // Takes in the bytes of a source before its first sentinel, each XORed with it: there is room for all of the source. They are
@@ -182,11 +213,7 @@ fn decode_near(source: &[u8], dest: &mut [u8], sentinel: u8) -> (Result<usize, D
     let code = sentinel ^ source[0];
     let n = copy_until(&source[1..], dest, 0, sentinel);
     let state = put_zeros(&mut dest[..n], code - 1);
-    if state.left() == 0 {
-        (Ok(n), n + 1)
-    } else {
-        (Err(DecodeError::InvalidFrame { decoded_bytes: n }), n + 1)
-    }
+    (answer_behind(state, n), n + 1)
 }
 
 // Decodes the bytes of a source before its first sentinel, each XORed with it: it doesn't begin with one, and there is room for all
@@ -211,11 +238,7 @@ pub(crate) fn decode_source<const COPY: usize>(
         return decode_near(source, dest, sentinel);
     }
     let (Progress { state, len }, end) = take_source::<COPY>(source, dest, sentinel);
-    if state.left() == 0 {
-        (Ok(len), end)
-    } else {
-        (Err(DecodeError::InvalidFrame { decoded_bytes: len }), end)
-    }
+    (answer_behind(state, len), end)
 }
 
 // Takes in the bytes of a frame, each XORed with the sentinel, and also counts those that have no room.

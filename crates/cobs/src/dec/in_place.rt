@@ -5,6 +5,7 @@ ghost use Rattle.cobs.specs.Reports.{frame_size};
 ghost use Rattle.cobs.specs.InPlace.{stretch, in_place, in_place_length, overwritten};
 ghost use Rattle.cobs.specs.Sentinel.{masked};
 
+use super::frames::{answer_behind, apart, with_parsed};
 use super::progress::Progress;
 use super::report::{DecodeError, DecodeReport};
 use super::state::DecoderState;
@@ -17,36 +18,6 @@ use crate::moves::{is_clear_255, move_down};
 // Behind the code of a full block there is none that isn't its.
 #[inline(always)]
 fn decode_short_in_place(
-    buf: &mut [u8],
-    end: usize,
-    sentinel: u8,
-) -> Result<DecodeReport, DecodeError>
-    requires some { 0 < end }
-    requires few { end ≤ 255 }
-    requires within { end ≤ length buf.old }
-    requires clear { (k : ℕ) → k < end → slice_index buf.old k ≢ sentinel }
-    requires end { end < length buf.old → slice_index buf.old end ≡ sentinel }
-    requires bytes { (k : ℕ) → slice_index buf.old k < 256 }
-    ensures answer { result ≡ in_place (stretch (masked sentinel buf.old)) }
-    ensures buffer { buf.new ≡ overwritten (part (stretch (masked sentinel buf.old))) buf.old }
-{
-    let code = sentinel ^ buf[0];
-    let len = end - 1;
-    move_down(buf, 1, len, 0, sentinel);
-    let state = put_zeros(&mut buf[..len], code - 1);
-    if state.left() == 0 {
-        Ok(DecodeReport {
-            parsed: end,
-            decoded: len,
-        })
-    } else {
-        Err(DecodeError::InvalidFrame { decoded_bytes: len })
-    }
-}
-
-// The same where there may be no such bytes.
-#[inline(always)]
-fn decode_ended_in_place(
     buf: &mut [u8],
     end: usize,
     sentinel: u8,
@@ -65,7 +36,11 @@ fn decode_ended_in_place(
             decoded: 0,
         });
     }
-    decode_short_in_place(buf, end, sentinel)
+    let code = sentinel ^ buf[0];
+    let len = end - 1;
+    move_down(buf, 1, len, 0, sentinel);
+    let state = put_zeros(&mut buf[..len], code - 1);
+    with_parsed(answer_behind(state, len), end)
 }
 
 // The same of bytes that begin with a code 01: each of a row of such codes is a zero, and 64 and more are filled at once.
@@ -90,33 +65,7 @@ fn decode_row_in_place(
     move_down(buf, 1 + row, len - row, row, sentinel);
     let state = put_zeros(&mut buf[row..len], 0);
     buf[..row].fill(0);
-    if state.left() == 0 {
-        Ok(DecodeReport {
-            parsed: end,
-            decoded: len,
-        })
-    } else {
-        Err(DecodeError::InvalidFrame { decoded_bytes: len })
-    }
-}
-
-// The same, with an answer that isn't handed to a call.
-#[inline(always)]
-fn decode_row_apart(buf: &mut [u8], end: usize, sentinel: u8) -> Result<DecodeReport, DecodeError>
-    requires some { 0 < end }
-    requires few { end ≤ 255 }
-    requires within { end ≤ length buf.old }
-    requires clear { (k : ℕ) → k < end → slice_index buf.old k ≢ sentinel }
-    requires end { end < length buf.old → slice_index buf.old end ≡ sentinel }
-    requires first { slice_index buf.old 0 ≡ bit_xor sentinel 1 }
-    requires bytes { (k : ℕ) → slice_index buf.old k < 256 }
-    ensures answer { result ≡ in_place (stretch (masked sentinel buf.old)) }
-    ensures buffer { buf.new ≡ overwritten (part (stretch (masked sentinel buf.old))) buf.old }
-{
-    match decode_row_in_place(buf, end, sentinel) {
-        Ok(DecodeReport { parsed, decoded }) => Ok(DecodeReport { parsed, decoded }),
-        Err(error) => Err(error),
-    }
+    with_parsed(answer_behind(state, len), end)
 }
 
 // Where the first sentinel of more than 64 bytes is, if it is among the first 256. That a byte is below 256 nothing else says of a
@@ -147,16 +96,16 @@ fn decode_near_in_place(buf: &mut [u8], sentinel: u8) -> Option<Result<DecodeRep
 {
     if buf.len() <= 64 {
         let few = before_few(buf, sentinel);
-        return Some(decode_ended_in_place(buf, few, sentinel));
+        return Some(decode_short_in_place(buf, few, sentinel));
     }
     let end = near_end(buf, sentinel);
     if end == 256 {
         return None;
     }
     if 64 <= end && buf[0] == sentinel ^ 1 {
-        return Some(decode_row_apart(buf, end, sentinel));
+        return Some(apart(decode_row_in_place(buf, end, sentinel)));
     }
-    Some(decode_ended_in_place(buf, end, sentinel))
+    Some(decode_short_in_place(buf, end, sentinel))
 }
 
 // As `decode_in_place_report_with_sentinel`, of a buffer that doesn't begin with the sentinel: 255 bytes are searched and moved at
@@ -211,15 +160,8 @@ fn decode_long_in_place<const COPY: usize>(
         let _ = progress.take_in(buf, byte);
         read += 1;
     }
-    let Progress { mut state, len } = progress;
-    let parsed = read;
-    match state.feed(0) {
-        Ok(_) => Ok(DecodeReport {
-            parsed,
-            decoded: len,
-        }),
-        Err(_) => Err(DecodeError::InvalidFrame { decoded_bytes: len }),
-    }
+    let Progress { state, len } = progress;
+    with_parsed(answer_behind(state, len), read)
 }
 
 // As `decode_in_place_report_with_sentinel`, by the copy of that number.
@@ -232,10 +174,7 @@ fn decode_by<const COPY: usize>(buf: &mut [u8], sentinel: u8) -> Result<DecodeRe
     if let Some(answer) = decode_near_in_place(buf, sentinel) {
         return answer;
     }
-    match decode_long_in_place::<COPY>(buf, sentinel) {
-        Ok(DecodeReport { parsed, decoded }) => Ok(DecodeReport { parsed, decoded }),
-        Err(error) => Err(error),
-    }
+    apart(decode_long_in_place::<COPY>(buf, sentinel))
 }
 
 // The same, where the sentinel may well be zero.

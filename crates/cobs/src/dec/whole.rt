@@ -1,12 +1,14 @@
 //! A source that is there as a whole, decoded into a slice.
-ghost use Rattle.std.specs.Prelude.{◌≡◌, ◌≢◌, ℕ, ◌+◌, ◌<◌, ◌≤◌, List, [], length, take, slice_index, IsTrue, IfOk, OnErr, IfSome, IsNone};
+ghost use Rattle.std.specs.Prelude.{◌≡◌, ◌≢◌, ℕ, ◌+◌, ◌-◌, ◌<◌, ◌≤◌, List, [], length, take, slice_index, min, IsTrue, IfOk, OnErr, IfSome, IsNone};
 ghost use Rattle.cobs.specs.Frames.{Frame, NoZero, part};
 ghost use Rattle.cobs.specs.Reports.{frame_size};
 ghost use Rattle.cobs.specs.InPlace.{stretch, overwritten};
 ghost use Rattle.cobs.specs.Sentinel.{masked};
 ghost use Rattle.cobs.specs.Whole.{unpadded, frame_in, decoded_from, decoded_into};
 
-use super::frames::{decode_counted, decode_short, decode_source, decode_whole};
+use super::frames::{
+    apart, decode_counted, decode_short, decode_source, decode_whole, with_parsed,
+};
 use super::progress::Progress;
 use super::report::{DecodeError, DecodeReport};
 use crate::finding::{before_by_64, before_few, before_sentinel};
@@ -89,16 +91,15 @@ fn decode_pushed(source: &[u8], dest: &mut [u8]) -> Result<DecodeReport, DecodeE
     }
 }
 
-// The same, with an answer that isn't handed to a call: the quicker ways keep theirs in registers.
+// How many bytes of a source were used where its frame, behind leading zeros, has so many: with the zero behind it, where there is
+// one.
 #[inline(always)]
-fn decode_pushed_apart(source: &[u8], dest: &mut [u8]) -> Result<DecodeReport, DecodeError>
-    ensures answer { result ≡ decoded_from (length dest.old) source.now }
-    ensures dest { dest.new ≡ overwritten (part (frame_in source.now)) dest.old }
+fn parsed_behind(source: &[u8], rest: &[u8], end: usize) -> usize
+    requires rest { length rest.now ≤ length source.now }
+    requires end { end ≤ length rest.now }
+    ensures { result ≡ min (length source.now - length rest.now + end + 1) (length source.now) }
 {
-    match decode_pushed(source, dest) {
-        Ok(DecodeReport { parsed, decoded }) => Ok(DecodeReport { parsed, decoded }),
-        Err(error) => Err(error),
-    }
+    source.len().min(source.len() - rest.len() + end + 1)
 }
 
 // As `decode`, of a source whose frame, behind leading zeros, was found.
@@ -117,17 +118,10 @@ fn decode_found(
     ensures dest { dest.new ≡ overwritten (part (frame_in source.now)) dest.old }
 {
     if has_room(frame, dest.len()) {
-        match decode_whole(frame, dest, 0) {
-            Ok(decoded) => Ok(DecodeReport {
-                parsed: source
-                    .len()
-                    .min(source.len() - rest.len() + frame.len() + 1),
-                decoded,
-            }),
-            Err(error) => Err(error),
-        }
+        let answer = decode_whole(frame, dest, 0);
+        with_parsed(answer, parsed_behind(source, rest, frame.len()))
     } else {
-        decode_pushed_apart(source, dest)
+        apart(decode_pushed(source, dest))
     }
 }
 
@@ -143,13 +137,7 @@ fn decode_long(source: &[u8], rest: &[u8], dest: &mut [u8]) -> Result<DecodeRepo
     ensures dest { dest.new ≡ overwritten (part (frame_in source.now)) dest.old }
 {
     let (answer, end) = decode_source::<0>(rest, dest, 0);
-    match answer {
-        Ok(decoded) => Ok(DecodeReport {
-            parsed: source.len().min(source.len() - rest.len() + end + 1),
-            decoded,
-        }),
-        Err(error) => Err(error),
-    }
+    with_parsed(answer, parsed_behind(source, rest, end))
 }
 
 // As `decode`, by a search for the frame's end before it is decoded.
@@ -164,18 +152,6 @@ fn decode_searched(source: &[u8], dest: &mut [u8]) -> Result<DecodeReport, Decod
     }
     let end = before_sentinel(rest, 0);
     decode_found(source, rest, &rest[..end], dest)
-}
-
-// The same, with an answer that isn't handed to a call.
-#[inline(always)]
-fn decode_searched_apart(source: &[u8], dest: &mut [u8]) -> Result<DecodeReport, DecodeError>
-    ensures answer { result ≡ decoded_from (length dest.old) source.now }
-    ensures dest { dest.new ≡ overwritten (part (frame_in source.now)) dest.old }
-{
-    match decode_searched(source, dest) {
-        Ok(DecodeReport { parsed, decoded }) => Ok(DecodeReport { parsed, decoded }),
-        Err(error) => Err(error),
-    }
 }
 
 // Whether many bytes begin with many codes 01.
@@ -205,7 +181,7 @@ fn decode_begun(source: &[u8], rest: &[u8], dest: &mut [u8]) -> Result<DecodeRep
     }
     // A row of zeros is filled as it is met: a search for the frame's end would pass over it once more.
     if begins_with_row(rest) {
-        return decode_pushed_apart(source, dest);
+        return apart(decode_pushed(source, dest));
     }
     if let Some(frame) = near_frame(rest, 0) {
         return decode_found(source, rest, frame, dest);
@@ -213,7 +189,7 @@ fn decode_begun(source: &[u8], rest: &[u8], dest: &mut [u8]) -> Result<DecodeRep
     if has_room(rest, dest.len()) {
         decode_long(source, rest, dest)
     } else {
-        decode_searched_apart(source, dest)
+        apart(decode_searched(source, dest))
     }
 }
 
@@ -224,7 +200,7 @@ fn decode_first(source: &[u8], dest: &mut [u8]) -> Result<DecodeReport, DecodeEr
     ensures dest { dest.new ≡ overwritten (part (frame_in source.now)) dest.old }
 {
     if source.is_empty() || source[0] == 0 {
-        decode_searched_apart(source, dest)
+        apart(decode_searched(source, dest))
     } else {
         decode_begun(source, source, dest)
     }
@@ -262,11 +238,7 @@ pub(crate) fn decode_clear(
     if has_room(frame, dest.len()) {
         return decode_whole(frame, dest, sentinel);
     }
-    // An answer that isn't handed to a call: the quicker way keeps its own in registers.
-    match decode_counted(frame, dest, sentinel) {
-        Ok(len) => Ok(len),
-        Err(error) => Err(error),
-    }
+    apart(decode_counted(frame, dest, sentinel))
 }
 
 // The same of few bytes, which are of one window.
@@ -280,10 +252,7 @@ fn decode_few(frame: &[u8], dest: &mut [u8], sentinel: u8) -> Result<usize, Deco
     if has_room(frame, dest.len()) {
         return decode_short(frame, dest, sentinel);
     }
-    match decode_counted(frame, dest, sentinel) {
-        Ok(len) => Ok(len),
-        Err(error) => Err(error),
-    }
+    apart(decode_counted(frame, dest, sentinel))
 }
 
 // As `decode_with_sentinel`, of a source whose first 256 bytes hold no sentinel.
@@ -317,10 +286,7 @@ fn decode_stretch(source: &[u8], dest: &mut [u8], sentinel: u8) -> Result<usize,
     }
     match near_frame(source, sentinel) {
         Some(frame) => decode_clear(frame, dest, sentinel),
-        None => match decode_far_stretch(source, dest, sentinel) {
-            Ok(len) => Ok(len),
-            Err(error) => Err(error),
-        },
+        None => apart(decode_far_stretch(source, dest, sentinel)),
     }
 }
 

@@ -1,4 +1,4 @@
-use Rattle.std.proofs.Common.{◌≡◌, ◌≢◌, ℕ, zero, suc, ◌+◌, ◌-◌, ◌<◌, ◌≤◌, List, true, [], ◌∷◌, ◌++◌, length, take, drop, get_or, length-drop, Ok, Err, refl, sym, ◌∙◌, ap, subst, arith}
+use Rattle.std.proofs.Common.{◌≡◌, ◌≢◌, ℕ, zero, suc, ◌+◌, ◌-◌, ◌<◌, ◌≤◌, List, true, [], ◌∷◌, ◌++◌, length, take, drop, get_or, length-take, length-drop, refl, sym, ◌∙◌, ap, subst, arith}
 use Rattle.std.proofs.lemmas.List.{length-take-le, drop_at, take_all, get_or-drop}
 use Rattle.std.proofs.lemmas.Nat.{xor_of_8}
 use Rattle.std.specs.Prelude.{bit_xor}
@@ -6,13 +6,12 @@ use Rattle.cobs.specs.Feeding.{stands_by}
 use Rattle.cobs.specs.Frames.{NoZero, part, part_from, after}
 use Rattle.cobs.specs.InPlace.{stretch, overwritten, written_over}
 use Rattle.cobs.specs.Sentinel.{masked}
-use Rattle.cobs.specs.Taking.{left_in}
+use Rattle.cobs.specs.Taking.{answer_behind}
 use Rattle.cobs.specs.Whole.{decoded_into}
 use Rattle.cobs.specs.declared.dec.state.DecoderState.{DecoderState}
-use Rattle.cobs.specs.declared.dec.report.DecodeError.TheVariants.{InvalidFrame}
 use Rattle.cobs.proofs.MaskingLemmas.{masked_length, masked_take}
-use Rattle.cobs.proofs.ShortLemmas.{window_whole, window_broken, window_over}
-use Rattle.cobs.proofs.SourcesLemmas.{stretch_front, stretch_clear, clear_at}
+use Rattle.cobs.proofs.ShortLemmas.{window_answer, window_over}
+use Rattle.cobs.proofs.SourcesLemmas.{masked_positive, stretch_front, stretch_clear, clear_at}
 use Rattle.cobs.proofs.WithinLemmas.{written_part}
 use Rattle.cobs.proofs.dec.frames.decode_near.Goals as goal
 use Rattle.cobs.proofs.dec.frames.decode_near.Goals.{After-copy_until-n}
@@ -107,11 +106,8 @@ module _ (c : After-copy_until-n) where
     byte : code < 256
     byte = xor_of_8 key (get_or source 0 0) c.ranges.sentinel.fits (c.type_inv.source 0).fits
 
-    whole : left_in state ≡ 0 → Ok n ≡ decoded_into (length old) frame
-    whole = window_whole frame bytes code first count clear.0 byte out old n state size_is room out_is state_is
-
-    broken : left_in state ≢ 0 → Err (InvalidFrame n) ≡ decoded_into (length old) frame
-    broken = window_broken frame bytes code first count clear.0 byte out old n state size_is room out_is state_is
+    answer : answer_behind state n ≡ decoded_into (length old) frame
+    answer = window_answer frame bytes code first count clear.0 byte out old n state size_is room out_is state_is
 
     over : out ++ drop n mid ≡ overwritten (part frame) old
     over = window_over frame bytes code first count clear.0 byte out old n state size_is room out_is state_is _ (ap (λ d. out ++ d) behind)
@@ -129,30 +125,24 @@ put_zeros-state-requires-clause-short c =
     let e = (goal.at.put_zeros-state-requires-clause-short c).After-copy_until-n in
     omega (arith, ap length (there e), long e, within e, e.requires.few)
 
-pub returns-then-left-eq0-clause-within : goal.returns-then-left-eq0-clause-within
-returns-then-left-eq0-clause-within c = within (goal.at.returns-then-left-eq0-clause-within c).After-copy_until-n
+pub copy_until-n-requires : goal.copy_until-n-requires
+copy_until-n-requires c =
+    omega (arith, length-take (length c.args.source.now - 1) (drop 1 c.args.source.now), length-drop 1 c.args.source.now, c.requires.room)
 
-pub returns-else-left-eq0-clause-within : goal.returns-else-left-eq0-clause-within
-returns-else-left-eq0-clause-within c = within (goal.at.returns-else-left-eq0-clause-within c).After-copy_until-n
+pub overflow_sub-code : goal.overflow_sub-code
+overflow_sub-code c = masked_positive c.args.sentinel (get_or c.args.source.now 0 0) c.requires.begins
 
-pub returns-then-left-eq0-clause-answer : goal.returns-then-left-eq0-clause-answer
-returns-then-left-eq0-clause-answer c =
-    whole (goal.at.returns-then-left-eq0-clause-answer c).After-copy_until-n c.put_zeros-state.new.out c.put_zeros-state.result c.put_zeros-state.auto.out c.put_zeros-state.ensures.out c.put_zeros-state.ensures.state (sym c.left.ensures ∙ c.if-left-eq0.true)
+pub returns-clause-within : goal.returns-clause-within
+returns-clause-within c = within (goal.at.returns-clause-within c).After-copy_until-n
 
-pub returns-else-left-eq0-clause-answer : goal.returns-else-left-eq0-clause-answer
-returns-else-left-eq0-clause-answer c =
-    broken (goal.at.returns-else-left-eq0-clause-answer c).After-copy_until-n c.put_zeros-state.new.out c.put_zeros-state.result c.put_zeros-state.auto.out c.put_zeros-state.ensures.out c.put_zeros-state.ensures.state (λ e. c.if-left-eq0.false (c.left.ensures ∙ e))
+pub returns-clause-answer : goal.returns-clause-answer
+returns-clause-answer c =
+    c.answer_behind.ensures
+    ∙ answer (goal.at.returns-clause-answer c).After-copy_until-n c.put_zeros-state.new.out c.put_zeros-state.result c.put_zeros-state.auto.out c.put_zeros-state.ensures.out c.put_zeros-state.ensures.state
 
-pub returns-then-left-eq0-clause-dest : goal.returns-then-left-eq0-clause-dest
-returns-then-left-eq0-clause-dest c =
-    over (goal.at.returns-then-left-eq0-clause-dest c).After-copy_until-n c.put_zeros-state.new.out c.put_zeros-state.result c.put_zeros-state.auto.out c.put_zeros-state.ensures.out c.put_zeros-state.ensures.state
+pub returns-clause-dest : goal.returns-clause-dest
+returns-clause-dest c =
+    over (goal.at.returns-clause-dest c).After-copy_until-n c.put_zeros-state.new.out c.put_zeros-state.result c.put_zeros-state.auto.out c.put_zeros-state.ensures.out c.put_zeros-state.ensures.state
 
-pub returns-else-left-eq0-clause-dest : goal.returns-else-left-eq0-clause-dest
-returns-else-left-eq0-clause-dest c =
-    over (goal.at.returns-else-left-eq0-clause-dest c).After-copy_until-n c.put_zeros-state.new.out c.put_zeros-state.result c.put_zeros-state.auto.out c.put_zeros-state.ensures.out c.put_zeros-state.ensures.state
-
-pub returns-then-left-eq0-clause-end : goal.returns-then-left-eq0-clause-end
-returns-then-left-eq0-clause-end c = end_is (goal.at.returns-then-left-eq0-clause-end c).After-copy_until-n
-
-pub returns-else-left-eq0-clause-end : goal.returns-else-left-eq0-clause-end
-returns-else-left-eq0-clause-end c = end_is (goal.at.returns-else-left-eq0-clause-end c).After-copy_until-n
+pub returns-clause-end : goal.returns-clause-end
+returns-clause-end c = end_is (goal.at.returns-clause-end c).After-copy_until-n

@@ -1,4 +1,4 @@
-use Rattle.std.proofs.Common.{◌≡◌, ◌≢◌, ◌-◌, ◌<◌, ◌≤◌, ◌∷◌, ◌++◌, ℕ, List, true, refl, length, take, drop, get_or, length-drop, Ok, Err, sym, ◌∙◌, ap, arith}
+use Rattle.std.proofs.Common.{◌≡◌, ◌-◌, ◌<◌, ◌≤◌, ◌∷◌, ◌++◌, ℕ, List, true, refl, length, take, drop, get_or, length-drop, sym, ◌∙◌, ap, arith}
 use Rattle.std.proofs.lemmas.List.{take_all, length-take-le}
 use Rattle.std.specs.Prelude.{bit_xor}
 use Rattle.std.proofs.lemmas.Nat.{xor_of_8}
@@ -7,11 +7,10 @@ use Rattle.cobs.specs.Feeding.{stands_by}
 use Rattle.cobs.specs.Frames.{part, part_from, after}
 use Rattle.cobs.specs.InPlace.{overwritten}
 use Rattle.cobs.specs.Sentinel.{masked}
-use Rattle.cobs.specs.Taking.{left_in}
+use Rattle.cobs.specs.Taking.{answer_behind}
 use Rattle.cobs.specs.Whole.{decoded_into}
-use Rattle.cobs.specs.declared.dec.report.DecodeError.TheVariants.{InvalidFrame}
 use Rattle.cobs.proofs.MaskingLemmas.{masked_length}
-use Rattle.cobs.proofs.ShortLemmas.{window_whole, window_broken, window_over, code_first, code_positive}
+use Rattle.cobs.proofs.ShortLemmas.{window_answer, window_over, code_first, code_positive}
 use Rattle.cobs.proofs.dec.frames.decode_short.Goals as goal
 use Rattle.cobs.proofs.dec.frames.decode_short.Goals.{After-decode_at_once-state}
 
@@ -62,23 +61,14 @@ module _ (c : After-decode_at_once-state) where
   long : length c.decode_at_once-state.new.out ≡ count
   long = omega (arith, c.decode_at_once-state.auto.out, length-take-le count c.args.dest.now room)
 
-  whole : left_in c.decode_at_once-state.result ≡ 0 → Ok count ≡ decoded_into (length c.args.dest.now) (masked key c.args.frame.now)
-  whole = window_whole (masked key c.args.frame.now) (masked key rest) code first few some fits c.decode_at_once-state.new.out c.args.dest.now count c.decode_at_once-state.result long room out state
-
-  broken : left_in c.decode_at_once-state.result ≢ 0 → Err (InvalidFrame count) ≡ decoded_into (length c.args.dest.now) (masked key c.args.frame.now)
-  broken = window_broken (masked key c.args.frame.now) (masked key rest) code first few some fits c.decode_at_once-state.new.out c.args.dest.now count c.decode_at_once-state.result long room out state
+  answer : answer_behind c.decode_at_once-state.result count ≡ decoded_into (length c.args.dest.now) (masked key c.args.frame.now)
+  answer = window_answer (masked key c.args.frame.now) (masked key rest) code first few some fits c.decode_at_once-state.new.out c.args.dest.now count c.decode_at_once-state.result long room out state
 
   over : (new : List ℕ) → new ≡ c.decode_at_once-state.new.out ++ drop count c.args.dest.now → new ≡ overwritten (part (masked key c.args.frame.now)) c.args.dest.now
   over = window_over (masked key c.args.frame.now) (masked key rest) code first few some fits c.decode_at_once-state.new.out c.args.dest.now count c.decode_at_once-state.result long room out state
 
-pub returns-then-left-eq0-clause-answer : goal.returns-then-left-eq0-clause-answer
-returns-then-left-eq0-clause-answer c = whole (goal.at.returns-then-left-eq0-clause-answer c).After-decode_at_once-state (sym c.left.ensures ∙ c.if-left-eq0.true)
+pub returns-clause-answer : goal.returns-clause-answer
+returns-clause-answer c = c.answer_behind.ensures ∙ answer (goal.at.returns-clause-answer c).After-decode_at_once-state
 
-pub returns-else-left-eq0-clause-answer : goal.returns-else-left-eq0-clause-answer
-returns-else-left-eq0-clause-answer c = broken (goal.at.returns-else-left-eq0-clause-answer c).After-decode_at_once-state (λ e. c.if-left-eq0.false (c.left.ensures ∙ e))
-
-pub returns-then-left-eq0-clause-dest : goal.returns-then-left-eq0-clause-dest
-returns-then-left-eq0-clause-dest c = over (goal.at.returns-then-left-eq0-clause-dest c).After-decode_at_once-state _ refl
-
-pub returns-else-left-eq0-clause-dest : goal.returns-else-left-eq0-clause-dest
-returns-else-left-eq0-clause-dest c = over (goal.at.returns-else-left-eq0-clause-dest c).After-decode_at_once-state _ refl
+pub returns-clause-dest : goal.returns-clause-dest
+returns-clause-dest c = over (goal.at.returns-clause-dest c).After-decode_at_once-state _ refl

@@ -5,14 +5,15 @@ use Rattle.std.specs.Prelude.{bit_xor}
 use Rattle.cobs.specs.Feeding.{placed}
 use Rattle.cobs.specs.Sentinel.{masked}
 use Rattle.cobs.specs.Streaming.{HasStreamed}
-use Rattle.cobs.specs.Taking.{TakesFront}
+use Rattle.cobs.specs.Taking.{with_parsed, TakesFront}
 use Rattle.cobs.specs.declared.dec.progress.Progress.{Progress}
 use Rattle.cobs.proofs.MaskingLemmas.{masked_length}
 use Rattle.cobs.proofs.SourcesLemmas.{clear_byte, masked_positive}
-use Rattle.cobs.proofs.ReadingLemmas.{Reading, reading_on, reading_done, reading_holds, whole, broken, EndsAt, shorter}
+use Rattle.cobs.proofs.ReadingLemmas.{Reading, reading_on, reading_done, reading_holds, EndsAt, shorter}
+use Rattle.cobs.proofs.ShortLemmas.{done_answer}
 use Rattle.cobs.proofs.WithinLemmas.{reading_new, reading_front, unread_byte, ends_at}
 use Rattle.cobs.proofs.dec.in_place.decode_long_in_place.Goals as goal
-use Rattle.cobs.proofs.dec.in_place.decode_long_in_place.Goals.{After-feed, After-take_in-then-code}
+use Rattle.cobs.proofs.dec.in_place.decode_long_in_place.Goals.{After-answer_behind, After-take_in-then-code}
 
 -- a byte more
 module _ (s : ℕ) (source buffer : List ℕ) (read : ℕ) (d : Progress) (r : Reading s source buffer read d) where
@@ -354,22 +355,16 @@ loop-read-preserved g c =
       from = omega (arith, c.loop-read.invariant.from);
     }
 
-ends : (g : _) (c : After-feed g) → EndsAt c.args.sentinel c.loop-read.buf c.loop-read.read
+ends : (g : _) (c : After-answer_behind g) → EndsAt c.args.sentinel c.loop-read.buf c.loop-read.read
 ends g c =
     let end : c.loop-read.read ≡ c.loop-buf.read + c.before_many.result = omega (arith, c.loop-read.invariant.within, c.loop-read-test.false) in
     ends_here c.args.sentinel c.loop-buf.read (length c.loop-buf.buf - c.loop-buf.read) c.before_many.result c.loop-read.read c.args.buf.now c.loop-buf.buf c.loop-read.buf c.loop-buf.progress c.loop-read.progress c.loop-buf.invariant.reading c.loop-read.invariant.reading
     (omega arith) c.loop-buf.invariant.inside c.before_many.ensures.within end c.before_many.ensures.end
 
-pub returns-in-Ok-clause-answer : goal.returns-in-Ok-clause-answer
-returns-in-Ok-clause-answer g c =
-    whole (masked c.args.sentinel c.args.buf.now) _ _ (reading_done _ c.args.buf.now _ _ _ c.loop-read.invariant.reading (ends g (goal.at.returns-in-Ok-clause-answer g c).After-feed)) c.in-Ok.field-0 (sym c.feed.ensures.answer ∙ c.in-Ok.is)
+pub returns-clause-answer : goal.returns-clause-answer
+returns-clause-answer g c =
+    c.with_parsed.ensures ∙ ap (with_parsed c.loop-read.read) c.answer_behind.ensures
+    ∙ done_answer (masked c.args.sentinel c.args.buf.now) _ _ (reading_done _ c.args.buf.now _ _ _ c.loop-read.invariant.reading (ends g (goal.at.returns-clause-answer g c).After-answer_behind))
 
-pub returns-in-Ok-clause-buffer : goal.returns-in-Ok-clause-buffer
-returns-in-Ok-clause-buffer g c = reading_holds _ _ _ _ _ c.loop-read.invariant.reading (ends g (goal.at.returns-in-Ok-clause-buffer g c).After-feed)
-
-pub returns-in-Err-clause-answer : goal.returns-in-Err-clause-answer
-returns-in-Err-clause-answer g c =
-    broken (masked c.args.sentinel c.args.buf.now) _ _ (reading_done _ c.args.buf.now _ _ _ c.loop-read.invariant.reading (ends g (goal.at.returns-in-Err-clause-answer g c).After-feed)) c.in-Err.field-0 (sym c.feed.ensures.answer ∙ c.in-Err.is)
-
-pub returns-in-Err-clause-buffer : goal.returns-in-Err-clause-buffer
-returns-in-Err-clause-buffer g c = reading_holds _ _ _ _ _ c.loop-read.invariant.reading (ends g (goal.at.returns-in-Err-clause-buffer g c).After-feed)
+pub returns-clause-buffer : goal.returns-clause-buffer
+returns-clause-buffer g c = reading_holds _ _ _ _ _ c.loop-read.invariant.reading (ends g (goal.at.returns-clause-buffer g c).After-answer_behind)

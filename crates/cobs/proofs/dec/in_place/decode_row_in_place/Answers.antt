@@ -1,17 +1,15 @@
-use Rattle.std.proofs.Common.{◌≡◌, ◌≢◌, ℕ, zero, suc, ◌+◌, ◌-◌, ◌<◌, ◌≤◌, List, true, [], ◌∷◌, ◌++◌, length, take, drop, replicate, get_or, length-drop, length-append, Ok, Err, refl, sym, ◌∙◌, ap, subst, arith}
+use Rattle.std.proofs.Common.{◌≡◌, ◌≢◌, ℕ, zero, suc, ◌+◌, ◌-◌, ◌<◌, ◌≤◌, List, true, [], ◌∷◌, ◌++◌, length, take, drop, replicate, get_or, length-drop, length-append, refl, sym, ◌∙◌, ap, subst, arith}
 use Rattle.std.proofs.lemmas.List.{length-take-le, length-replicate, drop_at, get_or-take, get_or-drop, take-append-drop, drop-take, drop-drop, append_assoc}
 use Rattle.std.specs.Prelude.{bit_xor}
 use Rattle.cobs.specs.Feeding.{stands_by}
 use Rattle.cobs.specs.Frames.{NoZero, part, part_from, after}
 use Rattle.cobs.specs.InPlace.{stretch, in_place, overwritten, written_over}
-use Rattle.cobs.specs.Reports.{report}
 use Rattle.cobs.specs.Sentinel.{masked}
-use Rattle.cobs.specs.Taking.{left_in}
+use Rattle.cobs.specs.Taking.{answer_behind, with_parsed}
 use Rattle.cobs.specs.declared.dec.state.DecoderState.{DecoderState}
-use Rattle.cobs.specs.declared.dec.report.DecodeError.TheVariants.{InvalidFrame}
 use Rattle.cobs.proofs.DecodingLemmas.{part_append, after_append}
 use Rattle.cobs.proofs.MaskingLemmas.{masked_length, masked_get, masked_drop, xor_twice}
-use Rattle.cobs.proofs.ShortLemmas.{window_report, window_refused, window_over}
+use Rattle.cobs.proofs.ShortLemmas.{window_report, window_over}
 use Rattle.cobs.proofs.SourcesLemmas.{stretch_front, stretch_clear, clear_at}
 use Rattle.cobs.proofs.WindowsLemmas.{of_ones, part_written}
 use Rattle.cobs.proofs.WithinLemmas.{written_part}
@@ -126,11 +124,8 @@ module _ (key end row : ℕ) (old mid : List ℕ) (some : 0 < end) (within : end
     room : len ≤ length old
     room = omega (arith, within)
 
-    whole : left_in state ≡ 0 → Ok (report end len) ≡ in_place frame
-    whole = window_report frame bytes 1 first count (omega arith) (omega arith) message old len state size_is room out_is state_is end (omega (arith, ap length first, size, some))
-
-    broken : left_in state ≢ 0 → Err (InvalidFrame len) ≡ in_place frame
-    broken = window_refused frame bytes 1 first count (omega arith) (omega arith) message old len state size_is room out_is state_is
+    answer : with_parsed end (answer_behind state len) ≡ in_place frame
+    answer = window_report frame bytes 1 first count (omega arith) (omega arith) message old len state size_is room out_is state_is end (omega (arith, ap length first, size, some))
 
     over : (new : List ℕ) → new ≡ message ++ drop len mid → new ≡ overwritten (part frame) old
     over new e = window_over frame bytes 1 first count (omega arith) (omega arith) message old len state size_is room out_is state_is new (e ∙ ap (λ d. message ++ d) drop_mid)
@@ -162,22 +157,15 @@ put_zeros-state-requires-clause-nonzero c =
     let same = there c.args.sentinel c.args.end c.same_by_64-row.result c.args.buf.now c.move_down.new.buffer c.requires.some c.requires.within c.requires.clear c.requires.end c.requires.first c.same_by_64-row.ensures.within c.same_by_64-row.ensures.same c.move_down.ensures in
     λ k q. rw same (rest_nonzero c.args.sentinel c.args.end c.same_by_64-row.result c.args.buf.now c.move_down.new.buffer c.requires.some c.requires.within c.requires.clear c.requires.end c.requires.first c.same_by_64-row.ensures.within c.same_by_64-row.ensures.same c.move_down.ensures k (omega (arith, q, ap length same)))
 
-pub returns-then-left-eq0-clause-answer : goal.returns-then-left-eq0-clause-answer
-returns-then-left-eq0-clause-answer c =
-    let same = there c.args.sentinel c.args.end c.same_by_64-row.result c.args.buf.now c.move_down.new.buffer c.requires.some c.requires.within c.requires.clear c.requires.end c.requires.first c.same_by_64-row.ensures.within c.same_by_64-row.ensures.same c.move_down.ensures in
-    whole c.args.sentinel c.args.end c.same_by_64-row.result c.args.buf.now c.move_down.new.buffer c.requires.some c.requires.within c.requires.clear c.requires.end c.requires.first c.same_by_64-row.ensures.within c.same_by_64-row.ensures.same c.move_down.ensures c.requires.few c.put_zeros-state.new.out c.put_zeros-state.result (c.put_zeros-state.ensures.out ∙ ap (part_from 0 true) same) (c.put_zeros-state.auto.out ∙ ap length same) (c.put_zeros-state.ensures.state ∙ ap (λ b. stands_by (after 0 true b)) same) (sym c.left.ensures ∙ c.if-left-eq0.true)
+pub returns-clause-answer : goal.returns-clause-answer
+returns-clause-answer c =
+    let r = c.requires in
+    let same = there c.args.sentinel c.args.end c.same_by_64-row.result c.args.buf.now c.move_down.new.buffer r.some r.within r.clear r.end r.first c.same_by_64-row.ensures.within c.same_by_64-row.ensures.same c.move_down.ensures in
+    c.with_parsed.ensures ∙ ap (with_parsed c.args.end) c.answer_behind.ensures
+    ∙ answer c.args.sentinel c.args.end c.same_by_64-row.result c.args.buf.now c.move_down.new.buffer r.some r.within r.clear r.end r.first c.same_by_64-row.ensures.within c.same_by_64-row.ensures.same c.move_down.ensures r.few c.put_zeros-state.new.out c.put_zeros-state.result (c.put_zeros-state.ensures.out ∙ ap (part_from 0 true) same) (c.put_zeros-state.auto.out ∙ ap length same) (c.put_zeros-state.ensures.state ∙ ap (λ b. stands_by (after 0 true b)) same)
 
-pub returns-else-left-eq0-clause-answer : goal.returns-else-left-eq0-clause-answer
-returns-else-left-eq0-clause-answer c =
-    let same = there c.args.sentinel c.args.end c.same_by_64-row.result c.args.buf.now c.move_down.new.buffer c.requires.some c.requires.within c.requires.clear c.requires.end c.requires.first c.same_by_64-row.ensures.within c.same_by_64-row.ensures.same c.move_down.ensures in
-    broken c.args.sentinel c.args.end c.same_by_64-row.result c.args.buf.now c.move_down.new.buffer c.requires.some c.requires.within c.requires.clear c.requires.end c.requires.first c.same_by_64-row.ensures.within c.same_by_64-row.ensures.same c.move_down.ensures c.requires.few c.put_zeros-state.new.out c.put_zeros-state.result (c.put_zeros-state.ensures.out ∙ ap (part_from 0 true) same) (c.put_zeros-state.auto.out ∙ ap length same) (c.put_zeros-state.ensures.state ∙ ap (λ b. stands_by (after 0 true b)) same) (λ e. c.if-left-eq0.false (c.left.ensures ∙ e))
-
-pub returns-then-left-eq0-clause-buffer : goal.returns-then-left-eq0-clause-buffer
-returns-then-left-eq0-clause-buffer c =
-    let same = there c.args.sentinel c.args.end c.same_by_64-row.result c.args.buf.now c.move_down.new.buffer c.requires.some c.requires.within c.requires.clear c.requires.end c.requires.first c.same_by_64-row.ensures.within c.same_by_64-row.ensures.same c.move_down.ensures in
-    stands c.args.sentinel c.args.end c.same_by_64-row.result c.args.buf.now c.move_down.new.buffer c.requires.some c.requires.within c.requires.clear c.requires.end c.requires.first c.same_by_64-row.ensures.within c.same_by_64-row.ensures.same c.move_down.ensures c.requires.few c.put_zeros-state.new.out c.put_zeros-state.result (c.put_zeros-state.ensures.out ∙ ap (part_from 0 true) same) (c.put_zeros-state.auto.out ∙ ap length same) (c.put_zeros-state.ensures.state ∙ ap (λ b. stands_by (after 0 true b)) same) _ refl c.move_down.auto.buffer c.fill.new.self (c.fill.ensures.after (λ y e. e))
-
-pub returns-else-left-eq0-clause-buffer : goal.returns-else-left-eq0-clause-buffer
-returns-else-left-eq0-clause-buffer c =
-    let same = there c.args.sentinel c.args.end c.same_by_64-row.result c.args.buf.now c.move_down.new.buffer c.requires.some c.requires.within c.requires.clear c.requires.end c.requires.first c.same_by_64-row.ensures.within c.same_by_64-row.ensures.same c.move_down.ensures in
-    stands c.args.sentinel c.args.end c.same_by_64-row.result c.args.buf.now c.move_down.new.buffer c.requires.some c.requires.within c.requires.clear c.requires.end c.requires.first c.same_by_64-row.ensures.within c.same_by_64-row.ensures.same c.move_down.ensures c.requires.few c.put_zeros-state.new.out c.put_zeros-state.result (c.put_zeros-state.ensures.out ∙ ap (part_from 0 true) same) (c.put_zeros-state.auto.out ∙ ap length same) (c.put_zeros-state.ensures.state ∙ ap (λ b. stands_by (after 0 true b)) same) _ refl c.move_down.auto.buffer c.fill.new.self (c.fill.ensures.after (λ y e. e))
+pub returns-clause-buffer : goal.returns-clause-buffer
+returns-clause-buffer c =
+    let r = c.requires in
+    let same = there c.args.sentinel c.args.end c.same_by_64-row.result c.args.buf.now c.move_down.new.buffer r.some r.within r.clear r.end r.first c.same_by_64-row.ensures.within c.same_by_64-row.ensures.same c.move_down.ensures in
+    stands c.args.sentinel c.args.end c.same_by_64-row.result c.args.buf.now c.move_down.new.buffer r.some r.within r.clear r.end r.first c.same_by_64-row.ensures.within c.same_by_64-row.ensures.same c.move_down.ensures r.few c.put_zeros-state.new.out c.put_zeros-state.result (c.put_zeros-state.ensures.out ∙ ap (part_from 0 true) same) (c.put_zeros-state.auto.out ∙ ap length same) (c.put_zeros-state.ensures.state ∙ ap (λ b. stands_by (after 0 true b)) same) _ refl c.move_down.auto.buffer c.fill.new.self (c.fill.ensures.after (λ y e. e))

@@ -1,20 +1,21 @@
-use Rattle.std.proofs.Common.{◌≡◌, ◌≢◌, ℕ, zero, suc, ◌+◌, ◌-◌, ◌<◌, ◌≤◌, List, true, [], ◌∷◌, ◌++◌, length, take, drop, get_or, length-drop, Ok, Err, refl, sym, ◌∙◌, ap, subst, arith}
-use Rattle.std.proofs.lemmas.List.{length-take-le, drop_at}
+use Rattle.std.proofs.Common.{◌≡◌, ◌≢◌, ℕ, zero, suc, ◌+◌, ◌-◌, ◌<◌, ◌≤◌, List, true, [], ◌∷◌, ◌++◌, length, take, drop, get_or, length-drop, refl, sym, ◌∙◌, ap, subst, arith}
+use Rattle.std.proofs.lemmas.List.{length-take-le, drop_at, take_all}
 use Rattle.std.proofs.lemmas.Nat.{xor_of_8}
 use Rattle.std.specs.Prelude.{bit_xor}
 use Rattle.cobs.specs.Feeding.{stands_by}
 use Rattle.cobs.specs.Frames.{NoZero, part, part_from, after}
 use Rattle.cobs.specs.InPlace.{stretch, in_place, overwritten, written_over}
-use Rattle.cobs.specs.Reports.{report}
 use Rattle.cobs.specs.Sentinel.{masked}
-use Rattle.cobs.specs.Taking.{left_in}
+use Rattle.cobs.specs.Taking.{answer_behind, with_parsed}
 use Rattle.cobs.specs.declared.dec.state.DecoderState.{DecoderState}
-use Rattle.cobs.specs.declared.dec.report.DecodeError.TheVariants.{InvalidFrame}
 use Rattle.cobs.proofs.MaskingLemmas.{masked_length}
-use Rattle.cobs.proofs.ShortLemmas.{window_report, window_refused, window_over}
-use Rattle.cobs.proofs.SourcesLemmas.{stretch_front, stretch_clear, clear_at}
+use Rattle.cobs.proofs.ShortLemmas.{window_report, window_over}
+use Rattle.cobs.proofs.SourcesLemmas.{masked_positive, stretch_front, stretch_clear, clear_at}
 use Rattle.cobs.proofs.WithinLemmas.{written_part}
 use Rattle.cobs.proofs.dec.in_place.decode_short_in_place.Goals as goal
+
+positive : (n : ℕ) → n ≢ 0 → 0 < n
+positive n z = omega (arith, z)
 
 -- the code, and what is behind it
 first_of : (s end : ℕ) (buf : List ℕ) → 0 < end → end ≤ length buf → masked s (take end buf) ≡ bit_xor s (get_or buf 0 0) ∷ masked s (take (end - 1) (drop 1 buf))
@@ -74,11 +75,8 @@ module _ (key end : ℕ) (old mid : List ℕ) (some : 0 < end) (within : end ≤
     room : len ≤ length old
     room = omega (arith, within)
 
-    whole : left_in state ≡ 0 → Ok (report end len) ≡ in_place frame
-    whole = window_report frame bytes code first count clear.0 byte out old len state size_is room out_is state_is end (omega (arith, ap length first, long, some))
-
-    broken : left_in state ≢ 0 → Err (InvalidFrame len) ≡ in_place frame
-    broken = window_refused frame bytes code first count clear.0 byte out old len state size_is room out_is state_is
+    answer : with_parsed end (answer_behind state len) ≡ in_place frame
+    answer = window_report frame bytes code first count clear.0 byte out old len state size_is room out_is state_is end (omega (arith, ap length first, long, some))
 
     over : out ++ drop len mid ≡ overwritten (part frame) old
     over = window_over frame bytes code first count clear.0 byte out old len state size_is room out_is state_is _ (ap (λ d. out ++ d) behind)
@@ -86,18 +84,35 @@ module _ (key end : ℕ) (old mid : List ℕ) (some : 0 < end) (within : end ≤
 pub put_zeros-state-requires-clause-nonzero : goal.put_zeros-state-requires-clause-nonzero
 put_zeros-state-requires-clause-nonzero c =
     let r = c.requires in
-    let same = there c.args.sentinel c.args.end c.args.buf.now c.move_down.new.buffer r.some r.within r.clear r.end c.move_down.ensures in
-    let bytes = clear c.args.sentinel c.args.end c.args.buf.now c.move_down.new.buffer r.some r.within r.clear r.end c.move_down.ensures in
+    let some : 0 < c.args.end = positive c.args.end c.if-end-eq0.false in
+    let same = there c.args.sentinel c.args.end c.args.buf.now c.move_down.new.buffer some r.within r.clear r.end c.move_down.ensures in
+    let bytes = clear c.args.sentinel c.args.end c.args.buf.now c.move_down.new.buffer some r.within r.clear r.end c.move_down.ensures in
     λ k q. rw same (clear_at (masked c.args.sentinel (take (c.args.end - 1) (drop 1 c.args.buf.now))) k bytes.1 (omega (arith, q, ap length same)))
 
-pub returns-then-left-eq0-clause-answer : goal.returns-then-left-eq0-clause-answer
-returns-then-left-eq0-clause-answer c = whole c.args.sentinel c.args.end c.args.buf.now c.move_down.new.buffer c.requires.some c.requires.within c.requires.clear c.requires.end c.move_down.ensures c.requires.few (c.requires.bytes 0) c.ranges.sentinel.fits c.put_zeros-state.new.out c.put_zeros-state.result c.put_zeros-state.auto.out c.put_zeros-state.ensures.out c.put_zeros-state.ensures.state (sym c.left.ensures ∙ c.if-left-eq0.true)
+pub overflow_sub-code : goal.overflow_sub-code
+overflow_sub-code c = masked_positive c.args.sentinel (get_or c.args.buf.now 0 0) (c.requires.clear 0 (positive c.args.end c.if-end-eq0.false))
 
-pub returns-else-left-eq0-clause-answer : goal.returns-else-left-eq0-clause-answer
-returns-else-left-eq0-clause-answer c = broken c.args.sentinel c.args.end c.args.buf.now c.move_down.new.buffer c.requires.some c.requires.within c.requires.clear c.requires.end c.move_down.ensures c.requires.few (c.requires.bytes 0) c.ranges.sentinel.fits c.put_zeros-state.new.out c.put_zeros-state.result c.put_zeros-state.auto.out c.put_zeros-state.ensures.out c.put_zeros-state.ensures.state (λ e. c.if-left-eq0.false (c.left.ensures ∙ e))
+-- no bytes before the sentinel
+none_at : (key : ℕ) (old : List ℕ) → (0 < length old → get_or old 0 0 ≡ key) → stretch (masked key old) ≡ []
+none_at key old ends = sym (stretch_front key old 0 (omega arith) (λ k l. absurd (omega arith)) ends)
 
-pub returns-then-left-eq0-clause-buffer : goal.returns-then-left-eq0-clause-buffer
-returns-then-left-eq0-clause-buffer c = over c.args.sentinel c.args.end c.args.buf.now c.move_down.new.buffer c.requires.some c.requires.within c.requires.clear c.requires.end c.move_down.ensures c.requires.few (c.requires.bytes 0) c.ranges.sentinel.fits c.put_zeros-state.new.out c.put_zeros-state.result c.put_zeros-state.auto.out c.put_zeros-state.ensures.out c.put_zeros-state.ensures.state
+pub returns-then-end-eq0-clause-answer : goal.returns-then-end-eq0-clause-answer
+returns-then-end-eq0-clause-answer c =
+    let ends : 0 < length c.args.buf.now → get_or c.args.buf.now 0 0 ≡ c.args.sentinel = rw c.if-end-eq0.true at c.requires.end in
+    ap in_place (sym (none_at c.args.sentinel c.args.buf.now ends))
 
-pub returns-else-left-eq0-clause-buffer : goal.returns-else-left-eq0-clause-buffer
-returns-else-left-eq0-clause-buffer c = over c.args.sentinel c.args.end c.args.buf.now c.move_down.new.buffer c.requires.some c.requires.within c.requires.clear c.requires.end c.move_down.ensures c.requires.few (c.requires.bytes 0) c.ranges.sentinel.fits c.put_zeros-state.new.out c.put_zeros-state.result c.put_zeros-state.auto.out c.put_zeros-state.ensures.out c.put_zeros-state.ensures.state
+pub returns-then-end-eq0-clause-buffer : goal.returns-then-end-eq0-clause-buffer
+returns-then-end-eq0-clause-buffer c =
+    let ends : 0 < length c.args.buf.now → get_or c.args.buf.now 0 0 ≡ c.args.sentinel = rw c.if-end-eq0.true at c.requires.end in
+    sym (ap (λ f. overwritten (part f) c.args.buf.now) (none_at c.args.sentinel c.args.buf.now ends) ∙ ap (λ m. m ++ c.args.buf.now) (take_all (length c.args.buf.now) [] (omega arith)))
+
+pub returns-clause-answer : goal.returns-clause-answer
+returns-clause-answer c =
+    let r = c.requires in
+    c.with_parsed.ensures ∙ ap (with_parsed c.args.end) c.answer_behind.ensures
+    ∙ answer c.args.sentinel c.args.end c.args.buf.now c.move_down.new.buffer (positive c.args.end c.if-end-eq0.false) r.within r.clear r.end c.move_down.ensures r.few (r.bytes 0) c.ranges.sentinel.fits c.put_zeros-state.new.out c.put_zeros-state.result c.put_zeros-state.auto.out c.put_zeros-state.ensures.out c.put_zeros-state.ensures.state
+
+pub returns-clause-buffer : goal.returns-clause-buffer
+returns-clause-buffer c =
+    let r = c.requires in
+    over c.args.sentinel c.args.end c.args.buf.now c.move_down.new.buffer (positive c.args.end c.if-end-eq0.false) r.within r.clear r.end c.move_down.ensures r.few (r.bytes 0) c.ranges.sentinel.fits c.put_zeros-state.new.out c.put_zeros-state.result c.put_zeros-state.auto.out c.put_zeros-state.ensures.out c.put_zeros-state.ensures.state
