@@ -1,5 +1,5 @@
 -- Frames that are decoded at once, since there is room for them.
-use Rattle.std.proofs.Common.{◌≡◌, ◌≢◌, ℕ, pred, ◌+◌, ◌-◌, ◌^◌, ◌<◌, ◌≤◌, Bool, true, false, List, [], ◌∷◌, ◌++◌, length, take, drop, get_or, length-drop, Result, Option, Some, Ok, Err, inl, inr, refl, ap, sym, subst, ◌∙◌, arith}
+use Rattle.std.proofs.Common.{◌≡◌, ℕ, pred, ◌+◌, ◌-◌, ◌^◌, ◌<◌, ◌≤◌, Bool, true, false, List, [], ◌∷◌, ◌++◌, length, take, drop, get_or, length-drop, Result, Option, Some, Ok, Err, inl, inr, refl, ap, sym, subst, ◌∙◌, arith}
 use Rattle.std.proofs.lemmas.List.{take_all, take_more, length-take-le}
 use Rattle.std.proofs.lemmas.Bool.{cases_lt, eq-eqb, ne_eqb, le-ltb, lt-ltb}
 use Rattle.std.proofs.lemmas.Bool.Decides.{eqb_tells}
@@ -7,7 +7,6 @@ use Rattle.std.specs.Prelude.{bit_xor, nat_lt, ◌==◌, if◌then◌else◌}
 use Rattle.cobs.specs.Frames.{NoZero, part, part_from, after, missing}
 use Rattle.cobs.specs.Feeding.{stands_by, standing, at_zero, placed}
 use Rattle.cobs.specs.InPlace.{in_place, stretch, overwritten}
-use Rattle.cobs.specs.Reports.{report}
 use Rattle.cobs.specs.Sentinel.{masked}
 use Rattle.cobs.specs.Streaming.{HasStreamed}
 use Rattle.cobs.specs.Taking.{left_in, answer_behind, with_parsed, TakesFront}

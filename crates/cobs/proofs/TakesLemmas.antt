@@ -1,20 +1,26 @@
 -- What the streaming decoders do with a byte and with a piece.
-use Rattle.std.proofs.Common.{◌≡◌, ℕ, ◌<◌, ◌≤◌, List, [], ◌∷◌, ◌++◌, length, take, Option, Some, None, Result, Ok, Err, refl, sym, ◌∙◌, subst}
+use Rattle.std.proofs.Common.{◌≡◌, ℕ, suc, ◌+◌, ◌^◌, ◌<◌, ◌≤◌, false, List, [], ◌∷◌, ◌++◌, length, take, append_assoc, length-append, Option, Some, None, Result, Ok, Err, inl, inr, refl, ap, sym, ◌∙◌, subst, arith}
+use Rattle.std.proofs.lemmas.List.{append-nil}
 use Rattle.std.specs.Prelude.{IfOk, IfSome, IsNone}
-use Rattle.cobs.specs.Frames.{part}
-use Rattle.cobs.specs.Feeding.{at_zero, at_byte, answer_of, frame_after, placed}
+use Rattle.cobs.specs.Frames.{part, part_from, after}
+use Rattle.cobs.specs.InPlace.{written_over}
+use Rattle.cobs.specs.Feeding.{at_zero, at_byte, answer_of, frame_after, placed, told_by, fed, standing, listed}
 use Rattle.cobs.specs.Pieces.{frame_met}
 use Rattle.cobs.specs.Reports.{parsed_size, frame_size}
 use Rattle.cobs.specs.Sentinel.{masked}
 use Rattle.cobs.specs.Streaming.{HasStreamed}
-use Rattle.cobs.specs.Taking.{FeedsByte, TakesPiece}
+use Rattle.cobs.specs.Taking.{FeedsByte, TakesPiece, TakesFront}
 use Rattle.cobs.specs.declared.dec.report.DecodeError.{DecodeError}
 use Rattle.cobs.specs.declared.dec.report.DecodeReport.{DecodeReport}
 use Rattle.cobs.specs.declared.dec.progress.Progress.{Progress}
-use Rattle.cobs.proofs.FeedsLemmas.{frame_byte, answer_byte}
+use Rattle.cobs.proofs.DecodingLemmas.{part_append}
+use Rattle.cobs.proofs.FeedsLemmas.{frame_byte, answer_byte, part_told}
 use Rattle.cobs.proofs.MaskingLemmas.{masked_zero}
-use Rattle.cobs.proofs.MessagesLemmas.{decoded_next, decoded_left, placed_zero, message_here, message_met}
+use Rattle.cobs.proofs.MessagesLemmas.{decoded_next, decoded_left, placed_zero, length-placed, message_here, message_met}
+use Rattle.cobs.proofs.PassingLemmas.{all_placed}
 use Rattle.cobs.proofs.TurnsLemmas.{Came}
+use Rattle.cobs.proofs.WindowsLemmas.{placed_written}
+use Rattle.cobs.proofs.WithinLemmas.{placed_front, cases_zero}
 
 -- of an answer
 if_answered : {A : Type 0} (result : Result (Option A) DecodeError) (P : A → Type 0) → ((x : A) → result ≡ Ok (Some x) → P x) → IfOk result (λ o. IfSome o P)
@@ -69,3 +75,58 @@ takes_piece d old piece result d' new c w r = record {
 -- for the sentinel zero
 pub unmasked : {d : Progress} {old piece : List ℕ} {result : Result (Option DecodeReport) DecodeError} {d' : Progress} {new : List ℕ} → TakesPiece d old (masked 0 piece) result d' new → TakesPiece d old piece result d' new
 unmasked {d} {old} {piece} {result} {d'} {new} t = subst (λ (b : List ℕ). TakesPiece d old b result d' new) (masked_zero piece) t
+
+-- nothing more was taken in
+pub none_front : (p rest buffer : List ℕ) (d : Progress) → HasStreamed d p → TakesFront p rest buffer 0 d buffer
+none_front p rest buffer d s = record {
+  within = omega arith;
+  clear = tt;
+  fits = λ l. absurd (omega arith);
+  has = subst (HasStreamed d) (sym (append-nil p)) s;
+  buffer = λ l. absurd (omega arith);
+  same = λ z. refl;
+}
+
+-- a byte was taken in, and behind it these
+module _ (p : List ℕ) (b : ℕ) (rest old mid new : List ℕ) (n : ℕ) (d : Progress) (some : 0 < b) (room : length (part (p ++ b ∷ [])) ≤ length old) (put : mid ≡ placed p b old)
+    (f : TakesFront (p ++ b ∷ []) rest mid n d new) where
+  abbrev bytes : List ℕ
+  bytes = b ∷ take n rest
+
+  whole : (p ++ b ∷ []) ++ take n rest ≡ p ++ bytes
+  whole = append_assoc p (b ∷ []) (take n rest)
+
+  fits : length (part (p ++ bytes)) ≤ length old
+  fits = elim (cases_zero n) [
+    | inl z ↦ let none : take n rest ≡ [] = ap (λ j. take j rest) z in rw none room
+    | inr l ↦ omega (arith, f.fits l, ap (λ q. length (part q)) whole, ap length put, length-placed p b old)
+  ]
+
+  placed_all : new ≡ all_placed p bytes old
+  placed_all = placed_front (p ++ b ∷ []) rest mid n d new f ∙ ap (all_placed (p ++ b ∷ []) (take n rest)) put
+
+  written : new ≡ written_over (length (part p)) (part_from (after 0 false p).0 (after 0 false p).1 bytes) old
+  written = placed_all ∙ placed_written p bytes old (some, f.clear) (omega (arith, fits, ap length (part_append 0 false p bytes), length-append (part p) (part_from (after 0 false p).0 (after 0 false p).1 bytes)))
+
+  then_suc : TakesFront p (b ∷ rest) old (suc n) d new
+  then_suc = record {
+    within = omega (arith, f.within);
+    clear = (some, f.clear);
+    fits = λ l. fits;
+    has = subst (HasStreamed d) whole f.has;
+    buffer = λ l. written;
+    same = λ z. absurd (omega arith);
+  }
+
+  pub byte_then : TakesFront p (b ∷ rest) old (1 + n) d new
+  byte_then = let one : suc n ≡ 1 + n = omega arith in subst (λ j. TakesFront p (b ∷ rest) old j d new) one then_suc
+
+-- a byte that has room
+told_few : (o : Option ℕ) → length (listed o) ≤ 1
+told_few None = omega arith
+told_few (Some x) = omega arith
+
+pub byte_fits : (p : List ℕ) (b room : ℕ) (d : Progress) → 0 < b → HasStreamed d p → d.len < room → room < 2 ^ 64 → length (part (p ++ b ∷ [])) ≤ room
+byte_fits p b room d some s l w =
+    let told = told_by (fed (standing p) b) in
+    omega (arith, s.len, l, w, ap length (part_told p b some), length-append (part p) (listed told), told_few told)

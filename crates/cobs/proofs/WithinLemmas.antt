@@ -1,6 +1,6 @@
 -- Decoding over the source: bytes that are taken in at once.
 use Rattle.std.proofs.Common.{◌≡◌, ◌≢◌, ℕ, zero, suc, ◌+◌, ◌-◌, ◌^◌, ◌<◌, ◌≤◌, false, List, [], ◌∷◌, ◌++◌, length, take, drop, get_or, ◌⊎◌, inl, inr, refl, ap, sym, ◌∙◌, arith, subst, length-append, length-drop}
-use Rattle.std.proofs.lemmas.List.{length-take-le, length-take, take-take, get_or-take, get_or-drop, drop_at, take_at, take_all}
+use Rattle.std.proofs.lemmas.List.{length-take-le, length-take, take-take, get_or-take, get_or-drop, drop_more, drop_at, take_at, take_all}
 use Rattle.std.proofs.lemmas.Bool.{cases_lt}
 use Rattle.std.specs.Prelude.{bit_xor}
 use Rattle.cobs.specs.Frames.{NoZero, part, part_from, after}
@@ -27,7 +27,7 @@ stretch_of_bytes : (a : List ℕ) → NoZero a → ((j : ℕ) → j < length a �
 stretch_of_bytes [] h k = tt
 stretch_of_bytes (x ∷ a) h k = ((h.0, k 0 (omega arith)), stretch_of_bytes a h.1 (λ j l. k (suc j) (omega arith)))
 
-cases_zero : (m : ℕ) → (m ≡ 0) ⊎ (0 < m)
+pub cases_zero : (m : ℕ) → (m ≡ 0) ⊎ (0 < m)
 cases_zero zero = inl refl
 cases_zero (suc m) = inr (omega arith)
 
@@ -133,6 +133,16 @@ written_part place n bytes old e l =
 pub written_anew : (place k : ℕ) (bytes out old new : List ℕ) → new ≡ written_over place bytes old → length out ≡ length bytes → k ≡ length out → place + length bytes ≤ length old → put_mid place k new out ≡ written_over place out old
 written_anew place k bytes out old new e l q r =
     part_written new out place k q ∙ ap (written_over place out) e ∙ written_twice place 0 place bytes out old (omega arith) (omega (arith, l)) (omega (arith, l, r)) (omega arith)
+
+-- the first of the bytes from a place on up to another one
+pub code_ahead : (sentinel code read end : ℕ) (buffer : List ℕ) → read < end → end ≤ length buffer → code ≡ bit_xor sentinel (get_or buffer read 0)
+    → masked sentinel (take (end - read) (drop read buffer)) ≡ code ∷ masked sentinel (take (end - (read + 1)) (drop (read + 1) buffer))
+code_ahead s code read end buffer l w is =
+    let count : end - read ≡ suc (end - (read + 1)) = omega (arith, l) in
+    let rest = take (end - (read + 1)) (drop (read + 1) buffer) in
+    ap (λ n. masked s (take n (drop read buffer))) count
+    ∙ ap (λ d. masked s (take (suc (end - (read + 1))) d)) (drop_more buffer read 0 (omega (arith, l, w)))
+    ∙ ap (λ b. b ∷ masked s rest) (sym is)
 
 -- The bytes of a buffer from a place on up to another one, of which none is the sentinel.
 module _ (sentinel : ℕ) (buffer : List ℕ) (read end n : ℕ) (few : n ≤ end - read) (w : end ≤ length buffer) (some : read < end) (clear : (k : ℕ) → read ≤ k → k < end → get_or buffer k 0 ≢ sentinel) where

@@ -111,13 +111,7 @@ fn take_long(frame: &[u8], dest: &mut [u8], sentinel: u8) -> Progress
     let _ = progress.take_in(dest, sentinel ^ frame[0]);
     let mut read: usize = 1;
     while read < frame.len() {
-        let taken = progress.take_clear(dest, &frame[read..], sentinel);
-        if 0 < taken {
-            read += taken;
-            continue;
-        }
-        let _ = progress.take_in(dest, sentinel ^ frame[read]);
-        read += 1;
+        read += progress.take_some(dest, &frame[read..], sentinel);
     }
     progress
 }
@@ -161,36 +155,11 @@ fn take_source<const COPY: usize>(source: &[u8], dest: &mut [u8], sentinel: u8) 
     let _ = progress.take_in(dest, sentinel ^ source[0]);
     let mut read: usize = 1;
     while 255 <= source.len() - read && is_clear_255(&source[read..read + 255], sentinel) {
-        if let DecoderState::GrabChain(0) = progress.state {
-            // By its code that is known, so that what is kept between full blocks is known too.
-            if sentinel ^ source[read] == u8::MAX {
-                let _ = progress.take_in(dest, u8::MAX);
-                let full = progress.take_clear(dest, &source[read + 1..read + 255], sentinel);
-                read += 1 + full;
-                continue;
-            }
-            let _ = progress.take_in(dest, sentinel ^ source[read]);
-            let block = progress.take_clear(dest, &source[read + 1..read + 255], sentinel);
-            read += 1 + block;
-            continue;
-        }
-        let taken = progress.take_clear(dest, &source[read..read + 255], sentinel);
-        if 0 < taken {
-            read += taken;
-            continue;
-        }
-        let _ = progress.take_in(dest, sentinel ^ source[read]);
-        read += 1;
+        read += progress.take_255(dest, &source[read..read + 255], sentinel);
     }
     let end = read + before_sentinel(&source[read..], sentinel);
     while read < end {
-        let last = progress.take_clear(dest, &source[read..end], sentinel);
-        if 0 < last {
-            read += last;
-            continue;
-        }
-        let _ = progress.take_in(dest, sentinel ^ source[read]);
-        read += 1;
+        read += progress.take_some(dest, &source[read..end], sentinel);
     }
     (progress, end)
 }

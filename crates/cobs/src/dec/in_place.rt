@@ -8,7 +8,6 @@ ghost use Rattle.cobs.specs.Sentinel.{masked};
 use super::frames::{answer_behind, apart, with_parsed};
 use super::progress::Progress;
 use super::report::{DecodeError, DecodeReport};
-use super::state::DecoderState;
 use super::window::{put_zeros, same_by_64};
 use crate::finding::{before_by_64, before_few, before_many};
 use crate::masks::mask;
@@ -126,39 +125,11 @@ fn decode_long_in_place<const COPY: usize>(
     let _ = progress.take_in(buf, code);
     let mut read: usize = 1;
     while 255 <= buf.len() - read && is_clear_255(&buf[read..read + 255], sentinel) {
-        if let DecoderState::GrabChain(0) = progress.state {
-            let code = sentinel ^ buf[read];
-            // By its code that is known, so that what is kept between full blocks is known too.
-            if code == u8::MAX {
-                let _ = progress.take_in(buf, u8::MAX);
-                let full = progress.take_within(buf, read + 1, read + 255, sentinel);
-                read += 1 + full;
-                continue;
-            }
-            let _ = progress.take_in(buf, code);
-            let block = progress.take_within(buf, read + 1, read + 255, sentinel);
-            read += 1 + block;
-            continue;
-        }
-        let front = progress.take_within(buf, read, read + 255, sentinel);
-        if 0 < front {
-            read += front;
-            continue;
-        }
-        let byte = sentinel ^ buf[read];
-        let _ = progress.take_in(buf, byte);
-        read += 1;
+        read += progress.take_255_within(buf, read, sentinel);
     }
     let end = read + before_many(&buf[read..], sentinel);
     while read < end {
-        let taken = progress.take_within(buf, read, end, sentinel);
-        if 0 < taken {
-            read += taken;
-            continue;
-        }
-        let byte = sentinel ^ buf[read];
-        let _ = progress.take_in(buf, byte);
-        read += 1;
+        read += progress.take_some_within(buf, read, end, sentinel);
     }
     let Progress { state, len } = progress;
     with_parsed(answer_behind(state, len), read)

@@ -1,5 +1,5 @@
 //! A frame that comes in pieces, decoded into a buffer: what the streaming decoders keep beside it.
-ghost use Rattle.std.specs.Prelude.{◌≡◌, ◌≢◌, ◌^◌, ℕ, ◌+◌, ◌-◌, ◌<◌, ◌≤◌, List, [], ◌∷◌, ◌++◌, length, take, drop, slice_index, ◌↔◌, IsTrue, IfOk, IfSome, IsNone};
+ghost use Rattle.std.specs.Prelude.{bit_xor, ◌≡◌, ◌≢◌, ◌^◌, ℕ, ◌+◌, ◌-◌, ◌<◌, ◌≤◌, List, [], ◌∷◌, ◌++◌, length, take, drop, slice_index, ◌↔◌, IsTrue, IfOk, IfSome, IsNone};
 ghost use Rattle.cobs.specs.Feeding.{placed};
 ghost use Rattle.cobs.specs.Frames.{NoZero};
 ghost use Rattle.cobs.specs.Sentinel.{masked};
@@ -66,6 +66,8 @@ impl Progress {
         ensures buffer { (p : List ℕ) → HasStreamed self.old p
             → buffer.new ≡ placed p byte buffer.old }
         ensures none { IfOk result IsNone }
+        ensures len { self.new.len ≤ self.old.len + 1 }
+        ensures rest { drop (self.old.len + 1) buffer.new ≡ drop (self.old.len + 1) buffer.old }
     {
         let Some(told) = told_by(self.state.feed(byte)) else {
             return Ok(None);
@@ -159,6 +161,65 @@ impl Progress {
         }
     }
 
+    // Takes in a code, and at once as many of the bytes behind it as `take_clear` does. Answers how many with it.
+    #[inline(always)]
+    fn take_coded(&mut self, buffer: &mut [u8], code: u8, bytes: &[u8], sentinel: u8) -> usize
+        requires code { 0 < code }
+        requires some { 0 < length bytes.now }
+        requires room { self.old.len + 1 + length bytes.now ≤ length buffer.old }
+        requires clear { (k : ℕ) → k < length bytes.now → slice_index bytes.now k ≢ sentinel }
+        ensures some { 0 < result }
+        ensures within { result ≤ 1 + length bytes.now }
+        ensures front { (p : List ℕ) → HasStreamed self.old p
+            → TakesFront p (code ∷ masked sentinel bytes.now)
+            buffer.old result self.new buffer.new }
+    {
+        let _ = self.take_in(buffer, code);
+        1 + self.take_clear(buffer, bytes, sentinel)
+    }
+
+    // The same of bytes of any number: as many as `take_clear` does, or one where it takes none.
+    #[inline(always)]
+    pub(crate) fn take_some(&mut self, buffer: &mut [u8], bytes: &[u8], sentinel: u8) -> usize
+        requires some { 0 < length bytes.now }
+        requires room { self.old.len + length bytes.now ≤ length buffer.old }
+        requires clear { (k : ℕ) → k < length bytes.now → slice_index bytes.now k ≢ sentinel }
+        ensures some { 0 < result }
+        ensures within { result ≤ length bytes.now }
+        ensures front { (p : List ℕ) → HasStreamed self.old p
+            → TakesFront p (masked sentinel bytes.now) buffer.old result self.new buffer.new }
+    {
+        let taken = self.take_clear(buffer, bytes, sentinel);
+        if 0 < taken {
+            return taken;
+        }
+        let _ = self.take_in(buffer, sentinel ^ bytes[0]);
+        1
+    }
+
+    // The same of a code, which is known to be one where no block is open, and as many bytes behind it as a full block has. That
+    // of a full block is told apart, so that what is kept between two of them is known too.
+    #[inline(always)]
+    pub(crate) fn take_255(&mut self, buffer: &mut [u8], bytes: &[u8], sentinel: u8) -> usize
+        requires long { length bytes.now ≡ 255 }
+        requires room { self.old.len + length bytes.now ≤ length buffer.old }
+        requires clear { (k : ℕ) → k < length bytes.now → slice_index bytes.now k ≢ sentinel }
+        ensures some { 0 < result }
+        ensures within { result ≤ length bytes.now }
+        ensures front { (p : List ℕ) → HasStreamed self.old p
+            → TakesFront p (masked sentinel bytes.now) buffer.old result self.new buffer.new }
+    {
+        let DecoderState::GrabChain(0) = self.state else {
+            return self.take_some(buffer, bytes, sentinel);
+        };
+        let code = sentinel ^ bytes[0];
+        if code == u8::MAX {
+            self.take_coded(buffer, u8::MAX, &bytes[1..], sentinel)
+        } else {
+            self.take_coded(buffer, code, &bytes[1..], sentinel)
+        }
+    }
+
     // Takes in the next bytes of the buffer itself at once, each XORed with the sentinel, where they are of an open block: up to
     // a place before which there is no sentinel, or as many as a window may have; codes 01 in any number. Answers how many.
     #[inline(always)]
@@ -203,6 +264,87 @@ impl Progress {
                 self.len = len + n;
                 n
             }
+        }
+    }
+
+    // Takes in a code at a place of the buffer itself, and at once as many of the bytes behind it as `take_within` does. Answers how
+    // many with it.
+    #[inline(always)]
+    fn take_coded_within(
+        &mut self,
+        buffer: &mut [u8],
+        code: u8,
+        read: usize,
+        end: usize,
+        sentinel: u8,
+    ) -> usize
+        requires some { read + 1 < end }
+        requires inside { end ≤ length buffer.old }
+        requires behind { self.old.len ≤ read }
+        requires code { code ≡ bit_xor sentinel (slice_index buffer.old read) }
+        requires clear { (k : ℕ) → read ≤ k → k < end → slice_index buffer.old k ≢ sentinel }
+        ensures some { 0 < result }
+        ensures within { result ≤ end - read }
+        ensures front { (p : List ℕ) → HasStreamed self.old p
+            → TakesFront p (masked sentinel (take (end - read) (drop read buffer.old)))
+            buffer.old result self.new buffer.new }
+    {
+        let _ = self.take_in(buffer, code);
+        1 + self.take_within(buffer, read + 1, end, sentinel)
+    }
+
+    // The same of bytes of any number: as many as `take_within` does, or one where it takes none.
+    #[inline(always)]
+    pub(crate) fn take_some_within(
+        &mut self,
+        buffer: &mut [u8],
+        read: usize,
+        end: usize,
+        sentinel: u8,
+    ) -> usize
+        requires begun { (p : List ℕ) × HasStreamed self.old p }
+        requires some { read < end }
+        requires inside { end ≤ length buffer.old }
+        requires behind { self.old.len ≤ read }
+        requires clear { (k : ℕ) → read ≤ k → k < end → slice_index buffer.old k ≢ sentinel }
+        ensures some { 0 < result }
+        ensures within { result ≤ end - read }
+        ensures front { (p : List ℕ) → HasStreamed self.old p
+            → TakesFront p (masked sentinel (take (end - read) (drop read buffer.old)))
+            buffer.old result self.new buffer.new }
+    {
+        let taken = self.take_within(buffer, read, end, sentinel);
+        if 0 < taken {
+            return taken;
+        }
+        let byte = sentinel ^ buffer[read];
+        let _ = self.take_in(buffer, byte);
+        1
+    }
+
+    // The same of a code, which is known to be one where no block is open, and as many bytes behind it as a full block has. That
+    // of a full block is told apart, so that what is kept between two of them is known too.
+    #[inline(always)]
+    pub(crate) fn take_255_within(&mut self, buffer: &mut [u8], read: usize, sentinel: u8) -> usize
+        requires begun { (p : List ℕ) × HasStreamed self.old p }
+        requires inside { read + 255 ≤ length buffer.old }
+        requires behind { self.old.len ≤ read }
+        requires clear { (k : ℕ) → read ≤ k → k < read + 255
+            → slice_index buffer.old k ≢ sentinel }
+        ensures some { 0 < result }
+        ensures within { result ≤ 255 }
+        ensures front { (p : List ℕ) → HasStreamed self.old p
+            → TakesFront p (masked sentinel (take (read + 255 - read) (drop read buffer.old)))
+            buffer.old result self.new buffer.new }
+    {
+        let DecoderState::GrabChain(0) = self.state else {
+            return self.take_some_within(buffer, read, read + 255, sentinel);
+        };
+        let code = sentinel ^ buffer[read];
+        if code == u8::MAX {
+            self.take_coded_within(buffer, u8::MAX, read, read + 255, sentinel)
+        } else {
+            self.take_coded_within(buffer, code, read, read + 255, sentinel)
         }
     }
 

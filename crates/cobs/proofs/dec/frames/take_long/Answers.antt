@@ -5,24 +5,10 @@ use Rattle.cobs.specs.Frames.{NoZero}
 use Rattle.cobs.specs.Sentinel.{masked}
 use Rattle.cobs.specs.Taking.{TakesFront}
 use Rattle.cobs.proofs.MaskingLemmas.{masked_length, masked_get}
-use Rattle.cobs.proofs.ShortLemmas.{Entering, entering_new, entered_long, entered_shorter, entering_byte, entering_front, entering_none, behind_read}
+use Rattle.cobs.proofs.ShortLemmas.{entering_new, entered_long, entered_shorter, entering_byte, entering_front, behind_read}
 use Rattle.cobs.proofs.SourcesLemmas.{clear_at, clear_byte}
 use Rattle.cobs.proofs.WholesLemmas.{entering_positive}
 use Rattle.cobs.proofs.dec.frames.take_long.Goals as goal
-use Rattle.cobs.proofs.dec.frames.take_long.Goals.{After-take_clear-taken}
-
--- bytes that were taken in at once
-front : (c : After-take_clear-taken) → TakesFront (take c.loop-read.read (masked c.args.sentinel c.args.frame.now)) (drop c.loop-read.read (masked c.args.sentinel c.args.frame.now)) c.loop-read.dest c.take_clear-taken.result c.take_clear-taken.new.self c.take_clear-taken.new.buffer
-front c =
-    subst (λ b. TakesFront (take c.loop-read.read (masked c.args.sentinel c.args.frame.now)) b c.loop-read.dest c.take_clear-taken.result c.take_clear-taken.new.self c.take_clear-taken.new.buffer)
-    (behind_read c.args.sentinel c.loop-read.read c.args.frame.now)
-    (c.take_clear-taken.ensures.front _ c.loop-read.invariant.1.stands)
-
-taken : (c : After-take_clear-taken) → Entering (masked c.args.sentinel c.args.frame.now) c.args.dest.now c.take_clear-taken.new.buffer (c.loop-read.read + c.take_clear-taken.result) c.take_clear-taken.new.self
-taken c = entering_front _ _ _ _ _ c.loop-read.invariant.1 _ _ _ (front c)
-
-here : (c : After-take_clear-taken) → c.take_clear-taken.result ≡ 0 → Entering (masked c.args.sentinel c.args.frame.now) c.args.dest.now c.take_clear-taken.new.buffer c.loop-read.read c.take_clear-taken.new.self
-here c z = entering_none _ _ _ _ _ c.loop-read.invariant.1 _ _ _ (front c) z
 
 pub take_in-requires : goal.take_in-requires
 take_in-requires c = entering_positive c.args.sentinel c.args.frame.now 0 c.requires.clear c.requires.some
@@ -36,8 +22,8 @@ loop-read-init c =
           c.take_in.new.self c.take_in.new.buffer _ (omega (arith, masked_length s frame, c.requires.some)) (masked_get s frame 0 c.requires.some) (entering_positive s frame 0 c.requires.clear c.requires.some) c.take_in.ensures.stands c.take_in.ensures.buffer,
     )
 
-pub take_clear-taken-requires-clause-room : goal.take_clear-taken-requires-clause-room
-take_clear-taken-requires-clause-room c =
+pub take_some-read-requires-clause-room : goal.take_some-read-requires-clause-room
+take_some-read-requires-clause-room c =
     let r = c.loop-read.invariant.1 in
     let frame = c.args.frame.now in
     let read = c.loop-read.read in
@@ -51,25 +37,17 @@ clear s read frame h k l e =
     clear_byte s frame (read + k) inside (clear_at (masked s frame) (read + k) h (omega (arith, inside, masked_length s frame)))
     (sym (get_or-drop read frame k 0) ∙ sym (ap (λ b. get_or b k 0) rest) ∙ e)
 
-pub take_clear-taken-requires-clause-clear : goal.take_clear-taken-requires-clause-clear
-take_clear-taken-requires-clause-clear c = clear c.args.sentinel c.loop-read.read c.args.frame.now c.requires.clear
-
-pub loop-read-preserved-then-taken-gt0 : goal.loop-read-preserved-then-taken-gt0
-loop-read-preserved-then-taken-gt0 c = (omega (arith, c.loop-read.invariant.0), taken (goal.at.loop-read-preserved-then-taken-gt0 c).After-take_clear-taken)
-
-pub take_in-requires-in-loop-read : goal.take_in-requires-in-loop-read
-take_in-requires-in-loop-read c = entering_positive c.args.sentinel c.args.frame.now c.loop-read.read c.requires.clear c.loop-read-test.true
+pub take_some-read-requires-clause-clear : goal.take_some-read-requires-clause-clear
+take_some-read-requires-clause-clear c = clear c.args.sentinel c.loop-read.read c.args.frame.now c.requires.clear
 
 pub loop-read-preserved : goal.loop-read-preserved
 loop-read-preserved c =
     let s = c.args.sentinel in
     let frame = c.args.frame.now in
     let read = c.loop-read.read in
-    let e = (goal.at.loop-read-preserved c).After-take_clear-taken in (
-      omega arith,
-      entering_byte (masked s frame) c.args.dest.now c.take_clear-taken.new.buffer read c.take_clear-taken.new.self (here e (omega (arith, c.if-taken-gt0.false)))
-          c.take_in-in-loop-read.new.self c.take_in-in-loop-read.new.buffer _ (omega (arith, masked_length s frame, c.loop-read-test.true)) (masked_get s frame read c.loop-read-test.true) (entering_positive s frame read c.requires.clear c.loop-read-test.true) c.take_in-in-loop-read.ensures.stands c.take_in-in-loop-read.ensures.buffer,
-    )
+    let t = c.take_some-read in
+    let front = subst (λ b. TakesFront (take read (masked s frame)) b c.loop-read.dest t.result t.new.self t.new.buffer) (behind_read s read frame) (t.ensures.front _ c.loop-read.invariant.1.stands) in
+    (omega (arith, c.loop-read.invariant.0), entering_front _ _ _ _ _ c.loop-read.invariant.1 _ _ _ front)
 
 pub returns-clause-stands : goal.returns-clause-stands
 returns-clause-stands c = grind (arith, common_steps)

@@ -39,13 +39,6 @@ part_taken : (s read m n : ℕ) (source old dest dest' : List ℕ) (d d' : Progr
 part_taken s read m n source old dest dest' d d' r f =
     entering_front (masked s source) old dest read d r n d' dest' (longer (take read (masked s source)) _ (drop read (masked s source)) dest dest' n m d' (part_behind s read m source) f)
 
--- none of it is
-part_left : (s read m n : ℕ) (source old dest dest' : List ℕ) (d d' : Progress) → Entering (masked s source) old dest read d
-    → TakesFront (take read (masked s source)) (masked s (take m (drop read source))) dest n d' dest' → n ≡ 0 → Entering (masked s source) old dest' read d'
-part_left s read m n source old dest dest' d d' r f z =
-    let none : read + n ≡ read = omega (arith, z) in
-    subst (λ j. Entering (masked s source) old dest' j d') none (part_taken s read m n source old dest dest' d d' r f)
-
 -- a byte more
 byte_taken : (s read : ℕ) (source old dest dest' : List ℕ) (d d' : Progress) → Entering (masked s source) old dest read d → read < length source → get_or source read 0 ≢ s
     → ((p : List ℕ) → HasStreamed d p → HasStreamed d' (p ++ bit_xor s (get_or source read 0) ∷ [])) → ((p : List ℕ) → HasStreamed d p → dest' ≡ placed p (bit_xor s (get_or source read 0)) dest) → Entering (masked s source) old dest' (read + 1) d'
@@ -105,183 +98,59 @@ loop-read-init g c =
       none = none_first s source c.requires.begins;
     }
 
-pub take_in-requires-in-GrabChain-eq0 : goal.take_in-requires-in-GrabChain-eq0
-take_in-requires-in-GrabChain-eq0 g c =
-    let read = c.loop-read.read in
-    masked_positive c.args.sentinel (get_or c.args.source.now read 0) (clear_on c.args.sentinel read c.args.source.now c.loop-read.invariant.none (omega (arith, c.loop-read-test.true, c.loop-read.invariant.inside)) (c.is_clear_255.ensures c.if-is_clear_255.true) read (omega arith))
-
-pub take_clear-block-requires-clause-room : goal.take_clear-block-requires-clause-room
-take_clear-block-requires-clause-room g c =
-    let s = c.args.sentinel in
+pub take_255-read-requires-clause-room : goal.take_255-read-requires-clause-room
+take_255-read-requires-clause-room g c =
     let source = c.args.source.now in
     let read = c.loop-read.read in
-    let fits : read + 255 ≤ length source = omega (arith, c.loop-read-test.true, c.loop-read.invariant.inside) in
-    let none = clear_on s read source c.loop-read.invariant.none fits (c.is_clear_255.ensures c.if-is_clear_255.true) in
-    let r = byte_taken s read source c.args.dest.now c.loop-read.dest c.take_in-in-GrabChain-eq0.new.buffer c.loop-read.progress c.take_in-in-GrabChain-eq0.new.self c.loop-read.invariant.entering (omega (arith, fits)) (none read (omega arith)) c.take_in-in-GrabChain-eq0.ensures.stands c.take_in-in-GrabChain-eq0.ensures.buffer in
-    part_fits s (read + 1) (read + 255 - (read + 1)) source c.args.dest.now c.take_in-in-GrabChain-eq0.new.buffer c.take_in-in-GrabChain-eq0.new.self r (omega arith) (omega arith) (omega (arith, fits)) c.requires.room
+    part_fits c.args.sentinel read (read + 255 - read) source c.args.dest.now c.loop-read.dest c.loop-read.progress c.loop-read.invariant.entering c.loop-read.invariant.begun (omega arith)
+    (omega (arith, c.loop-read-test.true, c.loop-read.invariant.inside)) c.requires.room
 
-pub take_clear-block-requires-clause-clear : goal.take_clear-block-requires-clause-clear
-take_clear-block-requires-clause-clear g c =
-    let read = c.loop-read.read in
-    let none = clear_on c.args.sentinel read c.args.source.now c.loop-read.invariant.none (omega (arith, c.loop-read-test.true, c.loop-read.invariant.inside)) (c.is_clear_255.ensures c.if-is_clear_255.true) in
-    none_in c.args.sentinel (read + 1) (read + 255 - (read + 1)) c.args.source.now (λ k l. none k (omega (arith, l)))
-
-pub loop-read-preserved-in-GrabChain-eq0 : goal.loop-read-preserved-in-GrabChain-eq0
-loop-read-preserved-in-GrabChain-eq0 g c =
-    let s = c.args.sentinel in
-    let source = c.args.source.now in
-    let old = c.args.dest.now in
-    let read = c.loop-read.read in
-    let n = c.take_clear-block.result in
-    let fits : read + 255 ≤ length source = omega (arith, c.loop-read-test.true, c.loop-read.invariant.inside) in
-    let none = clear_on s read source c.loop-read.invariant.none fits (c.is_clear_255.ensures c.if-is_clear_255.true) in
-    let m : ℕ = read + 255 - (read + 1) in
-    let few : n ≤ 254 = omega (arith, c.take_clear-block.ensures.within, length-take m (drop (read + 1) source)) in
-    let r = byte_taken s read source old c.loop-read.dest c.take_in-in-GrabChain-eq0.new.buffer c.loop-read.progress c.take_in-in-GrabChain-eq0.new.self c.loop-read.invariant.entering (omega (arith, fits)) (none read (omega arith)) c.take_in-in-GrabChain-eq0.ensures.stands c.take_in-in-GrabChain-eq0.ensures.buffer in
-    let t = part_taken s (read + 1) m n source old c.take_in-in-GrabChain-eq0.new.buffer c.take_clear-block.new.buffer c.take_in-in-GrabChain-eq0.new.self c.take_clear-block.new.self r (c.take_clear-block.ensures.front _ r.stands) in
-    let same : read + 1 + n ≡ read + (1 + n) = omega arith in
-    record {
-      begun = omega arith;
-      inside = omega (arith, few, fits);
-      entering = subst (λ j. Entering (masked s source) old c.take_clear-block.new.buffer j c.take_clear-block.new.self) same t;
-      none = λ k l. none k (omega (arith, l, few));
-    }
-
--- the code of a full block, by which nothing is kept between two of them
-full_code : (s read : ℕ) (source old dest dest' : List ℕ) (d d' : Progress) → Entering (masked s source) old dest read d → read < length source → bit_xor s (get_or source read 0) ≡ 255
-    → ((p : List ℕ) → HasStreamed d p → HasStreamed d' (p ++ 255 ∷ [])) → ((p : List ℕ) → HasStreamed d p → dest' ≡ placed p 255 dest) → Entering (masked s source) old dest' (read + 1) d'
-full_code s read source old dest dest' d d' r l full stands put =
-    entering_byte (masked s source) old dest read d r d' dest' 255 (omega (arith, l, masked_length s source)) (masked_get s source read l ∙ full) (omega arith) stands put
-
-pub take_clear-full-requires-clause-room : goal.take_clear-full-requires-clause-room
-take_clear-full-requires-clause-room g c =
-    let s = c.args.sentinel in
-    let source = c.args.source.now in
-    let read = c.loop-read.read in
-    let fits : read + 255 ≤ length source = omega (arith, c.loop-read-test.true, c.loop-read.invariant.inside) in
-    let r = full_code s read source c.args.dest.now c.loop-read.dest c.take_in-then-sentinel-source.new.buffer c.loop-read.progress c.take_in-then-sentinel-source.new.self c.loop-read.invariant.entering (omega (arith, fits)) c.if-sentinel-source.true c.take_in-then-sentinel-source.ensures.stands c.take_in-then-sentinel-source.ensures.buffer in
-    part_fits s (read + 1) (read + 255 - (read + 1)) source c.args.dest.now c.take_in-then-sentinel-source.new.buffer c.take_in-then-sentinel-source.new.self r (omega arith) (omega arith) (omega (arith, fits)) c.requires.room
-
-pub take_clear-full-requires-clause-clear : goal.take_clear-full-requires-clause-clear
-take_clear-full-requires-clause-clear g c =
-    let read = c.loop-read.read in
-    let none = clear_on c.args.sentinel read c.args.source.now c.loop-read.invariant.none (omega (arith, c.loop-read-test.true, c.loop-read.invariant.inside)) (c.is_clear_255.ensures c.if-is_clear_255.true) in
-    none_in c.args.sentinel (read + 1) (read + 255 - (read + 1)) c.args.source.now (λ k l. none k (omega (arith, l)))
-
-pub loop-read-preserved-then-sentinel-source : goal.loop-read-preserved-then-sentinel-source
-loop-read-preserved-then-sentinel-source g c =
-    let s = c.args.sentinel in
-    let source = c.args.source.now in
-    let old = c.args.dest.now in
-    let read = c.loop-read.read in
-    let n = c.take_clear-full.result in
-    let fits : read + 255 ≤ length source = omega (arith, c.loop-read-test.true, c.loop-read.invariant.inside) in
-    let none = clear_on s read source c.loop-read.invariant.none fits (c.is_clear_255.ensures c.if-is_clear_255.true) in
-    let m : ℕ = read + 255 - (read + 1) in
-    let few : n ≤ 254 = omega (arith, c.take_clear-full.ensures.within, length-take m (drop (read + 1) source)) in
-    let r = full_code s read source old c.loop-read.dest c.take_in-then-sentinel-source.new.buffer c.loop-read.progress c.take_in-then-sentinel-source.new.self c.loop-read.invariant.entering (omega (arith, fits)) c.if-sentinel-source.true c.take_in-then-sentinel-source.ensures.stands c.take_in-then-sentinel-source.ensures.buffer in
-    let t = part_taken s (read + 1) m n source old c.take_in-then-sentinel-source.new.buffer c.take_clear-full.new.buffer c.take_in-then-sentinel-source.new.self c.take_clear-full.new.self r (c.take_clear-full.ensures.front _ r.stands) in
-    let same : read + 1 + n ≡ read + (1 + n) = omega arith in
-    record {
-      begun = omega arith;
-      inside = omega (arith, few, fits);
-      entering = subst (λ j. Entering (masked s source) old c.take_clear-full.new.buffer j c.take_clear-full.new.self) same t;
-      none = λ k l. none k (omega (arith, l, few));
-    }
-
-pub take_clear-taken-requires-clause-room : goal.take_clear-taken-requires-clause-room
-take_clear-taken-requires-clause-room g c =
-    let read = c.loop-read.read in
-    part_fits c.args.sentinel read (read + 255 - read) c.args.source.now c.args.dest.now c.loop-read.dest c.loop-read.progress c.loop-read.invariant.entering c.loop-read.invariant.begun (omega arith) (omega (arith, c.loop-read-test.true, c.loop-read.invariant.inside)) c.requires.room
-
-pub take_clear-taken-requires-clause-clear : goal.take_clear-taken-requires-clause-clear
-take_clear-taken-requires-clause-clear g c =
+pub take_255-read-requires-clause-clear : goal.take_255-read-requires-clause-clear
+take_255-read-requires-clause-clear g c =
     let read = c.loop-read.read in
     let none = clear_on c.args.sentinel read c.args.source.now c.loop-read.invariant.none (omega (arith, c.loop-read-test.true, c.loop-read.invariant.inside)) (c.is_clear_255.ensures c.if-is_clear_255.true) in
     none_in c.args.sentinel read (read + 255 - read) c.args.source.now (λ k l. none k (omega (arith, l)))
-
-pub loop-read-preserved-then-taken-gt0 : goal.loop-read-preserved-then-taken-gt0
-loop-read-preserved-then-taken-gt0 g c =
-    let s = c.args.sentinel in
-    let source = c.args.source.now in
-    let read = c.loop-read.read in
-    let n = c.take_clear-taken.result in
-    let fits : read + 255 ≤ length source = omega (arith, c.loop-read-test.true, c.loop-read.invariant.inside) in
-    let none = clear_on s read source c.loop-read.invariant.none fits (c.is_clear_255.ensures c.if-is_clear_255.true) in
-    let few : n ≤ 255 = omega (arith, c.take_clear-taken.ensures.within, length-take (read + 255 - read) (drop read source)) in
-    record {
-      begun = omega (arith, c.loop-read.invariant.begun);
-      inside = omega (arith, few, fits);
-      entering = part_taken s read (read + 255 - read) n source c.args.dest.now c.loop-read.dest c.take_clear-taken.new.buffer c.loop-read.progress c.take_clear-taken.new.self c.loop-read.invariant.entering (c.take_clear-taken.ensures.front _ c.loop-read.invariant.entering.stands);
-      none = λ k l. none k (omega (arith, l, few));
-    }
-
-pub take_in-requires-in-loop-read : goal.take_in-requires-in-loop-read
-take_in-requires-in-loop-read g c =
-    let read = c.loop-read.read in
-    masked_positive c.args.sentinel (get_or c.args.source.now read 0) (clear_on c.args.sentinel read c.args.source.now c.loop-read.invariant.none (omega (arith, c.loop-read-test.true, c.loop-read.invariant.inside)) (c.is_clear_255.ensures c.if-is_clear_255.true) read (omega arith))
 
 pub loop-read-preserved : goal.loop-read-preserved
 loop-read-preserved g c =
     let s = c.args.sentinel in
     let source = c.args.source.now in
-    let old = c.args.dest.now in
     let read = c.loop-read.read in
-    let n = c.take_clear-taken.result in
+    let t = c.take_255-read in
     let fits : read + 255 ≤ length source = omega (arith, c.loop-read-test.true, c.loop-read.invariant.inside) in
     let none = clear_on s read source c.loop-read.invariant.none fits (c.is_clear_255.ensures c.if-is_clear_255.true) in
-    let r = part_left s read (read + 255 - read) n source old c.loop-read.dest c.take_clear-taken.new.buffer c.loop-read.progress c.take_clear-taken.new.self c.loop-read.invariant.entering (c.take_clear-taken.ensures.front _ c.loop-read.invariant.entering.stands) (omega (arith, c.if-taken-gt0.false)) in
+    let few : t.result ≤ 255 = omega (arith, t.ensures.within, length-take (read + 255 - read) (drop read source)) in
     record {
-      begun = omega arith;
-      inside = omega (arith, fits);
-      entering = byte_taken s read source old c.take_clear-taken.new.buffer c.take_in-in-loop-read.new.buffer c.take_clear-taken.new.self c.take_in-in-loop-read.new.self r (omega (arith, fits)) (none read (omega arith)) c.take_in-in-loop-read.ensures.stands c.take_in-in-loop-read.ensures.buffer;
-      none = λ k l. none k (omega (arith, l));
+      begun = omega (arith, c.loop-read.invariant.begun);
+      inside = omega (arith, few, fits);
+      entering = part_taken s read (read + 255 - read) t.result source c.args.dest.now c.loop-read.dest t.new.buffer c.loop-read.progress t.new.self c.loop-read.invariant.entering (t.ensures.front _ c.loop-read.invariant.entering.stands);
+      none = λ k l. none k (omega (arith, l, few));
     }
 
-pub take_clear-last-requires-clause-room : goal.take_clear-last-requires-clause-room
-take_clear-last-requires-clause-room g c =
+pub take_some-read-requires-clause-room : goal.take_some-read-requires-clause-room
+take_some-read-requires-clause-room g c =
     let source = c.args.source.now in
     let read = c.loop-read.read in
     let whole = long c.args.sentinel read c.before_sentinel.result source c.loop-read.invariant.inside c.loop-read.invariant.none c.before_sentinel.ensures.within c.before_sentinel.ensures.none in
     part_fits c.args.sentinel c.loop-read-2.read (read + c.before_sentinel.result - c.loop-read-2.read) source c.args.dest.now c.loop-read-2.dest c.loop-read-2.progress c.loop-read-2.invariant.entering c.loop-read-2.invariant.begun (omega arith)
     (omega (arith, c.loop-read-2.invariant.within, c.before_sentinel.ensures.within, whole, c.loop-read.invariant.inside)) c.requires.room
 
-pub take_clear-last-requires-clause-clear : goal.take_clear-last-requires-clause-clear
-take_clear-last-requires-clause-clear g c =
+pub take_some-read-requires-clause-clear : goal.take_some-read-requires-clause-clear
+take_some-read-requires-clause-clear g c =
     let read = c.loop-read.read in
     let none = none_before c.args.sentinel read c.before_sentinel.result c.args.source.now c.loop-read.invariant.inside c.loop-read.invariant.none c.before_sentinel.ensures.within c.before_sentinel.ensures.none in
     none_in c.args.sentinel c.loop-read-2.read (read + c.before_sentinel.result - c.loop-read-2.read) c.args.source.now (λ k l. none k (omega (arith, l, c.loop-read-2.invariant.within)))
 
-pub loop-read-2-preserved-then-last-gt0 : goal.loop-read-2-preserved-then-last-gt0
-loop-read-2-preserved-then-last-gt0 g c =
-    let source = c.args.source.now in
-    let read = c.loop-read-2.read in
-    let m : ℕ = c.loop-read.read + c.before_sentinel.result - read in
-    record {
-      begun = omega (arith, c.loop-read-2.invariant.begun);
-      within = omega (arith, c.take_clear-last.ensures.within, length-take m (drop read source), c.loop-read-2.invariant.within);
-      entering = part_taken c.args.sentinel read m c.take_clear-last.result source c.args.dest.now c.loop-read-2.dest c.take_clear-last.new.buffer c.loop-read-2.progress c.take_clear-last.new.self c.loop-read-2.invariant.entering (c.take_clear-last.ensures.front _ c.loop-read-2.invariant.entering.stands);
-    }
-
-pub take_in-requires-in-loop-read-2 : goal.take_in-requires-in-loop-read-2
-take_in-requires-in-loop-read-2 g c =
-    let none = none_before c.args.sentinel c.loop-read.read c.before_sentinel.result c.args.source.now c.loop-read.invariant.inside c.loop-read.invariant.none c.before_sentinel.ensures.within c.before_sentinel.ensures.none in
-    masked_positive c.args.sentinel (get_or c.args.source.now c.loop-read-2.read 0) (none c.loop-read-2.read (omega (arith, c.loop-read-2-test.true)))
-
 pub loop-read-2-preserved : goal.loop-read-2-preserved
 loop-read-2-preserved g c =
-    let s = c.args.sentinel in
     let source = c.args.source.now in
-    let old = c.args.dest.now in
     let read = c.loop-read-2.read in
     let m : ℕ = c.loop-read.read + c.before_sentinel.result - read in
-    let whole = long s c.loop-read.read c.before_sentinel.result source c.loop-read.invariant.inside c.loop-read.invariant.none c.before_sentinel.ensures.within c.before_sentinel.ensures.none in
-    let none = none_before s c.loop-read.read c.before_sentinel.result source c.loop-read.invariant.inside c.loop-read.invariant.none c.before_sentinel.ensures.within c.before_sentinel.ensures.none in
-    let r = part_left s read m c.take_clear-last.result source old c.loop-read-2.dest c.take_clear-last.new.buffer c.loop-read-2.progress c.take_clear-last.new.self c.loop-read-2.invariant.entering (c.take_clear-last.ensures.front _ c.loop-read-2.invariant.entering.stands) (omega (arith, c.if-last-gt0.false)) in
+    let t = c.take_some-read in
     record {
-      begun = omega arith;
-      within = omega (arith, c.loop-read-2-test.true);
-      entering = byte_taken s read source old c.take_clear-last.new.buffer c.take_in-in-loop-read-2.new.buffer c.take_clear-last.new.self c.take_in-in-loop-read-2.new.self r (omega (arith, c.loop-read-2-test.true, c.before_sentinel.ensures.within, whole, c.loop-read.invariant.inside)) (none read (omega (arith, c.loop-read-2-test.true))) c.take_in-in-loop-read-2.ensures.stands c.take_in-in-loop-read-2.ensures.buffer;
+      begun = omega (arith, c.loop-read-2.invariant.begun);
+      within = omega (arith, t.ensures.within, length-take m (drop read source), c.loop-read-2.invariant.within);
+      entering = part_taken c.args.sentinel read m t.result source c.args.dest.now c.loop-read-2.dest t.new.buffer c.loop-read-2.progress t.new.self c.loop-read-2.invariant.entering (t.ensures.front _ c.loop-read-2.invariant.entering.stands);
     }
 
 -- all before the sentinel was taken in

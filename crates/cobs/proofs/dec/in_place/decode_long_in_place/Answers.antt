@@ -1,11 +1,11 @@
-use Rattle.std.proofs.Common.{◌≡◌, ◌≢◌, ◌+◌, ◌-◌, ◌<◌, ◌≤◌, ℕ, List, [], ◌∷◌, ◌++◌, length, take, drop, get_or, length-take, length-drop, arith, sym, ap, ◌∙◌, subst}
+use Rattle.std.proofs.Common.{◌≡◌, ◌≢◌, ◌+◌, ◌-◌, ◌<◌, ◌≤◌, ℕ, List, [], ◌∷◌, ◌++◌, length, take, drop, get_or, length-take, length-drop, arith, sym, ap, ◌∙◌}
 use Rattle.std.proofs.lemmas.List.{get_or-take, get_or-drop}
 use Rattle.std.proofs.lemmas.Nat.{xor_of_8}
 use Rattle.std.specs.Prelude.{bit_xor}
 use Rattle.cobs.specs.Feeding.{placed}
 use Rattle.cobs.specs.Sentinel.{masked}
 use Rattle.cobs.specs.Streaming.{HasStreamed}
-use Rattle.cobs.specs.Taking.{with_parsed, TakesFront}
+use Rattle.cobs.specs.Taking.{with_parsed}
 use Rattle.cobs.specs.declared.dec.progress.Progress.{Progress}
 use Rattle.cobs.proofs.MaskingLemmas.{masked_length}
 use Rattle.cobs.proofs.SourcesLemmas.{clear_byte, masked_positive}
@@ -13,7 +13,7 @@ use Rattle.cobs.proofs.ReadingLemmas.{Reading, reading_on, reading_done, reading
 use Rattle.cobs.proofs.ShortLemmas.{done_answer}
 use Rattle.cobs.proofs.WithinLemmas.{reading_new, reading_front, unread_byte, ends_at}
 use Rattle.cobs.proofs.dec.in_place.decode_long_in_place.Goals as goal
-use Rattle.cobs.proofs.dec.in_place.decode_long_in_place.Goals.{After-answer_behind, After-take_in-then-code}
+use Rattle.cobs.proofs.dec.in_place.decode_long_in_place.Goals.{After-answer_behind}
 
 -- a byte more
 module _ (s : ℕ) (source buffer : List ℕ) (read : ℕ) (d : Progress) (r : Reading s source buffer read d) where
@@ -25,16 +25,6 @@ module _ (s : ℕ) (source buffer : List ℕ) (read : ℕ) (d : Progress) (r : R
       let some : 0 < bit_xor s (get_or buffer read 0) = rw same at (masked_positive s (get_or source read 0) other) in
       let few : bit_xor s (get_or buffer read 0) < 256 = rw same at (fits read) in
       reading_on s source buffer read d r buffer' d' (omega (arith, r.long, l)) some few stands put
-
-  pub positive : get_or source read 0 ≢ s → read < length source → 0 < bit_xor s (get_or buffer read 0)
-  positive other l = masked_positive s (get_or buffer read 0) (λ e. other (sym (unread_byte s source buffer read d r read (omega arith) l) ∙ e))
-
-  -- none was taken
-  pub left : (end n : ℕ) (d' : Progress) (buffer' : List ℕ) → read ≤ end → end ≤ length buffer → ((j : ℕ) → bit_xor s (get_or source j 0) < 256)
-      → TakesFront (take read (masked s source)) (masked s (take (end - read) (drop read buffer))) buffer n d' buffer' → n ≡ 0 → Reading s source buffer' read d'
-  left end n d' buffer' l w fits f z =
-      let none : read + n ≡ read = omega (arith, z) in
-      subst (λ j. Reading s source buffer' j d') none (reading_front s source buffer read d r end n d' buffer' l w fits f)
 
   -- some of the bytes behind aren't the sentinel
   module _ (m n : ℕ) (w : n ≤ length (take m (drop read buffer))) (none : (k : ℕ) → k < n → get_or (take m (drop read buffer)) k 0 ≢ s) where
@@ -84,172 +74,21 @@ loop-buf-init g c =
     let t = byte_on s source source 0 c.new-progress.result new c.take_in.new.buffer c.take_in.new.self fits c.requires.begins c.requires.some c.take_in.ensures.stands c.take_in.ensures.buffer in
     record { reading = t; inside = omega (arith, t.long, c.requires.some) }
 
-pub take_in-requires-in-GrabChain-eq0 : goal.take_in-requires-in-GrabChain-eq0
-take_in-requires-in-GrabChain-eq0 g c =
+pub take_255_within-read-requires-clause-begun : goal.take_255_within-read-requires-clause-begun
+take_255_within-read-requires-clause-begun g c = (_, c.loop-buf.invariant.reading.reads.stands)
+
+pub take_255_within-read-requires-clause-behind : goal.take_255_within-read-requires-clause-behind
+take_255_within-read-requires-clause-behind g c = omega (arith, shorter _ _ _ c.loop-buf.invariant.reading.reads)
+
+pub take_255_within-read-requires-clause-clear : goal.take_255_within-read-requires-clause-clear
+take_255_within-read-requires-clause-clear g c =
     let s = c.args.sentinel in
-    let source = c.args.buf.now in
     let buf = c.loop-buf.buf in
     let read = c.loop-buf.read in
     let r = c.loop-buf.invariant.reading in
     let l : read + 255 ≤ length buf = omega (arith, c.loop-buf-test.true, c.loop-buf.invariant.inside) in
-    let clear = source_clear s source buf read c.loop-buf.progress r (read + 255 - read) 255 (many read buf l) (seen s read buf l (c.is_clear_255.ensures c.if-is_clear_255.true)) in
-    positive s source buf read c.loop-buf.progress r (clear read (omega arith) (omega arith)) (omega (arith, l, r.long))
-
-pub take_within-block-requires-clause-inside : goal.take_within-block-requires-clause-inside
-take_within-block-requires-clause-inside g c =
-    let s = c.args.sentinel in
-    let source = c.args.buf.now in
-    let buf = c.loop-buf.buf in
-    let read = c.loop-buf.read in
-    let r = c.loop-buf.invariant.reading in
-    let fits : (j : ℕ) → bit_xor s (get_or source j 0) < 256 = λ j. xor_of_8 s (get_or source j 0) c.ranges.sentinel.fits (c.requires.bytes j) in
-    let l : read + 255 ≤ length buf = omega (arith, c.loop-buf-test.true, c.loop-buf.invariant.inside) in
-    let clear = source_clear s source buf read c.loop-buf.progress r (read + 255 - read) 255 (many read buf l) (seen s read buf l (c.is_clear_255.ensures c.if-is_clear_255.true)) in
-    let r1 = byte_on s source buf read c.loop-buf.progress r c.take_in-in-GrabChain-eq0.new.buffer c.take_in-in-GrabChain-eq0.new.self fits (clear read (omega arith) (omega arith)) (omega (arith, l, r.long)) c.take_in-in-GrabChain-eq0.ensures.stands c.take_in-in-GrabChain-eq0.ensures.buffer in
-    omega (arith, l, r1.long, r.long)
-
-pub take_within-block-requires-clause-behind : goal.take_within-block-requires-clause-behind
-take_within-block-requires-clause-behind g c =
-    let s = c.args.sentinel in
-    let source = c.args.buf.now in
-    let buf = c.loop-buf.buf in
-    let read = c.loop-buf.read in
-    let r = c.loop-buf.invariant.reading in
-    let fits : (j : ℕ) → bit_xor s (get_or source j 0) < 256 = λ j. xor_of_8 s (get_or source j 0) c.ranges.sentinel.fits (c.requires.bytes j) in
-    let l : read + 255 ≤ length buf = omega (arith, c.loop-buf-test.true, c.loop-buf.invariant.inside) in
-    let clear = source_clear s source buf read c.loop-buf.progress r (read + 255 - read) 255 (many read buf l) (seen s read buf l (c.is_clear_255.ensures c.if-is_clear_255.true)) in
-    let r1 = byte_on s source buf read c.loop-buf.progress r c.take_in-in-GrabChain-eq0.new.buffer c.take_in-in-GrabChain-eq0.new.self fits (clear read (omega arith) (omega arith)) (omega (arith, l, r.long)) c.take_in-in-GrabChain-eq0.ensures.stands c.take_in-in-GrabChain-eq0.ensures.buffer in
-    omega (arith, shorter _ _ _ r1.reads)
-
-pub take_within-block-requires-clause-clear : goal.take_within-block-requires-clause-clear
-take_within-block-requires-clause-clear g c =
-    let s = c.args.sentinel in
-    let source = c.args.buf.now in
-    let buf = c.loop-buf.buf in
-    let read = c.loop-buf.read in
-    let r = c.loop-buf.invariant.reading in
-    let fits : (j : ℕ) → bit_xor s (get_or source j 0) < 256 = λ j. xor_of_8 s (get_or source j 0) c.ranges.sentinel.fits (c.requires.bytes j) in
-    let l : read + 255 ≤ length buf = omega (arith, c.loop-buf-test.true, c.loop-buf.invariant.inside) in
-    let clear = source_clear s source buf read c.loop-buf.progress r (read + 255 - read) 255 (many read buf l) (seen s read buf l (c.is_clear_255.ensures c.if-is_clear_255.true)) in
-    let r1 = byte_on s source buf read c.loop-buf.progress r c.take_in-in-GrabChain-eq0.new.buffer c.take_in-in-GrabChain-eq0.new.self fits (clear read (omega arith) (omega arith)) (omega (arith, l, r.long)) c.take_in-in-GrabChain-eq0.ensures.stands c.take_in-in-GrabChain-eq0.ensures.buffer in
-    let later = later_clear s source buf read c.loop-buf.progress r (read + 255 - read) 255 (many read buf l) (seen s read buf l (c.is_clear_255.ensures c.if-is_clear_255.true)) in
-    λ k a b. later c.take_in-in-GrabChain-eq0.new.buffer (read + 1) c.take_in-in-GrabChain-eq0.new.self r1 (omega arith) k a b
-
-pub loop-buf-preserved-in-GrabChain-eq0 : goal.loop-buf-preserved-in-GrabChain-eq0
-loop-buf-preserved-in-GrabChain-eq0 g c =
-    let s = c.args.sentinel in
-    let source = c.args.buf.now in
-    let buf = c.loop-buf.buf in
-    let read = c.loop-buf.read in
-    let r = c.loop-buf.invariant.reading in
-    let fits : (j : ℕ) → bit_xor s (get_or source j 0) < 256 = λ j. xor_of_8 s (get_or source j 0) c.ranges.sentinel.fits (c.requires.bytes j) in
-    let l : read + 255 ≤ length buf = omega (arith, c.loop-buf-test.true, c.loop-buf.invariant.inside) in
-    let clear = source_clear s source buf read c.loop-buf.progress r (read + 255 - read) 255 (many read buf l) (seen s read buf l (c.is_clear_255.ensures c.if-is_clear_255.true)) in
-    let r1 = byte_on s source buf read c.loop-buf.progress r c.take_in-in-GrabChain-eq0.new.buffer c.take_in-in-GrabChain-eq0.new.self fits (clear read (omega arith) (omega arith)) (omega (arith, l, r.long)) c.take_in-in-GrabChain-eq0.ensures.stands c.take_in-in-GrabChain-eq0.ensures.buffer in
-    let n = c.take_within-block.result in
-    let t = reading_front s source c.take_in-in-GrabChain-eq0.new.buffer (read + 1) c.take_in-in-GrabChain-eq0.new.self r1 (read + 255) n c.take_within-block.new.self c.take_within-block.new.buffer (omega arith) (omega (arith, l, r1.long, r.long)) fits (c.take_within-block.ensures.front _ r1.reads.stands) in
-    let same : read + 1 + n ≡ read + (1 + n) = omega arith in
-    record {
-      reading = subst (λ j. Reading s source c.take_within-block.new.buffer j c.take_within-block.new.self) same t;
-      inside = omega (arith, t.reads.within, t.long, masked_length s source);
-    }
-
--- the code of a full block
-full : (g : _) (c : After-take_in-then-code g) → Reading c.args.sentinel c.args.buf.now c.take_in-then-code.new.buffer (c.loop-buf.read + 1) c.take_in-then-code.new.self
-full g c =
-    let s = c.args.sentinel in
-    let source = c.args.buf.now in
-    let buf = c.loop-buf.buf in
-    let read = c.loop-buf.read in
-    let r = c.loop-buf.invariant.reading in
-    let d' = c.take_in-then-code.new.self in
-    let fits : (j : ℕ) → bit_xor s (get_or source j 0) < 256 = λ j. xor_of_8 s (get_or source j 0) c.ranges.sentinel.fits (c.requires.bytes j) in
-    let l : read + 255 ≤ length buf = omega (arith, c.loop-buf-test.true, c.loop-buf.invariant.inside) in
-    let clear = source_clear s source buf read c.loop-buf.progress r (read + 255 - read) 255 (many read buf l) (seen s read buf l (c.is_clear_255.ensures c.if-is_clear_255.true)) in
-    let code : 255 ≡ bit_xor s (get_or buf read 0) = sym c.if-code.true in
-    byte_on s source buf read c.loop-buf.progress r c.take_in-then-code.new.buffer d' fits (clear read (omega arith) (omega arith)) (omega (arith, l, r.long))
-    (subst (λ b. (p : List ℕ) → HasStreamed c.loop-buf.progress p → HasStreamed d' (p ++ b ∷ [])) code c.take_in-then-code.ensures.stands)
-    (subst (λ b. (p : List ℕ) → HasStreamed c.loop-buf.progress p → c.take_in-then-code.new.buffer ≡ placed p b buf) code c.take_in-then-code.ensures.buffer)
-
-pub take_within-full-requires-clause-inside : goal.take_within-full-requires-clause-inside
-take_within-full-requires-clause-inside g c =
-    let r1 = full g (goal.at.take_within-full-requires-clause-inside g c).After-take_in-then-code in
-    omega (arith, c.loop-buf-test.true, c.loop-buf.invariant.inside, r1.long, c.loop-buf.invariant.reading.long)
-
-pub take_within-full-requires-clause-behind : goal.take_within-full-requires-clause-behind
-take_within-full-requires-clause-behind g c =
-    let r1 = full g (goal.at.take_within-full-requires-clause-behind g c).After-take_in-then-code in
-    omega (arith, shorter _ _ _ r1.reads)
-
-pub take_within-full-requires-clause-clear : goal.take_within-full-requires-clause-clear
-take_within-full-requires-clause-clear g c =
-    let s = c.args.sentinel in
-    let source = c.args.buf.now in
-    let buf = c.loop-buf.buf in
-    let read = c.loop-buf.read in
-    let r = c.loop-buf.invariant.reading in
-    let l : read + 255 ≤ length buf = omega (arith, c.loop-buf-test.true, c.loop-buf.invariant.inside) in
-    let r1 = full g (goal.at.take_within-full-requires-clause-clear g c).After-take_in-then-code in
-    let later = later_clear s source buf read c.loop-buf.progress r (read + 255 - read) 255 (many read buf l) (seen s read buf l (c.is_clear_255.ensures c.if-is_clear_255.true)) in
-    λ k a b. later c.take_in-then-code.new.buffer (read + 1) c.take_in-then-code.new.self r1 (omega arith) k a b
-
-pub loop-buf-preserved-then-code : goal.loop-buf-preserved-then-code
-loop-buf-preserved-then-code g c =
-    let s = c.args.sentinel in
-    let source = c.args.buf.now in
-    let buf = c.loop-buf.buf in
-    let read = c.loop-buf.read in
-    let fits : (j : ℕ) → bit_xor s (get_or source j 0) < 256 = λ j. xor_of_8 s (get_or source j 0) c.ranges.sentinel.fits (c.requires.bytes j) in
-    let l : read + 255 ≤ length buf = omega (arith, c.loop-buf-test.true, c.loop-buf.invariant.inside) in
-    let r1 = full g (goal.at.loop-buf-preserved-then-code g c).After-take_in-then-code in
-    let n = c.take_within-full.result in
-    let t = reading_front s source c.take_in-then-code.new.buffer (read + 1) c.take_in-then-code.new.self r1 (read + 255) n c.take_within-full.new.self c.take_within-full.new.buffer (omega arith) (omega (arith, l, r1.long, c.loop-buf.invariant.reading.long)) fits (c.take_within-full.ensures.front _ r1.reads.stands) in
-    let same : read + 1 + n ≡ read + (1 + n) = omega arith in
-    record {
-      reading = subst (λ j. Reading s source c.take_within-full.new.buffer j c.take_within-full.new.self) same t;
-      inside = omega (arith, t.reads.within, t.long, masked_length s source);
-    }
-
-pub take_within-front-requires-clause-behind : goal.take_within-front-requires-clause-behind
-take_within-front-requires-clause-behind g c =
-    let r = c.loop-buf.invariant.reading in
-    omega (arith, shorter _ _ _ r.reads)
-
-pub take_within-front-requires-clause-clear : goal.take_within-front-requires-clause-clear
-take_within-front-requires-clause-clear g c =
-    let s = c.args.sentinel in
-    let source = c.args.buf.now in
-    let buf = c.loop-buf.buf in
-    let read = c.loop-buf.read in
-    let r = c.loop-buf.invariant.reading in
-    let l : read + 255 ≤ length buf = omega (arith, c.loop-buf-test.true, c.loop-buf.invariant.inside) in
-    let later = later_clear s source buf read c.loop-buf.progress r (read + 255 - read) 255 (many read buf l) (seen s read buf l (c.is_clear_255.ensures c.if-is_clear_255.true)) in
+    let later = later_clear s c.args.buf.now buf read c.loop-buf.progress r (read + 255 - read) 255 (many read buf l) (seen s read buf l (c.is_clear_255.ensures c.if-is_clear_255.true)) in
     λ k a b. later buf read c.loop-buf.progress r (omega arith) k a b
-
-pub loop-buf-preserved-then-front-gt0 : goal.loop-buf-preserved-then-front-gt0
-loop-buf-preserved-then-front-gt0 g c =
-    let s = c.args.sentinel in
-    let source = c.args.buf.now in
-    let buf = c.loop-buf.buf in
-    let read = c.loop-buf.read in
-    let r = c.loop-buf.invariant.reading in
-    let fits : (j : ℕ) → bit_xor s (get_or source j 0) < 256 = λ j. xor_of_8 s (get_or source j 0) c.ranges.sentinel.fits (c.requires.bytes j) in
-    let l : read + 255 ≤ length buf = omega (arith, c.loop-buf-test.true, c.loop-buf.invariant.inside) in
-    let t = reading_front s source buf read c.loop-buf.progress r (read + 255) c.take_within-front.result c.take_within-front.new.self c.take_within-front.new.buffer (omega arith) l fits (c.take_within-front.ensures.front _ r.reads.stands) in
-    record { reading = t; inside = omega (arith, t.reads.within, t.long, masked_length s source) }
-
-pub take_in-requires-in-loop-buf : goal.take_in-requires-in-loop-buf
-take_in-requires-in-loop-buf g c =
-    let s = c.args.sentinel in
-    let source = c.args.buf.now in
-    let buf = c.loop-buf.buf in
-    let read = c.loop-buf.read in
-    let r = c.loop-buf.invariant.reading in
-    let fits : (j : ℕ) → bit_xor s (get_or source j 0) < 256 = λ j. xor_of_8 s (get_or source j 0) c.ranges.sentinel.fits (c.requires.bytes j) in
-    let l : read + 255 ≤ length buf = omega (arith, c.loop-buf-test.true, c.loop-buf.invariant.inside) in
-    let clear = source_clear s source buf read c.loop-buf.progress r (read + 255 - read) 255 (many read buf l) (seen s read buf l (c.is_clear_255.ensures c.if-is_clear_255.true)) in
-    let r1 = left s source buf read c.loop-buf.progress r (read + 255) c.take_within-front.result c.take_within-front.new.self c.take_within-front.new.buffer (omega arith) l fits (c.take_within-front.ensures.front _ r.reads.stands) (omega (arith, c.if-front-gt0.false)) in
-    positive s source c.take_within-front.new.buffer read c.take_within-front.new.self r1 (clear read (omega arith) (omega arith)) (omega (arith, l, r.long))
 
 pub loop-buf-preserved : goal.loop-buf-preserved
 loop-buf-preserved g c =
@@ -260,79 +99,30 @@ loop-buf-preserved g c =
     let r = c.loop-buf.invariant.reading in
     let fits : (j : ℕ) → bit_xor s (get_or source j 0) < 256 = λ j. xor_of_8 s (get_or source j 0) c.ranges.sentinel.fits (c.requires.bytes j) in
     let l : read + 255 ≤ length buf = omega (arith, c.loop-buf-test.true, c.loop-buf.invariant.inside) in
-    let clear = source_clear s source buf read c.loop-buf.progress r (read + 255 - read) 255 (many read buf l) (seen s read buf l (c.is_clear_255.ensures c.if-is_clear_255.true)) in
-    let r1 = left s source buf read c.loop-buf.progress r (read + 255) c.take_within-front.result c.take_within-front.new.self c.take_within-front.new.buffer (omega arith) l fits (c.take_within-front.ensures.front _ r.reads.stands) (omega (arith, c.if-front-gt0.false)) in
-    let t = byte_on s source c.take_within-front.new.buffer read c.take_within-front.new.self r1 c.take_in-in-loop-buf.new.buffer c.take_in-in-loop-buf.new.self fits (clear read (omega arith) (omega arith)) (omega (arith, l, r.long)) c.take_in-in-loop-buf.ensures.stands c.take_in-in-loop-buf.ensures.buffer in
+    let f = c.take_255_within-read in
+    let t = reading_front s source buf read c.loop-buf.progress r (read + 255) f.result f.new.self f.new.buffer (omega arith) l fits (f.ensures.front _ r.reads.stands) in
     record { reading = t; inside = omega (arith, t.reads.within, t.long, masked_length s source) }
 
-pub take_within-taken-requires-clause-inside : goal.take_within-taken-requires-clause-inside
-take_within-taken-requires-clause-inside g c =
-    let s = c.args.sentinel in
-    let source = c.args.buf.now in
+pub take_some_within-read-requires-clause-begun : goal.take_some_within-read-requires-clause-begun
+take_some_within-read-requires-clause-begun g c = (_, c.loop-read.invariant.reading.reads.stands)
+
+pub take_some_within-read-requires-clause-inside : goal.take_some_within-read-requires-clause-inside
+take_some_within-read-requires-clause-inside g c =
     let buf = c.loop-buf.buf in
     let read = c.loop-buf.read in
     let r = c.loop-buf.invariant.reading in
-    let buf2 = c.loop-read.buf in
-    let read2 = c.loop-read.read in
-    let r2 = c.loop-read.invariant.reading in
-    let m : ℕ = length buf - read in
-    let end : read + c.before_many.result ≤ length source = within_source s source buf read c.loop-buf.progress r m c.before_many.result c.before_many.ensures.within c.before_many.ensures.none (omega (arith, c.loop-buf.invariant.inside, r.long)) in
-    omega (arith, end, r2.long)
+    let end = within_source c.args.sentinel c.args.buf.now buf read c.loop-buf.progress r (length buf - read) c.before_many.result c.before_many.ensures.within c.before_many.ensures.none (omega (arith, c.loop-buf.invariant.inside, r.long)) in
+    omega (arith, end, c.loop-read.invariant.reading.long)
 
-pub take_within-taken-requires-clause-behind : goal.take_within-taken-requires-clause-behind
-take_within-taken-requires-clause-behind g c =
-    let r2 = c.loop-read.invariant.reading in
-    omega (arith, shorter _ _ _ r2.reads)
+pub take_some_within-read-requires-clause-behind : goal.take_some_within-read-requires-clause-behind
+take_some_within-read-requires-clause-behind g c = omega (arith, shorter _ _ _ c.loop-read.invariant.reading.reads)
 
-pub take_within-taken-requires-clause-clear : goal.take_within-taken-requires-clause-clear
-take_within-taken-requires-clause-clear g c =
-    let s = c.args.sentinel in
-    let source = c.args.buf.now in
+pub take_some_within-read-requires-clause-clear : goal.take_some_within-read-requires-clause-clear
+take_some_within-read-requires-clause-clear g c =
     let buf = c.loop-buf.buf in
     let read = c.loop-buf.read in
-    let r = c.loop-buf.invariant.reading in
-    let buf2 = c.loop-read.buf in
-    let read2 = c.loop-read.read in
-    let r2 = c.loop-read.invariant.reading in
-    let m : ℕ = length buf - read in
-    let later = later_clear s source buf read c.loop-buf.progress r m c.before_many.result c.before_many.ensures.within c.before_many.ensures.none in
-    λ k a b. later buf2 read2 c.loop-read.progress r2 c.loop-read.invariant.from k a b
-
-pub loop-read-preserved-then-taken-gt0 : goal.loop-read-preserved-then-taken-gt0
-loop-read-preserved-then-taken-gt0 g c =
-    let s = c.args.sentinel in
-    let source = c.args.buf.now in
-    let buf = c.loop-buf.buf in
-    let read = c.loop-buf.read in
-    let r = c.loop-buf.invariant.reading in
-    let buf2 = c.loop-read.buf in
-    let read2 = c.loop-read.read in
-    let r2 = c.loop-read.invariant.reading in
-    let m : ℕ = length buf - read in
-    let fits : (j : ℕ) → bit_xor s (get_or source j 0) < 256 = λ j. xor_of_8 s (get_or source j 0) c.ranges.sentinel.fits (c.requires.bytes j) in
-    let end : read + c.before_many.result ≤ length source = within_source s source buf read c.loop-buf.progress r m c.before_many.result c.before_many.ensures.within c.before_many.ensures.none (omega (arith, c.loop-buf.invariant.inside, r.long)) in
-    record {
-      reading = reading_front s source buf2 read2 c.loop-read.progress r2 (read + c.before_many.result) c.take_within-taken.result c.take_within-taken.new.self c.take_within-taken.new.buffer c.loop-read.invariant.within (omega (arith, end, r2.long)) fits (c.take_within-taken.ensures.front _ r2.reads.stands);
-      within = omega (arith, c.take_within-taken.ensures.within, c.loop-read.invariant.within);
-      from = omega (arith, c.loop-read.invariant.from);
-    }
-
-pub take_in-requires-in-loop-read : goal.take_in-requires-in-loop-read
-take_in-requires-in-loop-read g c =
-    let s = c.args.sentinel in
-    let source = c.args.buf.now in
-    let buf = c.loop-buf.buf in
-    let read = c.loop-buf.read in
-    let r = c.loop-buf.invariant.reading in
-    let buf2 = c.loop-read.buf in
-    let read2 = c.loop-read.read in
-    let r2 = c.loop-read.invariant.reading in
-    let m : ℕ = length buf - read in
-    let fits : (j : ℕ) → bit_xor s (get_or source j 0) < 256 = λ j. xor_of_8 s (get_or source j 0) c.ranges.sentinel.fits (c.requires.bytes j) in
-    let end : read + c.before_many.result ≤ length source = within_source s source buf read c.loop-buf.progress r m c.before_many.result c.before_many.ensures.within c.before_many.ensures.none (omega (arith, c.loop-buf.invariant.inside, r.long)) in
-    let clear = source_clear s source buf read c.loop-buf.progress r m c.before_many.result c.before_many.ensures.within c.before_many.ensures.none in
-    let r3 = left s source buf2 read2 c.loop-read.progress r2 (read + c.before_many.result) c.take_within-taken.result c.take_within-taken.new.self c.take_within-taken.new.buffer c.loop-read.invariant.within (omega (arith, end, r2.long)) fits (c.take_within-taken.ensures.front _ r2.reads.stands) (omega (arith, c.if-taken-gt0.false)) in
-    positive s source c.take_within-taken.new.buffer read2 c.take_within-taken.new.self r3 (clear read2 c.loop-read.invariant.from c.loop-read-test.true) (omega (arith, end, c.loop-read-test.true))
+    let later = later_clear c.args.sentinel c.args.buf.now buf read c.loop-buf.progress c.loop-buf.invariant.reading (length buf - read) c.before_many.result c.before_many.ensures.within c.before_many.ensures.none in
+    λ k a b. later c.loop-read.buf c.loop-read.read c.loop-read.progress c.loop-read.invariant.reading c.loop-read.invariant.from k a b
 
 pub loop-read-preserved : goal.loop-read-preserved
 loop-read-preserved g c =
@@ -341,17 +131,13 @@ loop-read-preserved g c =
     let buf = c.loop-buf.buf in
     let read = c.loop-buf.read in
     let r = c.loop-buf.invariant.reading in
-    let buf2 = c.loop-read.buf in
-    let read2 = c.loop-read.read in
     let r2 = c.loop-read.invariant.reading in
-    let m : ℕ = length buf - read in
     let fits : (j : ℕ) → bit_xor s (get_or source j 0) < 256 = λ j. xor_of_8 s (get_or source j 0) c.ranges.sentinel.fits (c.requires.bytes j) in
-    let end : read + c.before_many.result ≤ length source = within_source s source buf read c.loop-buf.progress r m c.before_many.result c.before_many.ensures.within c.before_many.ensures.none (omega (arith, c.loop-buf.invariant.inside, r.long)) in
-    let clear = source_clear s source buf read c.loop-buf.progress r m c.before_many.result c.before_many.ensures.within c.before_many.ensures.none in
-    let r3 = left s source buf2 read2 c.loop-read.progress r2 (read + c.before_many.result) c.take_within-taken.result c.take_within-taken.new.self c.take_within-taken.new.buffer c.loop-read.invariant.within (omega (arith, end, r2.long)) fits (c.take_within-taken.ensures.front _ r2.reads.stands) (omega (arith, c.if-taken-gt0.false)) in
+    let end : read + c.before_many.result ≤ length source = within_source s source buf read c.loop-buf.progress r (length buf - read) c.before_many.result c.before_many.ensures.within c.before_many.ensures.none (omega (arith, c.loop-buf.invariant.inside, r.long)) in
+    let f = c.take_some_within-read in
     record {
-      reading = byte_on s source c.take_within-taken.new.buffer read2 c.take_within-taken.new.self r3 c.take_in-in-loop-read.new.buffer c.take_in-in-loop-read.new.self fits (clear read2 c.loop-read.invariant.from c.loop-read-test.true) (omega (arith, end, c.loop-read-test.true)) c.take_in-in-loop-read.ensures.stands c.take_in-in-loop-read.ensures.buffer;
-      within = omega (arith, c.loop-read-test.true);
+      reading = reading_front s source c.loop-read.buf c.loop-read.read c.loop-read.progress r2 (read + c.before_many.result) f.result f.new.self f.new.buffer c.loop-read.invariant.within (omega (arith, end, r2.long)) fits (f.ensures.front _ r2.reads.stands);
+      within = omega (arith, f.ensures.within, c.loop-read.invariant.within);
       from = omega (arith, c.loop-read.invariant.from);
     }
 
