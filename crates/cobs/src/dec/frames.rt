@@ -155,7 +155,7 @@ fn take_source<const COPY: usize>(source: &[u8], dest: &mut [u8], sentinel: u8) 
     let _ = progress.take_in(dest, sentinel ^ source[0]);
     let mut read: usize = 1;
     while 255 <= source.len() - read && is_clear_255(&source[read..read + 255], sentinel) {
-        read += progress.take_255(dest, &source[read..read + 255], sentinel);
+        read += progress.take_255::<COPY>(dest, &source[read..read + 255], sentinel);
     }
     let end = read + before_sentinel(&source[read..], sentinel);
     while read < end {

@@ -125,7 +125,7 @@ fn decode_long_in_place<const COPY: usize>(
     let _ = progress.take_in(buf, code);
     let mut read: usize = 1;
     while 255 <= buf.len() - read && is_clear_255(&buf[read..read + 255], sentinel) {
-        read += progress.take_255_within(buf, read, sentinel);
+        read += progress.take_255_within::<COPY>(buf, read, sentinel);
     }
     let end = read + before_many(&buf[read..], sentinel);
     while read < end {

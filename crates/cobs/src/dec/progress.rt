@@ -198,9 +198,15 @@ impl Progress {
     }
 
     // The same of a code, which is known to be one where no block is open, and as many bytes behind it as a full block has. That
-    // of a full block is told apart, so that what is kept between two of them is known too.
+    // of a full block is told apart, so that what is kept between two of them is known too. It is compiled once for each caller, into
+    // which it goes.
     #[inline(always)]
-    pub(crate) fn take_255(&mut self, buffer: &mut [u8], bytes: &[u8], sentinel: u8) -> usize
+    pub(crate) fn take_255<const COPY: usize>(
+        &mut self,
+        buffer: &mut [u8],
+        bytes: &[u8],
+        sentinel: u8,
+    ) -> usize
         requires long { length bytes.now ≡ 255 }
         requires room { self.old.len + length bytes.now ≤ length buffer.old }
         requires clear { (k : ℕ) → k < length bytes.now → slice_index bytes.now k ≢ sentinel }
@@ -323,9 +329,15 @@ impl Progress {
     }
 
     // The same of a code, which is known to be one where no block is open, and as many bytes behind it as a full block has. That
-    // of a full block is told apart, so that what is kept between two of them is known too.
+    // of a full block is told apart, so that what is kept between two of them is known too. It is compiled once for each caller, into
+    // which it goes.
     #[inline(always)]
-    pub(crate) fn take_255_within(&mut self, buffer: &mut [u8], read: usize, sentinel: u8) -> usize
+    pub(crate) fn take_255_within<const COPY: usize>(
+        &mut self,
+        buffer: &mut [u8],
+        read: usize,
+        sentinel: u8,
+    ) -> usize
         requires begun { (p : List ℕ) × HasStreamed self.old p }
         requires inside { read + 255 ≤ length buffer.old }
         requires behind { self.old.len ≤ read }

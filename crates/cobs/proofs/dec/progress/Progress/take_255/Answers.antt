@@ -20,21 +20,21 @@ coded : (key code : ℕ) (bytes : List ℕ) → 0 < length bytes → bit_xor key
 coded key code bytes some e = ap (λ b. code ∷ masked key b) (all bytes) ∙ ap (λ b. b ∷ masked key (drop 1 bytes)) (sym e) ∙ sym (code_first key bytes some)
 
 pub take_coded-requires-clause-clear : goal.take_coded-requires-clause-clear
-take_coded-requires-clause-clear c = none c.args.sentinel c.args.bytes.now c.requires.clear
+take_coded-requires-clause-clear g c = none c.args.sentinel c.args.bytes.now c.requires.clear
 
 pub take_coded-requires-else-code-clause-clear : goal.take_coded-requires-else-code-clause-clear
-take_coded-requires-else-code-clause-clear c = none c.args.sentinel c.args.bytes.now c.requires.clear
+take_coded-requires-else-code-clause-clear g c = none c.args.sentinel c.args.bytes.now c.requires.clear
 
 pub take_coded-requires-else-code-clause-code : goal.take_coded-requires-else-code-clause-code
-take_coded-requires-else-code-clause-code c =
+take_coded-requires-else-code-clause-code g c =
     masked_positive c.args.sentinel (get_or c.args.bytes.now 0 0) (c.requires.clear 0 (omega (arith, c.requires.long)))
 
 pub returns-then-code-clause-front : goal.returns-then-code-clause-front
-returns-then-code-clause-front c p s =
+returns-then-code-clause-front g c p s =
     subst (λ b. TakesFront p b c.args.buffer.now c.take_coded.result c.take_coded.new.self c.take_coded.new.buffer)
     (coded c.args.sentinel 255 c.args.bytes.now (omega (arith, c.requires.long)) c.if-code.true) (c.take_coded.ensures.front p s)
 
 pub returns-else-code-clause-front : goal.returns-else-code-clause-front
-returns-else-code-clause-front c p s =
+returns-else-code-clause-front g c p s =
     subst (λ b. TakesFront p b c.args.buffer.now c.take_coded-else-code.result c.take_coded-else-code.new.self c.take_coded-else-code.new.buffer)
     (coded c.args.sentinel _ c.args.bytes.now (omega (arith, c.requires.long)) refl) (c.take_coded-else-code.ensures.front p s)
