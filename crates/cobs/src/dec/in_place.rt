@@ -1,5 +1,5 @@
 //! A buffer whose bytes are decoded over themselves.
-ghost use Rattle.std.specs.Prelude.{bit_xor, ◌≡◌, ◌≢◌, ℕ, ◌<◌, ◌≤◌, List, [], length, take, drop, slice_index, IfOk, OnErr, IfSome, IsNone};
+ghost use Rattle.std.specs.Prelude.{bit_xor, ◌≡◌, ◌≢◌, ℕ, ◌<◌, ◌≤◌, List, [], length, take, drop, slice_index, IfOk, OnErr};
 ghost use Rattle.cobs.specs.Frames.{Frame, part};
 ghost use Rattle.cobs.specs.Reports.{frame_size};
 ghost use Rattle.cobs.specs.InPlace.{stretch, in_place, in_place_length, overwritten};
@@ -82,31 +82,6 @@ fn near_end(bytes: &[u8], sentinel: u8) -> usize
     before_by_64(&bytes[..bytes.len().min(256)], sentinel)
 }
 
-// As `decode_in_place_report_with_sentinel`, where the frame is a short one; else nothing.
-#[inline(always)]
-fn decode_near_in_place(buf: &mut [u8], sentinel: u8) -> Option<Result<DecodeReport, DecodeError>>
-    ensures answer { IfSome result (λ r. r ≡ in_place (stretch (masked sentinel buf.old))) }
-    ensures buffer { IfSome result
-        (λ _. buf.new ≡ overwritten (part (stretch (masked sentinel buf.old))) buf.old) }
-    ensures unchanged { IsNone result → buf.new ≡ buf.old }
-    ensures some { IsNone result → 0 < length buf.old }
-    ensures begins { IsNone result → slice_index buf.old 0 ≢ sentinel }
-    ensures bytes { (k : ℕ) → slice_index buf.old k < 256 }
-{
-    if buf.len() <= 64 {
-        let few = before_few(buf, sentinel);
-        return Some(decode_short_in_place(buf, few, sentinel));
-    }
-    let end = near_end(buf, sentinel);
-    if end == 256 {
-        return None;
-    }
-    if 64 <= end && buf[0] == sentinel ^ 1 {
-        return Some(apart(decode_row_in_place(buf, end, sentinel)));
-    }
-    Some(decode_short_in_place(buf, end, sentinel))
-}
-
 // As `decode_in_place_report_with_sentinel`, of a buffer that doesn't begin with the sentinel: 255 bytes are searched and moved at
 // a time. It is compiled once for each number: one copy is for the sentinel zero alone, where no byte is XORed.
 #[inline(never)]
@@ -135,17 +110,25 @@ fn decode_long_in_place<const COPY: usize>(
     with_parsed(answer_behind(state, len), read)
 }
 
-// As `decode_in_place_report_with_sentinel`, by the copy of that number.
+// As `decode_in_place_report_with_sentinel`, by the copy of that number. A short frame is searched for its end, and then moved.
 #[inline(always)]
 fn decode_by<const COPY: usize>(buf: &mut [u8], sentinel: u8) -> Result<DecodeReport, DecodeError>
     ensures answer { result ≡ in_place (stretch (masked sentinel buf.old)) }
     ensures buffer { buf.new ≡ overwritten (part (stretch (masked sentinel buf.old))) buf.old }
     ensures bytes { (k : ℕ) → slice_index buf.old k < 256 }
 {
-    if let Some(answer) = decode_near_in_place(buf, sentinel) {
-        return answer;
+    if buf.len() <= 64 {
+        let few = before_few(buf, sentinel);
+        return decode_short_in_place(buf, few, sentinel);
     }
-    apart(decode_long_in_place::<COPY>(buf, sentinel))
+    let end = near_end(buf, sentinel);
+    if end == 256 {
+        return apart(decode_long_in_place::<COPY>(buf, sentinel));
+    }
+    if 64 <= end && buf[0] == sentinel ^ 1 {
+        return apart(decode_row_in_place(buf, end, sentinel));
+    }
+    decode_short_in_place(buf, end, sentinel)
 }
 
 // The same, where the sentinel may well be zero.
