@@ -46,3 +46,6 @@ returns g c =
           let all = append_assoc m done.0 c.loop-rest.rest.now ∙ ap (λ b. m ++ b) (sym done.1) in
           rw c.loop-rest.invariant.end at (rw all at (last.coding (m ++ done.0) (done.2 m o)));
     }
+
+pub put_64-code-requires-clause-long : goal.put_64-code-requires-clause-long
+put_64-code-requires-clause-long g c = omega (arith, c.split_at.ensures.front_len)
