@@ -214,21 +214,16 @@ lanes_long bytes at long l = length-take-le 16 (drop at bytes) (omega (arith, le
 pub masked_lanes : (s at : ℕ) (bytes : List ℕ) → masked s (take 16 (drop at bytes)) ≡ take 16 (drop at (masked s bytes))
 masked_lanes s at bytes = sym (ap (take 16) (masked_drop s at bytes) ∙ masked_take s 16 (drop at bytes))
 
--- the least lanes of four vectors, from the lesser ones of two and two
-pub least_of_four : (a b c d f g m a' b' c' d' : List ℕ) → a ≡ a' → b ≡ b' → c ≡ c' → d ≡ d' → length a ≡ 16 → length c ≡ 16
-    → length f ≡ length a → ((k : ℕ) → k < length a → get_or f k 0 ≤ get_or a k 0) → ((k : ℕ) → k < length a → get_or f k 0 ≤ get_or b k 0)
-    → ((k : ℕ) → k < length c → get_or g k 0 ≤ get_or c k 0) → ((k : ℕ) → k < length c → get_or g k 0 ≤ get_or d k 0)
-    → ((k : ℕ) → k < length f → get_or m k 0 ≤ get_or f k 0) → ((k : ℕ) → k < length f → get_or m k 0 ≤ get_or g k 0)
+-- the least lanes of four vectors that are known
+pub least_of_known : (m a b c d a' b' c' d' : List ℕ) → a ≡ a' → b ≡ b' → c ≡ c' → d ≡ d'
+    → ((j : ℕ) → j < 16 → (get_or m j 0 ≤ get_or a j 0) × (get_or m j 0 ≤ get_or b j 0) × (get_or m j 0 ≤ get_or c j 0) × (get_or m j 0 ≤ get_or d j 0))
     → (j : ℕ) → j < 16 → (get_or m j 0 ≤ get_or a' j 0) × (get_or m j 0 ≤ get_or b' j 0) × (get_or m j 0 ≤ get_or c' j 0) × (get_or m j 0 ≤ get_or d' j 0)
-least_of_four a b c d f g m a' b' c' d' ea eb ec ed la lc lf fa fb gc gd mf mg j q =
-    let x : j < length a = omega (arith, la, q) in
-    let y : j < length c = omega (arith, lc, q) in
-    let z : j < length f = omega (arith, lf, x) in (
-      omega (arith, mf j z, fa j x, ap (λ v. get_or v j 0) ea),
-      omega (arith, mf j z, fb j x, ap (λ v. get_or v j 0) eb),
-      omega (arith, mg j z, gc j y, ap (λ v. get_or v j 0) ec),
-      omega (arith, mg j z, gd j y, ap (λ v. get_or v j 0) ed),
-    )
+least_of_known m a b c d a' b' c' d' ea eb ec ed h j q = (
+  subst (λ v. get_or m j 0 ≤ get_or v j 0) ea (h j q).0,
+  subst (λ v. get_or m j 0 ≤ get_or v j 0) eb (h j q).1,
+  subst (λ v. get_or m j 0 ≤ get_or v j 0) ec (h j q).2,
+  subst (λ v. get_or m j 0 ≤ get_or v j 0) ed (h j q).3,
+)
 
 -- 64 bytes of which the least lanes are no less than others that aren't zero
 pub all_clear : (bytes lanes least : List ℕ) → length bytes ≡ 64 → ((j : ℕ) → j < 16 → 0 < get_or least j 0) → ((j : ℕ) → j < 16 → get_or least j 0 ≤ get_or lanes j 0)

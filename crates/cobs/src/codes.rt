@@ -210,37 +210,10 @@ pub(crate) fn put_codes_standing(
     put_codes_marked(dest, code_at, from, n, marks, sentinel)
 }
 
-// Copies 64 bytes into the open block and writes a code at each zero of them. Answers where the last code is to be.
+// Copies 64 bytes into the open block and writes a code at each zero of them. Answers where the last code is to be. For the number 0
+// they are marked only where one of them may be zero; else, where zeros are likely, at once, by the loads that are copied.
 #[inline(always)]
-fn put_64(dest: &mut [u8], code_at: usize, from: usize, bytes: &[u8], sentinel: u8) -> usize
-    requires block { InBlock dest.old code_at from bytes.now }
-    requires long { length bytes.now ≡ 64 }
-    ensures { Stepped (masked sentinel dest.old) code_at from bytes.now
-        (masked sentinel dest.new) result }
-{
-    if copy_clear_64(bytes, dest, from, sentinel) {
-        code_at
-    } else {
-        put_codes_of_64(dest, code_at, from, bytes, zeros_of_64(bytes), sentinel)
-    }
-}
-
-// The same where zeros are likely: they are marked at once, by the loads that are copied.
-#[inline(always)]
-fn put_64_marked(dest: &mut [u8], code_at: usize, from: usize, bytes: &[u8], sentinel: u8) -> usize
-    requires block { InBlock dest.old code_at from bytes.now }
-    requires long { length bytes.now ≡ 64 }
-    ensures { Stepped (masked sentinel dest.old) code_at from bytes.now
-        (masked sentinel dest.new) result }
-{
-    let marks = zeros_of_64(bytes);
-    copy_64(bytes, dest, from, sentinel);
-    put_codes_of_64(dest, code_at, from, bytes, marks, sentinel)
-}
-
-// The same by the first way for the number 0, else by the second.
-#[inline(always)]
-fn put_64_by<const WAY: usize>(
+fn put_64<const WAY: usize>(
     dest: &mut [u8],
     code_at: usize,
     from: usize,
@@ -253,10 +226,14 @@ fn put_64_by<const WAY: usize>(
         (masked sentinel dest.new) result }
 {
     if WAY == 0 {
-        put_64(dest, code_at, from, bytes, sentinel)
-    } else {
-        put_64_marked(dest, code_at, from, bytes, sentinel)
+        if copy_clear_64(bytes, dest, from, sentinel) {
+            return code_at;
+        }
+        return put_codes_of_64(dest, code_at, from, bytes, zeros_of_64(bytes), sentinel);
     }
+    let marks = zeros_of_64(bytes);
+    copy_64(bytes, dest, from, sentinel);
+    put_codes_of_64(dest, code_at, from, bytes, marks, sentinel)
 }
 
 // The same of at most 64 bytes.
@@ -295,7 +272,7 @@ fn put_bytes<const WAY: usize>(
     let mut rest = bytes;
     while 64 < rest.len() {
         let (front, after) = rest.split_at(64);
-        code = put_64_by::<WAY>(dest, code, at, front, sentinel);
+        code = put_64::<WAY>(dest, code, at, front, sentinel);
         at += 64;
         rest = after;
     }

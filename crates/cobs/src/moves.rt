@@ -158,6 +158,20 @@ pub(crate) fn lesser(a: u8x16, b: u8x16) -> u8x16
     a.simd_min(b)
 }
 
+// The least bytes of four vectors, lane by lane.
+#[inline(always)]
+fn least_of_four(a: u8x16, b: u8x16, c: u8x16, d: u8x16) -> u8x16
+    requires { (length a ≡ 16) × (length b ≡ 16) × (length c ≡ 16) × (length d ≡ 16) }
+    ensures long { length result ≡ 16 }
+    ensures lanes { (j : ℕ) → j < 16
+        → (slice_index result j ≤ slice_index a j) × (slice_index result j ≤ slice_index b j)
+        × (slice_index result j ≤ slice_index c j) × (slice_index result j ≤ slice_index d j) }
+{
+    let first = lesser(a, b);
+    let second = lesser(c, d);
+    lesser(first, second)
+}
+
 // 16 bytes from a place on, each XORed with the sentinel.
 #[inline(always)]
 fn load_masked(bytes: &[u8], at: usize, sentinel: u8) -> u8x16
@@ -187,15 +201,11 @@ pub(crate) fn least_of_64(bytes: &[u8], sentinel: u8) -> u8x16
         × (slice_index result j ≤ slice_index (take 16 (drop 32 (masked sentinel bytes.now))) j)
         × (slice_index result j ≤ slice_index (take 16 (drop 48 (masked sentinel bytes.now))) j) }
 {
-    let first = lesser(
-        load_masked(bytes, 0, sentinel),
-        load_masked(bytes, 16, sentinel),
-    );
-    let second = lesser(
-        load_masked(bytes, 32, sentinel),
-        load_masked(bytes, 48, sentinel),
-    );
-    lesser(first, second)
+    let a = load_masked(bytes, 0, sentinel);
+    let b = load_masked(bytes, 16, sentinel);
+    let c = load_masked(bytes, 32, sentinel);
+    let d = load_masked(bytes, 48, sentinel);
+    least_of_four(a, b, c, d)
 }
 
 // Whether none of 64 bytes is the sentinel; it is only told where that is seen at once.
@@ -205,6 +215,24 @@ pub(crate) fn is_clear(bytes: &[u8], sentinel: u8) -> bool
     ensures { result ≡ true → (k : ℕ) → k < 64 → 0 < slice_index (masked sentinel bytes.now) k }
 {
     is_positive(least_of_64(bytes, sentinel))
+}
+
+// Copies 64 bytes over a buffer, from a place on, each XORed with the sentinel, by the vectors that `least_of_64` loads too: where it
+// comes first they are loaded once.
+#[inline(always)]
+fn copy_four(bytes: &[u8], buffer: &mut [u8], place: usize, sentinel: u8)
+    requires count { length bytes.now ≡ 64 }
+    requires room { place + 64 ≤ length buffer.old }
+    ensures { buffer.new ≡ written_over place (masked sentinel bytes.now) buffer.old }
+{
+    let a = load::<16>(bytes, 0);
+    let b = load::<16>(bytes, 16);
+    let c = load::<16>(bytes, 32);
+    let d = load::<16>(bytes, 48);
+    store::<16>(a, buffer, place, sentinel);
+    store::<16>(b, buffer, place + 16, sentinel);
+    store::<16>(c, buffer, place + 32, sentinel);
+    store::<16>(d, buffer, place + 48, sentinel);
 }
 
 // Copies 64 bytes over a buffer, from a place on, each XORed with the sentinel. Answers the least of them, as they were, in each of
@@ -221,17 +249,9 @@ fn copy_least(bytes: &[u8], buffer: &mut [u8], place: usize, sentinel: u8) -> u8
         × (slice_index result j ≤ slice_index (take 16 (drop 32 bytes.now)) j)
         × (slice_index result j ≤ slice_index (take 16 (drop 48 bytes.now)) j) }
 {
-    let a = load::<16>(bytes, 0);
-    let b = load::<16>(bytes, 16);
-    let c = load::<16>(bytes, 32);
-    let d = load::<16>(bytes, 48);
-    store::<16>(a, buffer, place, sentinel);
-    store::<16>(b, buffer, place + 16, sentinel);
-    store::<16>(c, buffer, place + 32, sentinel);
-    store::<16>(d, buffer, place + 48, sentinel);
-    let first = lesser(a, b);
-    let second = lesser(c, d);
-    lesser(first, second)
+    let least = least_of_64(bytes, 0);
+    copy_four(bytes, buffer, place, sentinel);
+    least
 }
 
 // Copies 64 bytes over a buffer, from a place on, each XORed with the sentinel. Answers whether none of them is zero; it is only told
@@ -258,20 +278,10 @@ pub(crate) fn copy_if_clear(bytes: &[u8], buffer: &mut [u8], place: usize, senti
         → (k : ℕ) → k < 64 → 0 < slice_index (masked sentinel bytes.now) k }
     ensures same { result ≡ false → buffer.new ≡ buffer.old }
 {
-    let a = load_masked(bytes, 0, sentinel);
-    let b = load_masked(bytes, 16, sentinel);
-    let c = load_masked(bytes, 32, sentinel);
-    let d = load_masked(bytes, 48, sentinel);
-    let first = lesser(a, b);
-    let second = lesser(c, d);
-    let least = lesser(first, second);
-    if !is_positive(least) {
+    if !is_clear(bytes, sentinel) {
         return false;
     }
-    store::<16>(a, buffer, place, 0);
-    store::<16>(b, buffer, place + 16, 0);
-    store::<16>(c, buffer, place + 32, 0);
-    store::<16>(d, buffer, place + 48, 0);
+    copy_four(bytes, buffer, place, sentinel);
     true
 }
 
@@ -288,9 +298,8 @@ pub(crate) fn copy_clear(bytes: &[u8], buffer: &mut [u8], place: usize, sentinel
     let second = copy_least(&bytes[64..128], buffer, place + 64, sentinel);
     let third = copy_least(&bytes[128..192], buffer, place + 128, sentinel);
     let fourth = copy_least(&bytes[190..254], buffer, place + 190, sentinel);
-    let front = lesser(first, second);
-    let back = lesser(third, fourth);
-    is_positive(lesser(front, back))
+    let least = least_of_four(first, second, third, fourth);
+    is_positive(least)
 }
 
 // Whether none of 255 bytes, a code and as many as a full block has, is the sentinel; it is only told where that is seen at once.
@@ -299,15 +308,11 @@ pub(crate) fn is_clear_255(bytes: &[u8], sentinel: u8) -> bool
     requires { length bytes.now ≡ 255 }
     ensures { result ≡ true → (k : ℕ) → k < 255 → 0 < slice_index (masked sentinel bytes.now) k }
 {
-    let first = lesser(
-        least_of_64(&bytes[..64], sentinel),
-        least_of_64(&bytes[63..127], sentinel),
-    );
-    let second = lesser(
-        least_of_64(&bytes[127..191], sentinel),
-        least_of_64(&bytes[191..255], sentinel),
-    );
-    is_positive(lesser(first, second))
+    let first = least_of_64(&bytes[..64], sentinel);
+    let second = least_of_64(&bytes[63..127], sentinel);
+    let third = least_of_64(&bytes[127..191], sentinel);
+    let fourth = least_of_64(&bytes[191..255], sentinel);
+    is_positive(least_of_four(first, second, third, fourth))
 }
 
 // Whether 64 bytes are this one: with all of its bits turned they then give 255.

@@ -19,7 +19,7 @@ loop-rest-preserved g c =
     let front = c.split_at.result.0.now in
     let back = c.split_at.result.1.now in
     let done = c.loop-rest.invariant.whole in
-    let step = c.put_64_by-code.ensures in
+    let step = c.put_64-code.ensures in
     let long : length front ≡ 64 = omega (arith, c.split_at.ensures.front_len) in
     let there : c.loop-rest.at + length front ≡ c.loop-rest.at + 64 = omega (arith, long) in
     record {
@@ -30,8 +30,8 @@ loop-rest-preserved g c =
       whole = (
         done.0 ++ front,
         done.1 ∙ ap (λ b. done.0 ++ b) c.split_at.ensures.by_index.0 ∙ sym (append_assoc done.0 front back),
-        λ m o. subst (λ j. Open (masked c.args.sentinel c.put_64_by-code.new.dest) c.put_64_by-code.result j (m ++ (done.0 ++ front))) there
-            (subst (λ b. Open (masked c.args.sentinel c.put_64_by-code.new.dest) c.put_64_by-code.result (c.loop-rest.at + length front) b) (append_assoc m done.0 front) (open_coded _ _ _ _ (step.coding (m ++ done.0) (done.2 m o)))),
+        λ m o. subst (λ j. Open (masked c.args.sentinel c.put_64-code.new.dest) c.put_64-code.result j (m ++ (done.0 ++ front))) there
+            (subst (λ b. Open (masked c.args.sentinel c.put_64-code.new.dest) c.put_64-code.result (c.loop-rest.at + length front) b) (append_assoc m done.0 front) (open_coded _ _ _ _ (step.coding (m ++ done.0) (done.2 m o)))),
       );
     }
 
@@ -46,3 +46,6 @@ returns g c =
           let all = append_assoc m done.0 c.loop-rest.rest.now ∙ ap (λ b. m ++ b) (sym done.1) in
           rw c.loop-rest.invariant.end at (rw all at (last.coding (m ++ done.0) (done.2 m o)));
     }
+
+pub put_64-code-requires-clause-long : goal.put_64-code-requires-clause-long
+put_64-code-requires-clause-long g c = omega (arith, c.split_at.ensures.front_len)

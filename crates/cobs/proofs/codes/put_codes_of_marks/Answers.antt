@@ -16,3 +16,9 @@ returns-else-are_all_marked c =
     subst (λ b. Coded (masked c.args.sentinel c.args.dest.now) c.args.code_at c.args.from b
     (masked c.args.sentinel c.put_codes_marked.new.dest) c.put_codes_marked.result)
     c.requires.stands c.put_codes_marked.ensures
+
+pub put_codes_of_zeros-requires-clause-block : goal.put_codes_of_zeros-requires-clause-block
+put_codes_of_zeros-requires-clause-block c = c.requires.block
+
+pub returns-then-are_all_marked : goal.returns-then-are_all_marked
+returns-then-are_all_marked c = c.put_codes_of_zeros.ensures

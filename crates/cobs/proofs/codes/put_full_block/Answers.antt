@@ -10,3 +10,9 @@ returns-clause-front c = ap (take c.args.from) c.copy_clear.ensures.copied ∙ w
 
 pub returns-clause-long : goal.returns-clause-long
 returns-clause-long c = ap length c.copy_clear.ensures.copied ∙ written_length c.args.from (masked c.args.sentinel c.args.bytes.now) c.args.dest.now (omega (arith, masked_length c.args.sentinel c.args.bytes.now, c.requires.room))
+
+pub returns-clause-copied : goal.returns-clause-copied
+returns-clause-copied c = λ _. c.copy_clear.ensures.copied
+
+pub returns-clause-clear : goal.returns-clause-clear
+returns-clause-clear c = λ t k l. c.copy_clear.ensures.clear t k (omega (arith, l))

@@ -3,7 +3,7 @@ use Rattle.std.proofs.lemmas.Bool.{cases_lt}
 use Rattle.std.proofs.lemmas.List.{length-take-le, get_or-take, get_or-drop, take_all}
 use Rattle.cobs.specs.InPlace.{written_over}
 use Rattle.cobs.specs.Sentinel.{masked}
-use Rattle.cobs.proofs.LanesLemmas.{all_clear, least_of_four}
+use Rattle.cobs.proofs.LanesLemmas.{all_clear}
 use Rattle.cobs.proofs.WrittenLemmas.{written_next}
 use Rattle.cobs.proofs.moves.copy_clear.Goals as goal
 
@@ -95,8 +95,7 @@ pub copy_least-fourth-requires-clause-count : goal.copy_least-fourth-requires-cl
 copy_least-fourth-requires-clause-count c = long 190 c.args.bytes.now c.requires.count (omega arith)
 
 pub is_positive-requires : goal.is_positive-requires
-is_positive-requires c = c.lesser.ensures.long ∙ c.lesser-front.ensures.long
-    ∙ c.copy_least-first.ensures.long
+is_positive-requires c = c.least_of_four-least.ensures.long
 
 pub returns-clause-copied : goal.returns-clause-copied
 returns-clause-copied c =
@@ -113,12 +112,6 @@ returns-clause-clear c = λ t.
     let b = c.copy_least-second in
     let d = c.copy_least-third in
     let e = c.copy_least-fourth in
-    let front = c.lesser-front in
-    let back = c.lesser-back in
-    all_parts c.args.bytes.now a.result b.result d.result e.result c.lesser.result c.requires.count
-    (c.is_positive.ensures t)
-    (least_of_four a.result b.result d.result e.result front.result back.result c.lesser.result
-    a.result b.result d.result e.result refl refl refl refl a.ensures.long d.ensures.long
-    front.ensures.long front.ensures.first front.ensures.second back.ensures.first
-    back.ensures.second c.lesser.ensures.first c.lesser.ensures.second)
+    all_parts c.args.bytes.now a.result b.result d.result e.result c.least_of_four-least.result
+    c.requires.count (c.is_positive.ensures t) c.least_of_four-least.ensures.lanes
     a.ensures.lanes b.ensures.lanes d.ensures.lanes e.ensures.lanes

@@ -1,8 +1,8 @@
-use Rattle.std.proofs.Common.{◌≡◌, ◌+◌, ◌-◌, ◌<◌, ◌≤◌, ℕ, List, length, length-take, length-drop, take, drop, get_or, inl, inr, refl, sym, ap, ◌∙◌, arith}
+use Rattle.std.proofs.Common.{◌≡◌, ◌+◌, ◌-◌, ◌<◌, ◌≤◌, ℕ, List, length, length-take, length-drop, take, drop, get_or, inl, inr, sym, ap, ◌∙◌, arith}
 use Rattle.std.proofs.lemmas.Bool.{cases_lt}
 use Rattle.std.proofs.lemmas.List.{length-take-le, get_or-take, get_or-drop}
 use Rattle.cobs.specs.Sentinel.{masked}
-use Rattle.cobs.proofs.LanesLemmas.{all_clear, least_of_four}
+use Rattle.cobs.proofs.LanesLemmas.{all_clear}
 use Rattle.cobs.proofs.MaskingLemmas.{masked_length, masked_take, masked_drop}
 use Rattle.cobs.proofs.moves.is_clear_255.Goals as goal
 
@@ -66,34 +66,27 @@ pub slice_bounds-least_of_64-end : goal.slice_bounds-least_of_64-end
 slice_bounds-least_of_64-end c =
     sym (length-take-le 64 c.args.bytes.now (omega (arith, c.requires)))
 
-pub least_of_64-requires : goal.least_of_64-requires
-least_of_64-requires c = long 0 c.args.bytes.now c.requires (omega arith)
+pub least_of_64-first-requires : goal.least_of_64-first-requires
+least_of_64-first-requires c = long 0 c.args.bytes.now c.requires (omega arith)
 
-pub least_of_64-requires-2 : goal.least_of_64-requires-2
-least_of_64-requires-2 c = long 63 c.args.bytes.now c.requires (omega arith)
+pub least_of_64-second-requires : goal.least_of_64-second-requires
+least_of_64-second-requires c = long 63 c.args.bytes.now c.requires (omega arith)
 
-pub least_of_64-requires-3 : goal.least_of_64-requires-3
-least_of_64-requires-3 c = long 127 c.args.bytes.now c.requires (omega arith)
+pub least_of_64-third-requires : goal.least_of_64-third-requires
+least_of_64-third-requires c = long 127 c.args.bytes.now c.requires (omega arith)
 
-pub least_of_64-requires-4 : goal.least_of_64-requires-4
-least_of_64-requires-4 c = long 191 c.args.bytes.now c.requires (omega arith)
+pub least_of_64-fourth-requires : goal.least_of_64-fourth-requires
+least_of_64-fourth-requires c = long 191 c.args.bytes.now c.requires (omega arith)
 
 pub is_positive-requires : goal.is_positive-requires
-is_positive-requires c = c.lesser.ensures.long ∙ c.lesser-first.ensures.long
-    ∙ c.least_of_64.ensures.long
+is_positive-requires c = c.least_of_four.ensures.long
 
 pub returns : goal.returns
 returns c = λ t.
-    let a = c.least_of_64 in
-    let b = c.least_of_64-2 in
-    let d = c.least_of_64-3 in
-    let e = c.least_of_64-4 in
-    let first = c.lesser-first in
-    let second = c.lesser-second in
-    all_parts c.args.sentinel c.args.bytes.now a.result b.result d.result e.result c.lesser.result
-    c.requires (c.is_positive.ensures t)
-    (least_of_four a.result b.result d.result e.result first.result second.result c.lesser.result
-    a.result b.result d.result e.result refl refl refl refl a.ensures.long d.ensures.long
-    first.ensures.long first.ensures.first first.ensures.second second.ensures.first
-    second.ensures.second c.lesser.ensures.first c.lesser.ensures.second)
+    let a = c.least_of_64-first in
+    let b = c.least_of_64-second in
+    let d = c.least_of_64-third in
+    let e = c.least_of_64-fourth in
+    all_parts c.args.sentinel c.args.bytes.now a.result b.result d.result e.result
+    c.least_of_four.result c.requires (c.is_positive.ensures t) c.least_of_four.ensures.lanes
     a.ensures.lanes b.ensures.lanes d.ensures.lanes e.ensures.lanes

@@ -42,3 +42,18 @@ returns-then-bytes-dest-clause-pushed c =
     let zero : c.args.at.code_at ≡ 0 = omega (arith, c.requires.laid.begins, c.if-at-eq1.true) in
     (c.put_first.ensures.holds (pushed (masked c.args.sentinel c.args.dest.now) 1) (rw (zero, c.if-at-eq1.true) at c.requires.goes_on)).1
     ∙ ap (λ n. pushed (masked c.args.sentinel c.args.dest.now) n ++ c.args.bytes.now) (sym c.if-at-eq1.true)
+
+pub returns-then-end-at-clause-pushed : goal.returns-then-end-at-clause-pushed
+returns-then-end-at-clause-pushed c = (c.put_few.ensures.holds (pushed (masked c.args.sentinel c.args.dest.now) c.args.at.len) c.requires.goes_on).1
+
+pub put_few-requires-clause-laid : goal.put_few-requires-clause-laid
+put_few-requires-clause-laid c = c.requires.laid
+
+pub returns-then-put_blocks_for-clause-holds : goal.returns-then-put_blocks_for-clause-holds
+returns-then-put_blocks_for-clause-holds c = c.put_blocks_for.ensures.holds c.if-put_blocks_for.true
+
+pub returns-then-put_blocks_for-clause-pushed : goal.returns-then-put_blocks_for-clause-pushed
+returns-then-put_blocks_for-clause-pushed c = c.put_blocks_for.ensures.pushed c.if-put_blocks_for.true
+
+pub returns-else-put_blocks_for-clause-none : goal.returns-else-put_blocks_for-clause-none
+returns-else-put_blocks_for-clause-none c = c.put_blocks_for.ensures.none c.if-put_blocks_for.false

@@ -7,3 +7,9 @@ loop-rest-preserved g c = grind (arith, common_steps)
 
 pub returns-clause-pushed : goal.returns-clause-pushed
 returns-clause-pushed g c = grind (arith, common_steps)
+
+pub returns-clause-holds : goal.returns-clause-holds
+returns-clause-holds g c = λ _. c.loop-rest.invariant.holds
+
+pub put_front-requires-clause-holds : goal.put_front-requires-clause-holds
+put_front-requires-clause-holds g c = c.loop-rest.invariant.holds

@@ -49,3 +49,17 @@ overflow_sub-dest g c = grind (arith, common_steps)
 
 pub overflow_sub-dest-else-at : goal.overflow_sub-dest-else-at
 overflow_sub-dest-else-at g c = grind (arith, common_steps)
+
+pub returns-else-dest-at-2-clause-pushed : goal.returns-else-dest-at-2-clause-pushed
+returns-else-dest-at-2-clause-pushed g c =
+    let before = masked c.args.sentinel c.args.dest.now in
+    (c.put_run-else-at.ensures.holds (pushed before c.args.at.len) c.requires.holds.goes_on).1
+
+pub put_run-requires-else-at-clause-laid : goal.put_run-requires-else-at-clause-laid
+put_run-requires-else-at-clause-laid g c = c.requires.holds.laid
+
+pub put_run-requires-else-at-clause-room : goal.put_run-requires-else-at-clause-room
+put_run-requires-else-at-clause-room g c = omega (arith, length-take c.min-n-else-at.result c.args.bytes.now)
+
+pub put_run-requires-else-at-clause-short : goal.put_run-requires-else-at-clause-short
+put_run-requires-else-at-clause-short g c = omega (arith, length-take c.min-n-else-at.result c.args.bytes.now)

@@ -20,3 +20,21 @@ returns-then-is_clear-clause-coded c =
     } in
     let same : m ≡ 64 = omega arith in
     subst (λ j. Coded (masked s buffer) c.args.code_at from (masked s (take j (drop from buffer))) (masked s buffer) c.args.code_at) same whole
+
+pub returns-then-left-lt4-clause-coded : goal.returns-then-left-lt4-clause-coded
+returns-then-left-lt4-clause-coded c = c.put_code.ensures
+
+pub returns-else-left-lt4-clause-coded : goal.returns-else-left-lt4-clause-coded
+returns-else-left-lt4-clause-coded c = c.put_codes_standing-next.ensures
+
+pub is_clear-requires : goal.is_clear-requires
+is_clear-requires c =
+    let from = c.args.from in
+    let buffer = c.args.buffer.now in
+    omega (
+      arith,
+      length-take (from + 64 - from) (drop from buffer),
+      length-drop from buffer,
+      c.requires.within,
+      c.if-left-ge64.true,
+    )

@@ -10,3 +10,9 @@ returns-in-None-clause-stands c = λ p. absurd (cc)
 
 pub returns-in-Some-clause-ok : goal.returns-in-Some-clause-ok
 returns-in-Some-clause-ok c = grind (arith, common_steps)
+
+pub returns-in-Some-clause-nothing : goal.returns-in-Some-clause-nothing
+returns-in-Some-clause-nothing c = c.put_all.ensures.nothing
+
+pub returns-in-None-clause-nothing : goal.returns-in-None-clause-nothing
+returns-in-None-clause-nothing c = c.put_all.ensures.nothing
