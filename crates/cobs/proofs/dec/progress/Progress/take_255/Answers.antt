@@ -38,3 +38,9 @@ pub returns-else-code-clause-front : goal.returns-else-code-clause-front
 returns-else-code-clause-front g c p s =
     subst (λ b. TakesFront p b c.args.buffer.now c.take_coded-else-code.result c.take_coded-else-code.new.self c.take_coded-else-code.new.buffer)
     (coded c.args.sentinel _ c.args.bytes.now (omega (arith, c.requires.long)) refl) (c.take_coded-else-code.ensures.front p s)
+
+pub returns-in_default-clause-front : goal.returns-in_default-clause-front
+returns-in_default-clause-front g c = c.take_some.ensures.front
+
+pub take_some-requires-clause-clear : goal.take_some-requires-clause-clear
+take_some-requires-clause-clear g c = c.requires.clear

@@ -5,6 +5,7 @@ use Rattle.cobs.specs.declared.dec.state.DecoderState.TheVariants.{Grab}
 use Rattle.cobs.proofs.AtOnceLemmas.{masked_within, nonzero_in, row_written, window_written, chain_written}
 use Rattle.cobs.proofs.MaskingLemmas.{masked_get, xor_twice}
 use Rattle.cobs.proofs.WindowsLemmas.{part_written}
+use Rattle.cobs.proofs.TakesLemmas.{none_front}
 use Rattle.cobs.proofs.dec.progress.Progress.take_clear.Goals as goal
 
 ones : (key n : ℕ) (piece : List ℕ) → n ≤ length piece
@@ -60,3 +61,6 @@ returns-in-GrabChain-clause-front c p s =
     (omega (arith, c.requires.room, within)) (omega (arith, c.requires.room, c.requires.some))
     (omega arith)
     c.in-GrabChain.is (omega arith) c.copy_block.ensures
+
+pub returns-in-Idle-clause-front : goal.returns-in-Idle-clause-front
+returns-in-Idle-clause-front c p s = none_front p _ _ _ s

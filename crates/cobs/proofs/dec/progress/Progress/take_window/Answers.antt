@@ -4,6 +4,7 @@ use Rattle.cobs.specs.Sentinel.{masked}
 use Rattle.cobs.specs.declared.dec.state.DecoderState.TheVariants.{Grab}
 use Rattle.cobs.proofs.AtOnceLemmas.{masked_within, in_front, ones_in, none_in, nonzero_in, row_written, window_written, chain_written}
 use Rattle.cobs.proofs.WindowsLemmas.{part_written}
+use Rattle.cobs.proofs.TakesLemmas.{none_front}
 use Rattle.cobs.proofs.dec.progress.Progress.take_window.Goals as goal
 
 -- codes 01
@@ -78,3 +79,9 @@ zero_over-requires-clause-room c =
       (in_front c.same_by_64-ones.result c.min.result c.args.piece.now
           c.same_by_64-ones.ensures.within).0,
     )
+
+pub returns-in-Idle-clause-front : goal.returns-in-Idle-clause-front
+returns-in-Idle-clause-front c p s = none_front p _ _ _ s
+
+pub returns-then-buffer-len-clause-front : goal.returns-then-buffer-len-clause-front
+returns-then-buffer-len-clause-front c p s = none_front p _ _ _ s

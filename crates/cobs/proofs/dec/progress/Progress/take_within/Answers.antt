@@ -9,6 +9,7 @@ use Rattle.cobs.specs.declared.dec.state.DecoderState.TheVariants.{Grab}
 use Rattle.cobs.proofs.MaskingLemmas.{xor_twice, masked_length}
 use Rattle.cobs.proofs.WindowsLemmas.{at_grab, at_chain, of_ones, front_written, run_written, part_written}
 use Rattle.cobs.proofs.WithinLemmas.{written_part, written_anew, ahead_within, ahead_front, ahead_nonzero, ahead_byte}
+use Rattle.cobs.proofs.TakesLemmas.{none_front}
 use Rattle.cobs.proofs.dec.progress.Progress.take_within.Goals as goal
 
 -- codes 01
@@ -93,3 +94,6 @@ returns-in-GrabChain-clause-front c p s =
     within (omega arith) (ahead_nonzero key old read end n few c.requires.inside c.requires.some c.requires.clear) (omega (arith, c.requires.inside, c.requires.behind, few, c.requires.some)) (omega (arith, c.requires.inside, c.requires.behind, c.requires.some)) (omega arith) (omega arith)
     (c.move_down-in-GrabChain.ensures ∙ ap (λ b. written_over c.args.self.now.len b old) (ahead_front key old read end n few c.requires.inside c.requires.some c.requires.clear ∙ sym (take-take n n bytes (omega arith))))
     refl
+
+pub returns-in-Idle-clause-front : goal.returns-in-Idle-clause-front
+returns-in-Idle-clause-front c p s = none_front p _ _ _ s
