@@ -1,5 +1,6 @@
 use Rattle.std.proofs.lemmas.Grind.{common_steps}
-use Rattle.std.proofs.Common.{◌≡◌, ℕ, ◌+◌, ◌-◌, ◌^◌, min, List, [], ◌∷◌, ◌++◌, sym, ◌∙◌, ap, arith, Some, None}
+use Rattle.std.proofs.lemmas.List.{drop-set-lt}
+use Rattle.std.proofs.Common.{◌≡◌, ℕ, ◌+◌, ◌-◌, ◌^◌, min, List, [], ◌∷◌, ◌++◌, refl, sym, ◌∙◌, ap, arith, Some, None}
 use Rattle.cobs.specs.Feeding.{told_by, fed}
 use Rattle.cobs.specs.Streaming.{HasStreamed}
 use Rattle.cobs.proofs.FeedsLemmas.{stays, counts, goes_on, runs_over}
@@ -38,3 +39,19 @@ returns-else-place-buffer-clause-answer c p s =
 
 pub returns-else-place-buffer-clause-buffer : goal.returns-else-place-buffer-clause-buffer
 returns-else-place-buffer-clause-buffer c = grind (arith, common_steps)
+
+pub returns-in_default-clause-buffer : goal.returns-in_default-clause-buffer
+returns-in_default-clause-buffer c = λ p s. (stays c.args.buffer.now c.args.self.now p c.args.byte c.requires (omega (arith, c.ranges.byte.fits)) s (nothing c)).2
+
+pub returns-in_default-clause-rest : goal.returns-in_default-clause-rest
+returns-in_default-clause-rest c = refl
+
+pub returns-then-place-buffer-clause-buffer : goal.returns-then-place-buffer-clause-buffer
+returns-then-place-buffer-clause-buffer c p s =
+    (goes_on c.args.buffer.now c.args.self.now p c.args.byte c.requires (omega (arith, c.ranges.byte.fits)) s c.in-Some.told (something (goal.at.returns-then-place-buffer-clause-buffer c).In-Some) c.if-place-buffer.true (omega arith)).1
+
+pub returns-then-place-buffer-clause-rest : goal.returns-then-place-buffer-clause-rest
+returns-then-place-buffer-clause-rest c = drop-set-lt (c.args.self.now.len + 1) c.args.buffer.now c.args.self.now.len c.in-Some.told (omega arith)
+
+pub returns-else-place-buffer-clause-rest : goal.returns-else-place-buffer-clause-rest
+returns-else-place-buffer-clause-rest c = refl

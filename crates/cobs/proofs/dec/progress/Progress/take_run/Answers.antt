@@ -4,6 +4,7 @@ use Rattle.cobs.specs.InPlace.{written_over}
 use Rattle.cobs.specs.Sentinel.{masked}
 use Rattle.cobs.proofs.MaskingLemmas.{masked_length, masked_take}
 use Rattle.cobs.proofs.SourcesLemmas.{nonzero_front}
+use Rattle.cobs.proofs.TakesLemmas.{none_front}
 use Rattle.cobs.proofs.WindowsLemmas.{inside, run_written}
 use Rattle.cobs.proofs.dec.progress.Progress.take_run.Goals as goal
 
@@ -23,3 +24,6 @@ returns-clause-front c p s =
     run_written p (masked key piece) c.args.buffer.now c.copy_run-n.new.buffer c.args.self.now n most left block.owed _ s block.is block.some
     (omega (arith, inside, masked_length key piece)) few (nonzero_front key n most piece inside few c.copy_run-n.ensures.none) (omega arith) (omega arith) (omega arith) (omega arith)
     (c.copy_run-n.ensures.buffer ∙ ap (λ b. written_over len (take n b) c.args.buffer.now) (sym (masked_take key most piece))) (c.behind-self.ensures ∙ block.later n)
+
+pub returns-then-left-eq0-clause-front : goal.returns-then-left-eq0-clause-front
+returns-then-left-eq0-clause-front c p s = none_front p _ _ _ s
