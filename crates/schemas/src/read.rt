@@ -1,5 +1,5 @@
 //! Reading a value by a schema.
-ghost use Rattle.std.specs.Prelude.{true};
+ghost use Rattle.std.specs.Prelude.{◌≡◌, ◌<◌, [], ◌∷◌, ◌++◌, true, OnOk, vec_len, vec_capacity};
 ghost use Rattle.postcard_tree.specs.Reading.{Spelled};
 ghost use Rattle.postcard_de.specs.Deserializer.{OutcomeOf};
 ghost use Rattle.schemas.specs.declared.node.Node.TheVariants as kind;
@@ -11,6 +11,10 @@ use postcard_de::de_flavors::Flavor;
 use postcard_de::{DeserializeOwned, Deserializer};
 use postcard_tree::fixint::{BE, LE};
 use postcard_tree::{Error, Result};
+use std::alloc::AllocError;
+
+/// For how many values a list asks room at the first of them.
+const FEW: u64 = 32;
 
 fn read_bool<F: Flavor>(d: &mut Deserializer<F>) -> Result<Value>
     ensures { ReadsLeaf F.source kind.Bool d.old d.new result }
@@ -185,7 +189,35 @@ fn read_option<F: Flavor>(
     }
 }
 
-// Each element is read before room for it is asked, so the count alone asks for none.
+// Makes room in a full list for one value more: in an empty one for as many as are to come, but for a few at most, and from there
+// for twice as many as it holds.
+#[cold]
+#[inline(never)]
+fn make_room(items: &mut Vec<Value>, count: u64) -> std::result::Result<(), AllocError>
+    ensures items { items.new.items ≡ items.old.items }
+    ensures room { OnOk result (vec_len items.new < vec_capacity items.new) }
+{
+    let more = if items.is_empty() {
+        count.clamp(1, FEW)
+    } else {
+        1
+    };
+    items.reserve(more as usize)
+}
+
+// Appends a value that was read, where so many come in all: so a count alone asks for no room, and a short list asks once.
+#[inline(always)]
+fn append(items: &mut Vec<Value>, item: Value, count: u64) -> std::result::Result<(), AllocError>
+    ensures { OnOk result (items.new.items ≡ items.old.items ++ item ∷ []) }
+{
+    if items.len() == items.capacity() {
+        make_room(items, count)?;
+    }
+    items.push_reserved(item);
+    Ok(())
+}
+
+// Each element is read before room for it is asked.
 #[cycle(read)]
 fn read_list<F: Flavor>(
     d: &mut Deserializer<F>,
@@ -199,7 +231,7 @@ fn read_list<F: Flavor>(
     let mut items = Vec::new(d.allocator());
     for _ in 0..count {
         let item = read_value(d, nodes, place, depth)?;
-        if items.push(item).is_err() {
+        if append(&mut items, item, count).is_err() {
             return Err(Error::OutOfMemory);
         }
     }
@@ -224,7 +256,7 @@ fn read_list_up_to<F: Flavor>(
         if i == most {
             return Err(Error::SerdeDeCustom);
         }
-        if items.push(item).is_err() {
+        if append(&mut items, item, count).is_err() {
             return Err(Error::OutOfMemory);
         }
     }
@@ -244,7 +276,7 @@ fn read_array<F: Flavor>(
     let mut items = Vec::new(d.allocator());
     for _ in 0..count {
         let item = read_value(d, nodes, place, depth)?;
-        if items.push(item).is_err() {
+        if append(&mut items, item, count).is_err() {
             return Err(Error::OutOfMemory);
         }
     }
@@ -263,7 +295,7 @@ fn read_fields<F: Flavor>(
     let mut items = Vec::new(d.allocator());
     for i in 0..fields.len() {
         let item = read_value(d, nodes, fields[i], depth)?;
-        if items.push(item).is_err() {
+        if append(&mut items, item, fields.len() as u64).is_err() {
             return Err(Error::OutOfMemory);
         }
     }

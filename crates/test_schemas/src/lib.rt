@@ -21,4 +21,6 @@ mod saying;
 #[cfg(test)]
 mod schemas_of;
 #[cfg(test)]
+mod sizes;
+#[cfg(test)]
 mod table;

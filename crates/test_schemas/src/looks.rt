@@ -26,8 +26,8 @@ enum Chain { End, More(u32, Box<Chain>) }
 // A type, the digits of a value's bytes, and its JSON.
 type Row = (&'static str, &'static str, &'static str);
 
-// A schema whose first type holds this one alone, so that its values look the same.
-fn schema_of(alloc: Global, name: &str) -> Option<Schema> {
+/// A schema whose first type holds this one alone, so that its values look the same.
+pub(crate) fn schema_of(alloc: Global, name: &str) -> Option<Schema> {
     match format!(in alloc; "// message\nstruct Whole({name});{BESIDE}") {
         Ok(text) => read_schema(alloc, text.as_str()).ok(),
         Err(_) => None,

@@ -17,7 +17,6 @@ use link::{Answer, NoMemory, Ordinary, OwnedReceiver, Pushed, Strict};
 use schemas::Value;
 use std::alloc::{AllocError, Global};
 use std::cell::Cell;
-use std::mem;
 
 /// How many bytes a stretch between sentinels may have.
 pub const LIMIT: usize = 65536;
@@ -48,6 +47,8 @@ pub struct LinesOfFrames<'a> {
     receiver: OwnedReceiver,
     /// Whether the message that is looked at nests deeper than it may.
     is_deep: Cell<bool>,
+    /// Room for the line of a value.
+    room: Cell<Vec<u8>>,
     /// How many bytes are still to be passed over.
     skip: u64,
     /// How many bytes of the stream came, those that were passed over too, and how many stand before what is begun of a stretch.
@@ -68,6 +69,7 @@ impl<'a> LinesOfFrames<'a> {
                 reading,
                 receiver,
                 is_deep: Cell::new(false),
+                room: Cell::new(Vec::new(reading.alloc)),
                 skip: from,
                 at: from,
                 is_good: true,
@@ -92,7 +94,7 @@ impl<'a> LinesOfFrames<'a> {
         let last = self.at.saturating_sub(1);
         let from = last.saturating_sub(stretch as u64);
         match answer {
-            Answer::Value(value) => put_value_line(self.reading, value, lines),
+            Answer::Value(value) => put_value_line(self.reading, value, &self.room, lines),
             Answer::Damaged => {
                 if self.is_deep.replace(false) {
                     put_stretch_line(self.reading.alloc, "too_deep", from, last, lines)
@@ -239,17 +241,23 @@ fn is_value(answer: &Answer<Value>) -> bool
     matches!(answer, Answer::Value(_))
 }
 
-/// Appends the line of a value.
+/// Appends the line of a value, or nothing. It is made in a room of its own, from its beginning: a writer clears as many bytes
+/// ahead as it has before it, up to 16 KiB, and behind the lines of a whole read that took longer than writing the line.
 fn put_value_line(
     reading: Reading<'_>,
     value: &Value,
+    room: &Cell<Vec<u8>>,
     lines: &mut Vec<u8>,
 ) -> Result<(), AllocError> {
-    let mut out = Writer::new(mem::replace(lines, Vec::new(reading.alloc)));
-    let said = put_value(&mut out, reading, value);
-    *lines = out.into_inner();
-    said?;
-    lines.extend_from_slice(b"\n")
+    let mut line = room.replace(Vec::new(reading.alloc));
+    line.clear();
+    let mut out = Writer::new(line);
+    put_value(&mut out, reading, value)?;
+    let mut line = out.into_inner();
+    line.push(b'\n')?;
+    lines.extend_from_slice(&line)?;
+    room.replace(line);
+    Ok(())
 }
 
 /// Appends the line of a stretch that is no value: what it is, and which bytes of the stream it has.

@@ -23,7 +23,7 @@ read_list-returns-then-is_err g t c = let m = parts_more (λ u v j. j.0) (parts_
 pub read_list-loop-preserved : goal.read_list-loop-preserved
 read_list-loop-preserved g t c =
     let m = parts_more (λ u v j. j.0) (parts_at _ _ c.loop-test.true c.loop.invariant) c.in_ok-item.ensures in
-    let e : c.push.new.self.items ≡ c.loop.items.items ++ c.in_ok-item.item ∷ [] = grind (arith, common_steps) in
+    let e : c.append.new.items.items ≡ c.loop.items.items ++ c.in_ok-item.item ∷ [] = grind (arith, common_steps) in
     rw e m
 
 pub read_list-returns : goal.read_list-returns
@@ -59,7 +59,7 @@ read_list_up_to-loop-i-preserved g t c =
     let i = c.loop-i.invariant in
     let below : c.loop-i.i < min c.in_ok-count.count (c.args.most + 1) = omega (arith, i.within) in
     let m = parts_more (λ u v j. j.0) (parts_at _ _ below i.parts) c.in_ok-item.ensures in
-    let e : c.push.new.self.items ≡ c.loop-i.items.items ++ c.in_ok-item.item ∷ [] = grind (arith, common_steps) in
+    let e : c.append.new.items.items ≡ c.loop-i.items.items ++ c.in_ok-item.item ∷ [] = grind (arith, common_steps) in
     record { parts = rw e m; within = omega (arith, i.within) }
 
 pub read_list_up_to-returns : goal.read_list_up_to-returns
@@ -82,7 +82,7 @@ read_array-returns-then-is_err g t c = let m = parts_more (λ u v j. j.0) (parts
 pub read_array-loop-preserved : goal.read_array-loop-preserved
 read_array-loop-preserved g t c =
     let m = parts_more (λ u v j. j.0) (parts_at _ _ c.loop-test.true c.loop.invariant) c.in_ok-item.ensures in
-    let e : c.push.new.self.items ≡ c.loop.items.items ++ c.in_ok-item.item ∷ [] = grind (arith, common_steps) in
+    let e : c.append.new.items.items ≡ c.loop.items.items ++ c.in_ok-item.item ∷ [] = grind (arith, common_steps) in
     rw e m
 
 pub read_array-returns : goal.read_array-returns
@@ -102,7 +102,7 @@ read_fields-returns-then-is_err g t c = fields_no_memory (fields_more (fields_at
 pub read_fields-loop-i-preserved : goal.read_fields-loop-i-preserved
 read_fields-loop-i-preserved g t c =
     let m = fields_more (fields_at c.loop-i.i (omega arith) c.loop-i.invariant) c.in_ok-item.ensures in
-    let e : c.push.new.self.items ≡ c.loop-i.items.items ++ c.in_ok-item.item ∷ [] = grind (arith, common_steps) in
+    let e : c.append.new.items.items ≡ c.loop-i.items.items ++ c.in_ok-item.item ∷ [] = grind (arith, common_steps) in
     rw e m
 
 pub read_fields-returns : goal.read_fields-returns
