@@ -97,3 +97,26 @@ fn is_marked_for(word: &str) -> bool {
         || word.eq_ignore_ascii_case("MaxSize")
         || word.eq_ignore_ascii_case("Exact")
 }
+
+/// The way in which a comment says that the field behind it is sent, as `// with = "postcard::fixint::le"` does.
+pub fn way_of(comment: &str) -> Option<&str> {
+    let way = comment.strip_prefix("// with = ")?;
+    let (_, text) = way.split_once('"')?;
+    match text.split_once('"') {
+        Some((_, "")) if way.starts_with('"') => Some(way),
+        _ => None,
+    }
+}
+
+/// Whether a comment is almost one that says how a field is sent.
+pub fn is_almost_way(comment: &str) -> bool {
+    let words = comment.trim_start_matches('/').trim_start();
+    let is_begun = match words.strip_prefix("with") {
+        Some(rest) => match rest.trim_start().strip_prefix('=') {
+            Some(way) => way.trim_start().starts_with('"'),
+            None => false,
+        },
+        None => false,
+    };
+    is_begun || words.contains("fixint::le") || words.contains("fixint::be")
+}

@@ -4,8 +4,8 @@ mod parameters;
 mod said;
 mod types;
 
-use crate::attributes::{attribute, closed, first_word, has_mark, opens};
-use crate::declaration::{Body, Declaration, Field, Fields, Form, Layout, Marks, VariantOf};
+use crate::attributes::{attribute, closed, has_mark, opens};
+use crate::declaration::{Body, Declaration, Field, Fields, Form, Marks, VariantOf};
 use crate::faults::Faults;
 use crate::head::Head;
 use crate::tokens::{Read, Token, first_letter, is_among, is_comment_mark};
@@ -17,9 +17,9 @@ use std::alloc::Global;
 /// What declarations are read for.
 #[derive(Clone, Copy, Debug, PartialEq, Eq, Drop)]
 pub enum Purpose {
-    /// To write implementations: what these can't do is refused, and names that they use.
+    /// To write implementations: names that these use are refused, raw names, fields that are left out, and too many.
     Implementations,
-    /// To make schemas: a type may hold itself, have any names and any number of fields.
+    /// To make schemas.
     Schemas,
 }
 
@@ -38,9 +38,7 @@ pub struct Parser<'a> {
     condition: &'a [Token],
     /// Whether derives alone mark it.
     is_derived: bool,
-    /// The file, and whether the types of fields are checked.
     file: &'a Read,
-    checks: bool,
     /// The variant and the field that are read, by its place and its name; both are empty outside.
     variant: &'a str,
     field: Option<(usize, &'a str)>,
@@ -49,19 +47,6 @@ pub struct Parser<'a> {
     /// Whether something is wrong in the declaration that is read, and the tokens that it hides.
     is_wrong: bool,
     hidden: &'a [Token],
-}
-
-/// Whether a name is declared among these tokens.
-pub fn is_declared(tokens: &[Token], name: &str) -> bool {
-    let mut is_next = false;
-    for token in tokens {
-        let word = token.text.as_str();
-        if is_next && word == name {
-            return true;
-        }
-        is_next = is_among(word, &["struct", "enum", "union"]);
-    }
-    false
 }
 
 /// A name without what makes it one.
@@ -74,23 +59,6 @@ fn is_no_type(word: &str) -> bool {
     match first_letter(word) {
         Some(first) => !(first.is_alphabetic() || first == '_'),
         None => true,
-    }
-}
-
-/// Whether the bytes of a type stand so by themselves.
-fn is_layout_of(layout: Layout, of: &[Token]) -> bool {
-    match layout {
-        Layout::Own => true,
-        Layout::Array => first_word(of) == "[",
-        Layout::Buffer => match of {
-            [vec, open, byte, ..] if vec.text.as_str() == "Vec" => open.text.as_str() == "<"
-                && byte.text.as_str() == "u8",
-            [lent, _, open, byte, close] if lent.text.as_str() == "&" => open.text.as_str() == "["
-                && byte.text.as_str() == "u8"
-                && close.text.as_str() == "]",
-            _ => false,
-        },
-        _ => false,
     }
 }
 
@@ -115,7 +83,6 @@ impl<'a> Parser<'a> {
             condition: head.marking.condition,
             is_derived: head.marking.is_derived,
             file,
-            checks: purpose == Purpose::Implementations,
             variant: "",
             field: None,
             faults: Faults::new(alloc),
@@ -284,7 +251,7 @@ impl<'a> Parser<'a> {
         if name.len() != word.len() && self.implements() {
             self.refuse(
                 word,
-                "` can't be written by the implementations: call it otherwise",
+                "` is raw, and Rattle has no raw names: call it otherwise, since names aren't sent",
             );
         }
         name
@@ -317,16 +284,7 @@ impl<'a> Parser<'a> {
         self.field = Some((place, name));
         let said = self.said(attributes, At::Field);
         let is_left_out = self.is_left_out(said);
-        let checks = self.checks;
-        self.checks = checks && !is_left_out;
         let of = self.type_words();
-        self.checks = checks;
-        let layout = said.layout;
-        if self.implements() && !is_layout_of(layout, of) {
-            self.wrong(&[
-                "`with` can't be implemented here: write the type `LE<..>` or `BE<..>`, or `Vec<u8>`",
-            ]);
-        }
         if !self.is_wrong {
             self.field = None;
         }
@@ -334,7 +292,7 @@ impl<'a> Parser<'a> {
             place,
             name,
             of,
-            layout,
+            layout: said.layout,
         };
         if is_left_out { None } else { Some(field) }
     }

@@ -3,7 +3,8 @@ ghost use Rattle.std.specs.Prelude.{◌≡◌};
 ghost use Rattle.declaration_parser.specs.Marked.{is_marking};
 
 use crate::faults::Faults;
-use crate::marks::{is_almost_mark, is_mark};
+use crate::marks::{is_almost_mark, is_almost_way, is_mark, way_of};
+use crate::words::ALMOST_WAY;
 use std::alloc::{AllocError, Global};
 
 /// What is said of a mark behind code.
@@ -21,7 +22,8 @@ const INSIDE_TEXT: &str = "` stands in a text, where it marks nothing: write it 
 const BEFORE: &[&str] = &["#", "pub", "struct", "enum"];
 
 /// A word, a lifetime, a number, a text, a character or a mark, and the line where it begins. A comment `// message` is one
-/// token, and so is one that is almost that, where a declaration may stand behind it. A text stands between `"` whatever it
+/// token, and so is one that is almost that, where a declaration may stand behind it. One that says how a field is sent is the
+/// tokens of an attribute. A text stands between `"` whatever it
 /// was written between.
 #[derive(Drop)]
 pub struct Token {
@@ -202,6 +204,8 @@ impl<'a> Tokens<'a> {
         let comment = comment.trim_end();
         if is_mark(comment) {
             self.read_mark(comment);
+        } else if is_almost_way(comment) {
+            self.read_way(comment);
         } else if !self.is_behind_code && is_almost_mark(comment) {
             self.almost = Some((comment, self.line));
         }
@@ -215,6 +219,28 @@ impl<'a> Tokens<'a> {
         } else {
             self.put(comment, self.line);
         }
+    }
+
+    /// Appends what a comment says of how the field behind it is sent, as an attribute: `#[with = ".."]`, or with all its
+    /// words as one token, `#[with ..]`, where it only seems meant to.
+    fn read_way(&mut self, comment: &str) {
+        let way = way_of(comment);
+        if self.is_behind_code {
+            if way.is_some() {
+                self.refuse(self.line, comment, ALMOST_WAY);
+                self.faults.put("\n");
+            }
+            return;
+        }
+        for word in ["#", "[", "with"] {
+            self.put(word, self.line);
+        }
+        if way.is_some() {
+            self.put("=", self.line);
+        }
+        let words = comment.trim_start_matches('/').trim_start();
+        self.put(way.unwrap_or(words), self.line);
+        self.put("]", self.line);
     }
 
     /// Notes what is wrong with a comment.

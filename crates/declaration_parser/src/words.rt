@@ -40,18 +40,6 @@ pub const IN_WORDS: &str =
 pub const BY_HAND: &str =
     "` is implemented by hand, so the bytes may be others than those of the fields: declare what is on the wire";
 
-/// What is said of a type that holds itself.
-pub const HOLDS_ITSELF: &str =
-    "` holds itself: write it by hand, as the crate `example_by_hand` shows of `Chain`";
-
-/// What is said of a word of a path.
-pub const IN_PATH: &str =
-    "` can't stand in the type of a field: write the last name of a path alone, and a `use` that brings it in";
-
-/// What is said of bounds, and of a parameter that is a length.
-pub const NO_BOUNDS: &str =
-    "` can't be implemented here: only lifetimes and types without bounds can be parameters; write the others by hand";
-
 /// What is said of a condition on a field or a variant.
 pub const ON_SOME_DEVICES: &str =
     "` has this on some devices alone: take the attribute out where it is there, else what stands behind it";
@@ -63,6 +51,18 @@ pub const OTHER_CONDITION: &str =
 /// What is said of a field that is left out on one side alone.
 pub const ONE_SIDE: &str =
     "` leaves the field out on one side alone: the other side wants its bytes, so the device can't be read as it is";
+
+/// What is said of a field that is left out, where what is read back is to be what was written.
+pub const LEFT_OUT: &str =
+    "` leaves the field out, but what is read back has to be what was written: declare a type without the field, and hold both in another that isn't sent";
+
+/// What is said of a comment that is almost one which says how a field is sent.
+pub const ALMOST_WAY: &str =
+    "` marks nothing: a line of its own before a field does, `// with = \"postcard::fixint::le\"` or the same with `be`";
+
+/// What is said of one in a type that serde's derives mark.
+pub const WAY_OF_SERDE: &str =
+    "` in a comment says nothing to serde, whose derive marks the type: write `#[serde(with = ..)]`, or take the comment out";
 
 /// What is said of an attribute that this crate doesn't know.
 pub const UNKNOWN: &str =
@@ -200,62 +200,6 @@ pub const OF_ITEMS: &[&str] = &[
     "value",
     "warn",
     "zeroize",
-];
-
-/// The types of the language that a message can hold.
-pub const PLAIN: &[&str] = &[
-    "bool", "char", "str", "u8", "u16", "u32", "u64", "u128", "usize", "i8", "i16", "i32", "i64",
-    "i128", "isize",
-];
-
-/// Types of std that no message can hold, and what is said of each.
-pub const NO_MESSAGES: &[(&str, &str)] = &[
-    (
-        "HashMap",
-        "` can't stand in the type of a field: write `BTreeMap`",
-    ),
-    (
-        "HashSet",
-        "` can't stand in the type of a field: write `Vec`",
-    ),
-    (
-        "BTreeSet",
-        "` can't stand in the type of a field: write `Vec`",
-    ),
-    (
-        "VecDeque",
-        "` can't stand in the type of a field: write `Vec`",
-    ),
-    ("Rc", "` can't stand in the type of a field: write `Box`"),
-    ("Arc", "` can't stand in the type of a field: write `Box`"),
-    (
-        "Cow",
-        "` can't stand in the type of a field: write `&'a str`, `String`, or what else it holds",
-    ),
-    (
-        "Cell",
-        "` can't stand in the type of a field: write the type that it holds",
-    ),
-    (
-        "RefCell",
-        "` can't stand in the type of a field: write the type that it holds",
-    ),
-    (
-        "PhantomData",
-        "` can't stand in the type of a field: leave the field out, which has no bytes",
-    ),
-    (
-        "Duration",
-        "` can't stand in the type of a field: write `(u64, u32)`",
-    ),
-    (
-        "Instant",
-        "` can't stand in the type of a field: write the number that is on the wire",
-    ),
-    (
-        "Wrapping",
-        "` can't stand in the type of a field: write the type that it holds",
-    ),
 ];
 
 /// Names that are brought in beside the types.

@@ -10,7 +10,9 @@ ghost use Rattle.postcard.specs.Greatest.{SizeWithin};
 ghost use Rattle.example_nested.specs.declared.messages.Drawing.{Drawing as Drawings};
 ghost use Rattle.example_nested.specs.declared.messages.Letter.{Letter as Letters};
 
-use crate::messages::{Borrower, Deep, Drawing, Holders, Letter, Mail, Message, Pair, Text};
+use crate::messages::{
+    Borrower, Deep, Drawing, Halves, Holders, Letter, Mail, Message, Outcome, Pair, Sample, Text,
+};
 use postcard::experimental::max_size::MaxSize;
 use postcard::laws::{round_trip, within_greatest};
 use postcard::{Exact, Readable, Result, from_bytes, from_bytes_owned};
@@ -59,6 +61,18 @@ pub fn pair<'a>(alloc: Global, v: &Pair<Text>, room: &'a mut [u8]) -> Result<(Pa
     round_trip::<Pair<Text>>(alloc, v, &[], room)
 }
 
+/// Numbers that are sent as their bytes, beside an array of any type and length: here of three bytes.
+pub fn sample<'a>(
+    alloc: Global,
+    v: &Sample<u8, 3>,
+    room: &'a mut [u8],
+) -> Result<(Sample<u8, 3>, &'a [u8])>
+    ensures at { IfOk result (λ p. v.now.at ≡ p.0.at) }
+    ensures offset { IfOk result (λ p. v.now.offset ≡ p.0.offset) }
+{
+    round_trip::<Sample<u8, 3>>(alloc, v, &[], room)
+}
+
 /// Texts that lie where they were read.
 pub fn borrower<'a>(
     alloc: Global,
@@ -91,6 +105,14 @@ pub fn borrower_from_bytes<'a>(alloc: Global, s: &'a [u8]) -> Result<Borrower<'a
         (λ v. (rest : List ℕ) × ReadsFront ⟦<Borrower<'a> as Readable>⟧.form.reads s.now rest v) }
 {
     from_bytes::<Borrower<'a>>(alloc, s)
+}
+
+/// What two may lend is read from bytes that one lends.
+pub fn halves_from_bytes<'a>(alloc: Global, s: &'a [u8]) -> Result<Halves<'a, 'a>>
+    ensures { IfOk result
+        (λ v. (rest : List ℕ) × ReadsFront ⟦<Halves<'a, 'a> as Readable>⟧.form.reads s.now rest v) }
+{
+    from_bytes::<Halves<'a, 'a>>(alloc, s)
 }
 
 /// What keeps none of the bytes is read from them.

@@ -74,12 +74,46 @@ pub struct Pair<T> {
     pub second: Option<T>,
 }
 
+/// Levels of any type and number, and when and by how much they were taken: both as their bytes.
+// message
+#[derive(Drop)]
+pub struct Sample<T: Clone, const N: usize> {
+    // with = "postcard::fixint::le"
+    pub at: u32,
+    // with = "postcard::fixint::be"
+    pub offset: i16,
+    pub levels: [T; N],
+}
+
+/// What came of a sample: when it was lost, or how much of it there is.
+// message
+#[derive(Clone, Copy, PartialEq, Eq, Drop)]
+pub enum Outcome {
+    Lost(
+        // with = "postcard::fixint::be"
+        u64,
+    ),
+    Kept {
+        parts: std::option::Option<u8>,
+        // with = "postcard::fixint::le"
+        sum: u16,
+    },
+}
+
 /// A text that lies where it was read.
 // message
 #[derive(Drop)]
 pub struct Lent<'a> {
     pub text: &'a str,
     pub kind: u8,
+}
+
+/// A text and bytes, which may be lent by two.
+// message
+#[derive(Drop)]
+pub struct Halves<'a, 'b> {
+    pub text: &'a str,
+    pub data: &'b [u8],
 }
 
 /// One that holds such texts, and one of its own.

@@ -1,5 +1,5 @@
 //! The implementations of an enum.
-use crate::parts::{Parts, Spelling, spelled};
+use crate::parts::{Parts, Spelling, is_one_alone_fixed, spelled};
 use crate::printer::{FROM_SHAPE, WIDTH};
 use crate::text::Text;
 use declaration_parser::declaration::{Declaration, Fields, Form, VariantOf};
@@ -146,7 +146,13 @@ impl Text {
         if variant.fields.items.is_empty() {
             return self.put("tt");
         }
-        self.put_tuple(spelled(&variant.fields, Spelling::Ghost));
+        let held = spelled(&variant.fields, Spelling::Held);
+        if !is_one_alone_fixed(held) {
+            return self.put_tuple(held);
+        }
+        self.put("(");
+        self.put_tuple(held);
+        self.put(")");
     }
 
     /// Appends the shape's value at a place, of what a variant holds.
@@ -162,7 +168,7 @@ impl Text {
     fn put_shape_pattern(&mut self, place: Place, variant: &VariantOf) {
         self.put_times(place.ones, "Variant::Other(");
         self.put_all(&[owner(place.kind), "::", constructor(place.kind), "("]);
-        self.put_tuple(spelled(&variant.fields, Spelling::Bound));
+        self.put_tuple(spelled(&variant.fields, Spelling::Taken));
         self.put_times(place.ones.saturating_add(1), ")");
     }
 
@@ -185,7 +191,7 @@ impl Text {
 
     /// Writes the alias of the shape.
     fn alias(&mut self, it: &Declaration, variants: &[VariantOf]) {
-        self.fill(it, "\ntype %NameShape% = ");
+        self.fill(it, "\ntype %NewShape% = ");
         let mut rest = variants;
         let mut opened: usize = 0;
         for _ in 0..variants.len() {
@@ -254,7 +260,7 @@ impl Text {
     /// Writes what the shape is.
     pub fn enum_shape(&mut self, it: &Declaration, variants: &[VariantOf], path: &str) {
         self.alias(it, variants);
-        self.fill(it, "\nimpl%% Shaped for %Name% {\n");
+        self.fill(it, "\nimpl%% Shaped for %Name%%Where%\n");
         self.enum_uses(it.name, variants, path);
         self.fill(it, SHAPE);
         for (index, variant) in variants.iter().enumerate() {
@@ -280,8 +286,9 @@ impl Text {
     /// As [`arm_written`](Text::arm_written), behind the pattern of a variant with fields.
     fn payload_written(&mut self, index: usize, variant: &VariantOf) {
         self.put(" => serializer.serialize_newtype_variant(");
-        let held = spelled(&variant.fields, Spelling::Bound);
-        let lent = if held.fields.len() == 1 { "" } else { "&" };
+        let held = spelled(&variant.fields, Spelling::Lent);
+        let is_lent = held.fields.len() == 1 && !is_one_alone_fixed(held);
+        let lent = if is_lent { "" } else { "&" };
         let mut text = Text::new(self.alloc);
         text.put_number(index);
         text.put_all(&[", ", lent]);

@@ -11,14 +11,19 @@
 
 mod about;
 mod enums;
+mod generics;
+mod known;
 mod names;
 mod parts;
 mod printer;
+mod refusals;
+mod scope;
 mod structs;
 mod text;
 
 use crate::about::ABOUT;
 use crate::printer::write_all;
+use crate::refusals::refused;
 use crate::text::Text;
 use declaration_parser::parser::Purpose;
 use declaration_parser::reading::declarations;
@@ -67,8 +72,9 @@ fn read_tokens(rt: &HostRuntime) -> io::Result<[Read; 1]> {
 fn run(rt: &HostRuntime, asked: &Asked) -> io::Result<bool> {
     let read = read_tokens(rt)?;
     let (all, faults) = declarations(rt.alloc(), Purpose::Implementations, &read)?;
-    if !faults.is_empty() {
-        eprint!(rt; "{faults}")?;
+    let refused = refused(rt.alloc(), &all)?;
+    if !faults.is_empty() || !refused.is_empty() {
+        eprint!(rt; "{faults}{refused}")?;
         return Ok(false);
     }
     let text = write_all(rt.alloc(), asked.path.as_str(), asked.with_schemas, &all)?;

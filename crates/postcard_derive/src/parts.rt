@@ -1,24 +1,33 @@
 //! Fields in a list, each spelled for where it stands.
+use crate::scope::{is_led, is_of_the_language, leads, word_at};
 use crate::text::Text;
-use declaration_parser::declaration::{Field, Fields, Form};
+use declaration_parser::declaration::{Field, Fields, Form, Layout};
 use declaration_parser::tokens::{Token, is_among, is_lifetime};
 
 /// How many parts a tuple has at most; more stand in rows.
 pub const ROW: usize = 6;
 
-/// How fields are spelled.
+/// How fields are spelled. Those that are sent as their bytes stand in what sends them so, where they are parts of a shape.
 #[derive(Clone, Copy, Drop)]
 pub enum Spelling<'a> {
-    /// By their types.
+    /// By their types in the shape.
     Type,
-    /// As members of a value, behind this.
+    /// As members of the value that is written, each behind this.
     Member(&'a str),
+    /// As parts of a value's shape, in ghost text.
+    Seen,
     /// By the names to which they are bound: their own, or by their places.
     Bound,
-    /// By the names to which rows are bound. One without a type stands for a row of several.
+    /// By the same, where a shape is taken apart.
+    Taken,
+    /// By the same, where a variant is written, of which they are lent.
+    Lent,
+    /// As `Taken`, by the names to which rows are bound. One without a type stands for a row of several.
     Row,
     /// By the names to which ghost text binds them.
     Ghost,
+    /// As parts of a variant's shape, in ghost text.
+    Held,
 }
 
 /// Fields, and how they are spelled.
@@ -35,6 +44,33 @@ impl<'a> Parts<'a> {
             fields,
             spelling: self.spelling,
         }
+    }
+}
+
+/// The type that sends a field as its bytes, where an attribute says that it is sent so.
+fn fixed_by(field: &Field) -> Option<&'static str> {
+    match field.layout {
+        Layout::Little => Some("fixint::LE"),
+        Layout::Big => Some("fixint::BE"),
+        _ => None,
+    }
+}
+
+/// Whether one of these fields is sent as its bytes.
+pub fn is_one_fixed(fields: &Fields) -> bool {
+    for field in &fields.items {
+        if fixed_by(field).is_some() {
+            return true;
+        }
+    }
+    false
+}
+
+/// Whether these are one field, which is sent as its bytes.
+pub fn is_one_alone_fixed(parts: Parts) -> bool {
+    match parts.fields {
+        [field] => fixed_by(field).is_some(),
+        _ => false,
     }
 }
 
@@ -67,8 +103,23 @@ fn has_comma_before(words: &[Token], place: usize) -> bool {
     false
 }
 
+/// A word of a type or a bound as it is written in the module below: another where it begins a path.
+pub fn below(words: &[Token], place: usize) -> &str {
+    let word = word_at(words, place);
+    if !leads(words, place) || is_led(words, place) {
+        return word;
+    }
+    match word {
+        "self" => "super",
+        "super" => "super::super",
+        _ if is_of_the_language(word) => "std",
+        _ => word,
+    }
+}
+
 impl Text {
-    /// Appends a type, without a comma that stands before a mark which closes it, as where a type is broken over lines.
+    /// Appends a type as it is named in the module below, without a comma that stands before a mark which closes it, as where
+    /// a type is broken over lines.
     pub fn put_type(&mut self, words: &[Token]) {
         let mut parted = false;
         for (place, token) in words.iter().enumerate() {
@@ -77,7 +128,7 @@ impl Text {
                 continue;
             }
             let blank = parted && !is_among(word, &[")", ">", "]", ","]);
-            self.put_all(&[if blank { " " } else { "" }, word]);
+            self.put_all(&[if blank { " " } else { "" }, below(words, place)]);
             parted = is_parted(word);
         }
     }
@@ -103,14 +154,51 @@ impl Text {
         self.put_member(before, field);
     }
 
-    /// Appends a field.
-    pub fn put_part(&mut self, field: &Field, spelling: Spelling) {
+    /// Appends a field, apart from what sends it as its bytes.
+    fn put_inner(&mut self, field: &Field, spelling: Spelling) {
         match spelling {
             Spelling::Type => self.put_type(field.of),
-            Spelling::Member(before) => self.put_member(before, field),
+            Spelling::Member(_) => self.put_member("self.", field),
+            Spelling::Seen => self.put_member("v.", field),
             Spelling::Row if field.of.is_empty() => self.put_placed("row_", field.place),
-            Spelling::Row | Spelling::Bound => self.put_bound(field),
-            Spelling::Ghost => self.put_placed("x", field.place),
+            Spelling::Row | Spelling::Bound | Spelling::Taken | Spelling::Lent => self.put_bound(
+                field,
+            ),
+            Spelling::Ghost | Spelling::Held => self.put_placed("x", field.place),
+        }
+    }
+
+    /// Appends a field that is sent as its bytes, by the type of this name.
+    fn put_fixed(&mut self, by: &str, field: &Field, spelling: Spelling) {
+        let (open, close) = match spelling {
+            Spelling::Type => ("<", ">"),
+            Spelling::Lent => ("(*", ")"),
+            _ => ("(", ")"),
+        };
+        match spelling {
+            Spelling::Bound | Spelling::Ghost => self.put_inner(field, spelling),
+            Spelling::Seen | Spelling::Held => {
+                self.put("record { 0 = ");
+                self.put_inner(field, spelling);
+                self.put(" }");
+            }
+            _ => {
+                self.put_all(&[by, open]);
+                self.put_inner(field, spelling);
+                self.put(close);
+            }
+        }
+    }
+
+    /// Appends a field.
+    pub fn put_part(&mut self, field: &Field, spelling: Spelling) {
+        match (fixed_by(field), spelling) {
+            (Some(by), _) => self.put_fixed(by, field, spelling),
+            (None, Spelling::Member(lent)) => {
+                self.put(lent);
+                self.put_inner(field, spelling);
+            }
+            _ => self.put_inner(field, spelling),
         }
     }
 

@@ -1,9 +1,9 @@
 //! From declarations to implementations, laid out as `rt fmt` leaves them.
+use crate::generics::Way;
 use crate::names::{Module, names_used};
 use crate::parts::{Parts, ROW, Spelling, spelled};
 use crate::text::Text;
 use declaration_parser::declaration::{Body, Declaration, Fields, Form};
-use declaration_parser::tokens::is_lifetime;
 use std::alloc::{AllocError, Global};
 
 /// How long a line may be.
@@ -40,49 +40,35 @@ pub const FROM_SHAPE: &str = "
 
 /// What a type takes from its shape.
 const OF_ITS_SHAPE: &str = "
-impl%: Readable% Readable for %Name% {
+impl%Readable% Readable for %Name%%Where%
     type Form = AsShape;
 
     ghost form = { form_as ⟦<Self as Shaped>⟧.shape ⟦<ShapeOf<Self> as Readable>⟧.form };
 }
 
-impl%: Readable% MatchesShape for %Name% {
+impl%Readable% MatchesShape for %Name%%Where%
     ghost matches = { form_matches };
 }
 ";
 
 /// That a type that is read has the schema of its shape.
 const SCHEMA: &str = "
-impl%: Readable% SchemaOfShape for %Name% {
+impl%Readable% SchemaOfShape for %Name%%Where%
     ghost same = { as_its_shape };
 }
 ";
 
 /// How the writing of a value begins.
 pub const WRITTEN: &str = "
-impl%: Serialize% Serialize for %Name% {
+impl%Serialize% Serialize for %Name%%Where%
     fn serialize<F: Flavor>(&self, serializer: &mut Serializer<F>) -> postcard::Result<()> {
 ";
 
 impl Text {
-    /// Appends type parameters, each with this behind it; a lifetime without.
-    fn put_parameters(&mut self, parameters: &[&str], bound: &str) {
-        if parameters.is_empty() {
-            return;
-        }
-        let mut before = "<";
-        for parameter in parameters {
-            let bound = if is_lifetime(parameter) { "" } else { bound };
-            self.put_all(&[before, parameter, bound]);
-            before = ", ";
-        }
-        self.put(">");
-    }
-
     /// Appends a type's name, with this behind it, and its parameters.
     pub fn put_whole_name(&mut self, it: &Declaration, suffix: &str) {
         self.put_all(&[it.name, suffix]);
-        self.put_parameters(&it.parameters, "");
+        self.put_parameters(it, Way::Named);
     }
 
     /// Appends the names that are used of a module.
@@ -99,7 +85,8 @@ impl Text {
     }
 
     /// Appends a text in which a word between two `%` stands for a part of a declaration: `Name` for its name and `NameShape`
-    /// for that of its shape, both with the type parameters, and another for the type parameters, each with that behind it.
+    /// for that of its shape, both with the parameters, `NewShape` for the latter where it is declared, `Where` for what opens
+    /// an implementation, and another for the parameters with their bounds, those that are types with that one too.
     pub fn fill(&mut self, it: &Declaration, text: &str) {
         let mut is_part = false;
         for piece in text.split('%') {
@@ -117,7 +104,12 @@ impl Text {
         match word {
             "Name" => self.put_whole_name(it, ""),
             "NameShape" => self.put_whole_name(it, "Shape"),
-            bound => self.put_parameters(&it.parameters, bound),
+            "NewShape" => {
+                self.put_all(&[it.name, "Shape"]);
+                self.put_parameters(it, Way::Declared);
+            }
+            "Where" => self.put_where(it),
+            bound => self.put_parameters(it, Way::Bounded(bound)),
         }
     }
 

@@ -18,14 +18,14 @@ impl Text {
         if fields.items.is_empty() {
             return self.put("tt");
         }
-        self.put_tuple(spelled(fields, Spelling::Member("v.")));
+        self.put_tuple(spelled(fields, Spelling::Seen));
     }
 
     /// Appends what stands between the parentheses of the function that reads a shape.
     fn put_argument(&mut self, it: &Declaration, fields: &Fields) {
         match fields.items.len() {
             0 => self.put("()"),
-            1 => self.put_tuple(spelled(fields, Spelling::Bound)),
+            1 => self.put_tuple(spelled(fields, Spelling::Taken)),
             _ => self.put("it"),
         }
         self.put(": ");
@@ -37,14 +37,14 @@ impl Text {
         if fields.items.len() < 2 {
             return;
         }
-        self.fill(it, "\ntype %NameShape% = ");
+        self.fill(it, "\ntype %NewShape% = ");
         self.tuple(0, spelled(fields, Spelling::Type), ";");
     }
 
     /// Writes what the shape is.
     pub fn struct_shape(&mut self, it: &Declaration, fields: &Fields) {
         self.struct_alias(it, fields);
-        self.fill(it, "\nimpl%% Shaped for %Name% {\n    type Shape = ");
+        self.fill(it, "\nimpl%% Shaped for %Name%%Where%\n    type Shape = ");
         self.put_struct_shape(it, fields);
         self.put(";\n\n    ghost shape = { λ v. ");
         self.put_seen(fields);
@@ -56,15 +56,15 @@ impl Text {
     /// Writes how the shape is written.
     pub fn struct_written(&mut self, fields: &Fields) {
         let one = fields.items.len() == 1;
-        let before = if one { "self." } else { "&self." };
+        let lent = if one { "" } else { "&" };
         self.begin(8, "");
-        let members = spelled(fields, Spelling::Member(before));
+        let members = spelled(fields, Spelling::Member(lent));
         self.tuple(8, members, ".serialize(serializer)");
     }
 
     /// Takes a shape of several fields apart.
     fn taken_apart(&mut self, fields: &Fields) {
-        let all = spelled(fields, Spelling::Bound);
+        let all = spelled(fields, Spelling::Taken);
         self.begin(8, "let ");
         if fields.items.len() <= ROW {
             return self.tuple(8, all, " = it;");

@@ -2,7 +2,8 @@
 //! bytes are as postcard's format has them.
 use crate::checks::{all_true, check, writes};
 use example_nested::messages::{
-    Borrower, Deep, Drawing, Holders, Lent, Letter, Mail, Message, Pair, Point, Text, Widths,
+    Borrower, Deep, Drawing, Halves, Holders, Lent, Letter, Mail, Message, Outcome, Pair, Point,
+    Sample, Text, Widths,
 };
 use line_io::memory::{In, Out};
 use link::{Answer, Sender, read_in_place_with_sentinel, receive_with_sentinel};
@@ -96,6 +97,15 @@ const DRAWING: &[u8] = &[
     0, 0, 0, 0, 0,
 ];
 
+/// 300 and -2 as their bytes, and three of its own.
+const SAMPLE: &[u8] = &[44, 1, 0, 0, 255, 254, 1, 2, 3];
+
+/// A variant, and 300 as its bytes, the highest first.
+const LOST: &[u8] = &[0, 0, 0, 0, 0, 0, 0, 1, 44];
+
+/// The other, a seven that is there, and 300 as its bytes, the lowest first.
+const KEPT: &[u8] = &[1, 1, 7, 44, 1];
+
 const PAIR: &[u8] = &[2, 72, 105, 7, 0];
 
 const PAIRS: &[u8] = &[2, 72, 105, 7, 0, 0, 1, 1, 2, 72, 105, 7, 1, 9];
@@ -121,6 +131,8 @@ fn plain(rt: HostRuntime) {
     let are_crossing = [
         crosses::<Point>(alloc, POINT),
         crosses::<Drawing>(alloc, DRAWING),
+        crosses::<Outcome>(alloc, LOST),
+        crosses::<Outcome>(alloc, KEPT),
     ];
     check(&rt, all_true(are_crossing));
 }
@@ -132,6 +144,7 @@ fn generic(rt: HostRuntime) {
         crosses::<Pair<Text>>(alloc, PAIR),
         crosses::<Pairs>(alloc, PAIRS),
         crosses::<Deep>(alloc, DEEP),
+        crosses::<Sample<u8, 3>>(alloc, SAMPLE),
     ];
     check(&rt, all_true(are_crossing));
 }
@@ -227,6 +240,12 @@ fn borrower_crosses(alloc: Global, sentinel: u8) -> bool {
     crosses_over::<Borrower<'_>>(alloc, BORROWER, &mut line, sentinel)
 }
 
+/// Whether a text and bytes that two may lend do.
+fn halves_cross(alloc: Global, sentinel: u8) -> bool {
+    let mut line = [0u8; 80];
+    crosses_over::<Halves<'_, '_>>(alloc, LENT_PAIR, &mut line, sentinel)
+}
+
 /// Whether a text and bytes do.
 fn pair_crosses(alloc: Global, sentinel: u8) -> bool {
     let mut line = [0u8; 80];
@@ -241,6 +260,7 @@ fn lent(rt: HostRuntime) {
             lent_crosses(alloc, sentinel),
             borrower_crosses(alloc, sentinel),
             pair_crosses(alloc, sentinel),
+            halves_cross(alloc, sentinel),
         ];
         check(&rt, all_true(are_crossing));
     }
@@ -281,10 +301,32 @@ fn widths_cross(alloc: Global) -> bool {
     }
 }
 
+/// Whether a sample is what its bytes say.
+fn is_the_sample(sample: &Sample<u8, 3>) -> bool {
+    sample.at == 300 && sample.offset == -2 && sample.levels == [1, 2, 3]
+}
+
+/// Whether the sample crosses, and is what its bytes say, and the outcomes are written as theirs.
+fn sample_crosses(alloc: Global) -> bool {
+    let kept = Outcome::Kept {
+        parts: Some(7),
+        sum: 300,
+    };
+    let are_written = writes(&Outcome::Lost(300), LOST) && writes(&kept, KEPT);
+    match crossed::<Sample<u8, 3>>(alloc, SAMPLE) {
+        Some(sample) => is_the_sample(&sample) && are_written,
+        None => false,
+    }
+}
+
 #[test]
 fn contents(rt: HostRuntime) {
     let alloc = rt.alloc();
-    check(&rt, mail_crosses(alloc) && widths_cross(alloc));
+    check(
+        &rt,
+        mail_crosses(alloc) && widths_cross(alloc) && sample_crosses(alloc),
+    );
     let sizes = (Drawing::postcard_max_size(), Widths::postcard_max_size());
     check(&rt, sizes == (Some(12 + 5 + 41), Some(2 + 4 + 19 + 16)));
+    check(&rt, Outcome::postcard_max_size() == Some(1 + 8));
 }

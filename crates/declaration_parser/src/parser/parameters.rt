@@ -1,8 +1,8 @@
 //! Lifetimes, type parameters, lengths and bounds.
 use super::Parser;
 use crate::attributes::opens;
-use crate::tokens::{is_among, is_lifetime};
-use crate::words::{NO_BOUNDS, OF_IMPLEMENTATIONS};
+use crate::tokens::is_among;
+use crate::words::OF_IMPLEMENTATIONS;
 
 impl<'a> Parser<'a> {
     /// Takes a lifetime, a type parameter or a length, or the comma before one.
@@ -13,11 +13,7 @@ impl<'a> Parser<'a> {
         }
         let is_length = word == "const";
         let name = if is_length { self.word() } else { word };
-        let has_more = is_length || is_among(self.peek(), &[":", "="]);
-        if has_more && self.implements() {
-            return self.refuse(name, NO_BOUNDS);
-        }
-        self.check_parameter(name, parameters);
+        self.check_parameter(name);
         self.keep(parameters, name);
         if is_length {
             self.keep(lengths, name);
@@ -50,9 +46,6 @@ impl<'a> Parser<'a> {
         if !self.take("where") {
             return;
         }
-        if self.implements() {
-            return self.refuse("where", NO_BOUNDS);
-        }
         for _ in 0..self.rest.len() {
             let word = self.peek();
             if is_among(word, &["{", ";"]) {
@@ -65,21 +58,12 @@ impl<'a> Parser<'a> {
         }
     }
 
-    /// Refuses a second lifetime, and a name that the implementations use.
-    fn check_parameter(&mut self, name: &str, before: &[&str]) {
+    /// Refuses a name that the implementations use.
+    fn check_parameter(&mut self, name: &str) {
         if is_among(name, OF_IMPLEMENTATIONS) && self.implements() {
             self.refuse(
                 name,
                 "` is a parameter's name of postcard's: call it otherwise",
-            );
-        }
-        let is_second = self.implements()
-            && is_lifetime(name)
-            && matches!(before, [first, ..] if is_lifetime(first));
-        if is_second {
-            self.refuse(
-                name,
-                "` is a second lifetime: all that is lent is lent for one",
             );
         }
     }

@@ -4,8 +4,8 @@ use crate::attributes::{attribute, first_part, first_word, has_mark, held, last_
 use crate::declaration::Layout;
 use crate::tokens::{Token, is_among};
 use crate::words::{
-    HIDDEN_MARK, NO_BYTES, OF_ITEMS, OF_SERDE, ON_SOME_DEVICES, ONE_SIDE, OTHER_CONDITION, REPR,
-    UNKNOWN,
+    ALMOST_WAY, HIDDEN_MARK, LEFT_OUT, NO_BYTES, OF_ITEMS, OF_SERDE, ON_SOME_DEVICES, ONE_SIDE,
+    OTHER_CONDITION, REPR, UNKNOWN, WAY_OF_SERDE,
 };
 
 /// Where an attribute stands.
@@ -34,6 +34,14 @@ fn layout_of(way: &str) -> Option<Layout> {
             Layout::Array,
         ),
         _ => None,
+    }
+}
+
+/// These without an attribute at their front, which in an attribute is what a comment was.
+fn without_comment(words: &[Token]) -> &[Token] {
+    match attribute(words) {
+        Some((_, behind)) => behind,
+        None => words,
     }
 }
 
@@ -96,11 +104,24 @@ impl<'a> Parser<'a> {
         match name {
             "serde" => self.read_serde(held(words), at, is_other, said),
             "serde_as" | "serde_with" if last_word(words) == "serde_as" => {}
+            "with" => self.read_way(words, at, said),
             "cfg" | "cfg_attr" if at != At::Item => self.refuse(name, ON_SOME_DEVICES),
             "derive" => self.read_derive(held(words)),
             _ if name.starts_with("serde") => self.refuse(name, UNKNOWN),
             _ if at == At::Item && !is_among(name, OF_ITEMS) => self.refuse(name, UNKNOWN),
             _ => {}
+        }
+    }
+
+    /// Goes over a comment that says how a field is sent, or only seems meant to.
+    fn read_way(&mut self, words: &'a [Token], at: At, said: &mut Said) {
+        match words {
+            [_, comment] if !self.is_derived => {
+                self.wrong(&["`// ", comment.text.as_str(), ALMOST_WAY]);
+            }
+            [_, _] => {}
+            _ if self.is_derived => self.refuse("with", WAY_OF_SERDE),
+            _ => self.read_changing("with", words, at, said),
         }
     }
 
@@ -125,6 +146,7 @@ impl<'a> Parser<'a> {
         let mut rest = words;
         for _ in 0..words.len() {
             let (part, behind) = first_part(rest);
+            let part = without_comment(part);
             let name = first_word(part);
             if !name.is_empty() && !is_among(name, NO_BYTES) {
                 self.read_changing(name, part, at, said);
@@ -184,7 +206,7 @@ impl<'a> Parser<'a> {
             self.refuse(word, ONE_SIDE);
         }
         if self.implements() {
-            self.refuse("skip", "` can't be implemented here: write it by hand");
+            self.refuse("skip", LEFT_OUT);
         }
         true
     }

@@ -4,13 +4,13 @@ ghost use Rattle.postcard_tree.specs.ReadingLaws.{form_as};
 ghost use Rattle.postcard_tree.specs.Shapes.{form_matches};
 
 use super::{
-    BE, BTreeMap, Borrower, Deep, Drawing, Holders, LE, Lent, Letter, Mail, Message, Pair, Point,
-    Six, Text, Widths,
+    BE, BTreeMap, Borrower, Deep, Drawing, Halves, Holders, LE, Lent, Letter, Mail, Message,
+    Outcome, Pair, Point, Sample, Six, Text, Widths,
 };
 use postcard::ser_flavors::Flavor;
 use postcard::{
     AsShape, Last, MatchesShape, Readable, Serialize, Serializer, ShapeOf, Shaped, Variant,
-    Variants4,
+    Variants4, fixint,
 };
 
 type TextShape = (String, u8);
@@ -273,6 +273,79 @@ impl<T: Serialize> Serialize for Pair<T> {
     }
 }
 
+type SampleShape<T, const N: usize> = (fixint::LE<u32>, fixint::BE<i16>, [T; N]);
+
+impl<T: Clone, const N: usize> Shaped for Sample<T, N> {
+    type Shape = SampleShape<T, N>;
+
+    ghost shape = { λ v. (record { 0 = v.at }, record { 0 = v.offset }, v.levels) };
+
+    fn from_shape(it: SampleShape<T, N>) -> Sample<T, N> {
+        let (fixint::LE(at), fixint::BE(offset), levels) = it;
+        Sample { at, offset, levels }
+    }
+}
+
+impl<T: Clone + Readable, const N: usize> Readable for Sample<T, N> {
+    type Form = AsShape;
+
+    ghost form = { form_as ⟦<Self as Shaped>⟧.shape ⟦<ShapeOf<Self> as Readable>⟧.form };
+}
+
+impl<T: Clone + Readable, const N: usize> MatchesShape for Sample<T, N> {
+    ghost matches = { form_matches };
+}
+
+impl<T: Clone + Serialize, const N: usize> Serialize for Sample<T, N> {
+    fn serialize<F: Flavor>(&self, serializer: &mut Serializer<F>) -> postcard::Result<()> {
+        (fixint::LE(self.at), fixint::BE(self.offset), &self.levels).serialize(serializer)
+    }
+}
+
+type OutcomeShape = Variant<fixint::BE<u64>, Last<(std::option::Option<u8>, fixint::LE<u16>)>>;
+
+impl Shaped for Outcome {
+    ghost use Rattle.example_nested.specs.declared.messages.Outcome.TheVariants.{Lost, Kept};
+    ghost use Rattle.postcard_tree.specs.declared.variants.Variant.TheVariants.{This, Other};
+    ghost use Rattle.postcard_tree.specs.declared.variants.Last.TheVariants.{Last};
+
+    type Shape = OutcomeShape;
+
+    ghost shape = { λ v. elim v [
+      | Lost x0 ↦ This (record { 0 = x0 })
+      | Kept x0 x1 ↦ Other (Last (x0, record { 0 = x1 }))
+    ] };
+
+    fn from_shape(it: OutcomeShape) -> Outcome {
+        match it {
+            Variant::This(fixint::BE(p0)) => Outcome::Lost(p0),
+            Variant::Other(Last::Last((parts, fixint::LE(sum)))) => Outcome::Kept { parts, sum },
+        }
+    }
+}
+
+impl Readable for Outcome {
+    type Form = AsShape;
+
+    ghost form = { form_as ⟦<Self as Shaped>⟧.shape ⟦<ShapeOf<Self> as Readable>⟧.form };
+}
+
+impl MatchesShape for Outcome {
+    ghost matches = { form_matches };
+}
+
+impl Serialize for Outcome {
+    fn serialize<F: Flavor>(&self, serializer: &mut Serializer<F>) -> postcard::Result<()> {
+        match self {
+            Outcome::Lost(p0) => serializer.serialize_newtype_variant(0, &fixint::BE(*p0)),
+            Outcome::Kept { parts, sum } => serializer.serialize_newtype_variant(
+                1,
+                &(parts, fixint::LE(*sum)),
+            ),
+        }
+    }
+}
+
 type LentShape<'a> = (&'a str, u8);
 
 impl<'a> Shaped for Lent<'a> {
@@ -299,6 +372,35 @@ impl<'a> MatchesShape for Lent<'a> {
 impl<'a> Serialize for Lent<'a> {
     fn serialize<F: Flavor>(&self, serializer: &mut Serializer<F>) -> postcard::Result<()> {
         (&self.text, &self.kind).serialize(serializer)
+    }
+}
+
+type HalvesShape<'a, 'b> = (&'a str, &'b [u8]);
+
+impl<'a, 'b> Shaped for Halves<'a, 'b> {
+    type Shape = HalvesShape<'a, 'b>;
+
+    ghost shape = { λ v. (v.text, v.data) };
+
+    fn from_shape(it: HalvesShape<'a, 'b>) -> Halves<'a, 'b> {
+        let (text, data) = it;
+        Halves { text, data }
+    }
+}
+
+impl<'a, 'b> Readable for Halves<'a, 'b> {
+    type Form = AsShape;
+
+    ghost form = { form_as ⟦<Self as Shaped>⟧.shape ⟦<ShapeOf<Self> as Readable>⟧.form };
+}
+
+impl<'a, 'b> MatchesShape for Halves<'a, 'b> {
+    ghost matches = { form_matches };
+}
+
+impl<'a, 'b> Serialize for Halves<'a, 'b> {
+    fn serialize<F: Flavor>(&self, serializer: &mut Serializer<F>) -> postcard::Result<()> {
+        (&self.text, &self.data).serialize(serializer)
     }
 }
 
