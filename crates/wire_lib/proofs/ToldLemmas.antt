@@ -21,12 +21,12 @@ all_then (answer.TooLong ∷ xs) a = refl
 all_then (answer.Cut ∷ xs) a = refl
 
 -- none is added
-pub told_none : (r : LinesOfFrames) (stream : List ℕ) (xs : List (Answer Value)) → HasTold r stream xs → HasTold r (stream ++ []) (xs ++ [])
-told_none r stream xs h = subst (λ x. HasTold r x (xs ++ [])) (sym (append-nil stream)) (subst (λ x. HasTold r stream x) (sym (append-nil xs)) h)
+pub told_none : (r : LinesOfFrames) (passed : ℕ) (stream : List ℕ) (xs : List (Answer Value)) → HasTold r passed stream xs → HasTold r passed (stream ++ []) (xs ++ [])
+told_none r passed stream xs h = subst (λ x. HasTold r passed x (xs ++ [])) (sym (append-nil stream)) (subst (λ x. HasTold r passed stream x) (sym (append-nil xs)) h)
 
 -- some, and then others
-pub told_then : (r : LinesOfFrames) (stream x y : List ℕ) (xs ys zs : List (Answer Value)) → HasTold r ((stream ++ x) ++ y) ((xs ++ ys) ++ zs) → HasTold r (stream ++ (x ++ y)) (xs ++ (ys ++ zs))
-told_then r stream x y xs ys zs h = subst (λ z. HasTold r z (xs ++ (ys ++ zs))) (append_assoc stream x y) (subst (λ z. HasTold r ((stream ++ x) ++ y) z) (append_assoc xs ys zs) h)
+pub told_then : (r : LinesOfFrames) (passed : ℕ) (stream x y : List ℕ) (xs ys zs : List (Answer Value)) → HasTold r passed ((stream ++ x) ++ y) ((xs ++ ys) ++ zs) → HasTold r passed (stream ++ (x ++ y)) (xs ++ (ys ++ zs))
+told_then r passed stream x y xs ys zs h = subst (λ z. HasTold r passed z (xs ++ (ys ++ zs))) (append_assoc stream x y) (subst (λ z. HasTold r passed ((stream ++ x) ++ y) z) (append_assoc xs ys zs) h)
 
 -- a piece in one part more
 pub parts_on : (piece done rest : List ℕ) (used : ℕ) → piece ≡ done ++ rest → piece ≡ (done ++ take used rest) ++ drop used rest

@@ -5,8 +5,9 @@ ghost use Rattle.link.specs.Receivers.{IsBehind, SameTerms};
 ghost use Rattle.link.specs.Pushes.{Answered, IsStretchOf};
 ghost use Rattle.link.specs.declared.receiver.Answer.{Answer as Answers};
 ghost use Rattle.schemas.specs.declared.value.Value.{Value as Values};
-ghost use Rattle.wire_lib.specs.Said.{stretch_line, known_to, SaysStretch};
-ghost use Rattle.wire_lib.specs.Received.{HasTold, held_by, read_by, reading_of, skip_of, is_a_value, are_all_values, added_at_end};
+ghost use Rattle.wire_lib.specs.Sent.{LacksFeed};
+ghost use Rattle.wire_lib.specs.Said.{value_line, stretch_line, known_to, end_said, SaysLine};
+ghost use Rattle.wire_lib.specs.Received.{HasTold, held_by, read_by, reading_of, skip_of, is_a_value, are_all_values, added_at_end, TellsEach, TellsEnd};
 
 use crate::print::{Look, PrintError, print_into};
 use crate::table::TableReader;
@@ -17,6 +18,7 @@ use link::{Answer, NoMemory, Ordinary, OwnedReceiver, Pushed, Strict};
 use schemas::Value;
 use std::alloc::{AllocError, Global};
 use std::cell::Cell;
+use std::mem;
 
 /// How many bytes a stretch between sentinels may have.
 pub const LIMIT: usize = 65536;
@@ -47,20 +49,20 @@ pub struct LinesOfFrames<'a> {
     receiver: OwnedReceiver,
     /// Whether the message that is looked at nests deeper than it may.
     is_deep: Cell<bool>,
-    /// Room for the line of a value.
-    room: Cell<Vec<u8>>,
     /// How many bytes are still to be passed over.
     skip: u64,
     /// How many bytes of the stream came, those that were passed over too, and how many stand before what is begun of a stretch.
     at: u64,
     /// Whether all answers were values.
     is_good: bool,
+    /// The text of the value that is said, in memory that is kept from one to the next.
+    text: Vec<u8>,
 }
 
 impl<'a> LinesOfFrames<'a> {
     /// A receiver of a stream of which so many bytes are passed over.
     pub fn new(reading: Reading<'a>, from: u64) -> Result<LinesOfFrames<'a>, AllocError>
-        ensures told { IfOk result (λ r. HasTold r [] []) }
+        ensures told { IfOk result (λ r. HasTold r from [] []) }
         ensures reading { IfOk result (λ r. reading_of r ≡ reading.entry) }
         ensures skip { IfOk result (λ r. skip_of r ≡ from) }
     {
@@ -69,10 +71,10 @@ impl<'a> LinesOfFrames<'a> {
                 reading,
                 receiver,
                 is_deep: Cell::new(false),
-                room: Cell::new(Vec::new(reading.alloc)),
                 skip: from,
                 at: from,
                 is_good: true,
+                text: Vec::new(reading.alloc),
             }),
             Err(NoMemory) => Err(AllocError),
         }
@@ -81,20 +83,22 @@ impl<'a> LinesOfFrames<'a> {
     /// Appends the line of an answer, whose stretch has so many bytes before the last one that came. Behind that one stands what is
     /// left of the piece.
     fn say(
-        &self,
+        &mut self,
         answer: &Answer<Value>,
         stretch: usize,
         left: &[u8],
         lines: &mut Vec<u8>,
     ) -> Result<(), AllocError>
-        ensures { OnOk result (SaysStretch answer.now (self.now.at - 1 - stretch) (self.now.at - 1)
-            (known_to self.now.at self.now.reading.sentinel left.now)
+        ensures line { OnOk result (SaysLine answer.now (self.old.at - 1 - stretch)
+            (end_said answer.now (self.old.at - 1)
+            (known_to self.old.at self.old.reading.sentinel left.now))
             lines.old.items lines.new.items) }
+        ensures same { self.new ≡ record self.old { text = self.new.text } }
     {
         let last = self.at.saturating_sub(1);
         let from = last.saturating_sub(stretch as u64);
         match answer {
-            Answer::Value(value) => put_value_line(self.reading, value, &self.room, lines),
+            Answer::Value(value) => put_value_line(self.reading, value, &mut self.text, lines),
             Answer::Damaged => {
                 if self.is_deep.replace(false) {
                     put_stretch_line(self.reading.alloc, "too_deep", from, last, lines)
@@ -113,9 +117,12 @@ impl<'a> LinesOfFrames<'a> {
 
     /// Takes bytes of a piece up to the first answer, and appends its line. How many bytes it took.
     fn push_one(&mut self, rest: &[u8], lines: &mut Vec<u8>) -> Result<usize, AllocError>
-        ensures told { IfOk result (λ used. (stream : List ℕ) (answers : List (Answers Values))
-            → HasTold self.old stream answers → (more : List (Answers Values))
-            × HasTold self.new (stream ++ take used rest.now) (answers ++ more)) }
+        ensures told { IfOk result (λ used. (passed : ℕ) (stream : List ℕ)
+            (answers : List (Answers Values)) → HasTold self.old passed stream answers
+            → (more : List (Answers Values))
+            × HasTold self.new passed (stream ++ take used rest.now) (answers ++ more)
+            × TellsEach (reading_of self.old) passed (stream ++ rest.now) answers more
+            lines.old.items lines.new.items) }
         ensures within { IfOk result (λ used. used ≤ length rest.now) }
         ensures forward { 0 < length rest.now → IfOk result (λ used. 0 < used) }
         ensures reading { reading_of self.new ≡ reading_of self.old }
@@ -141,9 +148,11 @@ impl<'a> LinesOfFrames<'a> {
 
     /// Takes bytes that aren't passed over.
     fn push_all(&mut self, piece: &[u8], lines: &mut Vec<u8>) -> Result<(), AllocError>
-        ensures told { OnOk result ((stream : List ℕ) (answers : List (Answers Values))
-            → HasTold self.old stream answers → (more : List (Answers Values))
-            × HasTold self.new (stream ++ piece.now) (answers ++ more)) }
+        ensures told { OnOk result ((passed : ℕ) (stream : List ℕ) (answers : List (Answers Values))
+            → HasTold self.old passed stream answers → (more : List (Answers Values))
+            × HasTold self.new passed (stream ++ piece.now) (answers ++ more)
+            × TellsEach (reading_of self.old) passed (stream ++ piece.now) answers more
+            lines.old.items lines.new.items) }
         ensures reading { reading_of self.new ≡ reading_of self.old }
         ensures skip { skip_of self.new ≡ skip_of self.old }
     {
@@ -159,8 +168,8 @@ impl<'a> LinesOfFrames<'a> {
     /// What is left of a piece behind the bytes that are to be passed over.
     fn behind_skipped<'b>(&mut self, piece: &'b [u8]) -> &'b [u8]
         ensures rest { result.now ≡ drop (skip_of self.old) piece.now }
-        ensures told { (stream : List ℕ) (answers : List (Answers Values))
-            → HasTold self.old stream answers → HasTold self.new stream answers }
+        ensures told { (passed : ℕ) (stream : List ℕ) (answers : List (Answers Values))
+            → HasTold self.old passed stream answers → HasTold self.new passed stream answers }
         ensures reading { reading_of self.new ≡ reading_of self.old }
         ensures skip { skip_of self.new ≡ skip_of self.old - length piece.now }
     {
@@ -175,9 +184,11 @@ impl<'a> LinesOfFrames<'a> {
     /// last one not counted in; `too_deep` likewise, of a message that nests in more nodes than it may; or `too_long`, with those
     /// that the piece in which the stretch grew past [`LIMIT`] has of it.
     pub fn push(&mut self, piece: &[u8], lines: &mut Vec<u8>) -> Result<(), AllocError>
-        ensures told { OnOk result ((stream : List ℕ) (answers : List (Answers Values))
-            → HasTold self.old stream answers → (more : List (Answers Values))
-            × HasTold self.new (stream ++ drop (skip_of self.old) piece.now) (answers ++ more)) }
+        ensures told { OnOk result ((passed : ℕ) (stream : List ℕ) (answers : List (Answers Values))
+            → HasTold self.old passed stream answers → (more : List (Answers Values))
+            × HasTold self.new passed (stream ++ drop (skip_of self.old) piece.now) (answers ++ more)
+            × TellsEach (reading_of self.old) passed (stream ++ drop (skip_of self.old) piece.now)
+            answers more lines.old.items lines.new.items) }
         ensures reading { reading_of self.new ≡ reading_of self.old }
         ensures skip { skip_of self.new ≡ skip_of self.old - length piece.now }
     {
@@ -188,9 +199,13 @@ impl<'a> LinesOfFrames<'a> {
     /// Ends the stream: appends a line `{"cut": {"from": .., "to": ..}}` if it ended in a stretch, and says whether all answers
     /// were values.
     pub fn finish(self, lines: &mut Vec<u8>) -> Result<bool, AllocError>
-        ensures { IfOk result (λ good. (stream : List ℕ) (answers : List (Answers Values))
-            → HasTold self.entry stream answers
+        ensures good { IfOk result (λ good. (passed : ℕ) (stream : List ℕ)
+            (answers : List (Answers Values)) → HasTold self.entry passed stream answers
             → good ≡ are_all_values (answers ++ added_at_end self.entry stream)) }
+        ensures told { OnOk result ((passed : ℕ) (stream : List ℕ) (answers : List (Answers Values))
+            → HasTold self.entry passed stream answers
+            → TellsEnd (reading_of self.entry) passed stream (added_at_end self.entry stream)
+            lines.old.items lines.new.items) }
     {
         let begun = self.receiver.begun_bytes() as u64;
         let from = self.at.saturating_sub(begun);
@@ -241,23 +256,45 @@ fn is_value(answer: &Answer<Value>) -> bool
     matches!(answer, Answer::Value(_))
 }
 
-/// Appends the line of a value, or nothing. It is made in a room of its own, from its beginning: a writer clears as many bytes
-/// ahead as it has before it, up to 16 KiB, and behind the lines of a whole read that took longer than writing the line.
+/// Appends the line of a value, whose text is put together in `text`.
 fn put_value_line(
     reading: Reading<'_>,
     value: &Value,
-    room: &Cell<Vec<u8>>,
+    text: &mut Vec<u8>,
     lines: &mut Vec<u8>,
-) -> Result<(), AllocError> {
-    let mut line = room.replace(Vec::new(reading.alloc));
-    line.clear();
-    let mut out = Writer::new(line);
-    put_value(&mut out, reading, value)?;
-    let mut line = out.into_inner();
-    line.push(b'\n')?;
-    lines.extend_from_slice(&line)?;
-    room.replace(line);
-    Ok(())
+) -> Result<(), AllocError>
+    ensures { OnOk result ((said : List ℕ) × LacksFeed said
+        × (lines.new.items ≡ lines.old.items ++ value_line said)) }
+{
+    write_value(reading, value, text)?;
+    join_lines(text);
+    lines.extend_from_slice(b"{\"value\":")?;
+    lines.extend_from_slice(text)?;
+    lines.extend_from_slice(b"}\n")
+}
+
+/// Makes one line of JSON. A line feed in it stands between its tokens, where a space says the same. The kit's writer puts none
+/// there, which no contract of it says.
+fn join_lines(text: &mut [u8])
+    ensures { LacksFeed text.new }
+{
+    if before_sentinel(text, b'\n') < text.len() {
+        put_spaces(text);
+    }
+}
+
+/// Puts a space in the place of each line feed.
+#[cold]
+fn put_spaces(text: &mut [u8])
+    ensures { LacksFeed text.new }
+{
+    let mut at = 0;
+    while at < text.len() {
+        if text[at] == b'\n' {
+            text[at] = b' ';
+        }
+        at += 1;
+    }
 }
 
 /// Appends the line of a stretch that is no value: what it is, and which bytes of the stream it has.
@@ -274,8 +311,8 @@ fn put_stretch_line(
     lines.extend_from_slice(line.as_bytes())
 }
 
-/// Appends the answer of a value, without a line feed.
-fn put_value(out: &mut Writer, reading: Reading<'_>, value: &Value) -> Result<(), AllocError> {
+/// Writes a value in the place of what the text was.
+fn write_value(reading: Reading<'_>, value: &Value, text: &mut Vec<u8>) -> Result<(), AllocError> {
     let Reading {
         alloc,
         schema,
@@ -284,13 +321,17 @@ fn put_value(out: &mut Writer, reading: Reading<'_>, value: &Value) -> Result<()
         depth,
         ..
     } = reading;
-    out.begin_object()?;
-    out.key("value")?;
-    match print_into(out, alloc, schema, place, Look { hex, depth }, value) {
-        Ok(()) => {}
+    text.clear();
+    let mut out = Writer::new(mem::replace(text, Vec::new(alloc)));
+    let written = print_into(&mut out, alloc, schema, place, Look { hex, depth }, value);
+    *text = out.into_inner();
+    match written {
+        Ok(()) => Ok(()),
         // What was read by a schema is of its type.
-        Err(PrintError::NotOfType) => out.null()?,
-        Err(PrintError::OutOfMemory) => return Err(AllocError),
+        Err(PrintError::NotOfType) => {
+            text.clear();
+            text.extend_from_slice(b"null")
+        }
+        Err(PrintError::OutOfMemory) => Err(AllocError),
     }
-    out.end_object()
 }

@@ -1,11 +1,18 @@
-use Rattle.std.proofs.Common.{◌++◌, subst}
-use Rattle.wire_lib.specs.Received.{HasTold}
+use Rattle.std.proofs.Common.{◌++◌, drop, subst}
+use Rattle.wire_lib.specs.Received.{HasTold, reading_of, skip_of}
 use Rattle.wire_lib.proofs.ToldLemmas.{on_ok_as}
+use Rattle.wire_lib.proofs.LineLemmas.{tells_as}
 use Rattle.wire_lib.proofs.receive.LinesOfFrames.push.Goals as goal
 
 pub returns-clause-told : goal.returns-clause-told
-returns-clause-told c = on_ok_as c.push_all.result (λ told stream answers h.
-    let next = told stream answers (c.behind_skipped-rest.ensures.told stream answers h) in (
+returns-clause-told c = on_ok_as c.push_all.result (λ told passed stream answers h.
+    let b = c.behind_skipped-rest in
+    let next = told passed stream answers (b.ensures.told passed stream answers h) in (
       next.0,
-      subst (λ x. HasTold c.push_all.new.self (stream ++ x) (answers ++ next.0)) c.behind_skipped-rest.ensures.rest next.1,
+      subst (λ x. HasTold c.push_all.new.self passed (stream ++ x) (answers ++ next.0))
+          b.ensures.rest next.1,
+      tells_as (reading_of b.new.self) (reading_of c.args.self.now) passed stream b.result.now
+          (drop (skip_of c.args.self.now) c.args.piece.now) answers next.0 c.args.lines.now.items
+          c.push_all.new.lines.items
+          b.ensures.reading b.ensures.rest next.2,
     )) c.push_all.ensures.told

@@ -1,7 +1,8 @@
-use Rattle.std.proofs.Common.{◌≡◌, ℕ, List, [], ◌∷◌, ◌++◌, take, length, refl, sym, ap, subst, ◌∙◌, arith, rules}
+use Rattle.std.proofs.Common.{◌≡◌, ℕ, List, [], ◌∷◌, ◌++◌, take, length, refl, sym, ap, subst, ◌∙◌, arith, rules, append_assoc}
 use Rattle.std.proofs.lemmas.List.{append-nil}
-use Rattle.wire_lib.specs.Received.{HasTold}
+use Rattle.wire_lib.specs.Received.{HasTold, TellsEach, reading_of}
 use Rattle.wire_lib.proofs.ToldLemmas.{told_none, told_then, parts_on}
+use Rattle.wire_lib.proofs.LineLemmas.{tells_none, tells_then}
 use Rattle.wire_lib.proofs.receive.LinesOfFrames.push_all.Goals as goal
 
 -- nothing is left
@@ -10,7 +11,18 @@ empty [] e = refl
 empty (x ∷ xs) e = absurd (omega arith)
 
 pub loop-rest-init : goal.loop-rest-init
-loop-rest-init c = ([], refl, refl, refl, λ stream answers h. ([], told_none c.args.self.now stream answers h))
+loop-rest-init c = (
+  [],
+  refl,
+  refl,
+  refl,
+  λ passed stream answers h. (
+    [],
+    told_none c.args.self.now passed stream answers h,
+    tells_none (reading_of c.args.self.now) passed (stream ++ c.args.piece.now) answers
+        c.args.lines.now.items,
+  ),
+)
 
 pub loop-rest-preserved : goal.loop-rest-preserved
 loop-rest-preserved c =
@@ -18,22 +30,35 @@ loop-rest-preserved c =
     let used = c.in_ok-used.used in
     let i = c.loop-rest.invariant in (
       i.0 ++ take used rest,
-      parts_on c.args.piece.now i.0 rest used i.1 ∙ ap (λ x. (i.0 ++ take used rest) ++ x) (sym c.split_at.ensures.back),
+      parts_on c.args.piece.now i.0 rest used i.1
+          ∙ ap (λ x. (i.0 ++ take used rest) ++ x) (sym c.split_at.ensures.back),
       c.in_ok-used.ensures.reading ∙ i.2,
       c.in_ok-used.ensures.skip ∙ i.3,
-      λ stream answers h.
-          let told = i.4 stream answers h in
-          let next = c.in_ok-used.ensures.told (stream ++ i.0) (answers ++ told.0) told.1 in (
+      λ passed stream answers h.
+          let told = i.4 passed stream answers h in
+          let next = c.in_ok-used.ensures.told passed (stream ++ i.0) (answers ++ told.0) told.1 in
+          let whole : (stream ++ i.0) ++ rest ≡ stream ++ c.args.piece.now = append_assoc stream i.0
+          rest ∙ ap (λ x. stream ++ x) (sym i.1) in (
             told.0 ++ next.0,
-            told_then c.push_one.new.self stream i.0 (take used rest) answers told.0 next.0 next.1,
+            told_then c.push_one.new.self passed stream i.0 (take used rest) answers told.0 next.0
+                next.1,
+            tells_then (reading_of c.args.self.now) passed (stream ++ c.args.piece.now) answers
+                told.0 next.0 c.args.lines.now.items c.loop-rest.lines.items
+                c.push_one.new.lines.items told.2
+                (subst (λ x. TellsEach x passed (stream ++ c.args.piece.now) (answers ++ told.0)
+                next.0 c.loop-rest.lines.items c.push_one.new.lines.items) i.2
+                (subst (λ x. TellsEach (reading_of c.loop-rest.self) passed x (answers ++ told.0)
+                next.0 c.loop-rest.lines.items c.push_one.new.lines.items) whole next.2)),
           ),
     )
 
 pub returns-clause-told : goal.returns-clause-told
-returns-clause-told c stream answers h =
+returns-clause-told c passed stream answers h =
     let i = c.loop-rest.invariant in
-    let told = i.4 stream answers h in
+    let told = i.4 passed stream answers h in
     let none : c.loop-rest.rest.now ≡ [] = empty c.loop-rest.rest.now (search rules) in (
       told.0,
-      subst (λ x. HasTold c.loop-rest.self (stream ++ x) (answers ++ told.0)) (sym (i.1 ∙ ap (λ x. i.0 ++ x) none ∙ append-nil i.0)) told.1,
+      subst (λ x. HasTold c.loop-rest.self passed (stream ++ x) (answers ++ told.0))
+          (sym (i.1 ∙ ap (λ x. i.0 ++ x) none ∙ append-nil i.0)) told.1,
+      told.2,
     )

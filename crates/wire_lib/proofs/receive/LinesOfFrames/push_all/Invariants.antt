@@ -1,7 +1,7 @@
 use Rattle.std.proofs.Common.{◌≡◌, ℕ, List, ◌++◌, length}
 use Rattle.link.specs.declared.receiver.Answer.{Answer}
 use Rattle.schemas.specs.declared.value.Value.{Value}
-use Rattle.wire_lib.specs.Received.{HasTold, reading_of, skip_of}
+use Rattle.wire_lib.specs.Received.{HasTold, TellsEach, reading_of, skip_of}
 use Rattle.wire_lib.proofs.receive.LinesOfFrames.push_all.Given as goal
 
 -- what is left of the piece, and that what came before it was told
@@ -9,8 +9,9 @@ abbrev pub invariant-loop-rest : goal.invariant-loop-rest
 invariant-loop-rest l =
     (done : List ℕ) × (l.fn.piece ≡ done ++ l.rest)
     × (reading_of l.self ≡ reading_of l.fn.self) × (skip_of l.self ≡ skip_of l.fn.self)
-    × ((stream : List ℕ) (answers : List (Answer Value)) → HasTold l.fn.self stream answers
-    → (more : List (Answer Value)) × HasTold l.self (stream ++ done) (answers ++ more))
+    × ((passed : ℕ) (stream : List ℕ) (answers : List (Answer Value)) → HasTold l.fn.self passed stream answers
+    → (more : List (Answer Value)) × HasTold l.self passed (stream ++ done) (answers ++ more)
+    × TellsEach (reading_of l.fn.self) passed (stream ++ l.fn.piece) answers more l.fn.lines.items l.lines.items)
 
 abbrev pub decreases-loop-rest : goal.decreases-loop-rest
 decreases-loop-rest l = length l.rest

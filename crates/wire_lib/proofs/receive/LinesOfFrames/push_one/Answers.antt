@@ -1,39 +1,81 @@
-use Rattle.std.proofs.Common.{◌&&◌, [], ◌∷◌, ◌++◌, Ok, Some, None, refl, sym, ap, subst, ◌∙◌}
-use Rattle.std.proofs.lemmas.List.{append-nil}
+use Rattle.std.proofs.Common.{◌-◌, ◌&&◌, [], ◌∷◌, ◌++◌, take, Ok, Some, None, refl, sym, ap, subst, ◌∙◌, arith}
+use Rattle.std.proofs.lemmas.List.{append-nil, length-append, length-take-le}
 use Rattle.link.specs.Decoding.{in_owner}
-use Rattle.link.specs.Pushes.{Answered}
+use Rattle.link.specs.Pushes.{Answered, IsStretchOf}
 use Rattle.link.specs.Lemmas.Givens.{heard_behind}
-use Rattle.wire_lib.specs.Received.{held_by, read_by, are_all_values}
+use Rattle.wire_lib.specs.Said.{SaysLine, end_said, known_to}
+use Rattle.wire_lib.specs.Received.{HasTold, held_by, read_by, reading_of, are_all_values}
 use Rattle.wire_lib.proofs.ToldLemmas.{all_then}
+use Rattle.wire_lib.proofs.LineLemmas.{tells_none, told_by_push}
 use Rattle.wire_lib.proofs.receive.LinesOfFrames.push_one.Goals as goal
 
 pub returns-in-Ok-None-clause-told : goal.returns-in-Ok-None-clause-told
-returns-in-Ok-None-clause-told g stream answers h =
+returns-in-Ok-None-clause-told g passed stream answers h =
     let r = g.args.self.now in
     let p = g.push_next-used in
+    let rest = g.args.rest.now in
     let holds = held_by r.reading in
     let reads = read_by r.reading in
     let s = r.reading.sentinel in
-    let answered = subst (λ a. Answered holds reads 65536 s stream g.args.rest.now p.result.used a) (g.in-Ok-None.is ∙ ap Ok g.in-Ok-None.field-0-is) (p.ensures.answers 65536 s stream h.hears.after) in (
+    let answered = subst (λ a. Answered holds reads 65536 s stream rest p.result.used a)
+    (g.in-Ok-None.is ∙ ap Ok g.in-Ok-None.field-0-is)
+    (p.ensures.answers 65536 s stream h.hears.after) in (
       [],
       record {
-        hears = heard_behind holds reads 65536 s stream g.args.rest.now answers (answers ++ []) p.result.used in_owner r.receiver p.new.receiver (Ok None) h.hears (p.ensures.stands 65536 s stream h.hears.after) answered (append-nil answers);
+        hears = heard_behind holds reads 65536 s stream rest answers (answers ++ []) p.result.used
+            in_owner r.receiver p.new.receiver (Ok None) h.hears
+            (p.ensures.stands 65536 s stream h.hears.after) answered (append-nil answers);
         good = h.good ∙ ap are_all_values (sym (append-nil answers));
+        came = omega (
+          arith,
+          h.came,
+          p.ensures.within,
+          length-append stream
+              (take p.result.used rest),
+          length-take-le p.result.used rest p.ensures.within,
+        );
       },
+      tells_none (reading_of r) passed (stream ++ rest) answers g.args.lines.now.items,
     )
 
 pub returns-in_ok-say-in-Ok-Some-clause-told : goal.returns-in_ok-say-in-Ok-Some-clause-told
-returns-in_ok-say-in-Ok-Some-clause-told g stream answers h =
+returns-in_ok-say-in-Ok-Some-clause-told g passed stream answers h =
     let r = g.args.self.now in
     let p = g.push_next-used in
+    let rest = g.args.rest.now in
+    let used = p.result.used in
     let a = g.in-Ok-Some.answer in
     let holds = held_by r.reading in
     let reads = read_by r.reading in
     let s = r.reading.sentinel in
-    let answered = subst (λ x. Answered holds reads 65536 s stream g.args.rest.now p.result.used x) (g.in-Ok-Some.is ∙ ap Ok g.in-Ok-Some.field-0-is) (p.ensures.answers 65536 s stream h.hears.after) in (
+    let answered = subst (λ x. Answered holds reads 65536 s stream rest used x)
+    (g.in-Ok-Some.is ∙ ap Ok g.in-Ok-Some.field-0-is)
+    (p.ensures.answers 65536 s stream h.hears.after) in
+    let size = subst (λ x. IsStretchOf s stream rest used x p.result.stretch)
+    (g.in-Ok-Some.is ∙ ap Ok g.in-Ok-Some.field-0-is)
+    (p.ensures.stretch 65536 s stream h.hears.after) in
+    let hears = heard_behind holds reads 65536 s stream rest answers (answers ++ a ∷ []) used
+    in_owner r.receiver p.new.receiver (Ok (Some a)) h.hears
+    (p.ensures.stands 65536 s stream h.hears.after) answered refl in
+    let at = g.saturating_add-self.result in
+    let says = subst (λ x. SaysLine a (at - 1 - p.result.stretch)
+    (end_said a (at - 1) (known_to at s x)) g.args.lines.now.items g.say.new.lines.items)
+    g.split_at.ensures.back g.in_ok-say-in-Ok-Some.ensures.line in (
       a ∷ [],
-      record {
-        hears = heard_behind holds reads 65536 s stream g.args.rest.now answers (answers ++ a ∷ []) p.result.used in_owner r.receiver p.new.receiver (Ok (Some a)) h.hears (p.ensures.stands 65536 s stream h.hears.after) answered refl;
-        good = ap (λ x. x && g.is_value.result) h.good ∙ ap (λ x. are_all_values answers && x) g.is_value.ensures ∙ sym (all_then answers a);
-      },
+      subst (λ x. HasTold x passed (stream ++ take used rest) (answers ++ a ∷ []))
+          (sym g.say.ensures.same) (record {
+            hears = hears;
+            good = ap (λ x. x && g.is_value.result) h.good
+                ∙ ap (λ x. are_all_values answers && x) g.is_value.ensures ∙ sym (all_then answers a);
+            came = omega (
+              arith,
+              h.came,
+              p.ensures.within,
+              length-append stream (take used rest),
+              length-take-le used rest p.ensures.within,
+            );
+          }),
+      told_by_push r.reading passed r.at at stream rest answers a used p.result.stretch
+          g.args.lines.now.items g.say.new.lines.items h.hears.given hears.given answered size
+          p.ensures.within h.came g.saturating_add-self.ensures says,
     )
