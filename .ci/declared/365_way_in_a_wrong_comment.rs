@@ -13,11 +13,6 @@ struct C {
     c: u32,
 }
 // message
-struct D {
-    // with = "postcard::fixint::le"
-    d: u8,
-}
-// message
 struct E {
     // with= "postcard::fixint::le"
     e: u32,

@@ -143,7 +143,7 @@ pub fn no_word(word: &str) -> Option<&'static str> {
         "f32" => Some("` is no message: take `LE<u32>` of its bits"),
         "f64" => Some("` is no message: take `LE<u64>` of its bits"),
         "Self" => Some(HOLDS_ITSELF),
-        _ if is_among(word, &["*", "!", "?", "+", "-"]) => Some(NO_TYPE),
+        _ if is_among(word, &["!", "?"]) => Some(NO_TYPE),
         _ => None,
     }
 }
