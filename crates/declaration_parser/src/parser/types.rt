@@ -2,35 +2,83 @@
 use super::Parser;
 use crate::tokens::{Token, is_among};
 
-/// Within how many marks that are open the words behind this one stand; nothing where the type has ended before it.
-fn depth_behind(word: &str, depth: usize) -> Option<usize> {
-    if is_among(word, &["(", "[", "<"]) {
-        return Some(depth.saturating_add(1));
+/// Where a word of a type stands.
+#[derive(Clone, Copy, Drop)]
+struct Place {
+    /// Within how many marks that are open.
+    depth: usize,
+    /// Within how many of them a length begins, behind `;` or `{`; 0 where none does. In a length `<` and `>` open and close nothing.
+    length: usize,
+}
+
+impl Place {
+    /// In front of a type.
+    fn front() -> Place {
+        Place {
+            depth: 0,
+            length: 0,
+        }
     }
-    let closes = is_among(word, &[")", "]", ">"]);
-    if depth == 0 && (closes || is_among(word, &[",", ";", "}", "="])) {
-        return None;
+
+    /// Behind a mark that opens.
+    fn inside(self) -> Place {
+        Place {
+            depth: self.depth.saturating_add(1),
+            ..self
+        }
     }
-    Some(if closes {
-        depth.saturating_sub(1)
-    } else {
-        depth
-    })
+
+    /// Behind a mark that closes.
+    fn outside(self) -> Place {
+        let depth = self.depth.saturating_sub(1);
+        Place {
+            depth,
+            length: if depth < self.length { 0 } else { self.length },
+        }
+    }
+
+    /// At the front of a length, unless one was begun.
+    fn at_length(self) -> Place {
+        Place {
+            length: if self.length == 0 {
+                self.depth
+            } else {
+                self.length
+            },
+            ..self
+        }
+    }
+
+    /// Where the words behind this one stand; nothing where the type has ended before it.
+    fn behind(self, word: &str) -> Option<Place> {
+        if self.depth == 0 && is_among(word, &[")", "]", ">", ",", ";", "}", "="]) {
+            return None;
+        }
+        Some(match word {
+            "<" | ">" if self.length > 0 => self,
+            "(" | "[" | "<" => self.inside(),
+            ")" | "]" | ">" => self.outside(),
+            "{" => self.inside().at_length(),
+            "}" => self.outside(),
+            ";" => self.at_length(),
+            _ => self,
+        })
+    }
 }
 
 impl<'a> Parser<'a> {
     /// Takes the words of a type, up to a comma or a closing mark, and says how many they are.
     fn type_length(&mut self) -> usize {
         let most = self.rest.len();
-        let mut depth: usize = 0;
+        let mut place = Place::front();
         let mut in_arrow = false;
         for length in 0..most {
             let word = self.peek();
             if !in_arrow {
-                let Some(within) = depth_behind(word, depth) else {
+                let Some(behind) = place.behind(word) else {
                     return length;
                 };
-                depth = within;
+                place = behind;
             }
             in_arrow = word == "-";
             self.step();
