@@ -1,2 +1,3 @@
 pub mod SentLemmas
+pub mod SizesLemmas
 pub mod ToldLemmas
