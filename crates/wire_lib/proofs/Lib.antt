@@ -1,3 +1,4 @@
 pub mod LineLemmas
 pub mod SentLemmas
+pub mod SizesLemmas
 pub mod ToldLemmas

@@ -2,3 +2,4 @@ pub mod Parsed
 pub mod Received
 pub mod Said
 pub mod Sent
+pub mod Sizes

@@ -1,23 +1,25 @@
 //! Greatest sizes.
+ghost use Rattle.std.specs.Prelude.{◌≡◌, ℕ, length, None, Some, IfSome, IfOk};
+ghost use Rattle.postcard_tree.specs.Spelling.{varint};
+ghost use Rattle.schemas.specs.Integers.{width_of as width_in_tree};
+ghost use Rattle.wire_lib.specs.Sizes.{known_size, sum_size, variant_size, counted_size, node_size, AreSizesOf};
+
+use postcard_tree::varint::varint_u64;
 use schemas::{IntegerType, Node};
 use std::alloc::{AllocError, Global};
 
 /// How many bytes a number takes as a varint.
-fn varint_size(number: u64) -> u64 {
-    let mut rest = number >> 7;
-    let mut size: u64 = 1;
-    for _ in 0..9 {
-        if rest == 0 {
-            break;
-        }
-        rest >>= 7;
-        size = size.saturating_add(1);
-    }
-    size
+fn varint_size(number: u64) -> u64
+    ensures { result ≡ length (varint number) }
+{
+    let mut groups = [0u8; 10];
+    varint_u64(number, &mut groups).len() as u64
 }
 
 /// The size at that place, where it is known.
-fn size_at(sizes: &[Option<u64>], place: usize) -> Option<u64> {
+fn size_at(sizes: &[Option<u64>], place: usize) -> Option<u64>
+    ensures { result ≡ known_size sizes.now place }
+{
     match sizes.get(place) {
         Some(size) => *size,
         None => None,
@@ -25,7 +27,9 @@ fn size_at(sizes: &[Option<u64>], place: usize) -> Option<u64> {
 }
 
 /// The sum of the greatest sizes of fields.
-fn sum(sizes: &[Option<u64>], fields: &[usize]) -> Option<u64> {
+fn sum(sizes: &[Option<u64>], fields: &[usize]) -> Option<u64>
+    ensures { IfSome result (λ n. sum_size sizes.now fields.now ≡ Some n) }
+{
     let mut total: u64 = 0;
     for field in fields {
         total = total.checked_add(size_at(sizes, *field)?)?;
@@ -34,7 +38,9 @@ fn sum(sizes: &[Option<u64>], fields: &[usize]) -> Option<u64> {
 }
 
 /// The greatest size of a variant.
-fn greatest(sizes: &[Option<u64>], payloads: &[usize]) -> Option<u64> {
+fn greatest(sizes: &[Option<u64>], payloads: &[usize]) -> Option<u64>
+    ensures { IfSome result (λ n. variant_size sizes.now 0 payloads.now ≡ Some n) }
+{
     let mut most: u64 = 0;
     for (index, payload) in payloads.iter().enumerate() {
         let size = varint_size(index as u64).checked_add(size_at(sizes, *payload)?)?;
@@ -44,7 +50,9 @@ fn greatest(sizes: &[Option<u64>], payloads: &[usize]) -> Option<u64> {
 }
 
 /// How many bytes an integer takes as its bytes.
-fn width_of(of: IntegerType) -> u64 {
+fn width_of(of: IntegerType) -> u64
+    ensures { result ≡ width_in_tree of }
+{
     match of {
         IntegerType::U16 | IntegerType::I16 => 2,
         IntegerType::U32 | IntegerType::I32 => 4,
@@ -54,7 +62,9 @@ fn width_of(of: IntegerType) -> u64 {
 }
 
 /// The greatest size of as many elements as may be, behind their count.
-fn counted(most: u64, element: Option<u64>) -> Option<u64> {
+fn counted(most: u64, element: Option<u64>) -> Option<u64>
+    ensures { IfSome result (λ n. counted_size most element ≡ Some n) }
+{
     if most == 0 {
         return Some(1);
     }
@@ -62,7 +72,9 @@ fn counted(most: u64, element: Option<u64>) -> Option<u64> {
 }
 
 /// The greatest size of a node's values, by those of the types inside.
-fn size_of_node(sizes: &[Option<u64>], node: &Node) -> Option<u64> {
+fn size_of_node(sizes: &[Option<u64>], node: &Node) -> Option<u64>
+    ensures { IfSome result (λ n. node_size sizes.now node.now ≡ Some n) }
+{
     match node {
         Node::Bool | Node::U8 | Node::I8 => Some(1),
         Node::U16 | Node::I16 => Some(3),
@@ -112,7 +124,10 @@ struct Sizes {
 
 impl Sizes {
     /// Nothing is known of so many nodes.
-    fn new(alloc: Global, count: usize) -> Result<Sizes, AllocError> {
+    fn new(alloc: Global, count: usize) -> Result<Sizes, AllocError>
+        ensures many { IfOk result (λ sizes. length sizes.known.items ≡ count) }
+        ensures none { IfOk result (λ sizes. (place : ℕ) → known_size sizes.known.items place ≡ None) }
+    {
         let mut known = Vec::new(alloc);
         let mut met = Vec::new(alloc);
         for _ in 0..count {
@@ -123,7 +138,9 @@ impl Sizes {
     }
 
     /// Begins a node, unless it was met.
-    fn begin(&mut self, begun: &mut Vec<Begun>, place: usize) -> Result<(), AllocError> {
+    fn begin(&mut self, begun: &mut Vec<Begun>, place: usize) -> Result<(), AllocError>
+        ensures { self.new.known ≡ self.old.known }
+    {
         if let Some(met) = self.met.get_mut(place)
             && !*met
         {
@@ -134,7 +151,11 @@ impl Sizes {
     }
 
     /// Goes into the next part of the node that was begun last; behind all of them its size is known.
-    fn step(&mut self, nodes: &[Node], begun: &mut Vec<Begun>) -> Result<bool, AllocError> {
+    fn step(&mut self, nodes: &[Node], begun: &mut Vec<Begun>) -> Result<bool, AllocError>
+        ensures many { length self.new.known.items ≡ length self.old.known.items }
+        ensures right { AreSizesOf nodes.now self.old.known.items
+            → AreSizesOf nodes.now self.new.known.items }
+    {
         let Some(Begun { place, parts }) = begun.pop() else {
             return Ok(false);
         };
@@ -161,7 +182,10 @@ impl Sizes {
 /// and lists without a greatest length, for a type that holds itself, and past 2^64.
 ///
 /// Each node is gone into once, behind the types inside.
-pub fn greatest_sizes(alloc: Global, nodes: &[Node]) -> Result<Vec<Option<u64>>, AllocError> {
+pub fn greatest_sizes(alloc: Global, nodes: &[Node]) -> Result<Vec<Option<u64>>, AllocError>
+    ensures each { IfOk result (λ sizes. length sizes.items ≡ length nodes.now) }
+    ensures bounds { IfOk result (λ sizes. AreSizesOf nodes.now sizes.items) }
+{
     let mut sizes = Sizes::new(alloc, nodes.len())?;
     let mut begun = Vec::new(alloc);
     for place in 0..nodes.len() {

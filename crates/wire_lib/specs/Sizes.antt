@@ -1,0 +1,84 @@
+-- How many bytes a value of a type takes at most.
+use Rattle.std.specs.Prelude.{◌≡◌, ℕ, zero, suc, ◌+◌, ◌*◌, ◌≤◌, List, [], ◌∷◌, length, Option, Some, None}
+use Rattle.std.specs.List.{slice_get}
+use Rattle.postcard_tree.specs.Tree.{Tree}
+use Rattle.postcard_tree.specs.Spelling.{varint, short}
+use Rattle.postcard.specs.Greatest.{greater_of}
+use Rattle.schemas.specs.declared.node.Node.{Node}
+use Rattle.schemas.specs.declared.node.Node.TheVariants as node
+use Rattle.schemas.specs.Integers.{width_of}
+use Rattle.schemas.specs.Schemas.{SchemaTakes}
+
+-- each tree that is taken has a shortest spelling of at most so many bytes
+abbrev pub IsAtMost : (Tree → Type 0) → ℕ → Type 0
+IsAtMost takes n = (t : Tree) → takes t → length (short t) ≤ n
+
+-- the size in a list of them, or none
+abbrev pub size_in : Option (Option ℕ) → Option ℕ
+size_in None = None
+size_in (Some size) = size
+
+-- the size at that place, where it is known
+abbrev pub known_size : List (Option ℕ) → ℕ → Option ℕ
+known_size sizes place = size_in (slice_get sizes place)
+
+-- each size that is known bounds what is taken at its place
+abbrev pub KnowsSizes : (ℕ → Tree → Type 0) → List (Option ℕ) → Type 0
+KnowsSizes takes sizes = (place n : ℕ) → known_size sizes place ≡ Some n → IsAtMost (takes place) n
+
+-- each size that is known bounds what the type at its place takes, however deep it nests
+abbrev pub AreSizesOf : List Node → List (Option ℕ) → Type 0
+AreSizesOf nodes sizes = (depth : ℕ) → KnowsSizes (SchemaTakes depth nodes) sizes
+
+-- the sum of two sizes; none where one has none
+abbrev pub both : Option ℕ → Option ℕ → Option ℕ
+both None b = None
+both (Some a) None = None
+both (Some a) (Some b) = Some (a + b)
+
+-- so many of this size
+abbrev pub so_many : ℕ → Option ℕ → Option ℕ
+so_many zero size = Some 0
+so_many (suc n) None = None
+so_many (suc n) (Some size) = Some (size * suc n)
+
+-- the sum of the sizes at these places
+abbrev pub sum_size : List (Option ℕ) → List ℕ → Option ℕ
+sum_size sizes [] = Some 0
+sum_size sizes (i ∷ is) = both (known_size sizes i) (sum_size sizes is)
+
+-- the greatest of the sizes at these places, each behind the index of its variant, which are counted from this one on
+abbrev pub variant_size : List (Option ℕ) → ℕ → List ℕ → Option ℕ
+variant_size sizes index [] = Some 0
+variant_size sizes index (i ∷ is) =
+    greater_of (both (Some (length (varint index))) (known_size sizes i)) (variant_size sizes (index + 1) is)
+
+-- as many elements as may be, behind their count
+abbrev pub counted_size : ℕ → Option ℕ → Option ℕ
+counted_size n element = both (so_many n element) (Some (length (varint n)))
+
+-- the size of a node by those of the types inside
+abbrev pub node_size : List (Option ℕ) → Node → Option ℕ
+node_size sizes node.Bool = Some 1
+node_size sizes node.U8 = Some 1
+node_size sizes node.I8 = Some 1
+node_size sizes node.U16 = Some 3
+node_size sizes node.U32 = Some 5
+node_size sizes node.U64 = Some 10
+node_size sizes node.U128 = Some 19
+node_size sizes node.I16 = Some 3
+node_size sizes node.I32 = Some 5
+node_size sizes node.I64 = Some 10
+node_size sizes node.I128 = Some 19
+node_size sizes (node.LE k) = Some (width_of k)
+node_size sizes (node.BE k) = Some (width_of k)
+node_size sizes node.Char = Some 5
+node_size sizes node.Text = None
+node_size sizes (node.TextUpTo n) = counted_size n (Some 1)
+node_size sizes node.Bytes = None
+node_size sizes (node.Option i) = both (known_size sizes i) (Some 1)
+node_size sizes (node.List i) = None
+node_size sizes (node.ListUpTo n i) = counted_size n (known_size sizes i)
+node_size sizes (node.Array n i) = so_many n (known_size sizes i)
+node_size sizes (node.Struct is) = sum_size sizes is.items
+node_size sizes (node.Enum is) = variant_size sizes 0 is.items
