@@ -1,9 +1,9 @@
 -- What bounds the sizes of trees.
-use Rattle.std.proofs.Common.{◌≡◌, ℕ, zero, suc, ◌+◌, ◌*◌, ◌/◌, ◌<◌, ◌≤◌, ◌⊎◌, inl, inr, List, [], ◌∷◌, ◌++◌, length, get_or, take, max, Option, Some, None, refl, sym, ap, subst, arith, ⊎_elim, length-append}
-use Rattle.std.specs.Prelude.{IfSome, slice_set}
+use Rattle.std.proofs.Common.{◌≡◌, ◌∙◌, ℕ, zero, suc, ◌+◌, ◌*◌, ◌/◌, ◌<◌, ◌≤◌, ◌⊎◌, inl, inr, List, [], ◌∷◌, ◌++◌, length, get_or, take, drop, map, max, Option, Some, None, refl, sym, ap, subst, arith, ⊎_elim, length-append}
+use Rattle.std.specs.Prelude.{IfSome, MatchOption, slice_set}
 use Rattle.std.specs.List.{slice_get}
 use Rattle.std.proofs.Math.Nat.{mul-le-mul_left}
-use Rattle.std.proofs.lemmas.List.{length-take-le, take_more}
+use Rattle.std.proofs.lemmas.List.{append-nil, drop_all, length-take-le, take_all, take_more}
 use Rattle.std.proofs.lemmas.Bool.{cases_lt}
 use Rattle.postcard_tree.specs.Tree.{Tree, Trees, byte, number, character, sequence, group, end, part, count_of}
 use Rattle.postcard_tree.specs.Spelling.{groups_of, varint, single, short, short_all}
@@ -14,7 +14,7 @@ use Rattle.schemas.specs.declared.node.Node.{Node}
 use Rattle.schemas.specs.declared.node.Node.TheVariants as node
 use Rattle.schemas.specs.Integers.{width_of}
 use Rattle.schemas.specs.Schemas.{TakesFields, TakesPayload, TakesNode, TakesPlace, SchemaTakes}
-use Rattle.wire_lib.specs.Sizes.{IsAtMost, known_size, KnowsSizes, AreSizesOf, both, so_many, sum_size, variant_size, counted_size, node_size}
+use Rattle.wire_lib.specs.Sizes.{IsAtMost, known_size, KnowsSizes, AreSizesOf, both, so_many, sum_size, variant_size, counted_size, node_size, node_bounded}
 
 -- Sizes
 
@@ -321,3 +321,27 @@ sizes_then nodes sizes place n size h g f (suc depth) p m e =
     known_here nodes depth p n m q r)
     (λ there. h (suc depth) p m there)
     (set_known sizes place size p m e)
+
+-- Lists that are bounded
+
+pub bounded_is : (s sizes : List (Option ℕ)) (most : ℕ) (r : Option ℕ) (n : Node) → s ≡ sizes
+    → ((m : ℕ) → MatchOption r (node_bounded s m n ≡ n) (λ i. node_bounded s m n ≡ node.ListUpTo m i))
+    → MatchOption r (node_bounded sizes most n ≡ n) (λ i. node_bounded sizes most n ≡ node.ListUpTo most i)
+bounded_is s sizes most r n e h = subst (λ z. MatchOption r (node_bounded z most n ≡ n) (λ i. node_bounded z most n ≡ node.ListUpTo most i)) e (h most)
+
+pub at_this : (r : Option ℕ) (P : Type 0) (Q : ℕ → Type 0) (i : ℕ) → MatchOption r P Q → r ≡ Some i → Q i
+at_this r P Q i h e = subst (λ z. MatchOption z P Q) e h
+
+pub at_none : (r : Option ℕ) (P : Type 0) (Q : ℕ → Type 0) → MatchOption r P Q → r ≡ None → P
+at_none r P Q h e = subst (λ z. MatchOption z P Q) e h
+
+pub all_mapped : (f : Node → Node) (len : ℕ) (loop items : List Node) (i : ℕ) → length loop ≡ length items → len ≡ length items
+    → length items ≤ i → loop ≡ map f (take i items) ++ drop i items → take len (loop ++ drop (length loop) items) ≡ map f items
+all_mapped f len loop items i a b c h =
+    ap (λ d. take len (loop ++ d)) (drop_all (length loop) items (omega arith))
+    ∙ ap (λ d. take len d) (append-nil loop)
+    ∙ take_all len loop (omega arith)
+    ∙ h
+    ∙ ap (λ t. map f t ++ drop i items) (take_all i items c)
+    ∙ ap (λ d. map f items ++ d) (drop_all i items c)
+    ∙ append-nil (map f items)

@@ -1,5 +1,5 @@
 -- How many bytes a value of a type takes at most.
-use Rattle.std.specs.Prelude.{◌≡◌, ℕ, zero, suc, ◌+◌, ◌*◌, ◌≤◌, List, [], ◌∷◌, length, Option, Some, None}
+use Rattle.std.specs.Prelude.{◌≡◌, ℕ, zero, suc, ◌+◌, ◌*◌, ◌≤◌, List, [], ◌∷◌, length, map, Option, Some, None}
 use Rattle.std.specs.List.{slice_get}
 use Rattle.postcard_tree.specs.Tree.{Tree}
 use Rattle.postcard_tree.specs.Spelling.{varint, short}
@@ -82,3 +82,20 @@ node_size sizes (node.ListUpTo n i) = counted_size n (known_size sizes i)
 node_size sizes (node.Array n i) = so_many n (known_size sizes i)
 node_size sizes (node.Struct is) = sum_size sizes is.items
 node_size sizes (node.Enum is) = variant_size sizes 0 is.items
+
+-- a list whose elements are known to take no bytes has so many at most; any other stays
+abbrev pub list_bounded : Option ℕ → ℕ → ℕ → Node
+list_bounded None most i = node.List i
+list_bounded (Some zero) most i = node.ListUpTo most i
+list_bounded (Some (suc n)) most i = node.List i
+
+-- so is a node that is a list; any other stays
+abbrev pub node_bounded : List (Option ℕ) → ℕ → Node → Node
+node_bounded sizes most (node.List i) = list_bounded (known_size sizes i) most i
+node_bounded sizes most n = n
+
+-- of these nodes, the lists whose elements take no bytes, as far as that is known, have so many at most, and all others stay
+pub record AreListsBounded (most : ℕ) (nodes nodes' : List Node) : Type 0 where
+  pub sizes : List (Option ℕ)
+  pub right : AreSizesOf nodes sizes
+  pub changed : nodes' ≡ map (node_bounded sizes most) nodes

@@ -1,8 +1,8 @@
 //! Greatest sizes.
-ghost use Rattle.std.specs.Prelude.{◌≡◌, ℕ, length, None, Some, IfSome, IfOk};
+ghost use Rattle.std.specs.Prelude.{◌≡◌, ℕ, length, None, Some, IfSome, IfOk, IsErr, IsTrue, ◌↔◌, MatchOption};
 ghost use Rattle.postcard_tree.specs.Spelling.{varint};
 ghost use Rattle.schemas.specs.Integers.{width_of as width_in_tree};
-ghost use Rattle.wire_lib.specs.Sizes.{known_size, sum_size, variant_size, counted_size, node_size, AreSizesOf};
+ghost use Rattle.wire_lib.specs.Sizes.{known_size, sum_size, variant_size, counted_size, node_size, node_bounded, AreSizesOf, AreListsBounded};
 
 use postcard_tree::varint::varint_u64;
 use schemas::{IntegerType, Node};
@@ -200,19 +200,37 @@ pub fn greatest_sizes(alloc: Global, nodes: &[Node]) -> Result<Vec<Option<u64>>,
 }
 
 /// Whether values of the type at that place take no bytes.
-fn takes_none(sizes: &[Option<u64>], place: usize) -> bool {
+fn takes_none(sizes: &[Option<u64>], place: usize) -> bool
+    ensures { IsTrue result ↔ known_size sizes.now place ≡ Some 0 }
+{
     size_at(sizes, place) == Some(0)
+}
+
+/// The place of the elements of a list, where they take no bytes.
+fn empty_elements(sizes: &[Option<u64>], node: &Node) -> Option<usize>
+    ensures { (most : ℕ) → MatchOption result (node_bounded sizes.now most node.now ≡ node.now)
+        (λ i. node_bounded sizes.now most node.now ≡ Node.ListUpTo most i) }
+{
+    let Node::List(inner) = node else {
+        return None;
+    };
+    if takes_none(sizes, *inner) {
+        Some(*inner)
+    } else {
+        None
+    }
 }
 
 /// Lets a list of elements that take no bytes have so many at most, since its bytes don't bound them: a frame of seven bytes
 /// could say that there are 2^64.
-pub fn bound_lists(alloc: Global, nodes: &mut Vec<Node>, most: u64) -> Result<(), AllocError> {
+pub fn bound_lists(alloc: Global, nodes: &mut Vec<Node>, most: u64) -> Result<(), AllocError>
+    ensures bounded { IfOk result (λ _. AreListsBounded most nodes.old.items nodes.new.items) }
+    ensures error { IsErr result → nodes.new.items ≡ nodes.old.items }
+{
     let sizes = greatest_sizes(alloc, nodes)?;
-    for node in nodes {
-        if let Node::List(inner) = node
-            && takes_none(&sizes, *inner)
-        {
-            *node = Node::ListUpTo(most, *inner);
+    for node in nodes.iter_mut() {
+        if let Some(inner) = empty_elements(&sizes, node) {
+            *node = Node::ListUpTo(most, inner);
         }
     }
     Ok(())
