@@ -91,6 +91,15 @@ fn decode_pushed(source: &[u8], dest: &mut [u8]) -> Result<DecodeReport, DecodeE
     }
 }
 
+// The same, whose room for an answer is asked only where this way is taken: the quicker ways don't clear it.
+#[inline(always)]
+fn decode_pushed_apart(source: &[u8], dest: &mut [u8]) -> Result<DecodeReport, DecodeError>
+    ensures answer { result ≡ decoded_from (length dest.old) source.now }
+    ensures dest { dest.new ≡ overwritten (part (frame_in source.now)) dest.old }
+{
+    apart(decode_pushed(source, dest))
+}
+
 // How many bytes of a source were used where its frame, behind leading zeros, has so many: with the zero behind it, where there is
 // one.
 #[inline(always)]
@@ -121,7 +130,7 @@ fn decode_found(
         let answer = decode_whole(frame, dest, 0);
         with_parsed(answer, parsed_behind(source, rest, frame.len()))
     } else {
-        apart(decode_pushed(source, dest))
+        decode_pushed_apart(source, dest)
     }
 }
 
@@ -154,6 +163,15 @@ fn decode_searched(source: &[u8], dest: &mut [u8]) -> Result<DecodeReport, Decod
     decode_found(source, rest, &rest[..end], dest)
 }
 
+// The same, whose room for an answer is asked only where this way is taken.
+#[inline(always)]
+fn decode_searched_apart(source: &[u8], dest: &mut [u8]) -> Result<DecodeReport, DecodeError>
+    ensures answer { result ≡ decoded_from (length dest.old) source.now }
+    ensures dest { dest.new ≡ overwritten (part (frame_in source.now)) dest.old }
+{
+    apart(decode_searched(source, dest))
+}
+
 // Whether many bytes begin with many codes 01.
 #[inline(always)]
 fn begins_with_row(rest: &[u8]) -> bool
@@ -181,7 +199,7 @@ fn decode_begun(source: &[u8], rest: &[u8], dest: &mut [u8]) -> Result<DecodeRep
     }
     // A row of zeros is filled as it is met: a search for the frame's end would pass over it once more.
     if begins_with_row(rest) {
-        return apart(decode_pushed(source, dest));
+        return decode_pushed_apart(source, dest);
     }
     if let Some(frame) = near_frame(rest, 0) {
         return decode_found(source, rest, frame, dest);
@@ -189,7 +207,7 @@ fn decode_begun(source: &[u8], rest: &[u8], dest: &mut [u8]) -> Result<DecodeRep
     if has_room(rest, dest.len()) {
         decode_long(source, rest, dest)
     } else {
-        apart(decode_searched(source, dest))
+        decode_searched_apart(source, dest)
     }
 }
 
@@ -200,7 +218,7 @@ fn decode_first(source: &[u8], dest: &mut [u8]) -> Result<DecodeReport, DecodeEr
     ensures dest { dest.new ≡ overwritten (part (frame_in source.now)) dest.old }
 {
     if source.is_empty() || source[0] == 0 {
-        apart(decode_searched(source, dest))
+        decode_searched_apart(source, dest)
     } else {
         decode_begun(source, source, dest)
     }

@@ -22,10 +22,10 @@ pub returns-then-has_room-clause-dest : goal.returns-then-has_room-clause-dest
 returns-then-has_room-clause-dest c = c.decode_long.ensures.dest
 
 pub returns-then-begins_with_row-clause-answer : goal.returns-then-begins_with_row-clause-answer
-returns-then-begins_with_row-clause-answer c = c.apart.ensures ∙ c.decode_pushed.ensures.answer
+returns-then-begins_with_row-clause-answer c = c.decode_pushed_apart.ensures.answer
 
 pub returns-then-begins_with_row-clause-dest : goal.returns-then-begins_with_row-clause-dest
-returns-then-begins_with_row-clause-dest c = c.decode_pushed.ensures.dest
+returns-then-begins_with_row-clause-dest c = c.decode_pushed_apart.ensures.dest
 
 pub returns-in-Some-clause-answer : goal.returns-in-Some-clause-answer
 returns-in-Some-clause-answer c = c.decode_found-in-Some.ensures.answer
@@ -40,7 +40,7 @@ pub returns-then-has_room-2-clause-dest : goal.returns-then-has_room-2-clause-de
 returns-then-has_room-2-clause-dest c = c.decode_long-then-has_room-2.ensures.dest
 
 pub returns-else-has_room-2-clause-answer : goal.returns-else-has_room-2-clause-answer
-returns-else-has_room-2-clause-answer c = c.apart-else-has_room-2.ensures ∙ c.decode_searched.ensures.answer
+returns-else-has_room-2-clause-answer c = c.decode_searched_apart.ensures.answer
 
 pub returns-else-has_room-2-clause-dest : goal.returns-else-has_room-2-clause-dest
-returns-else-has_room-2-clause-dest c = c.decode_searched.ensures.dest
+returns-else-has_room-2-clause-dest c = c.decode_searched_apart.ensures.dest

@@ -1,11 +1,10 @@
-use Rattle.std.proofs.Common.{◌∙◌}
 use Rattle.cobs.proofs.dec.whole.decode_first.Goals as goal
 
 pub returns-then-source-eq0-clause-answer : goal.returns-then-source-eq0-clause-answer
-returns-then-source-eq0-clause-answer c = c.apart.ensures ∙ c.decode_searched.ensures.answer
+returns-then-source-eq0-clause-answer c = c.decode_searched_apart.ensures.answer
 
 pub returns-then-source-eq0-clause-dest : goal.returns-then-source-eq0-clause-dest
-returns-then-source-eq0-clause-dest c = c.decode_searched.ensures.dest
+returns-then-source-eq0-clause-dest c = c.decode_searched_apart.ensures.dest
 
 pub returns-else-source-eq0-clause-answer : goal.returns-else-source-eq0-clause-answer
 returns-else-source-eq0-clause-answer c = c.decode_begun.ensures.answer
