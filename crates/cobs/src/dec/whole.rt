@@ -1,5 +1,5 @@
 //! A source that is there as a whole, decoded into a slice.
-ghost use Rattle.std.specs.Prelude.{◌≡◌, ◌≢◌, ℕ, ◌+◌, ◌-◌, ◌<◌, ◌≤◌, List, [], length, take, slice_index, min, IsTrue, IfOk, OnErr, IfSome, IsNone};
+ghost use Rattle.std.specs.Prelude.{◌≡◌, ◌≢◌, ℕ, ◌+◌, ◌-◌, ◌<◌, ◌≤◌, List, [], length, take, slice_index, IsTrue, IfOk, OnErr, IfSome, IsNone};
 ghost use Rattle.cobs.specs.Frames.{Frame, NoZero, part};
 ghost use Rattle.cobs.specs.Reports.{frame_size};
 ghost use Rattle.cobs.specs.InPlace.{stretch, overwritten};
@@ -100,17 +100,6 @@ fn decode_pushed_apart(source: &[u8], dest: &mut [u8]) -> Result<DecodeReport, D
     apart(decode_pushed(source, dest))
 }
 
-// How many bytes of a source were used where its frame, behind leading zeros, has so many: with the zero behind it, where there is
-// one.
-#[inline(always)]
-fn parsed_behind(source: &[u8], rest: &[u8], end: usize) -> usize
-    requires rest { length rest.now ≤ length source.now }
-    requires end { end ≤ length rest.now }
-    ensures { result ≡ min (length source.now - length rest.now + end + 1) (length source.now) }
-{
-    source.len().min(source.len() - rest.len() + end + 1)
-}
-
 // As `decode`, of a source whose frame, behind leading zeros, was found.
 #[inline(always)]
 fn decode_found(
@@ -127,8 +116,15 @@ fn decode_found(
     ensures dest { dest.new ≡ overwritten (part (frame_in source.now)) dest.old }
 {
     if has_room(frame, dest.len()) {
-        let answer = decode_whole(frame, dest, 0);
-        with_parsed(answer, parsed_behind(source, rest, frame.len()))
+        match decode_whole(frame, dest, 0) {
+            Ok(decoded) => Ok(DecodeReport {
+                parsed: source
+                    .len()
+                    .min(source.len() - rest.len() + frame.len() + 1),
+                decoded,
+            }),
+            Err(error) => Err(error),
+        }
     } else {
         decode_pushed_apart(source, dest)
     }
@@ -146,7 +142,13 @@ fn decode_long(source: &[u8], rest: &[u8], dest: &mut [u8]) -> Result<DecodeRepo
     ensures dest { dest.new ≡ overwritten (part (frame_in source.now)) dest.old }
 {
     let (answer, end) = decode_source::<0>(rest, dest, 0);
-    with_parsed(answer, parsed_behind(source, rest, end))
+    match answer {
+        Ok(decoded) => Ok(DecodeReport {
+            parsed: source.len().min(source.len() - rest.len() + end + 1),
+            decoded,
+        }),
+        Err(error) => Err(error),
+    }
 }
 
 // As `decode`, by a search for the frame's end before it is decoded.

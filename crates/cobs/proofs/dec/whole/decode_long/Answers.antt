@@ -1,5 +1,4 @@
-use Rattle.std.proofs.Common.{◌≡◌, ◌+◌, ◌-◌, ◌≤◌, List, length, ℕ, refl, sym, ap, ◌∙◌, arith}
-use Rattle.std.specs.Prelude.{min}
+use Rattle.std.proofs.Common.{◌≡◌, ◌+◌, ◌≤◌, List, length, ℕ, sym, ap, ◌∙◌, arith}
 use Rattle.cobs.specs.Feeding.{at_zero}
 use Rattle.cobs.specs.Frames.{part}
 use Rattle.cobs.specs.InPlace.{stretch, overwritten}
@@ -7,7 +6,7 @@ use Rattle.cobs.specs.Sentinel.{masked}
 use Rattle.cobs.specs.Whole.{frame_in}
 use Rattle.cobs.proofs.DecodingLemmas.{part_shorter}
 use Rattle.cobs.proofs.MaskingLemmas.{masked_zero}
-use Rattle.cobs.proofs.PushingLemmas.{short_told}
+use Rattle.cobs.proofs.PushingLemmas.{short_refused, short_whole}
 use Rattle.cobs.proofs.ShortLemmas.{as_at_zero, zero_into}
 use Rattle.cobs.proofs.dec.whole.decode_long.Goals as goal
 use Rattle.cobs.proofs.dec.whole.decode_long.Goals.{After-decode_source-answer}
@@ -34,13 +33,22 @@ module _ (c : After-decode_source-answer) where
       ∙ zero_into (length c.args.dest.now) frame (omega (arith, c.decode_source-answer.ensures.end, c.decode_source-answer.ensures.some)) fits
       ∙ ap as_at_zero (sym c.decode_source-answer.ensures.answer)
 
-pub returns-clause-answer : goal.returns-clause-answer
-returns-clause-answer c =
-    let e = (goal.at.returns-clause-answer c).After-decode_source-answer in
-    let s = c.decode_source-answer in
-    c.with_parsed.ensures
-    ∙ short_told c.args.source.now c.args.rest.now c.args.dest.now c.requires.rest (fit e) (as_at_zero s.result.0) (zero e) s.result.0 c.parsed_behind.result refl
-    (c.parsed_behind.ensures ∙ ap (λ n. min (length c.args.source.now - length c.args.rest.now + n + 1) (length c.args.source.now)) (s.ensures.end ∙ ap length (is e)))
+pub overflow_add-source : goal.overflow_add-source
+overflow_add-source c = omega (arith, c.decode_source-answer.ensures.within, c.requires.within)
 
-pub returns-clause-dest : goal.returns-clause-dest
-returns-clause-dest c = over (goal.at.returns-clause-dest c).After-decode_source-answer
+pub returns-in-Ok-clause-answer : goal.returns-in-Ok-clause-answer
+returns-in-Ok-clause-answer c =
+    let e = (goal.at.returns-in-Ok-clause-answer c).After-decode_source-answer in
+    short_whole c.args.source.now c.args.rest.now c.args.dest.now c.requires.rest (fit e) (as_at_zero c.decode_source-answer.result.0) (zero e) c.in-Ok.decoded c.min.result (ap as_at_zero c.in-Ok.is)
+    (omega (arith, ap length (is e), c.decode_source-answer.ensures.end, c.requires.within))
+
+pub returns-in-Ok-clause-dest : goal.returns-in-Ok-clause-dest
+returns-in-Ok-clause-dest c = over (goal.at.returns-in-Ok-clause-dest c).After-decode_source-answer
+
+pub returns-in-Err-clause-answer : goal.returns-in-Err-clause-answer
+returns-in-Err-clause-answer c =
+    let e = (goal.at.returns-in-Err-clause-answer c).After-decode_source-answer in
+    short_refused c.args.source.now c.args.rest.now c.args.dest.now c.requires.rest (fit e) (as_at_zero c.decode_source-answer.result.0) (zero e) c.in-Err.error (ap as_at_zero c.in-Err.is)
+
+pub returns-in-Err-clause-dest : goal.returns-in-Err-clause-dest
+returns-in-Err-clause-dest c = over (goal.at.returns-in-Err-clause-dest c).After-decode_source-answer
