@@ -5,7 +5,7 @@ use borrow.Rule.Slice.PartMut.{put_mid}
 use Rattle.cobs.specs.Frames.{NoZero, block, shortest_from, shortest_frame}
 use Rattle.cobs.specs.Held.{pushed, Laid, GoesOnFromBlock, HoldsFrame, last_run}
 use Rattle.cobs.specs.Codes.{Coding}
-use Rattle.cobs.proofs.EncodingLemmas.{open_zero, open_run, open_full}
+use Rattle.cobs.proofs.EncodingLemmas.{open_zero, open_run}
 use Rattle.cobs.proofs.LengthsLemmas.{least_length}
 use Rattle.cobs.proofs.HoldingLemmas.{Parts, holds_of, front_of, run_length}
 
@@ -25,9 +25,6 @@ coded_front bytes code_at at m front rest h c =
       short = omega (arith, c.short, long, all);
       goes_on = λ more. c.goes_on more ∙ ap (λ x. c.closed ++ x) (ap (shortest_from c.run) (append_assoc front rest more) ∙ open_run c.run front (rest ++ more) h (omega (arith, c.short, all)));
     }
-
-pub coded_byte : (bytes : List ℕ) (code_at at : ℕ) (m : List ℕ) (byte : ℕ) (rest : List ℕ) → 0 < byte → Coding bytes code_at at m (byte ∷ rest) → Coding bytes code_at (at + 1) m rest
-coded_byte bytes code_at at m byte rest p c = coded_front bytes code_at at m (byte ∷ []) rest (p, tt) c
 
 -- a zero closes it
 pub coded_zero : (bytes : List ℕ) (code_at at : ℕ) (m rest : List ℕ) → Coding bytes code_at at m (0 ∷ rest) → Coding (set bytes code_at (at - code_at)) at (at + 1) m rest
@@ -63,12 +60,6 @@ pub zero_at : (bytes : List ℕ) (code_at at next : ℕ) (m piece more : List �
 zero_at bytes code_at at next m piece more i l z e c =
     let there : drop i piece ≡ 0 ∷ drop (i + 1) piece = drop_more piece i 0 l ∙ ap (λ b. b ∷ drop (i + 1) piece) z in
     rw e (coded_zero bytes code_at at m (drop (i + 1) piece ++ more) (rw there at c))
-
-pub byte_at : (bytes : List ℕ) (code_at at next : ℕ) (m piece more : List ℕ) (i : ℕ) → i < length piece → 0 < get_or piece i 0 → next ≡ at + 1 → Coding bytes code_at at m (drop i piece ++ more)
-    → Coding bytes code_at next m (drop (i + 1) piece ++ more)
-byte_at bytes code_at at next m piece more i l p e c =
-    let there : drop i piece ≡ get_or piece i 0 ∷ drop (i + 1) piece = drop_more piece i 0 l in
-    rw e (coded_byte bytes code_at at m (get_or piece i 0) (drop (i + 1) piece ++ more) p (rw there at c))
 
 -- what isn't zero
 pub is_more : (x : ℕ) → ((x == 0) ≡ true → ⊥) → 0 < x
@@ -125,18 +116,6 @@ no_room bytes code_at len room m (byte ∷ more) l g s h =
     let closed : length (take code_at bytes) ≡ code_at = length-take-le code_at bytes (omega (arith, l.begins, l.within)) in
     let all : length (shortest_frame (m ++ byte ∷ more)) ≡ length (take code_at bytes) + length (shortest_from run (byte ∷ more)) = ap length (g byte more) ∙ length-append (take code_at bytes) (shortest_from run (byte ∷ more)) in
     omega (arith, l.begins, l.short, long, closed, all, least_length run (byte ∷ more) (omega (arith, l.begins, l.short, long)))
-
--- the same behind a full block, where a block opens
-pub no_room_next : (bytes : List ℕ) (code_at len room : ℕ) (m more : List ℕ) → Laid bytes code_at len → GoesOnFromBlock bytes code_at len m → 0 < length more → len ≡ code_at + 255 → room ≤ len + length more → room < length (shortest_frame (m ++ more))
-no_room_next bytes code_at len room m [] l g s e h = absurd (omega arith)
-no_room_next bytes code_at len room m (byte ∷ more) l g s e h =
-    let run = last_run bytes code_at len in
-    let long : suc (length run) ≡ len - code_at = run_length bytes code_at len l in
-    let full : length run ≡ 254 = omega (arith, long) in
-    let closed : length (take code_at bytes) ≡ code_at = length-take-le code_at bytes (omega (arith, l.begins, l.within)) in
-    let all : length (shortest_frame (m ++ byte ∷ more)) ≡ length (take code_at bytes) + length (shortest_from run (byte ∷ more)) = ap length (g byte more) ∙ length-append (take code_at bytes) (shortest_from run (byte ∷ more)) in
-    let next : length (shortest_from run (byte ∷ more)) ≡ 255 + length (shortest_from [] (byte ∷ more)) = ap length (open_full run byte more full) ∙ length-append (block run) (shortest_from [] (byte ∷ more)) ∙ omega arith in
-    omega (arith, all, next, closed, least_length [] (byte ∷ more) (omega arith))
 
 ones_from : (n : ℕ) (more : List ℕ) → shortest_from [] (replicate n 0 ++ more) ≡ replicate n 1 ++ shortest_from [] more
 ones_from zero more = refl

@@ -65,7 +65,7 @@ pub frame_reads : (frame message : List ℕ) → Frame frame message → message
 frame_reads frame message f = f.reads ∙ sym (ap part f.spells ∙ part_spelled f.first f.others false f.runs)
 
 -- a frame holds no zero
-nonzero_append : (xs ys : List ℕ) → NoZero xs → NoZero ys → NoZero (xs ++ ys)
+pub nonzero_append : (xs ys : List ℕ) → NoZero xs → NoZero ys → NoZero (xs ++ ys)
 nonzero_append [] ys h k = k
 nonzero_append (x ∷ xs) ys h k = (h.0, nonzero_append xs ys h.1 k)
 

@@ -13,9 +13,10 @@ use Rattle.std.specs.Int.{bit_at}
 use Rattle.std.specs.Simd.Lanes.{mask_l, sel_l, zip2, top}
 use mir.Val.{bits, hbits}
 use Rattle.cobs.specs.Codes.{Marks, Coding}
+use Rattle.cobs.specs.Lanes.{LeastOf64}
 use Rattle.cobs.specs.Sentinel.{masked}
 use Rattle.cobs.proofs.CodingLemmas.{is_more, front_at, all_at, zero_at}
-use Rattle.cobs.proofs.MaskingLemmas.{masked_drop, masked_take}
+use Rattle.cobs.proofs.MaskingLemmas.{masked_drop, masked_take, masked_length}
 
 is_one : (b : Bool) → cond {A = ℕ} b 1 0 ≡ 1 → b ≡ true
 is_one true e = refl
@@ -185,48 +186,74 @@ lesser_lane a b k e l =
     let both = lesser_one (ltb (get_or a k 0) (get_or b k 0)) (get_or a k 0) (get_or b k 0) refl in
     (omega (arith, lane, both.0), omega (arith, lane, both.1))
 
--- four vectors of which the least lanes are no less than a number
-pub all_above : (n : ℕ) (bytes least : List ℕ) → length bytes ≡ 64 → ((j : ℕ) → j < 16 → n ≤ get_or least j 0)
-    → ((j : ℕ) → j < 16 → (get_or least j 0 ≤ get_or (take 16 (drop 0 bytes)) j 0) × (get_or least j 0 ≤ get_or (take 16 (drop 16 bytes)) j 0) × (get_or least j 0 ≤ get_or (take 16 (drop 32 bytes)) j 0) × (get_or least j 0 ≤ get_or (take 16 (drop 48 bytes)) j 0))
-    → (k : ℕ) → k < 64 → n ≤ get_or bytes k 0
-all_above n bytes least long some h k l = elim (cases_lt k 16) [
-  | inl a ↦ omega (arith, some (k - 0) (omega arith), (h (k - 0) (omega arith)).0, lane 0 (k - 0) (omega arith), same 0 k (omega arith))
-  | inr a ↦ elim (cases_lt k 32) [
-    | inl b ↦ omega (arith, some (k - 16) (omega arith), (h (k - 16) (omega arith)).1, lane 16 (k - 16) (omega arith), same 16 k a)
-    | inr b ↦ elim (cases_lt k 48) [
-      | inl d ↦ omega (arith, some (k - 32) (omega arith), (h (k - 32) (omega arith)).2, lane 32 (k - 32) (omega arith), same 32 k b)
-      | inr d ↦ omega (arith, some (k - 48) (omega arith), (h (k - 48) (omega arith)).3, lane 48 (k - 48) (omega arith), same 48 k d)
+-- bytes of which the least are no less than a number
+pub all_above : (n at : ℕ) (bytes least : List ℕ) → ((j : ℕ) → j < 16 → n ≤ get_or least j 0) → LeastOf64 least at bytes → (k : ℕ) → at ≤ k → k < at + 64 → n ≤ get_or bytes k 0
+all_above n at bytes least some h k l m = elim (cases_lt k (at + 16)) [
+  | inl a ↦ omega (arith, some (k - at) (omega arith), (h (k - at) (omega arith)).0, ap (λ j. get_or bytes j 0) (first k l))
+  | inr a ↦ elim (cases_lt k (at + 32)) [
+    | inl b ↦ omega (arith, some (k - (at + 16)) (omega arith), (h (k - (at + 16)) (omega arith)).1, same 16 k a)
+    | inr b ↦ elim (cases_lt k (at + 48)) [
+      | inl d ↦ omega (arith, some (k - (at + 32)) (omega arith), (h (k - (at + 32)) (omega arith)).2, same 32 k b)
+      | inr d ↦ omega (arith, some (k - (at + 48)) (omega arith), (h (k - (at + 48)) (omega arith)).3, same 48 k d)
     ]
   ]
 ]
   where
-    lane : (at j : ℕ) → j < 16 → get_or (take 16 (drop at bytes)) j 0 ≡ get_or bytes (at + j) 0
-    lane at j q = get_or-take 16 (drop at bytes) j 0 q ∙ get_or-drop at bytes j 0
+    first : (i : ℕ) → at ≤ i → at + (i - at) ≡ i
+    first i q = omega (arith, q)
 
-    same : (at i : ℕ) → at ≤ i → get_or bytes (at + (i - at)) 0 ≡ get_or bytes i 0
-    same at i q = ap (λ j. get_or bytes j 0) (omega (arith, q))
-
--- 16 lanes of 64 bytes
-pub lanes_long : (bytes : List ℕ) (at : ℕ) → length bytes ≡ 64 → at + 16 ≤ 64 → length (take 16 (drop at bytes)) ≡ 16
-lanes_long bytes at long l = length-take-le 16 (drop at bytes) (omega (arith, length-drop at bytes, long, l))
+    same : (from i : ℕ) → at + from ≤ i → get_or bytes (at + from + (i - (at + from))) 0 ≡ get_or bytes i 0
+    same from i q = ap (λ j. get_or bytes j 0) (omega (arith, q))
 
 -- the same of bytes that are XORed
-pub masked_lanes : (s at : ℕ) (bytes : List ℕ) → masked s (take 16 (drop at bytes)) ≡ take 16 (drop at (masked s bytes))
+masked_lanes : (s at : ℕ) (bytes : List ℕ) → masked s (take 16 (drop at bytes)) ≡ take 16 (drop at (masked s bytes))
 masked_lanes s at bytes = sym (ap (take 16) (masked_drop s at bytes) ∙ masked_take s 16 (drop at bytes))
 
--- the least lanes of four vectors that are known
-pub least_of_known : (m a b c d a' b' c' d' : List ℕ) → a ≡ a' → b ≡ b' → c ≡ c' → d ≡ d'
-    → ((j : ℕ) → j < 16 → (get_or m j 0 ≤ get_or a j 0) × (get_or m j 0 ≤ get_or b j 0) × (get_or m j 0 ≤ get_or c j 0) × (get_or m j 0 ≤ get_or d j 0))
-    → (j : ℕ) → j < 16 → (get_or m j 0 ≤ get_or a' j 0) × (get_or m j 0 ≤ get_or b' j 0) × (get_or m j 0 ≤ get_or c' j 0) × (get_or m j 0 ≤ get_or d' j 0)
-least_of_known m a b c d a' b' c' d' ea eb ec ed h j q = (
-  subst (λ v. get_or m j 0 ≤ get_or v j 0) ea (h j q).0,
-  subst (λ v. get_or m j 0 ≤ get_or v j 0) eb (h j q).1,
-  subst (λ v. get_or m j 0 ≤ get_or v j 0) ec (h j q).2,
-  subst (λ v. get_or m j 0 ≤ get_or v j 0) ed (h j q).3,
-)
+-- 16 of them
+pub lanes_long : (s at : ℕ) (bytes lanes : List ℕ) → at + 16 ≤ length bytes → lanes ≡ masked s (take 16 (drop at bytes)) → length lanes ≡ 16
+lanes_long s at bytes lanes l e = ap length e ∙ masked_length s (take 16 (drop at bytes)) ∙ length-take-le 16 (drop at bytes) (omega (arith, length-drop at bytes, l))
 
--- 64 bytes of which the least lanes are no less than others that aren't zero
-pub all_clear : (bytes lanes least : List ℕ) → length bytes ≡ 64 → ((j : ℕ) → j < 16 → 0 < get_or least j 0) → ((j : ℕ) → j < 16 → get_or least j 0 ≤ get_or lanes j 0)
-    → ((j : ℕ) → j < 16 → (get_or lanes j 0 ≤ get_or (take 16 (drop 0 bytes)) j 0) × (get_or lanes j 0 ≤ get_or (take 16 (drop 16 bytes)) j 0) × (get_or lanes j 0 ≤ get_or (take 16 (drop 32 bytes)) j 0) × (get_or lanes j 0 ≤ get_or (take 16 (drop 48 bytes)) j 0))
-    → (k : ℕ) → k < 64 → 0 < get_or bytes k 0
-all_clear bytes lanes least long some lower h k l = omega (arith, all_above 1 bytes lanes long (λ j q. omega (arith, some j q, lower j q)) h k l)
+-- the least lanes of four vectors
+pub least_of_known : (s : ℕ) (bytes m a b c d : List ℕ) → a ≡ masked s (take 16 (drop 0 bytes)) → b ≡ masked s (take 16 (drop 16 bytes)) → c ≡ masked s (take 16 (drop 32 bytes)) → d ≡ masked s (take 16 (drop 48 bytes))
+    → ((j : ℕ) → j < 16 → (get_or m j 0 ≤ get_or a j 0) × (get_or m j 0 ≤ get_or b j 0) × (get_or m j 0 ≤ get_or c j 0) × (get_or m j 0 ≤ get_or d j 0)) → LeastOf64 m 0 (masked s bytes)
+least_of_known s bytes m a b c d ea eb ec ed h j q = (
+  subst (λ v. get_or m j 0 ≤ v) (lane 0 a ea) (h j q).0,
+  subst (λ v. get_or m j 0 ≤ v) (lane 16 b eb) (h j q).1,
+  subst (λ v. get_or m j 0 ≤ v) (lane 32 c ec) (h j q).2,
+  subst (λ v. get_or m j 0 ≤ v) (lane 48 d ed) (h j q).3,
+)
+  where
+    lane : (from : ℕ) (v : List ℕ) → v ≡ masked s (take 16 (drop from bytes)) → get_or v j 0 ≡ get_or (masked s bytes) (from + j) 0
+    lane from v e = ap (λ x. get_or x j 0) (e ∙ masked_lanes s from bytes) ∙ get_or-take 16 (drop from (masked s bytes)) j 0 q ∙ get_or-drop from (masked s bytes) j 0
+
+-- bytes in four parts that meet, of which the least of the least aren't zero
+pub all_clear : (p q r n : ℕ) (bytes a b d e least : List ℕ) → p ≤ 64 → q ≤ p + 64 → r ≤ q + 64 → n ≤ r + 64 → ((j : ℕ) → j < 16 → 0 < get_or least j 0)
+    → ((j : ℕ) → j < 16 → (get_or least j 0 ≤ get_or a j 0) × (get_or least j 0 ≤ get_or b j 0) × (get_or least j 0 ≤ get_or d j 0) × (get_or least j 0 ≤ get_or e j 0))
+    → LeastOf64 a 0 bytes → LeastOf64 b p bytes → LeastOf64 d q bytes → LeastOf64 e r bytes → (k : ℕ) → k < n → 0 < get_or bytes k 0
+all_clear p q r n bytes a b d e least lp lq lr ln some four ha hb hd he k l = elim (cases_lt k 64) [
+  | inl x ↦ all_above 1 0 bytes a (λ j z. omega (arith, some j z, (four j z).0)) ha k (omega arith) (omega (arith, x))
+  | inr x ↦ elim (cases_lt k (p + 64)) [
+    | inl y ↦ all_above 1 p bytes b (λ j z. omega (arith, some j z, (four j z).1)) hb k (omega (arith, x, lp)) y
+    | inr y ↦ elim (cases_lt k (q + 64)) [
+      | inl z ↦ all_above 1 q bytes d (λ j w. omega (arith, some j w, (four j w).2)) hd k (omega (arith, y, lq)) z
+      | inr z ↦ all_above 1 r bytes e (λ j w. omega (arith, some j w, (four j w).3)) he k (omega (arith, z, lr)) (omega (arith, l, ln))
+    ]
+  ]
+]
+
+-- the least of the bytes from a place on
+pub least_part : (from n : ℕ) (bytes least : List ℕ) → 64 ≤ n → LeastOf64 least 0 (take n (drop from bytes)) → LeastOf64 least from bytes
+least_part from n bytes least l h j q = (
+  subst (λ v. get_or least j 0 ≤ v) (byte 0 (omega arith) ∙ ap (λ i. get_or bytes i 0) (omega arith)) (h j q).0,
+  subst (λ v. get_or least j 0 ≤ v) (byte 16 (omega arith)) (h j q).1,
+  subst (λ v. get_or least j 0 ≤ v) (byte 32 (omega arith)) (h j q).2,
+  subst (λ v. get_or least j 0 ≤ v) (byte 48 (omega arith)) (h j q).3,
+)
+  where
+    byte : (k : ℕ) → k + 16 ≤ 64 → get_or (take n (drop from bytes)) (0 + k + j) 0 ≡ get_or bytes (from + k + j) 0
+    byte k r = get_or-take n (drop from bytes) (0 + k + j) 0 (omega (arith, l, r, q)) ∙ get_or-drop from bytes (0 + k + j) 0 ∙ ap (λ i. get_or bytes i 0) (omega arith)
+
+-- the same of bytes that are XORed
+pub least_masked : (s from n : ℕ) (bytes least : List ℕ) → 64 ≤ n → LeastOf64 least 0 (masked s (take n (drop from bytes))) → LeastOf64 least from (masked s bytes)
+least_masked s from n bytes least l h =
+    least_part from n (masked s bytes) least l (subst (LeastOf64 least 0) (sym (ap (take n) (masked_drop s from bytes) ∙ masked_take s n (drop from bytes))) h)

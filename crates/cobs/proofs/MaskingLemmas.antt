@@ -5,8 +5,8 @@ use Rattle.std.specs.Prelude.{bit_xor}
 use Rattle.std.specs.Int.Bits.{xor_assoc, xor_self, xor_zero_r}
 use Rattle.std.specs.List.{AllByRecursion}
 use borrow.Rule.Slice.PartMut.{put_mid}
-use Rattle.cobs.specs.Frames.{NoZero, shortest_frame}
-use Rattle.cobs.specs.Held.{pushed, Laid, GoesOnFromBlock, GoesOnBy, HoldsFrame}
+use Rattle.cobs.specs.Frames.{NoZero}
+use Rattle.cobs.specs.Held.{pushed, Laid, GoesOnFromBlock, HoldsFrame}
 use Rattle.cobs.specs.Sentinel.{masked, frame_for}
 use Rattle.cobs.proofs.HoldingLemmas.{holds_new, opens_next}
 
@@ -19,16 +19,6 @@ map_on f xs old i l e =
     let read : get_or xs i 0 ≡ y = ap (λ b. get_or b i 0) split ∙ get_or_at front y (drop (i + 1) old) 0 i long in
     ap (λ v. set xs i (f v)) read ∙ ap (λ b. set b i (f y)) split ∙ set_at front y (drop (i + 1) old) (f y) i long
     ∙ sym (ap (λ m. m ++ drop (i + 1) old) (map_more f old i 0 l) ∙ append_assoc front (f y ∷ []) (drop (i + 1) old))
-
--- the same where the bytes come from another slice
-pub map_over : (f : ℕ → ℕ) (from xs old : List ℕ) (i : ℕ) → i < length from → length from ≡ length old → xs ≡ map f (take i from) ++ drop i old → set xs i (f (get_or from i 0)) ≡ map f (take (i + 1) from) ++ drop (i + 1) old
-map_over f from xs old i l same e =
-    let y = f (get_or from i 0) in
-    let front = map f (take i from) in
-    let long : length front ≡ i = length-map (take i from) f ∙ length-take-le i from (omega arith) in
-    let split : xs ≡ front ++ get_or old i 0 ∷ drop (i + 1) old = e ∙ ap (λ d. front ++ d) (drop_more old i 0 (omega arith)) in
-    ap (λ b. set b i y) split ∙ set_at front (get_or old i 0) (drop (i + 1) old) y i long
-    ∙ sym (ap (λ m. m ++ drop (i + 1) old) (map_more f from i 0 l) ∙ append_assoc front (y ∷ []) (drop (i + 1) old))
 
 -- for the sentinel zero nothing is masked
 pub masked_zero : (bytes : List ℕ) → masked 0 bytes ≡ bytes
@@ -77,10 +67,6 @@ masked_mid s at long bytes new =
     ∙ ap (λ x. x ++ (masked s new ++ masked s (drop long (drop at bytes)))) (sym (masked_take s at bytes))
     ∙ ap (λ x. take at (masked s bytes) ++ (masked s new ++ x)) (sym (masked_drop s long (drop at bytes)) ∙ ap (drop long) (sym (masked_drop s at bytes)))
 
--- a piece that is copied masked
-pub masked_piece : (sentinel at long : ℕ) (bytes piece out : List ℕ) → out ≡ masked sentinel piece → masked sentinel (put_mid at long bytes out) ≡ put_mid at long (masked sentinel bytes) piece
-masked_piece s at long bytes piece out e = masked_mid s at long bytes out ∙ ap (put_mid at long (masked s bytes)) (ap (masked s) e ∙ masked_twice s piece)
-
 -- a new encoder's buffer
 pub begins_masked : (sentinel : ℕ) (bytes : List ℕ) → 0 < length bytes → HoldsFrame (masked sentinel (set bytes 0 (bit_xor sentinel 1))) 0 1 × (pushed (masked sentinel (set bytes 0 (bit_xor sentinel 1))) 1 ≡ [])
 begins_masked s bytes h = rw (masked_put s bytes 0 1) (holds_new (masked s bytes) (omega (arith, masked_length s bytes, h)))
@@ -93,17 +79,6 @@ opens_masked s bytes code_at len l r o g = rw (masked_put s bytes len 1) (opens_
 -- the buffer's front is the frame for the sentinel
 pub front_masked : (sentinel : ℕ) (bytes : List ℕ) (code_at len : ℕ) → HoldsFrame (masked sentinel bytes) code_at len → take len bytes ≡ frame_for sentinel (pushed (masked sentinel bytes) len)
 front_masked s bytes code_at len h = sym (ap (masked s) (h.is ∙ masked_take s len bytes) ∙ masked_twice s (take len bytes))
-
--- a piece put behind the begun frame of nothing: the buffer's front is the frame of the piece, of this length
-pub framed_by : (sentinel : ℕ) (bytes piece buffer : List ℕ) (code_at len : ℕ) → 0 < length bytes
-    → GoesOnBy (masked sentinel (set bytes 0 (bit_xor sentinel 1))) 0 1 piece (masked sentinel buffer) code_at len
-    → (len ≡ length (shortest_frame piece)) × (take len buffer ≡ frame_for sentinel piece)
-framed_by s bytes piece buffer code_at len some put =
-    let begun = begins_masked s bytes some in
-    let held = put _ begun.0.goes_on in
-    let message = held.1 ∙ ap (λ m. m ++ piece) begun.1 in
-    let long = sym (length-take-le len (masked s buffer) held.0.laid.within) ∙ ap length (sym held.0.is) in
-    (long ∙ ap (λ m. length (shortest_frame m)) message, front_masked s buffer code_at len held.0 ∙ ap (frame_for s) message)
 
 -- only zero becomes the sentinel
 becomes_sentinel : (sentinel byte : ℕ) → bit_xor sentinel byte ≡ sentinel → byte ≡ 0

@@ -1,23 +1,26 @@
 -- What `decode` comes to by pushing what is behind leading zeros, and then a zero.
-use Rattle.std.proofs.Common.{◌≡◌, ◌≢◌, ℕ, ◌+◌, ◌-◌, ◌<◌, ◌≤◌, nat_lt, min, ◌==◌, if◌then◌else◌, Bool, true, false, List, [], ◌∷◌, ◌++◌, length, ◌⊎◌, Result, Option, Some, None, Ok, Err, inl, inr, refl, ap, sym, ◌∙◌, arith}
+use Rattle.std.proofs.Common.{◌≡◌, ◌≢◌, ℕ, ◌+◌, ◌-◌, ◌<◌, ◌≤◌, nat_lt, min, ◌==◌, if◌then◌else◌, Bool, true, false, List, [], ◌∷◌, ◌++◌, length, ◌⊎◌, Result, Option, Some, None, Ok, Err, inl, inr, refl, ap, sym, subst, ◌∙◌, arith}
 use Rattle.std.proofs.lemmas.List.{append-nil, take_all}
-use Rattle.std.proofs.lemmas.Bool.{ne_eqb, cases_lt}
+use Rattle.std.proofs.lemmas.Bool.{eq-eqb, ne_eqb, cases_lt}
 use Rattle.std.proofs.lemmas.Bool.Decides.{eqb_tells}
 use Rattle.cobs.specs.Frames.{NoZero, part, missing}
 use Rattle.cobs.specs.Feeding.{at_zero}
 use Rattle.cobs.specs.Pieces.{answered, ended, first_answer, frame_left, buffer_left}
 use Rattle.cobs.specs.InPlace.{stretch, overwritten}
 use Rattle.cobs.specs.Reports.{report, parsed_size, frame_size}
-use Rattle.cobs.specs.Taking.{with_parsed}
-use Rattle.cobs.specs.Whole.{unpadded, frame_in, reported, decoded_from}
+use Rattle.cobs.specs.Taking.{with_parsed, DecodesFront}
+use Rattle.cobs.specs.Sentinel.{masked}
+use Rattle.cobs.specs.Whole.{unpadded, frame_in, reported, decoded_from, decoded_into}
 use Rattle.cobs.specs.DecodingLaws.{moved}
 use Rattle.cobs.specs.declared.dec.report.DecodeReport.{DecodeReport}
 use Rattle.cobs.specs.declared.dec.report.DecodeError.{DecodeError}
 use Rattle.cobs.specs.declared.dec.report.DecodeError.TheVariants.{EmptyFrame, InvalidFrame, TargetBufTooSmall}
 use Rattle.cobs.proofs.CutsLemmas.{first_moved}
+use Rattle.cobs.proofs.DecodingLemmas.{part_shorter}
+use Rattle.cobs.proofs.MaskingLemmas.{masked_zero}
 use Rattle.cobs.proofs.MessagesLemmas.{placed_zero}
 use Rattle.cobs.proofs.PassingLemmas.{passes, all_placed, placed_over, refuses}
-use Rattle.cobs.proofs.ShortLemmas.{as_at_zero}
+use Rattle.cobs.proofs.ShortLemmas.{as_at_zero, zero_into}
 use Rattle.cobs.proofs.SourcesLemmas.{stretch_clear, stretch_of}
 
 -- all is before the first zero, or that comes
@@ -228,6 +231,32 @@ module _ (source rest dest : List ℕ) (r : rest ≡ unpadded source) where
 
     pub then_whole : (n : ℕ) → at_zero (length dest) (frame_left (length dest) [] rest) ≡ Ok (Some n) → length rest ≤ length source → Ok (report (length source) n) ≡ decoded_from (length dest) source
     then_whole n e w = ap (λ k. Ok (report k n)) (omega (arith, ap length no_end.0, w)) ∙ sym (then_is (Ok (Some n)) e)
+
+-- the answer where there is room for all before the first zero
+pub told_fitting : (source rest old new : List ℕ) (answer : Result ℕ DecodeError) (end parsed : ℕ) → rest ≡ unpadded source → DecodesFront old (stretch (masked 0 rest)) new answer end
+    → parsed ≡ min (length source) (length source - length rest + end + 1) → with_parsed parsed answer ≡ decoded_from (length old) source
+told_fitting source rest old new answer end parsed r d p =
+    let frame = stretch rest in
+    let is : stretch (masked 0 rest) ≡ frame = ap stretch (masked_zero rest) in
+    let long : end ≡ length frame = d.end ∙ ap length is in
+    let fits : length frame ≤ length old + 1 = omega (arith, d.room, ap length is) in
+    short_told source rest old r (omega (arith, part_shorter frame, fits)) (at_zero (length old) frame) refl answer parsed
+    (zero_into (length old) frame (omega (arith, d.some, ap length is)) fits ∙ ap as_at_zero (sym (d.answers ∙ ap (decoded_into (length old)) is)))
+    (omega (arith, p, long))
+
+pub over_fitting : (source rest old new : List ℕ) (answer : Result ℕ DecodeError) (end : ℕ) → rest ≡ unpadded source → DecodesFront old (stretch (masked 0 rest)) new answer end → new ≡ overwritten (part (frame_in source)) old
+over_fitting source rest old new answer end r d = d.buffer ∙ ap (λ b. overwritten (part (stretch b)) old) (masked_zero rest ∙ r)
+
+-- a source with bytes before its first zero
+pub unpadded_begun : (source : List ℕ) → 0 < length (stretch (masked 0 source)) → source ≡ unpadded source
+unpadded_begun [] l = refl
+unpadded_begun (b ∷ source) l = begun b source (subst (λ x. 0 < length (stretch x)) (masked_zero (b ∷ source)) l)
+  where
+    begun : (x : ℕ) (xs : List ℕ) → 0 < length (stretch (x ∷ xs)) → x ∷ xs ≡ unpadded (x ∷ xs)
+    begun x xs m = elim (eqb_tells x 0) [
+      | inl t ↦ let none : 0 < 0 = rw (eq-eqb x 0 t.1) at m in absurd (omega arith)
+      | inr t ↦ sym (rw (ne_eqb x 0 t.1) refl)
+    ]
 
 -- bytes of which none is zero
 unpadded_clear : (bytes : List ℕ) → NoZero bytes → unpadded bytes ≡ bytes

@@ -1,11 +1,11 @@
 -- Decoding over the source: how far it has come.
 use Rattle.std.proofs.Common.{◌≡◌, ◌≢◌, ℕ, zero, suc, ◌+◌, ◌-◌, ◌^◌, ◌<◌, ◌≤◌, ◌==◌, if◌then◌else◌, Bool, false, List, [], ◌∷◌, ◌++◌, length, take, drop, get_or, ◌⊎◌, inl, inr, refl, ap, sym, ◌∙◌, arith, subst, Result, Ok, Err}
-use Rattle.std.proofs.lemmas.List.{take_more, take_all, take-append-drop, length-take-le, drop_more}
+use Rattle.std.proofs.lemmas.List.{take_all, take-append-drop, length-take-le, drop_more}
 use Rattle.std.proofs.lemmas.Bool.{eq-eqb, ne_eqb}
 use Rattle.std.specs.Prelude.{bit_xor}
 use Rattle.std.specs.Int.Bits.{xor_self}
 use Rattle.cobs.specs.Frames.{Frame, part, after, missing}
-use Rattle.cobs.specs.Feeding.{fed, standing, placed}
+use Rattle.cobs.specs.Feeding.{fed, standing}
 use Rattle.cobs.specs.InPlace.{stretch, in_place, overwritten}
 use Rattle.cobs.specs.Reports.{report}
 use Rattle.cobs.specs.Sentinel.{masked}
@@ -19,11 +19,7 @@ use Rattle.cobs.specs.declared.dec.state.DecodeResult.TheVariants.{DataComplete}
 use Rattle.cobs.proofs.DecodingLemmas.{Stretch, part_shorter, stretch_frame, frame_ends}
 use Rattle.cobs.proofs.FeedsLemmas.{fed_zero}
 use Rattle.cobs.proofs.MaskingLemmas.{masked_length, masked_get}
-use Rattle.cobs.proofs.OverwritingLemmas.{placed_on, behind, front, rest, length-overwritten}
-
-stretch_push : (bytes : List ℕ) (byte : ℕ) → Stretch bytes → 0 < byte → byte < 256 → Stretch (bytes ++ byte ∷ [])
-stretch_push [] byte h p w = ((p, w), tt)
-stretch_push (x ∷ bytes) byte h p w = (h.0, stretch_push bytes byte h.1 p w)
+use Rattle.cobs.proofs.OverwritingLemmas.{behind, front, rest}
 
 -- The first bytes of a source are of a frame, and were taken in.
 pub record Reads (source : List ℕ) (read : ℕ) (d : Progress) : Type 0 where
@@ -43,17 +39,6 @@ module _ (source : List ℕ) (read : ℕ) (d : Progress) (r : Reads source read 
 
   pub shorter : d.len ≤ read - 1
   shorter = omega (arith, counted, part_shorter (take read source), length-take-le read source r.within)
-
-  -- a byte more
-  pub reads_on : (d' : Progress) → read < length source → 0 < get_or source read 0 → get_or source read 0 < 256 → HasStreamed d' (take read source ++ get_or source read 0 ∷ []) → Reads source (read + 1) d'
-  reads_on d' l p w t =
-      let more : take (read + 1) source ≡ take read source ++ get_or source read 0 ∷ [] = take_more source read 0 l in
-      record {
-        within = omega arith;
-        small = r.small;
-        clear = subst Stretch (sym more) (stretch_push (take read source) (get_or source read 0) r.clear p w);
-        stands = subst (HasStreamed d') (sym more) t;
-      }
 
 -- where the bytes before the first zero end
 stretch_all : (bytes : List ℕ) → Stretch bytes → stretch bytes ≡ bytes
@@ -159,25 +144,6 @@ module _ (sentinel : ℕ) (source buffer : List ℕ) (read : ℕ) (d : Progress)
       masked_get sentinel source read l
       ∙ ap (bit_xor sentinel) (sym (ap (λ b. get_or b read 0) r.holds ∙ behind (part (take read bytes)) source read (omega (arith, shorter bytes read d r.reads, counted bytes read d r.reads)) l))
 
-  pub reading_on : (buffer' : List ℕ) (d' : Progress) → read < length buffer → 0 < bit_xor sentinel (get_or buffer read 0) → bit_xor sentinel (get_or buffer read 0) < 256
-      → ((p : List ℕ) → HasStreamed d p → HasStreamed d' (p ++ bit_xor sentinel (get_or buffer read 0) ∷ []))
-      → ((p : List ℕ) → HasStreamed d p → buffer' ≡ placed p (bit_xor sentinel (get_or buffer read 0)) buffer)
-      → Reading sentinel source buffer' (read + 1) d'
-  reading_on buffer' d' l p w t h =
-      let inside : read < length source = omega (arith, r.long) in
-      let within : read < length bytes = omega (arith, inside, whole_length) in
-      let same : bit_xor sentinel (get_or buffer read 0) ≡ get_or bytes read 0 = sym (same_byte inside) in
-      let t' = rw same at (t (take read bytes) r.reads.stands) in
-      let h' = rw same at (h (take read bytes) r.reads.stands) in
-      let p' : 0 < get_or bytes read 0 = rw same at p in
-      let w' : get_or bytes read 0 < 256 = rw same at w in
-      let holds' : buffer' ≡ overwritten (part (take (read + 1) bytes)) source = h' ∙ placed_on (take read bytes) (get_or bytes read 0) source buffer p' r.holds ∙ ap (λ b. overwritten (part b) source) (sym (take_more bytes read 0 within)) in
-      record {
-        reads = reads_on bytes read d r.reads d' within p' w' t';
-        holds = holds';
-        long = ap length holds' ∙ length-overwritten (part (take (read + 1) bytes)) source;
-      }
-
   module _ (e : EndsAt sentinel buffer read) where
     -- at the end
     source_ends : Ends bytes read
@@ -193,12 +159,3 @@ module _ (sentinel : ℕ) (source buffer : List ℕ) (read : ℕ) (d : Progress)
 
     pub reading_holds : buffer ≡ overwritten (part (stretch bytes)) source
     reading_holds = r.holds ∙ ap (λ b. overwritten (part b) source) (sym (stretch_is bytes read d r.reads source_ends))
-
-    pub reading_rest : drop (length (stretch bytes)) buffer ≡ drop (length (stretch bytes)) source
-    reading_rest =
-        let e' = reading_done in
-        ap (drop (length (stretch bytes))) reading_holds
-        ∙ rest source (part (stretch bytes)) (length (stretch bytes)) (omega (arith, part_shorter (stretch bytes))) (omega (arith, e'.parsed, r.reads.within, whole_length))
-
-    pub reading_short : d.len ≤ length source
-    reading_short = omega (arith, shorter bytes read d r.reads, r.reads.within, whole_length)

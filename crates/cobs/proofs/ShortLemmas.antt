@@ -1,26 +1,25 @@
 -- Frames that are decoded at once, since there is room for them.
-use Rattle.std.proofs.Common.{◌≡◌, ℕ, pred, ◌+◌, ◌-◌, ◌^◌, ◌<◌, ◌≤◌, Bool, true, false, List, [], ◌∷◌, ◌++◌, length, take, drop, get_or, length-drop, Result, Option, Some, Ok, Err, inl, inr, refl, ap, sym, subst, ◌∙◌, arith}
-use Rattle.std.proofs.lemmas.List.{take_all, take_more, length-take-le}
+use Rattle.std.proofs.Common.{◌≡◌, ◌≢◌, ℕ, pred, ◌+◌, ◌-◌, ◌^◌, ◌<◌, ◌≤◌, Bool, true, false, List, [], ◌∷◌, ◌++◌, length, take, drop, get_or, length-drop, Result, Option, Some, Ok, Err, inl, inr, refl, ap, sym, subst, ◌∙◌, arith}
+use Rattle.std.proofs.lemmas.List.{take_all, take_more, length-take-le, get_or-drop}
 use Rattle.std.proofs.lemmas.Bool.{cases_lt, eq-eqb, ne_eqb, le-ltb, lt-ltb}
 use Rattle.std.proofs.lemmas.Bool.Decides.{eqb_tells}
 use Rattle.std.specs.Prelude.{bit_xor, nat_lt, ◌==◌, if◌then◌else◌}
-use Rattle.cobs.specs.Frames.{NoZero, part, part_from, after, missing}
+use Rattle.cobs.specs.Frames.{part, part_from, after, missing}
 use Rattle.cobs.specs.Feeding.{stands_by, standing, at_zero, placed}
 use Rattle.cobs.specs.InPlace.{in_place, stretch, overwritten}
 use Rattle.cobs.specs.Sentinel.{masked}
 use Rattle.cobs.specs.Streaming.{HasStreamed}
-use Rattle.cobs.specs.Taking.{left_in, answer_behind, with_parsed, TakesFront}
+use Rattle.cobs.specs.Taking.{left_in, answer_behind, with_parsed, TakesFront, DecodesFront}
 use Rattle.cobs.specs.Whole.{decoded_into}
 use Rattle.cobs.specs.declared.dec.report.DecodeError.{DecodeError}
 use Rattle.cobs.specs.declared.dec.report.DecodeError.TheVariants.{InvalidFrame, TargetBufTooSmall}
 use Rattle.cobs.specs.declared.dec.state.DecoderState.{DecoderState}
 use Rattle.cobs.specs.declared.dec.progress.Progress.{Progress}
 use Rattle.cobs.proofs.DecodingLemmas.{part_shorter}
-use Rattle.cobs.proofs.MaskingLemmas.{masked_length, masked_drop}
 use Rattle.cobs.proofs.OverwritingLemmas.{overwritten_short, placed_on, length-overwritten}
+use Rattle.cobs.proofs.MaskingLemmas.{masked_drop}
 use Rattle.cobs.proofs.PassingLemmas.{all_placed, placed_over}
 use Rattle.cobs.proofs.ReadingLemmas.{Done}
-use Rattle.cobs.proofs.SourcesLemmas.{clear_at}
 use Rattle.cobs.proofs.WindowsLemmas.{one_part, one_after}
 use Rattle.cobs.proofs.WithinLemmas.{placed_front}
 use Rattle.cobs.proofs.WrittenLemmas.{front_then}
@@ -30,13 +29,17 @@ pub code_first : (sentinel : ℕ) (frame : List ℕ) → 0 < length frame → ma
 code_first s [] l = absurd (omega arith)
 code_first s (b ∷ frame) l = refl
 
-pub code_positive : (sentinel : ℕ) (frame : List ℕ) → 0 < length frame → NoZero (masked sentinel frame) → 0 < bit_xor sentinel (get_or frame 0 0)
-code_positive s [] l h = absurd (omega arith)
-code_positive s (b ∷ frame) l h = h.0
+-- the same of the bytes up to the end
+pub all_behind : (frame : List ℕ) → take (length frame - 1) (drop 1 frame) ≡ drop 1 frame
+all_behind frame = take_all (length frame - 1) (drop 1 frame) (omega (arith, length-drop 1 frame))
 
-pub bytes_positive : (sentinel : ℕ) (frame : List ℕ) → 0 < length frame → NoZero (masked sentinel frame) → (k : ℕ) → k < length (drop 1 frame) → 0 < get_or (masked sentinel (drop 1 frame)) k 0
-bytes_positive s [] l h k q = absurd (omega arith)
-bytes_positive s (b ∷ frame) l h k q = clear_at (masked s frame) k h.1 (omega (arith, q, masked_length s frame))
+pub code_then : (sentinel : ℕ) (frame : List ℕ) → 0 < length frame → bit_xor sentinel (get_or frame 0 0) ∷ masked sentinel (take (length frame - 1) (drop 1 frame)) ≡ masked sentinel frame
+code_then s frame some = ap (λ b. bit_xor s (get_or frame 0 0) ∷ masked s b) (all_behind frame) ∙ sym (code_first s frame some)
+
+pub none_behind : (sentinel : ℕ) (frame : List ℕ) → ((k : ℕ) → k < length frame → get_or frame k 0 ≢ sentinel) → (k : ℕ) → k < length (take (length frame - 1) (drop 1 frame)) → get_or (take (length frame - 1) (drop 1 frame)) k 0 ≢ sentinel
+none_behind s frame clear k l e =
+    let all = all_behind frame in
+    clear (1 + k) (omega (arith, l, ap length all, length-drop 1 frame)) (sym (get_or-drop 1 frame k 0) ∙ sym (ap (λ b. get_or b k 0) all) ∙ e)
 
 -- how many bytes are missing
 left_of : (a : ℕ × Bool) → left_in (stands_by a) ≡ a.0
@@ -72,6 +75,34 @@ done_answer source read d t =
     ap (with_parsed read) (answer_is room room (missing frame) d.len d.state left t.counts (omega arith))
     ∙ ap (λ n. with_parsed n (decoded_into room frame)) t.parsed
     ∙ answer_in_place room frame (omega arith)
+
+-- what a function answers that decodes the bytes before the sentinel
+pub decodes_front : (old new frame : List ℕ) (answer : Result ℕ DecodeError) (end : ℕ) → answer ≡ decoded_into (length old) frame → end ≡ length frame → 0 < end → end ≤ length old + 1 → new ≡ overwritten (part frame) old
+    → DecodesFront old frame new answer end
+decodes_front old new frame answer end a e some room b = record {
+  answers = a;
+  end = e;
+  some = omega (arith, e, some);
+  room = omega (arith, e, room);
+  buffer = b;
+}
+
+-- the same of bytes for which there may be no room
+module _ (room : ℕ) (frame : List ℕ) (d : Progress) (s : HasStreamed d frame) (few : length frame < 2 ^ 64) where
+  counted : d.len ≡ length (part frame)
+  counted = omega (arith, s.len, few, part_shorter frame)
+
+  left_counted : left_in d.state ≡ missing frame
+  left_counted = ap left_in s.state ∙ left_standing frame
+
+  pub counted_broken : left_in d.state ≢ 0 → Err (InvalidFrame d.len) ≡ decoded_into room frame
+  counted_broken n = ap (λ k. Err (InvalidFrame k)) counted ∙ sym (rw (ne_eqb (missing frame) 0 (λ e. n (left_counted ∙ e))) refl)
+
+  pub counted_over : left_in d.state ≡ 0 → room < d.len → Err TargetBufTooSmall ≡ decoded_into room frame
+  counted_over z l = sym (rw (eq-eqb (missing frame) 0 (sym left_counted ∙ z), lt-ltb room (length (part frame)) (omega (arith, l, counted))) refl)
+
+  pub counted_whole : left_in d.state ≡ 0 → d.len ≤ room → Ok d.len ≡ decoded_into room frame
+  counted_whole z l = ap (λ k. Ok k) counted ∙ sym (rw (eq-eqb (missing frame) 0 (sym left_counted ∙ z), le-ltb room (length (part frame)) (omega (arith, l, counted))) refl)
 
 module _ (room : ℕ) (frame : List ℕ) (d : Progress) (s : HasStreamed d frame) (some : 0 < length frame) (few : length frame < 2 ^ 64) (fits : length frame ≤ room + 1) where
   len_is : d.len ≡ length (part frame)
@@ -184,9 +215,6 @@ module _ (bytes source dest : List ℕ) (read : ℕ) (d : Progress) (r : Enterin
       stands = subst (HasStreamed d') front f.has;
       holds = put ∙ ap (all_placed (take read bytes) (take n (drop read bytes))) r.holds ∙ placed_over (take read bytes) (take n (drop read bytes)) source f.clear ∙ ap (λ b. overwritten (part b) source) front;
     }
-
-    pub entering_none : n ≡ 0 → Entering bytes source dest' read d'
-    entering_none z = let none : read + n ≡ read = omega (arith, z) in subst (λ j. Entering bytes source dest' j d') none entering_front
 
 -- the bytes behind those that were read
 pub behind_read : (sentinel read : ℕ) (frame : List ℕ) → masked sentinel (take (length frame - read) (drop read frame)) ≡ drop read (masked sentinel frame)

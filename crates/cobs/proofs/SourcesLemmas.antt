@@ -1,6 +1,6 @@
 -- The bytes of a source that are decoded.
 use Rattle.std.proofs.Common.{◌≡◌, ◌≢◌, ℕ, zero, suc, ◌<◌, ◌≤◌, List, [], ◌∷◌, length, take, get_or, inl, inr, refl, ap, sym, ◌∙◌, arith}
-use Rattle.std.proofs.lemmas.List.{get_or-take, length-take-le}
+use Rattle.std.proofs.lemmas.List.{get_or-take, take_all}
 use Rattle.std.proofs.lemmas.Bool.{eq-eqb, ne_eqb}
 use Rattle.std.proofs.lemmas.Bool.Decides.{eqb_tells}
 use Rattle.std.proofs.lemmas.Nat.{xor_comm}
@@ -43,16 +43,6 @@ nonzero_front s n most piece l w none j q =
     let other : get_or piece j 0 ≢ s = λ e. none j q (get_or-take most piece j 0 (omega arith) ∙ e) in
     omega (arith, byte, masked_positive s (get_or piece j 0) other)
 
-pub nonzero_bytes : (sentinel n most : ℕ) (piece : List ℕ) → most ≤ length piece → n ≤ most → ((k : ℕ) → k < n → get_or (take most piece) k 0 ≢ sentinel)
-    → (j : ℕ) → j < length (take n piece) → 0 < get_or (masked sentinel (take n piece)) j 0
-nonzero_bytes s n most piece l w none j q =
-    let inside : j < n = omega (arith, q, length-take-le n piece (omega arith)) in
-    let byte : get_or (masked s (take n piece)) j 0 ≡ get_or (take most (masked s piece)) j 0 =
-    ap (λ b. get_or b j 0) (sym (masked_take s n piece))
-    ∙ get_or-take n (masked s piece) j 0 inside
-    ∙ sym (get_or-take most (masked s piece) j 0 (omega arith)) in
-    omega (arith, byte, nonzero_front s n most piece l w none j inside)
-
 -- no byte of a stretch is zero
 pub stretch_clear : (bytes : List ℕ) → NoZero (stretch bytes)
 stretch_clear [] = tt
@@ -88,3 +78,40 @@ pub clear_byte : (sentinel : ℕ) (bytes : List ℕ) (k : ℕ) → k < length by
 clear_byte s bytes k l p e =
     let z : get_or (masked s bytes) k 0 ≡ 0 = masked_get s bytes k l ∙ ap (bit_xor s) e ∙ xor_self s in
     omega (arith, p, z)
+
+-- a stretch is no longer than what it begins
+pub stretch_within : (bytes : List ℕ) → length (stretch bytes) ≤ length bytes
+stretch_within [] = omega arith
+stretch_within (b ∷ bytes) = elim (eqb_tells b 0) [
+  | inl t ↦ rw (t.1) (omega arith)
+  | inr t ↦ rw (ne_eqb b 0 t.1) (omega (arith, stretch_within bytes))
+]
+
+pub reach_all : (sentinel : ℕ) (bytes : List ℕ) → length (stretch (masked sentinel bytes)) ≤ length bytes
+reach_all s bytes = omega (arith, stretch_within (masked s bytes), masked_length s bytes)
+
+-- it doesn't go past a sentinel
+pub reach_end : (sentinel n : ℕ) (bytes : List ℕ) → n < length bytes → get_or bytes n 0 ≡ sentinel → length (stretch (masked sentinel bytes)) ≤ n
+reach_end s n [] l e = absurd (omega arith)
+reach_end s zero (b ∷ bytes) l e = rw (eq-eqb (bit_xor s b) 0 (ap (bit_xor s) e ∙ xor_self s)) (omega arith)
+reach_end s (suc n) (b ∷ bytes) l e = elim (eqb_tells (bit_xor s b) 0) [
+  | inl t ↦ rw (eq-eqb (bit_xor s b) 0 t.1) (omega arith)
+  | inr t ↦ rw (ne_eqb (bit_xor s b) 0 t.1) (omega (arith, reach_end s n bytes (omega arith) e))
+]
+
+-- a front that has all of it begins with the same
+stretch_front_of : (n : ℕ) (bytes : List ℕ) → length (stretch bytes) ≤ n → stretch (take n bytes) ≡ stretch bytes
+stretch_front_of n [] l = ap stretch (take_all n [] (omega arith))
+stretch_front_of zero (b ∷ bytes) l = elim (eqb_tells b 0) [
+  | inl t ↦ rw (eq-eqb b 0 t.1) refl
+  | inr t ↦ let m : suc (length (stretch bytes)) ≤ 0 = rw (ne_eqb b 0 t.1) at l in absurd (omega arith)
+]
+stretch_front_of (suc n) (b ∷ bytes) l = elim (eqb_tells b 0) [
+  | inl t ↦ rw (eq-eqb b 0 t.1) refl
+  | inr t ↦
+      let m : suc (length (stretch bytes)) ≤ suc n = rw (ne_eqb b 0 t.1) at l in
+      rw (ne_eqb b 0 t.1) (ap (λ r. b ∷ r) (stretch_front_of n bytes (omega (arith, m))))
+]
+
+pub stretch_reached : (sentinel n : ℕ) (bytes : List ℕ) → length (stretch (masked sentinel bytes)) ≤ n → stretch (masked sentinel (take n bytes)) ≡ stretch (masked sentinel bytes)
+stretch_reached s n bytes l = ap stretch (sym (masked_take s n bytes)) ∙ stretch_front_of n (masked s bytes) l

@@ -1,5 +1,5 @@
 -- How a message is coded where it stands.
-use Rattle.std.proofs.Common.{◌≡◌, ℕ, suc, ◌+◌, ◌-◌, ◌<◌, ◌≤◌, List, [], ◌∷◌, ◌++◌, length, take, drop, set, get_or, refl, ap, sym, ◌∙◌, arith, append_assoc, length-append, length-drop}
+use Rattle.std.proofs.Common.{◌≡◌, ℕ, ◌+◌, ◌-◌, ◌<◌, ◌≤◌, List, [], ◌∷◌, ◌++◌, length, take, drop, set, get_or, refl, ap, sym, ◌∙◌, arith, append_assoc, length-append, length-drop}
 use Rattle.std.proofs.lemmas.List.{take-append-drop, take-append-le, take_at, drop_at, drop_more, drop-drop, length-take-le}
 use Rattle.std.specs.Prelude.{bit_xor}
 use borrow.Rule.Slice.PartMut.{put_mid}
@@ -8,10 +8,8 @@ use Rattle.cobs.specs.Codes.{Coding, Coded}
 use Rattle.cobs.specs.Held.{pushed, HoldsFrame}
 use Rattle.cobs.specs.InPlace.{written_over}
 use Rattle.cobs.specs.Sentinel.{masked, frame_for}
-use Rattle.std.specs.Int.Bits.{xor_self, xor_zero_r}
-use Rattle.std.proofs.lemmas.Bool.{eqb-true}
-use Rattle.cobs.proofs.MaskingLemmas.{masked_length, masked_take, masked_drop, masked_twice, masked_put, xor_twice, front_masked}
-use Rattle.cobs.proofs.CodingLemmas.{zero_at, byte_at, is_more, coded_end}
+use Rattle.cobs.proofs.MaskingLemmas.{masked_length, masked_take, masked_drop, masked_twice, masked_put, front_masked}
+use Rattle.cobs.proofs.CodingLemmas.{all_at, coded_end}
 
 -- a message that stands behind a first byte
 pub standing_new : (bytes : List ℕ) (n : ℕ) → n ≤ 254 → n < length bytes → Coding bytes 0 1 (take n (drop 1 bytes)) (take n (drop 1 bytes))
@@ -37,13 +35,6 @@ standing_piece bytes code_at at m rest k l c =
     let long : length front ≡ at = length-append c.closed (c.code ∷ c.run) ∙ sym c.ends in
     let split : bytes ≡ front ++ (rest ++ c.tail) = c.spells ∙ sym (append_assoc c.closed (c.code ∷ c.run) (rest ++ c.tail)) in
     ap (λ b. take k (drop at b)) split ∙ ap (take k) (drop_at front (rest ++ c.tail) at long) ∙ take-append-le k rest c.tail l
-
--- how far the block reaches
-pub standing_short : (bytes : List ℕ) (code_at at : ℕ) (m rest : List ℕ) → Coding bytes code_at at m rest → (code_at < at) × (at + length rest ≤ code_at + 255) × (at + length rest ≤ length bytes)
-standing_short bytes code_at at m rest c =
-    let long : length bytes ≡ length c.closed + suc (length c.run + (length rest + length c.tail)) =
-    ap length c.spells ∙ length-append c.closed (c.code ∷ (c.run ++ (rest ++ c.tail))) ∙ ap (λ n. length c.closed + suc n) (length-append c.run (rest ++ c.tail) ∙ ap (λ n. length c.run + n) (length-append rest c.tail)) in
-    (omega (arith, c.begins, c.ends), omega (arith, c.begins, c.ends, c.short), omega (arith, c.ends, long))
 
 -- a front of it is coded
 pub standing_on : (s : ℕ) (before after m : List ℕ) (code_at done count next : ℕ) → done + count ≤ length m → Coding (masked s before) code_at (done + 1) m (drop done m)
@@ -71,31 +62,18 @@ standing_masked s n bytes new room e =
     ∙ ap (masked s) (take_at new (drop n (drop 1 bytes)) n long ∙ e)
     ∙ masked_twice s m
 
--- one byte that stands there
-one_is : (s : ℕ) (bytes : List ℕ) (at : ℕ) → at < length bytes → masked s (take 1 (drop at bytes)) ≡ bit_xor s (get_or bytes at 0) ∷ []
-one_is s bytes at l = ap (λ b. masked s (take 1 b)) (drop_more bytes at 0 l)
-
-pub one_zero : (s : ℕ) (bytes : List ℕ) (code_at at : ℕ) → code_at < at → at < length bytes → get_or bytes at 0 ≡ s
-    → Coded (masked s bytes) code_at at (masked s (take 1 (drop at bytes))) (masked s (set bytes code_at (bit_xor s (at - code_at)))) at
-one_zero s bytes code_at at b l e =
-    let is : masked s (take 1 (drop at bytes)) ≡ 0 ∷ [] = one_is s bytes at l ∙ ap (λ x. bit_xor s x ∷ []) e ∙ ap (λ x. x ∷ []) (xor_self s) in
-    rw (is, masked_put s bytes code_at (at - code_at)) (record {
-      begins = omega arith;
-      later = omega (arith, b);
-      coding = λ m more h. zero_at (masked s bytes) code_at at (at + 1) m (0 ∷ []) more 0 (omega arith) refl refl h;
-    })
-
-pub one_byte : (s : ℕ) (bytes : List ℕ) (code_at at : ℕ) → code_at < at → at < length bytes → (get_or bytes at 0 ≡ s → ⊥)
-    → Coded (masked s bytes) code_at at (masked s (take 1 (drop at bytes))) (masked s bytes) code_at
-one_byte s bytes code_at at b l ne =
-    let x = bit_xor s (get_or bytes at 0) in
-    let is : masked s (take 1 (drop at bytes)) ≡ x ∷ [] = one_is s bytes at l in
-    let more_than : 0 < x = is_more x (λ z. ne (sym (xor_twice s (get_or bytes at 0)) ∙ ap (bit_xor s) (eqb-true _ _ z) ∙ xor_zero_r s)) in
-    rw is (record {
+-- bytes that stand there, of which none is zero
+pub standing_clear : (s : ℕ) (bytes : List ℕ) (code_at from n : ℕ) → code_at < from → from + n ≤ length bytes → n ≡ 64 → ((k : ℕ) → k < 64 → 0 < get_or (masked s (take (from + n - from) (drop from bytes))) k 0)
+    → Coded (masked s bytes) code_at from (masked s (take n (drop from bytes))) (masked s bytes) code_at
+standing_clear s bytes code_at from n b w e h =
+    let piece = masked s (take n (drop from bytes)) in
+    let same : from + n - from ≡ n = omega arith in
+    let long : length piece ≡ n = masked_length s (take n (drop from bytes)) ∙ length-take-le n (drop from bytes) (omega (arith, length-drop from bytes, w)) in
+    record {
       begins = omega (arith, b);
       later = omega arith;
-      coding = λ m more h. byte_at (masked s bytes) code_at at (at + 1) m (x ∷ []) more 0 (omega arith) more_than refl h;
-    })
+      coding = λ message more c. all_at (masked s bytes) code_at from (from + length piece) message piece more (λ k l. rw same at (h k (omega (arith, l, long, e)))) refl c;
+    }
 
 -- with the last code the buffer begins with the frame
 pub standing_end : (s : ℕ) (bytes : List ℕ) (code_at end : ℕ) (m message : List ℕ) → m ≡ message → Coding (masked s bytes) code_at end m []

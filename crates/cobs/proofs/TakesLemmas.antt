@@ -1,19 +1,21 @@
 -- What the streaming decoders do with a byte and with a piece.
-use Rattle.std.proofs.Common.{◌≡◌, ℕ, suc, ◌+◌, ◌^◌, ◌<◌, ◌≤◌, false, List, [], ◌∷◌, ◌++◌, length, take, append_assoc, length-append, Option, Some, None, Result, Ok, Err, inl, inr, refl, ap, sym, ◌∙◌, subst, arith}
-use Rattle.std.proofs.lemmas.List.{append-nil}
+use Rattle.std.proofs.Common.{◌≡◌, ℕ, suc, ◌+◌, ◌^◌, ◌<◌, ◌≤◌, min, false, List, [], ◌∷◌, ◌++◌, length, take, drop, append_assoc, length-append, length-take, length-drop, Option, Some, None, Result, Ok, Err, inl, inr, refl, ap, sym, ◌∙◌, subst, arith}
+use Rattle.std.proofs.lemmas.List.{append-nil, take-take}
 use Rattle.std.specs.Prelude.{IfOk, IfSome, IsNone}
-use Rattle.cobs.specs.Frames.{part, part_from, after}
+use Rattle.cobs.specs.Frames.{NoZero, part, part_from, after}
 use Rattle.cobs.specs.InPlace.{written_over}
 use Rattle.cobs.specs.Feeding.{at_zero, at_byte, answer_of, frame_after, placed, told_by, fed, standing, listed}
 use Rattle.cobs.specs.Pieces.{frame_met}
 use Rattle.cobs.specs.Reports.{parsed_size, frame_size}
 use Rattle.cobs.specs.Sentinel.{masked}
 use Rattle.cobs.specs.Streaming.{HasStreamed}
-use Rattle.cobs.specs.Taking.{FeedsByte, TakesPiece, TakesFront}
+use Rattle.cobs.specs.Taking.{FeedsByte, TakesPiece, TakesFront, Owes}
+use Rattle.std.proofs.lemmas.Bool.{ne_eqb}
+use Rattle.cobs.specs.declared.dec.state.DecoderState.TheVariants.{Idle, GrabChain}
 use Rattle.cobs.specs.declared.dec.report.DecodeError.{DecodeError}
 use Rattle.cobs.specs.declared.dec.report.DecodeReport.{DecodeReport}
 use Rattle.cobs.specs.declared.dec.progress.Progress.{Progress}
-use Rattle.cobs.proofs.DecodingLemmas.{part_append}
+use Rattle.cobs.proofs.DecodingLemmas.{part_append, nonzero_append}
 use Rattle.cobs.proofs.FeedsLemmas.{frame_byte, answer_byte, part_told}
 use Rattle.cobs.proofs.MaskingLemmas.{masked_zero}
 use Rattle.cobs.proofs.MessagesLemmas.{decoded_next, decoded_left, placed_zero, length-placed, message_here, message_met}
@@ -21,6 +23,7 @@ use Rattle.cobs.proofs.PassingLemmas.{all_placed}
 use Rattle.cobs.proofs.TurnsLemmas.{Came}
 use Rattle.cobs.proofs.WindowsLemmas.{placed_written}
 use Rattle.cobs.proofs.WithinLemmas.{placed_front, cases_zero}
+use Rattle.cobs.proofs.WrittenLemmas.{front_then}
 
 -- of an answer
 if_answered : {A : Type 0} (result : Result (Option A) DecodeError) (P : A → Type 0) → ((x : A) → result ≡ Ok (Some x) → P x) → IfOk result (λ o. IfSome o P)
@@ -87,6 +90,17 @@ none_front p rest buffer d s = record {
   same = λ z. refl;
 }
 
+-- where a code tells no byte of a message
+pub owes_idle : Owes Idle
+owes_idle code z = (rw (ne_eqb code 0 (λ e. omega arith)) refl, rw (ne_eqb code 0 (λ e. omega arith)) refl)
+
+pub owes_chain : Owes (GrabChain 0)
+owes_chain code z = (rw (ne_eqb code 0 (λ e. omega arith)) refl, rw (ne_eqb code 0 (λ e. omega arith)) refl)
+
+-- nothing was taken in
+pub none_taken : (p piece old new : List ℕ) (n : ℕ) (d : Progress) → n ≡ 0 → TakesFront p piece old n d new → HasStreamed d p × (new ≡ old)
+none_taken p piece old new n d z f = (subst (HasStreamed d) (ap (λ k. p ++ take k piece) z ∙ append-nil p) f.has, f.same z)
+
 -- a byte was taken in, and behind it these
 module _ (p : List ℕ) (b : ℕ) (rest old mid new : List ℕ) (n : ℕ) (d : Progress) (some : 0 < b) (room : length (part (p ++ b ∷ [])) ≤ length old) (put : mid ≡ placed p b old)
     (f : TakesFront (p ++ b ∷ []) rest mid n d new) where
@@ -120,6 +134,60 @@ module _ (p : List ℕ) (b : ℕ) (rest old mid new : List ℕ) (n : ℕ) (d : P
 
   pub byte_then : TakesFront p (b ∷ rest) old (1 + n) d new
   byte_then = let one : suc n ≡ 1 + n = omega arith in subst (λ j. TakesFront p (b ∷ rest) old j d new) one then_suc
+
+-- what was taken in of the front of the bytes is of all of them
+pub front_longer : (p piece rest old new : List ℕ) (n m : ℕ) (d : Progress) → piece ≡ take m rest → TakesFront p piece old n d new → TakesFront p rest old n d new
+front_longer p piece rest old new n m d e f =
+    let few : n ≤ min m (length rest) = omega (arith, f.within, ap length e, length-take m rest) in
+    let same : take n piece ≡ take n rest = ap (take n) e ∙ take-take n m rest (omega (arith, few)) in
+    record {
+      within = omega (arith, few);
+      clear = subst NoZero same f.clear;
+      fits = subst (λ b. 0 < n → length (part (p ++ b)) ≤ length old) same f.fits;
+      has = subst (λ b. HasStreamed d (p ++ b)) same f.has;
+      buffer = subst (λ b. 0 < n → new ≡ written_over (length (part p)) (part_from (after 0 false p).0 (after 0 false p).1 b) old) same f.buffer;
+      same = f.same;
+    }
+
+placed_append : (p a b buffer : List ℕ) → all_placed (p ++ a) b (all_placed p a buffer) ≡ all_placed p (a ++ b) buffer
+placed_append p [] b buffer = ap (λ q. all_placed q b buffer) (append-nil p)
+placed_append p (x ∷ a) b buffer =
+    ap (λ q. all_placed q b (all_placed (p ++ x ∷ []) a (placed p x buffer))) (sym (append_assoc p (x ∷ []) a)) ∙ placed_append (p ++ x ∷ []) a b (placed p x buffer)
+
+-- bytes were taken in, and behind them these
+module _ (p piece old mid new : List ℕ) (n m : ℕ) (d d' : Progress) (room : length mid ≡ length old) (f : TakesFront p piece old n d mid) (g : TakesFront (p ++ take n piece) (drop n piece) mid m d' new) where
+  both : take n piece ++ take m (drop n piece) ≡ take (n + m) piece
+  both = ap (λ j. take n piece ++ take j (drop n piece)) (omega arith) ∙ front_then n (n + m) piece (omega arith)
+
+  on : (p ++ take n piece) ++ take m (drop n piece) ≡ p ++ take (n + m) piece
+  on = append_assoc p (take n piece) (take m (drop n piece)) ∙ ap (λ b. p ++ b) both
+
+  all_clear : NoZero (take (n + m) piece)
+  all_clear = subst NoZero both (nonzero_append (take n piece) (take m (drop n piece)) f.clear g.clear)
+
+  put_all : new ≡ all_placed p (take (n + m) piece) old
+  put_all =
+      placed_front (p ++ take n piece) (drop n piece) mid m d' new g
+      ∙ ap (all_placed (p ++ take n piece) (take m (drop n piece))) (placed_front p piece old n d mid f)
+      ∙ placed_append p (take n piece) (take m (drop n piece)) old ∙ ap (λ b. all_placed p b old) both
+
+  all_fits : 0 < n + m → length (part (p ++ take (n + m) piece)) ≤ length old
+  all_fits l = elim (cases_zero m) [
+    | inl z ↦ let none : n ≡ n + m = omega (arith, z) in subst (λ j. length (part (p ++ take j piece)) ≤ length old) none (f.fits (omega (arith, l, z)))
+    | inr q ↦ omega (arith, g.fits q, ap (λ b. length (part b)) on, room)
+  ]
+
+  pub front_on : TakesFront p piece old (n + m) d' new
+  front_on = record {
+    within = omega (arith, f.within, g.within, length-drop n piece);
+    clear = all_clear;
+    fits = all_fits;
+    has = subst (HasStreamed d') on g.has;
+    buffer = λ l.
+        let told = part_from (after 0 false p).0 (after 0 false p).1 (take (n + m) piece) in
+        put_all ∙ placed_written p (take (n + m) piece) old all_clear (omega (arith, all_fits l, ap length (part_append 0 false p (take (n + m) piece)), length-append (part p) told));
+    same = λ z. g.same (omega (arith, z)) ∙ f.same (omega (arith, z));
+  }
 
 -- a byte that has room
 told_few : (o : Option ℕ) → length (listed o) ≤ 1

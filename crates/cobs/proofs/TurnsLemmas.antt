@@ -108,9 +108,3 @@ pub record Came (frame piece source : List ℕ) (answer : Result (Option DecodeR
   pub left : List ℕ
   pub outcome : Outcome (length source) frame piece source 0 answer left buffer
   pub stands : HasStreamed d left
-
--- all of it was taken in at once
-pub all_taken : (frame piece source buffer : List ℕ) (d d' : Progress) (n : ℕ) → HasStreamed d frame → TakesFront frame piece source n d' buffer → length piece ≤ n → Came frame piece source (Ok None) d' buffer
-all_taken frame piece source buffer d d' n s f l =
-    let t = turn_front frame piece source 0 n source buffer d d' (record { now = frame; stands = s; rest = λ answer left last o. o }) refl f in
-    record { left = t.now; outcome = turn_end frame piece source (0 + n) buffer d' t (omega (arith, l)); stands = t.stands }

@@ -1,25 +1,23 @@
 -- What decoding a whole source answers.
-use Rattle.std.proofs.Common.{◌≡◌, ℕ, ◌+◌, ◌^◌, ◌<◌, ◌≤◌, List, [], ◌∷◌, ◌++◌, length, take, drop, get_or, Result, Ok, Err, inl, inr, refl, ap, sym, ◌∙◌, arith, subst}
+use Rattle.std.proofs.Common.{◌≡◌, ℕ, ◌+◌, ◌<◌, List, [], ◌∷◌, ◌++◌, length, take, drop, get_or, Result, Ok, Err, inl, inr, refl, ap, sym, ◌∙◌, arith, subst}
 use Rattle.std.proofs.lemmas.List.{take_more, take_at}
 use Rattle.std.proofs.lemmas.Bool.{eq-eqb, ne_eqb}
 use Rattle.std.proofs.lemmas.Bool.Decides.{eqb_tells}
-use Rattle.std.specs.Prelude.{IsErrAnd, bit_xor}
+use Rattle.std.specs.Prelude.{bit_xor}
 use Rattle.cobs.specs.Frames.{NoZero, part, missing}
-use Rattle.cobs.specs.Feeding.{fed, standing}
 use Rattle.cobs.specs.InPlace.{stretch, overwritten, in_place}
 use Rattle.cobs.specs.Reports.{report, frame_size}
 use Rattle.cobs.specs.Sentinel.{masked}
-use Rattle.cobs.specs.Whole.{unpadded, frame_in, decoded_into, message_of_stretch, message_of_frame}
+use Rattle.cobs.specs.Whole.{unpadded, frame_in, message_of_stretch, message_of_frame}
 use Rattle.cobs.specs.declared.dec.report.DecodeError.{DecodeError}
 use Rattle.cobs.specs.declared.dec.report.DecodeError.TheVariants.{EmptyFrame, InvalidFrame}
 use Rattle.cobs.specs.declared.dec.report.DecodeReport.{DecodeReport}
 use Rattle.cobs.specs.declared.dec.progress.Progress.{Progress}
 use Rattle.cobs.specs.Streaming.{HasStreamed}
 use Rattle.cobs.proofs.MaskingLemmas.{masked_zero, masked_length, masked_get}
-use Rattle.cobs.proofs.SourcesLemmas.{stretch_clear, clear_at, stretch_of}
+use Rattle.cobs.proofs.SourcesLemmas.{stretch_clear, clear_at, stretch_of, stretch_within}
 use Rattle.cobs.proofs.DecodingLemmas.{part_shorter}
 use Rattle.cobs.proofs.OverwritingLemmas.{front}
-use Rattle.cobs.proofs.ReadingLemmas.{ends_broken}
 
 -- the frame that decoding finds
 pub found : (source rest frame : List ℕ) → rest ≡ unpadded source → masked 0 frame ≡ stretch (masked 0 rest) → frame ≡ frame_in source
@@ -28,33 +26,7 @@ found source rest frame r f = sym (masked_zero frame) ∙ f ∙ ap stretch (mask
 pub found_clear : (source frame : List ℕ) → frame ≡ frame_in source → NoZero frame
 found_clear source frame e = subst NoZero (sym e) (stretch_clear (unpadded source))
 
--- what a `?` passes on
-pub passed_on : {A : Type 0} (r : Result A DecodeError) (e : DecodeError) → IsErrAnd r (λ y. y ≡ e) → r ≡ Err e
-passed_on (Ok x) e h = absurd h
-passed_on (Err y) e h = ap (λ z. Err z) h
-
--- a stretch is no longer than what it begins
-stretch_within : (bytes : List ℕ) → length (stretch bytes) ≤ length bytes
-stretch_within [] = omega arith
-stretch_within (b ∷ bytes) = elim (eqb_tells b 0) [
-  | inl t ↦ rw (t.1) (omega arith)
-  | inr t ↦ rw (ne_eqb b 0 t.1) (omega (arith, stretch_within bytes))
-]
-
--- All of a frame was taken in.
-pub record EnteredAll (frame source : List ℕ) (d : Progress) (dest : List ℕ) : Type 0 where
-  pub state : d.state ≡ standing frame
-  pub counts : d.len ≡ length (part frame)
-  pub holds : dest ≡ overwritten (part frame) source
-
-pub entered_all : (frame source : List ℕ) (d : Progress) (dest : List ℕ) → HasStreamed d frame → length frame < 2 ^ 64 → dest ≡ overwritten (part frame) source → EnteredAll frame source d dest
-entered_all frame source d dest s w h = record {
-  state = s.state;
-  counts = omega (arith, s.len, w, part_shorter frame);
-  holds = h;
-}
-
--- one byte of it more
+-- one byte of a frame more was taken in
 pub entering_on : (sentinel : ℕ) (bytes : List ℕ) (i : ℕ) (d d' : Progress) → HasStreamed d (take i (masked sentinel bytes)) → i < length bytes
     → ((p : List ℕ) → HasStreamed d p → HasStreamed d' (p ++ bit_xor sentinel (get_or bytes i 0) ∷ [])) → HasStreamed d' (take (i + 1) (masked sentinel bytes))
 entering_on s bytes i d d' h l t =
@@ -63,11 +35,6 @@ entering_on s bytes i d d' h l t =
 
 pub entering_positive : (sentinel : ℕ) (bytes : List ℕ) (i : ℕ) → NoZero (masked sentinel bytes) → i < length bytes → 0 < bit_xor sentinel (get_or bytes i 0)
 entering_positive s bytes i clear l = rw (masked_get s bytes i l) at (clear_at (masked s bytes) i clear (omega (arith, l, masked_length s bytes)))
-
--- what the form with a sentinel answers to a frame that is broken
-pub sentinel_broken : (room : ℕ) (frame source : List ℕ) (d : Progress) (dest : List ℕ) → EnteredAll frame source d dest → (x : DecodeError) → fed d.state 0 ≡ Err x → Err (InvalidFrame d.len) ≡ decoded_into room frame
-sentinel_broken room frame source d dest t x e =
-    ap (λ n. Err (InvalidFrame n)) t.counts ∙ sym (rw (ne_eqb (missing frame) 0 (ends_broken frame d.state x t.state e)) refl)
 
 -- a vector's elements after a write of all of them
 pub refilled : (n : ℕ) (old new : List ℕ) → n ≡ length old → length new ≡ length old → take n (new ++ drop (length new) old) ≡ new

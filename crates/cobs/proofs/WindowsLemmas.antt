@@ -1,16 +1,16 @@
 -- Bytes of an open block that are taken in at once.
 use Rattle.std.proofs.Common.{◌≡◌, ◌≢◌, ℕ, zero, suc, pred, ◌+◌, ◌-◌, ◌^◌, ◌<◌, ◌≤◌, nat_lt, Bool, true, false, List, [], ◌∷◌, ◌++◌, length, take, drop, set, get_or, replicate, Option, Some, None, refl, ap, sym, ◌∙◌, arith, append_assoc, length-append, length-drop}
-use Rattle.std.proofs.lemmas.List.{append-nil, take_all, drop_all, drop_more, drop-drop, set_at, take-append-drop, take_more_set, drop-set-lt, length-set, length-take-le, get_or-take, get_or-drop, take-take}
+use Rattle.std.proofs.lemmas.List.{append-nil, take_all, drop_all, drop_more, drop-drop, set_at, take-append-drop, take_more_set, drop-set-lt, length-set, length-take-le, get_or-drop}
 use Rattle.std.proofs.lemmas.Bool.{ne_eqb, lt-ltb}
 use Rattle.cobs.specs.Frames.{NoZero, part, part_from, after}
 use Rattle.cobs.specs.Feeding.{told_by, fed, listed, stands_by, standing, placed, stored}
 use Rattle.cobs.specs.InPlace.{written_over}
 use Rattle.cobs.specs.Streaming.{HasStreamed}
-use Rattle.cobs.specs.Taking.{TakesFront, left_in, left_behind}
+use Rattle.cobs.specs.Taking.{TakesFront}
 use Rattle.cobs.specs.declared.dec.progress.Progress.{Progress}
 use borrow.Rule.Slice.PartMut.{put_mid}
 use Rattle.cobs.specs.declared.dec.state.DecoderState.{DecoderState}
-use Rattle.cobs.specs.declared.dec.state.DecoderState.TheVariants.{Idle, Grab, GrabChain}
+use Rattle.cobs.specs.declared.dec.state.DecoderState.TheVariants.{Grab, GrabChain}
 use Rattle.cobs.proofs.DecodingLemmas.{part_append, after_append}
 use Rattle.cobs.proofs.FeedsLemmas.{told_stands}
 use Rattle.cobs.proofs.PassingLemmas.{all_placed}
@@ -261,10 +261,10 @@ of_ones (b ∷ bytes) h =
 
 -- what was decoded is written behind what p decided
 module _ (p piece old out new : List ℕ) (d : Progress) (n left : ℕ) (owed : Bool) (state : DecoderState) (s : HasStreamed d p) (a : after 0 false p ≡ (left, owed)) (some : p ≢ [])
-    (within : n ≤ length piece) (nonzero : (j : ℕ) → j < n → 0 < get_or (take n piece) j 0) (room : d.len + n ≤ length old) (begun : d.len < length old) (small : length old < 2 ^ 64)
+    (within : n ≤ length piece) (nonzero : (j : ℕ) → j < n → 0 < get_or (take n piece) j 0) (room : d.len + n ≤ length old) (small : length old < 2 ^ 63)
     (decoded : out ≡ part_from left owed (take n piece)) (long : length out ≡ n) (put : new ≡ written_over d.len out old) (stands : state ≡ stands_by (after left owed (take n piece))) where
   counted : d.len ≡ length (part p)
-  counted = omega (arith, s.len, begun, small)
+  counted = omega (arith, s.len, room, small)
 
   clear : NoZero (take n piece)
   clear = none_zero (take n piece) (λ j l. nonzero j (omega (arith, l, length-take-le n piece within)))
@@ -298,30 +298,3 @@ module _ (p piece old out new : List ℕ) (d : Progress) (n left : ℕ) (owed : 
 -- a part of a buffer that was written anew
 pub part_written : (old out : List ℕ) (place k : ℕ) → k ≡ length out → put_mid place k old out ≡ written_over place out old
 part_written old out place k e = ap (λ b. take place old ++ (out ++ b)) (drop-drop k place old ∙ ap (λ j. drop j old) (omega (arith, e)))
-
--- bytes of the open block alone
-pub run_written : (p piece old new : List ℕ) (d : Progress) (n most left : ℕ) (owed : Bool) (state : DecoderState) → HasStreamed d p → after 0 false p ≡ (left, owed) → p ≢ []
-    → most ≤ length piece → n ≤ most → ((j : ℕ) → j < n → 0 < get_or (take most piece) j 0) → d.len + n ≤ length old → d.len < length old → length old < 2 ^ 64 → n ≤ left
-    → new ≡ written_over d.len (take n (take most piece)) old → state ≡ stands_by (left - n, owed) → TakesFront p piece old n (record { state = state; len = d.len + n }) new
-run_written p piece old new d n most left owed state s a some few within nonzero room begun small inside put stands =
-    let whole : n ≤ length piece = omega arith in
-    let long : length (take n piece) ≡ n = length-take-le n piece whole in
-    let one : length (take n piece) ≤ left = omega arith in
-    let rest : left - n ≡ left - length (take n piece) = omega arith in
-    let same : take n (take most piece) ≡ take n piece = take-take n most piece within in
-    let clear : (j : ℕ) → j < n → 0 < get_or (take n piece) j 0 = λ j l.
-    omega (arith, get_or-take n piece j 0 l, get_or-take most piece j 0 (omega (arith, l, within)), nonzero j l) in
-    front_written p piece old (take n piece) new d n left owed state s a some whole clear room begun small (sym (one_part left owed (take n piece) one)) long
-    (put ∙ ap (λ m. written_over d.len m old) same) (stands ∙ ap (λ k. stands_by (k, owed)) rest ∙ sym (ap stands_by (one_after left owed (take n piece) one)))
-
--- a block that is open
-pub record Inside (p : List ℕ) (state : DecoderState) (left : ℕ) : Type 0 where
-  pub owed : Bool
-  pub is : after 0 false p ≡ (left, owed)
-  pub some : p ≢ []
-  pub later : (n : ℕ) → left_behind state n ≡ stands_by (left - n, owed)
-
-pub inside : (p : List ℕ) (state : DecoderState) (left : ℕ) → state ≡ standing p → left ≡ left_in state → 0 < left → Inside p state left
-inside p Idle left e l z = absurd (omega arith)
-inside p (Grab n) left e l z = let at = at_grab p n e in record { owed = true; is = at.0 ∙ ap (λ k. (k, true)) (sym l); some = at.1; later = λ m. ap (λ k. Grab (k - m)) (sym l) }
-inside p (GrabChain n) left e l z = let at = at_chain p n e in record { owed = false; is = at.0 ∙ ap (λ k. (k, false)) (sym l); some = at.1; later = λ m. ap (λ k. GrabChain (k - m)) (sym l) }

@@ -3,6 +3,7 @@ use Rattle.std.proofs.Common.{◌≡◌, ◌≢◌, ℕ, zero, suc, ◌+◌, ◌
 use Rattle.std.proofs.lemmas.List.{length-take-le, length-take, take-take, get_or-take, get_or-drop, drop_more, drop_at, take_at, take_all}
 use Rattle.std.proofs.lemmas.Bool.{cases_lt}
 use Rattle.std.specs.Prelude.{bit_xor}
+use Rattle.cobs.specs.Feeding.{by_code}
 use Rattle.cobs.specs.Frames.{NoZero, part, part_from, after}
 use Rattle.cobs.specs.InPlace.{overwritten, written_over}
 use Rattle.cobs.specs.Sentinel.{masked}
@@ -10,6 +11,7 @@ use Rattle.cobs.specs.Streaming.{HasStreamed}
 use Rattle.cobs.specs.Taking.{TakesFront}
 use Rattle.cobs.specs.declared.dec.progress.Progress.{Progress}
 use Rattle.cobs.proofs.DecodingLemmas.{Stretch, part_append, part_shorter}
+use Rattle.cobs.proofs.FeedsLemmas.{code_stands}
 use Rattle.cobs.proofs.MaskingLemmas.{masked_length, masked_get, masked_take, masked_drop}
 use Rattle.cobs.proofs.OverwritingLemmas.{rest, behind, length-overwritten}
 use Rattle.cobs.proofs.PassingLemmas.{all_placed, placed_over}
@@ -40,13 +42,22 @@ placed_front p piece buffer n d' buffer' f = elim (cases_zero n) [
       ∙ sym (placed_written p (take n piece) buffer f.clear (omega (arith, f.fits l, ap length (part_append 0 false p (take n piece)), length-append (part p) (part_from (after 0 false p).0 (after 0 false p).1 (take n piece)))))
 ]
 
--- nothing was read yet
-pub reading_new : (sentinel : ℕ) (source : List ℕ) (d : Progress) → HasStreamed d [] → length source < 2 ^ 64 → Reading sentinel source source 0 d
-reading_new sentinel source d s w = record {
-  reads = record { within = omega arith; small = omega (arith, w, masked_length sentinel source); clear = tt; stands = s };
-  holds = sym (ap (λ m. m ++ source) (take_all (length source) [] (omega arith)));
-  long = refl;
-}
+-- a code was read
+pub reading_begun : (sentinel : ℕ) (source : List ℕ) (d : Progress) → 0 < length source → length source < 2 ^ 64 → get_or source 0 0 ≢ sentinel → bit_xor sentinel (get_or source 0 0) < 256
+    → d.state ≡ by_code (bit_xor sentinel (get_or source 0 0)) → d.len ≡ 0 → Reading sentinel source source 1 d
+reading_begun sentinel [] d some w other few state len = absurd (omega arith)
+reading_begun sentinel (b ∷ source) d some w other few state len =
+    let positive : 0 < bit_xor sentinel b = masked_positive sentinel b other in
+    record {
+      reads = record {
+        within = omega (arith, masked_length sentinel (b ∷ source));
+        small = omega (arith, w, masked_length sentinel (b ∷ source));
+        clear = ((positive, few), tt);
+        stands = record { state = state ∙ code_stands (bit_xor sentinel b) positive few; len = omega (arith, len) };
+      };
+      holds = sym (ap (λ m. m ++ b ∷ source) (take_all (length (b ∷ source)) [] (omega arith)));
+      long = refl;
+    }
 
 module _ (sentinel : ℕ) (source buffer : List ℕ) (read : ℕ) (d : Progress) (r : Reading sentinel source buffer read d) where
   abbrev bytes : List ℕ
@@ -143,31 +154,3 @@ code_ahead s code read end buffer l w is =
     ap (λ n. masked s (take n (drop read buffer))) count
     ∙ ap (λ d. masked s (take (suc (end - (read + 1))) d)) (drop_more buffer read 0 (omega (arith, l, w)))
     ∙ ap (λ b. b ∷ masked s rest) (sym is)
-
--- The bytes of a buffer from a place on up to another one, of which none is the sentinel.
-module _ (sentinel : ℕ) (buffer : List ℕ) (read end n : ℕ) (few : n ≤ end - read) (w : end ≤ length buffer) (some : read < end) (clear : (k : ℕ) → read ≤ k → k < end → get_or buffer k 0 ≢ sentinel) where
-  abbrev ahead : List ℕ
-  ahead = masked sentinel (take (end - read) (drop read buffer))
-
-  left : length (drop read buffer) ≡ length buffer - read
-  left = length-drop read buffer
-
-  pub ahead_within : n ≤ length ahead
-  ahead_within = omega (arith, masked_length sentinel (take (end - read) (drop read buffer)), length-take-le (end - read) (drop read buffer) (omega (arith, left, w)), few)
-
-  pub ahead_front : masked sentinel (take n (drop read buffer)) ≡ take n ahead
-  ahead_front = ap (masked sentinel) (sym (take-take n (end - read) (drop read buffer) few)) ∙ sym (masked_take sentinel n (take (end - read) (drop read buffer)))
-
-  pub ahead_nonzero : (j : ℕ) → j < n → 0 < get_or (take n ahead) j 0
-  ahead_nonzero j l =
-      let long : length (take (end - read) (drop read buffer)) ≡ end - read = length-take-le (end - read) (drop read buffer) (omega (arith, left, w)) in
-      let byte : get_or (take n ahead) j 0 ≡ bit_xor sentinel (get_or buffer (read + j) 0) =
-      get_or-take n ahead j 0 l
-      ∙ masked_get sentinel (take (end - read) (drop read buffer)) j (omega (arith, long, l, few))
-      ∙ ap (bit_xor sentinel) (get_or-take (end - read) (drop read buffer) j 0 (omega (arith, l, few)) ∙ get_or-drop read buffer j 0) in
-      omega (arith, byte, masked_positive sentinel (get_or buffer (read + j) 0) (clear (read + j) (omega arith) (omega (arith, l, few, some))))
-
-  pub ahead_byte : (j : ℕ) → j < n → get_or (take n ahead) j 0 ≡ bit_xor sentinel (get_or (take (end - read) (drop read buffer)) j 0)
-  ahead_byte j l =
-      get_or-take n ahead j 0 l
-      ∙ masked_get sentinel (take (end - read) (drop read buffer)) j (omega (arith, length-take-le (end - read) (drop read buffer) (omega (arith, left, w)), l, few))

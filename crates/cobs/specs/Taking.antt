@@ -1,8 +1,8 @@
 -- What the streaming decoders do with what they are given, each byte XORed with the sentinel: what each keeps, and its buffer,
 -- before and afterwards.
-use Rattle.std.specs.Prelude.{◌≡◌, ◌≢◌, ℕ, ◌-◌, ◌==◌, if◌then◌else◌, ◌<◌, ◌≤◌, false, List, [], ◌++◌, length, take, Option, Result, Ok, Err, IfOk, OnErr, IfSome}
+use Rattle.std.specs.Prelude.{◌≡◌, ◌≢◌, ℕ, ◌+◌, ◌-◌, ◌==◌, if◌then◌else◌, ◌<◌, ◌≤◌, false, List, [], ◌++◌, length, take, Option, None, Result, Ok, Err, IfOk, OnErr, IfSome}
 use Rattle.cobs.specs.Frames.{Frame, NoZero, part, part_from, after}
-use Rattle.cobs.specs.Feeding.{answer_of, frame_after, placed}
+use Rattle.cobs.specs.Feeding.{answer_of, frame_after, placed, by_code, told_by, fed, next}
 use Rattle.cobs.specs.InPlace.{overwritten, written_over}
 use Rattle.cobs.specs.Pieces.{first_answer, frame_left, frame_met, buffer_left}
 use Rattle.cobs.specs.Reports.{parsed_size, frame_size, report}
@@ -67,6 +67,14 @@ pub record TakesFront (p piece old : List ℕ) (n : ℕ)
       (part_from (after 0 false p).0 (after 0 false p).1 (take n piece)) old
   pub same : n ≡ 0 → new ≡ old
 
+-- Bytes without zeros, some, were decoded, and they had room: the answer, how many they are, and the buffer (private contracts alone).
+pub record DecodesFront (old frame new : List ℕ) (answer : Result ℕ DecodeError) (count : ℕ) : Type 0 where
+  pub answers : answer ≡ decoded_into (length old) frame
+  pub end : count ≡ length frame
+  pub some : 0 < length frame
+  pub room : length frame ≤ length old + 1
+  pub buffer : new ≡ overwritten (part frame) old
+
 -- How many bytes of the open block are left, and where a decoder stands behind some of them (private contracts alone).
 abbrev pub left_in : DecoderState → ℕ
 left_in Idle = 0
@@ -78,6 +86,10 @@ abbrev pub left_behind : DecoderState → ℕ → DecoderState
 left_behind Idle n = Idle
 left_behind (Grab left) n = Grab (left - n)
 left_behind (GrabChain left) n = GrabChain (left - n)
+
+-- a code is next that tells no byte of a message: the first one, or that behind a full block
+abbrev pub Owes : DecoderState → Type 0
+Owes state = (code : ℕ) → 0 < code → (told_by (fed state code) ≡ None) × (next state code ≡ by_code code)
 
 -- what is answered behind a whole frame, with so many bytes of a message, where a decoder stands so
 abbrev pub answer_behind : DecoderState → ℕ → Result ℕ DecodeError

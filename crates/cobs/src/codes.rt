@@ -6,41 +6,9 @@
 ghost use Rattle.std.specs.Prelude.{◌≡◌, ◌≢◌, ℕ, ◌+◌, ◌<◌, ◌≤◌, List, length, take, drop, slice_index, true};
 ghost use Rattle.std.specs.Int.{bit_at};
 ghost use Rattle.cobs.specs.Codes.{InBlock, Coded, Marks, Stepped};
-ghost use Rattle.cobs.specs.InPlace.{written_over};
 ghost use Rattle.cobs.specs.Sentinel.{masked};
 
-use crate::moves::{
-    copy_64, copy_clear, copy_clear_64, copy_few, ones_64, zeros_of, zeros_of_some,
-};
-use std::simd::prelude::*;
-
-// Writes a code at each zero of bytes that stand in the open block, from a place on, and answers where the last code is to be.
-fn put_codes_near(dest: &mut [u8], code_at: usize, from: usize, bytes: &[u8], sentinel: u8) -> usize
-    requires { InBlock dest.old code_at from bytes.now }
-    ensures { Coded (masked sentinel dest.old) code_at from bytes.now
-        (masked sentinel dest.new) result }
-{
-    let mut code = code_at;
-    for (i, byte) in bytes.iter().enumerate() {
-        if *byte == 0 {
-            let at = from + i;
-            dest[code] = sentinel ^ (at - code) as u8;
-            code = at;
-        }
-    }
-    code
-}
-
-// Bit k is set where byte k is zero.
-#[inline(always)]
-fn zeros_of_64(bytes: &[u8]) -> u64
-    requires { length bytes.now ≡ 64 }
-    ensures { Marks result 0 bytes.now }
-{
-    u8x64::from_slice(bytes)
-        .simd_eq(u8x64::splat(0))
-        .to_bitmask()
-}
+use crate::moves::{copy_clear, copy_clear_64, copy_few, is_clear, zeros_of_ends};
 
 // The lowest bit that is set, and the others.
 #[inline(always)]
@@ -57,7 +25,8 @@ pub(crate) fn lowest(bits: u64) -> (usize, u64)
     (n, bits & (bits - 1))
 }
 
-// The same as `put_codes_near`, of at most 64 bytes, from the marks of their zeros. What is to be coded is what stands there.
+// Writes a code at each zero of at most 64 bytes that stand in the open block, from a place on, by the marks of their zeros. Answers
+// where the last code is to be.
 #[inline(always)]
 fn put_codes_marked(
     dest: &mut [u8],
@@ -87,7 +56,7 @@ fn put_codes_marked(
     code
 }
 
-// The same as `put_codes_near`, of bytes that are all zero.
+// The same of bytes that are all zero.
 #[inline(always)]
 fn put_codes_of_zeros(
     dest: &mut [u8],
@@ -106,50 +75,6 @@ fn put_codes_of_zeros(
     dest[code_at] = sentinel ^ (from - code_at) as u8;
     dest[from..end].fill(sentinel ^ 1);
     end - 1
-}
-
-// The same of 64.
-#[inline(always)]
-fn put_codes_of_64_zeros(
-    dest: &mut [u8],
-    code_at: usize,
-    from: usize,
-    bytes: &[u8],
-    sentinel: u8,
-) -> usize
-    requires block { InBlock dest.old code_at from bytes.now }
-    requires long { length bytes.now ≡ 64 }
-    requires zeros { (k : ℕ) → k < length bytes.now → slice_index bytes.now k ≡ 0 }
-    ensures { Coded (masked sentinel dest.old) code_at from bytes.now
-        (masked sentinel dest.new) result }
-{
-    dest[code_at] = sentinel ^ (from - code_at) as u8;
-    ones_64(dest, from, sentinel);
-    from + 63
-}
-
-// The same as `put_codes_marked`, of 64 bytes: if all are zero they are filled at once.
-#[inline(always)]
-fn put_codes_of_64(
-    dest: &mut [u8],
-    code_at: usize,
-    from: usize,
-    bytes: &[u8],
-    marks: u64,
-    sentinel: u8,
-) -> usize
-    requires block { InBlock dest.old code_at from bytes.now }
-    requires long { length bytes.now ≡ 64 }
-    requires marks { Marks marks 0 bytes.now }
-    requires stands { masked sentinel (take (length bytes.now) (drop from dest.old)) ≡ bytes.now }
-    ensures { Coded (masked sentinel dest.old) code_at from bytes.now
-        (masked sentinel dest.new) result }
-{
-    if marks == u64::MAX {
-        put_codes_of_64_zeros(dest, code_at, from, bytes, sentinel)
-    } else {
-        put_codes_marked(dest, code_at, from, bytes.len(), marks, sentinel)
-    }
 }
 
 // The same as `put_codes_marked`, of some bytes: if all are zero they are filled at once.
@@ -182,13 +107,35 @@ fn put_codes_of_marks(
 fn are_all_marked(marks: u64, n: usize) -> bool
     ensures { result ≡ true → (k : ℕ) → k < n → k < 64 → bit_at marks k ≡ 1 }
 {
-    if marks == u64::MAX {
-        return true;
+    if n == 64 {
+        return marks == u64::MAX;
     }
     n <= marks.trailing_ones() as usize
 }
 
-// The same as `put_codes_near`, of n bytes that stand in the buffer XORed with the sentinel.
+// The marks of the zeros of 1 to 64 bytes, each XORed with the sentinel.
+#[inline(always)]
+fn marks_of(bytes: &[u8], sentinel: u8) -> u64
+    requires some { 0 < length bytes.now }
+    requires few { length bytes.now ≤ 64 }
+    ensures { Marks result 0 (masked sentinel bytes.now) }
+{
+    if 32 <= bytes.len() {
+        zeros_of_ends::<32>(bytes, sentinel)
+    } else if 16 <= bytes.len() {
+        zeros_of_ends::<16>(bytes, sentinel)
+    } else if 8 <= bytes.len() {
+        zeros_of_ends::<8>(bytes, sentinel)
+    } else if 4 <= bytes.len() {
+        zeros_of_ends::<4>(bytes, sentinel)
+    } else if 2 <= bytes.len() {
+        zeros_of_ends::<2>(bytes, sentinel)
+    } else {
+        zeros_of_ends::<1>(bytes, sentinel)
+    }
+}
+
+// Writes a code at each zero of n bytes that stand in the buffer, XORed with the sentinel, and answers where the last code is to be.
 #[inline(always)]
 pub(crate) fn put_codes_standing(
     dest: &mut [u8],
@@ -198,7 +145,7 @@ pub(crate) fn put_codes_standing(
     sentinel: u8,
 ) -> usize
     requires begins { code_at < from }
-    requires some { 4 ≤ n }
+    requires some { 0 < n }
     requires few { n ≤ 64 }
     requires within { from + n ≤ length dest.old }
     requires short { from + n ≤ code_at + 255 }
@@ -206,14 +153,17 @@ pub(crate) fn put_codes_standing(
         (masked sentinel (take n (drop from dest.old))) (masked sentinel dest.new) result }
 {
     let bytes = &dest[from..from + n];
-    let marks = zeros_of_some(bytes, sentinel);
+    if n == 64 && is_clear(bytes, sentinel) {
+        return code_at;
+    }
+    let marks = marks_of(bytes, sentinel);
     put_codes_marked(dest, code_at, from, n, marks, sentinel)
 }
 
-// Copies 64 bytes into the open block and writes a code at each zero of them. Answers where the last code is to be. For the number 0
-// they are marked only where one of them may be zero; else, where zeros are likely, at once, by the loads that are copied.
+// Copies at most 64 bytes into the open block and writes a code at each zero of them. Answers where the last code is to be. The copy
+// for 0 first looks whether 64 have none; else, where zeros are likely, they are marked at once. Each caller has a copy by its number.
 #[inline(always)]
-fn put_64<const WAY: usize>(
+fn put_some<const WAY: usize, const CALL: usize>(
     dest: &mut [u8],
     code_at: usize,
     from: usize,
@@ -221,36 +171,17 @@ fn put_64<const WAY: usize>(
     sentinel: u8,
 ) -> usize
     requires block { InBlock dest.old code_at from bytes.now }
-    requires long { length bytes.now ≡ 64 }
-    ensures { Stepped (masked sentinel dest.old) code_at from bytes.now
-        (masked sentinel dest.new) result }
-{
-    if WAY == 0 {
-        if copy_clear_64(bytes, dest, from, sentinel) {
-            return code_at;
-        }
-        return put_codes_of_64(dest, code_at, from, bytes, zeros_of_64(bytes), sentinel);
-    }
-    let marks = zeros_of_64(bytes);
-    copy_64(bytes, dest, from, sentinel);
-    put_codes_of_64(dest, code_at, from, bytes, marks, sentinel)
-}
-
-// The same of at most 64 bytes.
-#[inline(always)]
-fn put_short(dest: &mut [u8], code_at: usize, from: usize, bytes: &[u8], sentinel: u8) -> usize
-    requires block { InBlock dest.old code_at from bytes.now }
     requires some { 0 < length bytes.now }
     requires few { length bytes.now ≤ 64 }
     ensures { Stepped (masked sentinel dest.old) code_at from bytes.now
         (masked sentinel dest.new) result }
 {
-    copy_few(bytes, dest, from, sentinel);
-    if bytes.len() < 8 {
-        put_codes_near(dest, code_at, from, bytes, sentinel)
-    } else {
-        put_codes_of_marks(dest, code_at, from, bytes, zeros_of(bytes, 0), sentinel)
+    if WAY == 0 && bytes.len() == 64 && copy_clear_64(bytes, dest, from, sentinel) {
+        return code_at;
     }
+    let marks = marks_of(bytes, 0);
+    copy_few(bytes, dest, from, sentinel);
+    put_codes_of_marks(dest, code_at, from, bytes, marks, sentinel)
 }
 
 // The same of any bytes.
@@ -272,31 +203,15 @@ fn put_bytes<const WAY: usize>(
     let mut rest = bytes;
     while 64 < rest.len() {
         let (front, after) = rest.split_at(64);
-        code = put_64::<WAY>(dest, code, at, front, sentinel);
+        code = put_some::<WAY, 0>(dest, code, at, front, sentinel);
         at += 64;
         rest = after;
     }
-    put_short(dest, code, at, rest, sentinel)
+    put_some::<WAY, 1>(dest, code, at, rest, sentinel)
 }
 
-// Copies bytes over the buffer, from a place on, where they are as many as a full block has, and don't begin with a zero. Answers
-// whether it did so, and none of them is zero.
-#[inline(always)]
-fn put_full_block(dest: &mut [u8], from: usize, bytes: &[u8], sentinel: u8) -> bool
-    requires room { from + length bytes.now ≤ length dest.old }
-    ensures front { take from dest.new ≡ take from dest.old }
-    ensures long { length dest.new ≡ length dest.old }
-    ensures copied { result ≡ true
-        → dest.new ≡ written_over from (masked sentinel bytes.now) dest.old }
-    ensures clear { result ≡ true → (k : ℕ) → k < length bytes.now → 0 < slice_index bytes.now k }
-{
-    if bytes.len() != 254 || bytes[0] == 0 {
-        return false;
-    }
-    copy_clear(bytes, dest, from, sentinel)
-}
-
-// The same as `put_bytes`, of the bytes of a block: those of a full one are copied as they are looked at.
+// The same as `put_bytes`, of the bytes of a block: those of a full one are copied as they are looked at, where they don't begin with
+// a zero.
 #[inline(always)]
 pub(crate) fn put_block<const WAY: usize>(
     dest: &mut [u8],
@@ -310,9 +225,8 @@ pub(crate) fn put_block<const WAY: usize>(
     ensures { Stepped (masked sentinel dest.old) code_at from bytes.now
         (masked sentinel dest.new) result }
 {
-    if put_full_block(dest, from, bytes, sentinel) {
-        code_at
-    } else {
-        put_bytes::<WAY>(dest, code_at, from, bytes, sentinel)
+    if bytes.len() == 254 && bytes[0] != 0 && copy_clear(bytes, dest, from, sentinel) {
+        return code_at;
     }
+    put_bytes::<WAY>(dest, code_at, from, bytes, sentinel)
 }

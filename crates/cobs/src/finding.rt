@@ -4,41 +4,10 @@ ghost use Rattle.cobs.specs.InPlace.{stretch};
 ghost use Rattle.cobs.specs.Sentinel.{masked};
 
 use crate::codes::lowest;
-use crate::moves::{is_clear, zeros_of, zeros_of_some};
+use crate::moves::{is_clear, zeros_of_some};
 use memchr::memchr;
 
-// How many of 8 to 64 bytes come before the first sentinel.
-#[inline(always)]
-fn before_of_64(bytes: &[u8], sentinel: u8) -> usize
-    requires some { 8 ≤ length bytes.now }
-    requires few { length bytes.now ≤ 64 }
-    ensures within { result ≤ length bytes.now }
-    ensures none { (k : ℕ) → k < result → slice_index bytes.now k ≢ sentinel }
-    ensures end { result < length bytes.now → slice_index bytes.now result ≡ sentinel }
-{
-    let marks = zeros_of(bytes, sentinel);
-    if marks == 0 {
-        return bytes.len();
-    }
-    lowest(marks).0
-}
-
-// The same of 64 bytes, which seldom have one.
-#[inline(always)]
-fn before_in_64(bytes: &[u8], sentinel: u8) -> usize
-    requires { length bytes.now ≡ 64 }
-    ensures within { result ≤ length bytes.now }
-    ensures none { (k : ℕ) → k < result → slice_index bytes.now k ≢ sentinel }
-    ensures end { result < length bytes.now → slice_index bytes.now result ≡ sentinel }
-{
-    if is_clear(bytes, sentinel) {
-        64
-    } else {
-        before_of_64(bytes, sentinel)
-    }
-}
-
-// The same of few bytes.
+// How many of few bytes come before the first sentinel.
 #[inline(always)]
 fn before_near(bytes: &[u8], sentinel: u8) -> usize
     ensures within { result ≤ length bytes.now }
@@ -72,6 +41,21 @@ pub(crate) fn before_few(bytes: &[u8], sentinel: u8) -> usize
     lowest(marks).0
 }
 
+// The same of 64 bytes, which seldom have one.
+#[inline(always)]
+fn before_in_64(bytes: &[u8], sentinel: u8) -> usize
+    requires { length bytes.now ≡ 64 }
+    ensures within { result ≤ length bytes.now }
+    ensures none { (k : ℕ) → k < result → slice_index bytes.now k ≢ sentinel }
+    ensures end { result < length bytes.now → slice_index bytes.now result ≡ sentinel }
+{
+    if is_clear(bytes, sentinel) {
+        64
+    } else {
+        before_few(bytes, sentinel)
+    }
+}
+
 // The same in steps of 64.
 #[inline(always)]
 pub(crate) fn before_by_64(bytes: &[u8], sentinel: u8) -> usize
@@ -90,37 +74,6 @@ pub(crate) fn before_by_64(bytes: &[u8], sentinel: u8) -> usize
     at + before_few(&bytes[at..], sentinel)
 }
 
-// The same of many bytes: behind the first ones a call is worth its cost.
-#[inline(always)]
-fn before_far(bytes: &[u8], sentinel: u8) -> usize
-    requires { 256 ≤ length bytes.now }
-    ensures within { result ≤ length bytes.now }
-    ensures none { (k : ℕ) → k < result → slice_index bytes.now k ≢ sentinel }
-    ensures end { result < length bytes.now → slice_index bytes.now result ≡ sentinel }
-{
-    let (front, rest) = bytes.split_at(256);
-    let n = before_by_64(front, sentinel);
-    if n < 256 {
-        return n;
-    }
-    256 + memchr(sentinel, rest).unwrap_or(rest.len())
-}
-
-// The same of any number, by what is quicker.
-#[inline(always)]
-pub(crate) fn before_many(bytes: &[u8], sentinel: u8) -> usize
-    ensures within { result ≤ length bytes.now }
-    ensures none { (k : ℕ) → k < result → slice_index bytes.now k ≢ sentinel }
-    ensures end { result < length bytes.now → slice_index bytes.now result ≡ sentinel }
-    ensures bytes { (k : ℕ) → slice_index bytes.now k < 256 }
-{
-    if bytes.len() <= 256 {
-        before_by_64(bytes, sentinel)
-    } else {
-        before_far(bytes, sentinel)
-    }
-}
-
 /// How many bytes come before the first one that is the sentinel; all where none is.
 ///
 /// ```
@@ -135,7 +88,10 @@ pub fn before_sentinel(bytes: &[u8], sentinel: u8) -> usize
 {
     if bytes.len() <= 64 {
         before_few(bytes, sentinel)
+    } else if bytes.len() <= 256 {
+        before_by_64(bytes, sentinel)
     } else {
-        before_many(bytes, sentinel)
+        // Of so many bytes a call is worth its cost.
+        memchr(sentinel, bytes).unwrap_or(bytes.len())
     }
 }

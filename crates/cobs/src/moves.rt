@@ -3,6 +3,7 @@
 //! Of as many bytes as one to two vectors have, one vector takes those in front and one those at the end.
 ghost use Rattle.std.specs.Prelude.{◌≡◌, ℕ, ◌+◌, ◌<◌, ◌≤◌, length, take, drop, replicate, slice_index, true, false, ◌^◌};
 ghost use Rattle.cobs.specs.Codes.{Marks};
+ghost use Rattle.cobs.specs.Lanes.{LeastOf64};
 ghost use Rattle.cobs.specs.InPlace.{written_over};
 ghost use Rattle.cobs.specs.Sentinel.{masked};
 
@@ -60,10 +61,12 @@ pub(crate) fn copy_few(bytes: &[u8], buffer: &mut [u8], place: usize, sentinel: 
     requires room { place + length bytes.now ≤ length buffer.old }
     ensures { buffer.new ≡ written_over place (masked sentinel bytes.now) buffer.old }
 {
-    if 32 <= bytes.len() {
-        copy_ends::<32>(bytes, buffer, place, sentinel);
-    } else if 16 <= bytes.len() {
-        copy_ends::<16>(bytes, buffer, place, sentinel);
+    if 16 <= bytes.len() {
+        if 32 <= bytes.len() {
+            copy_ends::<32>(bytes, buffer, place, sentinel);
+        } else {
+            copy_ends::<16>(bytes, buffer, place, sentinel);
+        }
     } else if 8 <= bytes.len() {
         copy_ends::<8>(bytes, buffer, place, sentinel);
     } else if 4 <= bytes.len() {
@@ -73,20 +76,9 @@ pub(crate) fn copy_few(bytes: &[u8], buffer: &mut [u8], place: usize, sentinel: 
     }
 }
 
-// The same of 64.
-#[inline(always)]
-pub(crate) fn copy_64(bytes: &[u8], buffer: &mut [u8], place: usize, sentinel: u8)
-    requires long { length bytes.now ≡ 64 }
-    requires room { place + 64 ≤ length buffer.old }
-    ensures { buffer.new ≡ written_over place (masked sentinel bytes.now) buffer.old }
-{
-    let lanes = load::<64>(bytes, 0);
-    store::<64>(lanes, buffer, place, sentinel);
-}
-
 // Puts 64 zeros over a buffer, from a place on.
 #[inline(always)]
-pub(crate) fn zero_64(buffer: &mut [u8], place: usize)
+fn zero_64(buffer: &mut [u8], place: usize)
     requires { place + 64 ≤ length buffer.old }
     ensures { buffer.new ≡ written_over place (replicate 64 0) buffer.old }
 {
@@ -108,30 +100,19 @@ pub(crate) fn zero_over(buffer: &mut [u8], place: usize, n: usize)
     zero_64(buffer, place + (n - 64));
 }
 
-// Puts 64 codes 01 over a buffer, from a place on, each XORed with the sentinel.
-#[inline(always)]
-pub(crate) fn ones_64(buffer: &mut [u8], place: usize, sentinel: u8)
-    requires { place + 64 ≤ length buffer.old }
-    ensures { buffer.new ≡ written_over place (masked sentinel (replicate 64 1)) buffer.old }
-{
-    store::<64>(Simd::<u8, 64>::splat(1), buffer, place, sentinel);
-}
-
 // Copies any number of bytes over a buffer, from a place on.
 #[inline(always)]
 pub(crate) fn copy_over(bytes: &[u8], buffer: &mut [u8], place: usize, sentinel: u8)
     requires room { place + length bytes.now ≤ length buffer.old }
     ensures { buffer.new ≡ written_over place (masked sentinel bytes.now) buffer.old }
 {
-    let mut at = place;
-    let mut rest = bytes;
-    while 64 < rest.len() {
-        let (front, after) = rest.split_at(64);
-        copy_64(front, buffer, at, sentinel);
+    let mut at: usize = 0;
+    while 64 < bytes.len() - at {
+        let lanes = load::<64>(bytes, at);
+        store::<64>(lanes, buffer, place + at, sentinel);
         at += 64;
-        rest = after;
     }
-    copy_few(rest, buffer, at, sentinel);
+    copy_few(&bytes[at..], buffer, place + at, sentinel);
 }
 
 // The same of the bytes of a block: those of a full one take no loop.
@@ -190,16 +171,12 @@ fn is_positive(lanes: u8x16) -> bool
     lanes.simd_eq(u8x16::splat(0)).to_bitmask() == 0
 }
 
-// Of 64 bytes, each XORed with the sentinel, the least in each of the 16 places of a vector.
+// Of the first 64 of some bytes, each XORed with the sentinel, the least in each of the 16 places of a vector.
 #[inline(always)]
-pub(crate) fn least_of_64(bytes: &[u8], sentinel: u8) -> u8x16
-    requires { length bytes.now ≡ 64 }
+fn least_of_64(bytes: &[u8], sentinel: u8) -> u8x16
+    requires { 64 ≤ length bytes.now }
     ensures long { length result ≡ 16 }
-    ensures lanes { (j : ℕ) → j < 16
-        → (slice_index result j ≤ slice_index (take 16 (drop 0 (masked sentinel bytes.now))) j)
-        × (slice_index result j ≤ slice_index (take 16 (drop 16 (masked sentinel bytes.now))) j)
-        × (slice_index result j ≤ slice_index (take 16 (drop 32 (masked sentinel bytes.now))) j)
-        × (slice_index result j ≤ slice_index (take 16 (drop 48 (masked sentinel bytes.now))) j) }
+    ensures lanes { LeastOf64 result 0 (masked sentinel bytes.now) }
 {
     let a = load_masked(bytes, 0, sentinel);
     let b = load_masked(bytes, 16, sentinel);
@@ -217,13 +194,13 @@ pub(crate) fn is_clear(bytes: &[u8], sentinel: u8) -> bool
     is_positive(least_of_64(bytes, sentinel))
 }
 
-// Copies 64 bytes over a buffer, from a place on, each XORed with the sentinel, by the vectors that `least_of_64` loads too: where it
-// comes first they are loaded once.
+// Copies the first 64 of some bytes over a buffer, from a place on, each XORed with the sentinel, by the vectors that `least_of_64`
+// loads too: where it comes first they are loaded once.
 #[inline(always)]
 fn copy_four(bytes: &[u8], buffer: &mut [u8], place: usize, sentinel: u8)
-    requires count { length bytes.now ≡ 64 }
+    requires count { 64 ≤ length bytes.now }
     requires room { place + 64 ≤ length buffer.old }
-    ensures { buffer.new ≡ written_over place (masked sentinel bytes.now) buffer.old }
+    ensures { buffer.new ≡ written_over place (masked sentinel (take 64 bytes.now)) buffer.old }
 {
     let a = load::<16>(bytes, 0);
     let b = load::<16>(bytes, 16);
@@ -235,19 +212,14 @@ fn copy_four(bytes: &[u8], buffer: &mut [u8], place: usize, sentinel: u8)
     store::<16>(d, buffer, place + 48, sentinel);
 }
 
-// Copies 64 bytes over a buffer, from a place on, each XORed with the sentinel. Answers the least of them, as they were, in each of
-// the 16 places of a vector.
+// The same. Answers the least of them, as they were, in each of the 16 places of a vector.
 #[inline(always)]
 fn copy_least(bytes: &[u8], buffer: &mut [u8], place: usize, sentinel: u8) -> u8x16
-    requires count { length bytes.now ≡ 64 }
+    requires count { 64 ≤ length bytes.now }
     requires room { place + 64 ≤ length buffer.old }
-    ensures copied { buffer.new ≡ written_over place (masked sentinel bytes.now) buffer.old }
+    ensures copied { buffer.new ≡ written_over place (masked sentinel (take 64 bytes.now)) buffer.old }
     ensures long { length result ≡ 16 }
-    ensures lanes { (j : ℕ) → j < 16
-        → (slice_index result j ≤ slice_index (take 16 (drop 0 bytes.now)) j)
-        × (slice_index result j ≤ slice_index (take 16 (drop 16 bytes.now)) j)
-        × (slice_index result j ≤ slice_index (take 16 (drop 32 bytes.now)) j)
-        × (slice_index result j ≤ slice_index (take 16 (drop 48 bytes.now)) j) }
+    ensures lanes { LeastOf64 result 0 bytes.now }
 {
     let least = least_of_64(bytes, 0);
     copy_four(bytes, buffer, place, sentinel);
@@ -294,10 +266,10 @@ pub(crate) fn copy_clear(bytes: &[u8], buffer: &mut [u8], place: usize, sentinel
     ensures copied { buffer.new ≡ written_over place (masked sentinel bytes.now) buffer.old }
     ensures clear { result ≡ true → (k : ℕ) → k < 254 → 0 < slice_index bytes.now k }
 {
-    let first = copy_least(&bytes[..64], buffer, place, sentinel);
-    let second = copy_least(&bytes[64..128], buffer, place + 64, sentinel);
-    let third = copy_least(&bytes[128..192], buffer, place + 128, sentinel);
-    let fourth = copy_least(&bytes[190..254], buffer, place + 190, sentinel);
+    let first = copy_least(bytes, buffer, place, sentinel);
+    let second = copy_least(&bytes[64..], buffer, place + 64, sentinel);
+    let third = copy_least(&bytes[128..], buffer, place + 128, sentinel);
+    let fourth = copy_least(&bytes[190..], buffer, place + 190, sentinel);
     let least = least_of_four(first, second, third, fourth);
     is_positive(least)
 }
@@ -308,10 +280,10 @@ pub(crate) fn is_clear_255(bytes: &[u8], sentinel: u8) -> bool
     requires { length bytes.now ≡ 255 }
     ensures { result ≡ true → (k : ℕ) → k < 255 → 0 < slice_index (masked sentinel bytes.now) k }
 {
-    let first = least_of_64(&bytes[..64], sentinel);
-    let second = least_of_64(&bytes[63..127], sentinel);
-    let third = least_of_64(&bytes[127..191], sentinel);
-    let fourth = least_of_64(&bytes[191..255], sentinel);
+    let first = least_of_64(bytes, sentinel);
+    let second = least_of_64(&bytes[63..], sentinel);
+    let third = least_of_64(&bytes[127..], sentinel);
+    let fourth = least_of_64(&bytes[191..], sentinel);
     is_positive(least_of_four(first, second, third, fourth))
 }
 
@@ -340,7 +312,7 @@ fn zeros_at<const W: usize>(bytes: &[u8], at: usize, sentinel: u8) -> u64
 
 // The bits of the bytes that are the sentinel, of as many as one to two vectors have.
 #[inline(always)]
-fn zeros_of_ends<const W: usize>(bytes: &[u8], sentinel: u8) -> u64
+pub(crate) fn zeros_of_ends<const W: usize>(bytes: &[u8], sentinel: u8) -> u64
     requires wide { W ≤ 32 }
     requires some { W ≤ length bytes.now }
     requires few { length bytes.now ≤ W + W }
@@ -350,22 +322,6 @@ fn zeros_of_ends<const W: usize>(bytes: &[u8], sentinel: u8) -> u64
     zeros_at::<W>(bytes, 0, sentinel) | zeros_at::<W>(bytes, behind, sentinel) << behind
 }
 
-// The same of 8 to 64 bytes.
-#[inline(always)]
-pub(crate) fn zeros_of(bytes: &[u8], sentinel: u8) -> u64
-    requires some { 8 ≤ length bytes.now }
-    requires few { length bytes.now ≤ 64 }
-    ensures { Marks result 0 (masked sentinel bytes.now) }
-{
-    if 32 <= bytes.len() {
-        zeros_of_ends::<32>(bytes, sentinel)
-    } else if 16 <= bytes.len() {
-        zeros_of_ends::<16>(bytes, sentinel)
-    } else {
-        zeros_of_ends::<8>(bytes, sentinel)
-    }
-}
-
 // The same of 4 to 64 bytes.
 #[inline(always)]
 pub(crate) fn zeros_of_some(bytes: &[u8], sentinel: u8) -> u64
@@ -373,8 +329,14 @@ pub(crate) fn zeros_of_some(bytes: &[u8], sentinel: u8) -> u64
     requires few { length bytes.now ≤ 64 }
     ensures { Marks result 0 (masked sentinel bytes.now) }
 {
-    if 8 <= bytes.len() {
-        zeros_of(bytes, sentinel)
+    if 16 <= bytes.len() {
+        if 32 <= bytes.len() {
+            zeros_of_ends::<32>(bytes, sentinel)
+        } else {
+            zeros_of_ends::<16>(bytes, sentinel)
+        }
+    } else if 8 <= bytes.len() {
+        zeros_of_ends::<8>(bytes, sentinel)
     } else {
         zeros_of_ends::<4>(bytes, sentinel)
     }
@@ -419,10 +381,12 @@ fn move_few(buffer: &mut [u8], from: usize, n: usize, place: usize, sentinel: u8
     ensures { buffer.new
         ≡ written_over place (masked sentinel (take n (drop from buffer.old))) buffer.old }
 {
-    if 32 <= n {
-        move_ends::<32>(buffer, from, n, place, sentinel);
-    } else if 16 <= n {
-        move_ends::<16>(buffer, from, n, place, sentinel);
+    if 16 <= n {
+        if 32 <= n {
+            move_ends::<32>(buffer, from, n, place, sentinel);
+        } else {
+            move_ends::<16>(buffer, from, n, place, sentinel);
+        }
     } else if 8 <= n {
         move_ends::<8>(buffer, from, n, place, sentinel);
     } else if 4 <= n {

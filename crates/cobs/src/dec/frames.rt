@@ -10,7 +10,7 @@ ghost use Rattle.cobs.specs.Whole.{decoded_into};
 use super::progress::Progress;
 use super::report::{DecodeError, DecodeReport};
 use super::state::DecoderState;
-use super::window::{copy_until, decode_at_once, put_zeros};
+use super::window::{copy_until, put_zeros};
 use crate::finding::before_sentinel;
 use crate::moves::is_clear_255;
 
@@ -69,78 +69,22 @@ fn count_frame(frame: &[u8], sentinel: u8) -> Progress
 
 // Whether a frame is for one window: a short one. Rows of zeros are quicker filled.
 #[inline(always)]
-fn is_short(frame: &[u8], sentinel: u8) -> bool
+pub(crate) fn is_short(frame: &[u8], sentinel: u8) -> bool
     requires { 0 < length frame.now }
     ensures { IsTrue result → length frame.now ≤ 255 }
 {
     frame.len() <= SHORT && (frame.len() < 64 || frame[0] != sentinel ^ 1)
 }
 
-// Decodes such a frame, each byte of it XORed with the sentinel, for whose bytes there is room. Behind the code of a full block
-// there is none that isn't its.
-#[inline(always)]
-pub(crate) fn decode_short(
-    frame: &[u8],
-    dest: &mut [u8],
-    sentinel: u8,
-) -> Result<usize, DecodeError>
-    requires some { 0 < length frame.now }
-    requires few { length frame.now ≤ 255 }
-    requires room { length frame.now ≤ length dest.old + 1 }
-    requires clear { NoZero (masked sentinel frame.now) }
-    ensures answer { result ≡ decoded_into (length dest.old) (masked sentinel frame.now) }
-    ensures dest { dest.new ≡ overwritten (part (masked sentinel frame.now)) dest.old }
-{
-    let code = sentinel ^ frame[0];
-    let bytes = &frame[1..];
-    let len = bytes.len();
-    let state = decode_at_once(bytes, &mut dest[..len], code - 1, sentinel);
-    answer_behind(state, len)
-}
-
-// Takes in the bytes of a frame of any length, each XORed with the sentinel, for which there is room.
-#[inline(never)]
-fn take_long(frame: &[u8], dest: &mut [u8], sentinel: u8) -> Progress
-    requires some { 0 < length frame.now }
-    requires room { length frame.now ≤ length dest.old + 1 }
-    requires clear { NoZero (masked sentinel frame.now) }
-    ensures stands { HasStreamed result (masked sentinel frame.now) }
-    ensures dest { dest.new ≡ overwritten (part (masked sentinel frame.now)) dest.old }
-{
-    let mut progress = Progress::new();
-    let _ = progress.take_in(dest, sentinel ^ frame[0]);
-    let mut read: usize = 1;
-    while read < frame.len() {
-        read += progress.take_some(dest, &frame[read..], sentinel);
-    }
-    progress
-}
-
-// Decodes a frame, each byte of it XORed with the sentinel, for whose bytes there is room.
-#[inline(always)]
-pub(crate) fn decode_whole(
-    frame: &[u8],
-    dest: &mut [u8],
-    sentinel: u8,
-) -> Result<usize, DecodeError>
-    requires some { 0 < length frame.now }
-    requires room { length frame.now ≤ length dest.old + 1 }
-    requires clear { NoZero (masked sentinel frame.now) }
-    ensures answer { result ≡ decoded_into (length dest.old) (masked sentinel frame.now) }
-    ensures dest { dest.new ≡ overwritten (part (masked sentinel frame.now)) dest.old }
-{
-    if is_short(frame, sentinel) {
-        return decode_short(frame, dest, sentinel);
-    }
-    let Progress { state, len } = take_long(frame, dest, sentinel);
-    answer_behind(state, len)
-}
-
 // Takes in the bytes of a source before its first sentinel, each XORed with it: there is room for all of the source. They are
 // searched as they are copied, 255 at a time. Answers how many they are. It is compiled once for each number: one copy is for the
 // sentinel zero alone, where no byte is XORed.
 #[inline(never)]
-fn take_source<const COPY: usize>(source: &[u8], dest: &mut [u8], sentinel: u8) -> (Progress, usize)
+pub(crate) fn take_source<const COPY: usize>(
+    source: &[u8],
+    dest: &mut [u8],
+    sentinel: u8,
+) -> (Progress, usize)
     requires some { 0 < length source.now }
     requires room { length source.now ≤ length dest.old + 1 }
     requires begins { slice_index source.now 0 ≢ sentinel }
@@ -158,16 +102,18 @@ fn take_source<const COPY: usize>(source: &[u8], dest: &mut [u8], sentinel: u8) 
         read += progress.take_255::<COPY>(dest, &source[read..read + 255], sentinel);
     }
     let end = read + before_sentinel(&source[read..], sentinel);
-    while read < end {
-        read += progress.take_some(dest, &source[read..end], sentinel);
-    }
+    progress.take_all::<COPY>(dest, &source[read..end], sentinel);
     (progress, end)
 }
 
 // Decodes the bytes of a source before its first sentinel, each XORed with it: the source is of one window, doesn't begin with the
 // sentinel, and there is room for all of it. They are searched as they are copied. Also answers how many they are.
 #[inline(always)]
-fn decode_near(source: &[u8], dest: &mut [u8], sentinel: u8) -> (Result<usize, DecodeError>, usize)
+pub(crate) fn decode_near(
+    source: &[u8],
+    dest: &mut [u8],
+    sentinel: u8,
+) -> (Result<usize, DecodeError>, usize)
     requires some { 0 < length source.now }
     requires few { length source.now ≤ 255 }
     requires room { length source.now ≤ length dest.old + 1 }
@@ -183,31 +129,6 @@ fn decode_near(source: &[u8], dest: &mut [u8], sentinel: u8) -> (Result<usize, D
     let n = copy_until(&source[1..], dest, 0, sentinel);
     let state = put_zeros(&mut dest[..n], code - 1);
     (answer_behind(state, n), n + 1)
-}
-
-// Decodes the bytes of a source before its first sentinel, each XORed with it: it doesn't begin with one, and there is room for all
-// of it. Also answers how many they are.
-#[inline(always)]
-pub(crate) fn decode_source<const COPY: usize>(
-    source: &[u8],
-    dest: &mut [u8],
-    sentinel: u8,
-) -> (Result<usize, DecodeError>, usize)
-    requires some { 0 < length source.now }
-    requires room { length source.now ≤ length dest.old + 1 }
-    requires begins { slice_index source.now 0 ≢ sentinel }
-    ensures end { result.1 ≡ length (stretch (masked sentinel source.now)) }
-    ensures some { 0 < result.1 }
-    ensures within { result.1 ≤ length source.now }
-    ensures answer { result.0
-        ≡ decoded_into (length dest.old) (stretch (masked sentinel source.now)) }
-    ensures dest { dest.new ≡ overwritten (part (stretch (masked sentinel source.now))) dest.old }
-{
-    if is_short(source, sentinel) {
-        return decode_near(source, dest, sentinel);
-    }
-    let (Progress { state, len }, end) = take_source::<COPY>(source, dest, sentinel);
-    (answer_behind(state, len), end)
 }
 
 // Takes in the bytes of a frame, each XORed with the sentinel, and also counts those that have no room.
@@ -234,10 +155,12 @@ pub(crate) fn decode_counted(
     ensures answer { result ≡ decoded_into (length dest.old) (masked sentinel frame.now) }
     ensures dest { dest.new ≡ overwritten (part (masked sentinel frame.now)) dest.old }
 {
-    let Progress { mut state, len } = take_frame(frame, dest, sentinel);
-    match state.feed(0) {
-        Err(_) => Err(DecodeError::InvalidFrame { decoded_bytes: len }),
-        Ok(_) if dest.len() < len => Err(DecodeError::TargetBufTooSmall),
-        Ok(_) => Ok(len),
+    let Progress { state, len } = take_frame(frame, dest, sentinel);
+    if state.left() != 0 {
+        return Err(DecodeError::InvalidFrame { decoded_bytes: len });
     }
+    if dest.len() < len {
+        return Err(DecodeError::TargetBufTooSmall);
+    }
+    Ok(len)
 }

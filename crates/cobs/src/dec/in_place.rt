@@ -1,5 +1,5 @@
 //! A buffer whose bytes are decoded over themselves.
-ghost use Rattle.std.specs.Prelude.{bit_xor, ◌≡◌, ◌≢◌, ℕ, ◌<◌, ◌≤◌, List, [], length, take, drop, slice_index, IfOk, OnErr};
+ghost use Rattle.std.specs.Prelude.{◌≡◌, ◌≢◌, ℕ, ◌<◌, ◌≤◌, List, [], length, take, drop, slice_index, IfOk, OnErr};
 ghost use Rattle.cobs.specs.Frames.{Frame, part};
 ghost use Rattle.cobs.specs.Reports.{frame_size};
 ghost use Rattle.cobs.specs.InPlace.{stretch, in_place, in_place_length, overwritten};
@@ -8,8 +8,9 @@ ghost use Rattle.cobs.specs.Sentinel.{masked};
 use super::frames::{answer_behind, apart, with_parsed};
 use super::progress::Progress;
 use super::report::{DecodeError, DecodeReport};
-use super::window::{put_zeros, same_by_64};
-use crate::finding::{before_by_64, before_few, before_many};
+use super::state::by_code;
+use super::window::put_zeros;
+use crate::finding::{before_by_64, before_few};
 use crate::masks::mask;
 use crate::moves::{is_clear_255, move_down};
 
@@ -42,43 +43,24 @@ fn decode_short_in_place(
     with_parsed(answer_behind(state, len), end)
 }
 
-// The same of bytes that begin with a code 01: each of a row of such codes is a zero, and 64 and more are filled at once.
-#[inline(never)]
-fn decode_row_in_place(
-    buf: &mut [u8],
-    end: usize,
-    sentinel: u8,
-) -> Result<DecodeReport, DecodeError>
-    requires some { 0 < end }
-    requires few { end ≤ 255 }
-    requires within { end ≤ length buf.old }
-    requires clear { (k : ℕ) → k < end → slice_index buf.old k ≢ sentinel }
-    requires end { end < length buf.old → slice_index buf.old end ≡ sentinel }
-    requires first { slice_index buf.old 0 ≡ bit_xor sentinel 1 }
-    requires bytes { (k : ℕ) → slice_index buf.old k < 256 }
-    ensures answer { result ≡ in_place (stretch (masked sentinel buf.old)) }
-    ensures buffer { buf.new ≡ overwritten (part (stretch (masked sentinel buf.old))) buf.old }
-{
-    let len = end - 1;
-    let row = same_by_64(sentinel ^ 1, &buf[1..end]);
-    move_down(buf, 1 + row, len - row, row, sentinel);
-    let state = put_zeros(&mut buf[row..len], 0);
-    buf[..row].fill(0);
-    with_parsed(answer_behind(state, len), end)
-}
-
-// Where the first sentinel of more than 64 bytes is, if it is among the first 256. That a byte is below 256 nothing else says of a
-// buffer that is lent on.
+// Where the first sentinel of more than 64 bytes is, if it is among the first 256 and they don't begin with a row of codes 01, which
+// are quicker filled than put one by one: else 256. The first byte and the 64th tell a row. That a byte is below 256 nothing else
+// says of a buffer that is lent on.
 #[inline(always)]
 fn near_end(bytes: &[u8], sentinel: u8) -> usize
     requires { 64 < length bytes.now }
-    ensures within { result ≤ length bytes.now }
     ensures few { result ≤ 256 }
-    ensures none { (k : ℕ) → k < result → slice_index bytes.now k ≢ sentinel }
+    ensures within { result < 256 → result ≤ length bytes.now }
+    ensures none { result < 256 → (k : ℕ) → k < result → slice_index bytes.now k ≢ sentinel }
     ensures end { result < 256 → result < length bytes.now
         → slice_index bytes.now result ≡ sentinel }
+    ensures begins { result ≡ 256 → slice_index bytes.now 0 ≢ sentinel }
     ensures bytes { (k : ℕ) → slice_index bytes.now k < 256 }
 {
+    let one = sentinel ^ 1;
+    if bytes[0] == one && bytes[63] == one {
+        return 256;
+    }
     before_by_64(&bytes[..bytes.len().min(256)], sentinel)
 }
 
@@ -95,16 +77,17 @@ fn decode_long_in_place<const COPY: usize>(
     ensures answer { result ≡ in_place (stretch (masked sentinel buf.old)) }
     ensures buffer { buf.new ≡ overwritten (part (stretch (masked sentinel buf.old))) buf.old }
 {
-    let mut progress = Progress::new();
-    let code = sentinel ^ buf[0];
-    let _ = progress.take_in(buf, code);
+    let mut progress = Progress {
+        state: by_code(sentinel ^ buf[0]),
+        len: 0,
+    };
     let mut read: usize = 1;
     while 255 <= buf.len() - read && is_clear_255(&buf[read..read + 255], sentinel) {
-        read += progress.take_255_within::<COPY>(buf, read, sentinel);
+        read += progress.take_some_within::<COPY, 0>(buf, read, read + 255, sentinel);
     }
-    let end = read + before_many(&buf[read..], sentinel);
+    let end = read + before_by_64(&buf[read..], sentinel);
     while read < end {
-        read += progress.take_some_within(buf, read, end, sentinel);
+        read += progress.take_some_within::<COPY, 1>(buf, read, end, sentinel);
     }
     let Progress { state, len } = progress;
     with_parsed(answer_behind(state, len), read)
@@ -112,7 +95,10 @@ fn decode_long_in_place<const COPY: usize>(
 
 // As `decode_in_place_report_with_sentinel`, by the copy of that number. A short frame is searched for its end, and then moved.
 #[inline(always)]
-fn decode_by<const COPY: usize>(buf: &mut [u8], sentinel: u8) -> Result<DecodeReport, DecodeError>
+pub(crate) fn decode_by<const COPY: usize>(
+    buf: &mut [u8],
+    sentinel: u8,
+) -> Result<DecodeReport, DecodeError>
     ensures answer { result ≡ in_place (stretch (masked sentinel buf.old)) }
     ensures buffer { buf.new ≡ overwritten (part (stretch (masked sentinel buf.old))) buf.old }
     ensures bytes { (k : ℕ) → slice_index buf.old k < 256 }
@@ -125,23 +111,7 @@ fn decode_by<const COPY: usize>(buf: &mut [u8], sentinel: u8) -> Result<DecodeRe
     if end == 256 {
         return apart(decode_long_in_place::<COPY>(buf, sentinel));
     }
-    if 64 <= end && buf[0] == sentinel ^ 1 {
-        return apart(decode_row_in_place(buf, end, sentinel));
-    }
     decode_short_in_place(buf, end, sentinel)
-}
-
-// The same, where the sentinel may well be zero.
-#[inline(always)]
-pub(crate) fn decode_either(buf: &mut [u8], sentinel: u8) -> Result<DecodeReport, DecodeError>
-    ensures answer { result ≡ in_place (stretch (masked sentinel buf.old)) }
-    ensures buffer { buf.new ≡ overwritten (part (stretch (masked sentinel buf.old))) buf.old }
-{
-    if sentinel == 0 {
-        decode_by::<0>(buf, 0)
-    } else {
-        decode_by::<1>(buf, sentinel)
-    }
 }
 
 /// Decodes the bytes before the first zero, or all where there is none, over themselves.
@@ -201,7 +171,10 @@ pub fn decode_in_place(buf: &mut [u8]) -> Result<usize, DecodeError>
     ensures rest { drop (length (stretch buf.old)) buf.new
         ≡ drop (length (stretch buf.old)) buf.old }
 {
-    decode_in_place_report(buf).map(|report| report.frame_size())
+    match decode_in_place_report(buf) {
+        Ok(report) => Ok(report.frame_size()),
+        Err(error) => Err(error),
+    }
 }
 
 /// As `decode_in_place`, after each byte of the buffer was XORed with the sentinel.

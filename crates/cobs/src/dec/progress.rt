@@ -6,13 +6,11 @@ ghost use Rattle.cobs.specs.Sentinel.{masked};
 ghost use Rattle.cobs.specs.Streaming.{HasStreamed};
 
 use super::report::{DecodeError, DecodeReport};
-use super::state::{DecoderState, told_by};
+use super::state::{DecoderState, by_code, told_by};
 use super::whole::decode_clear;
-use super::window::{
-    FEW, ROW, WINDOW, before_by_call, copy, copy_run, decode_at_once, decode_window, put_zeros,
-    same_by_64,
-};
-use crate::moves::{copy_block, move_down, zero_over};
+use super::window::{FEW, ROW, WINDOW, decode_at_once, put_zeros, same_by_64};
+use crate::finding::before_sentinel;
+use crate::moves::{copy_block, copy_over, move_down, zero_over};
 
 // How far a frame was taken in, and how many bytes of its message were decided, also those that had no room.
 #[derive(Clone, Copy)]
@@ -23,7 +21,7 @@ pub(crate) struct Progress {
 
 impl Progress {
     ghost use Rattle.cobs.specs.Feeding.{at_zero, at_byte};
-    ghost use Rattle.cobs.specs.Taking.{FeedsByte, TakesPiece, TakesFront, DecodesWhole};
+    ghost use Rattle.cobs.specs.Taking.{FeedsByte, TakesPiece, TakesFront, DecodesWhole, Owes};
 
     pub(crate) fn new() -> Progress
         ensures { HasStreamed result [] }
@@ -82,124 +80,90 @@ impl Progress {
         }
     }
 
-    // Takes in the next bytes at once, each XORed with the sentinel, where they are of an open block and have room: up to a
-    // sentinel, or as many as a window may have; codes 01, each of which is a zero of the message, in any number. Answers
-    // how many.
+    // Takes in the next bytes at once, each XORed with the sentinel, where they are codes 01 behind a block, each of which is a zero
+    // of the message. There is room for all. Answers how many.
     #[inline(always)]
-    fn take_window(&mut self, buffer: &mut [u8], piece: &[u8], sentinel: u8) -> usize
-        ensures within { result ≤ length piece.now }
+    fn take_row(&mut self, buffer: &mut [u8], bytes: &[u8], sentinel: u8) -> usize
+        requires { 0 < length bytes.now → self.old.len + length bytes.now ≤ length buffer.old }
+        ensures within { result ≤ length bytes.now }
+        ensures len { self.new.len ≡ self.old.len + result }
         ensures front { (p : List ℕ) → HasStreamed self.old p
-            → TakesFront p (masked sentinel piece.now) buffer.old result self.new buffer.new }
+            → TakesFront p (masked sentinel bytes.now) buffer.old result self.new buffer.new }
     {
-        let len = self.len;
-        if buffer.len() <= len {
+        let DecoderState::Grab(0) = self.state else {
+            return 0;
+        };
+        let row = same_by_64(sentinel ^ 1, bytes);
+        if row == 0 {
             return 0;
         }
-        let room = piece.len().min(buffer.len() - len);
-        match self.state {
-            DecoderState::Idle => 0,
-            DecoderState::Grab(left) => {
-                if left == 0 {
-                    let ones = same_by_64(sentinel ^ 1, &piece[..room.min(ROW)]);
-                    if 0 < ones {
-                        zero_over(buffer, len, ones);
-                        self.len = len + ones;
-                        return ones;
-                    }
-                }
-                let n = before_by_call(&piece[..room.min(WINDOW)], sentinel);
-                let bytes = &piece[..n];
-                self.state = decode_window(bytes, &mut buffer[len..len + n], left, sentinel);
-                self.len = len + n;
-                n
-            }
-            DecoderState::GrabChain(left) => {
-                let n = before_by_call(&piece[..room.min(left as usize)], sentinel);
-                copy(&piece[..n], &mut buffer[len..len + n], sentinel);
-                self.state = DecoderState::GrabChain(left - n as u8);
-                self.len = len + n;
-                n
-            }
-        }
+        zero_over(buffer, self.len, row);
+        self.len += row;
+        row
     }
 
-    // Takes in the next bytes at once, each XORed with the sentinel, where they are of an open block: none of them is the sentinel,
-    // and there is room for all. As many as a window may have; codes 01 in any number. Answers how many.
+    // The same of bytes of an open block: none of them is the sentinel. As many as a window may have.
     #[inline(always)]
-    pub(crate) fn take_clear(&mut self, buffer: &mut [u8], bytes: &[u8], sentinel: u8) -> usize
-        requires some { 0 < length bytes.now }
+    fn take_clear(&mut self, buffer: &mut [u8], bytes: &[u8], sentinel: u8) -> usize
         requires room { self.old.len + length bytes.now ≤ length buffer.old }
         requires clear { (k : ℕ) → k < length bytes.now → slice_index bytes.now k ≢ sentinel }
         ensures within { result ≤ length bytes.now }
+        ensures len { self.new.len ≡ self.old.len + result }
+        ensures coded { 0 < length bytes.now → result ≡ 0 → Owes self.new.state }
         ensures front { (p : List ℕ) → HasStreamed self.old p
             → TakesFront p (masked sentinel bytes.now) buffer.old result self.new buffer.new }
     {
         let len = self.len;
         match self.state {
-            DecoderState::Idle => 0,
             DecoderState::Grab(left) => {
-                if left == 0 {
-                    let row = same_by_64(sentinel ^ 1, bytes);
-                    if 0 < row {
-                        zero_over(buffer, len, row);
-                        self.len = len + row;
-                        return row;
-                    }
-                }
                 let n = bytes.len().min(WINDOW);
                 self.state = decode_at_once(&bytes[..n], &mut buffer[len..len + n], left, sentinel);
                 self.len = len + n;
                 n
             }
-            DecoderState::GrabChain(left) => {
+            DecoderState::GrabChain(left) if 0 < left => {
                 let n = bytes.len().min(left as usize);
                 copy_block(&bytes[..n], buffer, len, sentinel);
                 self.state = DecoderState::GrabChain(left - n as u8);
                 self.len = len + n;
                 n
             }
+            _ => 0,
         }
     }
 
-    // Takes in a code, and at once as many of the bytes behind it as `take_clear` does. Answers how many with it.
+    // The same of bytes of any number, also codes 01, and with the code before them where no block is open: at least one. It is
+    // compiled once for each pair of numbers: one that is called once goes into its caller.
     #[inline(always)]
-    fn take_coded(&mut self, buffer: &mut [u8], code: u8, bytes: &[u8], sentinel: u8) -> usize
-        requires code { 0 < code }
-        requires some { 0 < length bytes.now }
-        requires room { self.old.len + 1 + length bytes.now ≤ length buffer.old }
-        requires clear { (k : ℕ) → k < length bytes.now → slice_index bytes.now k ≢ sentinel }
-        ensures some { 0 < result }
-        ensures within { result ≤ 1 + length bytes.now }
-        ensures front { (p : List ℕ) → HasStreamed self.old p
-            → TakesFront p (code ∷ masked sentinel bytes.now)
-            buffer.old result self.new buffer.new }
-    {
-        let _ = self.take_in(buffer, code);
-        1 + self.take_clear(buffer, bytes, sentinel)
-    }
-
-    // The same of bytes of any number: as many as `take_clear` does, or one where it takes none.
-    #[inline(always)]
-    pub(crate) fn take_some(&mut self, buffer: &mut [u8], bytes: &[u8], sentinel: u8) -> usize
+    pub(crate) fn take_some<const COPY: usize, const PLACE: usize>(
+        &mut self,
+        buffer: &mut [u8],
+        bytes: &[u8],
+        sentinel: u8,
+    ) -> usize
         requires some { 0 < length bytes.now }
         requires room { self.old.len + length bytes.now ≤ length buffer.old }
         requires clear { (k : ℕ) → k < length bytes.now → slice_index bytes.now k ≢ sentinel }
         ensures some { 0 < result }
         ensures within { result ≤ length bytes.now }
+        ensures len { self.new.len ≤ self.old.len + result }
         ensures front { (p : List ℕ) → HasStreamed self.old p
             → TakesFront p (masked sentinel bytes.now) buffer.old result self.new buffer.new }
     {
+        let row = self.take_row(buffer, bytes, sentinel);
+        if 0 < row {
+            return row;
+        }
         let taken = self.take_clear(buffer, bytes, sentinel);
         if 0 < taken {
             return taken;
         }
-        let _ = self.take_in(buffer, sentinel ^ bytes[0]);
-        1
+        self.state = by_code(sentinel ^ bytes[0]);
+        1 + self.take_clear(buffer, &bytes[1..], sentinel)
     }
 
-    // The same of a code, which is known to be one where no block is open, and as many bytes behind it as a full block has. That
-    // of a full block is told apart, so that what is kept between two of them is known too. It is compiled once for each caller, into
-    // which it goes.
+    // The same of a code and as many bytes as a full block has. A full block behind another one is told apart: what is kept is then
+    // known, and the same behind it.
     #[inline(always)]
     pub(crate) fn take_255<const COPY: usize>(
         &mut self,
@@ -215,44 +179,57 @@ impl Progress {
         ensures front { (p : List ℕ) → HasStreamed self.old p
             → TakesFront p (masked sentinel bytes.now) buffer.old result self.new buffer.new }
     {
-        let DecoderState::GrabChain(0) = self.state else {
-            return self.take_some(buffer, bytes, sentinel);
-        };
-        let code = sentinel ^ bytes[0];
-        if code == u8::MAX {
-            self.take_coded(buffer, u8::MAX, &bytes[1..], sentinel)
-        } else {
-            self.take_coded(buffer, code, &bytes[1..], sentinel)
+        if sentinel ^ bytes[0] == u8::MAX {
+            if let DecoderState::GrabChain(0) = self.state {
+                copy_over(&bytes[1..], buffer, self.len, sentinel);
+                self.state = DecoderState::GrabChain(0);
+                self.len += WINDOW;
+                return 255;
+            }
+        }
+        self.take_some::<COPY, 0>(buffer, bytes, sentinel)
+    }
+
+    // The same of all of any number.
+    #[inline(always)]
+    pub(crate) fn take_all<const COPY: usize>(
+        &mut self,
+        buffer: &mut [u8],
+        bytes: &[u8],
+        sentinel: u8,
+    )
+        requires room { 0 < length bytes.now → self.old.len + length bytes.now ≤ length buffer.old }
+        requires clear { (k : ℕ) → k < length bytes.now → slice_index bytes.now k ≢ sentinel }
+        ensures { (p : List ℕ) → HasStreamed self.old p → TakesFront p (masked sentinel bytes.now)
+            buffer.old (length bytes.now) self.new buffer.new }
+    {
+        let mut read: usize = 0;
+        while read < bytes.len() {
+            read += self.take_some::<COPY, 1>(buffer, &bytes[read..], sentinel);
         }
     }
 
     // Takes in the next bytes of the buffer itself at once, each XORed with the sentinel, where they are of an open block: up to
     // a place before which there is no sentinel, or as many as a window may have; codes 01 in any number. Answers how many.
     #[inline(always)]
-    pub(crate) fn take_within(
-        &mut self,
-        buffer: &mut [u8],
-        read: usize,
-        end: usize,
-        sentinel: u8,
-    ) -> usize
-        requires some { read < end }
+    fn take_within(&mut self, buffer: &mut [u8], read: usize, end: usize, sentinel: u8) -> usize
+        requires some { read ≤ end }
         requires inside { end ≤ length buffer.old }
         requires behind { self.old.len ≤ read }
         requires clear { (k : ℕ) → read ≤ k → k < end → slice_index buffer.old k ≢ sentinel }
         ensures within { result ≤ end - read }
+        ensures coded { read < end → result ≡ 0 → Owes self.new.state }
         ensures front { (p : List ℕ) → HasStreamed self.old p
             → TakesFront p (masked sentinel (take (end - read) (drop read buffer.old)))
             buffer.old result self.new buffer.new }
     {
         let len = self.len;
         match self.state {
-            DecoderState::Idle => 0,
             DecoderState::Grab(left) => {
                 if left == 0 {
                     let row = same_by_64(sentinel ^ 1, &buffer[read..end]);
                     if 0 < row {
-                        buffer[len..len + row].fill(0);
+                        zero_over(buffer, len, row);
                         self.len = len + row;
                         return row;
                     }
@@ -263,45 +240,21 @@ impl Progress {
                 self.len = len + n;
                 n
             }
-            DecoderState::GrabChain(left) => {
+            DecoderState::GrabChain(left) if 0 < left => {
                 let n = (end - read).min(left as usize);
                 move_down(buffer, read, n, len, sentinel);
                 self.state = DecoderState::GrabChain(left - n as u8);
                 self.len = len + n;
                 n
             }
+            _ => 0,
         }
     }
 
-    // Takes in a code at a place of the buffer itself, and at once as many of the bytes behind it as `take_within` does. Answers how
-    // many with it.
+    // The same of bytes of any number, with the code before them where no block is open: at least one. That of a full block is told
+    // apart, so that as many are moved as are known.
     #[inline(always)]
-    fn take_coded_within(
-        &mut self,
-        buffer: &mut [u8],
-        code: u8,
-        read: usize,
-        end: usize,
-        sentinel: u8,
-    ) -> usize
-        requires some { read + 1 < end }
-        requires inside { end ≤ length buffer.old }
-        requires behind { self.old.len ≤ read }
-        requires code { code ≡ bit_xor sentinel (slice_index buffer.old read) }
-        requires clear { (k : ℕ) → read ≤ k → k < end → slice_index buffer.old k ≢ sentinel }
-        ensures some { 0 < result }
-        ensures within { result ≤ end - read }
-        ensures front { (p : List ℕ) → HasStreamed self.old p
-            → TakesFront p (masked sentinel (take (end - read) (drop read buffer.old)))
-            buffer.old result self.new buffer.new }
-    {
-        let _ = self.take_in(buffer, code);
-        1 + self.take_within(buffer, read + 1, end, sentinel)
-    }
-
-    // The same of bytes of any number: as many as `take_within` does, or one where it takes none.
-    #[inline(always)]
-    pub(crate) fn take_some_within(
+    pub(crate) fn take_some_within<const COPY: usize, const PLACE: usize>(
         &mut self,
         buffer: &mut [u8],
         read: usize,
@@ -323,74 +276,13 @@ impl Progress {
         if 0 < taken {
             return taken;
         }
-        let byte = sentinel ^ buffer[read];
-        let _ = self.take_in(buffer, byte);
-        1
-    }
-
-    // The same of a code, which is known to be one where no block is open, and as many bytes behind it as a full block has. That
-    // of a full block is told apart, so that what is kept between two of them is known too. It is compiled once for each caller, into
-    // which it goes.
-    #[inline(always)]
-    pub(crate) fn take_255_within<const COPY: usize>(
-        &mut self,
-        buffer: &mut [u8],
-        read: usize,
-        sentinel: u8,
-    ) -> usize
-        requires begun { (p : List ℕ) × HasStreamed self.old p }
-        requires inside { read + 255 ≤ length buffer.old }
-        requires behind { self.old.len ≤ read }
-        requires clear { (k : ℕ) → read ≤ k → k < read + 255
-            → slice_index buffer.old k ≢ sentinel }
-        ensures some { 0 < result }
-        ensures within { result ≤ 255 }
-        ensures front { (p : List ℕ) → HasStreamed self.old p
-            → TakesFront p (masked sentinel (take (read + 255 - read) (drop read buffer.old)))
-            buffer.old result self.new buffer.new }
-    {
-        let DecoderState::GrabChain(0) = self.state else {
-            return self.take_some_within(buffer, read, read + 255, sentinel);
-        };
         let code = sentinel ^ buffer[read];
         if code == u8::MAX {
-            self.take_coded_within(buffer, u8::MAX, read, read + 255, sentinel)
-        } else {
-            self.take_coded_within(buffer, code, read, read + 255, sentinel)
+            self.state = DecoderState::GrabChain(254);
+            return 1 + self.take_within(buffer, read + 1, end, sentinel);
         }
-    }
-
-    // The same of a few bytes: up to the next code, by a loop, since windows cost more.
-    #[inline(always)]
-    fn take_run(&mut self, buffer: &mut [u8], piece: &[u8], sentinel: u8) -> usize
-        ensures within { result ≤ length piece.now }
-        ensures front { (p : List ℕ) → HasStreamed self.old p
-            → TakesFront p (masked sentinel piece.now) buffer.old result self.new buffer.new }
-    {
-        let Progress { state, len } = *self;
-        let left = state.left();
-        if left == 0 || buffer.len() <= len {
-            return 0;
-        }
-        let most = piece.len().min(buffer.len() - len).min(left as usize);
-        let n = copy_run(&piece[..most], buffer, len, sentinel);
-        self.state = state.behind(n as u8);
-        self.len = len + n;
-        n
-    }
-
-    // Takes in the next bytes at once, by a run where they are few and else by a window.
-    #[inline(always)]
-    fn take_front(&mut self, buffer: &mut [u8], piece: &[u8], sentinel: u8, few: bool) -> usize
-        ensures within { result ≤ length piece.now }
-        ensures front { (p : List ℕ) → HasStreamed self.old p
-            → TakesFront p (masked sentinel piece.now) buffer.old result self.new buffer.new }
-    {
-        if few {
-            self.take_run(buffer, piece, sentinel)
-        } else {
-            self.take_window(buffer, piece, sentinel)
-        }
+        self.state = by_code(code);
+        1 + self.take_within(buffer, read + 1, end, sentinel)
     }
 
     // Ends the frame at a zero.
@@ -427,25 +319,49 @@ impl Progress {
         }
     }
 
-    // Takes in a piece, of which each byte is XORed with the sentinel, up to the first answer: bytes of an open block at
-    // once, and codes and sentinels by themselves.
+    // Takes in the next bytes at once, each XORed with the sentinel, as many as surely have room: a row of codes 01, or up to a
+    // sentinel. None of few bytes, for which this costs more, nor a frame's first one, behind which a row may come. Answers how many.
     #[inline(always)]
-    fn push_fronts(
+    fn take_stretch(&mut self, buffer: &mut [u8], piece: &[u8], sentinel: u8) -> usize
+        ensures within { result ≤ length piece.now }
+        ensures front { (p : List ℕ) → HasStreamed self.old p
+            → TakesFront p (masked sentinel piece.now) buffer.old result self.new buffer.new }
+    {
+        if piece.len() < FEW {
+            return 0;
+        }
+        if let DecoderState::Idle = self.state {
+            return 0;
+        }
+        let room = buffer.len().saturating_sub(self.len);
+        let front = &piece[..piece.len().min(room).min(ROW)];
+        let row = self.take_row(buffer, front, sentinel);
+        if 0 < row {
+            return row;
+        }
+        let n = before_sentinel(front, sentinel);
+        self.take_all::<3>(buffer, &front[..n], sentinel);
+        n
+    }
+
+    // Takes in a piece, of which each byte is XORed with the sentinel, up to the first answer: bytes before a sentinel at once, and
+    // sentinels and bytes without room by themselves. It is compiled once for each number: one copy is for the sentinel zero alone,
+    // where no byte is XORed.
+    #[inline(never)]
+    fn push_piece<const COPY: usize>(
         &mut self,
         buffer: &mut [u8],
         piece: &[u8],
         sentinel: u8,
-        few: bool,
     ) -> Result<Option<DecodeReport>, DecodeError>
         ensures { TakesPiece self.old buffer.old
             (masked sentinel piece.now) result self.new buffer.new }
     {
         let mut at = 0;
-        while at < piece.len() {
-            let taken = self.take_front(buffer, &piece[at..], sentinel, few);
-            if 0 < taken {
-                at += taken;
-                continue;
+        loop {
+            at += self.take_stretch(buffer, &piece[at..], sentinel);
+            if at == piece.len() {
+                return Ok(None);
             }
             match self.feed(buffer, sentinel ^ piece[at]) {
                 Ok(None) => at += 1,
@@ -458,22 +374,9 @@ impl Progress {
                 Err(e) => return Err(e),
             }
         }
-        Ok(None)
     }
 
     // The same of one byte, by itself.
-    #[inline(always)]
-    fn push_fed(&mut self, buffer: &mut [u8], byte: u8) -> Result<Option<DecodeReport>, DecodeError>
-        ensures { TakesPiece self.old buffer.old (byte ∷ []) result self.new buffer.new }
-    {
-        match self.feed(buffer, byte) {
-            Ok(None) => Ok(None),
-            Ok(Some(decoded)) => Ok(Some(DecodeReport { parsed: 1, decoded })),
-            Err(e) => Err(e),
-        }
-    }
-
-    // The same of one byte: a byte of an open block is copied as a run.
     #[inline(always)]
     fn push_byte(
         &mut self,
@@ -482,61 +385,14 @@ impl Progress {
     ) -> Result<Option<DecodeReport>, DecodeError>
         ensures { TakesPiece self.old buffer.old (byte ∷ []) result self.new buffer.new }
     {
-        let Progress { state, len } = *self;
-        if state.left() == 0 {
-            return self.push_fed(buffer, byte);
+        match self.feed(buffer, byte) {
+            Ok(None) => Ok(None),
+            Ok(Some(len)) => Ok(Some(DecodeReport {
+                parsed: 1,
+                decoded: len,
+            })),
+            Err(e) => Err(e),
         }
-        if byte == 0 || buffer.len() <= len {
-            return self.push_fed(buffer, byte);
-        }
-        buffer[len] = byte;
-        self.state = state.behind(1);
-        self.len = len + 1;
-        Ok(None)
-    }
-
-    // The same of any bytes: few by runs, more by windows.
-    #[inline(always)]
-    fn push_any(
-        &mut self,
-        buffer: &mut [u8],
-        piece: &[u8],
-        sentinel: u8,
-    ) -> Result<Option<DecodeReport>, DecodeError>
-        ensures { TakesPiece self.old buffer.old
-            (masked sentinel piece.now) result self.new buffer.new }
-    {
-        if piece.len() < FEW {
-            self.push_fronts(buffer, piece, sentinel, true)
-        } else {
-            self.push_fronts(buffer, piece, sentinel, false)
-        }
-    }
-
-    // The same for the sentinel zero, where no byte is XORed: compiled by itself.
-    #[inline(never)]
-    fn push_unmasked(
-        &mut self,
-        buffer: &mut [u8],
-        piece: &[u8],
-    ) -> Result<Option<DecodeReport>, DecodeError>
-        ensures { TakesPiece self.old buffer.old (masked 0 piece.now) result self.new buffer.new }
-    {
-        self.push_any(buffer, piece, 0)
-    }
-
-    // The same for other sentinels.
-    #[inline(never)]
-    fn push_masked(
-        &mut self,
-        buffer: &mut [u8],
-        piece: &[u8],
-        sentinel: u8,
-    ) -> Result<Option<DecodeReport>, DecodeError>
-        ensures { TakesPiece self.old buffer.old
-            (masked sentinel piece.now) result self.new buffer.new }
-    {
-        self.push_any(buffer, piece, sentinel)
     }
 
     // Decodes a frame that lies whole, each byte of it XORed with the sentinel. What was taken in of another is forgotten.
@@ -568,9 +424,9 @@ impl Progress {
         if let [byte] = piece {
             self.push_byte(buffer, sentinel ^ *byte)
         } else if sentinel == 0 {
-            self.push_unmasked(buffer, piece)
+            self.push_piece::<0>(buffer, piece, 0)
         } else {
-            self.push_masked(buffer, piece, sentinel)
+            self.push_piece::<1>(buffer, piece, sentinel)
         }
     }
 }

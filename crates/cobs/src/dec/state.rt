@@ -28,10 +28,12 @@ pub enum DecodeResult {
     DataContinue(u8),
 }
 
-// Where a code leads.
-fn by_code(code: u8) -> DecoderState
+// Where a code leads. That it is below 256 nothing else says of one in a buffer that is lent on.
+#[inline(always)]
+pub(crate) fn by_code(code: u8) -> DecoderState
     requires { 0 < code }
-    ensures { result ≡ state_by_code code }
+    ensures state { result ≡ state_by_code code }
+    ensures byte { code < 256 }
 {
     if code == 255 {
         DecoderState::GrabChain(254)
@@ -48,46 +50,27 @@ impl DecoderState {
         ensures answer { result ≡ fed self.old «data» }
         ensures state { self.new ≡ next self.old «data» }
     {
-        match *self {
-            DecoderState::Idle => {
-                if data == 0 {
-                    return Ok(DecodeResult::NoData);
-                }
-                *self = by_code(data);
-                Ok(DecodeResult::DataStart)
+        let state = *self;
+        let left = state.left();
+        if data == 0 {
+            *self = DecoderState::Idle;
+            if let DecoderState::Idle = state {
+                return Ok(DecodeResult::NoData);
             }
-            DecoderState::Grab(0) => {
-                if data == 0 {
-                    *self = DecoderState::Idle;
-                    return Ok(DecodeResult::DataComplete);
-                }
-                *self = by_code(data);
-                Ok(DecodeResult::DataContinue(0))
+            if 0 < left {
+                return Err(DecodeError::InvalidFrame { decoded_bytes: 0 });
             }
-            DecoderState::GrabChain(0) => {
-                if data == 0 {
-                    *self = DecoderState::Idle;
-                    return Ok(DecodeResult::DataComplete);
-                }
-                *self = by_code(data);
-                Ok(DecodeResult::NoData)
-            }
-            DecoderState::Grab(left) => {
-                if data == 0 {
-                    *self = DecoderState::Idle;
-                    return Err(DecodeError::InvalidFrame { decoded_bytes: 0 });
-                }
-                *self = DecoderState::Grab(left - 1);
-                Ok(DecodeResult::DataContinue(data))
-            }
-            DecoderState::GrabChain(left) => {
-                if data == 0 {
-                    *self = DecoderState::Idle;
-                    return Err(DecodeError::InvalidFrame { decoded_bytes: 0 });
-                }
-                *self = DecoderState::GrabChain(left - 1);
-                Ok(DecodeResult::DataContinue(data))
-            }
+            return Ok(DecodeResult::DataComplete);
+        }
+        if 0 < left {
+            *self = state.behind(1);
+            return Ok(DecodeResult::DataContinue(data));
+        }
+        *self = by_code(data);
+        match state {
+            DecoderState::Idle => Ok(DecodeResult::DataStart),
+            DecoderState::Grab(_) => Ok(DecodeResult::DataContinue(0)),
+            DecoderState::GrabChain(_) => Ok(DecodeResult::NoData),
         }
     }
 }

@@ -6,42 +6,32 @@ ghost use Rattle.cobs.specs.Sentinel.{masked};
 ghost use Rattle.cobs.specs.Whole.{frame_in, message_of_stretch, message_of_frame, RefusesWhole};
 ghost use Rattle.cobs.specs.declared.dec.report.DecodeVecError.TheVariants.{OutOfMemory};
 
-use super::in_place::decode_either;
+use super::in_place::decode_by;
 use super::report::{DecodeError, DecodeVecError};
 use super::whole::{before, behind_zeros};
 use std::alloc::Global;
 
-// Decodes the bytes of a vector before its first sentinel, each XORed with it, over themselves.
+// Decodes the bytes before the first sentinel, each XORed with it, in a vector of their own, by the copy of that number.
 #[inline(always)]
-fn decode_vector(bytes: Vec<u8>, sentinel: u8) -> Result<Vec<u8>, DecodeVecError>
+fn decode_copied<const COPY: usize>(
+    alloc: Global,
+    bytes: &[u8],
+    sentinel: u8,
+) -> Result<Vec<u8>, DecodeVecError>
     ensures { MatchResult result
-        (λ v. message_of_stretch (stretch (masked sentinel bytes.items)) ≡ Ok v.items)
-        (λ e. RefusesWhole e (message_of_stretch (stretch (masked sentinel bytes.items)))) }
+        (λ v. message_of_stretch (stretch (masked sentinel bytes.now)) ≡ Ok v.items)
+        (λ e. RefusesWhole e (message_of_stretch (stretch (masked sentinel bytes.now)))) }
 {
-    let mut bytes = bytes;
-    match decode_either(bytes.as_mut_slice(), sentinel) {
+    let Ok(mut copied) = bytes.to_vec(alloc) else {
+        return Err(DecodeVecError::OutOfMemory);
+    };
+    match decode_by::<COPY>(copied.as_mut_slice(), sentinel) {
         Ok(report) => {
-            bytes.truncate(report.frame_size());
-            Ok(bytes)
+            copied.truncate(report.frame_size());
+            Ok(copied)
         }
         Err(error) => Err(DecodeVecError::Decode(error)),
     }
-}
-
-// As `decode_vec`.
-#[inline(always)]
-fn decode_first_vec(alloc: Global, source: &[u8]) -> Result<Vec<u8>, DecodeVecError>
-    ensures { MatchResult result (λ v. message_of_frame (frame_in source.now) ≡ Ok v.items)
-        (λ e. RefusesWhole e (message_of_frame (frame_in source.now))) }
-{
-    let frame = before(behind_zeros(source), 0);
-    if frame.is_empty() {
-        return Err(DecodeVecError::Decode(DecodeError::EmptyFrame));
-    }
-    let bytes = frame
-        .to_vec(alloc)
-        .map_err(|_| DecodeVecError::OutOfMemory)?;
-    decode_vector(bytes, 0)
 }
 
 /// As `decode` with room for every message, into a vector of its own.
@@ -54,20 +44,11 @@ pub fn decode_vec(alloc: Global, source: &[u8]) -> Result<Vec<u8>, DecodeVecErro
     ensures no_frame { IfErr result (λ e. (e ≡ OutOfMemory)
         ⊎ ((m : List ℕ) → Frame (frame_in source.now) m → ⊥)) }
 {
-    decode_first_vec(alloc, source)
-}
-
-// As `decode_vec_with_sentinel`.
-#[inline(always)]
-fn decode_stretch_vec(alloc: Global, source: &[u8], sentinel: u8) -> Result<Vec<u8>, DecodeVecError>
-    ensures { MatchResult result
-        (λ v. message_of_stretch (stretch (masked sentinel source.now)) ≡ Ok v.items)
-        (λ e. RefusesWhole e (message_of_stretch (stretch (masked sentinel source.now)))) }
-{
-    let bytes = before(source, sentinel)
-        .to_vec(alloc)
-        .map_err(|_| DecodeVecError::OutOfMemory)?;
-    decode_vector(bytes, sentinel)
+    let frame = before(behind_zeros(source), 0);
+    if frame.is_empty() {
+        return Err(DecodeVecError::Decode(DecodeError::EmptyFrame));
+    }
+    decode_copied::<0>(alloc, frame, 0)
 }
 
 /// As `decode_with_sentinel` with room for every message, into a vector of its own.
@@ -86,5 +67,5 @@ pub fn decode_vec_with_sentinel(
     ensures no_frame { IfErr result (λ e. (e ≡ OutOfMemory)
         ⊎ ((m : List ℕ) → Frame (stretch (masked sentinel source.now)) m → ⊥)) }
 {
-    decode_stretch_vec(alloc, source, sentinel)
+    decode_copied::<1>(alloc, before(source, sentinel), sentinel)
 }

@@ -1,17 +1,18 @@
 //! A source that is there as a whole, decoded into a slice.
-ghost use Rattle.std.specs.Prelude.{◌≡◌, ◌≢◌, ℕ, ◌+◌, ◌-◌, ◌<◌, ◌≤◌, List, [], length, take, slice_index, IsTrue, IfOk, OnErr, IfSome, IsNone};
+ghost use Rattle.std.specs.Prelude.{◌≡◌, ◌≢◌, ℕ, ◌+◌, ◌-◌, ◌^◌, ◌<◌, ◌≤◌, List, [], length, take, slice_index, IsTrue, IfOk, OnErr, IfSome, IsNone};
 ghost use Rattle.cobs.specs.Frames.{Frame, NoZero, part};
 ghost use Rattle.cobs.specs.Reports.{frame_size};
 ghost use Rattle.cobs.specs.InPlace.{stretch, overwritten};
 ghost use Rattle.cobs.specs.Sentinel.{masked};
+ghost use Rattle.cobs.specs.Taking.{DecodesFront};
 ghost use Rattle.cobs.specs.Whole.{unpadded, frame_in, decoded_from, decoded_into};
 
 use super::frames::{
-    apart, decode_counted, decode_short, decode_source, decode_whole, with_parsed,
+    answer_behind, apart, decode_counted, decode_near, is_short, take_source, with_parsed,
 };
 use super::progress::Progress;
 use super::report::{DecodeError, DecodeReport};
-use crate::finding::{before_by_64, before_few, before_sentinel};
+use crate::finding::before_sentinel;
 use crate::moves::are_all;
 
 // The bytes before the first one that is the sentinel.
@@ -20,30 +21,6 @@ pub(crate) fn before(bytes: &[u8], sentinel: u8) -> &[u8]
     ensures { masked sentinel result.now ≡ stretch (masked sentinel bytes.now) }
 {
     &bytes[..before_sentinel(bytes, sentinel)]
-}
-
-// The same of at most 64 bytes.
-#[inline(always)]
-fn before_end_few(bytes: &[u8], sentinel: u8) -> &[u8]
-    requires { length bytes.now ≤ 64 }
-    ensures frame { masked sentinel result.now ≡ stretch (masked sentinel bytes.now) }
-    ensures within { length result.now ≤ length bytes.now }
-{
-    &bytes[..before_few(bytes, sentinel)]
-}
-
-// The same of more than 64 bytes, where they are fewer than 256.
-#[inline(always)]
-fn near_frame(bytes: &[u8], sentinel: u8) -> Option<&[u8]>
-    requires { 64 < length bytes.now }
-    ensures frame { IfSome result
-        (λ f. masked sentinel f.now ≡ stretch (masked sentinel bytes.now)) }
-    ensures within { IfSome result (λ f. length f.now ≤ length bytes.now) }
-    ensures many { IsNone result → 256 ≤ length bytes.now }
-    ensures clear { IsNone result → (k : ℕ) → k < 256 → slice_index bytes.now k ≢ sentinel }
-{
-    let end = before_by_64(&bytes[..bytes.len().min(256)], sentinel);
-    if end < 256 { Some(&bytes[..end]) } else { None }
 }
 
 // The bytes behind leading zeros.
@@ -68,161 +45,113 @@ fn has_room(frame: &[u8], room: usize) -> bool
     !frame.is_empty() && frame.len() - 1 <= room
 }
 
-// As `decode`, by a decoder that is pushed the source and then a zero: it sees at which byte there is no room.
-#[inline(never)]
-fn decode_pushed(source: &[u8], dest: &mut [u8]) -> Result<DecodeReport, DecodeError>
-    ensures answer { result ≡ decoded_from (length dest.old) source.now }
-    ensures dest { dest.new ≡ overwritten (part (frame_in source.now)) dest.old }
-{
-    let rest = behind_zeros(source);
-    let mut progress = Progress::new();
-    if let Some(DecodeReport { parsed, decoded }) = progress.push(dest, rest, 0)? {
-        return Ok(DecodeReport {
-            parsed: source.len() - rest.len() + parsed,
-            decoded,
-        });
+// Whether many bytes begin with many codes 01.
+#[inline(always)]
+fn begins_with_row(bytes: &[u8], sentinel: u8) -> bool {
+    if bytes.len() < 256 {
+        return false;
     }
-    match progress.end(dest.len())? {
-        None => Err(DecodeError::EmptyFrame),
-        Some(decoded) => Ok(DecodeReport {
-            parsed: source.len(),
-            decoded,
-        }),
-    }
+    bytes[0] == sentinel ^ 1 && are_all(sentinel ^ 1, &bytes[..64])
 }
 
-// The same, whose room for an answer is asked only where this way is taken: the quicker ways don't clear it.
+// How many bytes of a source are looked at without a search: all of them, or as many as there is room for where a sentinel is next.
 #[inline(always)]
-fn decode_pushed_apart(source: &[u8], dest: &mut [u8]) -> Result<DecodeReport, DecodeError>
-    ensures answer { result ≡ decoded_from (length dest.old) source.now }
-    ensures dest { dest.new ≡ overwritten (part (frame_in source.now)) dest.old }
+fn front(source: &[u8], room: usize, sentinel: u8) -> usize
+    requires { room < 2 ^ 63 }
+    ensures within { result ≤ length source.now }
+    ensures all { length (stretch (masked sentinel source.now)) ≤ result }
 {
-    apart(decode_pushed(source, dest))
+    if room + 1 < source.len() && source[room + 1] == sentinel {
+        return room + 1;
+    }
+    source.len()
 }
 
-// As `decode`, of a source whose frame, behind leading zeros, was found.
+// The same by a search where there is no room for all.
 #[inline(always)]
-fn decode_found(
+fn reach(source: &[u8], room: usize, sentinel: u8) -> usize
+    ensures within { result ≤ length source.now }
+    ensures all { length (stretch (masked sentinel source.now)) ≤ result }
+{
+    if has_room(source, room) {
+        return source.len();
+    }
+    before_sentinel(source, sentinel)
+}
+
+// Decodes the bytes of a source before its first sentinel, each XORed with it, where there are some and the bytes that are looked at
+// have room: also answers how many they are. It is compiled once for each caller, into which it goes.
+//
+// A long row of codes 01 is left to a decoder that is pushed it, and fills it at once.
+#[inline(always)]
+fn decode_part<const COPY: usize>(
     source: &[u8],
-    rest: &[u8],
-    frame: &[u8],
+    looked_at: usize,
     dest: &mut [u8],
-) -> Result<DecodeReport, DecodeError>
+    sentinel: u8,
+) -> Option<(Result<usize, DecodeError>, usize)>
+    requires within { looked_at ≤ length source.now }
+    requires all { length (stretch (masked sentinel source.now)) ≤ looked_at }
+    ensures done { IfSome result (λ t. DecodesFront dest.old
+        (stretch (masked sentinel source.now)) dest.new t.0 t.1) }
+    ensures same { IsNone result → dest.new ≡ dest.old }
+{
+    let bytes = &source[..looked_at];
+    if !has_room(bytes, dest.len()) || bytes[0] == sentinel {
+        return None;
+    }
+    if is_short(bytes, sentinel) {
+        return Some(decode_near(bytes, dest, sentinel));
+    }
+    if begins_with_row(bytes, sentinel) {
+        return None;
+    }
+    let (Progress { state, len }, end) = take_source::<COPY>(bytes, dest, sentinel);
+    Some((answer_behind(state, len), end))
+}
+
+// As `decode`, by a decoder that is pushed what is behind leading zeros, and then a zero: it sees at which byte there is no room.
+#[inline(never)]
+fn decode_pushed(source: &[u8], rest: &[u8], dest: &mut [u8]) -> Result<DecodeReport, DecodeError>
     requires rest { rest.now ≡ unpadded source.now }
     requires within { length rest.now ≤ length source.now }
-    requires frame { masked 0 frame.now ≡ stretch rest.now }
-    requires front { length frame.now ≤ length rest.now }
     ensures answer { result ≡ decoded_from (length dest.old) source.now }
     ensures dest { dest.new ≡ overwritten (part (frame_in source.now)) dest.old }
 {
-    if has_room(frame, dest.len()) {
-        match decode_whole(frame, dest, 0) {
-            Ok(decoded) => Ok(DecodeReport {
-                parsed: source
-                    .len()
-                    .min(source.len() - rest.len() + frame.len() + 1),
+    let mut progress = Progress::new();
+    match progress.push(dest, rest, 0) {
+        Ok(None) => match progress.end(dest.len()) {
+            Ok(None) => Err(DecodeError::EmptyFrame),
+            Ok(Some(decoded)) => Ok(DecodeReport {
+                parsed: source.len(),
                 decoded,
             }),
             Err(error) => Err(error),
-        }
-    } else {
-        decode_pushed_apart(source, dest)
-    }
-}
-
-// As `decode`, of a source whose bytes behind leading zeros all have room, and don't begin with a zero.
-#[inline(always)]
-fn decode_long(source: &[u8], rest: &[u8], dest: &mut [u8]) -> Result<DecodeReport, DecodeError>
-    requires rest { rest.now ≡ unpadded source.now }
-    requires within { length rest.now ≤ length source.now }
-    requires some { 0 < length rest.now }
-    requires room { length rest.now ≤ length dest.old + 1 }
-    requires begins { slice_index rest.now 0 ≢ 0 }
-    ensures answer { result ≡ decoded_from (length dest.old) source.now }
-    ensures dest { dest.new ≡ overwritten (part (frame_in source.now)) dest.old }
-{
-    let (answer, end) = decode_source::<0>(rest, dest, 0);
-    match answer {
-        Ok(decoded) => Ok(DecodeReport {
-            parsed: source.len().min(source.len() - rest.len() + end + 1),
-            decoded,
+        },
+        Ok(Some(report)) => Ok(DecodeReport {
+            parsed: source.len() - rest.len() + report.parsed,
+            decoded: report.decoded,
         }),
         Err(error) => Err(error),
     }
 }
 
-// As `decode`, by a search for the frame's end before it is decoded.
+// As `decode`, of a source that begins with zeros, or has no room: the frame's end is searched, but not behind a long row of codes 01.
 #[inline(never)]
-fn decode_searched(source: &[u8], dest: &mut [u8]) -> Result<DecodeReport, DecodeError>
+fn decode_slowly(source: &[u8], dest: &mut [u8]) -> Result<DecodeReport, DecodeError>
     ensures answer { result ≡ decoded_from (length dest.old) source.now }
     ensures dest { dest.new ≡ overwritten (part (frame_in source.now)) dest.old }
 {
     let rest = behind_zeros(source);
-    if rest.is_empty() {
-        return Err(DecodeError::EmptyFrame);
+    if begins_with_row(rest, 0) {
+        return decode_pushed(source, rest, dest);
     }
-    let end = before_sentinel(rest, 0);
-    decode_found(source, rest, &rest[..end], dest)
-}
-
-// The same, whose room for an answer is asked only where this way is taken.
-#[inline(always)]
-fn decode_searched_apart(source: &[u8], dest: &mut [u8]) -> Result<DecodeReport, DecodeError>
-    ensures answer { result ≡ decoded_from (length dest.old) source.now }
-    ensures dest { dest.new ≡ overwritten (part (frame_in source.now)) dest.old }
-{
-    apart(decode_searched(source, dest))
-}
-
-// Whether many bytes begin with many codes 01.
-#[inline(always)]
-fn begins_with_row(rest: &[u8]) -> bool
-    requires { 64 ≤ length rest.now }
-{
-    256 <= rest.len() && rest[0] == 1 && are_all(1, &rest[..64])
-}
-
-// As `decode`, of a source whose bytes behind leading zeros don't begin with one. Where there is room they are searched as they are
-// copied: all of up to 255, of more those behind the first 256, which are searched for the frame's end.
-#[inline(always)]
-fn decode_begun(source: &[u8], rest: &[u8], dest: &mut [u8]) -> Result<DecodeReport, DecodeError>
-    requires rest { rest.now ≡ unpadded source.now }
-    requires within { length rest.now ≤ length source.now }
-    requires some { 0 < length rest.now }
-    requires begins { slice_index rest.now 0 ≢ 0 }
-    ensures answer { result ≡ decoded_from (length dest.old) source.now }
-    ensures dest { dest.new ≡ overwritten (part (frame_in source.now)) dest.old }
-{
-    if rest.len() <= 64 {
-        return decode_found(source, rest, before_end_few(rest, 0), dest);
-    }
-    if rest.len() <= 255 && has_room(rest, dest.len()) {
-        return decode_long(source, rest, dest);
-    }
-    // A row of zeros is filled as it is met: a search for the frame's end would pass over it once more.
-    if begins_with_row(rest) {
-        return decode_pushed_apart(source, dest);
-    }
-    if let Some(frame) = near_frame(rest, 0) {
-        return decode_found(source, rest, frame, dest);
-    }
-    if has_room(rest, dest.len()) {
-        decode_long(source, rest, dest)
-    } else {
-        decode_searched_apart(source, dest)
-    }
-}
-
-// As `decode`.
-#[inline(always)]
-fn decode_first(source: &[u8], dest: &mut [u8]) -> Result<DecodeReport, DecodeError>
-    ensures answer { result ≡ decoded_from (length dest.old) source.now }
-    ensures dest { dest.new ≡ overwritten (part (frame_in source.now)) dest.old }
-{
-    if source.is_empty() || source[0] == 0 {
-        decode_searched_apart(source, dest)
-    } else {
-        decode_begun(source, source, dest)
+    match decode_part::<2>(rest, reach(rest, dest.len(), 0), dest, 0) {
+        Some((answer, end)) => {
+            let parsed = source.len().min(source.len() - rest.len() + end + 1);
+            with_parsed(answer, parsed)
+        }
+        None => decode_pushed(source, rest, dest),
     }
 }
 
@@ -241,72 +170,23 @@ pub fn decode(source: &[u8], dest: &mut [u8]) -> Result<DecodeReport, DecodeErro
         → length dest.old < length m) }
     ensures dest { dest.new ≡ overwritten (part (frame_in source.now)) dest.old }
 {
-    decode_first(source, dest)
-}
-
-// Decodes bytes that hold no sentinel, each XORed with it.
-#[inline(always)]
-pub(crate) fn decode_clear(
-    frame: &[u8],
-    dest: &mut [u8],
-    sentinel: u8,
-) -> Result<usize, DecodeError>
-    requires { NoZero (masked sentinel frame.now) }
-    ensures answer { result ≡ decoded_into (length dest.old) (masked sentinel frame.now) }
-    ensures dest { dest.new ≡ overwritten (part (masked sentinel frame.now)) dest.old }
-{
-    if has_room(frame, dest.len()) {
-        return decode_whole(frame, dest, sentinel);
+    match decode_part::<0>(source, front(source, dest.len(), 0), dest, 0) {
+        Some((answer, end)) => with_parsed(answer, source.len().min(end + 1)),
+        None => apart(decode_slowly(source, dest)),
     }
-    apart(decode_counted(frame, dest, sentinel))
 }
 
-// The same of few bytes, which are of one window.
-#[inline(always)]
-fn decode_few(frame: &[u8], dest: &mut [u8], sentinel: u8) -> Result<usize, DecodeError>
-    requires few { length frame.now ≤ 64 }
-    requires clear { NoZero (masked sentinel frame.now) }
-    ensures answer { result ≡ decoded_into (length dest.old) (masked sentinel frame.now) }
-    ensures dest { dest.new ≡ overwritten (part (masked sentinel frame.now)) dest.old }
-{
-    if has_room(frame, dest.len()) {
-        return decode_short(frame, dest, sentinel);
-    }
-    apart(decode_counted(frame, dest, sentinel))
-}
-
-// As `decode_with_sentinel`, of a source whose first 256 bytes hold no sentinel.
+// As `decode_with_sentinel`, of a source for which there is no room: the end of the bytes that are decoded is searched.
 #[inline(never)]
-fn decode_far_stretch(source: &[u8], dest: &mut [u8], sentinel: u8) -> Result<usize, DecodeError>
-    requires many { 256 ≤ length source.now }
-    requires clear { (k : ℕ) → k < 256 → slice_index source.now k ≢ sentinel }
-    ensures answer { result
-        ≡ decoded_into (length dest.old) (stretch (masked sentinel source.now)) }
-    ensures dest { dest.new ≡ overwritten (part (stretch (masked sentinel source.now))) dest.old }
-{
-    if has_room(source, dest.len()) {
-        return decode_source::<1>(source, dest, sentinel).0;
-    }
-    let frame = before(source, sentinel);
-    decode_clear(frame, dest, sentinel)
-}
-
-// As `decode_with_sentinel`.
-#[inline(always)]
 fn decode_stretch(source: &[u8], dest: &mut [u8], sentinel: u8) -> Result<usize, DecodeError>
     ensures answer { result
         ≡ decoded_into (length dest.old) (stretch (masked sentinel source.now)) }
     ensures dest { dest.new ≡ overwritten (part (stretch (masked sentinel source.now))) dest.old }
 {
-    if source.len() <= 64 {
-        return decode_few(before_end_few(source, sentinel), dest, sentinel);
-    }
-    if source.len() <= 255 && source[0] != sentinel && has_room(source, dest.len()) {
-        return decode_source::<1>(source, dest, sentinel).0;
-    }
-    match near_frame(source, sentinel) {
-        Some(frame) => decode_clear(frame, dest, sentinel),
-        None => apart(decode_far_stretch(source, dest, sentinel)),
+    let frame = before(source, sentinel);
+    match decode_part::<3>(source, frame.len(), dest, sentinel) {
+        Some((answer, _)) => answer,
+        None => decode_counted(frame, dest, sentinel),
     }
 }
 
@@ -329,5 +209,21 @@ pub fn decode_with_sentinel(
         → length dest.old < length m) }
     ensures dest { dest.new ≡ overwritten (part (stretch (masked sentinel source.now))) dest.old }
 {
-    decode_stretch(source, dest, sentinel)
+    match decode_part::<1>(source, front(source, dest.len(), sentinel), dest, sentinel) {
+        Some((answer, _)) => answer,
+        None => apart(decode_stretch(source, dest, sentinel)),
+    }
+}
+
+// Decodes bytes that hold no sentinel, each XORed with it.
+pub(crate) fn decode_clear(
+    frame: &[u8],
+    dest: &mut [u8],
+    sentinel: u8,
+) -> Result<usize, DecodeError>
+    requires { NoZero (masked sentinel frame.now) }
+    ensures answer { result ≡ decoded_into (length dest.old) (masked sentinel frame.now) }
+    ensures dest { dest.new ≡ overwritten (part (masked sentinel frame.now)) dest.old }
+{
+    decode_with_sentinel(frame, dest, sentinel)
 }

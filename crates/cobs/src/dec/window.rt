@@ -7,80 +7,19 @@ ghost use Rattle.cobs.specs.Sentinel.{masked};
 
 use super::state::DecoderState;
 use crate::finding::before_few;
-use crate::masks::copy_masked;
 use crate::moves::{are_all, copy_few, copy_if_clear, copy_over};
-use memchr::memchr;
 
 // How many bytes are copied at once: what lies behind the code of a full block among them is of that block.
 pub(crate) const WINDOW: usize = 254;
 
-// How many codes 01 are looked at and filled at once: the fill of more goes byte by byte in the processor.
+// How many bytes of a piece are looked at at once: a fill of more goes byte by byte in the processor.
 pub(crate) const ROW: usize = 1024;
 
-// How many bytes are searched and copied by a loop, since a call costs more.
-pub(crate) const FEW: usize = 8;
+// How many bytes are searched and copied at once: of fewer each is fed by itself.
+pub(crate) const FEW: usize = 4;
 
-// How many bytes come before the first sentinel, by a call where they aren't few.
-#[inline(always)]
-pub(crate) fn before_by_call(bytes: &[u8], sentinel: u8) -> usize
-    ensures within { result ≤ length bytes.now }
-    ensures none { (k : ℕ) → k < result → slice_index bytes.now k ≢ sentinel }
-    ensures end { result < length bytes.now → slice_index bytes.now result ≡ sentinel }
-{
-    if FEW <= bytes.len() {
-        return memchr(sentinel, bytes).unwrap_or(bytes.len());
-    }
-    for (end, byte) in bytes.iter().enumerate() {
-        if *byte == sentinel {
-            return end;
-        }
-    }
-    bytes.len()
-}
-
-// Copies bytes, each XORed with the sentinel, into a part that is as long.
-#[inline(always)]
-pub(crate) fn copy(bytes: &[u8], out: &mut [u8], sentinel: u8)
-    requires { length bytes.now ≡ length out.old }
-    ensures { out.new ≡ masked sentinel bytes.now }
-{
-    if FEW <= bytes.len() {
-        copy_masked(bytes, out, sentinel);
-        return;
-    }
-    for (place, byte) in bytes.iter().enumerate() {
-        out[place] = sentinel ^ *byte;
-    }
-}
-
-// The same by vectors, without a call.
-#[inline(always)]
-pub(crate) fn copy_at_once(bytes: &[u8], out: &mut [u8], sentinel: u8)
-    requires { length bytes.now ≡ length out.old }
-    ensures { out.new ≡ masked sentinel bytes.now }
-{
-    copy_over(bytes, out, 0, sentinel);
-}
-
-// Copies bytes up to a sentinel, each XORed with it, into a buffer, from a place on. Answers how many.
-#[inline(always)]
-pub(crate) fn copy_run(bytes: &[u8], buffer: &mut [u8], place: usize, sentinel: u8) -> usize
-    requires { place + length bytes.now ≤ length buffer.old }
-    ensures within { result ≤ length bytes.now }
-    ensures none { (k : ℕ) → k < result → slice_index bytes.now k ≢ sentinel }
-    ensures buffer { buffer.new
-        ≡ written_over place (take result (masked sentinel bytes.now)) buffer.old }
-{
-    for (i, byte) in bytes.iter().enumerate() {
-        if *byte == sentinel {
-            return i;
-        }
-        buffer[place + i] = sentinel ^ *byte;
-    }
-    bytes.len()
-}
-
-// The same of at most 64, by vectors: they are searched first.
+// Copies bytes up to a sentinel, each XORed with it, into a buffer, from a place on: at most 64, which are searched first. Answers
+// how many.
 #[inline(always)]
 fn copy_few_until(bytes: &[u8], buffer: &mut [u8], place: usize, sentinel: u8) -> usize
     requires few { length bytes.now ≤ 64 }
@@ -158,22 +97,8 @@ pub(crate) fn put_zeros(out: &mut [u8], left: u8) -> DecoderState
     DecoderState::Grab((at - end) as u8)
 }
 
-// Copies bytes of a frame, where so many are left of a block, and puts a zero for each code. Answers where their last block
-// stands.
-#[inline(always)]
-pub(crate) fn decode_window(bytes: &[u8], out: &mut [u8], left: u8, sentinel: u8) -> DecoderState
-    requires long { length bytes.now ≡ length out.old }
-    requires short { length bytes.now ≤ 254 }
-    requires nonzero { (k : ℕ) → k < length bytes.now
-        → 0 < slice_index (masked sentinel bytes.now) k }
-    ensures out { out.new ≡ part_from left true (masked sentinel bytes.now) }
-    ensures state { result ≡ stands_by (after left true (masked sentinel bytes.now)) }
-{
-    copy(bytes, out, sentinel);
-    put_zeros(out, left)
-}
-
-// The same by vectors, without a call.
+// Copies bytes of a frame by vectors, where so many are left of a block, and puts a zero for each code. Answers where their last
+// block stands.
 #[inline(always)]
 pub(crate) fn decode_at_once(bytes: &[u8], out: &mut [u8], left: u8, sentinel: u8) -> DecoderState
     requires long { length bytes.now ≡ length out.old }
@@ -183,7 +108,7 @@ pub(crate) fn decode_at_once(bytes: &[u8], out: &mut [u8], left: u8, sentinel: u
     ensures out { out.new ≡ part_from left true (masked sentinel bytes.now) }
     ensures state { result ≡ stands_by (after left true (masked sentinel bytes.now)) }
 {
-    copy_at_once(bytes, out, sentinel);
+    copy_over(bytes, out, 0, sentinel);
     put_zeros(out, left)
 }
 

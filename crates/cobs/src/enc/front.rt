@@ -61,16 +61,13 @@ impl FrameFront {
         if self.spent {
             return Err(DestBufTooSmallError);
         }
-        match put_all(dest, self.place, data, self.sentinel) {
-            Some(next) => {
-                self.place = next;
-                Ok(())
-            }
-            None => {
-                self.spent = true;
-                Err(DestBufTooSmallError)
-            }
+        let next = put_all::<0>(dest, self.place, data, self.sentinel);
+        if next.len == 0 {
+            self.spent = true;
+            return Err(DestBufTooSmallError);
         }
+        self.place = next;
+        Ok(())
     }
 
     /// As [`CobsEncoder::frame_length`].

@@ -1,12 +1,11 @@
 //! A message whose frame is made where it stands.
 ghost use Rattle.std.specs.Prelude.{◌≡◌, ◌+◌, ◌<◌, ◌≤◌, [], length, take, drop};
 ghost use Rattle.cobs.specs.Frames.{shortest_frame};
-ghost use Rattle.cobs.specs.Codes.{Coding, Coded};
+ghost use Rattle.cobs.specs.Codes.{Coding};
 ghost use Rattle.cobs.specs.Sentinel.{masked, frame_for};
 
 use crate::codes::put_codes_standing;
 use crate::masks::mask;
-use crate::moves::is_clear;
 
 /// Makes the frame of a message of n bytes, 254 at most, where it stands: in the buffer behind its first byte, which may be any.
 /// Answers the frame's length, n + 1. What the buffer holds behind the frame isn't stated.
@@ -51,57 +50,9 @@ fn put_all_codes(buffer: &mut [u8], n: usize, sentinel: u8) -> usize
     let mut code_at: usize = 0;
     let mut done: usize = 0;
     while done < n {
-        let (next, count) = put_front_codes(buffer, code_at, done + 1, n - done, sentinel);
-        code_at = next;
+        let count = (n - done).min(64);
+        code_at = put_codes_standing(buffer, code_at, done + 1, count, sentinel);
         done += count;
     }
     code_at
-}
-
-// Writes a code at each zero of a front of the bytes that are left, and answers where the last code is to be, and how many bytes
-// that front has.
-#[inline(always)]
-fn put_front_codes(
-    buffer: &mut [u8],
-    code_at: usize,
-    from: usize,
-    left: usize,
-    sentinel: u8,
-) -> (usize, usize)
-    requires some { 0 < left }
-    requires begins { code_at < from }
-    requires within { from + left ≤ length buffer.old }
-    requires short { from + left ≤ code_at + 255 }
-    ensures some { 0 < result.1 }
-    ensures within { result.1 ≤ left }
-    ensures coded { Coded (masked sentinel buffer.old) code_at from
-        (masked sentinel (take result.1 (drop from buffer.old)))
-        (masked sentinel buffer.new) result.0 }
-{
-    if 64 <= left && is_clear(&buffer[from..from + 64], sentinel) {
-        return (code_at, 64);
-    }
-    if left < 4 {
-        (put_code(buffer, code_at, from, sentinel), 1)
-    } else {
-        let count = left.min(64);
-        let next = put_codes_standing(buffer, code_at, from, count, sentinel);
-        (next, count)
-    }
-}
-
-// The same of one byte.
-#[inline(always)]
-fn put_code(buffer: &mut [u8], code_at: usize, at: usize, sentinel: u8) -> usize
-    requires begins { code_at < at }
-    requires within { at < length buffer.old }
-    requires short { at < code_at + 255 }
-    ensures { Coded (masked sentinel buffer.old) code_at at
-        (masked sentinel (take 1 (drop at buffer.old))) (masked sentinel buffer.new) result }
-{
-    if buffer[at] != sentinel {
-        return code_at;
-    }
-    buffer[code_at] = sentinel ^ (at - code_at) as u8;
-    at
 }

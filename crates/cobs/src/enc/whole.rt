@@ -4,8 +4,7 @@ ghost use Rattle.cobs.specs.Frames.{NoZero, shortest_frame, most_length};
 ghost use Rattle.cobs.specs.Sentinel.{between_zeros, frame_for};
 
 use super::DestBufTooSmallError;
-use super::block::{Place, put_few, put_run};
-use super::encoder::CobsEncoder;
+use super::block::{Place, put_all};
 use crate::max_encoding_length;
 use crate::moves::is_clear_255;
 use memchr::memrchr;
@@ -38,53 +37,10 @@ pub fn encode_including_sentinels(source: &[u8], dest: &mut [u8]) -> usize
     ensures length { result ≡ length (shortest_frame source.now) + 2 }
     ensures frame { take result dest.new ≡ between_zeros (shortest_frame source.now) }
 {
-    let (front, rest) = dest.split_at_mut(1);
-    front[0] = 0;
-    let n = encode(source, rest);
-    rest[n] = 0;
+    dest[0] = 0;
+    let n = encode(source, &mut dest[1..]);
+    dest[n + 1] = 0;
     n + 2
-}
-
-// As `encode_with_sentinel`, of few bytes: they are copied by a loop, and no call is made.
-#[inline(always)]
-fn encode_few(source: &[u8], dest: &mut [u8], sentinel: u8) -> usize
-    requires few { length source.now ≤ 254 }
-    requires room { length source.now < length dest.old }
-    ensures length { result ≡ length (shortest_frame source.now) }
-    ensures frame { take result dest.new ≡ frame_for sentinel source.now }
-{
-    dest[0] = sentinel ^ 1;
-    if source.is_empty() {
-        return 1;
-    }
-    put_few(dest, Place { code_at: 0, len: 1 }, source, sentinel).len
-}
-
-// The same of bytes that are of one block: they go in by one step, and what keeps pieces apart isn't asked.
-#[inline(never)]
-fn encode_block(source: &[u8], dest: &mut [u8], sentinel: u8) -> usize
-    requires some { 0 < length source.now }
-    requires few { length source.now ≤ 254 }
-    requires room { length source.now < length dest.old }
-    ensures length { result ≡ length (shortest_frame source.now) }
-    ensures frame { take result dest.new ≡ frame_for sentinel source.now }
-{
-    dest[0] = sentinel ^ 1;
-    put_run::<0>(dest, Place { code_at: 0, len: 1 }, source, sentinel).len
-}
-
-// The same of any bytes: they are pushed.
-#[inline(never)]
-fn encode_pushed(source: &[u8], dest: &mut [u8], sentinel: u8) -> usize
-    requires some { 0 < length dest.old }
-    requires room { length (shortest_frame source.now) ≤ length dest.old }
-    ensures length { result ≡ length (shortest_frame source.now) }
-    ensures frame { take result dest.new ≡ frame_for sentinel source.now }
-{
-    let mut encoder = CobsEncoder::new_with_sentinel(dest, sentinel);
-    let pushed = encoder.push(source);
-    prove!(pushed.is_ok());
-    encoder.finalize()
 }
 
 /// As `encode`, with every byte of the frame XORed with `sentinel`, so that no byte of it is the sentinel.
@@ -93,19 +49,15 @@ fn encode_pushed(source: &[u8], dest: &mut [u8], sentinel: u8) -> usize
 /// let mut dest = [0; 5];
 /// assert_eq!(encode_with_sentinel(&[10, 11, 0, 12], &mut dest, 10), 5); // 9, 0, 1, 8, 6
 /// ```
-#[tactic(auto, using(crate::proofs::LengthsLemmas::frame_at_least))]
+#[inline(always)]
 pub fn encode_with_sentinel(source: &[u8], dest: &mut [u8], sentinel: u8) -> usize
     requires { length (shortest_frame source.now) ≤ length dest.old }
     ensures length { result ≡ length (shortest_frame source.now) }
     ensures frame { take result dest.new ≡ frame_for sentinel source.now }
 {
-    if source.len() < 8 {
-        encode_few(source, dest, sentinel)
-    } else if source.len() <= 254 {
-        encode_block(source, dest, sentinel)
-    } else {
-        encode_pushed(source, dest, sentinel)
-    }
+    dest[0] = sentinel ^ 1;
+    let end = put_all::<1>(dest, Place { code_at: 0, len: 1 }, source, sentinel);
+    end.len
 }
 
 /// The length of the frame of `source`: what `encode` needs, and no more. A message of n bytes has n + 1 at least, and

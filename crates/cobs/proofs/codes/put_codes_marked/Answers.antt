@@ -27,3 +27,18 @@ overflow_cast-dest c = grind (arith, common_steps)
 
 pub bounds-dest-code : goal.bounds-dest-code
 bounds-dest-code c = grind (arith, common_steps)
+
+pub loop-zeros-init : goal.loop-zeros-init
+loop-zeros-init c = grind (arith, common_steps)
+
+pub lowest-n-requires : goal.lowest-n-requires
+lowest-n-requires c = grind (arith, common_steps)
+
+pub overflow_add-at : goal.overflow_add-at
+overflow_add-at c = grind (arith, common_steps)
+
+pub overflow_sub-dest : goal.overflow_sub-dest
+overflow_sub-dest c = grind (arith, common_steps)
+
+pub loop-zeros-smaller : goal.loop-zeros-smaller
+loop-zeros-smaller c = grind (arith, common_steps)

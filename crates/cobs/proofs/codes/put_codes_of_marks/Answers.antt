@@ -1,3 +1,4 @@
+use Rattle.std.proofs.lemmas.Grind.{common_steps}
 use Rattle.std.proofs.Common.{sym, subst, arith}
 use Rattle.cobs.specs.Codes.{Marks, Coded}
 use Rattle.cobs.specs.Sentinel.{masked}
@@ -22,3 +23,21 @@ put_codes_of_zeros-requires-clause-block c = c.requires.block
 
 pub returns-then-are_all_marked : goal.returns-then-are_all_marked
 returns-then-are_all_marked c = c.put_codes_of_zeros.ensures
+
+pub are_all_marked-requires : goal.are_all_marked-requires
+are_all_marked-requires c = grind (arith, common_steps)
+
+pub put_codes_of_zeros-requires-clause-some : goal.put_codes_of_zeros-requires-clause-some
+put_codes_of_zeros-requires-clause-some c = grind (arith, common_steps)
+
+pub put_codes_marked-requires-clause-begins : goal.put_codes_marked-requires-clause-begins
+put_codes_marked-requires-clause-begins c = grind (arith, common_steps)
+
+pub put_codes_marked-requires-clause-within : goal.put_codes_marked-requires-clause-within
+put_codes_marked-requires-clause-within c = grind (arith, common_steps)
+
+pub put_codes_marked-requires-clause-short : goal.put_codes_marked-requires-clause-short
+put_codes_marked-requires-clause-short c = grind (arith, common_steps)
+
+pub put_codes_marked-requires-clause-few : goal.put_codes_marked-requires-clause-few
+put_codes_marked-requires-clause-few c = grind (arith, common_steps)

@@ -30,3 +30,6 @@ returns-then-n-lt64-clause-end c = grind (arith, common_steps)
 
 pub returns-clause-end : goal.returns-clause-end
 returns-clause-end c = grind (arith, common_steps)
+
+pub loop-at-init : goal.loop-at-init
+loop-at-init c = record { within = omega arith; none = λ k l. absurd (omega (arith, l)) }

@@ -17,3 +17,18 @@ returns-clause-none c = λ k l.
 
 pub returns-clause-end : goal.returns-clause-end
 returns-clause-end c = λ _. (marked_byte c.args.sentinel _ c.args.bytes.now c.zeros_of_some-marks.ensures c.lowest.result.0 c.lowest.ensures.set).1
+
+pub returns-then-bytes-lt4-clause-none : goal.returns-then-bytes-lt4-clause-none
+returns-then-bytes-lt4-clause-none c = c.before_near.ensures.none
+
+pub returns-then-bytes-lt4-clause-end : goal.returns-then-bytes-lt4-clause-end
+returns-then-bytes-lt4-clause-end c = c.before_near.ensures.end
+
+pub returns-then-bytes-lt4-clause-bytes : goal.returns-then-bytes-lt4-clause-bytes
+returns-then-bytes-lt4-clause-bytes c = λ k. (c.type_inv.bytes k).fits
+
+pub returns-then-marks-eq0-clause-bytes : goal.returns-then-marks-eq0-clause-bytes
+returns-then-marks-eq0-clause-bytes c = λ k. (c.type_inv.bytes k).fits
+
+pub returns-clause-bytes : goal.returns-clause-bytes
+returns-clause-bytes c = λ k. (c.type_inv.bytes k).fits

@@ -5,7 +5,7 @@ use Rattle.std.proofs.lemmas.Simd.{bitmask_splat}
 use Rattle.std.specs.Prelude.{bit_xor}
 use Rattle.cobs.specs.Sentinel.{masked}
 use Rattle.cobs.proofs.LanesLemmas.{all_above, same_of}
-use Rattle.cobs.proofs.MaskingLemmas.{as_turned, masked_get, masked_length}
+use Rattle.cobs.proofs.MaskingLemmas.{as_turned, masked_get}
 use Rattle.cobs.proofs.moves.are_all.Goals as goal
 
 -- a byte that gives 255 or more with all bits turned
@@ -27,8 +27,6 @@ returns c = λ t k l.
     same_of 16 255 least d (sym (bitmask_splat w8 eqb least 16 255 d (omega arith))
     ∙ eqb-true _ _ t) in
     let most : 255 ≤ get_or (masked s c.args.bytes.now) k 0 =
-    all_above 255 (masked s c.args.bytes.now) least
-    (masked_length s c.args.bytes.now ∙ c.requires) (λ j q. omega (arith, full j q))
-    c.least_of_64-least.ensures.lanes k l in
+    all_above 255 0 (masked s c.args.bytes.now) least (λ j q. omega (arith, full j q)) c.least_of_64-least.ensures.lanes k (omega arith) l in
     turned c.args.byte k c.args.bytes.now (omega (arith, l, c.requires)) c.ranges.byte.fits
     (c.type_inv.bytes k).fits most

@@ -1,8 +1,7 @@
-use Rattle.std.proofs.lemmas.Grind.{common_steps}
 use Rattle.std.proofs.Common.{◌∙◌, ◌+◌, ◌-◌, ap, drop, take, arith}
 use Rattle.cobs.specs.InPlace.{written_over}
 use Rattle.cobs.specs.Sentinel.{masked}
-use Rattle.cobs.proofs.WrittenLemmas.{moved_on}
+use Rattle.cobs.proofs.WrittenLemmas.{moved_none, moved_on}
 use Rattle.cobs.proofs.moves.move_down.Goals as goal
 
 pub loop-moved-preserved : goal.loop-moved-preserved
@@ -26,4 +25,4 @@ returns c =
     ∙ ap (λ j. written_over c.args.place (masked c.args.sentinel (take j (drop c.args.from c.args.buffer.now))) c.args.buffer.now) (omega (arith, c.loop-moved.invariant.within))
 
 pub loop-moved-init : goal.loop-moved-init
-loop-moved-init c = grind (arith, common_steps)
+loop-moved-init c = record { within = omega arith; moved = moved_none c.args.sentinel c.args.from c.args.place c.args.buffer.now }

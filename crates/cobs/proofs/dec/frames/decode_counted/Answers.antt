@@ -1,16 +1,29 @@
 use Rattle.std.proofs.Common.{length, sym, ◌∙◌, arith}
 use Rattle.cobs.specs.Sentinel.{masked}
 use Rattle.cobs.proofs.MaskingLemmas.{masked_length}
-use Rattle.cobs.proofs.WholesLemmas.{EnteredAll, entered_all, sentinel_broken}
+use Rattle.cobs.proofs.ShortLemmas.{counted_broken, counted_over, counted_whole}
 use Rattle.cobs.proofs.dec.frames.decode_counted.Goals as goal
-use Rattle.cobs.proofs.dec.frames.decode_counted.Goals.{After-feed}
 
--- all of the frame was taken in
-entered : (c : After-feed) → EnteredAll (masked c.args.sentinel c.args.frame.now) c.args.dest.now c.take_frame-state.result c.take_frame-state.new.dest
-entered c =
-    entered_all (masked c.args.sentinel c.args.frame.now) c.args.dest.now c.take_frame-state.result c.take_frame-state.new.dest c.take_frame-state.ensures.stands
-    (omega (arith, masked_length c.args.sentinel c.args.frame.now)) c.take_frame-state.ensures.dest
+pub returns-then-left-ne0-clause-answer : goal.returns-then-left-ne0-clause-answer
+returns-then-left-ne0-clause-answer c =
+    counted_broken (length c.args.dest.now) (masked c.args.sentinel c.args.frame.now) c.take_frame-state.result c.take_frame-state.ensures.stands (omega (arith, masked_length c.args.sentinel c.args.frame.now))
+    (λ e. c.if-left-ne0.true (c.left.ensures ∙ e))
 
-pub returns-in-Err-clause-answer : goal.returns-in-Err-clause-answer
-returns-in-Err-clause-answer c =
-    sentinel_broken (length c.args.dest.now) (masked c.args.sentinel c.args.frame.now) c.args.dest.now c.take_frame-state.result c.take_frame-state.new.dest (entered (goal.at.returns-in-Err-clause-answer c).After-feed) c.in-Err.field-0 (sym c.feed.ensures.answer ∙ c.in-Err.is)
+pub returns-then-left-ne0-clause-dest : goal.returns-then-left-ne0-clause-dest
+returns-then-left-ne0-clause-dest c = c.take_frame-state.ensures.dest
+
+pub returns-then-dest-len-clause-answer : goal.returns-then-dest-len-clause-answer
+returns-then-dest-len-clause-answer c =
+    counted_over (length c.args.dest.now) (masked c.args.sentinel c.args.frame.now) c.take_frame-state.result c.take_frame-state.ensures.stands (omega (arith, masked_length c.args.sentinel c.args.frame.now))
+    (sym c.left.ensures ∙ c.if-left-ne0.false) (omega (arith, c.if-dest-len.true, c.take_frame-state.auto.dest))
+
+pub returns-then-dest-len-clause-dest : goal.returns-then-dest-len-clause-dest
+returns-then-dest-len-clause-dest c = c.take_frame-state.ensures.dest
+
+pub returns-clause-answer : goal.returns-clause-answer
+returns-clause-answer c =
+    counted_whole (length c.args.dest.now) (masked c.args.sentinel c.args.frame.now) c.take_frame-state.result c.take_frame-state.ensures.stands (omega (arith, masked_length c.args.sentinel c.args.frame.now))
+    (sym c.left.ensures ∙ c.if-left-ne0.false) (omega (arith, c.if-dest-len.false, c.take_frame-state.auto.dest))
+
+pub returns-clause-dest : goal.returns-clause-dest
+returns-clause-dest c = c.take_frame-state.ensures.dest

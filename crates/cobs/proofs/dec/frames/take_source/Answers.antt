@@ -1,3 +1,4 @@
+use Rattle.std.proofs.lemmas.Grind.{common_steps}
 use Rattle.std.proofs.Common.{◌≡◌, ◌≢◌, ◌+◌, ◌-◌, ◌^◌, ◌<◌, ◌≤◌, ℕ, zero, suc, false, List, [], ◌∷◌, ◌++◌, length, take, drop, get_or, inl, inr, length-take, length-drop, arith, sym, ap, ◌∙◌, subst}
 use Rattle.std.proofs.lemmas.Bool.{cases_lt}
 use Rattle.std.proofs.lemmas.List.{take-take, length-take-le, get_or-take, get_or-drop}
@@ -13,7 +14,6 @@ use Rattle.cobs.proofs.MaskingLemmas.{masked_length, masked_get, masked_take, ma
 use Rattle.cobs.proofs.ShortLemmas.{Entering, entering_new, entered_long, entered_shorter, entering_byte, entering_front}
 use Rattle.cobs.proofs.SourcesLemmas.{clear_byte, masked_positive, stretch_front}
 use Rattle.cobs.proofs.dec.frames.take_source.Goals as goal
-use Rattle.cobs.proofs.dec.frames.take_source.Goals.{After-loop-read-2}
 
 -- what was taken in of a part of the bytes behind is of all of them
 longer : (p piece rest old new : List ℕ) (n m : ℕ) (d : Progress) → piece ≡ take m rest → TakesFront p piece old n d new → TakesFront p rest old n d new
@@ -127,59 +127,133 @@ loop-read-preserved g c =
       none = λ k l. none k (omega (arith, l, few));
     }
 
-pub take_some-read-requires-clause-room : goal.take_some-read-requires-clause-room
-take_some-read-requires-clause-room g c =
-    let source = c.args.source.now in
+-- what is behind goes in up to the sentinel
+module _ (s read n : ℕ) (source old dest : List ℕ) (d : Progress) (l : read ≤ length source) (before : (k : ℕ) → k < read → get_or source k 0 ≢ s) (w : n ≤ length (take (length source - read) (drop read source)))
+    (part : (k : ℕ) → k < n → get_or (take (length source - read) (drop read source)) k 0 ≢ s) (r : Entering (masked s source) old dest read d) where
+  abbrev rest : List ℕ
+  rest = take (read + n - read) (drop read source)
+
+  inside : read + n ≤ length source
+  inside = omega (arith, w, long s read n source l before w part, l)
+
+  count : length rest ≡ n
+  count = omega (arith, length-take-le (read + n - read) (drop read source) (omega (arith, inside, length-drop read source)))
+
+  rest_clear : (k : ℕ) → k < length rest → get_or rest k 0 ≢ s
+  rest_clear = none_in s read (read + n - read) source (λ k q. none_before s read n source l before w part k (omega (arith, q)))
+
+  entered : (dest' : List ℕ) (d' : Progress) → ((p : List ℕ) → HasStreamed d p → TakesFront p (masked s rest) dest (length rest) d' dest') → Entering (masked s source) old dest' (read + n) d'
+  entered dest' d' t = subst (λ j. Entering (masked s source) old dest' j d') (omega (arith, count)) (part_taken s read (read + n - read) (length rest) source old dest dest' d d' r (t _ r.stands))
+
+  -- all before the sentinel was taken in
+  all : (n < length (take (length source - read) (drop read source)) → get_or (take (length source - read) (drop read source)) n 0 ≡ s) → take (read + n) (masked s source) ≡ stretch (masked s source)
+  all end = masked_take s (read + n) source ∙ stretch_is s read n source l before w part end
+
+  counted : (n < length (take (length source - read) (drop read source)) → get_or (take (length source - read) (drop read source)) n 0 ≡ s) → read + n ≡ length (stretch (masked s source))
+  counted end = sym (length-take-le (read + n) (masked s source) (omega (arith, inside, masked_length s source))) ∙ ap length (all end)
+
+pub take_all-requires-clause-room : goal.take_all-requires-clause-room
+take_all-requires-clause-room g c = λ _.
+    let i = c.loop-read.invariant in
+    let e = c.before_sentinel.ensures in
     let read = c.loop-read.read in
-    let whole = long c.args.sentinel read c.before_sentinel.result source c.loop-read.invariant.inside c.loop-read.invariant.none c.before_sentinel.ensures.within c.before_sentinel.ensures.none in
-    part_fits c.args.sentinel c.loop-read-2.read (read + c.before_sentinel.result - c.loop-read-2.read) source c.args.dest.now c.loop-read-2.dest c.loop-read-2.progress c.loop-read-2.invariant.entering c.loop-read-2.invariant.begun (omega arith)
-    (omega (arith, c.loop-read-2.invariant.within, c.before_sentinel.ensures.within, whole, c.loop-read.invariant.inside)) c.requires.room
+    let n = c.before_sentinel.result in
+    part_fits c.args.sentinel read (read + n - read) c.args.source.now c.args.dest.now c.loop-read.dest c.loop-read.progress i.entering i.begun (omega arith)
+    (omega (arith, inside c.args.sentinel read n c.args.source.now c.args.dest.now c.loop-read.dest c.loop-read.progress i.inside i.none e.within e.none i.entering)) c.requires.room
 
-pub take_some-read-requires-clause-clear : goal.take_some-read-requires-clause-clear
-take_some-read-requires-clause-clear g c =
-    let read = c.loop-read.read in
-    let none = none_before c.args.sentinel read c.before_sentinel.result c.args.source.now c.loop-read.invariant.inside c.loop-read.invariant.none c.before_sentinel.ensures.within c.before_sentinel.ensures.none in
-    none_in c.args.sentinel c.loop-read-2.read (read + c.before_sentinel.result - c.loop-read-2.read) c.args.source.now (λ k l. none k (omega (arith, l, c.loop-read-2.invariant.within)))
-
-pub loop-read-2-preserved : goal.loop-read-2-preserved
-loop-read-2-preserved g c =
-    let source = c.args.source.now in
-    let read = c.loop-read-2.read in
-    let m : ℕ = c.loop-read.read + c.before_sentinel.result - read in
-    let t = c.take_some-read in
-    record {
-      begun = omega (arith, c.loop-read-2.invariant.begun);
-      within = omega (arith, t.ensures.within, length-take m (drop read source), c.loop-read-2.invariant.within);
-      entering = part_taken c.args.sentinel read m t.result source c.args.dest.now c.loop-read-2.dest t.new.buffer c.loop-read-2.progress t.new.self c.loop-read-2.invariant.entering (t.ensures.front _ c.loop-read-2.invariant.entering.stands);
-    }
-
--- all before the sentinel was taken in
-all : (g : _) (c : After-loop-read-2 g) → take c.loop-read-2.read (masked c.args.sentinel c.args.source.now) ≡ stretch (masked c.args.sentinel c.args.source.now)
-all g c =
-    let source = c.args.source.now in
-    let end : c.loop-read-2.read ≡ c.loop-read.read + c.before_sentinel.result = omega (arith, c.loop-read-2.invariant.within, c.loop-read-2-test.false) in
-    masked_take c.args.sentinel c.loop-read-2.read source ∙ ap (λ j. masked c.args.sentinel (take j source)) end
-    ∙ stretch_is c.args.sentinel c.loop-read.read c.before_sentinel.result source c.loop-read.invariant.inside c.loop-read.invariant.none c.before_sentinel.ensures.within c.before_sentinel.ensures.none c.before_sentinel.ensures.end
+pub take_all-requires-clause-clear : goal.take_all-requires-clause-clear
+take_all-requires-clause-clear g c =
+    let i = c.loop-read.invariant in
+    let e = c.before_sentinel.ensures in
+    rest_clear c.args.sentinel c.loop-read.read c.before_sentinel.result c.args.source.now c.args.dest.now c.loop-read.dest c.loop-read.progress i.inside i.none e.within e.none i.entering
 
 pub returns-clause-end : goal.returns-clause-end
 returns-clause-end g c =
-    let source = c.args.source.now in
-    let whole = long c.args.sentinel c.loop-read.read c.before_sentinel.result source c.loop-read.invariant.inside c.loop-read.invariant.none c.before_sentinel.ensures.within c.before_sentinel.ensures.none in
-    let read = c.loop-read-2.read in
-    let inside : read ≤ length source = omega (arith, c.loop-read-2.invariant.within, c.before_sentinel.ensures.within, whole, c.loop-read.invariant.inside) in
-    let count : length (take read (masked c.args.sentinel source)) ≡ read = length-take-le read (masked c.args.sentinel source) (omega (arith, inside, masked_length c.args.sentinel source)) in
-    omega (arith, count, ap length (all g c), c.loop-read-2.invariant.within, c.loop-read-2-test.false)
+    let i = c.loop-read.invariant in
+    let e = c.before_sentinel.ensures in
+    counted c.args.sentinel c.loop-read.read c.before_sentinel.result c.args.source.now c.args.dest.now c.loop-read.dest c.loop-read.progress i.inside i.none e.within e.none i.entering e.end
 
 pub returns-clause-stands : goal.returns-clause-stands
-returns-clause-stands g c = subst (HasStreamed c.loop-read-2.progress) (all g c) c.loop-read-2.invariant.entering.stands
+returns-clause-stands g c =
+    let i = c.loop-read.invariant in
+    let e = c.before_sentinel.ensures in
+    let t = c.take_all in
+    subst (HasStreamed t.new.self) (all c.args.sentinel c.loop-read.read c.before_sentinel.result c.args.source.now c.args.dest.now c.loop-read.dest c.loop-read.progress i.inside i.none e.within e.none i.entering e.end)
+    (entered c.args.sentinel c.loop-read.read c.before_sentinel.result c.args.source.now c.args.dest.now c.loop-read.dest c.loop-read.progress i.inside i.none e.within e.none i.entering t.new.buffer t.new.self t.ensures).stands
 
 pub returns-clause-dest : goal.returns-clause-dest
-returns-clause-dest g c = c.loop-read-2.invariant.entering.holds ∙ ap (λ p. overwritten (part p) c.args.dest.now) (all g c)
+returns-clause-dest g c =
+    let i = c.loop-read.invariant in
+    let e = c.before_sentinel.ensures in
+    let t = c.take_all in
+    (entered c.args.sentinel c.loop-read.read c.before_sentinel.result c.args.source.now c.args.dest.now c.loop-read.dest c.loop-read.progress i.inside i.none e.within e.none i.entering t.new.buffer t.new.self t.ensures).holds
+    ∙ ap (λ p. overwritten (part p) c.args.dest.now) (all c.args.sentinel c.loop-read.read c.before_sentinel.result c.args.source.now c.args.dest.now c.loop-read.dest c.loop-read.progress i.inside i.none e.within e.none i.entering e.end)
 
 pub returns-clause-some : goal.returns-clause-some
-returns-clause-some g c = omega (arith, c.loop-read-2.invariant.begun, c.loop-read-2.invariant.within)
+returns-clause-some g c = omega (arith, c.loop-read.invariant.begun)
 
 pub returns-clause-within : goal.returns-clause-within
 returns-clause-within g c =
-    let whole = long c.args.sentinel c.loop-read.read c.before_sentinel.result c.args.source.now c.loop-read.invariant.inside c.loop-read.invariant.none c.before_sentinel.ensures.within c.before_sentinel.ensures.none in
-    omega (arith, c.before_sentinel.ensures.within, whole, c.loop-read.invariant.inside)
+    let i = c.loop-read.invariant in
+    let e = c.before_sentinel.ensures in
+    inside c.args.sentinel c.loop-read.read c.before_sentinel.result c.args.source.now c.args.dest.now c.loop-read.dest c.loop-read.progress i.inside i.none e.within e.none i.entering
+
+pub take_in-requires : goal.take_in-requires
+take_in-requires g c = masked_positive c.args.sentinel (get_or c.args.source.now 0 0) c.requires.begins
+
+pub new-progress-requires : goal.new-progress-requires
+new-progress-requires g c = grind (arith, common_steps)
+
+pub bounds-source-0 : goal.bounds-source-0
+bounds-source-0 g c = grind (arith, common_steps)
+
+pub overflow_sub-source : goal.overflow_sub-source
+overflow_sub-source g c = grind (arith, common_steps)
+
+pub overflow_add-read : goal.overflow_add-read
+overflow_add-read g c = grind (arith, common_steps)
+
+pub slice_bounds-is_clear_255-count : goal.slice_bounds-is_clear_255-count
+slice_bounds-is_clear_255-count g c = grind (arith, common_steps)
+
+pub slice_bounds-is_clear_255-start : goal.slice_bounds-is_clear_255-start
+slice_bounds-is_clear_255-start g c = grind (arith, common_steps)
+
+pub slice_bounds-is_clear_255-end : goal.slice_bounds-is_clear_255-end
+slice_bounds-is_clear_255-end g c = grind (arith, common_steps)
+
+pub is_clear_255-requires : goal.is_clear_255-requires
+is_clear_255-requires g c = grind (arith, common_steps)
+
+pub overflow_add-read-in-loop-read : goal.overflow_add-read-in-loop-read
+overflow_add-read-in-loop-read g c = grind (arith, common_steps)
+
+pub slice_bounds-take_255-count : goal.slice_bounds-take_255-count
+slice_bounds-take_255-count g c = grind (arith, common_steps)
+
+pub slice_bounds-take_255-start : goal.slice_bounds-take_255-start
+slice_bounds-take_255-start g c = grind (arith, common_steps)
+
+pub slice_bounds-take_255-end : goal.slice_bounds-take_255-end
+slice_bounds-take_255-end g c = grind (arith, common_steps)
+
+pub take_255-read-requires-clause-long : goal.take_255-read-requires-clause-long
+take_255-read-requires-clause-long g c = grind (arith, common_steps)
+
+pub loop-read-smaller : goal.loop-read-smaller
+loop-read-smaller g c = grind (arith, common_steps)
+
+pub slice_bounds-before_sentinel-count : goal.slice_bounds-before_sentinel-count
+slice_bounds-before_sentinel-count g c = grind (arith, common_steps)
+
+pub slice_bounds-before_sentinel-start : goal.slice_bounds-before_sentinel-start
+slice_bounds-before_sentinel-start g c = grind (arith, common_steps)
+
+pub slice_bounds-before_sentinel-end : goal.slice_bounds-before_sentinel-end
+slice_bounds-before_sentinel-end g c = grind (arith, common_steps)
+
+pub before_sentinel-requires : goal.before_sentinel-requires
+before_sentinel-requires g c = grind (arith, common_steps)
+
+pub overflow_add-end : goal.overflow_add-end
+overflow_add-end g c = grind (arith, common_steps)

@@ -13,13 +13,3 @@ invariant-loop-read g l = record {
 
 abbrev pub decreases-loop-read : goal.decreases-loop-read
 decreases-loop-read g l = length l.source - l.read
-
-abbrev pub invariant-loop-read-2 : goal.invariant-loop-read-2
-invariant-loop-read-2 g l = record {
-  begun : 0 < l.read;
-  within : l.read ≤ l.end;
-  entering : Entering (masked l.sentinel l.source) l.fn.dest l.dest l.read l.progress;
-}
-
-abbrev pub decreases-loop-read-2 : goal.decreases-loop-read-2
-decreases-loop-read-2 g l = l.end - l.read

@@ -1,31 +1,20 @@
-use Rattle.std.proofs.Common.{◌≡◌, ◌≢◌, ◌+◌, ◌-◌, ◌<◌, ◌≤◌, ℕ, List, [], ◌∷◌, ◌++◌, length, take, drop, get_or, length-take, length-drop, arith, sym, ap, ◌∙◌}
+use Rattle.std.proofs.lemmas.Grind.{common_steps}
+use Rattle.std.proofs.Common.{◌≡◌, ◌≢◌, ◌+◌, ◌-◌, ◌<◌, ◌≤◌, ℕ, List, length, take, drop, get_or, length-take, length-drop, arith, refl, sym, ap, ◌∙◌}
 use Rattle.std.proofs.lemmas.List.{get_or-take, get_or-drop}
 use Rattle.std.proofs.lemmas.Nat.{xor_of_8}
 use Rattle.std.specs.Prelude.{bit_xor}
-use Rattle.cobs.specs.Feeding.{placed}
 use Rattle.cobs.specs.Sentinel.{masked}
-use Rattle.cobs.specs.Streaming.{HasStreamed}
 use Rattle.cobs.specs.Taking.{with_parsed}
 use Rattle.cobs.specs.declared.dec.progress.Progress.{Progress}
 use Rattle.cobs.proofs.MaskingLemmas.{masked_length}
 use Rattle.cobs.proofs.SourcesLemmas.{clear_byte, masked_positive}
-use Rattle.cobs.proofs.ReadingLemmas.{Reading, reading_on, reading_done, reading_holds, EndsAt, shorter}
+use Rattle.cobs.proofs.ReadingLemmas.{Reading, reading_done, reading_holds, EndsAt, shorter}
 use Rattle.cobs.proofs.ShortLemmas.{done_answer}
-use Rattle.cobs.proofs.WithinLemmas.{reading_new, reading_front, unread_byte, ends_at}
+use Rattle.cobs.proofs.WithinLemmas.{reading_begun, reading_front, unread_byte, ends_at}
 use Rattle.cobs.proofs.dec.in_place.decode_long_in_place.Goals as goal
 use Rattle.cobs.proofs.dec.in_place.decode_long_in_place.Goals.{After-answer_behind}
 
--- a byte more
 module _ (s : ℕ) (source buffer : List ℕ) (read : ℕ) (d : Progress) (r : Reading s source buffer read d) where
-  pub byte_on : (buffer' : List ℕ) (d' : Progress) → ((j : ℕ) → bit_xor s (get_or source j 0) < 256) → get_or source read 0 ≢ s → read < length source
-      → ((p : List ℕ) → HasStreamed d p → HasStreamed d' (p ++ bit_xor s (get_or buffer read 0) ∷ []))
-      → ((p : List ℕ) → HasStreamed d p → buffer' ≡ placed p (bit_xor s (get_or buffer read 0)) buffer) → Reading s source buffer' (read + 1) d'
-  byte_on buffer' d' fits other l stands put =
-      let same : bit_xor s (get_or source read 0) ≡ bit_xor s (get_or buffer read 0) = ap (bit_xor s) (sym (unread_byte s source buffer read d r read (omega arith) l)) in
-      let some : 0 < bit_xor s (get_or buffer read 0) = rw same at (masked_positive s (get_or source read 0) other) in
-      let few : bit_xor s (get_or buffer read 0) < 256 = rw same at (fits read) in
-      reading_on s source buffer read d r buffer' d' (omega (arith, r.long, l)) some few stands put
-
   -- some of the bytes behind aren't the sentinel
   module _ (m n : ℕ) (w : n ≤ length (take m (drop read buffer))) (none : (k : ℕ) → k < n → get_or (take m (drop read buffer)) k 0 ≢ s) where
     pub within_source : read ≤ length source → read + n ≤ length source
@@ -61,27 +50,27 @@ ends_here s read m n read' source buffer buffer' d d' r r' e l w is end =
     let few : n < length (take m (drop read buffer)) = omega (arith, q, count) in
     sym (unread_byte s source buffer read d r (read + n) (omega arith) q) ∙ sym (get_or-drop read buffer n 0) ∙ sym (get_or-take m (drop read buffer) n 0 (omega (arith, few, count, r.long, e))) ∙ end few)
 
-pub take_in-requires : goal.take_in-requires
-take_in-requires g c =
+pub by_code-requires : goal.by_code-requires
+by_code-requires g c =
     masked_positive c.args.sentinel (get_or c.args.buf.now 0 0) c.requires.begins
 
 pub loop-buf-init : goal.loop-buf-init
 loop-buf-init g c =
     let s = c.args.sentinel in
     let source = c.args.buf.now in
-    let fits : (j : ℕ) → bit_xor s (get_or source j 0) < 256 = λ j. xor_of_8 s (get_or source j 0) c.ranges.sentinel.fits (c.requires.bytes j) in
-    let new = reading_new s source c.new-progress.result c.new-progress.ensures (omega arith) in
-    let t = byte_on s source source 0 c.new-progress.result new c.take_in.new.buffer c.take_in.new.self fits c.requires.begins c.requires.some c.take_in.ensures.stands c.take_in.ensures.buffer in
-    record { reading = t; inside = omega (arith, t.long, c.requires.some) }
+    record {
+      reading = reading_begun s source _ c.requires.some (omega arith) c.requires.begins (xor_of_8 s (get_or source 0 0) c.ranges.sentinel.fits (c.requires.bytes 0)) c.by_code.ensures.state refl;
+      inside = omega (arith, c.requires.some);
+    }
 
-pub take_255_within-read-requires-clause-begun : goal.take_255_within-read-requires-clause-begun
-take_255_within-read-requires-clause-begun g c = (_, c.loop-buf.invariant.reading.reads.stands)
+pub take_some_within-read-requires-clause-begun : goal.take_some_within-read-requires-clause-begun
+take_some_within-read-requires-clause-begun g c = (_, c.loop-buf.invariant.reading.reads.stands)
 
-pub take_255_within-read-requires-clause-behind : goal.take_255_within-read-requires-clause-behind
-take_255_within-read-requires-clause-behind g c = omega (arith, shorter _ _ _ c.loop-buf.invariant.reading.reads)
+pub take_some_within-read-requires-clause-behind : goal.take_some_within-read-requires-clause-behind
+take_some_within-read-requires-clause-behind g c = omega (arith, shorter _ _ _ c.loop-buf.invariant.reading.reads)
 
-pub take_255_within-read-requires-clause-clear : goal.take_255_within-read-requires-clause-clear
-take_255_within-read-requires-clause-clear g c =
+pub take_some_within-read-requires-clause-clear : goal.take_some_within-read-requires-clause-clear
+take_some_within-read-requires-clause-clear g c =
     let s = c.args.sentinel in
     let buf = c.loop-buf.buf in
     let read = c.loop-buf.read in
@@ -99,29 +88,29 @@ loop-buf-preserved g c =
     let r = c.loop-buf.invariant.reading in
     let fits : (j : ℕ) → bit_xor s (get_or source j 0) < 256 = λ j. xor_of_8 s (get_or source j 0) c.ranges.sentinel.fits (c.requires.bytes j) in
     let l : read + 255 ≤ length buf = omega (arith, c.loop-buf-test.true, c.loop-buf.invariant.inside) in
-    let f = c.take_255_within-read in
+    let f = c.take_some_within-read in
     let t = reading_front s source buf read c.loop-buf.progress r (read + 255) f.result f.new.self f.new.buffer (omega arith) l fits (f.ensures.front _ r.reads.stands) in
     record { reading = t; inside = omega (arith, t.reads.within, t.long, masked_length s source) }
 
-pub take_some_within-read-requires-clause-begun : goal.take_some_within-read-requires-clause-begun
-take_some_within-read-requires-clause-begun g c = (_, c.loop-read.invariant.reading.reads.stands)
+pub take_some_within-read-requires-in-loop-read-clause-begun : goal.take_some_within-read-requires-in-loop-read-clause-begun
+take_some_within-read-requires-in-loop-read-clause-begun g c = (_, c.loop-read.invariant.reading.reads.stands)
 
-pub take_some_within-read-requires-clause-inside : goal.take_some_within-read-requires-clause-inside
-take_some_within-read-requires-clause-inside g c =
+pub take_some_within-read-requires-in-loop-read-clause-inside : goal.take_some_within-read-requires-in-loop-read-clause-inside
+take_some_within-read-requires-in-loop-read-clause-inside g c =
     let buf = c.loop-buf.buf in
     let read = c.loop-buf.read in
     let r = c.loop-buf.invariant.reading in
-    let end = within_source c.args.sentinel c.args.buf.now buf read c.loop-buf.progress r (length buf - read) c.before_many.result c.before_many.ensures.within c.before_many.ensures.none (omega (arith, c.loop-buf.invariant.inside, r.long)) in
+    let end = within_source c.args.sentinel c.args.buf.now buf read c.loop-buf.progress r (length buf - read) c.before_by_64.result c.before_by_64.ensures.within c.before_by_64.ensures.none (omega (arith, c.loop-buf.invariant.inside, r.long)) in
     omega (arith, end, c.loop-read.invariant.reading.long)
 
-pub take_some_within-read-requires-clause-behind : goal.take_some_within-read-requires-clause-behind
-take_some_within-read-requires-clause-behind g c = omega (arith, shorter _ _ _ c.loop-read.invariant.reading.reads)
+pub take_some_within-read-requires-in-loop-read-clause-behind : goal.take_some_within-read-requires-in-loop-read-clause-behind
+take_some_within-read-requires-in-loop-read-clause-behind g c = omega (arith, shorter _ _ _ c.loop-read.invariant.reading.reads)
 
-pub take_some_within-read-requires-clause-clear : goal.take_some_within-read-requires-clause-clear
-take_some_within-read-requires-clause-clear g c =
+pub take_some_within-read-requires-in-loop-read-clause-clear : goal.take_some_within-read-requires-in-loop-read-clause-clear
+take_some_within-read-requires-in-loop-read-clause-clear g c =
     let buf = c.loop-buf.buf in
     let read = c.loop-buf.read in
-    let later = later_clear c.args.sentinel c.args.buf.now buf read c.loop-buf.progress c.loop-buf.invariant.reading (length buf - read) c.before_many.result c.before_many.ensures.within c.before_many.ensures.none in
+    let later = later_clear c.args.sentinel c.args.buf.now buf read c.loop-buf.progress c.loop-buf.invariant.reading (length buf - read) c.before_by_64.result c.before_by_64.ensures.within c.before_by_64.ensures.none in
     λ k a b. later c.loop-read.buf c.loop-read.read c.loop-read.progress c.loop-read.invariant.reading c.loop-read.invariant.from k a b
 
 pub loop-read-preserved : goal.loop-read-preserved
@@ -133,19 +122,19 @@ loop-read-preserved g c =
     let r = c.loop-buf.invariant.reading in
     let r2 = c.loop-read.invariant.reading in
     let fits : (j : ℕ) → bit_xor s (get_or source j 0) < 256 = λ j. xor_of_8 s (get_or source j 0) c.ranges.sentinel.fits (c.requires.bytes j) in
-    let end : read + c.before_many.result ≤ length source = within_source s source buf read c.loop-buf.progress r (length buf - read) c.before_many.result c.before_many.ensures.within c.before_many.ensures.none (omega (arith, c.loop-buf.invariant.inside, r.long)) in
-    let f = c.take_some_within-read in
+    let end : read + c.before_by_64.result ≤ length source = within_source s source buf read c.loop-buf.progress r (length buf - read) c.before_by_64.result c.before_by_64.ensures.within c.before_by_64.ensures.none (omega (arith, c.loop-buf.invariant.inside, r.long)) in
+    let f = c.take_some_within-read-in-loop-read in
     record {
-      reading = reading_front s source c.loop-read.buf c.loop-read.read c.loop-read.progress r2 (read + c.before_many.result) f.result f.new.self f.new.buffer c.loop-read.invariant.within (omega (arith, end, r2.long)) fits (f.ensures.front _ r2.reads.stands);
+      reading = reading_front s source c.loop-read.buf c.loop-read.read c.loop-read.progress r2 (read + c.before_by_64.result) f.result f.new.self f.new.buffer c.loop-read.invariant.within (omega (arith, end, r2.long)) fits (f.ensures.front _ r2.reads.stands);
       within = omega (arith, f.ensures.within, c.loop-read.invariant.within);
       from = omega (arith, c.loop-read.invariant.from);
     }
 
 ends : (g : _) (c : After-answer_behind g) → EndsAt c.args.sentinel c.loop-read.buf c.loop-read.read
 ends g c =
-    let end : c.loop-read.read ≡ c.loop-buf.read + c.before_many.result = omega (arith, c.loop-read.invariant.within, c.loop-read-test.false) in
-    ends_here c.args.sentinel c.loop-buf.read (length c.loop-buf.buf - c.loop-buf.read) c.before_many.result c.loop-read.read c.args.buf.now c.loop-buf.buf c.loop-read.buf c.loop-buf.progress c.loop-read.progress c.loop-buf.invariant.reading c.loop-read.invariant.reading
-    (omega arith) c.loop-buf.invariant.inside c.before_many.ensures.within end c.before_many.ensures.end
+    let end : c.loop-read.read ≡ c.loop-buf.read + c.before_by_64.result = omega (arith, c.loop-read.invariant.within, c.loop-read-test.false) in
+    ends_here c.args.sentinel c.loop-buf.read (length c.loop-buf.buf - c.loop-buf.read) c.before_by_64.result c.loop-read.read c.args.buf.now c.loop-buf.buf c.loop-read.buf c.loop-buf.progress c.loop-read.progress c.loop-buf.invariant.reading c.loop-read.invariant.reading
+    (omega arith) c.loop-buf.invariant.inside c.before_by_64.ensures.within end c.before_by_64.ensures.end
 
 pub returns-clause-answer : goal.returns-clause-answer
 returns-clause-answer g c =
@@ -154,3 +143,69 @@ returns-clause-answer g c =
 
 pub returns-clause-buffer : goal.returns-clause-buffer
 returns-clause-buffer g c = reading_holds _ _ _ _ _ c.loop-read.invariant.reading (ends g (goal.at.returns-clause-buffer g c).After-answer_behind)
+
+pub loop-read-init : goal.loop-read-init
+loop-read-init g c = record { reading = c.loop-buf.invariant.reading; within = omega arith; from = omega arith }
+
+pub bounds-buf-0 : goal.bounds-buf-0
+bounds-buf-0 g c = grind (arith, common_steps)
+
+pub overflow_sub-buf : goal.overflow_sub-buf
+overflow_sub-buf g c = grind (arith, common_steps)
+
+pub overflow_add-read : goal.overflow_add-read
+overflow_add-read g c = grind (arith, common_steps)
+
+pub slice_bounds-is_clear_255-count : goal.slice_bounds-is_clear_255-count
+slice_bounds-is_clear_255-count g c = grind (arith, common_steps)
+
+pub slice_bounds-is_clear_255-start : goal.slice_bounds-is_clear_255-start
+slice_bounds-is_clear_255-start g c = grind (arith, common_steps)
+
+pub slice_bounds-is_clear_255-end : goal.slice_bounds-is_clear_255-end
+slice_bounds-is_clear_255-end g c = grind (arith, common_steps)
+
+pub is_clear_255-requires : goal.is_clear_255-requires
+is_clear_255-requires g c = grind (arith, common_steps)
+
+pub overflow_add-read-in-loop-buf : goal.overflow_add-read-in-loop-buf
+overflow_add-read-in-loop-buf g c = grind (arith, common_steps)
+
+pub take_some_within-read-requires-clause-some : goal.take_some_within-read-requires-clause-some
+take_some_within-read-requires-clause-some g c = grind (arith, common_steps)
+
+pub overflow_add-read-in-loop-buf-2 : goal.overflow_add-read-in-loop-buf-2
+overflow_add-read-in-loop-buf-2 g c = grind (arith, common_steps)
+
+pub loop-buf-smaller : goal.loop-buf-smaller
+loop-buf-smaller g c = grind (arith, common_steps)
+
+pub slice_bounds-before_by_64-count : goal.slice_bounds-before_by_64-count
+slice_bounds-before_by_64-count g c = grind (arith, common_steps)
+
+pub slice_bounds-before_by_64-start : goal.slice_bounds-before_by_64-start
+slice_bounds-before_by_64-start g c = grind (arith, common_steps)
+
+pub slice_bounds-before_by_64-end : goal.slice_bounds-before_by_64-end
+slice_bounds-before_by_64-end g c = grind (arith, common_steps)
+
+pub before_by_64-requires : goal.before_by_64-requires
+before_by_64-requires g c = grind (arith, common_steps)
+
+pub overflow_add-end : goal.overflow_add-end
+overflow_add-end g c = grind (arith, common_steps)
+
+pub overflow_add-read-in-loop-read : goal.overflow_add-read-in-loop-read
+overflow_add-read-in-loop-read g c = grind (arith, common_steps)
+
+pub loop-read-smaller : goal.loop-read-smaller
+loop-read-smaller g c = grind (arith, common_steps)
+
+pub answer_behind-requires : goal.answer_behind-requires
+answer_behind-requires g c = grind (arith, common_steps)
+
+pub with_parsed-requires : goal.with_parsed-requires
+with_parsed-requires g c = grind (arith, common_steps)
+
+pub shape_of-buf : goal.shape_of-buf
+shape_of-buf g c = grind (arith, common_steps)

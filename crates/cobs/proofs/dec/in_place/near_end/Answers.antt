@@ -1,5 +1,8 @@
-use Rattle.std.proofs.Common.{◌≡◌, ◌≢◌, ◌<◌, ◌≤◌, ℕ, List, length, take, get_or, length-take, sym, ◌∙◌, arith}
+use Rattle.std.proofs.Common.{◌≡◌, ◌≢◌, ◌<◌, ◌≤◌, ℕ, List, length, take, get_or, length-take, ap, sym, ◌∙◌, arith, rules}
 use Rattle.std.proofs.lemmas.List.{get_or-take}
+use Rattle.std.specs.Int.Bits.{xor_self}
+use Rattle.std.specs.Prelude.{bit_xor}
+use Rattle.cobs.proofs.MaskingLemmas.{xor_twice}
 use Rattle.cobs.proofs.dec.in_place.near_end.Goals as goal
 
 -- what was searched is a front
@@ -13,18 +16,29 @@ ends_in : (s n m : ℕ) (bytes : List ℕ) → (n < length (take m bytes) → ge
 ends_in s n m bytes end l w = sym (get_or-take m bytes n 0 l)
     ∙ end (omega (arith, l, w, length-take m bytes))
 
-pub returns-clause-within : goal.returns-clause-within
-returns-clause-within c =
-    omega (arith, c.before_by_64.ensures.within, length-take c.min.result c.args.bytes.now)
+-- the code 01 isn't the sentinel
+not_key : (s byte : ℕ) → byte ≡ bit_xor s 1 → byte ≢ s
+not_key s byte e k =
+    let none : 1 ≡ 0 = sym (xor_twice s 1) ∙ ap (bit_xor s) (sym e ∙ k) ∙ xor_self s in
+    absurd (omega (arith, none))
 
-pub returns-clause-few : goal.returns-clause-few
-returns-clause-few c = omega
-    (arith, c.before_by_64.ensures.within, length-take c.min.result c.args.bytes.now)
+pub returns-then-bytes-one-2-clause-begins : goal.returns-then-bytes-one-2-clause-begins
+returns-then-bytes-one-2-clause-begins c = λ _. not_key c.args.sentinel _ (search rules)
+
+pub returns-clause-begins : goal.returns-clause-begins
+returns-clause-begins c = λ e. none_in c.args.sentinel c.before_by_64.result c.min.result c.args.bytes.now
+    c.before_by_64.ensures.within c.before_by_64.ensures.none 0 (omega (arith, e))
+
+pub returns-then-bytes-one-2-clause-bytes : goal.returns-then-bytes-one-2-clause-bytes
+returns-then-bytes-one-2-clause-bytes c = λ k. (c.type_inv.bytes k).fits
 
 pub returns-clause-none : goal.returns-clause-none
-returns-clause-none c = none_in c.args.sentinel c.before_by_64.result c.min.result c.args.bytes.now
+returns-clause-none c = λ _. none_in c.args.sentinel c.before_by_64.result c.min.result c.args.bytes.now
     c.before_by_64.ensures.within c.before_by_64.ensures.none
 
 pub returns-clause-end : goal.returns-clause-end
 returns-clause-end c = λ few l. ends_in c.args.sentinel c.before_by_64.result c.min.result
     c.args.bytes.now c.before_by_64.ensures.end (omega (arith, few, l)) l
+
+pub returns-clause-bytes : goal.returns-clause-bytes
+returns-clause-bytes c = λ k. (c.type_inv.bytes k).fits

@@ -1,14 +1,13 @@
-use Rattle.std.proofs.Common.{◌∙◌}
+use Rattle.std.proofs.Common.{◌∙◌, ap, length}
+use Rattle.cobs.specs.Frames.{part}
+use Rattle.cobs.specs.InPlace.{overwritten}
+use Rattle.cobs.specs.Sentinel.{masked}
+use Rattle.cobs.specs.Whole.{decoded_into}
+use Rattle.cobs.proofs.SourcesLemmas.{stretch_of}
 use Rattle.cobs.proofs.dec.whole.decode_clear.Goals as goal
 
-pub returns-then-has_room-clause-answer : goal.returns-then-has_room-clause-answer
-returns-then-has_room-clause-answer c = c.decode_whole.ensures.answer
-
-pub returns-then-has_room-clause-dest : goal.returns-then-has_room-clause-dest
-returns-then-has_room-clause-dest c = c.decode_whole.ensures.dest
-
 pub returns-clause-answer : goal.returns-clause-answer
-returns-clause-answer c = c.apart.ensures ∙ c.decode_counted.ensures.answer
+returns-clause-answer c = c.decode_with_sentinel.ensures.answer ∙ ap (decoded_into (length c.args.dest.now)) (stretch_of (masked c.args.sentinel c.args.frame.now) c.requires)
 
 pub returns-clause-dest : goal.returns-clause-dest
-returns-clause-dest c = c.decode_counted.ensures.dest
+returns-clause-dest c = c.decode_with_sentinel.ensures.dest ∙ ap (λ f. overwritten (part f) c.args.dest.now) (stretch_of (masked c.args.sentinel c.args.frame.now) c.requires)

@@ -98,3 +98,90 @@ returns-clause-buffer c =
     let few : n ≤ length bytes - at = omega (arith, c.copy_few_until.ensures.within, length-take (length bytes - at) (drop at bytes)) in
     more c.args.sentinel c.args.place at (length bytes - at) n bytes c.args.buffer.now c.loop-at.buffer c.copy_few_until.new.buffer c.loop-at.invariant.written few (omega (arith, few, c.loop-at.invariant.within)) c.requires c.copy_few_until.ensures.buffer
     ∙ ap (λ b. written_over c.args.place b c.args.buffer.now) (sym (masked_take c.args.sentinel (at + n) bytes))
+
+pub overflow_sub-bytes : goal.overflow_sub-bytes
+overflow_sub-bytes c = grind (arith, common_steps)
+
+pub overflow_add-at : goal.overflow_add-at
+overflow_add-at c = grind (arith, common_steps)
+
+pub slice_bounds-copy_if_clear-count : goal.slice_bounds-copy_if_clear-count
+slice_bounds-copy_if_clear-count c = grind (arith, common_steps)
+
+pub slice_bounds-copy_if_clear-start : goal.slice_bounds-copy_if_clear-start
+slice_bounds-copy_if_clear-start c = grind (arith, common_steps)
+
+pub slice_bounds-copy_if_clear-end : goal.slice_bounds-copy_if_clear-end
+slice_bounds-copy_if_clear-end c = grind (arith, common_steps)
+
+pub overflow_add-place : goal.overflow_add-place
+overflow_add-place c = grind (arith, common_steps)
+
+pub copy_if_clear-requires-clause-count : goal.copy_if_clear-requires-clause-count
+copy_if_clear-requires-clause-count c = grind (arith, common_steps)
+
+pub copy_if_clear-requires-clause-room : goal.copy_if_clear-requires-clause-room
+copy_if_clear-requires-clause-room c = grind (arith, common_steps)
+
+pub overflow_add-at-then-copy_if_clear : goal.overflow_add-at-then-copy_if_clear
+overflow_add-at-then-copy_if_clear c = grind (arith, common_steps)
+
+pub loop-at-smaller-then-copy_if_clear : goal.loop-at-smaller-then-copy_if_clear
+loop-at-smaller-then-copy_if_clear c = grind (arith, common_steps)
+
+pub overflow_add-at-in-loop-at : goal.overflow_add-at-in-loop-at
+overflow_add-at-in-loop-at c = grind (arith, common_steps)
+
+pub slice_bounds-copy_few_until-count : goal.slice_bounds-copy_few_until-count
+slice_bounds-copy_few_until-count c = grind (arith, common_steps)
+
+pub slice_bounds-copy_few_until-start : goal.slice_bounds-copy_few_until-start
+slice_bounds-copy_few_until-start c = grind (arith, common_steps)
+
+pub slice_bounds-copy_few_until-end : goal.slice_bounds-copy_few_until-end
+slice_bounds-copy_few_until-end c = grind (arith, common_steps)
+
+pub overflow_add-place-in-loop-at : goal.overflow_add-place-in-loop-at
+overflow_add-place-in-loop-at c = grind (arith, common_steps)
+
+pub copy_few_until-n-requires-clause-few : goal.copy_few_until-n-requires-clause-few
+copy_few_until-n-requires-clause-few c = grind (arith, common_steps)
+
+pub copy_few_until-n-requires-clause-room : goal.copy_few_until-n-requires-clause-room
+copy_few_until-n-requires-clause-room c = grind (arith, common_steps)
+
+pub overflow_add-result : goal.overflow_add-result
+overflow_add-result c = grind (arith, common_steps)
+
+pub returns-then-n-lt64-clause-within : goal.returns-then-n-lt64-clause-within
+returns-then-n-lt64-clause-within c = grind (arith, common_steps)
+
+pub overflow_add-at-in-loop-at-2 : goal.overflow_add-at-in-loop-at-2
+overflow_add-at-in-loop-at-2 c = grind (arith, common_steps)
+
+pub loop-at-smaller : goal.loop-at-smaller
+loop-at-smaller c = grind (arith, common_steps)
+
+pub slice_bounds-copy_few_until-count-2 : goal.slice_bounds-copy_few_until-count-2
+slice_bounds-copy_few_until-count-2 c = grind (arith, common_steps)
+
+pub slice_bounds-copy_few_until-start-2 : goal.slice_bounds-copy_few_until-start-2
+slice_bounds-copy_few_until-start-2 c = grind (arith, common_steps)
+
+pub slice_bounds-copy_few_until-end-2 : goal.slice_bounds-copy_few_until-end-2
+slice_bounds-copy_few_until-end-2 c = grind (arith, common_steps)
+
+pub overflow_add-place-2 : goal.overflow_add-place-2
+overflow_add-place-2 c = grind (arith, common_steps)
+
+pub copy_few_until-requires-clause-few : goal.copy_few_until-requires-clause-few
+copy_few_until-requires-clause-few c = grind (arith, common_steps)
+
+pub copy_few_until-requires-clause-room : goal.copy_few_until-requires-clause-room
+copy_few_until-requires-clause-room c = grind (arith, common_steps)
+
+pub overflow_add-result-2 : goal.overflow_add-result-2
+overflow_add-result-2 c = grind (arith, common_steps)
+
+pub returns-clause-within : goal.returns-clause-within
+returns-clause-within c = grind (arith, common_steps)

@@ -1,3 +1,4 @@
+use Rattle.std.proofs.lemmas.Grind.{common_steps}
 use Rattle.std.proofs.Common.{◌≡◌, ◌<◌, ◌∙◌, get_or, length, take, length-take, ap, arith}
 use Rattle.std.proofs.lemmas.Bool.{eqb-true}
 use Rattle.std.proofs.lemmas.List.{take_rest, get_or-take}
@@ -48,3 +49,36 @@ returns-clause-at_most c = omega (arith, counted_all c.args.source.now _ _ (omeg
 
 pub returns-clause-without_zero : goal.returns-clause-without_zero
 returns-clause-without_zero c = λ h. counted_all c.args.source.now _ _ (omega arith) c.loop-rest.invariant ∙ frame_reaches c.args.source.now h
+
+pub split_at-requires : goal.split_at-requires
+split_at-requires c = omega (arith, c.loop-rest-test.true)
+
+pub is_clear_255-requires : goal.is_clear_255-requires
+is_clear_255-requires c = omega (arith, c.loop-rest-test.true, length-take 255 c.loop-rest.rest.now)
+
+pub loop-rest-smaller-then-is_clear_255 : goal.loop-rest-smaller-then-is_clear_255
+loop-rest-smaller-then-is_clear_255 c = grind (arith, common_steps)
+
+pub memrchr-requires : goal.memrchr-requires
+memrchr-requires c = grind (arith, common_steps)
+
+pub overflow_add-rest : goal.overflow_add-rest
+overflow_add-rest c = grind (arith, common_steps)
+
+pub slice_bounds-rest-count : goal.slice_bounds-rest-count
+slice_bounds-rest-count c = grind (arith, common_steps)
+
+pub slice_bounds-rest-start : goal.slice_bounds-rest-start
+slice_bounds-rest-start c = grind (arith, common_steps)
+
+pub slice_bounds-rest-end : goal.slice_bounds-rest-end
+slice_bounds-rest-end c = grind (arith, common_steps)
+
+pub loop-rest-smaller-in-Some : goal.loop-rest-smaller-in-Some
+loop-rest-smaller-in-Some c = grind (arith, common_steps)
+
+pub loop-rest-smaller : goal.loop-rest-smaller
+loop-rest-smaller c = grind (arith, common_steps)
+
+pub overflow_add-result : goal.overflow_add-result
+overflow_add-result c = grind (arith, common_steps)

@@ -1,0 +1,36 @@
+use Rattle.std.proofs.Common.{refl, ◌∙◌, ap, length}
+use Rattle.cobs.specs.Frames.{part}
+use Rattle.cobs.specs.InPlace.{overwritten}
+use Rattle.cobs.specs.Whole.{frame_in, decoded_from}
+use Rattle.cobs.proofs.PushingLemmas.{told_fitting, over_fitting}
+use Rattle.cobs.proofs.dec.whole.decode_slowly.Goals as goal
+
+pub returns-in-Some-clause-answer : goal.returns-in-Some-clause-answer
+returns-in-Some-clause-answer c =
+    c.with_parsed.ensures
+    ∙ told_fitting c.args.source.now c.behind_zeros-rest.result.now c.args.dest.now c.decode_part.new.dest c.in-Some.answer c.in-Some.end c.min-parsed.result c.behind_zeros-rest.ensures.value c.in-Some.ensures.done c.min-parsed.ensures
+
+pub returns-in-Some-clause-dest : goal.returns-in-Some-clause-dest
+returns-in-Some-clause-dest c =
+    over_fitting c.args.source.now c.behind_zeros-rest.result.now c.args.dest.now c.decode_part.new.dest c.in-Some.answer c.in-Some.end c.behind_zeros-rest.ensures.value c.in-Some.ensures.done
+
+pub returns-in-None-clause-answer : goal.returns-in-None-clause-answer
+returns-in-None-clause-answer c = c.decode_pushed-in-None.ensures.answer ∙ ap (λ d. decoded_from (length d) c.args.source.now) (c.in-None.ensures.same refl)
+
+pub returns-in-None-clause-dest : goal.returns-in-None-clause-dest
+returns-in-None-clause-dest c = c.decode_pushed-in-None.ensures.dest ∙ ap (overwritten (part (frame_in c.args.source.now))) (c.in-None.ensures.same refl)
+
+pub returns-then-begins_with_row-clause-answer : goal.returns-then-begins_with_row-clause-answer
+returns-then-begins_with_row-clause-answer c = c.decode_pushed.ensures.answer
+
+pub returns-then-begins_with_row-clause-dest : goal.returns-then-begins_with_row-clause-dest
+returns-then-begins_with_row-clause-dest c = c.decode_pushed.ensures.dest
+
+pub decode_pushed-requires-clause-rest : goal.decode_pushed-requires-clause-rest
+decode_pushed-requires-clause-rest c = c.behind_zeros-rest.ensures.value
+
+pub decode_pushed-requires-in-None-clause-rest : goal.decode_pushed-requires-in-None-clause-rest
+decode_pushed-requires-in-None-clause-rest c = c.behind_zeros-rest.ensures.value
+
+pub decode_part-requires-clause-all : goal.decode_part-requires-clause-all
+decode_part-requires-clause-all c = c.reach.ensures.all

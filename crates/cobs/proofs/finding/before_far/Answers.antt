@@ -1,6 +1,0 @@
-use Rattle.std.proofs.Common.{arith}
-use Rattle.std.proofs.lemmas.Grind.{moves}
-use Rattle.cobs.proofs.finding.before_far.Goals as goal
-
-pub returns-clause-none : goal.returns-clause-none
-returns-clause-none c = grind (arith, moves)
