@@ -6,6 +6,7 @@ use std::alloc::Global;
 pub enum Operator {
     Open,
     Left,
+    Right,
     Plus,
     Minus,
     Times,
@@ -31,7 +32,25 @@ fn doubled(number: u64, times: u64) -> Option<u64> {
     Some(doubled)
 }
 
+/// A number halved so many times. What shifts all bits out isn't computed, as Rust has it.
+fn halved(number: u64, times: u64) -> Option<u64> {
+    if times < 64 {
+        Some(number >> times)
+    } else {
+        None
+    }
+}
+
 impl Operator {
+    /// The shift that these two words are.
+    pub fn shift(first: &str, second: &str) -> Option<Operator> {
+        match (first, second) {
+            ("<", "<") => Some(Operator::Left),
+            (">", ">") => Some(Operator::Right),
+            _ => None,
+        }
+    }
+
     /// The operator that this word is.
     pub fn of(word: &str) -> Option<Operator> {
         Some(match word {
@@ -48,7 +67,7 @@ impl Operator {
     fn rank(self) -> u8 {
         match self {
             Operator::Open => 0,
-            Operator::Left => 1,
+            Operator::Left | Operator::Right => 1,
             Operator::Plus | Operator::Minus => 2,
             Operator::Times | Operator::By | Operator::Rest => 3,
         }
@@ -59,6 +78,7 @@ impl Operator {
         match self {
             Operator::Open => None,
             Operator::Left => doubled(first, second),
+            Operator::Right => halved(first, second),
             Operator::Plus => first.checked_add(second),
             Operator::Minus => first.checked_sub(second),
             Operator::Times => first.checked_mul(second),

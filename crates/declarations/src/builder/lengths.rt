@@ -108,10 +108,10 @@ impl<'a> Reading<'a> {
                 }
             }
             [first, second, rest @ ..]
-                if first.text.as_str() == "<" && second.text.as_str() == "<" => {
+                if Operator::shift(first.text.as_str(), second.text.as_str()).is_some() => {
                 self.rest = rest;
                 self.wants_number = true;
-                self.sum.put_operator(Operator::Left)
+                self.sum.put_operator(Operator::shift(first.text.as_str(), second.text.as_str())?)
             }
             [word, rest @ ..] => {
                 self.rest = rest;
