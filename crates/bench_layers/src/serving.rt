@@ -115,9 +115,9 @@ pub extern "C" fn calls_c_listen_sealed(
                     sum: 0,
                 },
             },
-            server: Server::<Out<'_>, Numbered<Request>, Numbered<Reply>, FRAME>::new(Sender::new(
-                Out::new(room, EACH, None),
-            )),
+            server: Server::<Out<'_>, Numbered<Request, 0>, Numbered<Reply, 0>, FRAME>::new(
+                Sender::new(Out::new(room, EACH, None)),
+            ),
             unsent: false,
         },
     };

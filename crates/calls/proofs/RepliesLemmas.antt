@@ -1,7 +1,7 @@
 -- What a server executes and replies.
 use Rattle.std.proofs.Common.{◌≡◌, ℕ, ◌+◌, ◌<◌, ◌≤◌, Bool, true, false, cond, eqb, List, [], ◌∷◌, ◌++◌, Option, Some, None, refl, sym, ap, ◌∙◌, subst, inl, inr, ◌⊎◌, arith}
 use Rattle.std.proofs.lemmas.Bool.{eqb-true}
-use Rattle.calls.specs.Calls.{Execution, call, next_of, no_call, notices, again, Serves, ServesAll, known, fresh, no_request, request, KeptFor, Rises, In}
+use Rattle.calls.specs.Calls.{Execution, call, next_of, no_call, notices, again, Serves, ServesAll, greatest, known, fresh, no_request, request, KeptFor, Rises, In}
 use Rattle.calls.specs.ServedLaws.{in_joined, in_before, in_first, alone, rises, which}
 
 -- a notice goes out by the greatest number
@@ -42,7 +42,11 @@ module _ {Q R : Type 0} (equal : Q → Q → Bool) (passes : ℕ → ℕ → Opt
       → ServesAll equal passes kept qs log out later
       → (p : ℕ × R) → p.0 < no_call → In p out → Found p kept qs log
   found no_request p z i = absurd i
-  found (request {kept = kept} {q = q} {out = out} (known l) h) p z i =
+  found (request (greatest l) h) p z i = elim (found h p z i) [
+    | inl f ↦ inl (f.0, f.1, inr f.2)
+    | inr f ↦ inr (f.0, inr f.1, f.2)
+  ]
+  found (request {kept = kept} {q = q} {out = out} (known m l) h) p z i =
       elim (in_joined p (again equal passes kept q.0 q.1) out i) [
         | inl a ↦ (let r = repeated kept q.0 q.1 p z a in inr (q.1, inl (ap (λ n. (n, q.1)) r.0), r.1))
         | inr a ↦ elim (found h p z a) [
@@ -50,9 +54,9 @@ module _ {Q R : Type 0} (equal : Q → Q → Bool) (passes : ℕ → ℕ → Opt
           | inr f ↦ inr (f.0, inr f.1, f.2)
         ]
       ]
-  found (request {kept = kept} {q = q} {qs = qs} {log = log} (fresh says l) h) p z (inl a) =
+  found (request {kept = kept} {q = q} {qs = qs} {log = log} (fresh says m l) h) p z (inl a) =
       said_now p q says kept qs log (ap (λ x. x.0) a) (ap (λ x. x.1) a)
-  found (request {kept = kept} {q = q} {qs = qs} {log = log} (fresh says l) h) p z (inr a) =
+  found (request {kept = kept} {q = q} {qs = qs} {log = log} (fresh says m l) h) p z (inr a) =
       elim (found h p z a) [
         | inl f ↦ inl (f.0, inr f.1, inr f.2)
         | inr f ↦ said_now p q says kept qs log (sym f.2.0) (sym f.2.2)
@@ -64,8 +68,9 @@ module _ {Q R : Type 0} (equal : Q → Q → Bool) (passes : ℕ → ℕ → Opt
       → ServesAll equal passes kept qs log out later
       → (e : Execution Q R) → later ≡ Some e → (kept ≡ Some e) ⊎ In e log
   kept_before no_request e is = inl is
-  kept_before (request (known l) h) e is = kept_before h e is
-  kept_before (request (fresh says l) h) e is = elim (kept_before h e is) [
+  kept_before (request (greatest l) h) e is = kept_before h e is
+  kept_before (request (known m l) h) e is = kept_before h e is
+  kept_before (request (fresh says m l) h) e is = elim (kept_before h e is) [
     | inl m ↦ inr (inl (sym (which m)))
     | inr i ↦ inr (inr i)
   ]
@@ -77,14 +82,15 @@ module _ {Q R : Type 0} (equal : Q → Q → Bool) (passes : ℕ → ℕ → Opt
       → ServesAll equal passes None before log out mid → Serves equal passes mid n q now said later
       → In p said → (p.0 ≡ n) × (executed : Q) × ((executed ≡ q) ⊎ (equal executed q ≡ true))
       × In (call n executed p.1) (log ++ now)
-  to_the_same {log = log} {n = n} {q = q} p z h (fresh says l) (inl e) = (
+  to_the_same {log = log} {n = n} {q = q} p z h (fresh says m l) (inl e) = (
     ap (λ x. x.0) e,
     q,
     inl refl,
     in_before (call n q p.1) log (call n q says ∷ []) (inl (ap (λ x. call n q x.1) e)),
   )
-  to_the_same p z h (fresh says l) (inr e) = absurd e
-  to_the_same {log = log} {mid = mid} {n = n} {q = q} p z h (known l) i =
+  to_the_same p z h (fresh says m l) (inr e) = absurd e
+  to_the_same p z h (greatest l) i = absurd i
+  to_the_same {log = log} {mid = mid} {n = n} {q = q} p z h (known m l) i =
       let r = repeated mid n q p z i in kept_one mid refl r.0 r.1
     where
       kept_one : (o : Option (Execution Q R)) → mid ≡ o → p.0 ≡ n → KeptFor equal o p.0 q p.1
@@ -105,13 +111,25 @@ module _ {Q R : Type 0} (equal : Q → Q → Bool) (passes : ℕ → ℕ → Opt
       → ServesAll equal passes kept qs log out later
       → (p : ℕ × R) → p.0 < no_call → In p out → p.0 < next_of later
   below no_request p z i = absurd i
-  below (request {kept = kept} {q = q} {out = out} (known l) h) p z i =
+  below (request (greatest l) h) p z i = below h p z i
+  below (request {kept = kept} {q = q} {out = out} (known m l) h) p z i =
       elim (in_joined p (again equal passes kept q.0 q.1) out i) [
         | inl a ↦ omega (arith, l, (repeated kept q.0 q.1 p z a).0, (rises h).1)
         | inr a ↦ below h p z a
       ]
-  below (request (fresh says l) h) p z (inl a) = omega (arith, ap (λ x. x.0) a, (rises h).1)
-  below (request (fresh says l) h) p z (inr a) = below h p z a
+  below (request (fresh says m l) h) p z (inl a) = omega (arith, ap (λ x. x.0) a, (rises h).1)
+  below (request (fresh says m l) h) p z (inr a) = below h p z a
+
+  -- what is executed has no greatest number
+  pub are_calls : {kept later : Option (Execution Q R)} {qs : List (ℕ × Q)}
+      {log : List (Execution Q R)} {out : List (ℕ × R)}
+      → ServesAll equal passes kept qs log out later
+      → (e : Execution Q R) → In e log → e.number < no_call
+  are_calls no_request e i = absurd i
+  are_calls (request (greatest l) h) e i = are_calls h e i
+  are_calls (request (known m l) h) e i = are_calls h e i
+  are_calls (request {q = q} (fresh says m l) h) e (inl i) = (let k : e.number ≡ q.0 = ap (λ x. x.number) i in omega (arith, k, m))
+  are_calls (request (fresh says m l) h) e (inr i) = are_calls h e i
 
 module _ {Q R : Type 0} where
   pub above : (n : ℕ) (log : List (Execution Q R)) → Rises n log → (e : Execution Q R) → In e log → n ≤ e.number

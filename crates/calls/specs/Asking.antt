@@ -3,6 +3,7 @@ use Rattle.std.specs.Prelude.{◌≡◌, ℕ, ◌+◌, ◌<◌, ◌≤◌, List,
 use Rattle.calls.specs.Calls.{no_call, OnePerNumber}
 use Rattle.link.specs.declared.sender.Sender.{Sender}
 use Rattle.link.specs.declared.sender.SendError.{SendError}
+use Rattle.link.specs.declared.sender.SendError.TheVariants.{Refused, Line}
 use Rattle.calls.specs.declared.client.Client.{Client}
 use Rattle.calls.specs.declared.client.CallError.{CallError}
 use Rattle.calls.specs.declared.client.CallError.TheVariants.{Full, Idle, Unsent}
@@ -56,10 +57,11 @@ IsNumbered a = IfSome a.pending (λ p. p.0 < a.next)
 abbrev pub AsksOnePerNumber : (Q : Type 0) → Type 0
 AsksOnePerNumber Q = (a : Asker Q) (steps : List (Step Q)) → IsNumbered a → OnePerNumber (all_tried a steps)
 
--- what a call did, by its answer: a number is left exactly where it isn't full
+-- what a call did, by its answer: a number is left exactly where it isn't full; one that is refused begins no call
 abbrev pub IsCalled : {Q : Type 0} → Asker Q → Asker Q → Q → Result (Unit {0}) CallError → (same : Type 0) → (ℕ × Q → Result (Unit {0}) SendError → Type 0) → Type 0
 IsCalled old new q (Ok u) same sends = (new ≡ stepped old (calls q)) × sends (old.next, q) (Ok tt) × (old.next < no_call)
-IsCalled old new q (Err (Unsent e)) same sends = (new ≡ stepped old (calls q)) × sends (old.next, q) (Err e) × (old.next < no_call)
+IsCalled old new q (Err (Unsent (Refused e))) same sends = (new ≡ old) × sends (old.next, q) (Err (Refused e)) × (old.next < no_call)
+IsCalled old new q (Err (Unsent Line)) same sends = (new ≡ stepped old (calls q)) × sends (old.next, q) (Err Line) × (old.next < no_call)
 IsCalled old new q (Err Full) same sends = (new ≡ old) × same × (no_call ≤ old.next)
 IsCalled old new q (Err Idle) same sends = ⊥
 

@@ -32,13 +32,15 @@ abbrev pub again : {Q R : Type 0} → (Q → Q → Bool) → (ℕ → ℕ → Op
 again equal passes None n q = []
 again equal passes (Some e) n q = if e.number == n then (if equal e.asks q then (e.number, e.says) ∷ [] else notices (passes n e.number)) else notices (passes n e.number)
 
--- One request: what is executed for it, what is replied, and what is kept then. A number below the least is not executed.
+-- One request: what is executed for it, what is replied, and what is kept then. A number below the least is not executed, nor is the
+-- greatest, of which nothing is said.
 pub data Serves {Q R : Type 0} (equal : Q → Q → Bool) (passes : ℕ → ℕ → Option R)
     (kept : Option (Execution Q R)) (n : ℕ) (asks : Q)
     : List (Execution Q R) → List (ℕ × R) → Option (Execution Q R) → Type 0 where
-  known : n < next_of kept
+  greatest : no_call ≤ n → Serves equal passes kept n asks [] [] kept
+  known : n < no_call → n < next_of kept
       → Serves equal passes kept n asks [] (again equal passes kept n asks) kept
-  fresh : (says : R) → next_of kept ≤ n
+  fresh : (says : R) → n < no_call → next_of kept ≤ n
       → Serves equal passes kept n asks (call n asks says ∷ []) ((n, says) ∷ [])
       (Some (call n asks says))
 
@@ -67,6 +69,11 @@ ExecutesOnce Q R = (equal : Q → Q → Bool) (passes : ℕ → ℕ → Option R
 abbrev pub In : {A : Type 0} → A → List A → Type 0
 In x [] = ⊥
 In x (y ∷ ys) = (x ≡ y) ⊎ In x ys
+
+-- Whatever requests are served, none by the greatest number is executed.
+abbrev pub ExecutesCalls : (Q R : Type 0) → Type 0
+ExecutesCalls Q R = (equal : Q → Q → Bool) (passes : ℕ → ℕ → Option R) (kept later : Option (Execution Q R)) (qs : List (ℕ × Q)) (log : List (Execution Q R)) (out : List (ℕ × R)) → ServesAll equal passes kept qs log out later
+    → (e : Execution Q R) → In e log → e.number < no_call
 
 -- a number stands for one request, however often it is sent
 abbrev pub OnePerNumber : {Q : Type 0} → List (ℕ × Q) → Type 0

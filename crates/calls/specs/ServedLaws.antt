@@ -12,18 +12,18 @@ use Rattle.cobs.specs.Frames.{shortest_frame}
 use Rattle.postcard.specs.Written.{UnlessRefused}
 use Rattle.postcard_tree.specs.declared.error.Error.{Error}
 use Rattle.link.specs.Fates.{IsSendOf, fate_of, broke, Did, FewBroke, SendsAll}
-use Rattle.link.specs.Lemmas.SendLaws.{none_sent, sends_then}
+use Rattle.link.specs.Lemmas.SendLaws.{none_sent, sends_then, calls_of_one}
 use Rattle.link.specs.declared.sender.SendError.{SendError}
 use Rattle.link.specs.declared.session.Fate.{Fate}
 use Rattle.link.specs.declared.receiver.Answer.{Answer}
 use Rattle.link.specs.declared.receiver.Answer.TheVariants.{Value, Damaged, TooLong, Cut}
 use Rattle.link.specs.Each.{HearerLaws}
-use Rattle.calls.specs.Calls.{Execution, call, next_of, no_call, notices, again, ServesAll, known, fresh, no_request, request, Rises, In}
+use Rattle.calls.specs.Calls.{Execution, call, next_of, no_call, notices, again, ServesAll, greatest, known, fresh, no_request, request, Rises, In}
 use Rattle.link.specs.Senders.{SenderPlace, sender_place, HasSent}
 use Rattle.calls.specs.Serving.{kept_of, sender_of, SaysAll, Runs, IsServed, IsPassed, IsReplied, Executes, TakesAnswer, ServiceHears, requests_of, unsent_by_result, unsent_by, unsent_by_fate, unsent_of}
 use Rattle.calls.specs.declared.service.Service.{Service}
 use Rattle.calls.specs.declared.server.Served.{Served}
-use Rattle.calls.specs.declared.server.Served.TheVariants.{Executed, Again, Other, Passed}
+use Rattle.calls.specs.declared.server.Served.TheVariants.{Executed, Again, Other, Passed, NoCall}
 
 -- What is in lists one behind the other.
 pub in_joined : {A : Type 0} (x : A) (xs ys : List A) → In x (xs ++ ys) → In x xs ⊎ In x ys
@@ -105,6 +105,7 @@ module _ {V : Type 0} (limit : ℕ) (writes : V → Option Tree) (valid : V → 
             once = omega (arith, o.2);
             calls = h.calls;
           });
+          few = calls_of_one (limit + 2) old.line.calls_left new.line.calls_left v h.few;
           then = h.then;
         },
       )
@@ -147,8 +148,9 @@ module _ {Q R : Type 0} {equal : Q → Q → Bool} {passes : ℕ → ℕ → Opt
       {out : List (ℕ × R)} → ServesAll equal passes kept qs log out later
       → Rises (next_of kept) log × (next_of kept ≤ next_of later)
   rises no_request = (tt, omega arith)
-  rises (request (known l) h) = rises h
-  rises (request (fresh says l) h) = let r = rises h in ((l, r.0), omega (arith, l, r.1))
+  rises (request (greatest l) h) = rises h
+  rises (request (known m l) h) = rises h
+  rises (request (fresh says m l) h) = let r = rises h in ((l, r.0), omega (arith, l, r.1))
 
   -- Requests, and then requests.
   pub serves_then : {kept mid later : Option (Execution Q R)} {qs ps : List (ℕ × Q)}
@@ -162,12 +164,18 @@ module _ {Q R : Type 0} {equal : Q → Q → Bool} {passes : ℕ → ℕ → Opt
 
   -- One request that isn't executed.
   knows : {kept later : Option (Execution Q R)} {n : ℕ} {q : Q} (out : List (ℕ × R))
-      → n < next_of kept → again equal passes kept n q ≡ out → later ≡ kept
+      → n < no_call → n < next_of kept → again equal passes kept n q ≡ out → later ≡ kept
       → ServesAll equal passes kept ((n, q) ∷ []) [] out later
-  knows {kept = kept} {n = n} {q = q} out l is e =
+  knows {kept = kept} {n = n} {q = q} out m l is e =
       let says = again equal passes kept n q in
       rw (e, ← is, ← append-nil says)
-      (request {q = (n, q)} {first = []} {log = []} {says = says} {out = []} (known l) no_request)
+      (request {q = (n, q)} {first = []} {log = []} {says = says} {out = []} (known m l) no_request)
+
+  -- One by the greatest number.
+  passes_by : {kept later : Option (Execution Q R)} {n : ℕ} {q : Q} → no_call ≤ n → later ≡ kept
+      → ServesAll equal passes kept ((n, q) ∷ []) [] [] later
+  passes_by {n = n} {q = q} l e =
+      rw e (request {q = (n, q)} {first = []} {log = []} {says = []} {out = []} (greatest l) no_request)
 
 module _ {A Q R : Type 0} (executes : A → Q → R → A → Type 0) (equal : Q → Q → Bool) (passes : ℕ → ℕ → Option R) (limit : ℕ) (writes : ℕ × R → Option Tree) (valid : ℕ × R → Type 0) where
   -- what such a service does
@@ -244,57 +252,74 @@ module _ {A Q R : Type 0} (executes : A → Q → R → A → Type 0) (equal : Q
 
   -- a request for which nothing was done, and of which this was said
   unserved : (old new : A) (kept later : Option (Execution Q R)) (u v : Bool) (here there : SenderPlace) (n : ℕ) (q : Q) (said : Option R) (same : Type 0) (r : Option (Result (Unit {0}) SendError))
-      → n < next_of kept → again equal passes kept n q ≡ notices said → later ≡ kept → new ≡ old → (same → there ≡ here)
+      → n < no_call → n < next_of kept → again equal passes kept n q ≡ notices said → later ≡ kept → new ≡ old → (same → there ≡ here)
       → IsPassed said same (λ p x. HasSent limit (writes p) (valid p) here there x) r → v ≡ unsent_by u (Passed r)
       → Makes old new kept later u v here there ((n, q) ∷ [])
-  unserved old new kept later u v here there n q None same None l is e stays unsaid z t =
+  unserved old new kept later u v here there n q None same None m l is e stays unsaid z t =
       let stands = unsaid z in record {
         log = [];
         out = [];
         fates = [];
-        served = knows [] l is e;
+        served = knows [] m l is e;
         rises = tt;
         ran = sym stays;
         replied = subst (λ z. SaysAll limit writes valid here z [] []) (sym stands) (says_none limit writes valid here);
         sentinel = ap (λ z. z.sentinel) stands;
         told = t;
       }
-  unserved old new kept later u v here there n q None same (Some r) l is e stays unsaid z t = absurd z
-  unserved old new kept later u v here there n q (Some said) same None l is e stays unsaid z t = absurd z
-  unserved old new kept later u v here there n q (Some said) same (Some r) l is e stays unsaid z t =
+  unserved old new kept later u v here there n q None same (Some r) m l is e stays unsaid z t = absurd z
+  unserved old new kept later u v here there n q (Some said) same None m l is e stays unsaid z t = absurd z
+  unserved old new kept later u v here there n q (Some said) same (Some r) m l is e stays unsaid z t =
       one_said old new kept later u v here there n q (no_call, said) [] r z
-      (knows ((no_call, said) ∷ []) l is e) (sym stays) t
+      (knows ((no_call, said) ∷ []) m l is e) (sym stays) t
+
+  -- a request that is no call's
+  not_called : (old new : A) (kept later : Option (Execution Q R)) (u v : Bool) (here there : SenderPlace) (n : ℕ) (q : Q)
+      → no_call ≤ n → later ≡ kept → new ≡ old → there ≡ here → v ≡ u → Makes old new kept later u v here there ((n, q) ∷ [])
+  not_called old new kept later u v here there n q l e stays stands t = record {
+    log = [];
+    out = [];
+    fates = [];
+    served = passes_by l e;
+    rises = tt;
+    ran = sym stays;
+    replied = subst (λ z. SaysAll limit writes valid here z [] []) (sym stands) (says_none limit writes valid here);
+    sentinel = ap (λ z. z.sentinel) stands;
+    told = t;
+  }
 
   -- what one request did
   one_served : (old new : A) (kept later : Option (Execution Q R)) (u v : Bool) (here there : SenderPlace) (n : ℕ) (q : Q) (same : Type 0) (r : Served) → (same → there ≡ here)
       → IsServed executes equal old new kept later n q r → IsReplied passes same (λ p x. HasSent limit (writes p) (valid p) here there x) later n r → v ≡ unsent_by u r
       → Makes old new kept later u v here there ((n, q) ∷ [])
-  one_served old new kept later u v here there n q same (Executed x) unsaid (l, says, ran, e) (p, f, said) t =
+  one_served old new kept later u v here there n q same (Executed x) unsaid (m, l, says, ran, e) (p, f, said) t =
       let is : p ≡ call n q says = which (sym f ∙ e) in
       let said_so = subst (λ (v : Execution Q R). HasSent limit (writes (v.number, v.says)) (valid (v.number, v.says)) here there x) is said in
       let served = request {q = (n, q)} {first = call n q says ∷ []} {log = []}
-      {says = (n, says) ∷ []} {out = []} (fresh says l) no_request in
+      {says = (n, says) ∷ []} {out = []} (fresh says m l) no_request in
       one_said old new kept later u v here there n q (n, says) (call n q says ∷ []) x said_so
       (rw e served) (new, ran, refl) t
-  one_served old new kept later u v here there n q same (Again x) unsaid ((k, is, numbered, alike), e, stays) (p, f, said) t =
+  one_served old new kept later u v here there n q same (Again x) unsaid ((m, k, is, numbered, alike), e, stays) (p, f, said) t =
       let kept_is : p ≡ k = which (sym f ∙ e ∙ is) in
       let said_so = subst (λ (v : Execution Q R). HasSent limit (writes (v.number, v.says)) (valid (v.number, v.says)) here there x) kept_is said in
       let d : next_of kept ≡ k.number + 1 = ap next_of is in
       let same = ap (λ o. again equal passes o n q) is ∙ said_again k n q numbered alike in
       one_said old new kept later u v here there n q (k.number, k.says) [] x said_so
-      (knows ((k.number, k.says) ∷ []) (omega (arith, d, numbered)) same e) (sym stays) t
-  one_served old new kept later u v here there n q same (Other r) unsaid ((k, is, numbered, differs), e, stays) (p, f, z) t =
+      (knows ((k.number, k.says) ∷ []) m (omega (arith, d, numbered)) same e) (sym stays) t
+  one_served old new kept later u v here there n q same (Other r) unsaid ((m, k, is, numbered, differs), e, stays) (p, f, z) t =
       let kept_is : p ≡ k = which (sym f ∙ e ∙ is) in
-      unserved old new kept later u v here there n q (passes n k.number) same r (let d : next_of kept ≡ k.number + 1 = ap next_of is in omega (arith, d, numbered)) (ap (λ o. again equal passes o n q) is ∙ not_again k n q differs) e stays unsaid
+      unserved old new kept later u v here there n q (passes n k.number) same r m (let d : next_of kept ≡ k.number + 1 = ap next_of is in omega (arith, d, numbered)) (ap (λ o. again equal passes o n q) is ∙ not_again k n q differs) e stays unsaid
       (subst (λ (y : Execution Q R). IsPassed (passes n y.number) same (λ p x. HasSent limit (writes p) (valid p) here there x) r) kept_is z) (t ∙ either u r)
     where
       either : (u : Bool) (r : Option (Result (Unit {0}) SendError)) → unsent_by u (Other r) ≡ unsent_by u (Passed r)
       either u None = refl
       either u (Some x) = refl
-  one_served old new kept later u v here there n q same (Passed r) unsaid (k, is, l, e, stays) (p, f, z) t =
+  one_served old new kept later u v here there n q same (Passed r) unsaid (m, k, is, l, e, stays) (p, f, z) t =
       let kept_is : p ≡ k = which (sym f ∙ e ∙ is) in
-      unserved old new kept later u v here there n q (passes n k.number) same r (let d : next_of kept ≡ k.number + 1 = ap next_of is in omega (arith, d, l)) (ap (λ o. again equal passes o n q) is ∙ passed k n q l) e stays unsaid
+      unserved old new kept later u v here there n q (passes n k.number) same r m (let d : next_of kept ≡ k.number + 1 = ap next_of is in omega (arith, d, l)) (ap (λ o. again equal passes o n q) is ∙ passed k n q l) e stays unsaid
       (subst (λ (y : Execution Q R). IsPassed (passes n y.number) same (λ p x. HasSent limit (writes p) (valid p) here there x) r) kept_is z) t
+  one_served old new kept later u v here there n q same NoCall unsaid (l, e, stays) z t =
+      not_called old new kept later u v here there n q l e stays (unsaid z) t
 
   -- nothing was served
   stays_as : (old new : A) (kept later : Option (Execution Q R)) (u v : Bool) (here there : SenderPlace) → new ≡ old → later ≡ kept → v ≡ u → there ≡ here → Makes old new kept later u v here there []

@@ -16,9 +16,9 @@ use Rattle.calls.specs.declared.server.Server.{Server}
 use Rattle.calls.specs.declared.server.LastCall.{LastCall}
 use Rattle.calls.specs.declared.service.Service.{Service}
 use Rattle.calls.specs.declared.server.Served.{Served}
-use Rattle.calls.specs.declared.server.Served.TheVariants.{Executed, Again, Other, Passed}
+use Rattle.calls.specs.declared.server.Served.TheVariants.{Executed, Again, Other, Passed, NoCall}
 use Rattle.calls.specs.declared.server.Standing.{Standing}
-use Rattle.calls.specs.declared.server.Standing.TheVariants.{Above, Same, Changed, Below}
+use Rattle.calls.specs.declared.server.Standing.TheVariants.{Greatest, Above, Same, Changed, Below}
 
 -- the last call, as it is kept
 abbrev pub kept_as : {Q R : Type 0} → Option (LastCall Q R) → Option (Execution Q R)
@@ -44,17 +44,19 @@ Runs executes old e new = executes old e.asks e.says new
 
 -- how a request stands to the last one that was executed
 abbrev pub IsStanding : {Q R : Type 0} → (Q → Q → Bool) → Option (Execution Q R) → ℕ → Q → Standing → Type 0
-IsStanding equal kept number asks Above = next_of kept ≤ number
-IsStanding {Q} {R} equal kept number asks Same = (e : Execution Q R) × (kept ≡ Some e) × (e.number ≡ number) × (equal e.asks asks ≡ true)
-IsStanding {Q} {R} equal kept number asks Changed = (e : Execution Q R) × (kept ≡ Some e) × (e.number ≡ number) × (equal e.asks asks ≡ false)
-IsStanding {Q} {R} equal kept number asks (Below last) = (e : Execution Q R) × (kept ≡ Some e) × (number < e.number) × (last ≡ e.number)
+IsStanding equal kept number asks Greatest = no_call ≤ number
+IsStanding equal kept number asks Above = (number < no_call) × (next_of kept ≤ number)
+IsStanding {Q} {R} equal kept number asks Same = (number < no_call) × (e : Execution Q R) × (kept ≡ Some e) × (e.number ≡ number) × (equal e.asks asks ≡ true)
+IsStanding {Q} {R} equal kept number asks Changed = (number < no_call) × (e : Execution Q R) × (kept ≡ Some e) × (e.number ≡ number) × (equal e.asks asks ≡ false)
+IsStanding {Q} {R} equal kept number asks (Below last) = (number < no_call) × (e : Execution Q R) × (kept ≡ Some e) × (number < e.number) × (last ≡ e.number)
 
 -- what is executed and kept, by the server's answer
 abbrev pub IsServed : {A Q R : Type 0} → (A → Q → R → A → Type 0) → (Q → Q → Bool) → A → A → Option (Execution Q R) → Option (Execution Q R) → ℕ → Q → Served → Type 0
-IsServed {R = R} executes equal old new kept later number asks (Executed r) = (next_of kept ≤ number) × (says : R) × executes old asks says new × (later ≡ Some (call number asks says))
+IsServed {R = R} executes equal old new kept later number asks (Executed r) = (number < no_call) × (next_of kept ≤ number) × (says : R) × executes old asks says new × (later ≡ Some (call number asks says))
 IsServed executes equal old new kept later number asks (Again r) = IsStanding equal kept number asks Same × (later ≡ kept) × (new ≡ old)
 IsServed executes equal old new kept later number asks (Other r) = IsStanding equal kept number asks Changed × (later ≡ kept) × (new ≡ old)
-IsServed {Q = Q} {R = R} executes equal old new kept later number asks (Passed r) = (e : Execution Q R) × (kept ≡ Some e) × (number < e.number) × (later ≡ kept) × (new ≡ old)
+IsServed {Q = Q} {R = R} executes equal old new kept later number asks (Passed r) = (number < no_call) × (e : Execution Q R) × (kept ≡ Some e) × (number < e.number) × (later ≡ kept) × (new ≡ old)
+IsServed executes equal old new kept later number asks NoCall = (no_call ≤ number) × (later ≡ kept) × (new ≡ old)
 
 -- what is said of a request that was passed over, where anything is, goes out by the greatest number; else nothing is sent
 abbrev pub IsPassed : {R : Type 0} → Option R → (same : Type 0) → (ℕ × R → Result (Unit {0}) SendError → Type 0) → Option (Result (Unit {0}) SendError) → Type 0
@@ -69,6 +71,7 @@ IsReplied {Q} {R} passes same sends later number (Executed r) = (e : Execution Q
 IsReplied {Q} {R} passes same sends later number (Again r) = (e : Execution Q R) × (later ≡ Some e) × sends (e.number, e.says) r
 IsReplied {Q} {R} passes same sends later number (Other r) = (e : Execution Q R) × (later ≡ Some e) × IsPassed (passes number e.number) same sends r
 IsReplied {Q} {R} passes same sends later number (Passed r) = (e : Execution Q R) × (later ≡ Some e) × IsPassed (passes number e.number) same sends r
+IsReplied passes same sends later number NoCall = same
 
 -- whether a reply wasn't sent whole, of this one too
 abbrev pub unsent_by_result : Bool → Result (Unit {0}) SendError → Bool
@@ -83,6 +86,7 @@ unsent_by unsent (Other None) = unsent
 unsent_by unsent (Other (Some r)) = unsent_by_result unsent r
 unsent_by unsent (Passed None) = unsent
 unsent_by unsent (Passed (Some r)) = unsent_by_result unsent r
+unsent_by unsent NoCall = unsent
 
 -- the same by the fates of replies
 abbrev pub unsent_by_fate : Bool → Fate → Bool

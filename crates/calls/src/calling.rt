@@ -6,7 +6,7 @@ ghost use Rattle.calls.specs.Asking.{asker_of, sender_of, number_of, stepped, en
 
 use crate::client::{CallError, Client};
 use line_io::Outlet;
-use link::{Answer, Sender};
+use link::{Answer, SendError, Sender};
 use postcard::{Readable, Serialize};
 
 impl<W: Outlet, Q: Serialize + Drop, const N: usize> Client<W, Q, N> {
@@ -42,8 +42,9 @@ impl<W: Outlet, Q: Serialize + Drop, const N: usize> Client<W, Q, N> {
 
     /// Calls, with a new number, in place of a call that is pending: no reply to that one is taken then.
     ///
-    /// At `Unsent` the call is pending all the same: the server may have heard it, and `again` sends it again. At `Full` nothing
-    /// was sent and nothing has changed: the greatest u64 is no call's number.
+    /// At `Unsent(Line)` the call is pending all the same: the server may have heard it, and `again` sends it again. At
+    /// `Unsent(Refused)` and at `Full` nothing was sent and nothing has changed: a request that refuses itself or is longer than N
+    /// takes no number, and the greatest u64 is no call's.
     pub fn call(&mut self, request: Q) -> Result<(), CallError>
         ensures called { IsCalled (asker_of self.old) (asker_of self.new) request result
             (sender_of self.new ≡ sender_of self.old)
@@ -56,12 +57,18 @@ impl<W: Outlet, Q: Serialize + Drop, const N: usize> Client<W, Q, N> {
             return Err(CallError::Full);
         }
         let pending = (self.next, request);
-        let sent = self.sender.send(&pending);
-        self.next += 1;
-        self.pending = Some(pending);
-        match sent {
-            Ok(()) => Ok(()),
-            Err(error) => Err(CallError::Unsent(error)),
+        match self.sender.send(&pending) {
+            Ok(()) => {
+                self.next += 1;
+                self.pending = Some(pending);
+                Ok(())
+            }
+            Err(SendError::Line) => {
+                self.next += 1;
+                self.pending = Some(pending);
+                Err(CallError::Unsent(SendError::Line))
+            }
+            Err(SendError::Refused(error)) => Err(CallError::Unsent(SendError::Refused(error))),
         }
     }
 

@@ -1,10 +1,15 @@
 //! Each function does nothing; its contract is what it is for.
-ghost use Rattle.calls.specs.Calls.{ExecutesOnce, MatchesCalls, RepliesToTheSame, RepliesWereSaid, SettlesCalls};
+ghost use Rattle.calls.specs.Calls.{ExecutesOnce, ExecutesCalls, MatchesCalls, RepliesToTheSame, RepliesWereSaid, SettlesCalls};
 ghost use Rattle.calls.specs.Asking.{AsksOnePerNumber};
 
 /// Whatever requests a server hears, in any order and as often as they come: it executes no number twice.
 pub fn executes_once<Q, R>()
     ensures { ExecutesOnce Q R }
+{}
+
+/// Whatever requests a server hears: it executes none by the greatest number, which is no call's.
+pub fn executes_calls<Q, R>()
+    ensures { ExecutesCalls Q R }
 {}
 
 /// Whatever a server hears, and served before: each reply is to a request with its number that was heard, and was said when that was

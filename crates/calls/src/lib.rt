@@ -4,6 +4,9 @@
 //! most, whatever bytes come, and keeps its last call, to say its reply again to the same request. A [`Client`] numbers its calls upwards,
 //! sends one again where its caller asks for it, and takes a reply for the call that is pending alone. Neither takes memory of its own.
 //!
+//! Messages of any types may be called by: then damage, an echo and another program's messages are calls and replies as any others. Of
+//! [`Numbered`] messages, by [`Checked`] at the server and [`Replies`] at the client, they are damage.
+//!
 //! What is known of a call with no reply: it was executed once at most, and is never executed after a reply to a higher number.
 #![tactic(auto)]
 
@@ -19,7 +22,7 @@ mod waiting;
 
 pub use client::{CallError, Client};
 pub use noticing::Noticing;
-pub use sealing::{Checked, Numbered, Numbering};
+pub use sealing::{Checked, Numbered, Numbering, Replies};
 pub use server::{Application, LastCall, Served, Server};
 pub use service::Service;
 pub use serving::serve_with;

@@ -38,12 +38,15 @@ pub enum Served {
     Other(Option<Result<(), SendError>>),
     /// It was executed before, or passed over: nothing was done. What the application says of that was sent, where it says anything.
     Passed(Option<Result<(), SendError>>),
+    /// Its number is the greatest, which is no call's: nothing was done, and nothing was said of it.
+    NoCall,
 }
 
-// How a request stands to the last one that was executed: by a higher number, the same request, another one by the same number, or
-// by a number below that of the last.
+// How a request stands to the last one that was executed: by the greatest number, by a higher one than that of the last, the same
+// request, another one by the same number, or by a number below that of the last.
 #[derive(Clone, Copy)]
 enum Standing {
+    Greatest,
     Above,
     Same,
     Changed,
@@ -60,6 +63,10 @@ pub struct LastCall<Q, R> {
 }
 
 /// Executes requests whose numbers are above those before, and replies.
+///
+/// **By itself it executes its own replies** if the line gives back what is sent and a reply can be read as a request, without end; and
+/// what damage or another program made of a message. Take [`Numbered`](crate::Numbered) requests and put [`Checked`](crate::Checked) in
+/// front of its [`Service`](crate::Service), and none is executed.
 #[derive(Drop)]
 pub struct Server<W, Q, R, const N: usize> {
     pub(crate) sender: Sender<W, N>,
@@ -94,7 +101,7 @@ impl<W: Outlet, Q: PartialEq + Drop, R: Serialize + Drop, const N: usize> Server
     /// Serves a request: where its number is above that of the last one that was executed, the application executes it, and it and its
     /// reply are kept, and the reply is sent. Where it is the same request by the same number, the reply that is kept is sent again;
     /// where it is another one by that number, or its number is below, nothing is done, and what the application says of that is sent
-    /// by the greatest number, which is no call's.
+    /// by the greatest number, which is no call's. A request by that number is passed over in silence.
     ///
     /// Which requests are the same the test `==` of their type says: of one that isn't equal to itself, as a float that is no number,
     /// no reply is sent again.
@@ -125,6 +132,7 @@ impl<W: Outlet, Q: PartialEq + Drop, R: Serialize + Drop, const N: usize> Server
             Standing::Same => Served::Again(self.send_last()),
             Standing::Changed => Served::Other(self.say_passed::<A>(number, number)),
             Standing::Below(last) => Served::Passed(self.say_passed::<A>(number, last)),
+            Standing::Greatest => Served::NoCall,
         }
     }
 
@@ -132,6 +140,9 @@ impl<W: Outlet, Q: PartialEq + Drop, R: Serialize + Drop, const N: usize> Server
     fn standing(&self, number: u64, request: &Q) -> Standing
         ensures { IsStanding Q.eq (kept_of self.now) number request.now result }
     {
+        if number == u64::MAX {
+            return Standing::Greatest;
+        }
         match &self.last {
             None => Standing::Above,
             Some(last) => {

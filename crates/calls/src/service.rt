@@ -35,7 +35,7 @@ fn after_serving(unsent: bool, served: Served) -> bool
     match served {
         Served::Executed(sent) | Served::Again(sent) => after_sending(unsent, sent),
         Served::Other(Some(sent)) | Served::Passed(Some(sent)) => after_sending(unsent, sent),
-        Served::Other(None) | Served::Passed(None) => unsent,
+        Served::Other(None) | Served::Passed(None) | Served::NoCall => unsent,
     }
 }
 

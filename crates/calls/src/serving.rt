@@ -1,5 +1,5 @@
 //! Serving all that a reader gives.
-ghost use Rattle.std.specs.Prelude.{◌≡◌, Some, false};
+ghost use Rattle.std.specs.Prelude.{◌≡◌, Some, false, ⊤};
 ghost use Rattle.link.specs.Receivers.{SameTerms};
 ghost use Rattle.link.specs.Each.{HearsOut, MayLackMemory};
 ghost use Rattle.calls.specs.Serving.{ServiceHears};
@@ -12,7 +12,8 @@ use postcard::{Readable, Serialize};
 use std::alloc::Global;
 
 /// Serves the requests among all that a reader gives, to its end or first fault, each as soon as the byte that ends its frame was
-/// read, by a receiver that was given nothing and a reader of messages.
+/// read, by a receiver and a reader of messages. A receiver that was given some of a stream goes on in it, so that after a fault this may
+/// be called again.
 ///
 /// Whatever bytes come: what is executed are requests of which the whole frames came, in their order, and each number once at most;
 /// the replies are one session. No more calls of the reader are used than bytes were read, and one that ends the reading. At
@@ -35,7 +36,7 @@ pub fn serve_with<
 ) -> End
     ensures served { HearsOut D.inside (M.judging messages.now)
         (ServiceHears A.executes Q.eq A.passes W.line ⟦<(u64, R) as Readable>⟧.form.writes
-        ⟦<(u64, R) as Readable>⟧.form.valid) (λ _. false)
+        ⟦<(u64, R) as Readable>⟧.form.valid) (λ _. false) (λ _. ⊤)
         (I.line reader.old) (I.line reader.new) receiver.old receiver.new service.old service.new
         (Some result) }
     ensures memory { MayLackMemory (M.judging messages.now).growing (Some result) }

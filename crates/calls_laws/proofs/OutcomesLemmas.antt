@@ -11,7 +11,7 @@ use Rattle.link.specs.Fates.{IsSendOf}
 use Rattle.link.specs.declared.receiver.Answer.{Answer}
 use Rattle.link_laws.specs.Values.{runs_of, values_sent}
 use Rattle.link_laws.specs.Sessions.{all_sent, no_session, then_session, takes_run, all_written}
-use Rattle.calls.specs.Calls.{Execution, no_call, ServesAll, known, fresh, no_request, request, Rises, In, OnePerNumber, ExecutesOnce}
+use Rattle.calls.specs.Calls.{Execution, no_call, ServesAll, greatest, known, fresh, no_request, request, Rises, In, OnePerNumber, ExecutesOnce}
 use Rattle.calls.specs.Serving.{Runs, requests_of}
 use Rattle.calls_laws.specs.Heard.{HearsSent}
 use Rattle.calls_laws.specs.Headline.{WentOver, WasExecuted, RepliesAreRight}
@@ -39,9 +39,10 @@ module _ {Q R : Type 0} where
       {out : List (ℕ × R)} → ServesAll equal passes kept qs log out later
       → (e : Execution Q R) → In e log → In (e.number, e.asks) qs
   was_heard no_request e i = absurd i
-  was_heard (request (known l) h) e i = inr (was_heard h e i)
-  was_heard (request (fresh says l) h) e (inl f) = inl (rw f refl)
-  was_heard (request (fresh says l) h) e (inr i) = inr (was_heard h e i)
+  was_heard (request (greatest l) h) e i = inr (was_heard h e i)
+  was_heard (request (known m l) h) e i = inr (was_heard h e i)
+  was_heard (request (fresh says m l) h) e (inl f) = inl (rw f refl)
+  was_heard (request (fresh says m l) h) e (inr i) = inr (was_heard h e i)
 
   -- executions that rise and have one number alone are one at most
   at_most_one : (n m : ℕ) (log : List (Execution Q R)) → Rises m log → ((e : Execution Q R) → In e log → e.number ≡ n) → (log ≡ []) ⊎ ((e : Execution Q R) × (log ≡ e ∷ []))

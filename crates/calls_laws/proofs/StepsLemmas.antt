@@ -9,6 +9,7 @@ use Rattle.link.specs.Listening.{IsReceived, HasGiven}
 use Rattle.link.specs.Each.{HasReadNow, IsHeardNow, gave_now}
 use Rattle.link.specs.declared.reception.Reception.{Reception}
 use Rattle.link.specs.declared.sender.SendError.{SendError}
+use Rattle.link.specs.declared.sender.SendError.TheVariants.{Refused, Line}
 use Rattle.link.specs.declared.receiver.Answer.{Answer}
 use Rattle.link.specs.declared.receiver.Answer.TheVariants.{Value, Damaged, TooLong, Cut}
 use Rattle.line_io.specs.declared.transfers.End.{End}
@@ -39,10 +40,25 @@ module _ {Q : Type 0} (limit : ℕ) (writes : ℕ × Q → Option Tree) (valid :
         numbered = λ p f. subst (λ (x : ℕ × Q). x.0 < no_call) (inside (sym (ap (λ (a : Asker Q). a.pending) e) ∙ f)) l;
       }
 
+  -- where nothing changed and nothing was pending, nothing is
+  none_pending : (old new : Asker Q) → old.pending ≡ None → new ≡ old → (p : ℕ × Q) → new.pending ≡ Some p → ⊥
+  none_pending old new idle e p f = (let no : ◌≡◌ {A = Option (ℕ × Q)} None (Some p) = sym idle ∙ sym (ap (λ (a : Asker Q). a.pending) e) ∙ f in cc)
+
   pub called : (old new : Asker Q) (q : Q) (r : Result (Unit {0}) CallError) (P P' : SenderPlace) (same : Type 0) → (same → P' ≡ P) → old.pending ≡ None
       → IsCalled old new q r same (λ p x. HasSent limit (writes p) (valid p) P P' x) → Repeats limit writes valid (old.next, q) new.pending P P'
   called old new q (Ok u) P P' same stays idle h = one_sent old new q P P' (Ok tt) h.0 h.2 h.1
-  called old new q (Err (Unsent e)) P P' same stays idle h = one_sent old new q P P' (Err e) h.0 h.2 h.1
+  called old new q (Err (Unsent Line)) P P' same stays idle h = one_sent old new q P P' (Err Line) h.0 h.2 h.1
+  called old new q (Err (Unsent (Refused e))) P P' same stays idle h =
+      let x = says_one limit writes valid (old.next, q) P P' (Err (Refused e)) h.1 in
+      record {
+        messages = (old.next, q) ∷ [];
+        fates = x.0 ∷ [];
+        said = x.1;
+        sentinel = h.1.sentinel;
+        only = λ m i. alone _ m i;
+        sent = λ p f. absurd (none_pending old new idle h.0 p f);
+        numbered = λ p f. absurd (none_pending old new idle h.0 p f);
+      }
   called old new q (Err Full) P P' same stays idle h =
       subst (λ z. Repeats limit writes valid (old.next, q) new.pending P z) (sym (stays h.1)) (record {
         messages = [];
@@ -50,8 +66,8 @@ module _ {Q : Type 0} (limit : ℕ) (writes : ℕ × Q → Option Tree) (valid :
         said = says_none limit writes valid P;
         sentinel = refl;
         only = λ m i. absurd i;
-        sent = λ p f. absurd (let no : ◌≡◌ {A = Option (ℕ × Q)} None (Some p) = sym idle ∙ sym (ap (λ (a : Asker Q). a.pending) h.0) ∙ f in cc);
-        numbered = λ p f. absurd (let no : ◌≡◌ {A = Option (ℕ × Q)} None (Some p) = sym idle ∙ sym (ap (λ (a : Asker Q). a.pending) h.0) ∙ f in cc);
+        sent = λ p f. absurd (none_pending old new idle h.0 p f);
+        numbered = λ p f. absurd (none_pending old new idle h.0 p f);
       })
   called old new q (Err Idle) P P' same stays idle h = absurd h
 

@@ -1,3 +1,4 @@
 pub mod Heard
 pub mod Headline
 pub mod Exchange
+pub mod Echo

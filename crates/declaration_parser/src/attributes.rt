@@ -1,6 +1,6 @@
 //! Attributes, as slices of tokens.
 use crate::declaration::Marks;
-use crate::tokens::{Token, is_among, is_comment_mark};
+use crate::tokens::{Token, is_among, is_comment_mark, opens};
 
 /// What marks where it stands in a derive, or before a name there; and `self`, which may stand for such in a `use`.
 const RENAMED: &[&str] = &["Deserialize", "Serialize", "self", "serde", "serde_derive"];
@@ -24,44 +24,37 @@ pub fn last_word(tokens: &[Token]) -> &str {
     }
 }
 
-/// Whether a word opens what another closes.
-pub fn opens(word: &str) -> bool {
-    matches!(word, "(" | "[" | "{")
-}
-
-/// Whether a word closes.
-pub fn closes(word: &str) -> bool {
-    matches!(word, ")" | "]" | "}")
-}
-
-/// What stands before the mark that closes what was opened before these tokens, and what stands behind that mark.
-pub fn closed(tokens: &[Token]) -> Option<(&[Token], &[Token])> {
-    let mut depth: usize = 0;
-    let mut rest = tokens;
-    for length in 0..tokens.len() {
-        let [token, behind @ ..] = rest else {
-            return None;
-        };
-        rest = behind;
-        let word = token.text.as_str();
-        if opens(word) {
-            depth = depth.saturating_add(1);
-        } else if closes(word) {
-            if depth == 0 {
-                return Some((tokens.get(..length)?, rest));
+/// What stands in the group that the first token opens, and what stands behind it; nothing where it opens none that is
+/// closed.
+pub fn group(tokens: &[Token]) -> Option<(&[Token], &[Token])> {
+    match tokens {
+        [open, rest @ ..] if open.span > 1 => {
+            let length = (open.span - 2).min(rest.len());
+            let (inside, close) = rest.split_at(length);
+            match close {
+                [_, behind @ ..] => Some((inside, behind)),
+                _ => Some((inside, &[])),
             }
-            depth = depth.saturating_sub(1);
         }
+        _ => None,
     }
-    None
+}
+
+/// What stands behind the first token, or behind the group that it opens.
+pub fn behind(tokens: &[Token]) -> &[Token] {
+    match tokens {
+        [first, ..] => {
+            let (_, rest) = tokens.split_at(first.span.max(1).min(tokens.len()));
+            rest
+        }
+        _ => &[],
+    }
 }
 
 /// What stands between the brackets of the attribute at the front, which is of what stands behind it.
 pub fn attribute(tokens: &[Token]) -> Option<(&[Token], &[Token])> {
     match tokens {
-        [hash, open, rest @ ..] if hash.text.as_str() == "#" && open.text.as_str() == "[" => closed(
-            rest,
-        ),
+        [hash, rest @ ..] if hash.text.as_str() == "#" && first_word(rest) == "[" => group(rest),
         _ => None,
     }
 }
@@ -69,23 +62,20 @@ pub fn attribute(tokens: &[Token]) -> Option<(&[Token], &[Token])> {
 /// What a call of a macro, or an attribute of all that a file has, holds at the front, and what stands behind it. The
 /// words before what it holds have no brackets.
 pub fn passed_over(tokens: &[Token]) -> Option<(&[Token], &[Token])> {
-    let (second, rest) = match tokens {
-        [_, mark, second, rest @ ..] if mark.text.as_str() == "!" => (second, rest),
+    let rest = match tokens {
+        [_, mark, rest @ ..] if mark.text.as_str() == "!" => rest,
         _ => return None,
     };
-    if opens(second.text.as_str()) {
-        return closed(rest);
-    }
     match rest {
-        [open, rest @ ..] if opens(open.text.as_str()) => closed(rest),
-        _ => None,
+        [name, inside @ ..] if !opens(name.text.as_str()) => group(inside),
+        _ => group(rest),
     }
 }
 
 /// What stands in the parentheses behind the first word.
 pub fn held(words: &[Token]) -> &[Token] {
     match words {
-        [_, open, rest @ ..] if open.text.as_str() == "(" => match closed(rest) {
+        [_, rest @ ..] if first_word(rest) == "(" => match group(rest) {
             Some((inside, _)) => inside,
             None => &[],
         },
@@ -93,25 +83,25 @@ pub fn held(words: &[Token]) -> &[Token] {
     }
 }
 
+/// What stands before the first of these words that nothing encloses, and what begins with it.
+pub fn up_to<'a>(tokens: &'a [Token], ends: &[&str]) -> (&'a [Token], &'a [Token]) {
+    let mut rest = tokens;
+    for _ in 0..tokens.len() {
+        if rest.is_empty() || is_among(first_word(rest), ends) {
+            break;
+        }
+        rest = behind(rest);
+    }
+    tokens.split_at(tokens.len().saturating_sub(rest.len()))
+}
+
 /// What stands before the first comma that nothing encloses, and what stands behind it.
 pub fn first_part(tokens: &[Token]) -> (&[Token], &[Token]) {
-    let mut depth: usize = 0;
-    let mut rest = tokens;
-    for length in 0..tokens.len() {
-        let [token, behind @ ..] = rest else {
-            break;
-        };
-        rest = behind;
-        let word = token.text.as_str();
-        if opens(word) {
-            depth = depth.saturating_add(1);
-        } else if closes(word) {
-            depth = depth.saturating_sub(1);
-        } else if word == "," && depth == 0 {
-            return (tokens.get(..length).unwrap_or(&[]), rest);
-        }
+    let (part, rest) = up_to(tokens, &[","]);
+    match rest {
+        [_, behind @ ..] => (part, behind),
+        _ => (part, &[]),
     }
-    (tokens, &[])
 }
 
 /// Whether these are the same words.
@@ -151,7 +141,7 @@ pub fn has_derive(words: &[Token]) -> bool {
 }
 
 /// Whether a derive among these words has this name.
-fn is_derived(words: &[Token], name: &str) -> bool {
+pub fn is_derived(words: &[Token], name: &str) -> bool {
     let mut is_derive = false;
     for token in words {
         let word = token.text.as_str();

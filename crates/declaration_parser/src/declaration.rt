@@ -89,4 +89,6 @@ pub struct Declaration<'a> {
     pub lengths: Vec<&'a str>,
     pub body: Body<'a>,
     pub marks: Marks,
+    /// Why it can't be read, a line each; empty where it can.
+    pub wrong: String,
 }

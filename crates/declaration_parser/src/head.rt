@@ -21,7 +21,8 @@ pub struct Marking<'a> {
     pub marks: Marks,
     /// The condition of the derive that marks; empty where there is none.
     pub condition: &'a [Token],
-    /// Whether derives alone mark.
+    /// Whether derives mark, and whether they alone do.
+    has_derive: bool,
     pub is_derived: bool,
     /// The first thing that is wrong.
     pub wrong: Option<Mismark<'a>>,
@@ -44,22 +45,33 @@ impl<'a> Marking<'a> {
                 read: false,
             },
             condition: &[],
+            has_derive: false,
             is_derived: true,
             wrong: None,
         }
     }
 
-    /// Adds what an attribute marks, by its words.
+    /// Adds what an attribute marks, by its words. Beside a derive that marks a comment may be a headline.
     fn add_attribute(&mut self, words: &'a [Token]) {
-        if let Some(condition) = add_marks(words, &mut self.marks) {
+        let mut derived = Marks {
+            written: false,
+            read: false,
+        };
+        if let Some(condition) = add_marks(words, &mut derived) {
             self.condition = condition;
+        }
+        self.marks.written = self.marks.written || derived.written;
+        self.marks.read = self.marks.read || derived.read;
+        self.has_derive = self.has_derive || derived.written || derived.read;
+        if self.has_derive {
+            self.wrong = None;
         }
     }
 
     /// Adds what a comment `// message` marks.
     fn add_comment(&mut self, comment: &'a Token) {
-        self.is_derived = false;
         let Some((_, words)) = comment.text.as_str().split_once(':') else {
+            self.is_derived = false;
             self.marks.written = true;
             self.marks.read = true;
             return;
@@ -73,17 +85,19 @@ impl<'a> Marking<'a> {
     fn add_word(&mut self, line: usize, word: &'a str) {
         let why = match word {
             "Serialize" => {
+                self.is_derived = false;
                 self.marks.written = true;
                 return;
             }
             "Deserialize" => {
+                self.is_derived = false;
                 self.marks.read = true;
                 return;
             }
             "MaxSize" | "MaxWritten" | "Exact" => HAS_BY_ITSELF,
             _ => NO_MARK,
         };
-        if self.wrong.is_none() {
+        if self.wrong.is_none() && !self.has_derive {
             self.wrong = Some(Mismark { line, word, why });
         }
     }

@@ -4,12 +4,12 @@ mod parameters;
 mod said;
 mod types;
 
-use crate::attributes::{attribute, closed, has_mark, opens};
+use crate::attributes::{attribute, group, has_mark, up_to};
 use crate::declaration::{Body, Declaration, Field, Fields, Form, Marks, VariantOf};
 use crate::faults::Faults;
 use crate::head::Head;
 use crate::tokens::{Read, Token, first_letter, is_among, is_comment_mark};
-use crate::words::{HIDDEN_MARK, MOST_FIELDS, OF_POSTCARD, TOO_MANY};
+use crate::words::{HIDDEN_MARK, MOST_FIELDS, OF_POSTCARD, ONLY_FIELD, TOO_MANY};
 use by_hand::ByHand;
 use said::At;
 use std::alloc::Global;
@@ -230,17 +230,8 @@ impl<'a> Parser<'a> {
         let is_limited = self.take("pub")
             && self.peek() == "("
             && is_among(self.peek_second(), &["crate", "super", "self", "in"]);
-        if is_limited {
-            self.skip_past(")");
-        }
-    }
-
-    /// Takes tokens up to this one.
-    fn skip_past(&mut self, last: &str) {
-        for _ in 0..self.rest.len() {
-            if self.step() == last {
-                break;
-            }
+        if is_limited && let Some((_, behind)) = group(self.rest) {
+            self.rest = behind;
         }
     }
 
@@ -362,37 +353,18 @@ impl<'a> Parser<'a> {
         self.said(attributes, At::Variant);
         let fields = self.fields();
         if self.take("=") {
-            self.skip_number();
+            self.skip_to(&[",", "}"]);
         }
         VariantOf { name, fields }
     }
 
-    /// Takes the number of a variant, which isn't sent.
-    fn skip_number(&mut self) {
-        for _ in 0..self.rest.len() {
-            let word = self.peek();
-            if is_among(word, &[",", "}"]) {
-                break;
-            }
-            self.step();
-            if opens(word) {
-                self.skip_group();
-            }
+    /// Takes what stands before the first of these words that nothing encloses, and refuses a mark in it.
+    fn skip_to(&mut self, ends: &[&str]) {
+        let (skipped, rest) = up_to(self.rest, ends);
+        if has_mark(skipped) {
+            return self.wrong(&[HIDDEN_MARK]);
         }
-    }
-
-    /// Takes what stands up to the mark that closes what was opened, and refuses a mark in it.
-    fn skip_group(&mut self) {
-        match closed(self.rest) {
-            Some((inside, behind)) => {
-                if has_mark(inside) {
-                    self.wrong(&[HIDDEN_MARK]);
-                } else {
-                    self.rest = behind;
-                }
-            }
-            None => self.wrong(&["what is opened here isn't closed"]),
-        }
+        self.rest = rest;
     }
 
     /// Takes the variants of an enum, which has one at least.
@@ -443,6 +415,9 @@ impl<'a> Parser<'a> {
         }
         self.bounds();
         let fields = self.fields();
+        if matches!(fields.form, Form::Tuple) && fields.count == 1 && fields.items.is_empty() {
+            self.refuse("skip", ONLY_FIELD);
+        }
         match fields.form {
             Form::Named => {}
             _ => {
@@ -477,6 +452,7 @@ impl<'a> Parser<'a> {
             lengths,
             body,
             marks: self.marks,
+            wrong: String::new(self.alloc),
         }
     }
 }

@@ -4,7 +4,7 @@ ghost use Rattle.declaration_parser.specs.Marked.{NoMark};
 ghost use Rattle.declaration_parser.specs.Silent.{SaysNothing};
 ghost use Rattle.declaration_parser.specs.Standing.{Accounts, AreDeclaredIn, GoneOver, tokens_in};
 
-use crate::attributes::{closed, first_word, has_derive, passed_over, renamed_derive};
+use crate::attributes::{behind, first_word, has_derive, passed_over, renamed_derive};
 use crate::declaration::Declaration;
 use crate::faults::Faults;
 use crate::head::{Head, head_of};
@@ -17,12 +17,10 @@ use std::alloc::{AllocError, Global};
 /// Whether a struct or an enum stands at the front of these tokens.
 fn begins_declaration(tokens: &[Token]) -> bool {
     let rest = match tokens {
-        [public, open, rest @ ..] if public.text.as_str() == "pub" && open.text.as_str() == "(" =>
-            match closed(rest) {
-                Some((_, behind)) => behind,
-                None => return false,
-            },
-        [public, rest @ ..] if public.text.as_str() == "pub" => rest,
+        [public, rest @ ..] if public.text.as_str() == "pub" => match first_word(rest) {
+            "(" => behind(rest),
+            _ => rest,
+        },
         _ => tokens,
     };
     is_among(first_word(rest), &["struct", "enum"])
@@ -104,7 +102,7 @@ fn passed_length(tokens: &[Token]) -> usize
 }
 
 /// Passes over what isn't marked, and answers how many tokens behind its attributes are.
-fn pass_over(head: &Head<'_>, faults: &mut Faults<'_>) -> usize
+fn pass_over(purpose: Purpose, head: &Head<'_>, faults: &mut Faults<'_>) -> usize
     ensures silent { SaysNothing faults.new → SaysNothing faults.old }
     ensures within { result ≤ length head.now.behind.now }
     ensures some { 0 < length head.now.behind.now → 0 < result }
@@ -113,7 +111,9 @@ fn pass_over(head: &Head<'_>, faults: &mut Faults<'_>) -> usize
 {
     let length = passed_length(head.behind);
     let (passed, _) = head.behind.split_at(length);
-    refuse_almost(head, faults);
+    if purpose == Purpose::Implementations {
+        refuse_almost(head, faults);
+    }
     refuse_mark(head.attributes, ALMOST, faults);
     if !refuses_call(head.behind, faults) {
         refuse_mark(passed, ALMOST, faults);
@@ -121,7 +121,7 @@ fn pass_over(head: &Head<'_>, faults: &mut Faults<'_>) -> usize
     length
 }
 
-/// Keeps a declaration, with its attributes and the words behind them, unless something is wrong with it.
+/// Keeps a declaration, with its attributes, the words behind them, and what is wrong with it.
 fn keep<'a>(
     mut declaration: Declaration<'a>,
     attributes: &'a [Token],
@@ -131,25 +131,22 @@ fn keep<'a>(
     faults: &mut Faults<'a>,
 )
     ensures silent { SaysNothing faults.new → SaysNothing faults.old }
-    ensures wrong { SaysNothing faults.new → SaysNothing wrong.entry }
     ensures stands { SaysNothing faults.new → NoMark words.now
         → Accounts found.old.items found.new.items (attributes.now ++ words.now) }
 {
-    if !wrong.is_empty() {
-        faults.add(wrong);
-        return;
-    }
     declaration.attributes = attributes;
     declaration.words = words;
+    match wrong.finished() {
+        Ok(wrong) => declaration.wrong = wrong,
+        Err(_) => faults.note(true),
+    }
     if found.push(declaration).is_err() {
         faults.note(true);
-        return;
     }
-    faults.add(wrong);
 }
 
-/// Reads what is marked, and answers how many tokens behind its attributes it takes. What is wrong hides the tokens behind it
-/// that were not read.
+/// Reads what is marked, and answers how many tokens behind its attributes it takes. What is wrong is kept with it, and hides
+/// the tokens behind it that were not read.
 fn add_declaration<'a>(
     alloc: Global,
     purpose: Purpose,
@@ -166,10 +163,10 @@ fn add_declaration<'a>(
 {
     let mut parser = Parser::new(alloc, purpose, file, head);
     let declaration = parser.declaration(head.attributes, by_hand);
-    let (left, mut wrong) = parser.finished();
+    let (left, wrong) = parser.finished();
     let length = head.behind.len().saturating_sub(left.len());
     let (words, _) = head.behind.split_at(length);
-    refuse_mark(words, IN_WORDS, &mut wrong);
+    refuse_mark(words, IN_WORDS, faults);
     keep(declaration, head.attributes, words, wrong, found, faults);
     length
 }
@@ -195,7 +192,7 @@ fn read_front<'a>(
         let (_, rest) = head.behind.split_at(taken);
         return rest;
     }
-    let passed = pass_over(&head, faults);
+    let passed = pass_over(purpose, &head, faults);
     let (_, rest) = head.behind.split_at(passed);
     rest
 }

@@ -29,6 +29,8 @@ const BEFORE: &[&str] = &["#", "pub", "struct", "enum"];
 pub struct Token {
     pub text: String,
     pub line: usize,
+    /// How many tokens the group has that it opens, with its two marks; 0 where it opens none, or one that isn't closed.
+    pub span: usize,
 }
 
 /// The tokens of a file, and what is wrong with its comments and texts, a line each.
@@ -63,6 +65,8 @@ struct Tokens<'a> {
     /// A comment that is almost a mark, with nothing behind it yet.
     almost: Option<(&'a str, usize)>,
     found: Vec<Token>,
+    /// The places of the tokens that opened groups which aren't closed yet.
+    open: Vec<usize>,
     faults: Faults<'a>,
     failed: bool,
 }
@@ -107,6 +111,16 @@ pub fn is_among(word: &str, words: &[&str]) -> bool {
         }
     }
     false
+}
+
+/// Whether a word opens what another closes.
+pub fn opens(word: &str) -> bool {
+    matches!(word, "(" | "[" | "{")
+}
+
+/// Whether a word closes.
+pub fn closes(word: &str) -> bool {
+    matches!(word, ")" | "]" | "}")
 }
 
 /// The first letter of a word.
@@ -156,6 +170,7 @@ impl<'a> Tokens<'a> {
             is_behind_code: false,
             almost: None,
             found: Vec::new(alloc),
+            open: Vec::new(alloc),
             faults: Faults::new(alloc),
             failed: false,
         }
@@ -388,11 +403,32 @@ impl<'a> Tokens<'a> {
 
     /// Appends a token.
     fn push(&mut self, text: &str, line: usize) {
+        self.count_group(text);
         let failed = match String::from_str(self.alloc, text) {
-            Ok(text) => self.found.push(Token { text, line }).is_err(),
+            Ok(text) => {
+                let token = Token {
+                    text,
+                    line,
+                    span: 0,
+                };
+                self.found.push(token).is_err()
+            }
             Err(_) => true,
         };
         self.failed = self.failed || failed;
+    }
+
+    /// Notes where a group begins, with the token that is next, or how many tokens it has.
+    fn count_group(&mut self, text: &str) {
+        let place = self.found.len();
+        if opens(text) {
+            self.failed = self.open.push(place).is_err() || self.failed;
+        } else if closes(text)
+            && let Some(first) = self.open.pop()
+            && let Some(token) = self.found.get_mut(first)
+        {
+            token.span = place.saturating_sub(first).saturating_add(1);
+        }
     }
 
     /// What was read, if there was memory for it.

@@ -52,6 +52,10 @@ pub const OTHER_CONDITION: &str =
 pub const ONE_SIDE: &str =
     "` leaves the field out on one side alone: the other side wants its bytes, so the device can't be read as it is";
 
+/// What is said of the only field of a newtype, which serde writes although it is left out.
+pub const ONLY_FIELD: &str =
+    "` of the only field of a struct in parentheses leaves out nothing, since serde writes it all the same: take the word out";
+
 /// What is said of a field that is left out, where what is read back is to be what was written.
 pub const LEFT_OUT: &str =
     "` leaves the field out, but what is read back has to be what was written: declare a type without the field, and hold both in another that isn't sent";

@@ -1,2 +1,1 @@
-pub mod TypeNames
 pub mod TypeWords

@@ -1,9 +1,9 @@
 -- Which words stand for types that hold no other.
 use Rattle.std.specs.Prelude.{◌≡◌, ◌⊎◌, ℕ, List, codes}
-use Rattle.schemas.specs.declared.integer.IntegerType.{IntegerType}
-use Rattle.schemas.specs.declared.integer.IntegerType.TheVariants as types
-use Rattle.schemas.specs.declared.node.Node.{Node}
-use Rattle.schemas.specs.declared.node.Node.TheVariants as node
+use Rattle.schema_table.specs.declared.integer.IntegerType.{IntegerType}
+use Rattle.schema_table.specs.declared.integer.IntegerType.TheVariants as types
+use Rattle.schema_table.specs.declared.node.Node.{Node}
+use Rattle.schema_table.specs.declared.node.Node.TheVariants as node
 
 -- the word of an integer type of 16 bits or more
 abbrev pub IsIntegerWord : IntegerType → List ℕ → Type 0
@@ -31,5 +31,5 @@ IsWordOf node.I64 word = (word ≡ codes "i64") ⊎ (word ≡ codes "isize")
 IsWordOf node.I128 word = word ≡ codes "i128"
 IsWordOf node.Char word = word ≡ codes "char"
 IsWordOf node.Text word = (word ≡ codes "str") ⊎ (word ≡ codes "String")
-IsWordOf node.Bytes word = word ≡ codes "ByteBuf"
+IsWordOf node.Bytes word = (word ≡ codes "ByteBuf") ⊎ (word ≡ codes "Bytes")
 IsWordOf _ word = ⊥

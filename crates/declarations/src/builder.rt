@@ -1,34 +1,26 @@
 //! From declared types to the nodes of a table.
-ghost use Rattle.std.specs.Prelude.{◌≡◌, ◌≤◌, length, IfOk};
+ghost use Rattle.std.specs.Prelude.{◌≡◌, ◌≤◌, ◌<◌, length, IfOk};
 
 mod containers;
 mod fields;
-mod known;
 mod lengths;
-mod naming;
 mod types;
 
-use crate::scopes::{Marked, Scopes};
+use crate::names::Names as Scopes;
+use crate::near::put_nearest;
 use crate::{Error, Names};
 use declaration_parser::declaration::Declaration;
 use declaration_parser::faults::Faults;
 use declaration_parser::parser::plain_name;
-use declaration_parser::tokens::{Read, Token};
-use known::KNOWN_CRATES;
-use schemas::Node;
-use std::alloc::{AllocError, Global};
+use declaration_parser::tokens::{Token, is_lifetime};
+use schema_table::Node;
+use std::alloc::Global;
 
 /// How deep the words of one type may nest, as `Vec<Option<u8>>` nests three deep.
 const DEEPEST: u32 = 64;
 
-/// What is said where no file is named.
-const NO_FILE: &str = "no file of declarations is named\n";
-
-/// What is said of a name that is marked twice.
+/// What is said of a name that is marked twice in one module.
 const TWICE: &str = "the file declares this name twice: leave out what isn't on the wire";
-
-const IN_ANOTHER: &str =
-    "another of the files declares this name too: name those alone that are meant";
 
 /// What a parameter stands for.
 #[derive(Clone, Copy, PartialEq, Eq, Drop)]
@@ -46,7 +38,7 @@ struct Bound<'a> {
     given: Given<'a>,
 }
 
-/// A type with parameters that was made: which, of what, and at which place.
+/// A declared type that was made, or is owed: which, of what, and at which place.
 #[derive(Drop)]
 struct Made<'a> {
     index: usize,
@@ -71,60 +63,77 @@ struct Entry {
 
 /// Makes nodes of the words of types. What is wrong is noted and hides the words behind it in the same field.
 #[derive(Drop)]
-struct Builder<'a, 'b> {
+pub struct Builder<'a, 'b> {
     alloc: Global,
     declared: &'b [Declaration<'a>],
-    /// Declared types that have parameters, and those that were made of them.
-    generic: &'b [Declaration<'a>],
+    /// Declared types that were made or are owed, in the order in which they were met.
     instances: Vec<Made<'a>>,
     /// What parameters stand for: those of the type that is made stand behind so many.
     bound: Vec<Bound<'a>>,
     scope: usize,
-    /// The names of all files, the scopes of the declared types, and the scope whose words are read.
-    scopes: &'b Scopes<'a>,
-    declared_in: &'b [usize],
-    generic_in: &'b [usize],
+    /// The names of all files, the scope whose words are read, and that of words that are asked for.
+    names: &'b Scopes<'a>,
     here: usize,
+    asked: usize,
     at: At<'a>,
     /// The words of a type that aren't read yet, and the line of the last one that was.
     rest: &'a [Token],
     line: usize,
     /// How many numbers more the length that is read may be computed of.
     left: u32,
-    /// The table: behind the nodes of the declared types those of types without a name.
+    /// The constant that can't be one of its numbers, and why; empty where there is none.
+    doubt: (&'a str, &'a str),
+    /// The table: the nodes, and what their values are called by.
     nodes: Vec<Node>,
-    names: Vec<Names>,
+    called: Vec<Names>,
     faults: Faults<'a>,
     /// Whether something is wrong in the field that is read.
     is_wrong: bool,
 }
 
-/// What a list has at a place.
-fn place_in(list: &[usize], place: usize) -> usize {
-    list.get(place).copied().unwrap_or(0)
-}
-
-/// Adds marked types to the names of their files, those with parameters or the others, and gives the scope of each.
-fn marked<'a>(
-    alloc: Global,
-    scopes: &mut Scopes<'a>,
-    types: &[Declaration<'a>],
-    are_generic: bool,
-) -> Result<Vec<usize>, AllocError> {
-    let mut places = Vec::new(alloc);
-    for (place, it) in types.iter().enumerate() {
-        let own = if are_generic {
-            Marked::Generic(place)
-        } else {
-            Marked::Whole(place)
-        };
-        let scope = scopes.mark(it.name, it.line, it.file.file.as_str(), own)?;
-        places.push(scope)?;
+/// Whether a declaration has other parameters than lifetimes.
+pub fn has_type_parameters(it: &Declaration<'_>) -> bool {
+    for parameter in &it.parameters {
+        if !is_lifetime(parameter) {
+            return true;
+        }
     }
-    Ok(places)
+    false
 }
 
-impl<'a> Builder<'a, '_> {
+impl<'a, 'b> Builder<'a, 'b> {
+    /// A table without nodes, for words that are asked for in this scope.
+    pub fn new(
+        alloc: Global,
+        declared: &'b [Declaration<'a>],
+        names: &'b Scopes<'a>,
+        asked: usize,
+    ) -> Builder<'a, 'b> {
+        Builder {
+            alloc,
+            declared,
+            instances: Vec::new(alloc),
+            bound: Vec::new(alloc),
+            scope: 0,
+            names,
+            here: asked,
+            asked,
+            at: At {
+                name: "",
+                variant: "",
+                field: None,
+            },
+            rest: &[],
+            line: 0,
+            left: 0,
+            doubt: ("", ""),
+            nodes: Vec::new(alloc),
+            called: Vec::new(alloc),
+            faults: Faults::new(alloc),
+            is_wrong: false,
+        }
+    }
+
     /// The next word, which stays; nothing at the end.
     fn peek(&self) -> &'a str {
         match self.rest {
@@ -157,14 +166,21 @@ impl<'a> Builder<'a, '_> {
     /// Notes what is wrong at the last word, unless something is already. The place is none of the table's.
     fn wrong(&mut self, pieces: &[&str]) -> usize {
         if !self.is_wrong {
-            self.faults.put_line_number(self.line);
-            self.note_field();
+            self.begin_wrong();
             self.faults.put_all(pieces);
             self.faults.put("\n");
-            self.is_wrong = true;
-            self.rest = &[];
         }
         0
+    }
+
+    /// Notes where something is wrong, and hides the words behind it.
+    fn begin_wrong(&mut self) {
+        if self.here != self.asked {
+            self.faults.put_line_number(self.line);
+            self.note_field();
+        }
+        self.is_wrong = true;
+        self.rest = &[];
     }
 
     /// Notes which type is read, which variant and which field of it, so far as one is.
@@ -189,7 +205,7 @@ impl<'a> Builder<'a, '_> {
     /// Goes over to the words of a scope.
     fn turn_to(&mut self, scope: usize) {
         self.here = scope;
-        self.faults.turn_to(self.scopes.file_of(scope));
+        self.faults.turn_to(self.names.file_of(scope));
     }
 
     /// Takes this word, which must be next.
@@ -205,7 +221,7 @@ impl<'a> Builder<'a, '_> {
         let place = self.nodes.len();
         let failed = self.nodes.push(node).is_err();
         self.faults.note(failed);
-        let failed = self.names.push(names).is_err();
+        let failed = self.called.push(names).is_err();
         self.faults.note(failed);
         place
     }
@@ -248,15 +264,8 @@ impl<'a> Builder<'a, '_> {
         if let Some(old) = self.nodes.get_mut(place) {
             *old = node;
         }
-        if let Some(old) = self.names.get_mut(place) {
+        if let Some(old) = self.called.get_mut(place) {
             *old = names;
-        }
-    }
-
-    /// Keeps the first places for the declared types.
-    fn keep_places(&mut self) {
-        for _ in self.declared {
-            self.add(Node::Bool, Names::Nothing);
         }
     }
 
@@ -270,95 +279,100 @@ impl<'a> Builder<'a, '_> {
         };
     }
 
-    /// Refuses a name that another declaration has.
-    fn check(&mut self, it: &Declaration<'a>, scope: usize, own: Marked) {
-        self.begin(it, scope);
+    /// Whether another declaration of the same module has this name, and stands before it.
+    fn is_twice(&self, index: usize, it: &Declaration<'a>) -> bool {
+        let scope = self.names.scope_of(index);
+        for (other, declared) in self.declared.iter().enumerate() {
+            if other >= index {
+                break;
+            }
+            if self.names.scope_of(other) == scope && declared.name == it.name {
+                return true;
+            }
+        }
+        false
+    }
+
+    /// Keeps a place for each declared type without parameters, in their order.
+    pub fn owe_all(&mut self) {
+        let declared = self.declared;
+        for (index, it) in declared.iter().enumerate() {
+            if !has_type_parameters(it) {
+                self.owe_type(index);
+            }
+        }
+    }
+
+    /// Keeps a place for a declared type, which is made later.
+    pub fn owe_type(&mut self, index: usize) -> usize {
+        let place = self.add(Node::Bool, Names::Nothing);
+        let of = Vec::new(self.alloc);
+        let failed = self.instances.push(Made { index, of, place }).is_err();
+        self.faults.note(failed);
+        place
+    }
+
+    /// Makes the types that are owed, and those that these owe.
+    pub fn make_owed(&mut self) {
+        for next in 0..usize::MAX {
+            let Some(made) = self.instances.get(next) else {
+                break;
+            };
+            let (index, place) = (made.index, made.place);
+            let declared = self.declared;
+            if let Some(it) = declared.get(index)
+                && !has_type_parameters(it)
+            {
+                self.make(index, it, place);
+            }
+        }
+    }
+
+    /// Makes the node of a declared type at its place.
+    fn make(&mut self, index: usize, it: &Declaration<'a>, place: usize) {
+        let scope = self.names.scope_of(index);
         self.is_wrong = false;
+        if !it.wrong.is_empty() {
+            self.faults.put(it.wrong.as_str());
+            return;
+        }
+        self.begin(it, scope);
         self.line = it.line;
-        match self.scopes.first_of(it.name, scope) {
-            Some((first, _)) if first == own => {}
-            Some((_, false)) => {
-                self.wrong(&[IN_ANOTHER]);
-            }
-            _ => {
-                self.wrong(&[TWICE]);
-            }
+        if self.is_twice(index, it) {
+            self.wrong(&[TWICE]);
+            return;
         }
+        let entry = self.declaration(it, scope, DEEPEST);
+        self.put(place, entry);
     }
 
-    /// Makes the nodes of the declared types, in their order.
-    fn declarations(&mut self) {
-        for (index, it) in self.generic.iter().enumerate() {
-            let scope = place_in(self.generic_in, index);
-            self.check(it, scope, Marked::Generic(index));
-        }
-        for (place, it) in self.declared.iter().enumerate() {
-            let scope = place_in(self.declared_in, place);
-            self.check(it, scope, Marked::Whole(place));
-            let entry = self.declaration(it, scope, DEEPEST);
-            self.put(place, entry);
-        }
+    /// The place of the type that words say which are asked for.
+    pub fn make_asked(&mut self, words: &'a [Token]) -> usize {
+        self.turn_to(self.asked);
+        self.whole(words, DEEPEST)
     }
-}
 
-/// The nodes of declared types, in their order, and behind them those of the types in them that have no name; and what their
-/// values are called by.
-///
-/// Those with parameters have no node but where a field has one of them. `files` are those that all were read from.
-pub fn table<'a>(
-    alloc: Global,
-    files: &'a [Read],
-    declared: &[Declaration<'a>],
-    generic: &[Declaration<'a>],
-) -> Result<(Vec<Node>, Vec<Names>), Error>
-    ensures named { IfOk result (λ t. length t.1.items ≡ length t.0.items) }
-    ensures declared { IfOk result (λ t. length declared.now ≤ length t.0.items) }
-{
-    if files.is_empty() {
-        return Err(Error::Wrong(String::from_str(alloc, NO_FILE)?));
+    /// Refuses a name that isn't declared; one that is asked for with the nearest, and with all that there are.
+    fn refuse_unknown(&mut self, word: &str, why: &str) -> usize {
+        self.refuse(word, why);
+        if self.here == self.asked {
+            put_nearest(&mut self.faults, self.declared, word);
+        }
+        0
     }
-    let mut scopes = Scopes::new(alloc, files, KNOWN_CRATES)?;
-    let declared_in = marked(alloc, &mut scopes, declared, false)?;
-    let generic_in = marked(alloc, &mut scopes, generic, true)?;
-    let mut builder = Builder {
-        alloc,
-        declared,
-        generic,
-        instances: Vec::new(alloc),
-        bound: Vec::new(alloc),
-        scope: 0,
-        scopes: &scopes,
-        declared_in: &declared_in,
-        generic_in: &generic_in,
-        here: 0,
-        at: At {
-            name: "",
-            variant: "",
-            field: None,
-        },
-        rest: &[],
-        line: 0,
-        left: 0,
-        nodes: Vec::new(alloc),
-        names: Vec::new(alloc),
-        faults: Faults::new(alloc),
-        is_wrong: false,
-    };
-    builder.keep_places();
-    builder.declarations();
-    let Builder {
-        nodes,
-        names,
-        faults,
-        ..
-    } = builder;
-    let faults = faults.finished()?;
-    if !faults.is_empty() {
-        return Err(Error::Wrong(faults));
+
+    /// The table, or what is wrong, a line each. Each node has names.
+    pub fn finished(self) -> Result<(Vec<Node>, Vec<Names>), Error>
+        ensures { IfOk result (λ t. length t.1.items ≡ length t.0.items) }
+    {
+        let faults = self.faults.finished()?;
+        if !faults.is_empty() {
+            return Err(Error::Wrong(faults));
+        }
+        // Each has a node and names, unless memory ran out.
+        if self.called.len() != self.nodes.len() {
+            return Err(Error::OutOfMemory);
+        }
+        Ok((self.nodes, self.called))
     }
-    // Each has a node and names, unless memory ran out.
-    if names.len() != nodes.len() || nodes.len() < declared.len() {
-        return Err(Error::OutOfMemory);
-    }
-    Ok((nodes, names))
 }

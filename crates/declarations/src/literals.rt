@@ -1,8 +1,4 @@
 //! Numbers as Rust writes them.
-use declaration_parser::tokens::is_among;
-
-/// What may stand behind the digits of a length.
-const SUFFIXES: &[&str] = &["", "usize", "u8", "u16", "u32", "u64", "i32"];
 
 /// The digits of a number, and their radix.
 fn digits_of(word: &str) -> (&str, u64) {
@@ -29,8 +25,8 @@ fn digit_of(character: char, radix: u64) -> Option<u64> {
     Some(u64::from(digit?))
 }
 
-/// A number by its digits, as Rust writes it.
-pub fn literal(word: &str) -> Option<u64> {
+/// A number by its digits, as Rust writes it, and the type that stands behind them, which may be left out.
+pub fn literal(word: &str) -> Option<(u64, &str)> {
     let (digits, radix) = digits_of(word);
     let mut number: u64 = 0;
     let mut length: usize = 0;
@@ -45,8 +41,10 @@ pub fn literal(word: &str) -> Option<u64> {
         }
         length = length.saturating_add(1);
     }
-    if is_number && is_among(digits.get(length..)?, SUFFIXES) {
-        return Some(number);
+    let suffix = digits.get(length..)?;
+    if is_number {
+        Some((number, suffix))
+    } else {
+        None
     }
-    None
 }

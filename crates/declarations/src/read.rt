@@ -1,13 +1,17 @@
-//! From a text of declarations to a table.
-ghost use Rattle.std.specs.Prelude.{◌≡◌, ◌≤◌, length, IfOk};
+//! From files of declarations to a table.
+ghost use Rattle.std.specs.Prelude.{◌≡◌, ◌≤◌, ◌<◌, length, IfOk};
 
-use crate::builder::table;
+use crate::builder::{Builder, has_type_parameters};
+use crate::names::Names as Scopes;
 use crate::{Named, Schema};
 use declaration_parser::declaration::Declaration;
 use declaration_parser::parser::Purpose;
 use declaration_parser::reading::declarations;
-use declaration_parser::tokens::{Read, is_lifetime, tokens_of};
+use declaration_parser::tokens::{Read, Token, tokens_of};
 use std::alloc::{AllocError, Global};
+
+/// What is said where no file is named.
+const NO_FILE: &str = "no file of declarations is named\n";
 
 /// A file of declarations.
 #[derive(Drop)]
@@ -33,60 +37,67 @@ impl From<AllocError> for Error {
     }
 }
 
-/// The names of declared types, one for each.
-fn named(alloc: Global, declared: &[Declaration<'_>]) -> Result<Vec<Named>, AllocError>
-    ensures { IfOk result (λ types. length types.items ≡ length declared.now) }
-{
+/// A declared type, and what came of it.
+#[derive(Drop)]
+pub struct Checked {
+    /// Its name.
+    pub name: String,
+    /// The line of its declaration, counted from 1.
+    pub line: usize,
+    pub outcome: Outcome,
+}
+
+/// Whether a type can be read.
+#[derive(Drop)]
+pub enum Outcome {
+    /// Its table, and its place there.
+    Readable(Schema, usize),
+    /// Why not: lines like ``line 3: `Level` isn't declared``, each with its line feed.
+    Wrong(String),
+}
+
+/// The names of declared types without parameters, one for each.
+fn named(alloc: Global, declared: &[Declaration<'_>]) -> Result<Vec<Named>, AllocError> {
     let mut types = Vec::new(alloc);
     for it in declared {
-        let name = String::from_str(alloc, it.name)?;
-        types.push(Named {
-            name,
-            line: it.line,
-        })?;
+        if !has_type_parameters(it) {
+            let name = String::from_str(alloc, it.name)?;
+            types.push(Named {
+                name,
+                line: it.line,
+            })?;
+        }
     }
     Ok(types)
 }
 
-/// Declared types that have a schema by themselves, and those that have parameters.
-type Parted<'a> = (Vec<Declaration<'a>>, Vec<Declaration<'a>>);
-
-/// Whether a declaration has other parameters than lifetimes.
-fn has_type_parameters(it: &Declaration<'_>) -> bool {
-    for parameter in &it.parameters {
-        if !is_lifetime(parameter) {
-            return true;
-        }
-    }
-    false
-}
-
-/// Parts those that have parameters from the others.
-fn parted<'a>(alloc: Global, declared: Vec<Declaration<'a>>) -> Result<Parted<'a>, AllocError> {
-    let mut whole = Vec::new(alloc);
-    let mut generic = Vec::new(alloc);
+/// All that is wrong with declarations themselves.
+fn wrong_of(faults: String, declared: &[Declaration<'_>]) -> Result<String, AllocError> {
+    let mut lines = faults;
     for it in declared {
-        if has_type_parameters(&it) {
-            generic.push(it)?;
-        } else {
-            whole.push(it)?;
-        }
+        lines.push_str(it.wrong.as_str())?;
     }
-    Ok((whole, generic))
+    Ok(lines)
 }
 
-/// The table of declared types.
+/// The table of all declared types without parameters, in their order.
 fn table_of<'a>(
     alloc: Global,
-    files: &'a [Read],
     declared: &[Declaration<'a>],
-    generic: &[Declaration<'a>],
+    scopes: &Scopes<'a>,
+    asked: usize,
 ) -> Result<Schema, Error>
     ensures named { IfOk result (λ s. length s.names.items ≡ length s.nodes.items) }
     ensures declared { IfOk result (λ s. length s.types.items ≤ length s.nodes.items) }
 {
-    let (nodes, names) = table(alloc, files, declared, generic)?;
+    let mut builder = Builder::new(alloc, declared, scopes, asked);
+    builder.owe_all();
+    builder.make_owed();
+    let (nodes, names) = builder.finished()?;
     let types = named(alloc, declared)?;
+    if types.len() > nodes.len() {
+        return Err(Error::OutOfMemory);
+    }
     Ok(Schema {
         types,
         nodes,
@@ -95,16 +106,21 @@ fn table_of<'a>(
 }
 
 /// The table of the declarations that these files have.
-fn read_tokens(alloc: Global, files: &[Read]) -> Result<Schema, Error>
+fn read_all(alloc: Global, files: &[Read]) -> Result<Schema, Error>
     ensures named { IfOk result (λ s. length s.names.items ≡ length s.nodes.items) }
     ensures declared { IfOk result (λ s. length s.types.items ≤ length s.nodes.items) }
 {
-    let (declared, faults) = declarations(alloc, Purpose::Schemas, files)?;
-    if faults.is_empty() {
-        let (declared, generic) = parted(alloc, declared)?;
-        return table_of(alloc, files, &declared, &generic);
+    if files.is_empty() {
+        return Err(Error::Wrong(String::from_str(alloc, NO_FILE)?));
     }
-    Err(Error::Wrong(faults))
+    let (declared, faults) = declarations(alloc, Purpose::Schemas, files)?;
+    let wrong = wrong_of(faults, &declared)?;
+    if !wrong.is_empty() {
+        return Err(Error::Wrong(wrong));
+    }
+    let mut scopes = Scopes::new(alloc, files, &declared)?;
+    let asked = scopes.add_outside();
+    table_of(alloc, &declared, &scopes, asked)
 }
 
 /// Reads declarations, and makes one table of those that are marked: by a line `// message` before one, or by the names
@@ -118,7 +134,7 @@ pub fn read_schema(alloc: Global, text: &str) -> Result<Schema, Error>
     ensures declared { IfOk result (λ s. length s.types.items ≤ length s.nodes.items) }
 {
     let read = tokens_of(alloc, "", text)?;
-    read_tokens(alloc, &[read])
+    read_all(alloc, &[read])
 }
 
 /// The tokens of each file.
@@ -131,12 +147,123 @@ fn tokens_in(alloc: Global, sources: &[Source]) -> Result<Vec<Read>, AllocError>
     Ok(files)
 }
 
-/// As [`read_schema`], of all that these files have, whose names stand before the lines of what is wrong. A name is looked for
-/// in the file where it stands, and then, where that brings it in, in the others.
+/// The tokens of each file, and behind them those of words.
+fn tokens_with(alloc: Global, sources: &[Source], words: &str) -> Result<Vec<Read>, AllocError> {
+    let mut files = tokens_in(alloc, sources)?;
+    let read = tokens_of(alloc, "", words)?;
+    files.push(read)?;
+    Ok(files)
+}
+
+/// As [`read_schema`], of all that these files have, whose names stand before the lines of what is wrong.
 pub fn read_sources(alloc: Global, sources: &[Source]) -> Result<Schema, Error>
     ensures named { IfOk result (λ s. length s.names.items ≡ length s.nodes.items) }
     ensures declared { IfOk result (λ s. length s.types.items ≤ length s.nodes.items) }
 {
     let files = tokens_in(alloc, sources)?;
-    read_tokens(alloc, &files)
+    read_all(alloc, &files)
+}
+
+/// The table of the type that words say, which are asked for, and its place there.
+fn table_asked<'a>(
+    alloc: Global,
+    declared: &[Declaration<'a>],
+    scopes: &Scopes<'a>,
+    asked: usize,
+    words: &'a [Token],
+) -> Result<(Schema, usize), Error>
+    ensures named { IfOk result (λ r. length r.0.names.items ≡ length r.0.nodes.items) }
+    ensures within { IfOk result (λ r. r.1 < length r.0.nodes.items) }
+{
+    let mut builder = Builder::new(alloc, declared, scopes, asked);
+    let place = builder.make_asked(words);
+    builder.make_owed();
+    let (nodes, names) = builder.finished()?;
+    if place >= nodes.len() {
+        return Err(Error::OutOfMemory);
+    }
+    let schema = Schema {
+        types: Vec::new(alloc),
+        nodes,
+        names,
+    };
+    Ok((schema, place))
+}
+
+/// Returns the table of a type, and its place there, by its words: what may stand as the type of a field, as `Reading`,
+/// `Framed<Accel>`, `[Rgb8; 24]`, `Result<(), Error>`, `v1::Config`.
+///
+/// # Errors
+/// `Wrong` if the words are no type that can be read; only what they reach has to be. Of a name that isn't there the nearest is
+/// said, and which there are.
+pub fn read_type(alloc: Global, sources: &[Source], words: &str) -> Result<(Schema, usize), Error>
+    ensures named { IfOk result (λ r. length r.0.names.items ≡ length r.0.nodes.items) }
+    ensures within { IfOk result (λ r. r.1 < length r.0.nodes.items) }
+{
+    let files = tokens_with(alloc, sources, words)?;
+    let Some((asked_for, files)) = files.split_last() else {
+        return Err(Error::OutOfMemory);
+    };
+    let (declared, _) = declarations(alloc, Purpose::Schemas, files)?;
+    let mut scopes = Scopes::new(alloc, files, &declared)?;
+    let asked = scopes.add_outside();
+    table_asked(alloc, &declared, &scopes, asked, &asked_for.tokens)
+}
+
+/// What came of a declared type.
+fn outcome_of<'a>(
+    alloc: Global,
+    declared: &[Declaration<'a>],
+    scopes: &Scopes<'a>,
+    asked: usize,
+    index: usize,
+) -> Result<Outcome, AllocError> {
+    let mut builder = Builder::new(alloc, declared, scopes, asked);
+    let place = builder.owe_type(index);
+    builder.make_owed();
+    match builder.finished() {
+        Ok((nodes, names)) => {
+            let types = Vec::new(alloc);
+            let schema = Schema {
+                types,
+                nodes,
+                names,
+            };
+            Ok(Outcome::Readable(schema, place))
+        }
+        Err(Error::Wrong(lines)) => Ok(Outcome::Wrong(lines)),
+        Err(Error::OutOfMemory) => Err(AllocError),
+    }
+}
+
+/// Returns each declared type without parameters, with its table or why it can't be read; and what is wrong with marks and texts of
+/// the files, a line each: nothing is marked by these.
+///
+/// # Errors
+/// `Wrong` if nothing is declared.
+pub fn check_sources(alloc: Global, sources: &[Source]) -> Result<(Vec<Checked>, String), Error> {
+    let files = tokens_in(alloc, sources)?;
+    let (declared, faults) = declarations(alloc, Purpose::Schemas, &files)?;
+    if declared.is_empty() {
+        return Err(Error::Wrong(faults));
+    }
+    let mut scopes = Scopes::new(alloc, &files, &declared)?;
+    let asked = scopes.add_outside();
+    let mut all = Vec::new(alloc);
+    for (index, it) in declared.iter().enumerate() {
+        if !has_type_parameters(it) {
+            let outcome = outcome_of(alloc, &declared, &scopes, asked, index)?;
+            let name = String::from_str(alloc, it.name)?;
+            let line = it.line;
+            let one = Checked {
+                name,
+                line,
+                outcome,
+            };
+            if all.push(one).is_err() {
+                return Err(Error::OutOfMemory);
+            }
+        }
+    }
+    Ok((all, faults))
 }

@@ -12,22 +12,6 @@ pub struct Text {
     pub kind: u8,
 }
 
-/// A text and what belongs to it.
-// message
-#[derive(Drop)]
-pub struct Letter {
-    pub text: Text,
-    pub data: Vec<u8>,
-}
-
-/// A letter, and names by their numbers: structs three levels deep.
-// message
-#[derive(Drop)]
-pub struct Mail {
-    pub letter: Letter,
-    pub names: BTreeMap<u16, String>,
-}
-
 /// A point.
 // message
 #[derive(Clone, Copy, Default, PartialEq, Eq, Drop)]
@@ -36,42 +20,27 @@ pub struct Point {
     pub is_seen: bool,
 }
 
-/// Numbers of fixed width, and one that takes as many bytes as it needs.
+/// A drawing, whose size has a bound: structs in an array and in an option, numbers of fixed width, and one that takes as many
+/// bytes as it needs.
 // message
-#[derive(Clone, Copy, PartialEq, Eq, Drop)]
-pub struct Widths {
+#[derive(PartialEq, Eq, Drop)]
+pub struct Drawing {
+    pub corners: [Point; 3],
+    pub center: Option<Point>,
     pub short: LE<u16>,
     pub word: BE<u32>,
     pub whole: u128,
     pub long: LE<u128>,
 }
 
-/// A drawing, whose size has a bound.
-// message
-#[derive(PartialEq, Eq, Drop)]
-pub struct Drawing {
-    pub corners: [Point; 3],
-    pub center: Option<Point>,
-    pub widths: Widths,
-}
-
-/// Holders of structs.
+/// Holders of structs: a list, an option, a map and a box.
 // message
 #[derive(Drop)]
 pub struct Holders {
     pub texts: Vec<Text>,
-    pub letter: Option<Letter>,
-    pub corners: [Point; 3],
+    pub first: Option<Text>,
     pub numbered: BTreeMap<u16, Text>,
-    pub boxed: Box<Letter>,
-}
-
-/// What came first, and what came behind it.
-// message
-#[derive(Drop)]
-pub struct Pair<T> {
-    pub first: T,
-    pub second: Option<T>,
+    pub boxed: Box<Text>,
 }
 
 /// Levels of any type and number, and when and by how much they were taken: both as their bytes.
@@ -85,21 +54,6 @@ pub struct Sample<T: Clone, const N: usize> {
     pub levels: [T; N],
 }
 
-/// What came of a sample: when it was lost, or how much of it there is.
-// message
-#[derive(Clone, Copy, PartialEq, Eq, Drop)]
-pub enum Outcome {
-    Lost(
-        // with = "postcard::fixint::be"
-        u64,
-    ),
-    Kept {
-        parts: std::option::Option<u8>,
-        // with = "postcard::fixint::le"
-        sum: u16,
-    },
-}
-
 /// A text that lies where it was read.
 // message
 #[derive(Drop)]
@@ -108,21 +62,13 @@ pub struct Lent<'a> {
     pub kind: u8,
 }
 
-/// A text and bytes, which may be lent by two.
+/// One that holds such texts, which may be lent by two, and what is its own.
 // message
 #[derive(Drop)]
-pub struct Halves<'a, 'b> {
-    pub text: &'a str,
-    pub data: &'b [u8],
-}
-
-/// One that holds such texts, and one of its own.
-// message
-#[derive(Drop)]
-pub struct Borrower<'a> {
+pub struct Borrower<'a, 'b, T> {
     pub lent: Lent<'a>,
-    pub all: Vec<Lent<'a>>,
-    pub own: Text,
+    pub all: Vec<Lent<'b>>,
+    pub own: Option<T>,
 }
 
 /// Six tuples in one another.
@@ -133,16 +79,25 @@ pub type Six = ((((((Text, u8), u8), u8), u8), u8), u8);
 #[derive(Drop)]
 pub struct Deep(pub ((((((Six, u8), u8), u8), u8), u8), u8));
 
-/// What goes over a line.
+/// What goes over a line: structs in variants, and numbers as their bytes.
 // message
 #[derive(Drop)]
 pub enum Message {
     Text(Text),
-    Letter(Letter),
-    Mail(Mail),
-    Holders(Holders),
     Drawing(Drawing),
-    Pair { texts: Pair<Text>, point: Point },
-    Widths(Widths),
+    Holders(Holders),
+    Seen {
+        by: Option<Text>,
+        at: Point,
+    },
+    Lost(
+        // with = "postcard::fixint::be"
+        u64,
+    ),
+    Kept {
+        parts: std::option::Option<u8>,
+        // with = "postcard::fixint::le"
+        sum: u16,
+    },
     Numbers(BE<u32>, LE<u128>, u128),
 }

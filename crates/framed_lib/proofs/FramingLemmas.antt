@@ -3,16 +3,14 @@ use Rattle.std.proofs.Common.{add-one, ◌≡◌, ℕ, ◌+◌, ◌<◌, ◌≤�
 use Rattle.std.specs.Prelude.{Some, IsUtf8, take, drop, bit_xor, slice_set}
 use Rattle.std.proofs.lemmas.List.{length-append, length-drop, length-map, length-take, take_more_set, take-append-le}
 use borrow.Rule.Slice.PartMut.{put_mid}
-use Rattle.cobs.specs.Frames.{shortest_frame}
-use Rattle.cobs.specs.FrameLaws.{IsWithinLengths}
 use Rattle.postcard_tree.specs.Tree.{IsTree, text_of}
 use Rattle.postcard_tree.specs.Texts.{is_text, short_text}
 use Rattle.postcard_tree.specs.Spelling.{varint, short}
 use Rattle.postcard.specs.Greatest.{SizeWithin, text_within}
-use Rattle.cobs.specs.Sentinel.{frame_for}
 use Rattle.postcard_tree.specs.declared.error.Error.{Error}
 use Rattle.postcard_tree.specs.declared.error.Error.TheVariants.{SerializeBufferFull}
 use Rattle.postcard.specs.Written.{WrittenWhole, UnlessRefused}
+use Rattle.link.specs.Link.{shortest_frame, frame_for, IsWithinLengths}
 use Rattle.link.specs.Run.{Send, completed, refused, broken, written, IsFramed}
 use Rattle.framed_lib.specs.Sending.{IsSendOfLine, is_whole}
 

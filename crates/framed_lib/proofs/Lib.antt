@@ -1,5 +1,6 @@
 pub mod FramesLemmas
 pub mod LinesLemmas
+pub mod LiveLemmas
 pub mod OutputLemmas
 pub mod PairsLemmas
 pub mod RunLemmas

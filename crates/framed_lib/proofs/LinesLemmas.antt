@@ -1,6 +1,6 @@
 -- The lines of answers, and of the trees that they were read from.
 use Rattle.std.proofs.Math.Seq.{drop-cons, take-length}
-use Rattle.std.proofs.Common.{take, drop, get_or, add-one, ◌+◌, ◌-◌, ◌≡◌, ℕ, suc, ◌<◌, ◌==◌, Bool, true, false, ◌||◌, if◌then◌else◌, arith, List, [], ◌∷◌, ◌++◌, length, refl, sym, ap, ◌∙◌}
+use Rattle.std.proofs.Common.{take, drop, get_or, add-one, ◌+◌, ◌-◌, ◌≡◌, ℕ, suc, ◌<◌, ◌==◌, Bool, true, false, ◌||◌, if◌then◌else◌, arith, List, [], ◌∷◌, ◌++◌, length, refl, sym, ap, ◌∙◌, subst}
 use Rattle.std.specs.List.{list_all, AllZip}
 use Rattle.std.specs.Prelude.{flat_map, string_bytes, Option, Some, None}
 use Rattle.std.specs.declared.string.String.{String}
@@ -13,6 +13,7 @@ use Rattle.postcard_tree.specs.Reading.{ReadsAll, ReadsByte, ReadsText}
 use Rattle.link.specs.Stream.{Verdict}
 use Rattle.link.specs.Pushes.{Matches}
 use Rattle.link.specs.Each.{IsReceivedNow}
+use Rattle.link.specs.Listening.{EndsAtLoss}
 use Rattle.link.specs.declared.receiver.Answer.{Answer}
 use Rattle.link.specs.declared.receiver.Answer.TheVariants.{Value, Damaged, TooLong, Cut}
 use Rattle.line_io.specs.declared.transfers.End.{End}
@@ -96,8 +97,15 @@ all-same (a ∷ more) (v ∷ vs) h =
 
 -- the answers that were received, as those of the stream
 pub received : {A : Type 0} → (strict : Bool) (sentinel : ℕ) (e : Option End) (answers : List (Answer (String A))) (stream : List ℕ) → IsReceivedNow (holds_text strict) reads_text 1024 sentinel e answers stream
+    → (e ≡ Some NoMemory → EndsAtLoss (holds_text strict) reads_text 1024 sentinel answers stream)
     → (verdicts : List Verdict) × AreAnswers strict sentinel e stream verdicts × AllZip (Matches reads_text) answers verdicts
-received strict sentinel None answers stream h = (h.verdicts, h.given, h.matching)
-received strict sentinel (Some Ended) answers stream h = (h.verdicts, h.all, h.matching)
-received strict sentinel (Some ReadFault) answers stream h = (h.verdicts, h.given, h.matching)
-received strict sentinel (Some NoMemory) answers stream h = (h.verdicts, h.begins, h.matching)
+received strict sentinel None answers stream h f = (h.verdicts, h.given, h.matching)
+received strict sentinel (Some Ended) answers stream h f = (h.verdicts, h.all, h.matching)
+received strict sentinel (Some ReadFault) answers stream h f = (h.verdicts, h.given, h.matching)
+received strict sentinel (Some NoMemory) answers stream h f =
+    let e = f refl in
+    let l = e.loss in (
+      l.given.verdicts,
+      record { front = l.front; rest = l.rest; used = l.used; parts = e.parts; given = l.given.given; lost = l.lost; begins = l.begins },
+      subst (λ xs. AllZip (Matches reads_text) xs l.given.verdicts) (sym e.said) l.given.matching,
+    )

@@ -1,4 +1,5 @@
 pub mod Lines
+pub mod Live
 pub mod Output
 pub mod Program
 pub mod Sending

@@ -1,10 +1,11 @@
 -- The lines that say what a stream holds.
-use Rattle.std.specs.Prelude.{ℕ, ◌==◌, Bool, true, false, List, [], ◌∷◌, ◌++◌, flat_map, codes, string_bytes, if◌then◌else◌, Option, Some}
+use Rattle.std.specs.Prelude.{◌≡◌, ℕ, ◌==◌, Bool, true, false, List, [], ◌∷◌, ◌++◌, take, flat_map, codes, string_bytes, if◌then◌else◌, Option, Some}
 use Rattle.std.specs.declared.string.String.{String}
 use Rattle.postcard_tree.specs.Tree.{Tree, byte, sequence, Trees, end, part}
 use Rattle.postcard_tree.specs.Reading.{TakesText, ReadsText}
 use Rattle.postcard.specs.Frames.{Holds}
 use Rattle.link.specs.Listening.{AnswersBeginProperly}
+use Rattle.link.specs.Pushes.{IsLost}
 use Rattle.link.specs.Stream.{Verdict, value, damaged, too_long, cut, HoldsExactly, Given, Answers}
 use Rattle.link.specs.declared.receiver.Answer.{Answer}
 use Rattle.link.specs.declared.receiver.Answer.TheVariants.{Value, Damaged, TooLong, Cut}
@@ -20,13 +21,26 @@ holds_text true = HoldsExactly TakesText
 abbrev pub reads_text : {A : Type 0} → Tree → String A → Type 0
 reads_text t s = ReadsText t (string_bytes s)
 
+-- The answers to all that stands before a value that found no memory: whatever comes behind that value, they are the first answers, and
+-- not all.
+pub record StandBeforeLoss (strict : Bool) (sentinel : ℕ) (stream : List ℕ)
+    (verdicts : List Verdict) : Type 0 where
+  pub front : List ℕ
+  pub rest : List ℕ
+  pub used : ℕ
+  pub parts : stream ≡ front ++ rest
+  pub given : Given (holds_text strict) 1024 sentinel front verdicts
+  pub lost : IsLost (holds_text strict) 1024 sentinel front rest used
+  pub begins : (more : List ℕ) → AnswersBeginProperly (holds_text strict) 1024 sentinel
+      ((front ++ take used rest) ++ more) verdicts
+
 -- The answers to a stream in stretches of at most 1024 bytes, which sentinels end, by how far it was read: all of them where that is
--- to its end, the first of them and not all where memory was wanting, and else those that are given before its end is known.
+-- to its end, all before a value that found no memory where one did, and else those that are given before its end is known.
 abbrev pub AreAnswers : Bool → ℕ → Option End → List ℕ → List Verdict → Type 0
 AreAnswers strict sentinel (Some Ended) stream verdicts =
     Answers (holds_text strict) 1024 sentinel stream verdicts
 AreAnswers strict sentinel (Some NoMemory) stream verdicts =
-    AnswersBeginProperly (holds_text strict) 1024 sentinel stream verdicts
+    StandBeforeLoss strict sentinel stream verdicts
 AreAnswers strict sentinel _ stream verdicts =
     Given (holds_text strict) 1024 sentinel stream verdicts
 

@@ -108,7 +108,7 @@ WritesSoFar None hex sentinel end text out = out ≡ []
 WritesSoFar (Some strict) true sentinel end text out = out ≡ []
 WritesSoFar (Some strict) false sentinel end text out = WritesLines strict sentinel end text out
 
--- The lines of the first answers to a stream that was read as far as this front: not all that it has.
+-- The lines of the answers to all that stands before a value of a stream that found no memory, which was read as far as this front.
 pub record WritesFirst (strict : Bool) (sentinel : ℕ) (stream out : List ℕ) : Type 0 where
   pub front : List ℕ
   pub rest : List ℕ
@@ -212,6 +212,6 @@ module _ (way : Option Bool) (hex : Bool) (sentinel : ℕ)
     pub finished : status < 3 → RunsToItsEnd status (saying whole)
     -- a device failed
     pub failed : status ≡ 3 → DeviceFails (saying whole) ⊎ SayingFails (saying broken)
-    -- memory ran out, and no device failed: the lines of the first answers went out
+    -- memory ran out, and no device failed: the lines of all answers before the value that found none went out
     pub memory : status ≡ 4 → LacksMemory (Behind no_memory (saying whole))
     pub range : status ≤ 4

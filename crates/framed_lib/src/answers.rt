@@ -1,13 +1,17 @@
 //! The answers to a stream, as texts.
-ghost use Rattle.std.specs.Prelude.{◌≡◌, ℕ, List, None, true};
+ghost use Rattle.std.specs.Prelude.{◌≡◌, ℕ, List, Some, None, true};
 ghost use Rattle.framed_lib.specs.Lines.{holds_text, reads_text};
+ghost use Rattle.framed_lib.specs.Live.{IsAskedFor};
+ghost use Rattle.line_io.specs.declared.transfers.End.TheVariants.{NoMemory};
+ghost use Rattle.link.specs.Listening.{EndsAtLoss};
 ghost use Rattle.link.specs.Each.{Handed, HasReadNow, IsReceivedNow, UsesFew, last_call};
 
 use line_io::{End, Inlet};
 use link::{Hearer, OfType, Ordinary, Receiver, Strict};
 use std::alloc::Global;
 
-/// Hands on the answers to all that a reader gives, each once the byte that ends its stretch was read, until the hearer has had enough.
+/// Hands on the answers to all that a reader gives, each once the byte that ends its stretch was read, until the hearer has had enough;
+/// out of memory, those to all that stands before the value that found none. It is asked before each read, of at most 1024 bytes.
 /// Strictly only those stretches get a text that sending makes.
 pub fn hand_texts<R: Inlet, H: Hearer<String>>(
     alloc: Global,
@@ -18,8 +22,11 @@ pub fn hand_texts<R: Inlet, H: Hearer<String>>(
 ) -> Option<End>
     ensures received { (bytes : List ℕ)
         × HasReadNow (R.line reader.old) (R.line reader.new) result bytes
-        × Handed H.hears hearer.old hearer.new (λ answers. IsReceivedNow (holds_text strict)
-        reads_text 1024 sentinel result answers bytes) }
+        × Handed H.hears hearer.old hearer.new (λ answers.
+        IsReceivedNow (holds_text strict) reads_text 1024 sentinel result answers bytes
+        × (result ≡ Some NoMemory
+        → EndsAtLoss (holds_text strict) reads_text 1024 sentinel answers bytes))
+        × IsAskedFor H.hears H.enough H.settled strict sentinel hearer.old hearer.new bytes }
     ensures enough { result ≡ None → H.enough hearer.new ≡ true }
     ensures few { UsesFew (R.line reader.old) (R.line reader.new) (last_call result) }
 {

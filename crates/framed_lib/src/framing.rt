@@ -37,7 +37,7 @@ pub fn is_sendable(line: &[u8], is_text: bool) -> bool
     requires { IsTrue is_text → IsUtf8 line.now }
     ensures { (x : Send) × IsSendOfLine line.now x × (result ≡ is_whole x) }
 {
-    cobs::laws::lengths();
+    link::laws::frame_lengths();
     if line.len() >= LIMIT {
         return false;
     }

@@ -1,5 +1,7 @@
+ghost use Rattle.std.specs.Prelude.{◌≡◌, Bool, Some, false};
 ghost use Rattle.line_io.specs.Transfers.{Writing};
 ghost use Rattle.link.specs.Each.{HasReadNow};
+ghost use Rattle.framed_lib.specs.Live.{AnswersLive};
 ghost use Rattle.framed_lib.specs.Program.{RunEnds, unpacking};
 ghost use Rattle.framed_lib.specs.Working.{Worked, SaysLast, Reports};
 
@@ -33,6 +35,8 @@ pub struct Ran<R, W, E> {
 /// exactly what sending its text makes is `damaged`. With `hex` the framed side is hexadecimal text, in lower case where it
 /// is written. The sentinel stands on the line round each frame, whose bytes are XORed with it.
 ///
+/// Unpacking bytes, it has written the lines of all that came before the last read, of at most 1024 bytes, when it makes that one.
+///
 /// The status is 0; 1 where a line was refused or an answer isn't a value; 2 where the text isn't hexadecimal; 3 where a
 /// device failed; 4 where memory ran out. Statuses 2 to 4 end the run, and the last line on `faults` says why.
 pub fn run<R: Inlet, W: Outlet, E: Outlet>(
@@ -44,10 +48,13 @@ pub fn run<R: Inlet, W: Outlet, E: Outlet>(
     writer: W,
     mut faults: E,
 ) -> Ran<R, W, E>
-    ensures { RunEnds (unpacking mode) hex sentinel
+    ensures ends { RunEnds (unpacking mode) hex sentinel
         (HasReadNow (R.line reader) (R.line result.reader))
         (Writing (W.line writer) (W.line result.writer))
         result.status (Writing (E.line faults) (E.line result.faults)) }
+    ensures live { (strict : Bool) → unpacking mode ≡ Some strict → hex ≡ false
+        → AnswersLive R.line W.line strict sentinel
+        (reader, writer) (result.reader, result.writer) }
 {
     let (writer, worked) = work(alloc, mode, hex, sentinel, &mut reader, writer, &mut faults);
     let status = report(&mut faults, worked);
@@ -69,10 +76,12 @@ fn work<R: Inlet, W: Outlet, E: Outlet>(
     writer: W,
     faults: &mut E,
 ) -> (W, Result<u8, Stop>)
-    ensures { Worked (unpacking mode) hex sentinel
+    ensures worked { Worked (unpacking mode) hex sentinel
         (HasReadNow (R.line reader.old) (R.line reader.new))
         (Writing (W.line writer) (W.line result.0))
         (Writing (E.line faults.old) (E.line faults.new)) result.1 }
+    ensures live { (strict : Bool) → unpacking mode ≡ Some strict → hex ≡ false
+        → AnswersLive R.line W.line strict sentinel (reader.old, writer) (reader.new, result.0) }
 {
     match mode {
         Mode::Pack => {

@@ -11,7 +11,7 @@ use Rattle.postcard_tree.specs.Spelling.{Spells, SpellsAll, short, varint}
 use Rattle.postcard_tree.specs.Texts.{short_text, is_text}
 use Rattle.postcard_tree.specs.Reading.{NoFront, ReadsByte, ReadsAll, ReadsBytes}
 use Rattle.postcard_tree.specs.ReadingLaws.{bytes_laws}
-use Rattle.postcard.specs.Answer.{ReadsFront}
+use Rattle.postcard_de.specs.Answer.{ReadsFront}
 use Rattle.link.specs.Steps.{Event, quiet, ended, passed, Course}
 use Rattle.link.specs.Finds.{Replies}
 use Rattle.frames.specs.Events.{found, FindsFrame, TakesFrame, TakesCounted, HoldsCounted, answer_in, RepliesAs}

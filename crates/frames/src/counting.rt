@@ -4,7 +4,7 @@ ghost use Rattle.cobs.specs.Frames.{Frame};
 ghost use Rattle.postcard_tree.specs.Tree.{Tree, text_of};
 ghost use Rattle.postcard_tree.specs.Reading.{NoFront, ReadsBytes};
 ghost use Rattle.postcard_tree.specs.ReadingLaws.{only_written};
-ghost use Rattle.postcard.specs.Answer.{ReadsFront};
+ghost use Rattle.postcard_de.specs.Answer.{ReadsFront};
 ghost use Rattle.link.specs.Steps.{Course};
 ghost use Rattle.frames.specs.Events.{TakesCounted, TakesFrame, IsInFront, IsInRoom, RepliesCounted, found};
 

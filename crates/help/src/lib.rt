@@ -1,7 +1,8 @@
 //! What the programs answer to the word `--help`, and to `--version`.
 #![tactic(auto)]
 
-ghost use Rattle.std.specs.Prelude.{◌≡◌, ◌↔◌, ◌∷◌, [], map, string_bytes, Some};
+ghost use Rattle.std.specs.Prelude.{◌≡◌, ◌↔◌, ◌∷◌, [], map, string_bytes, Some, true};
+ghost use Rattle.std.specs.List.{Contains};
 ghost use Rattle.help.specs.Words.{help_word, version_word};
 
 use std::io::{self, Write};
@@ -29,15 +30,30 @@ pub enum Asked {
     Version,
 }
 
-/// What the words ask for in place of the program's work: `--help` or `--version` alone.
+/// Whether a word is `--help`.
+fn is_help(word: &String) -> bool
+    ensures { result ≡ true ↔ string_bytes word.now ≡ help_word }
+{
+    match word.as_str() {
+        "--help" => true,
+        _ => false,
+    }
+}
+
+/// What the words ask for in place of the program's work: help where one of them is `--help`, wherever it stands; the version where
+/// `--version` stands alone.
 pub fn asked_by(words: &[String]) -> Option<Asked>
-    ensures help { result ≡ Some Asked.Help ↔ (map string_bytes words.now ≡ help_word ∷ []) }
+    ensures help { result ≡ Some Asked.Help ↔ Contains (map string_bytes words.now) help_word }
     ensures version { result ≡ Some Asked.Version
         ↔ (map string_bytes words.now ≡ version_word ∷ []) }
 {
+    for word in words {
+        if is_help(word) {
+            return Some(Asked::Help);
+        }
+    }
     match words {
         [word] => match word.as_str() {
-            "--help" => Some(Asked::Help),
             "--version" => Some(Asked::Version),
             _ => None,
         },

@@ -1,12 +1,10 @@
 -- Ranges of numbers, and what one number more makes of them.
-use Rattle.std.proofs.Common.{◌≡◌, ◌↔◌, ◌⊎◌, ℕ, ◌+◌, ◌-◌, ◌^◌, ◌<◌, ◌≤◌, max, min, List, [], ◌∷◌, ◌++◌, length, get_or, take, drop, refl, sym, ap, ◌∙◌, subst, inl, inr, append_assoc, arith}
-use Rattle.std.proofs.Math.ListN.{set}
-use Rattle.std.specs.List.{Contains, insert}
+use Rattle.std.proofs.Common.{◌≡◌, ◌↔◌, ◌⊎◌, ℕ, ◌+◌, ◌-◌, ◌^◌, ◌<◌, ◌≤◌, max, min, List, [], ◌∷◌, ◌++◌, refl, sym, ◌∙◌, subst, inl, inr, arith}
+use Rattle.std.specs.List.{Contains}
 use Rattle.std.proofs.lemmas.Bool.{lt-ltb, le-ltb, cases_lt, cases_eq}
-use Rattle.std.proofs.lemmas.List.{length-append, length-take, take_more, drop_more, take-append-drop, take-set, drop-set, set-append_left, set-append_right, get_or_default}
+use Rattle.std.proofs.lemmas.List.{length-append}
 use Rattle.std.proofs.lemmas.List.Elements.{Contains-push, Contains-push_cases, Contains-append_left, Contains-append_right, Contains-append_cases}
-use Rattle.journal_scan.specs.declared.tallies.Gap.{Gap}
-use Rattle.journal_scan.specs.Tallies.{behind_greatest, LiesIn, AreApart, behind_ranges, Tallies, gaps_without, gap_before}
+use Rattle.journal_scan.specs.Tallies.{Gap, behind_greatest, LiesIn, AreApart, behind_ranges, Tallies, gaps_without, gap_before}
 
 -- ranges of two lists
 pub lies_joined : (a b : List Gap) (k : ℕ) → LiesIn (a ++ b) k ↔ (LiesIn a k ⊎ LiesIn b k)
@@ -81,10 +79,10 @@ contains_below [] k h l = absurd (not_in_none k h)
 contains_below (n ∷ ns) k h l = elim (contains_cases n ns k h) [ inl e ↦ omega (arith, e, l) | inr e ↦ omega (arith, contains_below ns k e l) ]
 
 -- the range of the numbers from one up to another
-gap_is : (a b : ℕ) → a < b → gap_before a b ≡ record { first = a; last = b - 1 } ∷ []
+pub gap_is : (a b : ℕ) → a < b → gap_before a b ≡ record { first = a; last = b - 1 } ∷ []
 gap_is a b l = rw (lt-ltb a b l) refl
 
-no_gap : (a b : ℕ) → b ≤ a → gap_before a b ≡ []
+pub no_gap : (a b : ℕ) → b ≤ a → gap_before a b ≡ []
 no_gap a b l = rw (le-ltb a b l) refl
 
 record IsRange (a b : ℕ) (w : List Gap) : Type 0 where
@@ -225,82 +223,3 @@ module _ {ns : List ℕ} {next count : ℕ} (front rest : List Gap) (g : Gap) (n
           | inr y ↦ (lies_joined front (w ++ rest) k).1 (inr ((lies_joined w rest k).1 (inr y)))
         ]
       ]
-
--- the edits of a list of ranges at a place
-module _ (xs : List Gap) (i n : ℕ) (g d : Gap) (l : i < length xs) (is : g ≡ get_or xs i g) where
-  abbrev left_there : List Gap
-  left_there = take i xs ++ (gaps_without (get_or xs i d) n ++ drop (i + 1) xs)
-
-  abbrev low : Gap
-  low = record { first = g.first; last = n - 1 }
-
-  abbrev high : Gap
-  high = record { first = n + 1; last = g.last }
-
-  left_is : (w : List Gap) → gaps_without g n ≡ w → take i xs ++ (w ++ drop (i + 1) xs) ≡ left_there
-  left_is w e = ap (λ x. take i xs ++ (x ++ drop (i + 1) xs)) (sym e ∙ ap (λ x. gaps_without x n) (is ∙ sym (get_or_default xs i d g l)))
-
-  set_there : (y : Gap) → set xs i y ≡ take i xs ++ (y ∷ drop (i + 1) xs)
-  set_there y = sym (take-append-drop i (set xs i y)) ∙ ap (λ x. x ++ drop i (set xs i y)) (take-set xs i y) ∙ ap (λ x. take i xs ++ x) (drop-set xs i y l)
-
-  is_high : n < g.last → gap_before (n + 1) (g.last + 1) ≡ high ∷ []
-  is_high b = gap_is (n + 1) (g.last + 1) (omega (arith, b)) ∙ ap (λ m. record { first = n + 1; last = m } ∷ []) (let e : (g.last + 1) - 1 ≡ g.last = omega arith in e)
-
-  pub cut_low : g.first < n → g.last ≤ n → set xs i low ≡ left_there
-  cut_low a b = set_there low ∙ left_is (low ∷ []) (ap (λ x. x ++ gap_before (n + 1) (g.last + 1)) (gap_is g.first n a) ∙ ap (λ x. low ∷ x) (no_gap (n + 1) (g.last + 1) (omega (arith, b))))
-
-  pub cut_high : n ≤ g.first → n < g.last → set xs i high ≡ left_there
-  cut_high a b = set_there high ∙ left_is (high ∷ []) (ap (λ x. x ++ gap_before (n + 1) (g.last + 1)) (no_gap g.first n a) ∙ is_high b)
-
-  pub cut_both : g.first < n → n < g.last → set (insert xs (i + 1) high) i low ≡ left_there
-  cut_both a b =
-      let size : length (take (i + 1) xs) ≡ i + 1 = length-take (i + 1) xs ∙ omega (arith, l) in
-      let first : set (take (i + 1) xs) i low ≡ take i xs ++ (low ∷ []) =
-      ap (λ x. set x i low) (take_more xs i d l) ∙ set_last (take i xs) (get_or xs i d) low i (length-take i xs ∙ omega (arith, l)) in
-      set-append_left (take (i + 1) xs) (high ∷ drop (i + 1) xs) i low (omega (arith, size)) ∙ ap (λ x. x ++ (high ∷ drop (i + 1) xs)) first
-      ∙ append_assoc (take i xs) (low ∷ []) (high ∷ drop (i + 1) xs) ∙ left_is (low ∷ high ∷ []) (ap (λ x. x ++ gap_before (n + 1) (g.last + 1)) (gap_is g.first n a) ∙ ap (λ x. low ∷ x) (is_high b))
-    where
-      set_last : (ys : List Gap) (x y : Gap) (k : ℕ) → length ys ≡ k → set (ys ++ x ∷ []) k y ≡ ys ++ y ∷ []
-      set_last ys x y k e = set-append_right ys (x ∷ []) k k y e (omega arith) ∙ ap (λ j. ys ++ set (x ∷ []) j y) (let z : k - k ≡ 0 = omega arith in z)
-
--- a number that one range among these has
-module _ {ns : List ℕ} {next : ℕ} {gaps : List Gap} {count : ℕ} (t : Tallies ns next gaps count) (i n : ℕ) (l : i < length gaps) (f : (g : Gap) → (get_or gaps i g).first ≤ n) (m : (g : Gap) → n ≤ (get_or gaps i g).last) where
-  any : Gap
-  any = record { first = 0; last = 0 }
-
-  split : gaps ≡ take i gaps ++ (get_or gaps i any ∷ drop (i + 1) gaps)
-  split = sym (take-append-drop i gaps) ∙ ap (λ x. take i gaps ++ x) (drop_more gaps i any l)
-
-  parted : Tallies ns next (take i gaps ++ (get_or gaps i any ∷ drop (i + 1) gaps)) count
-  parted = subst (λ x. Tallies ns next x count) split t
-
-  pub counted_late : (later : ℕ) (now : List Gap) → later ≡ next → ((g : Gap) → now ≡ take i gaps ++ (gaps_without (get_or gaps i g) n ++ drop (i + 1) gaps)) → Tallies (ns ++ n ∷ []) later now (min (count + 1) (2 ^ 64 - 1))
-  counted_late later now e h = rw e (rw (h any) (one_late (take i gaps) (drop (i + 1) gaps) (get_or gaps i any) n parted (f any) (m any)))
-
-  pub not_counted_late : Contains ns n → ⊥
-  not_counted_late = ((parted.missing n).0 (lies_here (take i gaps) (drop (i + 1) gaps) (get_or gaps i any) n parted (f any) (m any))).1
-
--- Ranges in order, and a number that doesn't lie in the one at a place: behind it, it lies in none up to there; before it, in none
--- from there on.
-module _ (xs : List Gap) (i n : ℕ) (d : Gap) (l : i < length xs) (apart : AreApart 0 xs) where
-  parts : AreApart 0 (take i xs) × AreApart (behind_ranges 0 (take i xs)) (get_or xs i d ∷ drop (i + 1) xs)
-  parts = apart_front 0 (take i xs) (get_or xs i d ∷ drop (i + 1) xs) (subst (AreApart 0) (sym (take-append-drop i xs) ∙ ap (λ z. take i xs ++ z) (drop_more xs i d l)) apart)
-
-  pub none_up_to : (get_or xs i d).last < n → LiesIn (take (i + 1) xs) n → ⊥
-  none_up_to o h = elim ((lies_joined (take i xs) (get_or xs i d ∷ []) n).0 (subst (λ z. LiesIn z n) (take_more xs i d l) h)) [
-    | inl e ↦ (let b = lies_before 0 (take i xs) n parts.0 e in omega (arith, b, parts.1.0, parts.1.1, o))
-    | inr e ↦ elim e [ inl y ↦ omega (arith, y, o) | inr y ↦ absurd y ]
-  ]
-
-  pub none_from : n < (get_or xs i d).first → LiesIn (drop i xs) n → ⊥
-  none_from o h = elim (subst (λ z. LiesIn z n) (drop_more xs i d l) h) [
-    | inl y ↦ omega (arith, y, o)
-    | inr e ↦ (let b = lies_behind ((get_or xs i d).last + 2) (drop (i + 1) xs) n parts.1.2 e in omega (arith, b, parts.1.1, o))
-  ]
-
--- a number that lies in none before a place and in none from there on
-pub none_at_all : (xs : List Gap) (i n : ℕ) → (LiesIn (take i xs) n → ⊥) → (LiesIn (drop i xs) n → ⊥) → LiesIn xs n → ⊥
-none_at_all xs i n a b h = elim ((lies_joined (take i xs) (drop i xs) n).0 (subst (λ z. LiesIn z n) (sym (take-append-drop i xs)) h)) [
-  | inl e ↦ a e
-  | inr e ↦ b e
-]

@@ -1,8 +1,20 @@
 -- Which numbers were counted, and which are missing below the greatest of them.
-use Rattle.std.specs.Prelude.{◌≡◌, ◌↔◌, ◌⊎◌, ℕ, ◌+◌, ◌-◌, ◌^◌, ◌<◌, ◌≤◌, nat_lt, if◌then◌else◌, max, min, List, [], ◌∷◌, ◌++◌, length}
+use Rattle.std.specs.Prelude.{◌≡◌, ◌↔◌, ◌⊎◌, ℕ, ◌+◌, ◌-◌, ◌^◌, ◌<◌, ◌≤◌, nat_lt, if◌then◌else◌, max, min, List, [], ◌∷◌, ◌++◌, length, map}
 use Rattle.std.specs.List.{Contains}
-use Rattle.journal_scan.specs.declared.tallies.Gap.{Gap}
 use Rattle.journal_scan.specs.declared.tallies.Tally.{Tally}
+
+-- numbers one after another, from the first to the last, both of them too
+pub record Gap : Type 0 where
+  pub first : ℕ
+  pub last : ℕ
+
+-- the range from one number to another
+abbrev pub gap : ℕ × ℕ → Gap
+gap e = record { first = e.0; last = e.1 }
+
+-- the ranges that are kept by their first numbers
+abbrev pub gaps_of : List (ℕ × ℕ) → List Gap
+gaps_of entries = map gap entries
 
 -- the number behind the greatest of these, 2^64 - 1 at most; 0 where there are none
 abbrev pub behind_greatest : List ℕ → ℕ
@@ -18,6 +30,19 @@ LiesIn (g ∷ gaps) k = ((g.first ≤ k) × (k ≤ g.last)) ⊎ LiesIn gaps k
 abbrev pub AreApart : ℕ → List Gap → Type 0
 AreApart n [] = Unit {0}
 AreApart n (g ∷ gaps) = (n ≤ g.first) × (g.first ≤ g.last) × AreApart (g.last + 2) gaps
+
+-- each of these first numbers is below this one
+abbrev pub KeysBelow : ℕ → List (ℕ × ℕ) → Type 0
+KeysBelow k [] = Unit {0}
+KeysBelow k (e ∷ entries) = (e.0 < k) × KeysBelow k entries
+
+-- a number lies in this range, which is one of these
+pub record IsGapAt (entries : List (ℕ × ℕ)) (g : ℕ × ℕ) (n : ℕ) : Type 0 where
+  pub front : List (ℕ × ℕ)
+  pub rest : List (ℕ × ℕ)
+  pub are : entries ≡ front ++ (g ∷ rest)
+  pub from : g.0 ≤ n
+  pub to : n ≤ g.1
 
 -- two behind the last number of such ranges, or n where there are none
 abbrev pub behind_ranges : ℕ → List Gap → ℕ
@@ -40,7 +65,7 @@ pub record Tallies (numbers : List ℕ) (next : ℕ) (gaps : List Gap) (count : 
 
 -- a tally of these numbers
 abbrev pub IsTally : List ℕ → Tally → Type 0
-IsTally numbers tally = Tallies numbers tally.next tally.gaps.items tally.count
+IsTally numbers tally = Tallies numbers tally.next (gaps_of tally.gaps.entries) tally.count
 
 -- the range of the numbers from one up to another, where there are any
 abbrev pub gap_before : ℕ → ℕ → List Gap

@@ -1,5 +1,5 @@
 //! Checking a log: what isn't a record, and which numbers no record has.
-ghost use Rattle.std.specs.Prelude.{◌≡◌, ℕ, ◌≤◌, true, List, ◌++◌, OnOk, IfOk, IfErr};
+ghost use Rattle.std.specs.Prelude.{◌≡◌, ◌↔◌, ℕ, ◌≤◌, true, List, ◌++◌, OnOk, IfOk, IfErr};
 ghost use Rattle.line_io.specs.Transfers.{Failed};
 ghost use Rattle.journal.specs.Reading.{HaltsBehind};
 ghost use Rattle.journal_scan.specs.Checks.{IsChecked, IsNoRecord, CheckCause, IsAgain, record_in, numbers_of};
@@ -37,7 +37,7 @@ pub struct Report<T> {
 
 // Whether a stretch is left over: it only ends where the log does, and isn't a record. Then the watcher isn't told of it.
 fn is_left_over<T>(closed: bool, answer: &Answer<(u64, T)>) -> bool
-    ensures { result ≡ true → (closed ≡ true) × IsNoRecord answer.now }
+    ensures { result ≡ true ↔ ((closed ≡ true) × IsNoRecord answer.now) }
 {
     match answer {
         Answer::Value(_) => false,

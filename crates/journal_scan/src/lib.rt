@@ -14,5 +14,5 @@ pub use checking::{CheckError, Report, check};
 pub use opening::open_by;
 pub use repairing::{RepairError, Repaired, repair};
 pub use scanning::{Scan, ScanError, Stretch};
-pub use tallies::{Gap, Tally};
+pub use tallies::Tally;
 pub use watching::{Judge, Watcher};

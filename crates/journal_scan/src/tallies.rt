@@ -1,124 +1,116 @@
 //! Which numbers were counted, and which are missing.
-ghost use Rattle.std.specs.Prelude.{◌≡◌, ◌↔◌, ℕ, List, ◌+◌, ◌-◌, ◌^◌, ◌<◌, ◌≤◌, [], ◌∷◌, ◌++◌, IfOk, OnErr, OnOk, MatchOption, IsTrue, min, take, drop, length, slice_index_or};
+ghost use Rattle.std.specs.Prelude.{◌≡◌, ◌↔◌, ℕ, List, ◌+◌, ◌-◌, ◌^◌, ◌<◌, ◌≤◌, [], ◌∷◌, ◌++◌, IfOk, OnErr, OnOk, IfSome, MatchOption, IsTrue, min, length};
 ghost use Rattle.std.specs.List.{Contains};
 
 use link::NoMemory;
 use std::alloc::Global;
-
-/// Numbers one after another, from the first to the last, both of them too.
-#[derive(Clone, Copy, PartialEq, Eq, Debug, Drop)]
-pub struct Gap {
-    /// The first of them.
-    pub first: u64,
-    /// The last of them.
-    pub last: u64,
-}
+use std::collections::BTreeMap;
+use std::collections::btree_map::Iter;
 
 /// Which numbers were counted so far: keeps the ranges that are missing below the greatest one, and nothing of the others.
 #[derive(Drop)]
 pub struct Tally {
-    gaps: Vec<Gap>,
+    // the last number of each range, by its first
+    gaps: BTreeMap<u64, u64>,
     next: u64,
     count: u64,
 }
 
 impl Tally {
-    ghost use Rattle.journal_scan.specs.Tallies.{IsTally, Tallies, AreApart, AreMissing, LiesIn, behind_greatest, gaps_without, gap_before};
+    ghost use Rattle.journal_scan.specs.Tallies.{IsTally, Tallies, AreApart, AreMissing, LiesIn, IsGapAt, KeysBelow, behind_greatest, behind_ranges, gaps_of, gaps_without, gap_before, gap};
 
     /// One that counted nothing.
     pub fn new(alloc: Global) -> Tally
         ensures { IsTally [] result }
     {
         Tally {
-            gaps: Vec::new(alloc),
+            gaps: BTreeMap::new(alloc),
             next: 0,
             count: 0,
         }
     }
 
-    // Which of the ranges a number lies in, where they stand in order.
-    fn place(&self, number: u64) -> Option<usize>
-        ensures { MatchOption result (AreApart 0 self.now.gaps.items
-            → LiesIn self.now.gaps.items number → ⊥) (λ i. (i < length self.now.gaps.items)
-            × ((g : Gap) → (slice_index_or self.now.gaps.items i g).first ≤ number)
-            × ((g : Gap) → number ≤ (slice_index_or self.now.gaps.items i g).last)) }
+    // The range that a number lies in: its first number and its last.
+    fn gap_at(&self, number: u64) -> Option<(u64, u64)>
+        ensures first { IfSome result (λ g. g.0 ≤ number) }
+        ensures last { IfSome result (λ g. number ≤ g.1) }
+        ensures at { AreApart 0 (gaps_of self.now.gaps.entries) → MatchOption result
+            (LiesIn (gaps_of self.now.gaps.entries) number → ⊥)
+            (λ g. IsGapAt self.now.gaps.entries g number) }
     {
-        let mut from = 0;
-        let mut to = self.gaps.len();
-        while from < to {
-            let middle = from + (to - from) / 2;
-            let Gap { first, last } = self.gaps[middle];
-            if number < first {
-                to = middle;
-            } else if last < number {
-                from = middle + 1;
-            } else {
-                return Some(middle);
+        match self.gaps.range(..=number).next_back() {
+            Some((first, last)) => {
+                if number <= *last {
+                    return Some((*first, *last));
+                }
+                None
             }
+            None => None,
         }
-        None
     }
 
-    // Takes a number out of the range at a place, which it lies in.
-    fn cut_out(&mut self, i: usize, number: u64) -> Result<(), NoMemory>
-        requires place { i < length self.old.gaps.items }
-        requires first { (g : Gap) → (slice_index_or self.old.gaps.items i g).first ≤ number }
-        requires last { (g : Gap) → number ≤ (slice_index_or self.old.gaps.items i g).last }
-        ensures cut { OnOk result ((g : Gap) → self.new.gaps.items ≡ take i self.old.gaps.items
-            ++ (gaps_without (slice_index_or self.old.gaps.items i g) number ++ drop (i + 1)
-            self.old.gaps.items)) }
+    // Leaves of a range the numbers before this one, where there are any.
+    fn shorten(&mut self, first: u64, number: u64) -> Result<(), NoMemory>
+        ensures shortened { OnOk result ((front rest : List (ℕ × ℕ)) (last : ℕ)
+            → KeysBelow first front → self.old.gaps.entries ≡ front ++ ((first, last) ∷ rest)
+            → gaps_of self.new.gaps.entries
+            ≡ gaps_of front ++ (gap_before first number ++ gaps_of rest)) }
+        ensures there { OnErr result ((front rest : List (ℕ × ℕ)) (last : ℕ)
+            → KeysBelow first front → self.old.gaps.entries ≡ front ++ ((first, last) ∷ rest)
+            → ⊥) }
         ensures next { self.new.next ≡ self.old.next }
         ensures count { self.new.count ≡ self.old.count }
-        ensures kept { OnErr result (self.new.gaps.items ≡ self.old.gaps.items) }
     {
-        let Gap { first, last } = self.gaps[i];
-        if first < number && number < last {
-            let behind = Gap {
-                first: number + 1,
-                last,
-            };
-            if self.gaps.insert(i + 1, behind).is_err() {
-                return Err(NoMemory);
-            }
-            self.gaps[i] = Gap {
-                first,
-                last: number - 1,
-            };
-            return Ok(());
-        }
         if first < number {
-            self.gaps[i] = Gap {
-                first,
-                last: number - 1,
+            // no memory is asked for where the range is there
+            return match self.gaps.insert(first, number - 1) {
+                Ok(_) => Ok(()),
+                Err(_) => Err(NoMemory),
             };
-            return Ok(());
         }
-        if number < last {
-            self.gaps[i] = Gap {
-                first: number + 1,
-                last,
-            };
-            return Ok(());
-        }
-        let _ = self.gaps.remove(i);
+        let _ = self.gaps.remove(&first);
         Ok(())
+    }
+
+    // Takes a number out of a range that it lies in.
+    fn cut_out(&mut self, first: u64, last: u64, number: u64) -> Result<(), NoMemory>
+        requires first { first ≤ number }
+        requires last { number ≤ last }
+        ensures cut { OnOk result ((front rest : List (ℕ × ℕ))
+            → AreApart 0 (gaps_of self.old.gaps.entries)
+            → self.old.gaps.entries ≡ front ++ ((first, last) ∷ rest)
+            → gaps_of self.new.gaps.entries
+            ≡ gaps_of front ++ (gaps_without (gap (first, last)) number ++ gaps_of rest)) }
+        ensures kept { OnErr result ((front rest : List (ℕ × ℕ))
+            → AreApart 0 (gaps_of self.old.gaps.entries)
+            → self.old.gaps.entries ≡ front ++ ((first, last) ∷ rest)
+            → self.new.gaps.entries ≡ self.old.gaps.entries) }
+        ensures next { self.new.next ≡ self.old.next }
+        ensures count { self.new.count ≡ self.old.count }
+    {
+        if number < last {
+            return match self.gaps.insert(number + 1, last) {
+                Ok(_) => self.shorten(first, number),
+                Err(_) => Err(NoMemory),
+            };
+        }
+        self.shorten(first, number)
     }
 
     // Makes a range of the numbers from the next one up to this one.
     fn pass_to(&mut self, number: u64) -> Result<(), NoMemory>
-        ensures ahead { OnOk result
-            (self.new.gaps.items ≡ self.old.gaps.items ++ gap_before self.old.next number) }
+        ensures ahead { OnOk result (AreApart 0 (gaps_of self.old.gaps.entries)
+            → (self.old.next < number
+            → behind_ranges 0 (gaps_of self.old.gaps.entries) ≤ self.old.next)
+            → gaps_of self.new.gaps.entries
+            ≡ gaps_of self.old.gaps.entries ++ gap_before self.old.next number) }
         ensures next { self.new.next ≡ self.old.next }
         ensures count { self.new.count ≡ self.old.count }
-        ensures kept { OnErr result (self.new.gaps.items ≡ self.old.gaps.items) }
+        ensures kept { OnErr result (self.new.gaps.entries ≡ self.old.gaps.entries) }
     {
         if self.next < number {
-            let gap = Gap {
-                first: self.next,
-                last: number - 1,
-            };
-            return match self.gaps.push(gap) {
-                Ok(()) => Ok(()),
+            return match self.gaps.insert(self.next, number - 1) {
+                Ok(_) => Ok(()),
                 Err(_) => Err(NoMemory),
             };
         }
@@ -128,7 +120,7 @@ impl Tally {
     // Puts a number where it belongs, and says whether it was there.
     fn put(&mut self, number: u64) -> Result<bool, NoMemory>
         ensures put { OnOk result ((numbers : List ℕ) → IsTally numbers self.old
-            → Tallies (numbers ++ number ∷ []) self.new.next self.new.gaps.items
+            → Tallies (numbers ++ number ∷ []) self.new.next (gaps_of self.new.gaps.entries)
             (min (self.old.count + 1) (2 ^ 64 - 1))) }
         ensures again { IfOk result (λ again. (numbers : List ℕ) → IsTally numbers self.old
             → number < 2 ^ 64 - 1 → IsTrue again ↔ Contains numbers number) }
@@ -137,9 +129,9 @@ impl Tally {
             → IsTally numbers self.new) }
     {
         if number < self.next {
-            return match self.place(number) {
-                Some(i) => {
-                    self.cut_out(i, number)?;
+            return match self.gap_at(number) {
+                Some((first, last)) => {
+                    self.cut_out(first, last, number)?;
                     Ok(false)
                 }
                 None => Ok(true),
@@ -180,10 +172,11 @@ impl Tally {
         self.next
     }
 
-    /// The numbers below the next one that weren't counted, in order.
-    pub fn missing(&self) -> &[Gap]
-        ensures { (numbers : List ℕ) → IsTally numbers self.now → AreMissing numbers result.now }
+    /// The ranges of the numbers below the next one that weren't counted, in order: the first number of each and its last.
+    pub fn missing(&self) -> Iter<'_, u64, u64>
+        ensures { (numbers : List ℕ) → IsTally numbers self.now
+            → AreMissing numbers (gaps_of result) }
     {
-        &self.gaps
+        self.gaps.iter()
     }
 }

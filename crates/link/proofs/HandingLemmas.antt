@@ -32,10 +32,10 @@ module _ {H V : Type 0} (hears : H → List (Answer V) → H → Type 0) (laws :
   pub handed_as : (h k : H) (P Q : List (Answer V) → Type 0) → Handed hears h k P → ((xs : List (Answer V)) → P xs → Q xs) → Handed hears h k Q
   handed_as h k P Q p f = record { answers = p.answers; heard = p.heard; so = f p.answers p.so }
 
-module _ {D H V : Type 0} (inside : D → Inside) (judging : Judging V) (hears : H → List (Answer V) → H → Type 0) (enough : H → Bool) (room : ℕ) (r : Reception D) (h k : H) where
+module _ {D H V : Type 0} (inside : D → Inside) (judging : Judging V) (hears : H → List (Answer V) → H → Type 0) (enough : H → Bool) (settled : H → Type 0) (room : ℕ) (r : Reception D) (h k : H) where
   -- it was asked before a read
-  pub was_asked : (m : Reception D) (l : H) (a b : List ℕ) (more : List (Answer V)) (p : Adds inside judging hears a r m h k) → hears k more l → enough k ≡ false → length b ≤ room → WasAsked inside judging hears enough room r h l (p.answers ++ more) (a ++ b)
-  was_asked m l a b more p q n short = record {
+  pub was_asked : (m : Reception D) (l : H) (a b : List ℕ) (more : List (Answer V)) (p : Adds inside judging hears a r m h k) → hears k more l → enough k ≡ false → (settled h → settled k) → length b ≤ room → WasAsked inside judging hears enough settled room r h l (p.answers ++ more) (a ++ b)
+  was_asked m l a b more p q n still short = record {
     before = a;
     last = b;
     parts = refl;
@@ -46,12 +46,13 @@ module _ {D H V : Type 0} (inside : D → Inside) (judging : Judging V) (hears :
     asked = k;
     heard = p.heard;
     wants = n;
+    settles = still;
     hears_on = q;
     given = λ limit s stream given x. (p.so limit s stream given x).given;
   }
 
   -- and the end added answers
-  pub still_asked : (laws : HearerLaws hears) (l : H) (a : List (Answer V)) (bytes : List ℕ) (more : List (Answer V)) → IsAsked inside judging hears enough room r h k a bytes → hears k more l → IsAsked inside judging hears enough room r h l (a ++ more) bytes
+  pub still_asked : (laws : HearerLaws hears) (l : H) (a : List (Answer V)) (bytes : List ℕ) (more : List (Answer V)) → IsAsked inside judging hears enough settled room r h k a bytes → hears k more l → IsAsked inside judging hears enough settled room r h l (a ++ more) bytes
   still_asked laws l a bytes more (inl e) q = inl e
   still_asked laws l a bytes more (inr w) q = inr (record {
     before = w.before;
@@ -64,6 +65,7 @@ module _ {D H V : Type 0} (inside : D → Inside) (judging : Judging V) (hears :
     asked = w.asked;
     heard = w.heard;
     wants = w.wants;
+    settles = w.settles;
     hears_on = laws.more w.asked k l w.later more w.hears_on q;
     given = w.given;
   })

@@ -15,7 +15,7 @@ use Rattle.postcard_tree.specs.Tree.{Tree, IsTree}
 use Rattle.postcard_tree.specs.Spelling.{short}
 use Rattle.link.specs.Fates.{broke, Did, SendsOne, SendsAll}
 use Rattle.link.specs.declared.session.Fate.{Fate}
-use Rattle.link.specs.Lemmas.SendLaws.{sends_then}
+use Rattle.link.specs.Lemmas.SendLaws.{sends_then, calls_of_one}
 
 -- no byte
 pub writes_none : (w : LineState) → WentOrBroke w w [] (Ok tt)
@@ -120,5 +120,6 @@ one_sent limit s writes valid clean now later u v w values value fates fate p q 
   of = (q.of, tt);
   fated = ap (λ f. f ∷ []) q.fated;
   did = subst (λ b. Did v w b (broke q.send + 0)) (sym (append-nil (written s now q.send))) (subst (Did v w (written s now q.send)) (let e : broke q.send ≡ broke q.send + 0 = omega arith in e) q.did);
+  few = calls_of_one (limit + 2) v.calls_left w.calls_left value q.few;
   then = q.then;
 })

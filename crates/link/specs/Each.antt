@@ -105,9 +105,13 @@ module _ {D H V : Type 0} (inside : D → Inside) (judging : Judging V)
   -- The reader gave bytes, by no more calls than these are and the last one; what was handed on are the answers that they add.
   pub record ListensBy (on : Bool) (line later : LineState) (r s : Reception D) (h k : H)
       (end : Option End) : Type 0 where
+    -- the bytes that the reads brought
     pub bytes : List ℕ
+    -- the reader gave them, and the reading ended as was returned
     pub read : HasReadNow line later end bytes
+    -- no more calls than bytes, and the one that ended the reading
     pub few : line.calls_left ≤ later.calls_left + length bytes + last_call end
+    -- what was handed on are the answers that these bytes add to all that the receiver was given before
     pub adds : AddsBy on bytes r s h k end
 
   -- the same where listening goes on behind a value that had no memory
@@ -117,40 +121,90 @@ module _ {D H V : Type 0} (inside : D → Inside) (judging : Judging V)
 
   -- A hearer was asked before the last read, of at most so many bytes: it hadn't had enough, and what it had been handed are the
   -- answers that the bytes before that read add.
-  pub record WasAsked (enough : H → Bool) (room : ℕ) (r : Reception D) (h k : H)
-      (answers : List (Answer V)) (bytes : List ℕ) : Type 0 where
+  pub record WasAsked (enough : H → Bool) (settled : H → Type 0) (room : ℕ) (r : Reception D)
+      (h k : H) (answers : List (Answer V)) (bytes : List ℕ) : Type 0 where
+    -- the bytes of all reads but the last, and those of the last one, which are no more than the buffer holds
     pub before : List ℕ
     pub last : List ℕ
     pub parts : bytes ≡ before ++ last
     pub short : length last ≤ room
+    -- the answers that were handed on before the last read, and those after it
     pub early : List (Answer V)
     pub later : List (Answer V)
     pub said : answers ≡ early ++ later
+    -- the hearer when it was asked: it had the early answers, hadn't had enough, and put nothing off
     pub asked : H
     pub heard : hears h early asked
     pub wants : enough asked ≡ false
+    pub settles : settled h → settled asked
+    -- and the later answers made of it what it is now
     pub hears_on : hears asked later k
+    -- the early answers are those that the bytes before the last read add to all that the receiver was given before
     pub given : (limit z : ℕ) (stream : List ℕ) (given : List (Answer V))
         → Hears inside judging.holds judging.reads limit z r given stream
         → HasGiven judging.holds judging.reads limit z (given ++ early) (stream ++ before)
 
   -- so of each read: nothing was read, or it was asked before the last
-  abbrev pub IsAsked : (H → Bool) → ℕ → Reception D → H → H → List (Answer V) → List ℕ → Type 0
-  IsAsked enough room r h k answers bytes =
-      (bytes ≡ []) ⊎ WasAsked enough room r h k answers bytes
+  abbrev pub IsAsked : (H → Bool) → (H → Type 0) → ℕ → Reception D → H → H → List (Answer V)
+      → List ℕ → Type 0
+  IsAsked enough settled room r h k answers bytes =
+      (bytes ≡ []) ⊎ WasAsked enough settled room r h k answers bytes
 
-  -- The same of a receiver that was given nothing: what was handed on are the answers to the bytes, with what the end adds; or those to
-  -- what stands before a value that had no memory. The hearer was asked before each read of 1024 bytes.
-  pub record HearsOut (enough : H → Bool) (line later : LineState) (r s : Reception D) (h k : H)
-      (end : Option End) : Type 0 where
+  -- The same to the reader's end: behind whatever the receiver had heard, what was handed on are the answers that the bytes add, with
+  -- what the end adds; or those to what stands before a value that had no memory. The hearer was asked before each read of 1024 bytes.
+  pub record HearsOut (enough : H → Bool) (settled : H → Type 0) (line later : LineState)
+      (r s : Reception D) (h k : H) (end : Option End) : Type 0 where
+    -- the bytes that the reads brought
     pub bytes : List ℕ
+    -- the reader gave them, and the reading ended as was returned
     pub read : HasReadNow line later end bytes
+    -- no more calls than bytes, and the one that ended the reading
     pub few : line.calls_left ≤ later.calls_left + length bytes + last_call end
-    pub hands : Handed hears h k (λ answers. (limit z : ℕ) → IsBehind inside limit z r []
-        → IsReceivedNow judging.holds judging.reads limit z end answers bytes
-        × IsBehind inside limit z s bytes
-        × (end ≡ Some NoMemory → EndsAtLoss judging.holds judging.reads limit z answers bytes))
-    pub asked : IsAsked enough 1024 r h k hands.answers bytes
+    -- What was handed on, whatever stream the receiver was given before and with whatever answers: together they are what is received of
+    -- the stream with these bytes; the receiver is behind all of it; and out of memory they are those before the first value that found none.
+    pub hands : Handed hears h k (λ more. (limit z : ℕ) (stream : List ℕ) (given : List (Answer V))
+        → Hears inside judging.holds judging.reads limit z r given stream
+        → IsReceivedNow judging.holds judging.reads limit z end (given ++ more) (stream ++ bytes)
+        × IsBehind inside limit z s (stream ++ bytes)
+        × (end ≡ Some NoMemory
+        → EndsAtLoss judging.holds judging.reads limit z (given ++ more) (stream ++ bytes)))
+    -- the hearer was asked before each read
+    pub asked : IsAsked enough settled 1024 r h k hands.answers bytes
+
+-- How contracts know a hearer: what answers make of it, whether it has had enough, and that it puts nothing off.
+pub record Hearing (H V : Type 0) : Type 1 where
+  pub hears : H → List (Answer V) → H → Type 0
+  pub enough : H → Bool
+  pub settled : H → Type 0
+
+-- these three of a hearer
+abbrev pub hearing : {H V : Type 0} → (H → List (Answer V) → H → Type 0) → (H → Bool)
+    → (H → Type 0) → Hearing H V
+hearing hears enough settled = record { hears = hears; enough = enough; settled = settled }
+
+-- where listening is: where the reader is, the receiver, and the hearer
+pub record ListenerPlace (D H : Type 0) : Type 0 where
+  pub line : LineState
+  pub receiver : Reception D
+  pub hearer : H
+
+-- where these are, by where the readers are
+abbrev pub listener_place : {R D H : Type 0} → (R → LineState) → R → Reception D → H
+    → ListenerPlace D H
+listener_place line reader receiver hearer =
+    record { line = line reader; receiver = receiver; hearer = hearer }
+
+-- Between these places the reader gave bytes, until the listening ended so, and what was handed on are the answers that they add.
+abbrev pub ListensTo : {D H V : Type 0} → (D → Inside) → Judging V
+    → (H → List (Answer V) → H → Type 0) → ListenerPlace D H → ListenerPlace D H → Option End → Type 0
+ListensTo inside judging hears before after end = Listens inside judging hears
+    before.line after.line before.receiver after.receiver before.hearer after.hearer end
+
+-- The same to the reader's end, or until the hearer had enough, with what the end adds.
+abbrev pub ListensOut : {D H V : Type 0} → (D → Inside) → Judging V → Hearing H V
+    → ListenerPlace D H → ListenerPlace D H → Option End → Type 0
+ListensOut inside judging h before after end = HearsOut inside judging h.hears h.enough h.settled
+    before.line after.line before.receiver after.receiver before.hearer after.hearer end
 
 -- what a reader gave, however the reading ended
 pub gave_now : (line later : LineState) (end : Option End) (bytes : List ℕ)

@@ -1,12 +1,14 @@
 -- What becomes of the sends of one sender.
-use Rattle.std.specs.Prelude.{◌≡◌, ℕ, ◌+◌, ◌<◌, ◌≤◌, ◌⊎◌, Bool, List, [], ◌∷◌, length, map, Option, Some}
+use Rattle.std.specs.Prelude.{◌≡◌, ℕ, ◌+◌, ◌*◌, ◌<◌, ◌≤◌, ◌⊎◌, Bool, false, List, [], ◌∷◌, length, map, Option, Some}
 use Rattle.std.specs.List.{AllZip}
 use Rattle.std.specs.Borrow.{RattleType}
 use Rattle.std.specs.Mem.{FitsInMemory}
 use Rattle.cobs.specs.Frames.{shortest_frame}
 use Rattle.line_io.specs.Device.{LineState, Wrote}
 use Rattle.postcard_tree.specs.Tree.{Tree, IsTree}
+use Rattle.postcard_tree.specs.ReadingLaws.{WireForm}
 use Rattle.postcard.specs.Written.{UnlessRefused}
+use Rattle.link.specs.Senders.{SenderPlace}
 use Rattle.link.specs.Run.{Send, completed, refused, broken, written, clean_after, session_line, IsSend, IsSession}
 use Rattle.link.specs.declared.session.Fate.{Fate}
 use Rattle.link.specs.declared.session.Fate.TheVariants.{Done, Refused, Broken}
@@ -50,31 +52,58 @@ clean_after_all clean (x ∷ xs) = clean_after_all (clean_after clean x) xs
 
 -- what a sender did to its line: no more of its calls failed or took nothing than sends broke off, so that nothing is tried twice
 pub record Did (old new : LineState) (bytes : List ℕ) (broken_off : ℕ) : Type 0 where
+  -- the line took these bytes, and no other
   pub wrote : Wrote old new bytes
+  -- each send that broke off was a fault of the line, as long as it had a call left
   pub few : FewBroke old new broken_off
+  -- and each fault was a send that broke off
   pub once : new.faults ≤ old.faults + broken_off
+  -- no call is given back
   pub calls : new.calls_left ≤ old.calls_left
 
 -- one send
 pub record SendsOne (limit s : ℕ) (writes : Option Tree) (valid : Type 0) (clean later : Bool)
     (old new : LineState) (fate : Fate) : Type 0 where
+  -- which send it was, of this value
   pub send : Send
   pub is : IsSend IsTree limit s clean send
   pub of : IsSendOf limit writes valid send
+  -- what became of it was returned
   pub fated : fate ≡ fate_of send
+  -- the line took what such a send writes
   pub did : Did old new (written s clean send) (broke send)
+  -- by at most so many calls
+  pub few : old.calls_left ≤ new.calls_left + (limit + 2)
+  -- and the sender is clean or not as after such a send
   pub then : later ≡ clean_after clean send
 
 -- the sends of these values, and what became of them
 pub record SendsAll {V : Type 0} (limit s : ℕ) (writes : V → Option Tree) (valid : V → Type 0)
     (clean later : Bool) (old new : LineState)
     (values : List V) (fates : List Fate) : Type 0 where
+  -- which sends they were, one of each value, in their order
   pub sends : List Send
   pub are : IsSession IsTree limit s clean sends
   pub of : AllZip (λ v x. IsSendOf limit (writes v) (valid v) x) values sends
+  -- what became of each was returned
   pub fated : fates ≡ map fate_of sends
+  -- the line took what such sends of one sender write
   pub did : Did old new (session_line s clean sends) (brokens sends)
+  -- by at most so many calls for each value
+  pub few : old.calls_left ≤ new.calls_left + (limit + 2) * length values
+  -- and the sender is clean or not as after such sends
   pub then : later ≡ clean_after_all clean sends
+
+-- where a new sender is, which isn't clean
+abbrev pub new_sender : ℕ → LineState → SenderPlace
+new_sender s line = record { sentinel = s; clean = false; line = line }
+
+-- These values were sent in turn by a sender of this limit, from this place until its line was so, and these fates are what became of
+-- each.
+abbrev pub AreSentFrom : {V : Type 0} → WireForm V → ℕ → SenderPlace → LineState → List V
+    → List Fate → Type 0
+AreSentFrom form limit place line values fates = (later : Bool)
+    × SendsAll limit place.sentinel form.writes form.valid place.clean later place.line line values fates
 
 -- A session of values that are valid is one of trees that the type takes.
 abbrev pub IsCarried : {V : Type 0} → (Tree → Type 0)

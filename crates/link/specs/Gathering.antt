@@ -2,12 +2,16 @@
 use Rattle.std.specs.Prelude.{◌≡◌, ℕ, ◌≤◌, Bool, true, false, List, [], ◌∷◌, ◌++◌, length, map}
 use Rattle.std.specs.Borrow.{RattleType}
 use Rattle.std.specs.Mem.{FitsInMemory}
+use Rattle.line_io.specs.Device.{LineState}
+use Rattle.line_io.specs.Transfers.{HasRead}
 use Rattle.cobs.specs.Sentinel.{masked}
+use Rattle.postcard_tree.specs.ReadingLaws.{WireForm}
 use Rattle.postcard_tree.specs.Tree.{Tree}
 use Rattle.postcard.specs.contracts.accumulator.CobsAccumulator as accumulator
 use Rattle.postcard.specs.Frames.{Holds}
 use Rattle.link.specs.Stream.{Verdict, Answers}
 use Rattle.link.specs.Roads.{Loops, joined, AllFit, AreValues, AreFirst, values_of, IsSameByAccumulator}
+use Rattle.link.specs.declared.gathering.Gathered.{Gathered}
 use Rattle.line_io.specs.declared.transfers.End.{End}
 use Rattle.line_io.specs.declared.transfers.End.TheVariants.{NoMemory}
 
@@ -121,3 +125,12 @@ AreLooped takes reads growing room s bytes values NoMemory =
     LoopsToLoss takes reads growing room s bytes values
 AreLooped takes reads growing room s bytes values _ =
     LoopsOver takes reads growing false room s bytes values
+
+-- These values were gathered along a line by the documented loop, from where the reader was to where it is: those of the answers, where
+-- the stretches fit, and what the loop gives, whether or not they do.
+abbrev pub AreGatheredBy : {V R : Type 0} → WireForm V → ℕ → ℕ → (R → LineState) → R → Gathered V R
+    → Type 0
+AreGatheredBy form room s line reader got = (bytes : List ℕ)
+    × HasRead (line reader) (line got.reader) got.end bytes
+    × AreThoseFor form.takes form.reads form.growing room s bytes got.values.items got.end
+    × AreLooped form.takes form.reads form.growing room s bytes got.values.items got.end

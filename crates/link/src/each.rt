@@ -1,11 +1,12 @@
 //! Receiving where each answer is handed on as soon as the byte that ends its stretch was read.
 ghost use Rattle.std.specs.Prelude.{◌≡◌, ℕ, ◌-◌, ◌<◌, ◌≤◌, Bool, true, false, List, [], ◌∷◌, ◌++◌, length, Some, None, OnOk, OnErr, IfErr};
+ghost use Rattle.line_io.specs.Device.{Gave};
 ghost use Rattle.link.specs.Steps.{Course};
 ghost use Rattle.link.specs.Finds.{IsTaken, lent_message};
 ghost use Rattle.link.specs.Receivers.{SameTerms};
 ghost use Rattle.link.specs.Lending.{StandsFurther};
 ghost use Rattle.link.specs.Listening.{Hears, IsHeard, IsKeptDue, StopsAt};
-ghost use Rattle.link.specs.Each.{Handed, HandsOn, Withholds, HearerLaws, Adds, AddsBy, ListensBy, Listens, IsAsked, HearsOut, MayLackMemory};
+ghost use Rattle.link.specs.Each.{Handed, HandsOn, Withholds, HearerLaws, Adds, AddsBy, ListensBy, ListensTo, IsAsked, ListensOut, MayLackMemory, hearing, listener_place};
 ghost use Rattle.link.specs.declared.receiver.Answer.{Answer};
 ghost use Rattle.line_io.specs.declared.transfers.End.TheVariants.{ReadFault, NoMemory as LacksMemory};
 
@@ -19,7 +20,7 @@ use std::alloc::Global;
 // How many bytes are asked for in one read, where the caller has no room of its own.
 const ROOM: usize = 1024;
 
-/// What answers are handed to, one by one and in the order of their stretches.
+/// What a receiver reports its results to, one by one and in order.
 pub trait Hearer<T> {
     /// What answers make of it, one after another.
     ghost hears: { Self → List (Answer T) → Self → Type 0 };
@@ -33,16 +34,16 @@ pub trait Hearer<T> {
     /// That nothing is put off until a pause.
     ghost settled: { Self → Type 0 };
 
-    /// Takes an answer.
+    /// Takes a result.
     fn hear(&mut self, answer: Answer<T>)
         ensures { hears self.old (answer ∷ []) self.new };
 
-    /// Is called when the answers that a read, or the end, has brought about were handed on: what was put off until then is done.
+    /// Flushes what was put off: called after the results of a read, or of the end, were reported.
     fn pause(&mut self)
         ensures heard { hears self.old [] self.new }
         ensures settles { settled self.new };
 
-    /// Whether it has had enough. It is asked before each read; what a read has brought is handed on all the same.
+    /// Whether to stop. Asked before each read; the results of a read are all reported.
     fn has_enough(&self) -> bool
         ensures { result ≡ enough self.now };
 }
@@ -201,7 +202,7 @@ impl<D: Decoding> Reception<D> {
         requires { 0 < length room.old }
         ensures heard { (l : ListensBy D.inside (M.judging messages.now) H.hears goes_on
             (R.line reader.old) (R.line reader.new) self.old self.new hearer.old hearer.new result)
-            × IsAsked D.inside (M.judging messages.now) H.hears H.enough (length room.old)
+            × IsAsked D.inside (M.judging messages.now) H.hears H.enough H.settled (length room.old)
             self.old hearer.old hearer.new l.adds.answers l.bytes }
         ensures enough { result ≡ None → H.enough hearer.new ≡ true }
         ensures fault { result ≡ Some ReadFault → H.enough hearer.new ≡ false }
@@ -249,17 +250,22 @@ impl<D: Decoding> Reception<D> {
         }
     }
 
-    /// Reads once into a room of the caller's, which may keep it for all its reads, and hands on the answers that the bytes bring
-    /// about: what was handed on is then what all bytes so far give. None where at least one byte was read and there may be more; else
-    /// how the reading ended. So in a loop no more calls of the reader are used than bytes were read, and one that ends the reading.
+    /// Reads once into a buffer of the caller, reports the results, and returns `None`; or why reading ended.
     ///
-    /// At `ReadFault` the receiver stands where it stood, and the hearer stays as it was: so a reader that had nothing yet, or was
-    /// interrupted, may be listened to again. At `Ended`, `restart` or `finish` says what the end adds.
+    /// At least one byte was read if it returns `None`. So a loop makes at most one call of the reader a byte, and one that ends
+    /// the reading. The buffer may be kept for all reads, and its length bounds what one read brings.
     ///
-    /// At `NoMemory` values found none. Theirs alone are missing: all else that was read was heard, and the receiver stands behind it.
-    /// What comes behind the last of them is heard as by a receiver that was given nothing before, so listening may go on.
+    /// # Errors
+    /// - `ReadFault`: a read failed. Receiver and hearer are unchanged, so a reader that had nothing yet may be listened to again.
+    /// - `Ended`: the reader's end. `restart` or `finish` says what the end adds.
+    /// - `NoMemory`: values could not be allocated. Only these are missing; everything else was reported, and listening may
+    ///   continue.
     ///
-    /// The caller owes that the room isn't empty. What one read may bring is as much as it holds.
+    /// # Requires
+    /// The buffer isn't empty.
+    ///
+    /// # Allocates
+    /// What the values need.
     pub fn listen_with<V, M: MessageReader<V>, R: Inlet, H: Hearer<V>>(
         &mut self,
         alloc: Global,
@@ -269,8 +275,11 @@ impl<D: Decoding> Reception<D> {
         room: &mut [u8],
     ) -> Option<End>
         requires { 0 < length room.old }
-        ensures heard { Listens D.inside (M.judging messages.now) H.hears
-            (R.line reader.old) (R.line reader.new) self.old self.new hearer.old hearer.new result }
+        ensures heard { ListensTo D.inside (M.judging messages.now) H.hears
+            (listener_place R.line reader.old self.old hearer.old)
+            (listener_place R.line reader.new self.new hearer.new) result }
+        ensures room { (bytes : List ℕ) × Gave (R.line reader.old) (R.line reader.new) bytes
+            × (length bytes ≤ length room.old) }
         ensures calls { (R.line reader.new).calls_left ≡ (R.line reader.old).calls_left - 1 }
         ensures spent { (R.line reader.old).calls_left ≡ 0 → result ≡ Some ReadFault }
         ensures memory { MayLackMemory (M.judging messages.now).growing result }
@@ -281,12 +290,15 @@ impl<D: Decoding> Reception<D> {
         self.listen_by(true, alloc, messages, reader, hearer, room)
     }
 
-    /// Listens until the hearer has had enough, and answers None; else how the reading ended. What one read brings is handed on all
-    /// the same, as much as the room holds.
+    /// Listens until the hearer has had enough, and returns `None`; or why reading ended.
     ///
-    /// At `ReadFault` the receiver stands where it stood, and the hearer hadn't had enough. At `NoMemory` it is as with `listen_with`,
-    /// so listening may go on. No more calls of the reader are used than bytes were read, and one that ends the reading. The caller
-    /// owes that the room isn't empty.
+    /// The results of a read are all reported. At most one call of the reader a byte, and one that ends the reading.
+    ///
+    /// # Errors
+    /// `ReadFault`, `Ended` and `NoMemory` as with `listen_with`; listening may continue after each.
+    ///
+    /// # Requires
+    /// The buffer isn't empty.
     pub fn listen_until_with<V, M: MessageReader<V>, R: Inlet, H: Hearer<V>>(
         &mut self,
         alloc: Global,
@@ -296,8 +308,9 @@ impl<D: Decoding> Reception<D> {
         room: &mut [u8],
     ) -> Option<End>
         requires { 0 < length room.old }
-        ensures heard { Listens D.inside (M.judging messages.now) H.hears
-            (R.line reader.old) (R.line reader.new) self.old self.new hearer.old hearer.new result }
+        ensures heard { ListensTo D.inside (M.judging messages.now) H.hears
+            (listener_place R.line reader.old self.old hearer.old)
+            (listener_place R.line reader.new self.new hearer.new) result }
         ensures enough { result ≡ None → H.enough hearer.new ≡ true }
         ensures fault { result ≡ Some ReadFault → H.enough hearer.new ≡ false }
         ensures settled { H.settled hearer.old → H.settled hearer.new }
@@ -307,13 +320,19 @@ impl<D: Decoding> Reception<D> {
         self.listen_each(true, alloc, messages, reader, hearer, room)
     }
 
-    /// Reads to the reader's end, or until the hearer has had enough, by a receiver that was given nothing. Each answer is handed on
-    /// once the read that has the byte that ends its stretch was made, and none is kept: no memory is asked for but by a value. None
-    /// where the hearer had enough before the reader's end: what was handed on then is what the bytes that were read give.
+    /// Reports each result once its last byte was read, up to the reader's end, and returns why it ended; `None` if the hearer had
+    /// enough.
     ///
-    /// The end is `NoMemory` only at a value: what was handed on then are the answers to all that stands before it, and the receiver
-    /// stands behind all that was read. The hearer is asked before each read, of at most 1024 bytes: before the last it hadn't had
-    /// enough. No more calls of the reader are used than bytes were read, and one that ends the reading.
+    /// It reads at most 1024 bytes at a time and asks the hearer before each read. A receiver that has begun a stretch continues
+    /// it, so this may be called again after a fault, or once the hearer had enough.
+    ///
+    /// # Errors
+    /// - `ReadFault`: a read failed; everything read before was reported.
+    /// - `NoMemory`: a value could not be allocated. The results before it were reported, and the receiver has taken all that was
+    ///   read. To continue after such a value use `listen_with`.
+    ///
+    /// # Allocates
+    /// What the values need; no result is kept.
     pub fn receive_each_with<V, M: MessageReader<V>, R: Inlet, H: Hearer<V>>(
         &mut self,
         alloc: Global,
@@ -321,8 +340,10 @@ impl<D: Decoding> Reception<D> {
         reader: &mut R,
         hearer: &mut H,
     ) -> Option<End>
-        ensures received { HearsOut D.inside (M.judging messages.now) H.hears H.enough
-            (R.line reader.old) (R.line reader.new) self.old self.new hearer.old hearer.new result }
+        ensures received { ListensOut D.inside (M.judging messages.now)
+            (hearing H.hears H.enough H.settled)
+            (listener_place R.line reader.old self.old hearer.old)
+            (listener_place R.line reader.new self.new hearer.new) result }
         ensures enough { result ≡ None → H.enough hearer.new ≡ true }
         ensures fault { result ≡ Some ReadFault → H.enough hearer.new ≡ false }
         ensures settled { H.settled hearer.old → H.settled hearer.new }

@@ -8,14 +8,13 @@ ghost use Rattle.cobs.specs.Fronts.{StandsIn};
 ghost use Rattle.link.specs.Framing.{Framing, told_of, TookBytes, Refuses, HasRoom, Finishes};
 
 use cobs::{FrameFront, encode_in_place};
-use postcard::ser_flavors::{Flavor, IndexByte, Slice};
-use postcard::{Error, Result, Serialize, Serializer};
+use postcard::ser_flavors::Flavor;
+use postcard::{Error, Result, Serialize, Serializer, spell_into};
 
-/// A flavor of postcard's that writes the shortest frame of what is pushed, in any pushes, to the front of a buffer, each byte XORed
-/// with the sentinel. Its end answers how long the frame is.
+/// A flavor of postcard's that writes the shortest frame of what is pushed to the front of a buffer; its end returns the length.
 ///
-/// A push that the buffer has no room for is `SerializeBufferFull`; every later one that brings a byte is then too, and so is the
-/// end. No sentinel is written behind the frame.
+/// Each byte is XORed with the sentinel; no sentinel is written after the frame. A push that doesn't fit is `SerializeBufferFull`;
+/// so is every later one that brings a byte, and the end.
 #[derive(Drop)]
 pub struct Framed<'a> {
     buffer: &'a mut [u8],
@@ -26,7 +25,10 @@ pub struct Framed<'a> {
 impl<'a> Framed<'a> {
     ghost use Rattle.link.specs.Framed.{framing_of, lent_as, sentinel_of};
 
-    /// Over a buffer, with nothing pushed and the sentinel zero. The caller owes that the buffer isn't empty.
+    /// A flavor over a buffer, with nothing pushed and the sentinel zero.
+    ///
+    /// # Requires
+    /// The buffer isn't empty.
     pub fn new(buffer: &'a mut [u8]) -> Framed<'a>
         requires { 0 < length buffer.old }
         ensures ready { framing_of result
@@ -37,7 +39,7 @@ impl<'a> Framed<'a> {
         Framed::new_with_sentinel(buffer, 0)
     }
 
-    /// The same with a sentinel of the caller's choice.
+    /// The same, with this sentinel.
     pub fn new_with_sentinel(buffer: &'a mut [u8], sentinel: u8) -> Framed<'a>
         requires { 0 < length buffer.old }
         ensures ready { framing_of result
@@ -97,11 +99,15 @@ impl<'a> Flavor for Framed<'a> {
     }
 }
 
-/// Writes the frame of a value to the front of a buffer, and answers how long it is. No zero is written behind it, and what stands
-/// behind it in the buffer isn't promised. The caller owes that the buffer isn't empty.
+/// Writes the frame of a value to the front of a buffer, and returns its length.
 ///
-/// It is refused exactly where the value refuses itself, or its frame is longer than the buffer, which is `SerializeBufferFull`.
-/// Where both hold, either cause may be named.
+/// No sentinel is written after it, and the rest of the buffer isn't specified.
+///
+/// # Errors
+/// The value's own, if it refuses itself; `SerializeBufferFull` exactly if the frame doesn't fit. If both hold, either.
+///
+/// # Requires
+/// The buffer isn't empty.
 pub fn frame_into<T: Serialize>(value: &T, buffer: &mut [u8]) -> Result<usize>
     requires { 0 < length buffer.old }
     ensures ok { IfOk result (λ n. WrittenWhole (T.form.writes value.now)
@@ -144,41 +150,6 @@ fn spell_block<T: Serialize>(value: &T, buffer: &mut [u8]) -> Option<usize>
 {
     let end = buffer.len().min(255);
     spell_into(value, &mut buffer[1..end])
-}
-
-// Spells a value at the front of a room, where that has room for it, and answers how many bytes that takes.
-fn spell_into<T: Serialize>(value: &T, room: &mut [u8]) -> Option<usize>
-    ensures spelled { IfSome result (λ n. WrittenWhole (T.form.writes value.now)
-        (λ bytes. take n room.new ≡ bytes)) }
-    ensures within { IfSome result (λ n. n ≤ length room.new) }
-    ensures valid { IsSome result → T.form.valid value.now }
-{
-    let (_, spelled) = spell_and_return(value, room);
-    spelled
-}
-
-// The same, and gives the room back, by which its lender knows what it holds.
-fn spell_and_return<'a, T: Serialize>(
-    value: &T,
-    room: &'a mut [u8],
-) -> (&'a mut [u8], Option<usize>)
-    ensures same_reference { result.0.ghost_name ≡ room.entry.ghost_name }
-    ensures spelled { IfSome result.1 (λ n. WrittenWhole (T.form.writes value.now)
-        (λ bytes. take n result.0.now ≡ bytes)) }
-    ensures within { IfSome result.1 (λ n. n ≤ length result.0.now) }
-    ensures valid { IsSome result.1 → T.form.valid value.now }
-{
-    let mut spelling = Slice::new(room);
-    let mut serializer = Serializer {
-        output: &mut spelling,
-    };
-    let written = value.serialize(&mut serializer);
-    let n = spelling.held();
-    let room = spelling.into_inner();
-    match written {
-        Ok(()) => (room, Some(n)),
-        Err(_) => (room, None),
-    }
 }
 
 // The same as `frame_into_with_sentinel`, by framing each piece that the value pushes.

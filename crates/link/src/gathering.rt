@@ -6,7 +6,7 @@ ghost use Rattle.line_io.specs.Transfers.{HasRead};
 ghost use Rattle.line_io.specs.declared.transfers.End.TheVariants.{NoMemory as LacksMemory};
 ghost use Rattle.link.specs.Listening.{IsFilled};
 ghost use Rattle.link.specs.Each.{UsesFew};
-ghost use Rattle.link.specs.Gathering.{GathersPieces, LacksPlace, AreSameByAccumulator, HasGathered, AreThoseFor, AreLooped, AccumulatorFitsInMemory};
+ghost use Rattle.link.specs.Gathering.{GathersPieces, LacksPlace, AreSameByAccumulator, HasGathered, AreGatheredBy, AccumulatorFitsInMemory};
 
 use crate::receiver::NoMemory;
 use line_io::{End, Inlet};
@@ -18,7 +18,7 @@ use std::alloc::Global;
 // How many bytes are asked for in one read.
 const ROOM: usize = 1024;
 
-/// What was received.
+/// What was received by postcard's accumulator.
 #[derive(Drop)]
 pub struct Gathered<T, R> {
     /// The values, in the order of their frames.
@@ -103,32 +103,31 @@ fn gathered_alike<T: Readable>()
     postcard_tree::laws::short_is_a_spelling();
 }
 
-/// The values of all that a reader gives, to its end or first fault, by the loop that postcard documents for its accumulator: a
-/// frame with its zero has at most N bytes. The caller owes that N is at least 1.
+/// The values of everything that a reader gives, by the loop that postcard documents for its accumulator.
 ///
-/// What isn't a value is left out, and nothing tells of it. Where the stretches fit, the values are those among the answers of
-/// `receive`; but a value for which no memory was found is left out too, so a type that can ask for memory may lack some. At
-/// `NoMemory` the list itself found none for the next value: those before it stand, as many as the list was granted places, and
-/// none is missing of those of the bytes before the last read of up to 1024.
+/// A frame with its zero has at most N bytes. What isn't a value is left out without a report. If the stretches fit, the values are
+/// those among the results of `receive`, but for values that could not be allocated.
+///
+/// # Errors
+/// `end` is `ReadFault`, or `NoMemory` if the list could not be extended: the values before are there, and none is missing of those
+/// of the bytes before the last read of up to 1024.
+///
+/// # Requires
+/// N is at least 1.
 pub fn receive_by_accumulator<T: DeserializeOwned, R: Inlet, const N: usize>(
     alloc: Global,
     reader: R,
 ) -> Gathered<T, R>
     requires some { 0 < N }
     requires fits { AccumulatorFitsInMemory N.row }
-    ensures received { (bytes : List ℕ)
-        × HasRead (R.line reader) (R.line result.reader) result.end bytes
-        × AreThoseFor T.form.takes T.form.reads T.form.growing N 0 bytes result.values.items
-        result.end
-        × AreLooped T.form.takes T.form.reads T.form.growing N 0 bytes result.values.items
-        result.end }
+    ensures received { AreGatheredBy T.form N 0 R.line reader result }
     ensures full { result.end ≡ LacksMemory → IsFilled result.values }
     ensures calls { UsesFew (R.line reader) (R.line result.reader) 1 }
 {
     receive_by_accumulator_with_sentinel::<T, R, N>(alloc, reader, 0)
 }
 
-/// The same with a sentinel in place of zero.
+/// The same, with this sentinel.
 pub fn receive_by_accumulator_with_sentinel<T: DeserializeOwned, R: Inlet, const N: usize>(
     alloc: Global,
     reader: R,
@@ -136,12 +135,7 @@ pub fn receive_by_accumulator_with_sentinel<T: DeserializeOwned, R: Inlet, const
 ) -> Gathered<T, R>
     requires some { 0 < N }
     requires fits { AccumulatorFitsInMemory N.row }
-    ensures received { (bytes : List ℕ)
-        × HasRead (R.line reader) (R.line result.reader) result.end bytes
-        × AreThoseFor T.form.takes T.form.reads T.form.growing N sentinel bytes result.values.items
-        result.end
-        × AreLooped T.form.takes T.form.reads T.form.growing N sentinel bytes result.values.items
-        result.end }
+    ensures received { AreGatheredBy T.form N sentinel R.line reader result }
     ensures full { result.end ≡ LacksMemory → IsFilled result.values }
     ensures calls { UsesFew (R.line reader) (R.line result.reader) 1 }
 {

@@ -115,12 +115,14 @@ fn read_next<'a, T: Deserialize<&'a [u8]>>(
     }
 }
 
-/// The answer to the next stretch, and the bytes behind its zero; nothing where no byte but zeros is left.
+/// The result of the next stretch, and the bytes after its zero; `None` if only zeros are left.
 ///
-/// Leading zeros are skipped. A stretch that a zero ends is decoded over its own bytes, from which the value may borrow; there is
-/// no limit to its length, so it is never `TooLong`. One that no zero ends is `Cut`, and nothing is left behind it. At `Cut`, and
-/// where the answer is nothing, all the bytes stay as they were. `NoMemory` is only for a frame, and the bytes behind its zero are
-/// left then too.
+/// Leading zeros are skipped. A stretch that a zero ends is decoded over its own bytes, from which the value may borrow. It has no
+/// limit, so it is never `TooLong`. One that no zero ends is `Cut`, and nothing is left after it; the bytes then stay unchanged, as
+/// they do if the result is `None`.
+///
+/// # Errors
+/// `NoMemory`, only for a frame whose value could not be allocated; the bytes after its zero are left then too.
 pub fn read_in_place<'a, T: Deserialize<&'a [u8]>>(
     alloc: Global,
     bytes: &'a mut [u8],
@@ -134,7 +136,7 @@ pub fn read_in_place<'a, T: Deserialize<&'a [u8]>>(
     read_in_place_with_sentinel(alloc, bytes, 0)
 }
 
-/// The same with a sentinel in place of zero; a stretch is what its bytes are XORed with the sentinel.
+/// The same, with this sentinel; a stretch's bytes are XORed with it.
 pub fn read_in_place_with_sentinel<'a, T: Deserialize<&'a [u8]>>(
     alloc: Global,
     bytes: &'a mut [u8],

@@ -2,6 +2,7 @@
 //! call one where a proof needs it. What holds of streams and of runs of sends is said by the crate `link_laws`.
 ghost use Rattle.std.specs.Prelude.{ℕ};
 ghost use Rattle.link.specs.Laws.{HasRoom, IsToldByLengths, IsReadInTurn};
+ghost use Rattle.link.specs.Link.{IsWithinLengths};
 
 use postcard::Readable;
 use postcard::experimental::max_size::MaxWritten;
@@ -12,6 +13,13 @@ pub fn room<T: MaxWritten>(value: &T)
     ensures { HasRoom T.greatest (T.form.writes value.now) }
 {
     postcard::laws::within_greatest(value);
+    cobs::laws::lengths();
+}
+
+/// The shortest frame of n bytes has at least n + 1 bytes, and one more for each 254 of them at most.
+pub fn frame_lengths()
+    ensures { IsWithinLengths }
+{
     cobs::laws::lengths();
 }
 

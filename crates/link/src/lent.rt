@@ -18,7 +18,7 @@ impl<D: Decoding> Reception<D> {
     ghost use Rattle.link.specs.contracts.reception.Reception.{the_row};
     ghost use mathlib.Core.Option.{none};
     ghost use denote.Follow.{follows_so};
-    ghost use Rattle.link.specs.Lending.{AdvancesToEvent, Leads, AnswersBy, StandsBy};
+    ghost use Rattle.link.specs.Lending.{AdvancesToEvent, Leads, AnswersByForm, StandsBy};
 
     // Takes bytes of a piece, up to the first that brings something about, and lends the message of a frame.
     pub(crate) fn advance<'de>(&'de mut self, piece: &[u8]) -> Taken<&'de [u8]>
@@ -30,15 +30,15 @@ impl<D: Decoding> Reception<D> {
         self.lend(taken)
     }
 
-    /// As `push`, of a value that may borrow from the receiver: its bytes lie there. The receiver is free again once the value is
-    /// gone, and then stands behind the bytes that were used, as after `push`.
+    /// As `push`, for a value that may borrow from the receiver, such as `&str`.
+    ///
+    /// The receiver can be used again once the value is gone, and has then taken the bytes that were used, as after `push`.
     pub fn push_ref<'de, T: Deserialize<&'de [u8]>>(
         &'de mut self,
         alloc: Global,
         piece: &[u8],
     ) -> Pushed<T>
-        ensures answer { AnswersBy D.inside T.form.takes T.form.reads T.form.growing
-            self.entry.now piece.now result }
+        ensures answer { AnswersByForm D.inside T.form self.entry.now piece.now result }
         ensures* after { sem 𝓛 (follows_so (the_row D.row) (the_row D.row) self.entry.ghost_name
             none (λ _ _. ⊤) (λ n. StandsBy D.inside self.entry.now piece.now result n)) }
     {

@@ -1,9 +1,7 @@
 //! Receiving all that a reader gives.
-ghost use Rattle.std.specs.Prelude.{◌≡◌, ℕ, ◌⊎◌, List, []};
-ghost use Rattle.postcard.specs.Frames.{Holds};
-ghost use Rattle.link.specs.Stream.{HoldsExactly};
+ghost use Rattle.std.specs.Prelude.{◌≡◌, ℕ, []};
 ghost use Rattle.link.specs.Receivers.{IsBehind};
-ghost use Rattle.link.specs.Listening.{ReceiverFitsInMemory, Receives, IsUnmade};
+ghost use Rattle.link.specs.Listening.{ReceiverFitsInMemory, IsReceivedBy, IsReceivedByOwned, IsUnmade, ordinary, strictly};
 ghost use Rattle.link.specs.Firsts.{listed_end};
 
 use crate::decoding::Decoding;
@@ -16,7 +14,7 @@ use line_io::{End, Inlet};
 use postcard::{DeserializeOwned, Exact};
 use std::alloc::Global;
 
-/// What was received.
+/// What was received, why it ended, and the reader.
 #[derive(Drop)]
 pub struct Received<T, R> {
     /// The answers, in the order of their stretches.
@@ -53,9 +51,7 @@ fn receive_by<V: Drop, M: MessageReader<V>, R: Inlet, D: Decoding>(
     receiver: &mut Reception<D>,
 ) -> Received<V, R>
     ensures received { (limit s : ℕ) → IsBehind D.inside limit s receiver.old []
-        → Receives (M.judging messages.now).holds (M.judging messages.now).reads
-        (M.judging messages.now).growing limit s
-        (R.line reader) (R.line result.reader) result.end result.answers }
+        → IsReceivedBy (M.judging messages.now) limit s R.line reader result }
 {
     messages.show();
     let mut reader = reader;
@@ -72,57 +68,65 @@ fn receive_by<V: Drop, M: MessageReader<V>, R: Inlet, D: Decoding>(
     }
 }
 
-/// The answers to all that a reader gives, to its end or first fault, with stretches of at most N bytes.
+/// Receives everything that a reader gives, until it ends or fails, with frames of at most N bytes.
 ///
-/// It reads pieces of up to 1024 bytes; how long they are changes no answer. No more calls of the reader are used than bytes were
-/// read, and one that ends the reading.
+/// It reads chunks of up to 1024 bytes; their sizes change no result. At most one call of the reader a byte, and one that ends the
+/// reading. To act on each message as it comes use `receive_each_with`.
+///
+/// ```rust
+///     let received = receive::<Reading, _, 16>(rt.alloc(), reader);
+///     for answer in &received.answers {
+///         println!(rt; "{answer:?}")?;
+///     }
+/// ```
+///
+/// # Errors
+/// `end` is `ReadFault` or `NoMemory`; `answers` then are the first ones, as `Received` says.
+///
+/// # Allocates
+/// The list, and what the values need.
 pub fn receive<T: DeserializeOwned, R: Inlet, const N: usize>(
     alloc: Global,
     reader: R,
 ) -> Received<T, R>
     requires { ReceiverFitsInMemory N.row }
-    ensures received { Receives (Holds T.form.takes) T.form.reads T.form.growing N 0
-        (R.line reader) (R.line result.reader) result.end result.answers }
+    ensures received { IsReceivedBy (ordinary T.form) N 0 R.line reader result }
 {
     receive_with_sentinel::<T, R, N>(alloc, reader, 0)
 }
 
-/// As `receive`, of a line with this sentinel.
+/// As `receive`, with this sentinel.
 pub fn receive_with_sentinel<T: DeserializeOwned, R: Inlet, const N: usize>(
     alloc: Global,
     reader: R,
     sentinel: u8,
 ) -> Received<T, R>
     requires { ReceiverFitsInMemory N.row }
-    ensures received { Receives (Holds T.form.takes) T.form.reads T.form.growing N sentinel
-        (R.line reader) (R.line result.reader) result.end result.answers }
+    ensures received { IsReceivedBy (ordinary T.form) N sentinel R.line reader result }
 {
     let mut receiver = Receiver::<N>::new_with_sentinel(sentinel);
     receive_by(alloc, &Ordinary(OfType), reader, &mut receiver)
 }
 
-/// As `receive`, but a stretch within the limit is a `Value` only where it is the very frame that sending that value makes, and
-/// else `Damaged`. So equal values come from equal bytes.
+/// As `receive`, but only the exact frame that sending a value writes is a `Value`; any other is `Damaged`.
 pub fn receive_strict<T: DeserializeOwned + Exact, R: Inlet, const N: usize>(
     alloc: Global,
     reader: R,
 ) -> Received<T, R>
     requires { ReceiverFitsInMemory N.row }
-    ensures received { Receives (HoldsExactly T.form.takes) T.form.reads T.form.growing N 0
-        (R.line reader) (R.line result.reader) result.end result.answers }
+    ensures received { IsReceivedBy (strictly T.form) N 0 R.line reader result }
 {
     receive_strict_with_sentinel::<T, R, N>(alloc, reader, 0)
 }
 
-/// As `receive_strict`, of a line with this sentinel.
+/// As `receive_strict`, with this sentinel.
 pub fn receive_strict_with_sentinel<T: DeserializeOwned + Exact, R: Inlet, const N: usize>(
     alloc: Global,
     reader: R,
     sentinel: u8,
 ) -> Received<T, R>
     requires { ReceiverFitsInMemory N.row }
-    ensures received { Receives (HoldsExactly T.form.takes) T.form.reads T.form.growing N sentinel
-        (R.line reader) (R.line result.reader) result.end result.answers }
+    ensures received { IsReceivedBy (strictly T.form) N sentinel R.line reader result }
 {
     let mut receiver = Receiver::<N>::new_with_sentinel(sentinel);
     receive_by(alloc, &Strict(OfType), reader, &mut receiver)
@@ -139,17 +143,17 @@ fn unmade<T, R>(alloc: Global, reader: R) -> Received<T, R>
     }
 }
 
-/// As `receive_with_sentinel`, with stretches of at most `limit` bytes. Where no memory is found for a receiver of that limit,
-/// nothing is read and nothing answered, and the end is `NoMemory`.
+/// As `receive_with_sentinel`, with a limit that is set at run time.
+///
+/// # Errors
+/// As `receive`. If a receiver of that limit could not be allocated, nothing is read, and the end is `NoMemory`.
 pub fn receive_owned<T: DeserializeOwned, R: Inlet>(
     alloc: Global,
     reader: R,
     limit: usize,
     sentinel: u8,
 ) -> Received<T, R>
-    ensures received { IsUnmade reader result.reader result.end result.answers.items
-        ⊎ Receives (Holds T.form.takes) T.form.reads T.form.growing limit sentinel
-        (R.line reader) (R.line result.reader) result.end result.answers }
+    ensures received { IsReceivedByOwned (ordinary T.form) limit sentinel R.line reader result }
 {
     match OwnedReceiver::new(alloc, limit, sentinel) {
         Ok(mut receiver) => receive_by(alloc, &Ordinary(OfType), reader, &mut receiver),
@@ -157,17 +161,17 @@ pub fn receive_owned<T: DeserializeOwned, R: Inlet>(
     }
 }
 
-/// As `receive_strict_with_sentinel`, with stretches of at most `limit` bytes. Where no memory is found for a receiver of that
-/// limit, nothing is read and nothing answered, and the end is `NoMemory`.
+/// As `receive_strict_with_sentinel`, with a limit that is set at run time.
+///
+/// # Errors
+/// As `receive_owned`.
 pub fn receive_owned_strict<T: DeserializeOwned + Exact, R: Inlet>(
     alloc: Global,
     reader: R,
     limit: usize,
     sentinel: u8,
 ) -> Received<T, R>
-    ensures received { IsUnmade reader result.reader result.end result.answers.items
-        ⊎ Receives (HoldsExactly T.form.takes) T.form.reads T.form.growing limit sentinel
-        (R.line reader) (R.line result.reader) result.end result.answers }
+    ensures received { IsReceivedByOwned (strictly T.form) limit sentinel R.line reader result }
 {
     match OwnedReceiver::new(alloc, limit, sentinel) {
         Ok(mut receiver) => receive_by(alloc, &Strict(OfType), reader, &mut receiver),

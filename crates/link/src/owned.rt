@@ -6,17 +6,20 @@ use crate::reception::Reception;
 use cobs::CobsDecoderOwned;
 use std::alloc::Global;
 
-/// A receiver with a limit that is handed in when it is made, and that may be set anew between stretches. Its buffer has as many
-/// bytes as the limit, which may be 0.
+/// A receiver whose limit is set at run time, and can be changed between stretches. A limit of 0 is allowed.
 ///
-/// It takes memory for its buffer alone, when it is made and when the limit is set to a greater one.
+/// # Allocates
+/// Its buffer, of as many bytes as the limit: when it is made, and when the limit rises.
 pub type OwnedReceiver = Reception<CobsDecoderOwned>;
 
 impl Reception<CobsDecoderOwned> {
     ghost use Rattle.link.specs.Decoding.{in_owner};
     ghost use Rattle.link.specs.Receivers.{IsBehind, IsBetween, limit_of, sentinel_of};
 
-    /// A receiver that was given nothing, with this limit and for a line with this sentinel; or no memory was found for its buffer.
+    /// A receiver that has received nothing, with this limit and sentinel.
+    ///
+    /// # Errors
+    /// `NoMemory` if its buffer could not be allocated.
     pub fn new(alloc: Global, limit: usize, sentinel: u8) -> Result<OwnedReceiver, NoMemory>
         ensures after { IfOk result (λ r. IsBehind in_owner limit sentinel r []) }
         ensures limit { IfOk result (λ r. limit_of in_owner r ≡ limit) }
@@ -33,12 +36,13 @@ impl Reception<CobsDecoderOwned> {
         }
     }
 
-    /// Sets the limit anew: what was answered stands, and what comes is answered as by a receiver of this limit that was given
-    /// nothing.
+    /// Changes the limit. Earlier results stay; later bytes are received as by a new receiver of this limit.
     ///
-    /// A refusal, when out of memory, changes nothing, and a limit that isn't greater is never refused.
+    /// # Errors
+    /// `NoMemory` changes nothing. A limit that isn't greater never fails.
     ///
-    /// The caller owes that no stretch is begun, which `is_between` tells.
+    /// # Requires
+    /// No stretch is begun: `is_between`.
     pub fn set_limit(&mut self, limit: usize) -> Result<(), NoMemory>
         requires { IsBetween self.old }
         ensures limit { OnOk result (limit_of in_owner self.new ≡ limit) }

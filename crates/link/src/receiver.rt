@@ -5,7 +5,7 @@ use crate::reception::Reception;
 use cobs::CobsDecoderHeapless;
 use thiserror::Error;
 
-/// What a stretch gets.
+/// What a receiver reports of the bytes between two sentinels.
 #[derive(PartialEq, Debug, Drop)]
 pub enum Answer<T> {
     /// It is a frame, and a front of its message is this value. (Strictly: it is the frame that sending this value makes.)
@@ -18,13 +18,14 @@ pub enum Answer<T> {
     Cut,
 }
 
-/// No memory was found for a value, or for the buffer of an `OwnedReceiver`. Only types whose values can ask for memory
-/// (`Grows::grows`) are answered by this, and only for a stretch that is a frame within the limit.
+/// A value, or the buffer of an `OwnedReceiver`, could not be allocated.
+///
+/// Only types that allocate (`Grows::grows`) cause it, and only for bytes that are a frame within the limit.
 #[derive(Clone, Copy, PartialEq, Eq, Debug, Drop, Error)]
 #[error("no memory")]
 pub struct NoMemory;
 
-/// What a push gives.
+/// What a push returns.
 #[derive(Drop)]
 pub struct Pushed<T> {
     /// How many bytes of the piece were used: all of them where they brought about no answer. Push the rest next.
@@ -38,14 +39,27 @@ pub struct Pushed<T> {
     pub answer: Result<Option<Answer<T>>, NoMemory>,
 }
 
-/// A receiver with stretches of at most N bytes; N may be 0. It takes no memory of its own.
+/// A receiver of frames of at most N bytes; N may be 0. It allocates nothing of its own.
+///
+/// ```rust
+///     for _ in 0..piece.len() {
+///         let Pushed { used, answer, .. } = receiver.push_ref::<&str>(alloc, rest);
+///         match answer {
+///             // the text lies in the receiver until the next push
+///             Ok(Some(Answer::Value(text))) => tally.add(text),
+///             Ok(None) => {}
+///             Ok(Some(_)) | Err(NoMemory) => tally.lost = tally.lost.saturating_add(1),
+///         }
+///         rest = &rest[used..];
+///     }
+/// ```
 pub type Receiver<const N: usize> = Reception<CobsDecoderHeapless<N>>;
 
 impl<const N: usize> Reception<CobsDecoderHeapless<N>> {
     ghost use Rattle.link.specs.Decoding.{in_array};
     ghost use Rattle.link.specs.Receivers.{IsBehind, limit_of, sentinel_of};
 
-    /// A receiver that was given nothing. Its sentinel is zero.
+    /// A receiver that has received nothing, for the sentinel zero.
     pub fn new() -> Receiver<N>
         ensures after { IsBehind in_array N 0 result [] }
         ensures limit { limit_of in_array result ≡ N }
@@ -54,7 +68,7 @@ impl<const N: usize> Reception<CobsDecoderHeapless<N>> {
         Receiver::<N>::new_with_sentinel(0)
     }
 
-    /// A receiver that was given nothing, for a line with this sentinel.
+    /// A receiver that has received nothing, for this sentinel.
     pub fn new_with_sentinel(sentinel: u8) -> Receiver<N>
         ensures after { IsBehind in_array N sentinel result [] }
         ensures limit { limit_of in_array result ≡ N }

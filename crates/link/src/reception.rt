@@ -33,10 +33,10 @@ pub(crate) struct Taken<M> {
     pub found: Found<M>,
 }
 
-/// Receives values from a stream that comes in pieces, with stretches of at most so many bytes as its limit says. A stretch ends at
-/// its sentinel, which is zero where none was named. `Receiver` and `OwnedReceiver` are the names of its two kinds.
+/// Receives values from a stream that comes in chunks, under a limit on the bytes between two sentinels.
 ///
-/// It answers what the stream's bytes determine, however they are cut into pieces. Each push may name another type.
+/// Its results depend on the bytes of the stream alone, however they are split. Each push may name another type. `Receiver` and
+/// `OwnedReceiver` are the names of its two kinds.
 #[derive(Drop)]
 pub struct Reception<D> {
     // its sentinel is the receiver's, and its buffer has as many bytes as the limit
@@ -73,7 +73,7 @@ impl<D: Decoding> Reception<D> {
     ghost use Rattle.link.specs.Receivers.{IsAt, IsBehind, OnBegun, SameTerms, buffer_in, limit_of, sentinel_of, IsBetween};
     ghost use Rattle.link.specs.Lending.{StandsFurther, AnswersPush, TellsStretch};
 
-    /// How many bytes a stretch may have.
+    /// The greatest number of bytes between two sentinels.
     pub fn limit(&self) -> usize
         ensures { result ≡ limit_of D.inside self.now }
     {
@@ -275,8 +275,24 @@ impl<D: Decoding> Reception<D> {
         }
     }
 
-    /// Takes bytes of the piece up to the first answer: through the sentinel of an ended stretch, or through the byte past the limit;
-    /// where there is none, all of them. An answer is to the stretch as a whole, also where earlier pushes took its beginning.
+    /// Takes bytes up to the first result, and returns it.
+    ///
+    /// `used` is how many bytes were taken: push the rest next. Without a result all were. A result is reported at the sentinel
+    /// that ends its stretch, or at the byte past the limit, and is of the stretch as a whole, also if earlier pushes took its
+    /// beginning.
+    ///
+    /// | `answer` | The bytes since the last sentinel |
+    /// |---|---|
+    /// | `Ok(Some(Value(v)))` | are a frame that holds v |
+    /// | `Ok(Some(Damaged))` | aren't |
+    /// | `Ok(Some(TooLong))` | exceed the limit; reported once, at the first byte past it |
+    /// | `Ok(None)` | aren't ended yet |
+    ///
+    /// # Errors
+    /// `answer` is `NoMemory` if v could not be allocated. That frame is gone; the receiver is ready for the next one.
+    ///
+    /// # Allocates
+    /// What the value needs.
     pub fn push<T: DeserializeOwned>(&mut self, alloc: Global, piece: &[u8]) -> Pushed<T>
         ensures within { result.used ≤ length piece.now }
         ensures forward { 0 < length piece.now → 0 < result.used }
@@ -290,8 +306,9 @@ impl<D: Decoding> Reception<D> {
         self.push_with(alloc, &Ordinary(OfType), piece)
     }
 
-    /// As `push`, but a stretch within the limit is a `Value` only where it is the very frame that sending that value makes, and
-    /// else `Damaged`. So a value has one stretch. (A map isn't `Exact`: its pairs may come in any order.)
+    /// As `push`, but only the exact frame that sending a value writes is a `Value`; any other is `Damaged`.
+    ///
+    /// So equal values come from equal bytes. A map isn't `Exact`: its entries may come in any order.
     pub fn push_strict<T: DeserializeOwned + Exact>(
         &mut self,
         alloc: Global,
@@ -309,8 +326,9 @@ impl<D: Decoding> Reception<D> {
         self.push_with(alloc, &Strict(OfType), piece)
     }
 
-    /// As `push`, by a reader of messages, of which each push may name another. `push` is this with
-    /// `Ordinary(OfType)`, and `push_strict` with `Strict(OfType)`.
+    /// As `push`, by a reader of messages; each push may name another.
+    ///
+    /// `push` is this with `Ordinary(OfType)`, and `push_strict` with `Strict(OfType)`.
     pub fn push_with<V, M: MessageReader<V>>(
         &mut self,
         alloc: Global,
@@ -342,7 +360,7 @@ impl<D: Decoding> Reception<D> {
         !self.past && self.count == 0
     }
 
-    /// How many bytes a begun stretch has so far: 0 where none is begun, and after a `TooLong`.
+    /// How many bytes a begun stretch has so far: 0 if none is begun, and after a `TooLong`.
     pub fn begun_bytes(&self) -> usize
         ensures { OnBegun D.inside self.now (λ b. result ≡ begun_length b) }
     {
@@ -362,8 +380,7 @@ impl<D: Decoding> Reception<D> {
         Some(Answer::Cut)
     }
 
-    /// Ends the stream as `finish` does, and begins a new one: what comes is answered as by a receiver that was given nothing. It
-    /// takes no memory.
+    /// Ends the stream as `finish` does, and begins a new one with the same limit and sentinel. Allocates nothing.
     pub fn restart<T>(&mut self) -> Option<Answer<T>>
         ensures answer { OnBegun D.inside self.old (λ b. result ≡ finished b) }
         ensures anew { (limit s : ℕ) (stream : List ℕ) → IsBehind D.inside limit s self.old stream
@@ -382,7 +399,7 @@ impl<D: Decoding> Reception<D> {
 impl<D: Decoding + Drop> Reception<D> {
     ghost use Rattle.link.specs.Receivers.{OnBegun};
 
-    /// Ends the stream: `Cut` for a stretch that was begun and not answered, else nothing.
+    /// Ends the stream: `Cut` if a stretch was begun and not reported, else `None`.
     pub fn finish<T>(self) -> Option<Answer<T>>
         ensures { OnBegun D.inside self (λ b. result ≡ finished b) }
     {

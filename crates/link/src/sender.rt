@@ -7,7 +7,7 @@ use line_io::Outlet;
 use postcard::Serialize;
 use thiserror::Error;
 
-/// Why a value wasn't sent whole.
+/// Why a value wasn't sent completely.
 #[derive(Clone, Copy, PartialEq, Eq, Debug, Drop, Error)]
 pub enum SendError {
     /// The value refuses itself, or its frame is longer than N bytes, which is `SerializeBufferFull`. Nothing was written, and
@@ -20,11 +20,16 @@ pub enum SendError {
     Line,
 }
 
-/// Sends values over a line, each as a frame of at most N bytes and a sentinel, which is zero where none is chosen.
+/// Sends values over a line, each as a frame of at most N bytes and a sentinel: zero, unless another is chosen.
 ///
-/// Every byte of a frame is XORed with the sentinel, so that none is it. A sender that isn't clean writes a sentinel first, so that
-/// what an earlier send has left on the line ends there. It owns the line while it lives: what others write between two of its
-/// sends, it doesn't know of.
+/// Every byte of a frame is XORed with the sentinel, so that none equals it. A sender that isn't clean writes a sentinel first,
+/// which ends what an earlier send has left on the line. It has the line for itself: it doesn't know what others write between its
+/// sends.
+///
+/// ```rust
+///     let mut sender = Sender::<_, 16>::new(line);
+///     println!(rt; "{:?}", sender.send(&reading))?;
+/// ```
 #[derive(Drop)]
 pub struct Sender<W, const N: usize> {
     writer: W,
@@ -37,7 +42,10 @@ pub struct Sender<W, const N: usize> {
 impl<W: Outlet, const N: usize> Sender<W, N> {
     ghost use Rattle.link.specs.Senders.{writer_of, clean_of, sentinel_of, HasSent, OnRefusal, sender_place};
 
-    /// A sender that hasn't written anything, and isn't clean. The caller owes that N is at least 1.
+    /// A sender that has written nothing, and isn't clean.
+    ///
+    /// # Requires
+    /// N is at least 1.
     pub fn new(writer: W) -> Sender<W, N>
         requires { 0 < N }
         ensures writer { writer_of result ≡ writer }
@@ -47,7 +55,7 @@ impl<W: Outlet, const N: usize> Sender<W, N> {
         Sender::new_with_sentinel(writer, 0)
     }
 
-    /// The same with a sentinel in place of zero.
+    /// The same, with this sentinel.
     pub fn new_with_sentinel(writer: W, sentinel: u8) -> Sender<W, N>
         requires { 0 < N }
         ensures writer { writer_of result ≡ writer }
@@ -62,23 +70,22 @@ impl<W: Outlet, const N: usize> Sender<W, N> {
         }
     }
 
-    /// Whether the last send that wasn't refused completed. Where it didn't, or none was made, the next send that writes begins
-    /// with a sentinel.
+    /// Whether the last send that wasn't refused completed. If not, or if none was made, the next one begins with a sentinel.
     pub fn is_clean(&self) -> bool
         ensures { result ≡ clean_of self.now }
     {
         self.clean
     }
 
-    /// What it writes to.
+    /// The writer.
     pub fn get_ref(&self) -> &W
         ensures { result.now ≡ writer_of self.now }
     {
         &self.writer
     }
 
-    /// Puts another writer in the place of the one that it writes to, and gives that one, after all its writes. Whether the
-    /// sender is clean stays: the session goes on, so what comes is to stand behind what went before.
+    /// Replaces the writer and returns the old one. Whether the sender is clean stays: the new writer has to continue the old one's
+    /// line.
     pub fn replace_inner(&mut self, writer: W) -> W
         ensures before { result ≡ writer_of self.old }
         ensures writer { writer_of self.new ≡ writer }
@@ -88,7 +95,7 @@ impl<W: Outlet, const N: usize> Sender<W, N> {
         std::mem::replace(&mut self.writer, writer)
     }
 
-    /// What it writes to, after all its writes.
+    /// The writer, after all writes.
     pub fn into_inner(self) -> W
         ensures { result ≡ writer_of self }
     {
@@ -96,11 +103,16 @@ impl<W: Outlet, const N: usize> Sender<W, N> {
         writer
     }
 
-    /// Sends a value: a sentinel where the sender isn't clean, the shortest frame of the value's shortest spelling, each byte XORed
-    /// with the sentinel, and a sentinel.
+    /// Sends a value as one frame, followed by a sentinel.
     ///
-    /// The frame is whole in the sender's own buffer before its first byte goes out. No memory is taken, and nothing is tried
-    /// twice: after `Line` the caller may send the value again, and a receiver may then hear it twice.
+    /// If the sender isn't clean, a sentinel goes first. The frame is complete in the sender's buffer before its first byte is
+    /// written. Allocates nothing and retries nothing.
+    ///
+    /// # Errors
+    /// - `Refused`: the value refuses itself, or its frame has more than N bytes (`SerializeBufferFull`). Nothing was written, and
+    ///   whether the sender is clean stays.
+    /// - `Line`: a write failed or took nothing. A proper prefix of the bytes, perhaps none, was written; the next send begins with
+    ///   a sentinel. If the value is sent again, the receiver may get it twice.
     pub fn send<T: Serialize>(&mut self, value: &T) -> Result<(), SendError>
         ensures sent { HasSent N (T.form.writes value.now) (T.form.valid value.now)
             (sender_place W.line self.old) (sender_place W.line self.new) result }

@@ -1,7 +1,7 @@
 //! Sending values in turn.
-ghost use Rattle.std.specs.Prelude.{◌≡◌, ◌<◌, ℕ, Bool, false, length};
+ghost use Rattle.std.specs.Prelude.{◌≡◌, ◌<◌, ℕ, length};
 ghost use Rattle.link.specs.Senders.{writer_of, clean_of, sentinel_of};
-ghost use Rattle.link.specs.Fates.{SendsOne, SendsAll, SenderFitsInMemory};
+ghost use Rattle.link.specs.Fates.{SendsOne, SendsAll, AreSentFrom, SenderFitsInMemory, new_sender};
 
 use crate::sender::{SendError, Sender};
 use line_io::Outlet;
@@ -52,11 +52,13 @@ fn send_all<T: Serialize, W: Outlet, const N: usize>(
     }
 }
 
-/// Sends the values in turn by a new `Sender` with frames of at most N bytes, going on after refusals and faults, and puts what
-/// became of each in its place. Answers the writer, after all the writes.
+/// Sends the values in turn by a new `Sender` with frames of at most N bytes, stores the fate of each, and returns the writer.
 ///
-/// The caller owes as many places as values (there may be none of either), and that N is at least 1. Nothing is tried twice: as many
-/// sends are `Broken` as writes failed or took nothing, as long as the writer had a call left.
+/// It continues after refusals and faults, and retries nothing. As many sends are `Broken` as writes failed or took nothing, as
+/// long as the writer had a call left.
+///
+/// # Requires
+/// As many fates as values (there may be none of either), and N is at least 1.
 pub fn send_each<T: Serialize, W: Outlet, const N: usize>(
     writer: W,
     values: &[T],
@@ -65,13 +67,13 @@ pub fn send_each<T: Serialize, W: Outlet, const N: usize>(
     requires places { length values.now ≡ length fates.old }
     requires some { 0 < N }
     requires fits { SenderFitsInMemory W.row N.row }
-    ensures { (later : Bool) × SendsAll N 0 T.form.writes T.form.valid false later
-        (W.line writer) (W.line result) values.now fates.new }
+    ensures { AreSentFrom T.form N (new_sender 0 (W.line writer)) (W.line result)
+        values.now fates.new }
 {
     send_each_with_sentinel::<T, W, N>(writer, values, fates, 0)
 }
 
-/// The same by a sender with a sentinel in place of zero.
+/// As `send_each`, with this sentinel.
 pub fn send_each_with_sentinel<T: Serialize, W: Outlet, const N: usize>(
     writer: W,
     values: &[T],
@@ -81,8 +83,8 @@ pub fn send_each_with_sentinel<T: Serialize, W: Outlet, const N: usize>(
     requires places { length values.now ≡ length fates.old }
     requires some { 0 < N }
     requires fits { SenderFitsInMemory W.row N.row }
-    ensures { (later : Bool) × SendsAll N sentinel T.form.writes T.form.valid false later
-        (W.line writer) (W.line result) values.now fates.new }
+    ensures { AreSentFrom T.form N (new_sender sentinel (W.line writer)) (W.line result)
+        values.now fates.new }
 {
     let mut sender = Sender::<W, N>::new_with_sentinel(writer, sentinel);
     send_all(&mut sender, values, fates);

@@ -1,3 +1,4 @@
 pub mod DecodingLemmas
 pub mod WholeLemmas
 pub mod FirstLemmas
+pub mod SessionsLemmas

@@ -4,3 +4,4 @@ pub mod Decoders
 pub mod Encoding
 pub mod Beside
 pub mod Whole
+pub mod Told

@@ -1,12 +1,16 @@
-//! What holds of the items of a framed reader. The functions here do nothing; the contract of each is what it is for: call one
-//! where a proof needs it.
+//! What holds of the items of a framed reader: they are the answers of the bytes that its reader gave, they are what is to be told of
+//! the sends that went out, and what goes out whole comes back alike. The functions here do nothing; the contract of each is what it
+//! is for: call one where a proof needs it.
 ghost use Rattle.tokio_util.specs.Codec.Framed.{framed_read, reading_side};
 ghost use Rattle.link_codec.specs.Beside.{gives_beside};
 ghost use Rattle.link_codec.specs.Decoders.{IsGiven, gives_judged, messages_in};
 ghost use Rattle.link_codec.specs.Whole.{IsAnsweredWhole, IsAnsweredSoFar};
 
+mod carried;
+
 use crate::codec::LinkCodec;
 use crate::decoder::AnswerDecoder;
+pub use carried::{carried_whole, session_of, strict_told_whole, told_whole};
 use link::{Decoding, MessageReader};
 use tokio::io::AsyncRead;
 use tokio_util::codec::{Framed, FramedRead};

@@ -13,6 +13,7 @@
 
 mod array;
 mod by_type;
+mod caller;
 mod codec;
 mod decoder;
 mod encoder;
@@ -22,6 +23,7 @@ mod owned;
 
 pub use array::{LinkDecoder, StrictLinkDecoder};
 pub use by_type::ByType;
+pub use caller::answers_at_once;
 pub use codec::LinkCodec;
 pub use decoder::AnswerDecoder;
 pub use encoder::LinkEncoder;

@@ -1,23 +1,31 @@
 -- What two senders in turn leave on a line, and what is heard of the line of a run of values.
-use Rattle.std.proofs.Common.{◌≡◌, ◌≤◌, ℕ, List, [], ◌∷◌, map, Option, Some, Result, ap, ◌∙◌, subst}
+use Rattle.std.proofs.Common.{◌≡◌, ◌≤◌, ℕ, List, [], ◌∷◌, map, Bool, false, Option, Some, Result, ap, ◌∙◌, subst}
 use Rattle.std.specs.List.{AllZip, zip}
 use Rattle.line_io.specs.Device.{LineState, Wrote}
 use Rattle.postcard_tree.specs.Tree.{Tree}
 use Rattle.link.specs.Run.{Send, IsRun, line}
-use Rattle.link.specs.Senders.{IsSent}
+use Rattle.link.specs.Senders.{IsSent, HasSent, SenderPlace}
 use Rattle.link_laws.specs.Values.{runs_of, AreSends}
 use Rattle.link_laws.specs.Sessions.{LeavesRun, HeardOfRun, all_written}
-use Rattle.link.specs.Fates.{IsSendOf, fate_of}
+use Rattle.link.specs.Fates.{IsSendOf, SendsAll, fate_of, new_sender}
 use Rattle.link.specs.declared.session.Fate.{Fate}
 use Rattle.link.specs.declared.receiver.Answer.{Answer}
 use Rattle.link.specs.declared.sender.SendError.{SendError}
 use Rattle.line_io.specs.declared.transfers.End.{End}
 use Rattle.line_io.specs.declared.transfers.End.TheVariants.{Ended}
 
--- A send of a value by each of two senders in turn, by what each answered: what they left is the line of this run.
+-- A send of a value by each of two senders in turn, by what each answered: what they left is the line of this run. Each did what `send`
+-- promises, from where the line was to where it is.
 pub record LeavesTwo {V : Type 0} (takes : Tree → Type 0) (writes : V → Option Tree)
     (valid : V → Type 0) (limit s : ℕ) (old new : LineState) (v w : V)
     (first second : Result (Unit {0}) SendError) : Type 0 where
+  -- where the first sender was behind its send, and the second one behind its own
+  pub between : SenderPlace
+  pub after : SenderPlace
+  pub line_is : new ≡ after.line
+  pub first_sent : HasSent limit (writes v) (valid v) (new_sender s old) between first
+  pub second_sent : HasSent limit (writes w) (valid w) (new_sender s between.line) after second
+  -- which sends they were
   pub one : Send
   pub other : Send
   pub first_is : IsSent limit (writes v) first one
@@ -25,10 +33,18 @@ pub record LeavesTwo {V : Type 0} (takes : Tree → Type 0) (writes : V → Opti
   pub run : LeavesRun takes writes valid limit s old new
       (((v, one) ∷ []) ∷ ((w, other) ∷ []) ∷ [])
 
--- A session of values by each of two senders in turn, with these fates: what they left is the line of this run.
+-- A session of values by each of two senders in turn, with these fates: what they left is the line of this run. Each did what `send_each`
+-- promises, from where the line was to where it is.
 pub record LeavesSessions {V : Type 0} (takes : Tree → Type 0) (writes : V → Option Tree)
     (valid : V → Type 0) (limit s : ℕ) (old new : LineState)
     (firsts seconds : List V) (first_fates second_fates : List Fate) : Type 0 where
+  -- where the line was between the two, and whether each sender was clean behind its sends
+  pub between : LineState
+  pub first_clean : Bool
+  pub second_clean : Bool
+  pub first_sent : SendsAll limit s writes valid false first_clean old between firsts first_fates
+  pub second_sent : SendsAll limit s writes valid false second_clean between new seconds second_fates
+  -- which sends they were
   pub one : List Send
   pub other : List Send
   pub first_of : AllZip (λ v x. IsSendOf limit (writes v) (valid v) x) firsts one

@@ -4,14 +4,15 @@
 //! those promise and by the laws of this crate. They say it in two parts: what senders in turn leave is the line of a run, of these
 //! sends, each of which may have broken off at any byte (`send_in_turn`, `send_each_in_turn`); and who receives the line of a run
 //! hears what is to be told of it (`receive_run`, and by values `receive_values`). How the bytes come from the one to the other is
-//! the caller's own: a program over memory is `example_exchange`.
+//! the caller's own: a program over memory is `example_exchange`. Beside that each says all that its calls of `link` promise, whatever
+//! comes and however it ends.
 ghost use Rattle.std.specs.Prelude.{◌≡◌, ◌<◌, List, length, Some};
 ghost use Rattle.link.specs.Fates.{SenderFitsInMemory};
 ghost use Rattle.link_laws.specs.Together.{LeavesTwo, LeavesSessions, HearsValues};
 ghost use Rattle.std.specs.List.{AllZip};
 ghost use Rattle.link.specs.Pushes.{Matches};
 ghost use Rattle.link.specs.Run.{Send, IsRun, line, told};
-ghost use Rattle.link.specs.Listening.{ReceiverFitsInMemory};
+ghost use Rattle.link.specs.Listening.{ReceiverFitsInMemory, IsReceivedBy, IsReceivedByOwned, ordinary};
 ghost use Rattle.line_io.specs.declared.transfers.End.TheVariants.{Ended};
 
 use line_io::{Inlet, Outlet};
@@ -28,9 +29,10 @@ pub fn receive_run<T: DeserializeOwned, R: Inlet, const N: usize>(
     reader: R,
 ) -> Received<T, R>
     requires { ReceiverFitsInMemory N.row }
-    ensures { (run : List (List Send)) → IsRun T.form.takes N 0 run
+    ensures run { (run : List (List Send)) → IsRun T.form.takes N 0 run
         → (R.line reader).told ≡ Some (line 0 run) → result.end ≡ Ended
         → AllZip (Matches T.form.reads) result.answers.items (told 0 run) }
+    ensures received { IsReceivedBy (ordinary T.form) N 0 R.line reader result }
 {
     receive_run_with_sentinel::<T, R, N>(alloc, reader, 0)
 }
@@ -42,9 +44,10 @@ pub fn receive_run_with_sentinel<T: DeserializeOwned, R: Inlet, const N: usize>(
     sentinel: u8,
 ) -> Received<T, R>
     requires { ReceiverFitsInMemory N.row }
-    ensures { (run : List (List Send)) → IsRun T.form.takes N sentinel run
+    ensures run { (run : List (List Send)) → IsRun T.form.takes N sentinel run
         → (R.line reader).told ≡ Some (line sentinel run) → result.end ≡ Ended
         → AllZip (Matches T.form.reads) result.answers.items (told sentinel run) }
+    ensures received { IsReceivedBy (ordinary T.form) N sentinel R.line reader result }
 {
     crate::told::<T>();
     receive_with_sentinel::<T, R, N>(alloc, reader, sentinel)
@@ -57,9 +60,10 @@ pub fn receive_owned_run<T: DeserializeOwned, R: Inlet>(
     limit: usize,
     sentinel: u8,
 ) -> Received<T, R>
-    ensures { (run : List (List Send)) → IsRun T.form.takes limit sentinel run
+    ensures run { (run : List (List Send)) → IsRun T.form.takes limit sentinel run
         → (R.line reader).told ≡ Some (line sentinel run) → result.end ≡ Ended
         → AllZip (Matches T.form.reads) result.answers.items (told sentinel run) }
+    ensures received { IsReceivedByOwned (ordinary T.form) limit sentinel R.line reader result }
 {
     crate::told::<T>();
     receive_owned(alloc, reader, limit, sentinel)
@@ -72,8 +76,10 @@ pub fn receive_values<T: Lawful + DeserializeOwned, R: Inlet, const N: usize>(
     reader: R,
 ) -> Received<T, R>
     requires { ReceiverFitsInMemory N.row }
-    ensures { HearsValues N 0 T.form.takes T.form.reads T.form.alike T.form.writes T.form.valid
+    ensures values { HearsValues N 0 T.form.takes T.form.reads T.form.alike T.form.writes
+        T.form.valid
         (R.line reader).told result.end result.answers.items }
+    ensures received { IsReceivedBy (ordinary T.form) N 0 R.line reader result }
 {
     receive_values_with_sentinel::<T, R, N>(alloc, reader, 0)
 }
@@ -85,9 +91,10 @@ pub fn receive_values_with_sentinel<T: Lawful + DeserializeOwned, R: Inlet, cons
     sentinel: u8,
 ) -> Received<T, R>
     requires { ReceiverFitsInMemory N.row }
-    ensures { HearsValues N sentinel T.form.takes T.form.reads T.form.alike T.form.writes
+    ensures values { HearsValues N sentinel T.form.takes T.form.reads T.form.alike T.form.writes
         T.form.valid
         (R.line reader).told result.end result.answers.items }
+    ensures received { IsReceivedBy (ordinary T.form) N sentinel R.line reader result }
 {
     crate::carries::<T>();
     receive_with_sentinel::<T, R, N>(alloc, reader, sentinel)

@@ -6,8 +6,7 @@ use Rattle.postcard_tree.specs.Tree.{Tree, IsTree}
 use Rattle.postcard_tree.specs.Spelling.{Spells, short}
 use Rattle.std.proofs.lemmas.List.{append_cancel_left}
 use Rattle.postcard_tree.specs.ReadingLaws.{ReadingLaws}
-use Rattle.postcard.specs.Answer.{ReadsFront, AnswersFronts}
-use Rattle.postcard.specs.Frames.{first_of}
+use Rattle.postcard_de.specs.Answer.{ReadsFront, AnswersFronts, first_of}
 use Rattle.postcard.specs.Written.{WrittenWhole, UnlessRefused}
 
 -- v was written before more: s is the shortest spelling of what it writes, and more

@@ -3,7 +3,7 @@ use Rattle.std.specs.Prelude.{◌≡◌, ℕ, List, Bool, true, Option, Result, 
 use Rattle.postcard_tree.specs.declared.error.Error.{Error}
 use Rattle.postcard_tree.specs.declared.error.Error.TheVariants.{OutOfMemory}
 use Rattle.postcard_tree.specs.Tree.{Tree}
-use Rattle.postcard.specs.Answer.{ReadsFront, AnswersFronts}
+use Rattle.postcard_de.specs.Answer.{ReadsFront, AnswersFronts}
 use Rattle.postcard.specs.Written.{WrittenWhole}
 
 -- s is what v was written as: each value that is read at its front is alike v

@@ -56,9 +56,11 @@ fn spell_behind<T: Serialize>(v: &T, room: &mut [u8]) -> Option<usize>
     spell_into(v, &mut room[1..end])
 }
 
-// Spells a value at the front of a room, where that has room for it, and answers how many bytes
-// that takes.
-fn spell_into<T: Serialize>(v: &T, room: &mut [u8]) -> Option<usize>
+/// Writes a value at the front of a buffer, and returns how many bytes it takes.
+///
+/// `None` if the buffer is too short, or if the value refuses itself: nothing is said of which. The
+/// buffer may hold anything after that, and after the value.
+pub fn spell_into<T: Serialize>(v: &T, room: &mut [u8]) -> Option<usize>
     ensures spelled { IfSome result (λ n. WrittenWhole (T.form.writes v.now)
         (λ bytes. take n room.new ≡ bytes)) }
     ensures within { IfSome result (λ n. n ≤ length room.new) }
@@ -68,7 +70,7 @@ fn spell_into<T: Serialize>(v: &T, room: &mut [u8]) -> Option<usize>
     spelled
 }
 
-// The same, and gives the room back, by which its lender knows what it holds.
+// The same, and gives the buffer back, by which its lender knows what it holds.
 fn spell_and_return<'a, T: Serialize>(v: &T, room: &'a mut [u8]) -> (&'a mut [u8], Option<usize>)
     ensures same_reference { result.0.ghost_name ≡ room.entry.ghost_name }
     ensures spelled { IfSome result.1 (λ n. WrittenWhole (T.form.writes v.now)

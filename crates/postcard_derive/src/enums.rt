@@ -323,25 +323,28 @@ impl Text {
         self.begin(indent, "");
         self.put_shape_pattern(place, variant);
         self.put(" =>");
-        let mut value = Text::new(self.alloc);
-        value.put_pattern(name, variant);
-        if self.stands_below(indent, &variant.fields, value.len()) {
-            self.put("\n");
-            self.begin(indent.saturating_add(4), "");
-            self.put_text(&value);
-            return self.end(",");
-        }
-        self.put_all(&[" ", name, "::", variant.name]);
+        let indent = self.value_begun(indent, name, variant);
+        self.put_all(&[name, "::", variant.name]);
         self.literal(indent, &variant.fields, ",");
     }
 
-    /// Whether a value that is so long stands in a line of its own behind an arm's pattern: where it has several parts in
-    /// parentheses, and fits there, but not behind the pattern.
-    fn stands_below(&self, indent: usize, fields: &Fields, length: usize) -> bool {
-        let fits_behind = self.column().saturating_add(length).saturating_add(2) <= WIDTH;
-        let fits_below = indent.saturating_add(length).saturating_add(5) <= WIDTH;
-        let has_several = matches!(fields.form, Form::Tuple) && fields.items.len() > 1;
-        has_several && fits_below && !fits_behind
+    /// Begins the value of an arm, and says how far it is indented: in a line of its own where what stands before its parts
+    /// doesn't fit behind the pattern.
+    fn value_begun(&mut self, indent: usize, name: &str, variant: &VariantOf) -> usize {
+        let opening: usize = match variant.fields.form {
+            Form::Named => 5,
+            _ => 4,
+        };
+        let head = name.len().saturating_add(variant.name.len());
+        let column = self.column().saturating_add(head);
+        if column.saturating_add(opening) <= WIDTH {
+            self.put(" ");
+            return indent;
+        }
+        let below = indent.saturating_add(4);
+        self.put("\n");
+        self.begin(below, "");
+        below
     }
 
     /// Writes the arms of the matches on a shape, and says how far the last are indented.

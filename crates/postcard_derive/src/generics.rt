@@ -2,9 +2,9 @@
 use crate::parts::below;
 use crate::scope::word_at;
 use crate::text::Text;
-use declaration_parser::attributes::{closed, closes, first_word, opens};
+use declaration_parser::attributes::{first_word, group};
 use declaration_parser::declaration::Declaration;
-use declaration_parser::tokens::{Token, first_letter, is_among, is_lifetime};
+use declaration_parser::tokens::{Token, closes, first_letter, is_among, is_lifetime, opens};
 
 /// How parameters are spelled.
 #[derive(Clone, Copy, Drop)]
@@ -83,11 +83,8 @@ fn parameters_of<'a>(it: &Declaration<'a>) -> (&'a [Token], &'a [Token]) {
 /// The bounds behind `where`, with commas between them.
 pub fn bounds_of<'a>(it: &Declaration<'a>) -> &'a [Token] {
     let (_, behind) = parameters_of(it);
-    let rest = match behind {
-        [open, inside @ ..] if open.text.as_str() == "(" => match closed(inside) {
-            Some((_, rest)) => rest,
-            None => &[],
-        },
+    let rest = match group(behind) {
+        Some((_, rest)) if first_word(behind) == "(" => rest,
         _ => behind,
     };
     if first_word(rest) != "where" {

@@ -218,16 +218,41 @@ impl Text {
         }
     }
 
-    /// As [`literal`](Text::literal), over lines.
+    /// As [`literal`](Text::literal), over lines: one for each part with a name, and as many parts a line as fit without.
     fn long_literal(&mut self, indent: usize, fields: &Fields, after: &str) {
-        let (open, close) = match fields.form {
-            Form::Tuple => ("(\n", ")"),
-            _ => (" {\n", "}"),
-        };
-        self.put(open);
-        self.lines(indent.saturating_add(4), spelled(fields, Spelling::Bound));
-        self.begin(indent, close);
+        let inside = indent.saturating_add(4);
+        let parts = spelled(fields, Spelling::Bound);
+        if let Form::Tuple = fields.form {
+            self.put("(\n");
+            self.filled(inside, parts);
+            self.begin(indent, ")");
+        } else {
+            self.put(" {\n");
+            self.lines(inside, parts);
+            self.begin(indent, "}");
+        }
         self.end(after);
+    }
+
+    /// Writes parts with a comma behind each, as many a line as fit.
+    fn filled(&mut self, indent: usize, parts: Parts) {
+        self.begin(indent, "");
+        for field in parts.fields {
+            let mut text = Text::new(self.alloc);
+            text.put_part(field, parts.spelling);
+            let column = self.column();
+            if column > indent {
+                if column.saturating_add(text.len()).saturating_add(2) <= WIDTH {
+                    self.put(" ");
+                } else {
+                    self.put("\n");
+                    self.begin(indent, "");
+                }
+            }
+            self.put_text(&text);
+            self.put(",");
+        }
+        self.put("\n");
     }
 
     /// Writes which names are used of a module, unless none are.

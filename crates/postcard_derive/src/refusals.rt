@@ -207,6 +207,10 @@ pub fn refused(alloc: Global, all: &[Declaration]) -> Result<String, AllocError>
         faults: Faults::new(alloc),
     };
     for it in all {
+        if !it.wrong.is_empty() {
+            judge.faults.put(it.wrong.as_str());
+            continue;
+        }
         judge.judge_declaration(it);
         if holds_itself_by_others(alloc, all, it)? {
             judge.refuse_circle(it);

@@ -1,18 +1,61 @@
--- A record that was appended stays so over a sync.
-use Rattle.std.proofs.Common.{◌≡◌, ℕ, Bool, true, Option, Result, sym, subst, arith}
-use Rattle.line_io.specs.Device.{LineState, Grew}
+-- Records that were appended since a line stood somewhere, and one more.
+use Rattle.std.proofs.Common.{◌≡◌, ℕ, ◌+◌, Bool, true, List, [], ◌∷◌, ◌++◌, length, Option, Some, Result, Ok, Err, refl, sym, ap, ◌∙◌, subst, append_assoc, append-nil, length-append, arith}
+use Rattle.line_io.specs.Device.{LineState, Grew, Wrote}
+use Rattle.line_io.specs.Calls.{Wrote-then}
 use Rattle.postcard_tree.specs.Tree.{Tree}
-use Rattle.link.specs.Run.{written}
+use Rattle.link.specs.Run.{sent, written, completed}
+use Rattle.journal.specs.Records.{numbered}
 use Rattle.journal.specs.Appending.{Appended}
 use Rattle.journal.specs.declared.log.AppendError.{AppendError}
+use Rattle.records.specs.Settling.{records_from, HasGrown}
 
-pub appended_still : (limit : ℕ) (spent : Bool) (n : ℕ) (writes : Option Tree) (r : Result ℕ AppendError) (old mid new : LineState) → Appended limit spent n writes r old mid → new.told ≡ mid.told → new.faults ≡ mid.faults → Appended limit spent n writes r old new
-appended_still limit spent n writes r old mid new a e q = record {
-  send = a.send;
-  is_send = a.is_send;
-  is = a.is;
+records_more : (n : ℕ) (vs : List Tree) (v : Tree) → records_from n vs ++ sent 0 true (numbered (n + length vs) v) ≡ records_from n (vs ++ v ∷ [])
+records_more n [] v = ap (λ m. sent 0 true (numbered m v)) (let e : n + 0 ≡ n = omega arith in e) ∙ sym (append-nil (sent 0 true (numbered n v)))
+records_more n (u ∷ vs) v =
+    append_assoc (sent 0 true (numbered n u)) (records_from (n + 1) vs) (sent 0 true (numbered (n + length (u ∷ vs)) v))
+    ∙ ap (λ x. sent 0 true (numbered n u) ++ x) (ap (λ m. records_from (n + 1) vs ++ sent 0 true (numbered m v)) (let e : n + length (u ∷ vs) ≡ (n + 1) + length vs = omega arith in e) ∙ records_more (n + 1) vs v)
+
+-- what an append that completed makes of what was appended before
+pub record GrewOn (writes : Option Tree) (start new : LineState) (first behind : ℕ) (values : List Tree) : Type 0 where
+  pub value : Tree
+  pub is : writes ≡ Some value
+  pub grown : HasGrown start new first behind (values ++ value ∷ []) []
+
+pub grows : (limit : ℕ) (spent : Bool) (writes : Option Tree) (n m first behind : ℕ) (start old new : LineState) (values : List Tree)
+    → Appended limit spent n writes (Ok m) old new → behind ≡ n → HasGrown start old first behind values [] → GrewOn writes start new first (m + 1) values
+grows limit spent writes n m first behind start old new values a e h =
+    let v = a.is.1.0 in
+    let done : a.send ≡ completed (numbered n v) = a.is.1.2 in
+    let here : n ≡ first + length values = sym e ∙ h.numbers in
+    let bytes : Wrote old new (sent 0 true (numbered n v)) = subst (λ x. Wrote old new (written 0 true x)) done a.wrote in
+    record {
+      value = v;
+      is = a.is.1.1;
+      grown = record {
+        wrote = subst (λ b. Wrote start new b)
+            (ap (λ b. b ++ sent 0 true (numbered n v)) (append-nil (records_from first values)) ∙ ap (λ m. records_from first values ++ sent 0 true (numbered m v)) here ∙ records_more first values v ∙ sym (append-nil (records_from first (values ++ v ∷ []))))
+            (Wrote-then _ _ _ _ _ h.wrote bytes);
+        numbers = omega (arith, a.is.0, here, length-append values (v ∷ []));
+      };
+    }
+
+-- what one that failed leaves: the same records, and what went out of it
+pub grew_by : (limit : ℕ) (spent : Bool) (writes : Option Tree) (n first behind : ℕ) (r : Result ℕ AppendError) (start old new : LineState) (values : List Tree)
+    → Appended limit spent n writes r old new → HasGrown start old first behind values [] → (rest : List ℕ) × HasGrown start new first behind values rest
+grew_by limit spent writes n first behind r start old new values a h = (
+  written 0 true a.send,
+  record {
+    wrote = subst (λ b. Wrote start new b) (ap (λ b. b ++ written 0 true a.send) (append-nil (records_from first values))) (Wrote-then _ _ _ _ _ h.wrote a.wrote);
+    numbers = h.numbers;
+  },
+)
+
+-- a sync changes none of that
+pub grown_still : (first behind : ℕ) (start mid new : LineState) (values : List Tree) (rest : List ℕ) → HasGrown start mid first behind values rest → new.told ≡ mid.told → new.faults ≡ mid.faults → HasGrown start new first behind values rest
+grown_still first behind start mid new values rest h e q = record {
   wrote = record {
-    grew = subst (λ t. Grew old.told t old.faults new.faults (written 0 true a.send)) (sym e) (subst (λ f. Grew old.told mid.told old.faults f (written 0 true a.send)) (sym q) a.wrote.grew);
-    more = omega (arith, a.wrote.more, q);
+    grew = subst (λ t. Grew start.told t start.faults new.faults (records_from first values ++ rest)) (sym e) (subst (λ f. Grew start.told mid.told start.faults f (records_from first values ++ rest)) (sym q) h.wrote.grew);
+    more = omega (arith, h.wrote.more, q);
   };
+  numbers = h.numbers;
 }

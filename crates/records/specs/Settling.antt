@@ -1,7 +1,41 @@
--- What a number that may be printed stands for.
-use Rattle.std.specs.Prelude.{ℕ}
+-- What numbers that may be printed stand for.
+use Rattle.std.specs.Prelude.{◌≡◌, ℕ, ◌+◌, true, List, [], ◌∷◌, ◌++◌, length, Result, Ok, Err}
+use Rattle.line_io.specs.Device.{LineState, Wrote}
+use Rattle.postcard_tree.specs.Tree.{Tree}
+use Rattle.link.specs.Run.{sent}
+use Rattle.journal.specs.Records.{numbered}
+use Rattle.journal.specs.declared.log.AppendError.{AppendError}
+use Rattle.records.specs.declared.settling.Group.{Group}
 use Rattle.records.specs.declared.settling.Settled.{Settled}
 
--- the number of a record that no crash takes
-abbrev pub number_of : Settled → ℕ
-number_of s = s.number
+-- the number of the first record of a group
+abbrev pub first_of : Group → ℕ
+first_of g = g.first
+
+-- the number behind the one of its last record
+abbrev pub behind_of : Group → ℕ
+behind_of g = g.next
+
+-- the number of the first of settled records
+abbrev pub first_settled : Settled → ℕ
+first_settled s = s.first
+
+-- the number behind the one of the last of these
+abbrev pub behind_settled : Settled → ℕ
+behind_settled s = s.next
+
+-- the bytes of records of these values, with the numbers from n on
+abbrev pub records_from : ℕ → List Tree → List ℕ
+records_from n [] = []
+records_from n (v ∷ vs) = sent 0 true (numbered n v) ++ records_from (n + 1) vs
+
+-- Since a line stood at the first, records of these values were appended, with the numbers from one up to another; and behind them
+-- these bytes, where appending one more failed.
+pub record HasGrown (old new : LineState) (first behind : ℕ) (values : List Tree) (rest : List ℕ) : Type 0 where
+  pub wrote : Wrote old new (records_from first values ++ rest)
+  pub numbers : behind ≡ first + length values
+
+-- what an append answers, as a journal answers it
+abbrev pub numbered_by : ℕ → Result (Unit {0}) AppendError → Result ℕ AppendError
+numbered_by n (Ok u) = Ok n
+numbered_by n (Err e) = Err e

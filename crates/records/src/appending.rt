@@ -2,19 +2,23 @@
 
 use crate::checking::Printer;
 use crate::entries::{
-    Entry, INPUT, MOST, open_file, say_error, say_failed, say_no_memory, sync_folder,
+    Entry, INPUT, MOST, OUTPUT, open_file, say_error, say_failed, say_no_memory, sync_folder,
 };
-use crate::settling::{Settled, Unsettled};
+use crate::naming::{Identity, MOVED};
+use crate::settling::{Group, Settled};
 use journal::{AppendError, Journal, OpenError, ReadError, Unopened};
 use journal_scan::open_by;
 use memchr::memchr;
 use sealed::Sealed;
 use std::alloc::Global;
 use std::fs::{File, TryLockError};
-use std::io::{self, BufRead, BufReader, ErrorKind};
+use std::io::{self, BufRead, BufReader, BufWriter, ErrorKind, Write};
 use stores::Stored;
 
 type Log = Stored<File>;
+
+// How many bytes are asked for in one read of the input: lines that come by one share a sync.
+const ROOM: usize = 65536;
 
 // A log of this store, to be appended to; or the status where it can't be had. The next number is the one behind the greatest of a
 // sealed record: also where numbers are missing and the bytes that accounted for them are gone.
@@ -32,100 +36,205 @@ fn open_log(rt: &HostRuntime, path: &str, store: Log) -> Result<Journal<Log, MOS
     }
 }
 
-// Prints the number of a record that no crash takes.
-fn print_number(rt: &HostRuntime, settled: &Settled) -> io::Result<u8> {
-    let number = settled.number();
-    println!(rt; "{number}")?;
+// Prints the numbers of records that no crash takes; the status of that.
+fn print_numbers(rt: &HostRuntime, settled: &Settled) -> io::Result<u8> {
+    let Ok(mut printed) = BufWriter::new(rt.alloc(), io::writer(rt)) else {
+        return Ok(say_no_memory(rt, OUTPUT));
+    };
+    for number in settled.numbers() {
+        writeln!(printed, "{number}")?;
+    }
+    printed.flush()?;
     Ok(0)
 }
 
-// Says why a line has no number; the status of that.
-fn say_unsettled(rt: &HostRuntime, path: &str, why: Unsettled) -> io::Result<u8> {
-    match why {
-        Unsettled::Append(AppendError::Refused(_)) => {
-            say_failed(rt, INPUT, &"a line is too long");
-            Ok(1)
-        }
-        Unsettled::Append(e) => Ok(say_failed(rt, path, &e)),
-        Unsettled::Sync => Ok(say_failed(rt, path, &"not synced")),
+// Says that a line has more bytes than a record takes; the status of that.
+fn say_too_long(rt: &HostRuntime) -> u8 {
+    say_failed(rt, INPUT, &"a line is too long: up to 992 bytes always fit");
+    1
+}
+
+// The log that is appended to: its name, and the file that was opened by it.
+#[derive(Clone, Copy, Drop)]
+struct Target<'a> {
+    rt: &'a HostRuntime,
+    path: &'a str,
+    identity: Identity,
+}
+
+// Prints the numbers of settled records, where the log's name still leads to it; the status of that.
+fn tell(to: Target<'_>, settled: &Settled) -> io::Result<u8> {
+    match to.identity.has_moved(to.rt, to.path) {
+        Ok(false) => print_numbers(to.rt, settled),
+        Ok(true) => Ok(say_failed(to.rt, to.path, &MOVED)),
+        Err(e) => Ok(say_error(to.rt, to.path, &e)),
     }
 }
 
-// Appends a line, and prints its number once no crash takes it; the status of that.
-fn append_line(
-    rt: &HostRuntime,
-    path: &str,
-    journal: &mut Journal<Log, MOST>,
-    line: String,
+// Syncs what was appended, and tells its numbers; the status of that.
+fn settle(to: Target<'_>, journal: &mut Journal<Log, MOST>, group: Group) -> io::Result<u8> {
+    if group.is_empty() {
+        return Ok(0);
+    }
+    match group.settle(journal) {
+        Ok(settled) => tell(to, &settled),
+        Err(_) => Ok(say_failed(to.rt, to.path, &"not synced")),
+    }
+}
+
+// The same where appending goes no further, and ends with this status. Where it failed the journal is spent, so its store is synced.
+fn settle_last(
+    to: Target<'_>,
+    journal: Journal<Log, MOST>,
+    group: Group,
+    status: u8,
 ) -> io::Result<u8> {
-    let entry = Sealed((journal.next(), line));
-    match Settled::append(journal, &entry) {
-        Ok(settled) => print_number(rt, &settled),
-        Err(why) => say_unsettled(rt, path, why),
+    if group.is_empty() {
+        return Ok(status);
+    }
+    let mut store = journal.into_store();
+    match group.settle_store(&mut store) {
+        Ok(settled) => match tell(to, &settled)? {
+            0 => Ok(status),
+            failed => Ok(failed),
+        },
+        Err(_) => Ok(say_failed(to.rt, to.path, &"not synced")),
     }
 }
 
-// Takes the next line out of the input's buffer, without the line feed that ends it. Nothing is taken where it doesn't end there.
-fn take_buffered<R: BufRead>(input: &mut R, line: &mut Vec<u8>) -> io::Result<bool> {
-    let buffered = input.fill_buf()?;
-    let Some(length) = memchr(b'\n', buffered) else {
-        return Ok(false);
-    };
-    line.extend_from_slice(&buffered[..length])?;
-    input.consume(length + 1);
-    Ok(true)
+// A line of the input.
+#[derive(Drop)]
+enum Line {
+    // Its bytes, without the line feed that ends it.
+    Read(Vec<u8>),
+    // It has more bytes than a record; they were passed, and none is kept.
+    TooLong,
 }
 
-// The next line, without the line feed that ends it; nothing at the end of the input. No other byte is taken off.
-fn read_line<R: BufRead>(alloc: Global, input: &mut R) -> io::Result<Option<Vec<u8>>> {
+// Takes what the input's buffer has of the next line, and the line feed that ends it, where that is there: whether it is. Of a line no
+// more is kept than tells that it is too long.
+fn take_buffered<R: BufRead>(input: &mut R, line: &mut Vec<u8>) -> io::Result<Option<bool>> {
+    let buffered = input.fill_buf()?;
+    if buffered.is_empty() {
+        return Ok(None);
+    }
+    let (length, used) = match memchr(b'\n', buffered) {
+        Some(length) => (length, length + 1),
+        None => (buffered.len(), buffered.len()),
+    };
+    let kept = length.min((MOST + 1).saturating_sub(line.len()));
+    line.extend_from_slice(&buffered[..kept])?;
+    input.consume(used);
+    Ok(Some(used > length))
+}
+
+// The next line; nothing at the end of the input. No byte but its line feed is taken off.
+fn read_line<R: BufRead>(alloc: Global, input: &mut R) -> io::Result<Option<Line>> {
     let mut line: Vec<u8> = Vec::new(alloc);
-    // most lines end in the buffer, where they are found quicker than byte by byte
-    match take_buffered(input, &mut line) {
-        Ok(true) => return Ok(Some(line)),
-        Ok(false) => {}
-        Err(e) => {
-            if e.kind() != ErrorKind::Interrupted {
-                return Err(e);
+    let mut is_begun = false;
+    for _ in 0..u64::MAX {
+        match take_buffered(input, &mut line) {
+            Ok(Some(true)) => break,
+            Ok(Some(false)) => is_begun = true,
+            Ok(None) => {
+                if is_begun {
+                    break;
+                }
+                return Ok(None);
+            }
+            Err(e) => {
+                if e.kind() != ErrorKind::Interrupted {
+                    return Err(e);
+                }
             }
         }
     }
-    if input.read_until(b'\n', &mut line)? == 0 {
-        return Ok(None);
+    if line.len() > MOST {
+        return Ok(Some(Line::TooLong));
     }
-    if line.last() == Some(&b'\n') {
-        let _ = line.pop();
-    }
-    Ok(Some(line))
+    Ok(Some(Line::Read(line)))
 }
 
-// The next line of text; nothing at the end of the input. Or the status where there is none.
-fn next_text<R: BufRead>(rt: &HostRuntime, input: &mut R) -> Result<Option<String>, u8> {
+// The next line of text, or nothing in it where it is too long; nothing at the end of the input. Or the status where there is none.
+fn next_text<R: BufRead>(rt: &HostRuntime, input: &mut R) -> Result<Option<Option<String>>, u8> {
     match read_line(rt.alloc(), input) {
-        Ok(Some(line)) => match String::from_utf8(line) {
-            Ok(text) => Ok(Some(text)),
+        Ok(Some(Line::Read(line))) => match String::from_utf8(line) {
+            Ok(text) => Ok(Some(Some(text))),
             Err(_) => Err(say_failed(rt, INPUT, &"a line isn't UTF-8")),
         },
+        Ok(Some(Line::TooLong)) => Ok(Some(None)),
         Ok(None) => Ok(None),
         Err(e) => Err(say_error(rt, INPUT, &e)),
     }
 }
 
-// Appends each line of standard input; one that is too long is left out.
-fn append_lines(rt: &HostRuntime, path: &str, journal: &mut Journal<Log, MOST>) -> io::Result<u8> {
-    let Ok(mut input) = BufReader::new(rt.alloc(), rt.reader()) else {
-        return Ok(say_no_memory(rt, INPUT));
+// What came of the next line.
+#[derive(Drop)]
+enum Next {
+    Appended,
+    LeftOut,
+    Ended,
+    // It isn't appended, nor is any other; with this status.
+    Failed(u8),
+}
+
+// Appends a line, which isn't synced yet.
+fn append_text(
+    to: Target<'_>,
+    journal: &mut Journal<Log, MOST>,
+    group: &mut Group,
+    text: String,
+) -> Next {
+    let entry = Sealed((journal.next(), text));
+    match group.append(journal, &entry) {
+        Ok(()) => Next::Appended,
+        Err(AppendError::Refused(_)) => {
+            say_too_long(to.rt);
+            Next::LeftOut
+        }
+        Err(e) => Next::Failed(say_failed(to.rt, to.path, &e)),
+    }
+}
+
+// Appends the next line of the input.
+fn append_next<R: BufRead>(
+    to: Target<'_>,
+    input: &mut R,
+    journal: &mut Journal<Log, MOST>,
+    group: &mut Group,
+) -> Next {
+    match next_text(to.rt, input) {
+        Ok(Some(Some(text))) => append_text(to, journal, group, text),
+        Ok(Some(None)) => {
+            say_too_long(to.rt);
+            Next::LeftOut
+        }
+        Ok(None) => Next::Ended,
+        Err(failed) => Next::Failed(failed),
+    }
+}
+
+// Appends each line of standard input; one that is too long is left out. The log is synced, and the numbers are told, before a read that
+// may wait: so lines that are there already share a sync.
+fn append_lines(to: Target<'_>, journal: Journal<Log, MOST>) -> io::Result<u8> {
+    let Ok(mut input) = BufReader::with_capacity(to.rt.alloc(), ROOM, to.rt.reader()) else {
+        return Ok(say_no_memory(to.rt, INPUT));
     };
+    let mut journal = journal;
+    let mut group = Group::new(&journal);
     let mut status = 0u8;
     for _ in 0..u64::MAX {
-        let line = match next_text(rt, &mut input) {
-            Ok(Some(line)) => line,
-            Ok(None) => return Ok(status),
-            Err(failed) => return Ok(failed),
-        };
-        match append_line(rt, path, journal, line) {
-            Ok(0) => {}
-            Ok(1) => status = 1,
-            failed => return failed,
+        match append_next(to, &mut input, &mut journal, &mut group) {
+            Next::Appended => {}
+            Next::LeftOut => status = 1,
+            Next::Ended => return settle_last(to, journal, group, status),
+            Next::Failed(failed) => return settle_last(to, journal, group, failed),
+        }
+        if memchr(b'\n', input.buffer()).is_none() {
+            match settle(to, &mut journal, group)? {
+                0 => group = Group::new(&journal),
+                failed => return Ok(failed),
+            }
         }
     }
     Ok(status)
@@ -140,16 +249,8 @@ fn lock(rt: &HostRuntime, path: &str, file: &File) -> u8 {
     }
 }
 
-// Syncs the folder of a file that has no bytes: one that has some was opened so before. Or says why not; the status of that.
-fn sync_new(rt: &HostRuntime, path: &str, file: &File) -> u8 {
-    match file.metadata() {
-        Ok(of) if of.len() > 0 => 0,
-        Ok(_) => sync_folder(rt, path),
-        Err(e) => say_error(rt, path, &e),
-    }
-}
-
-/// Appends each line of standard input to a log that none else appends to, and prints its number once it is synced.
+/// Appends each line of standard input to a log that none else appends to, and prints its number once it is synced and the log's name
+/// still leads to it.
 pub fn append(rt: &HostRuntime, path: &str) -> io::Result<u8> {
     let file = match open_file(rt, path, true) {
         Ok(file) => file,
@@ -159,12 +260,17 @@ pub fn append(rt: &HostRuntime, path: &str) -> io::Result<u8> {
         0 => {}
         failed => return Ok(failed),
     }
-    match sync_new(rt, path, &file) {
+    // also of a file that has bytes: a copy, or one that `repair` wrote, may have no name on the disk yet
+    match sync_folder(rt, path) {
         0 => {}
         failed => return Ok(failed),
     }
+    let identity = match Identity::of(&file) {
+        Ok(identity) => identity,
+        Err(e) => return Ok(say_error(rt, path, &e)),
+    };
     match open_log(rt, path, Stored::new(file)) {
-        Ok(mut journal) => append_lines(rt, path, &mut journal),
+        Ok(journal) => append_lines(Target { rt, path, identity }, journal),
         Err(status) => Ok(status),
     }
 }

@@ -5,7 +5,7 @@ use crate::entries::{
     Entry, INPUT, MOST, OUTPUT, open_file, read_input, say_failed, say_no_memory, status_of,
 };
 use journal::Halt;
-use journal_scan::{CheckError, Gap, Judge, RepairError, Report, Stretch, Tally, Watcher};
+use journal_scan::{CheckError, Judge, RepairError, Report, Stretch, Tally, Watcher};
 use line_io::{Writes, write_all};
 use link::Answer;
 use sealed::Sealed;
@@ -79,9 +79,8 @@ fn status_at(rt: &HostRuntime, log: &str, e: CheckError) -> u8 {
     }
 }
 
-fn print_missing(rt: &HostRuntime, gaps: &[Gap]) -> io::Result<()> {
-    for gap in gaps {
-        let (first, last) = (gap.first, gap.last);
+fn print_missing(rt: &HostRuntime, tally: &Tally) -> io::Result<()> {
+    for (first, last) in tally.missing() {
         println!(rt; "records {first}..{last}: missing")?;
     }
     Ok(())
@@ -101,10 +100,9 @@ fn sum_up(rt: &HostRuntime, report: &Report<Entry>, sound: bool) -> io::Result<u
         let from = last.from;
         println!(rt; "bytes {from}..: cut")?;
     }
-    let missing = report.tally.missing();
-    print_missing(rt, missing)?;
+    print_missing(rt, &report.tally)?;
     print_counted(rt, &report.tally)?;
-    let whole = report.unfinished.is_none() && missing.is_empty();
+    let whole = report.unfinished.is_none() && report.tally.missing().next().is_none();
     if whole && sound { Ok(0) } else { Ok(1) }
 }
 

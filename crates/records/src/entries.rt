@@ -4,7 +4,7 @@ use journal_scan::ScanError;
 use line_io::{End, Reads, read_to_end};
 use sealed::Sealed;
 use std::fmt::Display;
-use std::fs::{File, OpenOptions};
+use std::fs::{self, File, OpenOptions};
 use std::io::{self, ErrorKind};
 use stores::Memory;
 
@@ -29,26 +29,25 @@ pub fn open_file(rt: &HostRuntime, path: &str, write: bool) -> Result<File, u8> 
     }
 }
 
-// The folder that a file lies in.
-fn folder_of(path: &str) -> &str {
-    match path.rsplit_once('/') {
-        Some(("", _)) => "/",
-        Some((folder, _)) => folder,
-        None => ".",
+// Opens the folder that a file lies in: of a link the one of the file that it leads to.
+fn open_folder(rt: &HostRuntime, path: &str) -> io::Result<File> {
+    let mut options = OpenOptions::new();
+    options.read(true);
+    let whole = fs::canonicalize(rt, path)?;
+    match whole.parent() {
+        Some(folder) => options.open(rt, folder),
+        None => Err(io::Error::from(ErrorKind::NotFound)),
     }
 }
 
-/// Syncs the folder that a new file lies in, so that no crash takes the file; or says why not. The status of that.
+/// Syncs the folder that a file lies in, so that no crash takes the file; or says why not. The status of that.
 pub fn sync_folder(rt: &HostRuntime, path: &str) -> u8 {
-    let folder = folder_of(path);
-    let mut options = OpenOptions::new();
-    options.read(true);
-    match options.open(rt, folder) {
+    match open_folder(rt, path) {
         Ok(opened) => match opened.sync_all() {
             Ok(()) => 0,
-            Err(e) => say_error(rt, folder, &e),
+            Err(e) => say_error(rt, path, &e),
         },
-        Err(e) => say_error(rt, folder, &e),
+        Err(e) => say_error(rt, path, &e),
     }
 }
 

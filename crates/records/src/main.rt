@@ -6,7 +6,7 @@
 //!     records check [FILE]     prints each stretch that isn't a record, the numbers that no record has, and how many records there are
 //!     records repair           writes the records of the log on standard input, appended anew, to standard output
 //!     records follow FILE [from=N] [json]
-//!                              as show, and again at each line of standard input
+//!                              as show, and then what is appended to it, as it comes
 //!
 //! Where FILE is left out, the log is standard input, which is read to its end first.
 //!
@@ -20,6 +20,8 @@ mod about;
 mod appending;
 mod checking;
 mod entries;
+mod following;
+mod naming;
 mod settling;
 mod showing;
 mod words;
@@ -27,46 +29,85 @@ mod words;
 use crate::about::ABOUT;
 use crate::appending::append;
 use crate::checking::{check, mend};
-use crate::entries::{NULL, OUTPUT, hold_descriptors, say_error};
-use crate::showing::{follow, show};
-use crate::words::wanted_by;
+use crate::entries::{NULL, OUTPUT, hold_descriptors, say_error, say_failed};
+use crate::following::follow;
+use crate::showing::show;
+use crate::words::{NO_OPTION, TOO_MANY, Wanted, Wrong, wanted_by};
 use help::answer;
+use std::io::IsTerminal;
 use std::process::ExitCode;
 use std::{env, io};
 
 const USAGE: &str =
     "usage: records append FILE, show [FILE] [from=N] [last=K] [json], check [FILE], repair, or follow FILE [from=N] [json]";
 
-fn usage(rt: &HostRuntime) -> io::Result<u8> {
+// Says which word is wrong, and how the program is called.
+fn say_wrong(rt: &HostRuntime, wrong: Wrong<'_>) -> io::Result<u8> {
+    let Wrong { word, why } = wrong;
+    eprintln!(rt; "records: {word}: {why}")?;
     eprintln!(rt; "{USAGE}")?;
     Ok(2)
 }
 
-// Shows or follows a log by the words behind `show` or `follow`.
-fn show_by(rt: &HostRuntime, words: &[&str], following: bool) -> io::Result<u8> {
-    let Some(wanted) = wanted_by(words) else {
-        return usage(rt);
-    };
-    if !following {
-        return show(rt, wanted);
-    }
-    match wanted.path {
-        Some(path) if wanted.last.is_none() => follow(rt, path, wanted),
-        _ => usage(rt),
+fn wrong(rt: &HostRuntime, word: &str, why: &'static str) -> io::Result<u8> {
+    say_wrong(rt, Wrong { word, why })
+}
+
+// Shows a log by the words behind `show`.
+fn show_by(rt: &HostRuntime, words: &[&str]) -> io::Result<u8> {
+    match wanted_by(words) {
+        Ok(wanted) => show(rt, for_stdout(rt, wanted)),
+        Err(w) => say_wrong(rt, w),
     }
 }
 
-// Does what the words say.
+// Follows a log by the words behind `follow`.
+fn follow_by(rt: &HostRuntime, words: &[&str]) -> io::Result<u8> {
+    let wanted = match wanted_by(words) {
+        Ok(wanted) => wanted,
+        Err(w) => return say_wrong(rt, w),
+    };
+    if wanted.last.is_some() {
+        return wrong(rt, "follow", "takes no last=K");
+    }
+    match wanted.path {
+        Some(path) => follow(rt, path, for_stdout(rt, wanted)),
+        None => wrong(rt, "follow", "FILE is missing"),
+    }
+}
+
+// The same, escaped where it goes to a terminal.
+fn for_stdout<'a>(rt: &HostRuntime, wanted: Wanted<'a>) -> Wanted<'a> {
+    Wanted {
+        escaped: rt.stdout().is_terminal(),
+        ..wanted
+    }
+}
+
+// Does what the words say, none of which begins as an option.
 fn run_by(rt: &HostRuntime, words: &[&str]) -> io::Result<u8> {
     match words {
         ["append", path] => append(rt, path),
-        ["show", words @ ..] => show_by(rt, words, false),
-        ["follow", words @ ..] => show_by(rt, words, true),
+        ["append"] => wrong(rt, "append", "FILE is missing"),
+        ["show", words @ ..] => show_by(rt, words),
+        ["follow", words @ ..] => follow_by(rt, words),
         ["check"] => check(rt, None),
         ["check", path] => check(rt, Some(path)),
         ["repair"] => mend(rt),
-        _ => usage(rt),
+        ["append" | "check", _, word, ..] | ["repair", word, ..] => wrong(rt, word, TOO_MANY),
+        [word, ..] => wrong(rt, word, "no such command"),
+        [] => wrong(rt, "no command", "one is missing"),
     }
+}
+
+// Does what the words say. One that begins as an option is none of them.
+fn run_checked(rt: &HostRuntime, words: &[&str]) -> io::Result<u8> {
+    for word in words {
+        if word.starts_with("--") {
+            return wrong(rt, word, NO_OPTION);
+        }
+    }
+    run_by(rt, words)
 }
 
 // The same, of the program's words as they are held.
@@ -75,7 +116,7 @@ fn run_on(rt: &HostRuntime, held: &[String]) -> io::Result<u8> {
     for word in held {
         words.push(word.as_str())?;
     }
-    run_by(rt, &words)
+    run_checked(rt, &words)
 }
 
 // The words behind the program's name.
@@ -97,7 +138,8 @@ fn run(rt: &HostRuntime) -> io::Result<u8> {
         Err(e) => return Ok(say_error(rt, "its words", &e)),
     };
     match answer(&mut rt.stdout(), ABOUT, &words) {
-        Some(status) => Ok(status),
+        Some(0) => Ok(0),
+        Some(_) => Ok(say_failed(rt, OUTPUT, &"write failed")),
         None => run_on(rt, &words),
     }
 }

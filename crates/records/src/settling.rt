@@ -1,56 +1,134 @@
-//! Appending a line so that its number may be told.
-ghost use Rattle.std.specs.Prelude.{◌≡◌, ◌-◌, Ok, IfOk, OnOk};
+//! Appending lines so that their numbers may be told: several, and then one sync behind them.
+ghost use Rattle.std.specs.Prelude.{◌≡◌, ◌↔◌, ◌+◌, ◌^◌, ◌⊎◌, ◌-◌, ℕ, true, Some, List, [], ◌∷◌, ◌++◌, IfOk, OnOk, OnErr};
+ghost use Rattle.line_io.specs.Device.{LineState};
+ghost use Rattle.line_io.specs.Transfers.{Failed};
+ghost use Rattle.postcard_tree.specs.Tree.{Tree};
 ghost use Rattle.stores.specs.Store.{Settles};
 ghost use Rattle.journal.specs.Logs.{store_of, next_of, spent_of};
 ghost use Rattle.journal.specs.Appending.{Appended};
 
 use journal::{AppendError, Journal};
 use postcard::Serialize;
-use stores::Store;
+use std::ops::Range;
+use stores::{Store, SyncFault};
 
-/// The number of a record that no crash takes. Only `Settled::append` makes one.
+/// The numbers of records that no crash takes. Only a `Group` makes one.
 #[derive(Drop)]
 pub struct Settled {
-    number: u64,
+    first: u64,
+    next: u64,
 }
 
 impl Settled {
-    ghost use Rattle.records.specs.Settling.{number_of};
+    ghost use Rattle.records.specs.Settling.{first_settled, behind_settled};
 
-    /// Appends an entry and syncs the log behind it.
-    #[tactic(auto, using(crate::proofs::SettlingLemmas::appended_still))]
-    pub fn append<T: Serialize, S: Store, const N: usize>(
-        journal: &mut Journal<S, N>,
-        entry: &T,
-    ) -> Result<Settled, Unsettled>
-        ensures appended { IfOk result (λ s. Appended (N - 1) (spent_of journal.old)
-            (next_of journal.old) (T.form.writes entry.now) (Ok (number_of s))
-            (S.line (store_of journal.old)) (S.line (store_of journal.new))) }
-        ensures settled { OnOk result
-            (Settles (S.line (store_of journal.new)).told (S.settled (store_of journal.new))) }
+    /// The numbers.
+    pub fn numbers(&self) -> Range<u64>
+        ensures first { result.start ≡ first_settled self.now }
+        ensures behind { result.end ≡ behind_settled self.now }
     {
-        match journal.append(entry) {
-            Ok(number) => match journal.sync() {
-                Ok(()) => Ok(Settled { number }),
-                Err(_) => Err(Unsettled::Sync),
-            },
-            Err(e) => Err(Unsettled::Append(e)),
-        }
-    }
-
-    /// The number.
-    pub fn number(&self) -> u64
-        ensures { result ≡ number_of self.now }
-    {
-        self.number
+        self.first..self.next
     }
 }
 
-/// Why a line has no number that may be told.
+/// The records that were appended to a log since it was synced: their numbers, which may not be told yet.
 #[derive(Clone, Copy, Drop)]
-pub enum Unsettled {
-    /// It wasn't appended.
-    Append(AppendError),
-    /// It was appended, and the log couldn't be synced.
-    Sync,
+pub struct Group {
+    first: u64,
+    next: u64,
+}
+
+impl Group {
+    ghost use Rattle.records.specs.Settling.{first_of, behind_of, first_settled, behind_settled, HasGrown, numbered_by};
+
+    /// One of no records yet.
+    pub fn new<S: Store, const N: usize>(journal: &Journal<S, N>) -> Group
+        ensures first { first_of result ≡ next_of journal.now }
+        ensures behind { behind_of result ≡ next_of journal.now }
+    {
+        let next = journal.next();
+        Group { first: next, next }
+    }
+
+    /// Whether it has no records.
+    pub fn is_empty(&self) -> bool
+        ensures { result ≡ true ↔ first_of self.now ≡ behind_of self.now }
+    {
+        self.first == self.next
+    }
+
+    /// Appends an entry behind those of the group.
+    pub fn append<T: Serialize, S: Store, const N: usize>(
+        &mut self,
+        journal: &mut Journal<S, N>,
+        entry: &T,
+    ) -> Result<(), AppendError>
+        ensures appended { Appended (N - 1) (spent_of journal.old) (next_of journal.old)
+            (T.form.writes entry.now) (numbered_by (next_of journal.old) result)
+            (S.line (store_of journal.old)) (S.line (store_of journal.new)) }
+        ensures grown { OnOk result ((start : LineState) (values : List Tree)
+            → behind_of self.old ≡ next_of journal.old
+            → HasGrown start (S.line (store_of journal.old)) (first_of self.old)
+            (behind_of self.old) values []
+            → (value : Tree) × (T.form.writes entry.now ≡ Some value)
+            × (behind_of self.new ≡ next_of journal.new)
+            × HasGrown start (S.line (store_of journal.new)) (first_of self.new)
+            (behind_of self.new) (values ++ value ∷ []) []) }
+        ensures failed { OnErr result ((start : LineState) (values : List Tree)
+            → HasGrown start (S.line (store_of journal.old)) (first_of self.old)
+            (behind_of self.old) values []
+            → (rest : List ℕ) × HasGrown start (S.line (store_of journal.new))
+            (first_of self.new) (behind_of self.new) values rest) }
+        ensures kept { OnErr result (self.new ≡ self.old) }
+    {
+        match journal.append(entry) {
+            Ok(number) => {
+                self.next = number + 1;
+                Ok(())
+            }
+            Err(e) => Err(e),
+        }
+    }
+
+    /// Syncs the log behind its records.
+    pub fn settle<S: Store, const N: usize>(
+        self,
+        journal: &mut Journal<S, N>,
+    ) -> Result<Settled, SyncFault>
+        ensures grown { IfOk result (λ s. (start : LineState) (values : List Tree) (rest : List ℕ)
+            → HasGrown start (S.line (store_of journal.old)) (first_of self) (behind_of self)
+            values rest
+            → HasGrown start (S.line (store_of journal.new)) (first_settled s)
+            (behind_settled s) values rest) }
+        ensures settled { OnOk result
+            (Settles (S.line (store_of journal.new)).told (S.settled (store_of journal.new))) }
+        ensures cause { OnErr result ((spent_of journal.old ≡ true)
+            ⊎ Failed (S.line (store_of journal.old)) (S.line (store_of journal.new))) }
+        ensures held { (S.line (store_of journal.new)).told
+            ≡ (S.line (store_of journal.old)).told }
+        ensures next { next_of journal.new ≡ next_of journal.old }
+    {
+        journal.sync()?;
+        Ok(Settled {
+            first: self.first,
+            next: self.next,
+        })
+    }
+
+    /// Syncs the log behind its records where appending another one failed, so that the journal was given up.
+    pub fn settle_store<S: Store>(self, store: &mut S) -> Result<Settled, SyncFault>
+        ensures grown { IfOk result (λ s. (start : LineState) (values : List Tree) (rest : List ℕ)
+            → HasGrown start (S.line store.old) (first_of self) (behind_of self) values rest
+            → HasGrown start (S.line store.new) (first_settled s) (behind_settled s)
+            values rest) }
+        ensures settled { OnOk result (Settles (S.line store.new).told (S.settled store.new)) }
+        ensures cause { OnErr result (Failed (S.line store.old) (S.line store.new)) }
+        ensures held { (S.line store.new).told ≡ (S.line store.old).told }
+    {
+        store.sync()?;
+        Ok(Settled {
+            first: self.first,
+            next: self.next,
+        })
+    }
 }

@@ -1,11 +1,6 @@
 //! Showing the records of a log.
-ghost use Rattle.std.specs.Prelude.{◌-◌, IsTrue};
-ghost use Rattle.stores.specs.Store.{EndsBefore};
 
-use crate::entries::{
-    Entry, INPUT, MOST, OUTPUT, open_file, read_input, say_error, say_failed, say_no_memory,
-    status_of,
-};
+use crate::entries::{Entry, INPUT, MOST, OUTPUT, open_file, read_input, say_no_memory, status_of};
 use crate::words::Wanted;
 use journal_scan::{Scan, ScanError};
 use link::Answer;
@@ -14,21 +9,45 @@ use std::alloc::Global;
 use std::io::{self, BufWriter, ErrorKind, Write};
 use stores::{Store, Stored};
 
+// Writes a text as it is, or with its control characters escaped, as Rust spells them or as JSON does: so none of it moves a terminal's
+// cursor, sets its colours or writes over what stands there. Tabs stay.
+fn write_text<W: Write>(to: &mut W, text: &str, json: bool, escaped: bool) -> io::Result<()> {
+    if !escaped {
+        return write!(to, "{text}");
+    }
+    for c in text.chars() {
+        let code = c as u32;
+        if !c.is_control() || c == '\t' {
+            write!(to, "{c}")?;
+        } else if json {
+            write!(to, "\\u{code:04x}")?;
+        } else {
+            write!(to, "\\u{{{code:x}}}")?;
+        }
+    }
+    Ok(())
+}
+
 // Writes a record as a line of text, or of JSON.
 fn write_record<W: Write>(
     alloc: Global,
     to: &mut W,
     number: u64,
     text: &String,
-    json: bool,
+    wanted: Wanted<'_>,
 ) -> io::Result<()> {
+    let Wanted { json, escaped, .. } = wanted;
     if !json {
-        return writeln!(to, "{number} {text}");
+        write!(to, "{number} ")?;
+        write_text(to, text, json, escaped)?;
+        return writeln!(to);
     }
-    match serde_json::to_string(alloc, text) {
-        Ok(quoted) => writeln!(to, "{{\"number\":{number},\"text\":{quoted}}}"),
-        Err(_) => Err(io::Error::from(ErrorKind::OutOfMemory)),
-    }
+    let Ok(quoted) = serde_json::to_string(alloc, text) else {
+        return Err(io::Error::from(ErrorKind::OutOfMemory));
+    };
+    write!(to, "{{\"number\":{number},\"text\":")?;
+    write_text(to, &quoted, json, escaped)?;
+    writeln!(to, "}}")
 }
 
 // Writes what is a record that is wanted, and is sealed with its own number, unless it is one of the first so many, which are passed.
@@ -49,12 +68,12 @@ fn write_wanted<W: Write>(
         *passed -= 1;
         return Ok(());
     }
-    write_record(alloc, to, *number, text, wanted.json)
+    write_record(alloc, to, *number, text, wanted)
 }
 
-// Writes what is wanted of the records that the scan still comes to, without the first `passed` of them; or why the scan went no
-// further.
-fn write_rest<S: Store, W: Write>(
+/// Writes what is wanted of the records that the scan still comes to, without the first `passed` of them; or why the scan went no
+/// further.
+pub fn write_rest<S: Store, W: Write>(
     alloc: Global,
     scan: &mut Scan,
     store: &mut S,
@@ -145,52 +164,5 @@ pub fn show(rt: &HostRuntime, wanted: Wanted<'_>) -> io::Result<u8> {
             Ok(mut store) => show_in(rt, &mut store, wanted),
             Err(status) => Ok(status),
         },
-    }
-}
-
-// Whether a log is shorter than what was read of it.
-fn is_cut_off<S: Store>(store: &mut S, at: u64) -> bool
-    ensures { IsTrue result → EndsBefore (S.line store.old).told (at - 1) }
-{
-    let mut room = [0u8; 1];
-    at > 0 && matches!(store.read_at(at - 1, &mut room), Some(0))
-}
-
-// Shows what the scan still comes to, and again at each line of standard input.
-fn follow_on<S: Store>(
-    rt: &HostRuntime,
-    scan: &mut Scan,
-    store: &mut S,
-    wanted: Wanted<'_>,
-) -> io::Result<u8> {
-    match show_rest(rt, scan, store, wanted, &mut 0) {
-        Ok(0) => {}
-        failed => return failed,
-    }
-    for line in rt.lines(rt.alloc()) {
-        if let Err(e) = line {
-            return Ok(say_error(rt, INPUT, &e));
-        }
-        if is_cut_off(store, scan.at()) {
-            let log = wanted.path.unwrap_or(INPUT);
-            return Ok(say_failed(rt, log, &"cut off: it is shorter than what was shown"));
-        }
-        match show_rest(rt, scan, store, wanted, &mut 0) {
-            Ok(0) => {}
-            failed => return failed,
-        }
-    }
-    Ok(0)
-}
-
-/// Shows a log, and what was appended since at each line of standard input.
-pub fn follow(rt: &HostRuntime, path: &str, wanted: Wanted<'_>) -> io::Result<u8> {
-    let mut store = match open_file(rt, path, false) {
-        Ok(file) => Stored::new(file),
-        Err(status) => return Ok(status),
-    };
-    match Scan::new(rt.alloc(), MOST, 0) {
-        Ok(mut scan) => follow_on(rt, &mut scan, &mut store, wanted),
-        Err(e) => Ok(status_of(rt, wanted.path.unwrap_or(INPUT), e)),
     }
 }

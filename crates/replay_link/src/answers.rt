@@ -1,7 +1,6 @@
 //! What a link answers, in the words of a line.
 use link::{Answer, End};
-use replay::Trouble;
-use replay_values::Shown;
+use replay::{Shown, Trouble};
 use std::alloc::{AllocError, Global};
 
 /// Appends an answer.

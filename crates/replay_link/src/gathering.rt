@@ -4,8 +4,7 @@ use crate::linked::Line;
 use crate::receiving::{From, reader_of};
 use link::{Gathered, receive_by_accumulator_with_sentinel};
 use postcard::DeserializeOwned;
-use replay::{Findings, Trouble};
-use replay_values::Shown;
+use replay::{Findings, Shown, Trouble};
 use std::alloc::Global;
 
 /// Compares the values of a stream that comes at once, and of one that comes byte by byte.

@@ -3,8 +3,7 @@ use crate::answers::show_answer;
 use crate::linked::Line;
 use link::read_in_place_with_sentinel;
 use postcard::Deserialize;
-use replay::{Findings, Trouble};
-use replay_values::Shown;
+use replay::{Findings, Shown, Trouble};
 
 /// Compares the answers to stretch after stretch, each with the count of bytes that are left.
 pub(crate) fn compare_in_place<'a, T: Deserialize<&'a [u8]> + Shown>(

@@ -7,8 +7,7 @@ use crate::pushing::{compare_parts, compare_pushes};
 use crate::receiving::{Stream, compare_received, compare_received_strictly};
 use crate::sending::compare_sent;
 use postcard::{Deserialize, DeserializeOwned, Exact, Serialize};
-use replay::{Findings, Trouble, Words, bytes_of, pieces_of};
-use replay_values::Shown;
+use replay::{Findings, Shown, Trouble, Words, bytes_of, pieces_of};
 use std::alloc::Global;
 
 /// What a line asks of a type.

@@ -4,7 +4,7 @@ use example_by_hand::DataEnum;
 use postcard::de_flavors::Bytes;
 use postcard::fixint::LE;
 use postcard::{Deserialize, DeserializeOwned, Exact, Serialize};
-use replay_values::Shown;
+use replay::Shown;
 use std::collections::BTreeMap;
 
 /// What is asked of a type, once its name was read. Values are read from bytes of the kind `B`, which may lie in the room

@@ -8,8 +8,7 @@ use crate::named::{Asks, ask_named};
 use crate::rows::compare_rows;
 use link::{Answer, Decoding, OwnedReceiver, Pushed, Receiver, Reception};
 use postcard::{Deserialize, DeserializeOwned, Exact, Serialize};
-use replay::{Findings, Trouble, number_of, pieces_of};
-use replay_values::Shown;
+use replay::{Findings, Shown, Trouble, number_of, pieces_of};
 use std::alloc::{AllocError, Global};
 
 /// The call that pushes.

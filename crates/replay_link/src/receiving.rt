@@ -7,8 +7,7 @@ use link::{
     receive_with_sentinel,
 };
 use postcard::{DeserializeOwned, Exact};
-use replay::{Findings, Pieces, Trouble};
-use replay_values::Shown;
+use replay::{Findings, Pieces, Shown, Trouble};
 use std::alloc::Global;
 
 /// How many bytes a stretch has at most where a sent line is received.

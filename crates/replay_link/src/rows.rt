@@ -6,8 +6,7 @@ use crate::linked::Line;
 use crate::pushing::{add, name_of_end, show};
 use link::Receiver;
 use postcard::{DeserializeOwned, Exact};
-use replay::{Findings, Trouble};
-use replay_values::Shown;
+use replay::{Findings, Shown, Trouble};
 use std::alloc::Global;
 
 /// Compares what a receiver of the line's limit answers to the pieces, where it is one that a row names.

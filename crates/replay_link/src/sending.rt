@@ -8,8 +8,7 @@ use line_io::Outlet;
 use line_io::memory::{Fault, Out};
 use link::{Fate, SendError, Sender, send_each_with_sentinel};
 use postcard::{DeserializeOwned, Error, Serialize};
-use replay::{Findings, Trouble, bytes_of, digits, number_of};
-use replay_values::{Shown, in_words};
+use replay::{Findings, Shown, Trouble, bytes_of, digits, in_words, number_of};
 use std::alloc::Global;
 
 /// How many bytes the writer takes at most in a call.

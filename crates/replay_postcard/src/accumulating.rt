@@ -4,8 +4,7 @@ ghost use Rattle.postcard.specs.contracts.accumulator.CobsAccumulator.{the_row};
 
 use postcard::accumulator::{CobsAccumulator, FeedResult};
 use postcard::{Deserialize, DeserializeOwned};
-use replay::{Findings, Trouble, Words, pieces_of};
-use replay_values::Shown;
+use replay::{Findings, Shown, Trouble, Words, pieces_of};
 use std::alloc::Global;
 use std::collections::BTreeMap;
 

@@ -1,7 +1,6 @@
 //! What bytes are read as.
 use postcard::{Deserialize, DeserializeOwned, Error};
-use replay::{Findings, Trouble};
-use replay_values::{Shown, in_words};
+use replay::{Findings, Shown, Trouble, in_words};
 use std::alloc::Global;
 
 /// Reads bytes by each call. A reader has as much room as there are bytes.

@@ -3,8 +3,7 @@ use crate::reading::refusal;
 use arrayvec::ArrayVec;
 use postcard::experimental::serialized_size;
 use postcard::{Deserialize, Error, Serialize};
-use replay::{Findings, Trouble};
-use replay_values::{Shown, in_words};
+use replay::{Findings, Shown, Trouble, in_words};
 use std::alloc::Global;
 use std::convert::AsSlice;
 

@@ -5,8 +5,8 @@ use Rattle.postcard_tree.specs.declared.error.Error.{Error}
 use Rattle.postcard_tree.specs.Tree.{Tree}
 use Rattle.postcard_tree.specs.Reading.{Spelled}
 use Rattle.postcard_de.specs.Source.{slice_source, Reads, Outcome}
-use Rattle.postcard.specs.Answer.{ReadsFront, AnswersFronts, read_front, answers_fronts}
-use Rattle.schemas.specs.declared.node.Node.{Node}
+use Rattle.postcard_de.specs.Answer.{ReadsFront, AnswersFronts, read_front, answers_fronts}
+use Rattle.schema_table.specs.declared.node.Node.{Node}
 use Rattle.schemas.specs.declared.value.Value.{Value}
 use Rattle.schemas.specs.Schemas.{SchemaTakes, SchemaReads, SchemaRefuses}
 use Rattle.schemas.specs.SchemaLaws.{schema_laws}

@@ -10,9 +10,9 @@ use Rattle.postcard_tree.specs.ByteSlices.{bytes_each}
 use Rattle.postcard_tree.specs.Reading.{TakesByte, RefusesByte, RefusesBytes, TakesOption, RefusesOption, TakesSequence, RefusesSequence, IsShort, TakesUpTo, RefusesUpTo, TakesArray, RefusesEach, NoParts, RefusesNoParts, PartThen, RefusesPartThen, GroupOf, TakesVariant, RefusesVariant, TakesResult, RefusesResult}
 use Rattle.postcard_tree.specs.Variants.{TakesLast, RefusesLast, TakesFirst, RefusesFirst}
 use Rattle.postcard_tree.specs.Fixed.{TakesFixed}
-use Rattle.schemas.specs.declared.integer.IntegerType.{IntegerType}
-use Rattle.schemas.specs.declared.node.Node.{Node}
-use Rattle.schemas.specs.declared.node.Node.TheVariants as node
+use Rattle.schema_table.specs.declared.integer.IntegerType.{IntegerType}
+use Rattle.schema_table.specs.declared.node.Node.{Node}
+use Rattle.schema_table.specs.declared.node.Node.TheVariants as node
 use Rattle.schemas.specs.Integers.{width_of}
 use Rattle.schemas.specs.declared.value.Value.{Value}
 use Rattle.schemas.specs.Schemas.{AtTop, OfBytes, OfOption, OfList, OfGroup, OfVariant, EachHas, TakesNode, RefusesNode, TakesPlace, RefusesPlace, TakesPayload, RefusesPayload, NodeHas, PlaceHas, SchemaTakes, SchemaRefuses, SchemaHas}

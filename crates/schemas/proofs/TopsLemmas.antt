@@ -18,7 +18,7 @@ use Rattle.postcard_de.specs.Steps.{refused_here}
 use Rattle.postcard_de.specs.Runs.{bytes_read}
 use Rattle.postcard_tree.specs.Fixed.{little_endian, big_endian, TakesFixed, ReadsFixed, FixedLaws}
 use Rattle.postcard_tree.specs.FixedOnce.{little_laws, big_laws}
-use Rattle.schemas.specs.declared.integer.IntegerType.{IntegerType}
+use Rattle.schema_table.specs.declared.integer.IntegerType.{IntegerType}
 use Rattle.schemas.specs.declared.integer.Integer.{Integer}
 use Rattle.schemas.specs.Integers.{width_of, type_of, bits_in, little_group, big_group, little_tree_of, big_tree_of}
 use Rattle.schemas.specs.declared.value.Value.{Value, out-Value, Bool as Truth, U8, I8, U16, U32, U64, U128, I16, I32, I64, I128, LE, BE, Char, Text, Bytes, Absent, Present, List as Listed, Group, Variant, the_lemmas}

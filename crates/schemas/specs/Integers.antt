@@ -3,8 +3,8 @@ use Rattle.std.specs.Prelude.{ℕ}
 use Rattle.std.specs.Int.{w16, w32, w64, w128, cast_unsigned}
 use Rattle.postcard_tree.specs.Tree.{Tree, group, bytes_of}
 use Rattle.postcard_tree.specs.Fixed.{little_endian, big_endian}
-use Rattle.schemas.specs.declared.integer.IntegerType.{IntegerType}
-use Rattle.schemas.specs.declared.integer.IntegerType.TheVariants as types
+use Rattle.schema_table.specs.declared.integer.IntegerType.{IntegerType}
+use Rattle.schema_table.specs.declared.integer.IntegerType.TheVariants as types
 use Rattle.schemas.specs.declared.integer.Integer.{Integer}
 use Rattle.schemas.specs.declared.integer.Integer.TheVariants as integers
 

@@ -5,7 +5,7 @@ use Rattle.postcard_tree.specs.Reading.{Spelled, GroupOf, TakesVariant, RefusesV
 use Rattle.postcard_de.specs.declared.deserializer.Deserializer.{Deserializer}
 use Rattle.postcard_de.specs.Source.{SourceState}
 use Rattle.postcard_de.specs.Deserializer.{OutcomeOf}
-use Rattle.schemas.specs.declared.node.Node.{Node}
+use Rattle.schema_table.specs.declared.node.Node.{Node}
 use Rattle.schemas.specs.declared.value.Value.{Value}
 use Rattle.schemas.specs.Schemas.{ReadsBy, AtTop, OfGroup, OfVariant, TakesFields, TakesPayload, TakesNode, RefusesFields, RefusesPayload, RefusesNode, FieldsHave, PayloadHas, NodeHas, SchemaTakes, SchemaHas, SchemaRefuses}
 

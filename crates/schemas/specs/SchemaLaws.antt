@@ -11,10 +11,10 @@ use Rattle.postcard_tree.specs.Fixed.{TakesFixed}
 use Rattle.postcard_tree.specs.FixedOnce.{little_laws, unsigned_laws}
 use Rattle.postcard_tree.specs.Once.{part_once, part_refused}
 use Rattle.postcard_tree.specs.ReadingLaws.{ReadingLaws, PartsLaws, byte_laws, number_laws, bool_laws, character_laws, signed_byte_laws, no_parts_laws, group_laws, option_laws, variant_laws, unknown_laws, sequence_laws, upto_laws, array_laws, bytes_laws, text_laws, text_upto_laws}
-use Rattle.schemas.specs.declared.integer.IntegerType.{IntegerType}
-use Rattle.schemas.specs.declared.integer.IntegerType.TheVariants as types
-use Rattle.schemas.specs.declared.node.Node.{Node}
-use Rattle.schemas.specs.declared.node.Node.TheVariants as node
+use Rattle.schema_table.specs.declared.integer.IntegerType.{IntegerType}
+use Rattle.schema_table.specs.declared.integer.IntegerType.TheVariants as types
+use Rattle.schema_table.specs.declared.node.Node.{Node}
+use Rattle.schema_table.specs.declared.node.Node.TheVariants as node
 use Rattle.schemas.specs.declared.value.Value.{Value}
 use Rattle.schemas.specs.Integers.{width_of}
 use Rattle.schemas.specs.Values.{AreOneTree}

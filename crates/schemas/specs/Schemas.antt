@@ -6,9 +6,9 @@ use Rattle.postcard_tree.specs.declared.error.Error.TheVariants.{SerdeDeCustom}
 use Rattle.postcard_tree.specs.Tree.{Tree, Trees}
 use Rattle.postcard_tree.specs.Reading.{TakesByte, RefusesByte, TakesOctet, TakesNumber, RefusesGroups, IsShort, TakesBool, RefusesBool, TakesCharacter, RefusesCharacter, TakesText, RefusesText, TakesSequence, RefusesSequence, RefusesBytes, TakesUpTo, RefusesUpTo, TakesTextUpTo, RefusesTextUpTo, TakesOption, RefusesOption, TakesArray, RefusesEach, NoParts, PartThen, GroupOf, RefusesNoParts, RefusesPartThen, TakesVariant, RefusesVariant}
 use Rattle.postcard_tree.specs.Fixed.{TakesFixed}
-use Rattle.schemas.specs.declared.integer.IntegerType.{IntegerType}
-use Rattle.schemas.specs.declared.node.Node.{Node}
-use Rattle.schemas.specs.declared.node.Node.TheVariants as node
+use Rattle.schema_table.specs.declared.integer.IntegerType.{IntegerType}
+use Rattle.schema_table.specs.declared.node.Node.{Node}
+use Rattle.schema_table.specs.declared.node.Node.TheVariants as node
 use Rattle.schemas.specs.declared.value.Value.{Value, out-Value}
 use Rattle.schemas.specs.declared.value.Value.TheOpen.{Value-F}
 use Rattle.schemas.specs.Integers.{width_of, type_of}

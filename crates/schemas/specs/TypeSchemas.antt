@@ -2,9 +2,9 @@
 use Rattle.std.specs.Prelude.{◌≡◌, ℕ, zero, suc, ◌≤◌, List, [], ◌∷◌, ◌++◌, length}
 use Rattle.postcard_tree.specs.declared.error.Error.{Error}
 use Rattle.postcard_tree.specs.Tree.{Tree, Trees}
-use Rattle.postcard.specs.Answer.{ReadsFront}
-use Rattle.schemas.specs.declared.node.Node.{Node}
-use Rattle.schemas.specs.declared.node.Node.TheVariants as node
+use Rattle.postcard_de.specs.Answer.{ReadsFront}
+use Rattle.schema_table.specs.declared.node.Node.{Node}
+use Rattle.schema_table.specs.declared.node.Node.TheVariants as node
 use Rattle.schemas.specs.declared.value.Value.{Value}
 use Rattle.schemas.specs.Values.{tree_of}
 use Rattle.schemas.specs.Schemas.{TakesFields, TakesPayload, TakesNode, RefusesFields, RefusesPayload, RefusesNode, AtTop, FieldsHave, PayloadHas, NodeHas, SchemaTakes, SchemaHas, SchemaReads, SchemaRefuses}

@@ -1,8 +1,7 @@
 //! Reading a value from bytes, by a schema.
 ghost use Rattle.std.specs.Prelude.{◌≡◌, ◌⊎◌, ℕ, List, true, IfOk, IfErr};
 ghost use Rattle.postcard_tree.specs.declared.error.Error.TheVariants.{OutOfMemory};
-ghost use Rattle.postcard.specs.Answer.{ReadsFront, AnswersFronts};
-ghost use Rattle.postcard.specs.Frames.{first_of};
+ghost use Rattle.postcard_de.specs.Answer.{ReadsFront, AnswersFronts, first_of};
 ghost use Rattle.schemas.specs.Schemas.{SchemaTakes, SchemaReads, SchemaRefuses};
 
 use crate::{Node, Value, read_value};

@@ -1,31 +1,11 @@
 //! Integers that stand on the wire as their bytes, two to sixteen of them.
 ghost use Rattle.std.specs.Prelude.{◌≡◌, refl};
-ghost use Rattle.schemas.specs.declared.integer.IntegerType.{IntegerType as Types};
-ghost use Rattle.schemas.specs.declared.integer.IntegerType.TheVariants as types;
+ghost use Rattle.schema_table.specs.declared.integer.IntegerType.{IntegerType as Types};
+ghost use Rattle.schema_table.specs.declared.integer.IntegerType.TheVariants as types;
 ghost use Rattle.schemas.specs.Integers.{width_of, type_of, bits_in};
 
 use postcard_tree::fixint::FixInt;
-
-/// An integer type of 16 to 128 bits.
-#[derive(Clone, Copy, Debug, PartialEq, Eq, Drop)]
-pub enum IntegerType {
-    /// `u16`.
-    U16,
-    /// `u32`.
-    U32,
-    /// `u64`.
-    U64,
-    /// `u128`.
-    U128,
-    /// `i16`.
-    I16,
-    /// `i32`.
-    I32,
-    /// `i64`.
-    I64,
-    /// `i128`.
-    I128,
-}
+use schema_table::IntegerType;
 
 /// An integer of one of these types.
 #[derive(Clone, Copy, Debug, PartialEq, Eq, Drop)]

@@ -4,7 +4,7 @@ ghost use Rattle.postcard_tree.specs.ReadingLaws.{ReadingLaws};
 ghost use Rattle.schemas.specs.Values.{AreOneTree};
 ghost use Rattle.schemas.specs.Schemas.{SchemaTakes, SchemaReads, SchemaRefuses};
 ghost use Rattle.schemas.specs.TypeSchemas.{AgreesWithItsSchemas};
-ghost use Rattle.schemas.specs.declared.node.Node.{Node as Nodes};
+ghost use Rattle.schema_table.specs.declared.node.Node.{Node as Nodes};
 
 use crate::HasSchema;
 

@@ -2,7 +2,7 @@
 ghost use Rattle.std.specs.Prelude.{◌≡◌, ◌<◌, [], ◌∷◌, ◌++◌, true, OnOk, vec_len, vec_capacity};
 ghost use Rattle.postcard_tree.specs.Reading.{Spelled};
 ghost use Rattle.postcard_de.specs.Deserializer.{OutcomeOf};
-ghost use Rattle.schemas.specs.declared.node.Node.TheVariants as kind;
+ghost use Rattle.schema_table.specs.declared.node.Node.TheVariants as kind;
 ghost use Rattle.schemas.specs.Schemas.{SchemaReads, SchemaRefuses};
 ghost use Rattle.schemas.specs.Reading.{ReadsNode, ReadsLeaf, ReadsStructOf, ReadsEnumOf};
 

@@ -19,5 +19,5 @@ impl<T: MaxSize> MaxSizeForm<Sealed<T>> for AsSealed {
 impl<T: MaxWritten> MaxWrittenForm<Sealed<T>> for AsSealed {
     ghost use Rattle.sealed.specs.Sizes.{sealed_within};
 
-    ghost form_longest = { λ v h. sealed_within (T.form.writes v.0) T.greatest (T.longest v.0 h) };
+    ghost form_longest = { λ v h. sealed_within 0 (T.form.writes v.0) T.greatest (T.longest v.0 h) };
 }

@@ -29,14 +29,14 @@ impl<T: Readable> Readable for Sealed<T> {
     type Form = AsSealed;
 
     ghost form = { record {
-      writes = λ v. writes_sealed (T.form.writes v.0);
+      writes = λ v. writes_sealed 0 (T.form.writes v.0);
       valid = λ v. T.form.valid v.0;
-      takes = TakesSealed T.form.takes;
-      reads = λ t v. ReadsSealed T.form.reads t v.0;
-      refuses = RefusesSealed T.form.takes T.form.refuses;
+      takes = TakesSealed 0 T.form.takes;
+      reads = λ t v. ReadsSealed 0 T.form.reads t v.0;
+      refuses = RefusesSealed 0 T.form.takes T.form.refuses;
       alike = λ v w. T.form.alike v.0 w.0;
       growing = T.form.growing;
-      laws = seen_as (λ v. v.0) (sealed_laws T.form.laws);
+      laws = seen_as (λ v. v.0) (sealed_laws 0 T.form.laws);
     } };
 }
 
@@ -47,7 +47,7 @@ impl<T: Grows> GrowsForm<Sealed<T>> for AsSealed {
 }
 
 // Writes a value, hands the loan back, and answers the sum of what was written.
-fn write_summed<'b, T: Serialize, F: Flavor>(
+pub(crate) fn write_summed<'b, T: Serialize, F: Flavor>(
     value: &T,
     output: &'b mut F,
 ) -> (Result<u32>, &'b mut F)
@@ -85,11 +85,11 @@ impl<T: Serialize> Serialize for Sealed<T> {
 }
 
 impl<T: Lawful> LawfulForm<Sealed<T>> for AsSealed {
-    ghost form_reads_back = { λ v t h e. sealed_back T.form.reads v.0 (T.form.writes v.0) t
+    ghost form_reads_back = { λ v t h e. sealed_back 0 T.form.reads v.0 (T.form.writes v.0) t
         (λ u k. T.reads_back v.0 u h k) e };
 }
 
 impl<T: Exact> ExactForm<Sealed<T>> for AsSealed {
-    ghost form_writes_back = { λ t v h. sealed_written T.form.reads T.form.writes T.writes_back t
+    ghost form_writes_back = { λ t v h. sealed_written 0 T.form.reads T.form.writes T.writes_back t
         v.0 h };
 }

@@ -2,7 +2,7 @@
 ghost use Rattle.std.specs.Prelude.{true, ⊤, OnOk, OnErr};
 
 use crate::bytes::{Place, check, holding, is_last, is_place};
-use crate::tallies::are_gaps;
+use crate::tallies::are_missing;
 use journal::Halt;
 use journal_scan::{CheckError, Judge, Report, Stretch, Tally, Watcher};
 use std::alloc::Global;
@@ -150,9 +150,7 @@ const LOGS: [Log; 4] = [
 
 // Whether so many records were counted, and these numbers are missing.
 fn counts(tally: &Tally, log: &Log) -> bool {
-    tally.counted() == log.counted
-        && tally.next() == log.next
-        && are_gaps(tally.missing(), log.missing)
+    tally.counted() == log.counted && tally.next() == log.next && are_missing(tally, log.missing)
 }
 
 fn is_found(alloc: Global, log: &Log) -> bool {

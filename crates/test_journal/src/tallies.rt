@@ -1,16 +1,16 @@
 //! Numbers that come in no order: each takes itself out of the ranges that are missing.
 
 use crate::bytes::check;
-use journal_scan::{Gap, Tally};
+use journal_scan::Tally;
 
-/// Whether these are the ranges, each from its first number to its last.
-pub fn are_gaps(gaps: &[Gap], wanted: &[(u64, u64)]) -> bool {
-    for (gap, (first, last)) in gaps.iter().zip(wanted) {
-        if gap.first != *first || gap.last != *last {
+/// Whether these ranges are missing, each from its first number to its last.
+pub fn are_missing(tally: &Tally, wanted: &[(u64, u64)]) -> bool {
+    for (gap, (first, last)) in tally.missing().zip(wanted) {
+        if *gap.0 != *first || *gap.1 != *last {
             return false;
         }
     }
-    gaps.len() == wanted.len()
+    tally.missing().len() == wanted.len()
 }
 
 // A number, whether it was there before, and which are missing then.
@@ -26,7 +26,7 @@ const NUMBERS: [(u64, bool, &[(u64, u64)]); 7] = [
 
 fn counts(tally: &mut Tally, number: u64, again: bool, missing: &[(u64, u64)]) -> bool {
     match tally.count(number) {
-        Ok(found) => found == again && are_gaps(tally.missing(), missing),
+        Ok(found) => found == again && are_missing(tally, missing),
         Err(_) => false,
     }
 }

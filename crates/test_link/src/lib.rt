@@ -1,6 +1,5 @@
 //! Tests of lines, by public calls alone: the devices of `line_io`, `link`, whatever a stranger may send, memory that isn't
-//! found in every call that asks for it, the message types of `example_station` and `example_nested`, and the runs of
-//! `framed`.
+//! found in every call that asks for it, and the runs of `framed`.
 //!
 //! They stand in a crate of their own because a crate with tests is proved twice, once with and once without them, and
 //! beside `test_postcard` because one process proves a crate's tests as a whole.
@@ -13,7 +12,7 @@ mod behind_no_memory;
 #[cfg(test)]
 mod checks;
 #[cfg(test)]
-mod crossing;
+mod device_calls;
 #[cfg(test)]
 mod framed_runs;
 #[cfg(test)]
@@ -48,5 +47,3 @@ mod message_readers;
 mod owned_receiver;
 #[cfg(test)]
 mod refused_growths;
-#[cfg(test)]
-mod station_messages;

@@ -276,6 +276,28 @@ fn each_read_into_a_room(rt: HostRuntime) {
     check(&rt, wanted.heard == 6 && wanted.pauses == 2);
 }
 
+/// The same until enough was heard, which is asked between reads alone.
+#[test]
+fn until_enough_into_a_room(rt: HostRuntime) {
+    let mut receiver = Receiver::<4>::new();
+    let mut wanted = Wanted::new(&HEARD);
+    wanted.most = 1;
+    let mut reader = In::new(&LINE, 28, None);
+    let mut room = [0u8; 20];
+    let ordinary = Ordinary(OfType);
+    let end = receiver.listen_until_with(
+        rt.alloc(),
+        &ordinary,
+        &mut reader,
+        &mut wanted,
+        &mut room,
+    );
+    check(
+        &rt,
+        end.is_none() && reader.moved() == 20 && wanted.pauses == 1,
+    );
+}
+
 /// One read.
 fn listen(
     alloc: Global,

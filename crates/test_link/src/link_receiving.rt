@@ -53,14 +53,14 @@ fn reads(alloc: Global, bytes: &mut [u8], wanted: Answer<bool>, behind: usize) -
     }
 }
 
-/// A stretch that isn't ended stays as it was.
+/// A stretch that isn't ended stays as it was, and so do the zeros in front of one that is.
 #[test]
 fn leaves_the_unfinished(rt: HostRuntime) {
     let alloc = rt.alloc();
     let mut bytes = [0u8, 2, 1, 0, 3, 1];
     check(&rt, reads(alloc, &mut bytes, Answer::Value(true), 2));
     check(&rt, reads(alloc, &mut bytes[4..], Answer::Cut, 0));
-    check(&rt, are_bytes(&bytes[3..], &[0, 3, 1]));
+    check(&rt, bytes[0] == 0 && are_bytes(&bytes[3..], &[0, 3, 1]));
     let nothing = read_in_place::<bool>(alloc, &mut []);
     check(&rt, nothing.is_none());
 }

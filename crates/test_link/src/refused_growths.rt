@@ -7,7 +7,6 @@ ghost use Rattle.link.specs.Each.{HeardAnyhow, heard_anyhow};
 
 use crate::checks::{all_true, are_bytes, are_fates, check, is_answer, is_told};
 use cobs::{CobsDecoderOwned, DecodeVecError};
-use example_by_hand::Chain;
 use line_io::memory::{In, Out};
 use link::{
     Answer, End, Fate, Gathered, Hearer, NoMemory, OfType, Ordinary, OwnedReceiver, Pushed,
@@ -194,25 +193,6 @@ fn read_map(alloc: Global, wants: &mut Wants) {
     }
 }
 
-// A chain of 7 and 8.
-const CHAIN: [u8; 5] = [1, 7, 1, 8, 0];
-
-// Whether a chain is written as that one.
-fn is_the_chain(chain: &Chain) -> bool {
-    match to_vec::<_, 8>(chain) {
-        Ok(written) => are_bytes(written.as_slice(), &CHAIN),
-        Err(_) => false,
-    }
-}
-
-/// A value that holds itself.
-fn read_chain(alloc: Global, wants: &mut Wants) {
-    let read = from_bytes::<Chain>(alloc, &CHAIN);
-    if let Some(chain) = wants.value(read, Error::OutOfMemory) {
-        wants.expect(is_the_chain(&chain));
-    }
-}
-
 // The frame of the vector of a 7, and a byte more.
 const SEVEN: [u8; 5] = [3, 1, 7, 0, 9];
 
@@ -247,7 +227,6 @@ fn read_stretch(alloc: Global, wants: &mut Wants) {
 fn read_all(alloc: Global, wants: &mut Wants) {
     read_parts(alloc, wants);
     read_map(alloc, wants);
-    read_chain(alloc, wants);
     read_frame(alloc, wants);
     take_frame(alloc, wants);
     read_stretch(alloc, wants);

@@ -94,6 +94,7 @@ fn has_its_lines(alloc: Global, schema: &Schema, run: &Run, size: usize) -> bool
         strict: run.strict,
         depth: DEPTH,
         sentinel: 0,
+        summed: false,
     };
     let Ok(mut receiver) = LinesOfFrames::new(reading, run.from) else {
         return false;
@@ -141,6 +142,7 @@ fn by_the_table(rt: HostRuntime) {
         place: 0,
         depth: DEPTH,
         is_deep: &is_deep,
+        summed: false,
     };
     let piece = &STREAM[9..15];
     let pushed = receiver.push_with(alloc, &Ordinary(table), piece);

@@ -2,6 +2,7 @@
 use crate::stop::{Stop, no_file};
 use declarations::Source;
 use std::fs;
+use std::io::{self, ErrorKind};
 use std::path::AsPath;
 
 /// How the names of files end that are taken from folders.
@@ -28,11 +29,11 @@ fn add_entries(
     files: &mut Vec<String>,
 ) -> Result<(), Stop> {
     let Ok(entries) = fs::read_dir(rt, folder) else {
-        return Err(no_file(rt, folder));
+        return Err(no_file(rt, folder, "can't be listed"));
     };
     for entry in entries {
         let Ok(entry) = entry else {
-            return Err(no_file(rt, folder));
+            return Err(no_file(rt, folder, "can't be listed"));
         };
         let path = String::from_str(rt.alloc(), entry.path().path_text())?;
         if is_made(entry.file_name()) {
@@ -68,11 +69,21 @@ fn add(rt: &HostRuntime, path: &str, files: &mut Vec<String>) -> Result<(), Stop
     Ok(files.push(String::from_str(rt.alloc(), path)?)?)
 }
 
+/// What is said of a file that can't be read.
+fn why_not(error: &io::Error) -> &'static str {
+    match error.kind() {
+        ErrorKind::NotFound => "isn't there",
+        ErrorKind::PermissionDenied => "may not be read",
+        ErrorKind::InvalidData => "isn't text in UTF-8",
+        _ => "can't be read",
+    }
+}
+
 /// The text of a file.
 fn read(rt: &HostRuntime, file: String) -> Result<Source, Stop> {
     match fs::read_to_string(rt, file.as_str()) {
         Ok(text) => Ok(Source { file, text }),
-        Err(_) => Err(no_file(rt, file.as_str())),
+        Err(error) => Err(no_file(rt, file.as_str(), why_not(&error))),
     }
 }
 

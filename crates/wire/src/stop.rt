@@ -6,15 +6,24 @@ use std::alloc::{AllocError, AllocFailed};
 pub enum Stop {
     /// The words are wrong, or what they name; lines that say why.
     Wrong(String),
-    /// A file can't be read as text; a line that names it.
+    /// The same, said without the program's name: how it is called, or lines about declarations, which begin with a file.
+    Plain(String),
+    /// A file can't be read; a line that names it.
     NoFile(String),
-    /// A read failed.
-    ReadFault,
-    /// A write failed.
-    WriteFault,
+    /// A device failed; which, and at what.
+    Fault(&'static str),
     /// Out of memory.
     NoMemory,
 }
+
+/// That standard input failed.
+pub const READ_FAULT: Stop = Stop::Fault("standard input: read failed");
+
+/// That standard output failed.
+pub const WRITE_FAULT: Stop = Stop::Fault("standard output: write failed");
+
+/// That the clock failed.
+pub const CLOCK_FAULT: Stop = Stop::Fault("the clock: read failed");
 
 impl From<AllocError> for Stop {
     fn from(_: AllocError) -> Stop {
@@ -45,9 +54,9 @@ pub fn wrong(rt: &HostRuntime, pieces: &[&str]) -> Stop {
     }
 }
 
-/// That a file can't be read.
-pub fn no_file(rt: &HostRuntime, file: &str) -> Stop {
-    match joined(rt, &["`", file, "` can't be read as text\n"]) {
+/// That a file can't be read, and why.
+pub fn no_file(rt: &HostRuntime, file: &str, why: &str) -> Stop {
+    match joined(rt, &["`", file, "` ", why, "\n"]) {
         Ok(text) => Stop::NoFile(text),
         Err(_) => Stop::NoMemory,
     }

@@ -1,4 +1,6 @@
+pub mod DrawnLemmas
 pub mod LineLemmas
+pub mod SeenLemmas
 pub mod SentLemmas
 pub mod SizesLemmas
 pub mod ToldLemmas

@@ -1,5 +1,15 @@
+pub mod Drawn
+pub mod Fronts
+pub mod Kinds
 pub mod Parsed
+pub mod Pictures
+pub mod Printable
+pub mod Rates
+pub mod Raw
 pub mod Received
 pub mod Said
+pub mod Seen
 pub mod Sent
 pub mod Sizes
+pub mod Summed
+pub mod Tables

@@ -1,6 +1,6 @@
 -- When a value is one of a type of a table.
 use Rattle.std.specs.Prelude.{ℕ, List}
-use Rattle.schemas.specs.declared.node.Node.{Node}
+use Rattle.schema_table.specs.declared.node.Node.{Node}
 use Rattle.schemas.specs.declared.value.Value.{Value}
 use Rattle.schemas.specs.Values.{tree_of}
 use Rattle.schemas.specs.Schemas.{SchemaReads}

@@ -16,14 +16,16 @@ use Rattle.link.specs.declared.receiver.Answer.TheVariants as answer
 use Rattle.wire_lib.specs.declared.receive.Reading.{Reading}
 use Rattle.wire_lib.specs.declared.receive.LinesOfFrames.{LinesOfFrames}
 use Rattle.wire_lib.specs.Said.{IsLineOf}
+use Rattle.wire_lib.specs.Summed.{TakesSummed, ReadsSummed}
 
--- which trees a stretch holds: those of the type, that nest in at most so many nodes, ordinarily or strictly
+-- which trees a stretch holds: those of the type, that nest in at most so many nodes and end in their sum where one is wanted,
+-- ordinarily or strictly
 abbrev pub held_by : Reading → List ℕ → Tree → Type 0
-held_by r = HoldsBy r.strict (SchemaTakes r.depth r.schema.now.nodes.items r.place)
+held_by r = HoldsBy r.strict (TakesSummed r.summed (SchemaTakes r.depth r.schema.now.nodes.items r.place))
 
 -- as which values
 abbrev pub read_by : Reading → Tree → Value → Type 0
-read_by r = SchemaReads r.depth r.schema.now.nodes.items r.place
+read_by r = ReadsSummed r.summed (SchemaReads r.depth r.schema.now.nodes.items r.place)
 
 -- what frames are read as
 abbrev pub reading_of : LinesOfFrames → Reading

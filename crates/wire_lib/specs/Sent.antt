@@ -6,16 +6,17 @@ use Rattle.postcard_tree.specs.Spelling.{short}
 use Rattle.schemas.specs.declared.value.Value.{Value}
 use Rattle.schemas.specs.Values.{tree_of}
 use Rattle.wire_lib.specs.Parsed.{IsOfType}
+use Rattle.wire_lib.specs.Summed.{message_with}
 use Rattle.wire_lib.specs.declared.send.Sending.{Sending}
 use Rattle.wire_lib.specs.declared.send.FramesOfLines.{FramesOfLines}
 
 -- The frame of a value of the type, for the sentinel, which ends it. It is the shortest of its message, of at most 65536 bytes
--- before that.
+-- before that. The message has its sum behind it where one is wanted.
 pub record IsFrameToSend (s : Sending) (frame : List ℕ) : Type 0 where
   pub value : Value
   pub of_type : IsOfType s.depth s.schema.now.nodes.items s.place value
   pub is_tree : IsTree (tree_of value)
-  pub framed : frame ≡ frame_for s.sentinel (short (tree_of value)) ++ s.sentinel ∷ []
+  pub framed : frame ≡ frame_for s.sentinel (message_with s.summed (short (tree_of value))) ++ s.sentinel ∷ []
   pub within : length frame ≤ 65536 + 1
 
 -- What a line becomes: the bytes of its frame, or what is said of it.

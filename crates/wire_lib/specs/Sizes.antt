@@ -4,8 +4,8 @@ use Rattle.std.specs.List.{slice_get}
 use Rattle.postcard_tree.specs.Tree.{Tree}
 use Rattle.postcard_tree.specs.Spelling.{varint, short}
 use Rattle.postcard.specs.Greatest.{greater_of}
-use Rattle.schemas.specs.declared.node.Node.{Node}
-use Rattle.schemas.specs.declared.node.Node.TheVariants as node
+use Rattle.schema_table.specs.declared.node.Node.{Node}
+use Rattle.schema_table.specs.declared.node.Node.TheVariants as node
 use Rattle.schemas.specs.Integers.{width_of}
 use Rattle.schemas.specs.Schemas.{SchemaTakes}
 

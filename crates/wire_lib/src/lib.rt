@@ -6,10 +6,15 @@ mod floats;
 mod looks;
 pub mod parse;
 pub mod print;
+pub mod raw;
 pub mod receive;
 pub mod send;
+pub mod shown;
 pub mod sizes;
+pub mod summed;
 pub mod table;
+pub mod table_json;
+pub mod watching;
 pub mod words;
 pub mod wrong;
 

@@ -1,5 +1,5 @@
 //! How a type's values look, where printing and parsing have to agree.
-use declarations::{Names, Schema};
+use schema_table::{Names, Schema};
 use schemas::Node;
 
 /// The name of a value that is there, where the value itself may look as if none were.

@@ -1,33 +1,13 @@
 //! Values as JSON.
 use crate::floats::{double, single, word_of, word_of_double};
 use crate::looks::{PRESENT, has_text_keys, is_byte, is_empty, is_float, may_be_null};
-use declarations::{Names, Schema};
 use json::{Writer, is_number};
+use schema_table::{Names, Schema};
 use schemas::{Integer, Node, Value};
-use std::alloc::{AllocError, AllocFailed, Global};
+use std::alloc::{AllocError, Global};
 
-/// Why a value isn't printed.
-#[derive(Clone, Copy, Debug, PartialEq, Eq, Drop)]
-pub enum PrintError {
-    /// It isn't of the type at that place, or nests in more nodes than it may.
-    NotOfType,
-    /// Out of memory.
-    OutOfMemory,
-}
-
-impl From<AllocError> for PrintError {
-    fn from(_: AllocError) -> PrintError {
-        PrintError::OutOfMemory
-    }
-}
-
-impl<T: Drop> From<AllocFailed<T>> for PrintError {
-    fn from(_: AllocFailed<T>) -> PrintError {
-        PrintError::OutOfMemory
-    }
-}
-
-type Printed = Result<(), PrintError>;
+/// Printing fails if memory is wanting, and for no other reason: what isn't of the type has a form too, by the value alone.
+type Printed = Result<(), AllocError>;
 
 /// A schema, whether bytes look as hexadecimal text, and how many nodes a value may still nest in.
 #[derive(Clone, Copy, Drop)]
@@ -42,9 +22,9 @@ struct Style<'a> {
 /// says it past 64 bits.
 fn put_digits(out: &mut Writer, digits: &str) -> Printed {
     if !is_number(digits) {
-        return Err(PrintError::NotOfType);
+        return put_text(out, digits);
     }
-    Ok(out.number(digits)?)
+    out.number(digits)
 }
 
 /// Appends a number.
@@ -61,12 +41,12 @@ fn put_i128(out: &mut Writer, n: i128) -> Printed {
 
 /// Appends a number of up to 64 bits.
 fn put_u64(out: &mut Writer, n: u64) -> Printed {
-    Ok(out.u64(n)?)
+    out.u64(n)
 }
 
 /// Appends a number of up to 64 bits that may be negative.
 fn put_i64(out: &mut Writer, n: i64) -> Printed {
-    Ok(out.i64(n)?)
+    out.i64(n)
 }
 
 /// Appends an integer whose bytes stand as they are.
@@ -116,21 +96,19 @@ fn put_float(out: &mut Writer, alloc: Global, bits: Integer) -> Printed {
     match bits {
         Integer::U32(bits) => put_single(out, alloc, bits),
         Integer::U64(bits) => put_double(out, alloc, bits),
-        _ => Err(PrintError::NotOfType),
+        other => put_integer(out, other),
     }
 }
 
 /// Appends a text.
 fn put_text(out: &mut Writer, text: &str) -> Printed {
-    Ok(out.string(text)?)
+    out.string(text)
 }
 
 /// Appends a character as a text.
 fn put_char(out: &mut Writer, alloc: Global, c: char) -> Printed {
     let mut text = String::new(alloc);
-    if text.push(c).is_err() {
-        return Err(PrintError::OutOfMemory);
-    }
+    text.push(c)?;
     put_text(out, text.as_str())
 }
 
@@ -140,7 +118,7 @@ fn put_numbers(out: &mut Writer, bytes: &[u8]) -> Printed {
     for byte in bytes {
         out.u64(u64::from(*byte))?;
     }
-    Ok(out.end_array()?)
+    out.end_array()
 }
 
 /// Appends bytes.
@@ -152,10 +130,10 @@ fn put_bytes(out: &mut Writer, style: Style<'_>, bytes: &[u8]) -> Printed {
     put_text(out, digits.as_str())
 }
 
-/// Appends what looks the same whatever holds it.
+/// Appends what looks the same whatever holds it; `null` for what holds others.
 fn put_plain(out: &mut Writer, style: Style<'_>, value: &Value) -> Printed {
     match value {
-        Value::Bool(b) => Ok(out.boolean(*b)?),
+        Value::Bool(b) => out.boolean(*b),
         Value::U8(n) => put_u64(out, u64::from(*n)),
         Value::U16(n) => put_u64(out, u64::from(*n)),
         Value::U32(n) => put_u64(out, u64::from(*n)),
@@ -170,23 +148,22 @@ fn put_plain(out: &mut Writer, style: Style<'_>, value: &Value) -> Printed {
         Value::Char(c) => put_char(out, style.alloc, *c),
         Value::Text(text) => put_text(out, text.as_str()),
         Value::Bytes(bytes) => put_bytes(out, style, bytes),
-        _ => Err(PrintError::NotOfType),
+        _ => out.null(),
     }
 }
 
-/// Appends a value of the type at that place.
+/// Appends a value of the type at that place; of one that nests in more nodes than it may the outer ones.
 #[cycle(print)]
 fn put(out: &mut Writer, style: Style<'_>, place: usize, value: &Value) -> Printed {
     if style.depth == 0 {
-        return Err(PrintError::NotOfType);
+        return out.null();
     }
     let depth = style.depth - 1;
     let style = Style { depth, ..style };
     let Some(node) = style.schema.nodes.get(place) else {
-        return Err(PrintError::NotOfType);
+        return put_plain(out, style, value);
     };
     match (node, value) {
-        (Node::Option(_), Value::Absent) => Ok(out.null()?),
         (Node::Option(inner), Value::Present(held)) => put_present(out, style, *inner, held),
         (Node::List(inner), Value::List(items)) => put_list(out, style, place, *inner, items),
         (Node::ListUpTo(_, inner), Value::List(items)) => {
@@ -229,7 +206,7 @@ fn put_under(
     out.begin_object()?;
     out.key(name)?;
     put(out, style, place, value)?;
-    Ok(out.end_object()?)
+    out.end_object()
 }
 
 /// Appends a list: a map with texts as keys as an object.
@@ -258,13 +235,12 @@ fn put_elements(out: &mut Writer, style: Style<'_>, inner: usize, items: &[Value
     put_items(out, style, inner, items)
 }
 
-/// The bytes that values are.
-fn bytes_of(alloc: Global, items: &[Value]) -> Result<Vec<u8>, PrintError> {
+/// The bytes among values.
+fn bytes_of(alloc: Global, items: &[Value]) -> Result<Vec<u8>, AllocError> {
     let mut bytes = Vec::new(alloc);
     for item in items {
-        match item {
-            Value::U8(byte) => bytes.push(*byte)?,
-            _ => return Err(PrintError::NotOfType),
+        if let Value::U8(byte) = item {
+            bytes.push(*byte)?;
         }
     }
     Ok(bytes)
@@ -277,7 +253,7 @@ fn put_items(out: &mut Writer, style: Style<'_>, inner: usize, items: &[Value]) 
     for item in items {
         put(out, style, inner, item)?;
     }
-    Ok(out.end_array()?)
+    out.end_array()
 }
 
 /// Appends pairs as an object.
@@ -287,19 +263,19 @@ fn put_pairs(out: &mut Writer, style: Style<'_>, pair: usize, items: &[Value]) -
     for item in items {
         put_pair(out, style, pair, item)?;
     }
-    Ok(out.end_object()?)
+    out.end_object()
 }
 
 /// Appends a number as a key.
 fn put_u128_key(out: &mut Writer, n: u128) -> Printed {
     let mut buffer = itoa::Buffer::new();
-    Ok(out.key(buffer.format(n))?)
+    out.key(buffer.format(n))
 }
 
 /// Appends a number that may be negative as a key.
 fn put_i128_key(out: &mut Writer, n: i128) -> Printed {
     let mut buffer = itoa::Buffer::new();
-    Ok(out.key(buffer.format(n))?)
+    out.key(buffer.format(n))
 }
 
 /// Appends an integer whose bytes stand as they are as a key.
@@ -319,16 +295,14 @@ fn put_integer_key(out: &mut Writer, n: Integer) -> Printed {
 /// Appends a character as a key.
 fn put_char_key(out: &mut Writer, alloc: Global, c: char) -> Printed {
     let mut text = String::new(alloc);
-    if text.push(c).is_err() {
-        return Err(PrintError::OutOfMemory);
-    }
-    Ok(out.key(text.as_str())?)
+    text.push(c)?;
+    out.key(text.as_str())
 }
 
-/// Appends what looks the same whatever holds it as a key.
+/// Appends what looks the same whatever holds it as a key; an empty one for what is no key.
 fn put_plain_key(out: &mut Writer, alloc: Global, value: &Value) -> Printed {
     match value {
-        Value::Bool(b) => Ok(out.key(if *b { "true" } else { "false" })?),
+        Value::Bool(b) => out.key(if *b { "true" } else { "false" }),
         Value::U8(n) => put_u128_key(out, u128::from(*n)),
         Value::U16(n) => put_u128_key(out, u128::from(*n)),
         Value::U32(n) => put_u128_key(out, u128::from(*n)),
@@ -341,8 +315,8 @@ fn put_plain_key(out: &mut Writer, alloc: Global, value: &Value) -> Printed {
         Value::I128(n) => put_i128_key(out, *n),
         Value::LE(n) | Value::BE(n) => put_integer_key(out, *n),
         Value::Char(c) => put_char_key(out, alloc, *c),
-        Value::Text(text) => Ok(out.key(text.as_str())?),
-        _ => Err(PrintError::NotOfType),
+        Value::Text(text) => out.key(text.as_str()),
+        _ => out.key(""),
     }
 }
 
@@ -358,59 +332,67 @@ fn variant_name<'a>(schema: &'a Schema, place: usize, index: u32) -> Option<&'a 
 }
 
 /// What newtypes round a key hold, and the place of its type.
-fn inside_newtypes<'a>(
-    schema: &Schema,
-    place: usize,
-    value: &'a Value,
-) -> Option<(usize, &'a Value)> {
+fn inside_newtypes<'a>(schema: &Schema, place: usize, value: &'a Value) -> (usize, &'a Value) {
     let mut at = place;
     let mut held = value;
     for _ in 0..schema.nodes.len() {
         let (Some(Node::Struct(fields)), Value::Group(parts)) = (schema.nodes.get(at), held) else {
-            return Some((at, held));
+            break;
         };
         let ([only], [part]) = (fields.as_slice(), parts.as_slice()) else {
-            return None;
+            break;
         };
         at = *only;
         held = part;
     }
-    None
+    (at, held)
 }
 
 /// Appends a key of the type at that place: its text, its digits, or the name of a variant.
 fn put_key(out: &mut Writer, style: Style<'_>, place: usize, value: &Value) -> Printed {
-    let Some((at, held)) = inside_newtypes(style.schema, place, value) else {
-        return Err(PrintError::NotOfType);
-    };
+    let (at, held) = inside_newtypes(style.schema, place, value);
     let Value::Variant(index, _) = held else {
         return put_plain_key(out, style.alloc, held);
     };
     match variant_name(style.schema, at, *index) {
-        Some(name) => Ok(out.key(name)?),
-        None => Err(PrintError::NotOfType),
+        Some(name) => out.key(name),
+        None => put_u128_key(out, u128::from(*index)),
     }
 }
 
-/// Appends a pair as a member.
+/// The places of the types of a pair.
+fn pair_of(schema: &Schema, pair: usize) -> Option<(usize, usize)> {
+    match schema.nodes.get(pair) {
+        Some(Node::Struct(fields)) => match fields.as_slice() {
+            [key, inner] => Some((*key, *inner)),
+            _ => None,
+        },
+        _ => None,
+    }
+}
+
+/// Appends a pair as a member; an empty one for what is no pair.
 #[cycle(print)]
 fn put_pair(out: &mut Writer, style: Style<'_>, pair: usize, item: &Value) -> Printed {
-    let Some(Node::Struct(fields)) = style.schema.nodes.get(pair) else {
-        return Err(PrintError::NotOfType);
-    };
-    match (fields.as_slice(), item) {
-        ([key, inner], Value::Group(parts)) => match parts.as_slice() {
+    match (pair_of(style.schema, pair), item) {
+        (Some((key, inner)), Value::Group(parts)) => match parts.as_slice() {
             [name, held] => {
-                put_key(out, style, *key, name)?;
-                put(out, style, *inner, held)
+                put_key(out, style, key, name)?;
+                put(out, style, inner, held)
             }
-            _ => Err(PrintError::NotOfType),
+            _ => put_no_pair(out),
         },
-        _ => Err(PrintError::NotOfType),
+        _ => put_no_pair(out),
     }
 }
 
-/// Appends a struct or a tuple.
+/// Appends what stands in the place of a pair.
+fn put_no_pair(out: &mut Writer) -> Printed {
+    out.key("")?;
+    out.null()
+}
+
+/// Appends a struct or a tuple: as an array if its fields have no names.
 #[cycle(print)]
 fn put_struct(
     out: &mut Writer,
@@ -419,19 +401,24 @@ fn put_struct(
     fields: &[usize],
     items: &[Value],
 ) -> Printed {
-    if fields.len() != items.len() {
-        return Err(PrintError::NotOfType);
-    }
     match style.schema.names.get(place) {
-        Some(Names::Unit | Names::Empty) => Ok(out.null()?),
-        Some(Names::Newtype) => put_fields(out, style, fields, items),
-        Some(Names::Tuple) => {
+        Some(Names::Unit | Names::Empty) => out.null(),
+        Some(Names::Newtype) => put_newtype(out, style, fields, items),
+        Some(Names::Fields(names)) => put_members(out, style, names, fields, items),
+        _ => {
             out.begin_array()?;
             put_fields(out, style, fields, items)?;
-            Ok(out.end_array()?)
+            out.end_array()
         }
-        Some(Names::Fields(names)) => put_members(out, style, names, fields, items),
-        _ => Err(PrintError::NotOfType),
+    }
+}
+
+/// Appends what a struct of one field holds; of one with a sum behind it, what stands before that.
+#[cycle(print)]
+fn put_newtype(out: &mut Writer, style: Style<'_>, fields: &[usize], items: &[Value]) -> Printed {
+    match (fields, items) {
+        ([field, ..], [item, ..]) => put(out, style, *field, item),
+        _ => out.null(),
     }
 }
 
@@ -444,7 +431,7 @@ fn put_fields(out: &mut Writer, style: Style<'_>, fields: &[usize], items: &[Val
     Ok(())
 }
 
-/// Appends values of these types as an object, by their names.
+/// Appends values of these types as an object, by their names; one without a name has an empty one.
 #[cycle(print)]
 fn put_members(
     out: &mut Writer,
@@ -454,17 +441,22 @@ fn put_members(
     items: &[Value],
 ) -> Printed {
     out.begin_object()?;
-    for i in 0..items.len() {
-        let (Some(name), Some(field)) = (names.get(i), fields.get(i)) else {
-            return Err(PrintError::NotOfType);
-        };
-        out.key(name.as_str())?;
-        put(out, style, *field, &items[i])?;
+    for (i, (field, item)) in fields.iter().zip(items).enumerate() {
+        out.key(name_in(names, i))?;
+        put(out, style, *field, item)?;
     }
-    Ok(out.end_object()?)
+    out.end_object()
 }
 
-/// Appends a variant: its name, or an object of its name and what it holds.
+/// The name at that place.
+fn name_in(names: &[String], i: usize) -> &str {
+    match names.get(i) {
+        Some(name) => name.as_str(),
+        None => "",
+    }
+}
+
+/// Appends a variant: its name, or an object of its name and what it holds; its index if it has no name.
 #[cycle(print)]
 fn put_variant(
     out: &mut Writer,
@@ -478,7 +470,7 @@ fn put_variant(
         variant_name(style.schema, place, index),
         payloads.get(index as usize),
     ) else {
-        return Err(PrintError::NotOfType);
+        return put_u64(out, u64::from(index));
     };
     if is_empty(style.schema, *payload) {
         return put_text(out, name);
@@ -495,7 +487,8 @@ pub struct Look {
     pub depth: u32,
 }
 
-/// Appends a value of the type at that place of the schema.
+/// Appends a value of the type at that place of the schema. It fails only if memory is wanting: of a value that isn't of the type,
+/// or nests too deep, what doesn't fit is written as `null`, by its index, or under an empty name.
 pub fn print_into(
     out: &mut Writer,
     alloc: Global,
@@ -503,7 +496,7 @@ pub fn print_into(
     place: usize,
     look: Look,
     value: &Value,
-) -> Result<(), PrintError> {
+) -> Result<(), AllocError> {
     let style = Style {
         alloc,
         schema,
@@ -526,7 +519,7 @@ pub fn print(
     place: usize,
     look: Look,
     value: &Value,
-) -> Result<Vec<u8>, PrintError> {
+) -> Result<Vec<u8>, AllocError> {
     let mut out = Writer::new(Vec::new(alloc));
     print_into(&mut out, alloc, schema, place, look, value)?;
     Ok(out.into_inner())

@@ -9,12 +9,12 @@ ghost use Rattle.wire_lib.specs.Sent.{LacksFeed};
 ghost use Rattle.wire_lib.specs.Said.{value_line, stretch_line, known_to, end_said, SaysLine};
 ghost use Rattle.wire_lib.specs.Received.{HasTold, held_by, read_by, reading_of, skip_of, is_a_value, are_all_values, added_at_end, TellsEach, TellsEnd};
 
-use crate::print::{Look, PrintError, print_into};
+use crate::print::{Look, print_into};
 use crate::table::TableReader;
 use cobs::before_sentinel;
-use declarations::Schema;
 use json::Writer;
 use link::{Answer, NoMemory, Ordinary, OwnedReceiver, Pushed, Strict};
+use schema_table::Schema;
 use schemas::Value;
 use std::alloc::{AllocError, Global};
 use std::cell::Cell;
@@ -40,6 +40,8 @@ pub struct Reading<'a> {
     pub depth: u32,
     /// The byte that stands round each frame, with which its bytes are XORed.
     pub sentinel: u8,
+    /// Whether a message is a value only if its last four bytes are the CRC-32 of the others.
+    pub summed: bool,
 }
 
 /// Reads a stream of frames in pieces, and makes a line of each answer.
@@ -218,7 +220,7 @@ impl<'a> LinesOfFrames<'a> {
 }
 
 /// Takes bytes up to the first answer.
-fn push_next(
+pub(crate) fn push_next(
     reading: Reading<'_>,
     is_deep: &Cell<bool>,
     receiver: &mut OwnedReceiver,
@@ -242,6 +244,7 @@ fn push_next(
         place: reading.place,
         depth: reading.depth,
         is_deep,
+        summed: reading.summed,
     };
     if reading.strict {
         return receiver.push_with(reading.alloc, &Strict(table), rest);
@@ -257,7 +260,7 @@ fn is_value(answer: &Answer<Value>) -> bool
 }
 
 /// Appends the line of a value, whose text is put together in `text`.
-fn put_value_line(
+pub(crate) fn put_value_line(
     reading: Reading<'_>,
     value: &Value,
     text: &mut Vec<u8>,
@@ -298,7 +301,7 @@ fn put_spaces(text: &mut [u8])
 }
 
 /// Appends the line of a stretch that is no value: what it is, and which bytes of the stream it has.
-fn put_stretch_line(
+pub(crate) fn put_stretch_line(
     alloc: Global,
     what: &str,
     from: u64,
@@ -325,13 +328,5 @@ fn write_value(reading: Reading<'_>, value: &Value, text: &mut Vec<u8>) -> Resul
     let mut out = Writer::new(mem::replace(text, Vec::new(alloc)));
     let written = print_into(&mut out, alloc, schema, place, Look { hex, depth }, value);
     *text = out.into_inner();
-    match written {
-        Ok(()) => Ok(()),
-        // What was read by a schema is of its type.
-        Err(PrintError::NotOfType) => {
-            text.clear();
-            text.extend_from_slice(b"null")
-        }
-        Err(PrintError::OutOfMemory) => Err(AllocError),
-    }
+    written
 }

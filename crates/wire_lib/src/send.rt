@@ -2,12 +2,11 @@
 ghost use Rattle.std.specs.Prelude.{◌≡◌, ℕ, ◌<◌, ◌≤◌, ◌&&◌, false, List, [], ◌∷◌, ◌++◌, length, take, string_bytes, IfOk, OnOk};
 ghost use Rattle.wire_lib.specs.Sent.{IsFrameToSend, LineMade, refusal_text, IsLineMade, AreLinesMade, is_framed, are_all_framed, number_behind, sending_of, begun_line, HasMade, AppendedApart};
 
-use crate::parse::parse;
+use crate::raw::message_of;
 use crate::receive::LIMIT;
 use crate::wrong::{ParseError, Wrong, put_wrong, refusal};
 use cobs::{before_sentinel, encode_vec_with_sentinel};
-use declarations::Schema;
-use postcard::to_allocvec;
+use schema_table::Schema;
 use std::alloc::{AllocError, Global};
 use std::mem;
 
@@ -24,6 +23,8 @@ pub struct Sending<'a> {
     pub depth: u32,
     /// The byte that stands round each frame, with which its bytes are XORed.
     pub sentinel: u8,
+    /// Whether the CRC-32 of a message stands behind it.
+    pub summed: bool,
 }
 
 type Sent = Result<(), AllocError>;
@@ -42,17 +43,12 @@ fn append(to: &mut Vec<u8>, bytes: &[u8]) -> Sent
 pub fn frame_of(sending: Sending<'_>, line: &[u8]) -> Result<Vec<u8>, ParseError>
     ensures { IfOk result (λ frame. IsFrameToSend sending.entry frame.items) }
 {
+    let message = message_of(sending, line)?;
     let Sending {
         alloc,
-        schema,
-        place,
-        depth,
         sentinel,
+        ..
     } = sending;
-    let value = parse(alloc, schema, place, depth, line)?;
-    let Ok(message) = to_allocvec(alloc, &value) else {
-        return Err(ParseError::OutOfMemory);
-    };
     let mut frame = encode_vec_with_sentinel(alloc, &message, sentinel)?;
     if frame.len() > LIMIT {
         return Err(refusal("the frame has more than 65536 bytes, which `read` doesn't take"));

@@ -5,12 +5,14 @@ ghost use Rattle.schemas.specs.Schemas.{SchemaTakes, SchemaReads};
 ghost use Rattle.schemas.specs.SchemaLaws.{schema_laws};
 ghost use Rattle.link.specs.Judged.{front_laws};
 ghost use Rattle.wire_lib.specs.Parsed.{IsOfType};
+ghost use Rattle.wire_lib.specs.Summed.{TakesSummed, ReadsSummed, summed_laws};
 
+use crate::summed::kept;
 use crate::words::DEEPEST;
 use crate::wrong::{ParseError, refusal};
-use declarations::Schema;
 use link::{ExactReader, FrontReader};
 use postcard::{Error, to_allocvec};
+use schema_table::Schema;
 use schemas::{Node, Value, from_bytes, take_from_bytes};
 use std::alloc::Global;
 use std::cell::Cell;
@@ -29,11 +31,13 @@ pub struct TableReader<'a> {
     pub depth: u32,
     /// Where it is noted that a message nests deeper.
     pub is_deep: &'a Cell<bool>,
+    /// Whether a message is read only if its last four bytes are the sum of the others.
+    pub summed: bool,
 }
 
 impl TableReader<'_> {
     /// Notes that a message which was refused is one that nests deeper, if it is.
-    fn note_depth(&self, alloc: Global, message: &[u8]) {
+    pub(crate) fn note_depth(&self, alloc: Global, message: &[u8]) {
         if from_bytes(alloc, self.nodes, self.place, DEEPEST, message).is_ok() {
             self.is_deep.set(true);
         }
@@ -41,25 +45,29 @@ impl TableReader<'_> {
 }
 
 impl FrontReader<Value> for TableReader<'_> {
-    ghost takes = { λ r. SchemaTakes r.depth r.nodes.now r.place };
+    ghost takes = { λ r. TakesSummed r.summed (SchemaTakes r.depth r.nodes.now r.place) };
 
-    ghost reads = { λ r. SchemaReads r.depth r.nodes.now r.place };
+    ghost reads = { λ r. ReadsSummed r.summed (SchemaReads r.depth r.nodes.now r.place) };
 
     ghost growing = { λ _. true };
 
-    ghost laws = { λ r. front_laws (schema_laws r.depth r.nodes.now r.place) };
+    ghost laws = { λ r. summed_laws r.summed (front_laws (schema_laws r.depth r.nodes.now r.place)) };
 
     fn read_front(&self, alloc: Global, message: &[u8]) -> postcard::Result<Value> {
-        let read = from_bytes(alloc, self.nodes, self.place, self.depth, message);
-        if matches!(read, Err(Error::SerdeDeCustom)) {
-            self.note_depth(alloc, message);
+        match from_bytes(alloc, self.nodes, self.place, self.depth, message) {
+            Ok(value) => kept(alloc, self.summed, value),
+            Err(error) => {
+                if matches!(error, Error::SerdeDeCustom) {
+                    self.note_depth(alloc, message);
+                }
+                Err(error)
+            }
         }
-        read
     }
 }
 
 impl ExactReader<Value> for TableReader<'_> {
-    ghost writes_back = { λ r t v h. ap Some h.1 };
+    ghost writes_back = { λ r t v h. ap Some h.0.1 };
 }
 
 /// The value as its type reads what is written of it, to the last byte; so it is one of that type.

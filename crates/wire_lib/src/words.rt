@@ -10,9 +10,20 @@ pub const DEEPEST: u32 = 1000;
 /// How many elements that take no bytes a list may have without a word.
 pub const EMPTY: u64 = 65536;
 
+/// What is done with the messages of a type.
+#[derive(Clone, Copy, Debug, PartialEq, Eq, Drop)]
+pub enum Mode {
+    /// Frames become lines.
+    Read,
+    /// Lines become frames.
+    Write,
+    /// Frames become a picture.
+    Watch,
+}
+
 /// How frames are read or written.
 #[derive(Clone, Copy, Debug, PartialEq, Eq, Drop)]
-pub struct Options {
+pub struct Options<'a> {
     /// Whether the framed side is hexadecimal text.
     pub hex: bool,
     /// Whether only the frame that sending a value makes is taken.
@@ -27,10 +38,18 @@ pub struct Options {
     pub depth: u32,
     /// How many elements that take no bytes a list may have.
     pub empty: u64,
+    /// Whether messages stand without frames.
+    pub raw: bool,
+    /// Whether the CRC-32 of a message stands behind it.
+    pub summed: bool,
+    /// Whether each line has the seconds since the program began.
+    pub time: bool,
+    /// The variant whose values alone are shown.
+    pub only: Option<&'a str>,
 }
 
 /// What stands without a word.
-const PLAIN: Options = Options {
+const PLAIN: Options<'static> = Options {
     hex: false,
     strict: false,
     sentinel: 0,
@@ -38,7 +57,30 @@ const PLAIN: Options = Options {
     digits: false,
     depth: DEPTH,
     empty: EMPTY,
+    raw: false,
+    summed: false,
+    time: false,
+    only: None,
 };
+
+/// A word that isn't taken, and why.
+#[derive(Clone, Copy, Debug, PartialEq, Eq, Drop)]
+pub struct WrongWord<'a> {
+    /// The word.
+    pub word: &'a str,
+    /// What is wrong with it.
+    pub why: &'static str,
+}
+
+/// What is said of a word that a mode hasn't.
+const NO_WORD: &str = "isn't a word of this mode";
+
+/// What is said of a value behind `=` that isn't one.
+const NO_VALUE: &str = "has another value than it may";
+
+/// What is said of `raw` with words about frames.
+const NO_FRAMES: &str =
+    "means that there are no frames, so it goes with neither `sentinel` nor `from`";
 
 /// The byte of two hexadecimal digits.
 fn byte_of(digits: &str) -> Option<u8>
@@ -62,12 +104,12 @@ fn depth_of(value: &str) -> Option<u32> {
 }
 
 /// The options with a word that has a value behind `=`.
-fn with_value(options: Options, name: &str, value: &str) -> Option<Options>
+fn with_value<'a>(options: Options<'a>, name: &str, value: &'a str) -> Option<Options<'a>>
     ensures sentinel { name.now ≡ codes "sentinel"
         → IfSome result (λ new. decode_sized value.now 1 ≡ Ok (new.sentinel ∷ [])) }
     ensures none { name.now ≡ codes "sentinel" → result ≡ None → IsErr (decode_sized value.now 1) }
     ensures other { name.now ≢ codes "sentinel"
-        → IfSome result (λ new. new.sentinel ≡ options.sentinel) }
+        → IfSome result (λ new. new.sentinel ≡ options.entry.sentinel) }
 {
     let mut options = options;
     match name {
@@ -76,17 +118,21 @@ fn with_value(options: Options, name: &str, value: &str) -> Option<Options>
         "bytes" if value == "hex" => options.digits = true,
         "depth" => options.depth = depth_of(value)?,
         "empty" => options.empty = value.parse::<u64>().ok()?,
+        "only" => options.only = Some(value),
         _ => return None,
     }
     Some(options)
 }
 
 /// The options with one more word.
-fn with_word(options: Options, word: &str) -> Option<Options> {
+fn with_word<'a>(options: Options<'a>, word: &'a str) -> Option<Options<'a>> {
     let mut options = options;
     match word {
         "hex" => options.hex = true,
         "strict" => options.strict = true,
+        "raw" => options.raw = true,
+        "crc32" => options.summed = true,
+        "time" => options.time = true,
         _ => {
             let (name, value) = word.split_once('=')?;
             return with_value(options, name, value);
@@ -95,12 +141,51 @@ fn with_word(options: Options, word: &str) -> Option<Options> {
     Some(options)
 }
 
+/// A word without what stands behind `=`.
+fn name_of(word: &str) -> &str {
+    match word.split_once('=') {
+        Some((name, _)) => name,
+        None => word,
+    }
+}
+
+/// Whether a mode has a word of this name.
+fn has_word(mode: Mode, name: &str) -> bool {
+    match name {
+        "sentinel" | "depth" | "empty" => true,
+        "strict" | "bytes" => mode != Mode::Write,
+        "hex" | "raw" | "crc32" => mode != Mode::Watch,
+        "from" | "only" | "time" => mode == Mode::Read,
+        _ => false,
+    }
+}
+
 /// What these words say behind the type, in any order: `hex`, `strict`, `sentinel=HH`, `from=OFFSET`, `bytes=hex`, `depth=N`,
-/// `empty=N`. Nothing where one of them is another.
-pub fn options_of(words: &[String]) -> Option<Options> {
+/// `empty=N`, `raw`, `crc32`, `time`, `only=NAME`.
+///
+/// # Errors
+///
+/// The first word that the mode hasn't, or whose value is none.
+pub fn options_of<'a>(mode: Mode, words: &'a [String]) -> Result<Options<'a>, WrongWord<'a>> {
     let mut options = PLAIN;
     for word in words {
-        options = with_word(options, word.as_str())?;
+        let word = word.as_str();
+        if !has_word(mode, name_of(word)) {
+            return Err(WrongWord { word, why: NO_WORD });
+        }
+        let Some(with) = with_word(options, word) else {
+            return Err(WrongWord {
+                word,
+                why: NO_VALUE,
+            });
+        };
+        options = with;
     }
-    Some(options)
+    if options.raw && (options.sentinel != 0 || options.from != 0) {
+        return Err(WrongWord {
+            word: "raw",
+            why: NO_FRAMES,
+        });
+    }
+    Ok(options)
 }

@@ -10,7 +10,7 @@ ghost use Rattle.cobs.specs.Whole.{decoded_into};
 use super::progress::Progress;
 use super::report::{DecodeError, DecodeReport};
 use super::state::DecoderState;
-use super::window::{copy_until, put_zeros};
+use super::window::{copy_until, decode_at_once, put_zeros};
 use crate::finding::before_sentinel;
 use crate::moves::is_clear_255;
 
@@ -129,6 +129,28 @@ pub(crate) fn decode_near(
     let n = copy_until(&source[1..], dest, 0, sentinel);
     let state = put_zeros(&mut dest[..n], code - 1);
     (answer_behind(state, n), n + 1)
+}
+
+// Decodes a frame of one window, each byte of it XORed with the sentinel, for whose bytes there is room: nothing is searched, since no
+// byte of it is the sentinel. Behind the code of a full block there is none that isn't its.
+#[inline(always)]
+pub(crate) fn decode_short(
+    frame: &[u8],
+    dest: &mut [u8],
+    sentinel: u8,
+) -> Result<usize, DecodeError>
+    requires some { 0 < length frame.now }
+    requires few { length frame.now ≤ 255 }
+    requires room { length frame.now ≤ length dest.old + 1 }
+    requires clear { NoZero (masked sentinel frame.now) }
+    ensures answer { result ≡ decoded_into (length dest.old) (masked sentinel frame.now) }
+    ensures dest { dest.new ≡ overwritten (part (masked sentinel frame.now)) dest.old }
+{
+    let code = sentinel ^ frame[0];
+    let bytes = &frame[1..];
+    let len = bytes.len();
+    let state = decode_at_once(bytes, &mut dest[..len], code - 1, sentinel);
+    answer_behind(state, len)
 }
 
 // Takes in the bytes of a frame, each XORed with the sentinel, and also counts those that have no room.

@@ -8,7 +8,8 @@ ghost use Rattle.cobs.specs.Taking.{DecodesFront};
 ghost use Rattle.cobs.specs.Whole.{unpadded, frame_in, decoded_from, decoded_into};
 
 use super::frames::{
-    answer_behind, apart, decode_counted, decode_near, is_short, take_source, with_parsed,
+    answer_behind, apart, decode_counted, decode_near, decode_short, is_short, take_source,
+    with_parsed,
 };
 use super::progress::Progress;
 use super::report::{DecodeError, DecodeReport};
@@ -215,7 +216,8 @@ pub fn decode_with_sentinel(
     }
 }
 
-// Decodes bytes that hold no sentinel, each XORed with it.
+// Decodes bytes that hold no sentinel, each XORed with it: few are compiled into each of a receiver's ways, and not searched.
+#[inline(always)]
 pub(crate) fn decode_clear(
     frame: &[u8],
     dest: &mut [u8],
@@ -225,5 +227,8 @@ pub(crate) fn decode_clear(
     ensures answer { result ≡ decoded_into (length dest.old) (masked sentinel frame.now) }
     ensures dest { dest.new ≡ overwritten (part (masked sentinel frame.now)) dest.old }
 {
-    decode_with_sentinel(frame, dest, sentinel)
+    if has_room(frame, dest.len()) && is_short(frame, sentinel) {
+        return decode_short(frame, dest, sentinel);
+    }
+    apart(decode_with_sentinel(frame, dest, sentinel))
 }

@@ -1,6 +1,6 @@
 //! Lifetimes, type parameters, lengths and bounds.
 use super::Parser;
-use crate::attributes::opens;
+use crate::attributes::behind;
 use crate::tokens::is_among;
 use crate::words::OF_IMPLEMENTATIONS;
 
@@ -27,34 +27,24 @@ impl<'a> Parser<'a> {
         let mut before = "";
         for _ in 0..self.rest.len() {
             let word = self.peek();
-            let closes = is_among(word, &[")", "]", "}"]) || (word == ">" && before != "-");
+            let closes = word == ">" && before != "-";
             if depth == 0 && (closes || word == ",") {
                 break;
             }
             if closes {
                 depth = depth.saturating_sub(1);
-            } else if opens(word) || word == "<" {
+            } else if word == "<" {
                 depth = depth.saturating_add(1);
             }
             before = word;
-            self.step();
+            self.rest = behind(self.rest);
         }
     }
 
     /// Takes `where` and its bounds, up to fields in braces or a semicolon that nothing encloses.
     pub(super) fn bounds(&mut self) {
-        if !self.take("where") {
-            return;
-        }
-        for _ in 0..self.rest.len() {
-            let word = self.peek();
-            if is_among(word, &["{", ";"]) {
-                break;
-            }
-            self.step();
-            if opens(word) {
-                self.skip_group();
-            }
+        if self.take("where") {
+            self.skip_to(&["{", ";"]);
         }
     }
 

@@ -1,6 +1,8 @@
 //! What attributes say of the bytes.
 use super::Parser;
-use crate::attributes::{attribute, first_part, first_word, has_mark, held, last_word, same_words};
+use crate::attributes::{
+    attribute, first_part, first_word, has_mark, held, is_derived, last_word, same_words,
+};
 use crate::declaration::Layout;
 use crate::tokens::{Token, is_among};
 use crate::words::{
@@ -65,7 +67,7 @@ impl<'a> Parser<'a> {
         for _ in 0..attributes.len() {
             rest = match (attribute(rest), rest) {
                 (Some((words, behind)), _) => {
-                    self.read_attribute(words, at, &mut said);
+                    self.read_attribute(words, attributes, at, &mut said);
                     behind
                 }
                 (None, [_, behind @ ..]) => behind,
@@ -75,8 +77,8 @@ impl<'a> Parser<'a> {
         said
     }
 
-    /// Goes over an attribute.
-    fn read_attribute(&mut self, words: &'a [Token], at: At, said: &mut Said) {
+    /// Goes over an attribute, which is one of these.
+    fn read_attribute(&mut self, words: &'a [Token], all: &'a [Token], at: At, said: &mut Said) {
         if let [word, ..] = words {
             self.line = word.line;
         }
@@ -84,6 +86,7 @@ impl<'a> Parser<'a> {
             self.wrong(&[HIDDEN_MARK]);
         }
         if first_word(words) != "cfg_attr" {
+            self.check_item(words, all, at);
             return self.read_plain(words, at, false, said);
         }
         let (condition, attributes) = first_part(held(words));
@@ -92,6 +95,7 @@ impl<'a> Parser<'a> {
         for _ in 0..attributes.len() {
             let (part, behind) = first_part(rest);
             if !part.is_empty() {
+                self.check_item(part, all, at);
                 self.read_plain(part, at, is_other, said);
             }
             rest = behind;
@@ -108,8 +112,17 @@ impl<'a> Parser<'a> {
             "cfg" | "cfg_attr" if at != At::Item => self.refuse(name, ON_SOME_DEVICES),
             "derive" => self.read_derive(held(words)),
             _ if name.starts_with("serde") => self.refuse(name, UNKNOWN),
-            _ if at == At::Item && !is_among(name, OF_ITEMS) => self.refuse(name, UNKNOWN),
             _ => {}
+        }
+    }
+
+    /// Refuses an attribute of a declaration that isn't known: of the language, or the helper of a derive among these whose path
+    /// begins with its name.
+    fn check_item(&mut self, words: &[Token], all: &[Token], at: At) {
+        let name = first_word(words);
+        let is_known = is_among(name, OF_ITEMS) || is_derived(all, name);
+        if at == At::Item && !is_known && !name.starts_with("serde") && name != "with" {
+            self.refuse(name, UNKNOWN);
         }
     }
 

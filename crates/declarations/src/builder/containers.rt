@@ -1,12 +1,25 @@
 //! The places of types that hold others in brackets.
 ghost use Rattle.std.specs.Prelude.{◌≡◌, ◌∷◌, [], IfOk};
 
-use super::known::{list_node, varint_type};
 use super::{Builder, Entry};
 use crate::Names;
+use crate::known::{Form, list_node, varint_type};
 use declaration_parser::tokens::{is_among, is_lifetime};
-use schemas::{IntegerType, Node};
+use schema_table::{IntegerType, Node};
 use std::alloc::{AllocError, Global};
+
+/// What is said of a type that lacks a length.
+const NO_LENGTH: &str =
+    "a type and how many of it there may be are wanted, as in `ArrayVec<u8, 4>`";
+
+/// What stands in the angle brackets of a known type: the first word, the places of types, and a length.
+#[derive(Clone, Copy, Drop)]
+struct Held<'a> {
+    word: &'a str,
+    first: usize,
+    second: usize,
+    most: Option<u64>,
+}
 
 /// The places of what a `Result` holds: its value's, and its error's behind that.
 fn payloads_of(alloc: Global, value: usize, error: usize) -> Result<Vec<usize>, AllocError>
@@ -18,34 +31,141 @@ fn payloads_of(alloc: Global, value: usize, error: usize) -> Result<Vec<usize>, 
     Ok(places)
 }
 
+/// How many types a known type holds.
+fn types_of(form: Form) -> usize {
+    match form {
+        Form::TextUpTo | Form::Bytes | Form::Phantom => 0,
+        Form::Outcome | Form::Map | Form::MapUpTo => 2,
+        _ => 1,
+    }
+}
+
+/// Whether a known type has a length behind its types.
+fn has_length(form: Form) -> bool {
+    matches!(
+        form,
+        Form::ListUpTo | Form::MapUpTo | Form::TextUpTo | Form::Bytes
+    )
+}
+
 impl<'a> Builder<'a, '_> {
-    /// Behind `Cow`: what is lent or owned.
+    /// The place of a known type that holds others.
     #[cycle(types)]
-    pub(super) fn lent(&mut self, depth: u32) -> usize {
-        self.owe("<");
-        self.lifetime();
-        self.owe(",");
-        let place = self.place(depth);
-        self.close();
-        place
+    pub(super) fn formed(&mut self, form: Form, depth: u32) -> usize {
+        let before = self.nodes.len();
+        let held = self.held(form, depth);
+        if self.is_wrong {
+            return 0;
+        }
+        self.node_of(form, held, before)
     }
 
-    /// Takes a `>`, and the comma that may stand before it.
-    pub(super) fn close(&mut self) {
-        self.take(",");
-        self.owe(">");
+    /// The place of the node of a known type, by what it holds; the nodes of that stand behind so many.
+    fn node_of(&mut self, form: Form, held: Held<'a>, before: usize) -> usize {
+        match form {
+            Form::Inner => held.first,
+            Form::Option => self.add(Node::Option(held.first), Names::Nothing),
+            Form::List | Form::Heap => self.list(held),
+            Form::Set => self.add(Node::List(held.first), Names::Nothing),
+            Form::ListUpTo => self.list_up_to(held),
+            Form::TextUpTo => self.text_up_to(held),
+            Form::Bytes => self.add(Node::Bytes, Names::Nothing),
+            Form::Phantom => self.add(Node::Struct(Vec::new(self.alloc)), Names::Unit),
+            Form::Outcome => self.outcome(held),
+            Form::Map => self.map(held),
+            Form::MapUpTo => self.map_up_to(held),
+            Form::Little | Form::Big => self.ordered(form, held, before),
+        }
     }
 
-    /// Behind `PhantomData`, whose type isn't sent.
-    pub(super) fn phantom(&mut self) -> usize {
+    /// A list; of at most so many, where a length stands behind its type.
+    fn list(&mut self, held: Held<'a>) -> usize {
+        match held.most {
+            Some(most) => self.add(Node::ListUpTo(most, held.first), Names::Nothing),
+            None => self.list_of(held.word, held.first),
+        }
+    }
+
+    /// A list of at most so many.
+    fn list_up_to(&mut self, held: Held<'a>) -> usize {
+        match held.most {
+            Some(most) => self.add(Node::ListUpTo(most, held.first), Names::Nothing),
+            None => self.wrong(&[NO_LENGTH]),
+        }
+    }
+
+    /// A text of at most so many bytes.
+    fn text_up_to(&mut self, held: Held<'a>) -> usize {
+        match held.most {
+            Some(most) => self.add(Node::TextUpTo(most), Names::Nothing),
+            None => self.wrong(&[NO_LENGTH]),
+        }
+    }
+
+    /// Takes what stands in the angle brackets of a known type.
+    #[cycle(types)]
+    fn held(&mut self, form: Form, depth: u32) -> Held<'a> {
+        let mut held = Held {
+            word: "",
+            first: 0,
+            second: 0,
+            most: None,
+        };
         self.owe("<");
-        self.skip_type();
+        self.lifetimes_before();
+        let count = types_of(form);
+        if count > 0 {
+            held.word = self.peek();
+            held.first = self.place(depth);
+        }
+        if count > 1 {
+            self.owe(",");
+            held.second = self.place(depth);
+        }
+        held.most = self.most_in(form);
+        self.skip_types();
         self.owe(">");
-        self.add(Node::Struct(Vec::new(self.alloc)), Names::Unit)
+        held
+    }
+
+    /// Takes lifetimes before types, with the commas behind them.
+    fn lifetimes_before(&mut self) {
+        for _ in 0..self.rest.len() {
+            if !is_lifetime(self.peek()) {
+                break;
+            }
+            self.step();
+            self.take(",");
+        }
+    }
+
+    /// Takes the length of a known type that has one, if it stands there.
+    fn most_in(&mut self, form: Form) -> Option<u64> {
+        let is_first = types_of(form) == 0 && has_length(form);
+        let may_follow = has_length(form) || matches!(form, Form::List | Form::Heap);
+        if !is_first && (!may_follow || !self.take(",") || self.peek() == ">") {
+            return None;
+        }
+        if form == Form::Heap {
+            // what stands between says which element is first
+            self.skip_one();
+            self.owe(",");
+        }
+        Some(self.length(&[">", ","]))
+    }
+
+    /// Takes a word, and what it is a path of.
+    fn skip_one(&mut self) {
+        for _ in 0..self.rest.len() {
+            if is_among(self.peek(), &[",", ">"]) {
+                break;
+            }
+            self.step();
+        }
     }
 
     /// Takes the words up to a `>` that closes what is open before them; that of an arrow doesn't.
-    fn skip_type(&mut self) {
+    fn skip_types(&mut self) {
         let mut open: usize = 0;
         let mut before = "";
         for _ in 0..self.rest.len() {
@@ -64,138 +184,32 @@ impl<'a> Builder<'a, '_> {
         }
     }
 
-    /// Behind `&`: takes a lifetime, if there is one.
-    pub(super) fn lifetime(&mut self) {
-        if is_lifetime(self.peek()) {
-            self.step();
-        }
-    }
-
-    /// The one type in angle brackets.
-    #[cycle(types)]
-    pub(super) fn inner(&mut self, depth: u32) -> usize {
-        self.owe("<");
-        let place = self.place(depth);
-        self.close();
-        place
-    }
-
-    /// The two types in angle brackets.
-    #[cycle(types)]
-    fn pair(&mut self, depth: u32) -> (usize, usize) {
-        self.owe("<");
-        let first = self.place(depth);
-        self.owe(",");
-        let second = self.place(depth);
-        self.close();
-        (first, second)
-    }
-
-    /// Behind `Option`.
-    #[cycle(types)]
-    pub(super) fn option(&mut self, depth: u32) -> usize {
-        let inner = self.inner(depth);
-        self.add(Node::Option(inner), Names::Nothing)
-    }
-
-    /// Behind `Vec`. Of bytes it is a buffer; with a length behind the type a list of at most so many.
-    #[cycle(types)]
-    pub(super) fn list(&mut self, depth: u32) -> usize {
-        self.owe("<");
-        let word = self.peek();
-        let element = self.place(depth);
-        if self.take(",") && self.peek() != ">" {
-            let most = self.length();
-            self.skip_hasher();
-            self.owe(">");
-            return self.add(Node::ListUpTo(most, element), Names::Nothing);
-        }
-        self.owe(">");
-        self.list_of(word, element)
-    }
-
     /// A list of a type whose first word is this one; of bytes it is a buffer.
     fn list_of(&mut self, word: &str, element: usize) -> usize {
         let is_byte = word == "u8" && matches!(self.nodes.get(element), Some(Node::U8));
         self.add(list_node(is_byte, element), Names::Nothing)
     }
 
-    /// Behind `HashSet`.
-    #[cycle(types)]
-    pub(super) fn hashed(&mut self, depth: u32) -> usize {
-        self.owe("<");
-        let element = self.place(depth);
-        self.skip_hasher();
-        self.owe(">");
-        self.add(Node::List(element), Names::Nothing)
-    }
-
-    /// Takes the type that makes hashes or counts the elements, if there is one, which isn't sent.
-    fn skip_hasher(&mut self) {
-        if self.peek() == "," {
-            self.skip_type();
-        }
-    }
-
-    /// Behind `ArrayVec`: a list of a type, and its greatest length.
-    #[cycle(types)]
-    pub(super) fn list_up_to(&mut self, depth: u32) -> usize {
-        self.owe("<");
-        let element = self.place(depth);
-        if !self.take(",") {
-            return self.wrong(&[
-                "a type and how many of it there may be are wanted, as in `ArrayVec<u8, 4>`",
-            ]);
-        }
-        let most = self.length();
-        self.skip_hasher();
-        self.owe(">");
-        self.add(Node::ListUpTo(most, element), Names::Nothing)
-    }
-
-    /// Behind `ArrayString`: the greatest length of a text.
-    pub(super) fn text_up_to(&mut self) -> usize {
-        self.owe("<");
-        let most = self.length();
-        self.skip_hasher();
-        self.owe(">");
-        self.add(Node::TextUpTo(most), Names::Nothing)
-    }
-
-    /// Behind `LE` or `BE`: an integer whose bytes stand in this order.
-    #[cycle(types)]
-    pub(super) fn ordered(&mut self, order: &str, depth: u32) -> usize {
-        self.owe("<");
-        let word = self.peek();
-        let before = self.nodes.len();
-        let place = self.place(depth);
-        self.close();
-        match varint_type(self.nodes.get(place)) {
-            Some(of) if !is_among(word, &["isize", "usize"]) => self.in_order(
-                order, of, before, place,
-            ),
-            _ => self.wrong(&[
-                "`",
-                word,
-                "` isn't an integer of 16 to 128 bits: write one, or its bytes as an array",
-            ]),
-        }
-    }
-
-    /// An integer in this order, at the place of its node, where that stands behind so many and so
-    /// is of no other type.
-    fn in_order(&mut self, order: &str, of: IntegerType, before: usize, place: usize) -> usize {
-        let node = if order == "LE" {
-            Node::LE(of)
-        } else {
-            Node::BE(of)
+    /// An integer whose bytes stand in this order. It is put at the place of the integer's node, where that is of no other
+    /// type, since it stands behind so many.
+    fn ordered(&mut self, form: Form, held: Held<'a>, before: usize) -> usize {
+        let of = match varint_type(self.nodes.get(held.first)) {
+            Some(of) if !is_among(held.word, &["isize", "usize"]) => of,
+            _ => {
+                return self.wrong(&[
+                    "`",
+                    held.word,
+                    "` isn't an integer of 16 to 128 bits: write one, or its bytes as an array",
+                ]);
+            }
         };
+        let node = in_order(form, of);
         let names = Names::Nothing;
-        if place < before {
+        if held.first < before {
             return self.add(node, names);
         }
-        self.put(place, Entry { node, names });
-        place
+        self.put(held.first, Entry { node, names });
+        held.first
     }
 
     /// Behind `[`: an array, or what is lent as a slice.
@@ -207,7 +221,7 @@ impl<'a> Builder<'a, '_> {
             return self.list_of(word, element);
         }
         self.owe(";");
-        let count = self.array_length();
+        let count = self.length(&["]"]);
         self.owe("]");
         self.add(Node::Array(count, element), Names::Nothing)
     }
@@ -236,45 +250,41 @@ impl<'a> Builder<'a, '_> {
         }
     }
 
-    /// Behind `Result`: an enum of its value and its error.
-    #[cycle(types)]
-    pub(super) fn outcome(&mut self, depth: u32) -> usize {
-        let (value, error) = self.pair(depth);
-        let payloads = payloads_of(self.alloc, value, error);
+    /// A `Result`: an enum of its value and its error.
+    fn outcome(&mut self, held: Held<'a>) -> usize {
+        let payloads = payloads_of(self.alloc, held.first, held.second);
         self.faults.note(payloads.is_err());
         let names = self.owned(&["Ok", "Err"]);
         let payloads = payloads.unwrap_or(Vec::new(self.alloc));
         self.add(Node::Enum(payloads), Names::Variants(names))
     }
 
-    /// Behind `BTreeMap` or `HashMap`: a list of pairs.
-    #[cycle(types)]
-    pub(super) fn map(&mut self, depth: u32) -> usize {
-        self.owe("<");
-        let pair = self.key_and_value(depth);
-        self.skip_hasher();
-        self.owe(">");
+    /// A map: a list of pairs.
+    fn map(&mut self, held: Held<'a>) -> usize {
+        let pair = self.pair(held);
         self.add(Node::List(pair), Names::Map)
     }
 
-    /// Behind a map of heapless's: at most so many pairs.
-    #[cycle(types)]
-    pub(super) fn map_up_to(&mut self, depth: u32) -> usize {
-        self.owe("<");
-        let pair = self.key_and_value(depth);
-        self.owe(",");
-        let most = self.length();
-        self.close();
-        self.add(Node::ListUpTo(most, pair), Names::Map)
+    /// A map of at most so many pairs.
+    fn map_up_to(&mut self, held: Held<'a>) -> usize {
+        let pair = self.pair(held);
+        match held.most {
+            Some(most) => self.add(Node::ListUpTo(most, pair), Names::Map),
+            None => self.wrong(&[NO_LENGTH]),
+        }
     }
 
-    /// The place of a pair of two types.
-    #[cycle(types)]
-    fn key_and_value(&mut self, depth: u32) -> usize {
-        let key = self.place(depth);
-        self.owe(",");
-        let value = self.place(depth);
-        let fields = self.both(key, value);
+    /// A pair of a key and a value.
+    fn pair(&mut self, held: Held<'a>) -> usize {
+        let fields = self.both(held.first, held.second);
         self.add(Node::Struct(fields), Names::Tuple)
+    }
+}
+
+/// The node of an integer's bytes in this order.
+fn in_order(form: Form, of: IntegerType) -> Node {
+    match form {
+        Form::Little => Node::LE(of),
+        _ => Node::BE(of),
     }
 }

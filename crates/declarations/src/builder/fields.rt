@@ -1,10 +1,10 @@
 //! The nodes of declared types, by their fields and variants.
-use super::known::varint_type;
 use super::{Builder, DEEPEST, Entry};
 use crate::Names;
+use crate::known::varint_type;
 use declaration_parser::declaration::{Body, Declaration, Field, Fields, Form, Layout, VariantOf};
 use declaration_parser::tokens::Token;
-use schemas::Node;
+use schema_table::Node;
 
 /// What is said of a field that `with` lays out, and whose type it isn't for.
 const NO_FIXINT: &str =
@@ -18,16 +18,12 @@ const NO_ARRAY: &str = "`with` is of an array here: write the type that is on th
 const OTHER_CRATE: &str =
     "`with` names a module or a type of these files here: write the type that is on the wire";
 
-/// What a path begins with that names a layout, and the crate where it is.
-fn roots_of(layout: Layout) -> &'static [(&'static str, &'static str)] {
+/// What a path begins with that names a layout: each has to lead out of the files.
+fn roots_of(layout: Layout) -> &'static [&'static str] {
     match layout {
-        Layout::Little | Layout::Big => &[("postcard", "postcard")],
-        Layout::Buffer => &[("serde_bytes", "serde_bytes")],
-        Layout::Array => &[
-            ("BigArray", "serde_big_array"),
-            ("serde_big_array", "serde_big_array"),
-            ("serde_arrays", "serde_arrays"),
-        ],
+        Layout::Little | Layout::Big => &["postcard"],
+        Layout::Buffer => &["serde_bytes"],
+        Layout::Array => &["BigArray", "serde_big_array", "serde_arrays"],
         Layout::Own => &[],
     }
 }
@@ -115,8 +111,10 @@ impl<'a> Builder<'a, '_> {
     /// The place of a type whose bytes an attribute lays out otherwise.
     fn laid_out(&mut self, place: usize, layout: Layout) -> usize {
         let of = varint_type(self.nodes.get(place));
-        if !self.scopes.is_of_crate(self.here, roots_of(layout)) {
-            return self.wrong(&[OTHER_CRATE]);
+        for root in roots_of(layout) {
+            if !self.names.is_foreign(self.here, root) {
+                return self.wrong(&[OTHER_CRATE]);
+            }
         }
         match (layout, of, self.nodes.get(place)) {
             (Layout::Little, Some(of), _) => self.add(Node::LE(of), Names::Nothing),
@@ -124,6 +122,8 @@ impl<'a> Builder<'a, '_> {
             (Layout::Little | Layout::Big, ..) => self.wrong(&[NO_FIXINT]),
             (Layout::Buffer, _, Some(Node::Bytes)) | (Layout::Array, _, Some(Node::Array(..))) =>
                 place,
+            (Layout::Buffer, _, Some(Node::Option(inner)))
+                if matches!(self.nodes.get(*inner), Some(Node::Bytes)) => place,
             (Layout::Buffer, ..) => self.wrong(&[NO_BUFFER]),
             _ => self.wrong(&[NO_ARRAY]),
         }

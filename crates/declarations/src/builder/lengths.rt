@@ -1,150 +1,53 @@
-//! Lengths: numbers, parameters, constants, and sums and products of these.
+//! Lengths: numbers, parameters, constants, and what is computed of these, in three levels of what binds how strongly.
 use super::{Builder, DEEPEST, Given};
+use crate::known::is_primitive;
 use crate::literals::literal;
-use crate::scopes::{Seen, Space};
-use crate::sums::{Operator, Sum};
-use declaration_parser::attributes::{closes, first_word, opens};
-use declaration_parser::parser::plain_name;
-use declaration_parser::tokens::{Token, is_among};
-
-/// Constants of the types of numbers that may be lengths.
-const OF_NUMBERS: &[(&str, u64)] = &[
-    ("u8", 0xFF),
-    ("u16", 0xFFFF),
-    ("u32", 0xFFFF_FFFF),
-    ("i8", 0x7F),
-    ("i16", 0x7FFF),
-    ("i32", 0x7FFF_FFFF),
-];
+use crate::names::{Found, Space, What};
+use crate::numbers::{Number, Operator, greatest, of_type};
+use crate::paths::{PathAt, path_at};
+use declaration_parser::attributes::{first_word, group, up_to};
+use declaration_parser::tokens::Token;
 
 /// How many numbers one length may be computed of.
 const MOST_NUMBERS: u32 = 10_000;
 
-/// The words at the front that are a length: what stands in braces, or up to what closes or ends
-/// it.
-fn length_words<'a>(rest: &'a [Token], ends: &[&str]) -> &'a [Token] {
-    let mut depth: usize = 0;
-    for (length, token) in rest.iter().enumerate() {
-        let word = token.text.as_str();
-        if depth == 0 && (closes(word) || is_among(word, ends)) {
-            return rest.get(..length).unwrap_or(&[]);
-        }
-        if opens(word) {
-            depth = depth.saturating_add(1);
-        } else if closes(word) {
-            depth = depth.saturating_sub(1);
-        }
-    }
-    rest
-}
+/// What is said of a constant that may be one of two.
+const TWO: &str =
+    "` is more than one constant: leave out what isn't meant, or write its module before it";
 
-/// What a type of numbers has at most.
-fn greatest(word: &str) -> Option<u64> {
-    for (name, most) in OF_NUMBERS {
-        if *name == word {
-            return Some(*most);
-        }
-    }
-    if is_among(word, &["u64", "usize"]) {
-        return Some(u64::MAX);
-    }
-    None
-}
+/// The levels of operators: shifts, sums, products.
+const LEVELS: u32 = 3;
 
-/// What a type of numbers has under this name.
-fn of_type(word: &str, name: &str) -> Option<u64> {
-    match (word, name) {
-        // It isn't the same on all devices.
-        ("usize", _) => None,
-        (_, "MAX") => greatest(word),
-        ("u8" | "i8", "BITS") => Some(8),
-        ("u16" | "i16", "BITS") => Some(16),
-        ("u32" | "i32", "BITS") => Some(32),
-        ("u64" | "i64", "BITS") => Some(64),
-        _ => None,
-    }
-}
-
-/// A path at the front of words, and how many words it has.
-fn path_length(words: &[Token]) -> usize {
-    let mut length: usize = 0;
-    let mut rest = words;
-    for _ in 0..words.len() {
-        match rest {
-            [_, first, second, behind @ ..]
-                if first.text.as_str() == ":" && second.text.as_str() == ":" => {
-                rest = behind;
-                length = length.saturating_add(3);
-            }
-            _ => break,
-        }
-    }
-    length.saturating_add(1)
-}
-
-/// The words of a length that aren't read yet, what was computed of those before, and whether a number is next.
+/// The words of a length that aren't read yet, of a scope.
 #[derive(Drop)]
 struct Reading<'a> {
     rest: &'a [Token],
-    sum: Sum,
-    wants_number: bool,
-}
-
-impl<'a> Reading<'a> {
-    /// Takes what stands behind a number; says whether that can be.
-    fn behind_number(&mut self) -> Option<()> {
-        match self.rest {
-            [close, rest @ ..] if closes(close.text.as_str()) => {
-                self.rest = rest;
-                self.sum.close()
-            }
-            [by, of, rest @ ..] if by.text.as_str() == "as" => {
-                self.rest = rest;
-                let most = greatest(of.text.as_str())?;
-                if self.sum.is_at_most(most) {
-                    Some(())
-                } else {
-                    None
-                }
-            }
-            [first, second, rest @ ..]
-                if Operator::shift(first.text.as_str(), second.text.as_str()).is_some() => {
-                self.rest = rest;
-                self.wants_number = true;
-                self.sum.put_operator(Operator::shift(first.text.as_str(), second.text.as_str())?)
-            }
-            [word, rest @ ..] => {
-                self.rest = rest;
-                self.wants_number = true;
-                self.sum.put_operator(Operator::of(word.text.as_str())?)
-            }
-            _ => None,
-        }
-    }
+    scope: usize,
+    /// The greatest value of the type that numbers have there which don't say theirs.
+    most: u64,
+    /// Whether parameters are seen there.
+    is_own: bool,
 }
 
 impl<'a> Builder<'a, '_> {
-    /// Takes a length among others in angle brackets.
-    pub(super) fn length(&mut self) -> u64 {
-        self.length_of(length_words(self.rest, &[">", ",", ";"]))
-    }
-
-    /// Takes the length of an array, up to its bracket.
-    pub(super) fn array_length(&mut self) -> u64 {
-        self.length_of(length_words(self.rest, &[]))
-    }
-
-    /// Takes these words, which are a length.
-    fn length_of(&mut self, words: &'a [Token]) -> u64 {
-        let (_, behind) = self.rest.split_at(words.len().min(self.rest.len()));
+    /// Takes a length, up to one of these words.
+    pub(super) fn length(&mut self, ends: &[&str]) -> u64 {
+        let (words, rest) = up_to(self.rest, ends);
         if let [first, ..] = words {
             self.line = first.line;
         }
         self.left = MOST_NUMBERS;
-        match self.value_of(words, self.here, DEEPEST) {
-            Some(length) => {
-                self.rest = behind;
-                length
+        self.doubt = ("", "");
+        let reading = Reading {
+            rest: words,
+            scope: self.here,
+            most: greatest("usize").unwrap_or(0),
+            is_own: true,
+        };
+        match self.value_of(reading, DEEPEST) {
+            Some(number) => {
+                self.rest = rest;
+                number.value
             }
             None => {
                 self.refuse_length(words);
@@ -153,9 +56,12 @@ impl<'a> Builder<'a, '_> {
         }
     }
 
-    /// Says of words that they are no length.
+    /// Says of words that they are no length: why the constant in them that was looked for last is none, or what one is.
     fn refuse_length(&mut self, words: &[Token]) {
         match words {
+            _ if !self.doubt.0.is_empty() => {
+                self.refuse(self.doubt.0, self.doubt.1);
+            }
             [only] => {
                 self.refuse(
                     only.text.as_str(),
@@ -170,139 +76,157 @@ impl<'a> Builder<'a, '_> {
         }
     }
 
-    /// The number that these words of a scope compute.
+    /// The number that all these words compute.
     #[cycle(lengths)]
-    fn value_of(&mut self, words: &'a [Token], scope: usize, depth: u32) -> Option<u64> {
-        let mut reading = Reading {
-            rest: words,
-            sum: Sum::new(self.alloc),
-            wants_number: true,
-        };
-        for _ in 0..words.len() {
-            if reading.rest.is_empty() {
+    fn value_of(&mut self, reading: Reading<'a>, depth: u32) -> Option<Number> {
+        let mut reading = reading;
+        let number = self.computed(&mut reading, LEVELS, depth)?;
+        if reading.rest.is_empty() {
+            Some(number)
+        } else {
+            None
+        }
+    }
+
+    /// The number that the words at the front compute by operators of so many levels.
+    #[cycle(lengths)]
+    fn computed(&mut self, reading: &mut Reading<'a>, levels: u32, depth: u32) -> Option<Number> {
+        if levels == 0 {
+            return self.number(reading, depth);
+        }
+        let mut number = self.computed(reading, levels - 1, depth)?;
+        for _ in 0..reading.rest.len() {
+            let Some((operator, rest)) = Operator::at(reading.rest, levels) else {
                 break;
-            }
-            if reading.wants_number {
-                self.number(&mut reading, scope, depth)?;
-            } else {
-                self.check_type(&reading, scope)?;
-                reading.behind_number()?;
-            }
-        }
-        self.faults.note(reading.sum.failed);
-        if reading.wants_number {
-            return None;
-        }
-        reading.sum.finished()
-    }
-
-    /// Refuses `as` with a name of the language that stands for another type.
-    fn check_type(&mut self, reading: &Reading<'a>, scope: usize) -> Option<()> {
-        match reading.rest {
-            [by, of, ..]
-                if by.text.as_str() == "as"
-                    && self.is_hidden(plain_name(of.text.as_str()), scope) => None,
-            _ => Some(()),
-        }
-    }
-
-    /// Takes a number from the front of words, or what opens.
-    #[cycle(lengths)]
-    fn number(&mut self, reading: &mut Reading<'a>, scope: usize, depth: u32) -> Option<()> {
-        if is_among(first_word(reading.rest), &["(", "{"]) {
-            let (_, rest) = reading.rest.split_first()?;
+            };
             reading.rest = rest;
-            reading.sum.open();
-            return Some(());
+            let other = self.computed(reading, levels - 1, depth)?;
+            number = operator.of_two(number, other)?;
         }
-        let length = path_length(reading.rest).min(reading.rest.len());
-        let (path, rest) = reading.rest.split_at(length);
-        let number = self.number_called(path, scope, depth)?;
-        reading.sum.put(number);
-        reading.rest = rest;
-        reading.wants_number = false;
-        Some(())
+        Some(number)
     }
 
-    /// The number that a path of a scope names.
+    /// The number at the front: of digits, by a name, or in marks; and as what it is taken.
     #[cycle(lengths)]
-    fn number_called(&mut self, path: &'a [Token], scope: usize, depth: u32) -> Option<u64> {
+    fn number(&mut self, reading: &mut Reading<'a>, depth: u32) -> Option<Number> {
         self.left = self.left.checked_sub(1)?;
         if depth == 0 {
             return None;
         }
-        let word = first_word(path);
-        if path.len() == 1 {
-            if depth == DEEPEST
-                && let Some(Given::Length(length)) = self.given(word)
-            {
-                return Some(length);
+        let number = match group(reading.rest) {
+            Some((inside, rest)) if first_word(reading.rest) != "[" => {
+                reading.rest = rest;
+                let inner = Reading {
+                    rest: inside,
+                    scope: reading.scope,
+                    most: reading.most,
+                    is_own: reading.is_own,
+                };
+                self.value_of(inner, depth - 1)?
             }
-            if let Some(number) = literal(word) {
-                return Some(number);
-            }
-        }
-        let names = self.names_in(path);
-        match self.constant(&names, scope) {
-            Some((words, there)) => self.value_of(words, there, depth - 1),
-            None => self.of_language(&names, scope),
-        }
-    }
-
-    /// What a type of the language has under a name, by a path of a scope that leads to it.
-    fn of_language(&mut self, names: &[&'a str], scope: usize) -> Option<u64> {
-        match names {
-            [of, name] if !self.is_hidden(of, scope) => of_type(of, name),
-            [before @ .., of, name] if self.scopes.is_of_known(scope, before) => of_type(of, name),
-            _ => None,
-        }
-    }
-
-    /// Whether the name of a type of the language stands for another where a scope uses it.
-    fn is_hidden(&mut self, word: &'a str, scope: usize) -> bool {
-        if self.given(word).is_some() {
-            return true;
-        }
-        if !self.scopes.has(word) {
-            return false;
-        }
-        match self.seen_in(scope, word, Space::Types) {
-            Seen::Known(name) => name != word,
-            seen => !matches!(seen, Seen::Module | Seen::ByGlob | Seen::Not),
-        }
-    }
-
-    /// What a constant is defined as that a path of a scope names, and the scope where it is.
-    fn constant(&mut self, names: &[&'a str], scope: usize) -> Option<(&'a [Token], usize)> {
-        let (own, before) = names.split_last()?;
-        let own = *own;
-        let from = if before.is_empty() {
-            scope
-        } else {
-            self.scopes.scope_of(scope, before)?
+            _ => self.named_number(reading, depth - 1)?,
         };
-        let (there, own) = match self.seen_in(from, own, Space::Constants) {
-            Seen::In(there, own) => (there, own),
-            Seen::Elsewhere(own) => (self.scopes.only_constant(scope, own, true)?, own),
-            Seen::ByGlob | Seen::Not if before.is_empty() => (
-                self.scopes.only_constant(scope, own, false)?,
-                own,
-            ),
+        self.taken_as(reading, number)
+    }
+
+    /// Takes `as` and a type behind a number, if they stand there.
+    fn taken_as(&mut self, reading: &mut Reading<'a>, number: Number) -> Option<Number> {
+        let mut number = number;
+        for _ in 0..reading.rest.len() {
+            let [by, of, rest @ ..] = reading.rest else {
+                break;
+            };
+            if by.text.as_str() != "as" {
+                break;
+            }
+            reading.rest = rest;
+            number = number.within(self.greatest_of(of.text.as_str())?)?;
+        }
+        Some(number)
+    }
+
+    /// What a type of the language has at most, unless a file gives its name to another.
+    fn greatest_of(&self, word: &str) -> Option<u64> {
+        if self.names.has(word) {
+            return None;
+        }
+        greatest(word)
+    }
+
+    /// The number that the digits or the path at the front say.
+    #[cycle(lengths)]
+    fn named_number(&mut self, reading: &mut Reading<'a>, depth: u32) -> Option<Number> {
+        let word = first_word(reading.rest);
+        if let Some((value, suffix)) = literal(word) {
+            let (_, rest) = reading.rest.split_first()?;
+            reading.rest = rest;
+            let most = if suffix.is_empty() {
+                reading.most
+            } else {
+                greatest(suffix)?
+            };
+            return Number { value, most }.within(most);
+        }
+        let at = path_at(reading.rest);
+        reading.rest = at.rest;
+        if at.path.is_empty()
+            && reading.is_own
+            && let Some(Given::Length(value)) = self.given(at.last)
+        {
+            let most = reading.most;
+            return Some(Number { value, most });
+        }
+        self.constant(reading.scope, &at, depth)
+    }
+
+    /// The number that a path names in a scope.
+    #[cycle(lengths)]
+    fn constant(&mut self, scope: usize, at: &PathAt<'a>, depth: u32) -> Option<Number> {
+        let names = self.names;
+        let found = if at.path.is_empty() {
+            names.find(scope, at.last, Space::Constants)
+        } else if is_primitive(at.path.last()) && !names.has_module(at.path.last()) {
+            return self.of_language(at);
+        } else {
+            names.find_by_path(scope, at.path, at.last, Space::Constants)
+        };
+        let (of, words, there) = match found {
+            Found::In(What::Constant(of, words), there) => (of, words, there),
+            Found::Wrong(why) => {
+                self.doubt = (at.last, why);
+                return None;
+            }
+            Found::Two => {
+                self.doubt = (at.last, TWO);
+                return None;
+            }
             _ => return None,
         };
-        Some((self.scopes.constant(there, own)?, there))
+        let reading = Reading {
+            rest: words,
+            scope: there,
+            most: self.most_of(of),
+            is_own: false,
+        };
+        let most = reading.most;
+        self.value_of(reading, depth)?.within(most)
     }
 
-    /// The names of a path, without what parts them.
-    fn names_in(&mut self, path: &'a [Token]) -> Vec<&'a str> {
-        let mut names = Vec::new(self.alloc);
-        for token in path {
-            let name = plain_name(token.text.as_str());
-            if name != ":" {
-                let failed = names.push(name).is_err();
-                self.faults.note(failed);
-            }
+    /// The greatest value of a constant's type; of one that isn't known, what each has.
+    fn most_of(&self, of: &[Token]) -> u64 {
+        match of {
+            [word] => self.greatest_of(word.text.as_str()).unwrap_or(127),
+            _ => 127,
         }
-        names
+    }
+
+    /// What a type of the language has under a name.
+    fn of_language(&self, at: &PathAt<'a>) -> Option<Number> {
+        let of = at.path.last();
+        let is_plain = at.path.is_single() || at.path.is_of_language();
+        if !is_plain || self.names.has(of) || self.given(of).is_some() {
+            return None;
+        }
+        of_type(of, at.last)
     }
 }

@@ -1,18 +1,34 @@
 //! The places of types, by their words.
-use super::known::plain_node;
-use super::naming::Found;
-use super::{Bound, Builder, Given, Made, place_in};
+use super::{Bound, Builder, Given, Made, has_type_parameters};
 use crate::Names;
+use crate::known::{Form, form_of, is_known, plain_node, sent_as};
+use crate::names::{Found, Space, What};
+use crate::paths::{PathAt, path_at};
 use declaration_parser::declaration::Declaration;
-use declaration_parser::parser::plain_name;
 use declaration_parser::tokens::{Token, is_among, is_lifetime};
-use schemas::{IntegerType, Node};
+use schema_table::{IntegerType, Node};
 
 /// How many nodes a table has at most, which parameters could make many.
 const MOST_NODES: usize = 100_000;
 
 /// What is said of a parameter for which nothing stands.
 const LEFT_OUT: &str = "` is left out, and defaults aren't followed: write it";
+
+/// What is said of a type that isn't declared.
+const UNDECLARED: &str =
+    "` isn't declared and marked here: name the file of its declaration too, or write the type that is on the wire";
+
+/// What is said of a name that may be one of two things.
+const TWO: &str =
+    "` stands for more than one thing: leave out what isn't meant, or write its module before it";
+
+/// What is said of a name of postcard-rpc's.
+const ENDPOINT: &str =
+    "` stands in `endpoints!` or `topics!`, which aren't read: name the type that it sends or answers with";
+
+/// What is said of one that a macro is handed.
+const HANDED: &str =
+    "` isn't declared here, but handed to a macro, which may make it: write its declaration out, in a file of its own";
 
 /// Whether parameters stand for the same.
 fn is_same(first: &[Bound<'_>], second: &[Bound<'_>]) -> bool {
@@ -44,133 +60,170 @@ impl<'a> Builder<'a, '_> {
                 "the types have more than 100000 parts: read them from fewer files",
             ]);
         }
-        let word = self.step();
-        match word {
+        match self.peek() {
             "&" => {
-                self.lifetime();
-                self.take("mut");
+                self.step();
+                self.lent();
                 self.place(depth - 1)
             }
-            "(" => self.tuple(depth - 1),
-            "[" => self.array(depth - 1),
-            "<" => self.wrong(&["`<..>::` isn't followed here: write the type that it stands for"]),
-            _ => self.worded(word, depth - 1),
-        }
-    }
-
-    /// The place of a type that begins with this word.
-    #[cycle(types)]
-    fn worded(&mut self, word: &'a str, depth: u32) -> usize {
-        if word == ":" || self.peek() == ":" {
-            return self.path(word, depth);
-        }
-        self.named(word, depth)
-    }
-
-    /// The place of a type by a path that begins with this word.
-    #[cycle(types)]
-    fn path(&mut self, word: &'a str, depth: u32) -> usize {
-        let names = self.names_of_path(word);
-        let [before @ .., last] = names.as_slice() else {
-            return 0;
-        };
-        if self.scopes.is_of_known(self.here, before) {
-            return self.known(last, depth);
-        }
-        let root = match before {
-            [colons, root, ..] if *colons == "::" => root,
-            [root, ..] => root,
-            [] => last,
-        };
-        match self.found_by_path(before, last) {
-            Some(found) => self.resolved(found, last, depth),
-            None => self.refuse_path(root, last),
-        }
-    }
-
-    /// What the last name of a path stands for.
-    fn found_by_path(&mut self, before: &[&'a str], last: &'a str) -> Option<Found<'a>> {
-        match self.scopes.scope_of(self.here, before) {
-            Some(scope) if !before.is_empty() => self.found_in(scope, last),
-            _ if self.scopes.is_misnamed(before) => None,
-            _ => self.found_in_others(last, true),
-        }
-    }
-
-    /// Takes the names of a path that begins with this word.
-    pub(super) fn names_of_path(&mut self, word: &'a str) -> Vec<&'a str> {
-        let mut names = Vec::new(self.alloc);
-        let mut next = word;
-        if word == ":" {
-            self.owe(":");
-            let failed = names.push("::").is_err();
-            self.faults.note(failed);
-            next = self.step();
-        }
-        for _ in 0..self.rest.len() {
-            let failed = names.push(next).is_err();
-            self.faults.note(failed);
-            if !self.take(":") {
-                break;
+            "(" => {
+                self.step();
+                self.tuple(depth - 1)
             }
-            self.owe(":");
-            next = self.step();
+            "[" => {
+                self.step();
+                self.array(depth - 1)
+            }
+            "<" => self.wrong(&["`<..>::` isn't followed here: write the type that it stands for"]),
+            _ => self.named(depth - 1),
         }
-        names
     }
 
-    /// The place of a type by its name: a parameter, one that the file declares, or one that is known.
+    /// Behind `&`: takes a lifetime and `mut`, if they stand there.
+    fn lent(&mut self) {
+        if is_lifetime(self.peek()) {
+            self.step();
+        }
+        self.take("mut");
+    }
+
+    /// The place of a type by its name or its path: a parameter, one that the files declare, or one that is known.
     #[cycle(types)]
-    fn named(&mut self, word: &'a str, depth: u32) -> usize {
-        match self.given(word) {
-            Some(Given::Type(place)) => return place,
-            Some(Given::Wrong(name, why)) => return self.refuse(name, why),
-            _ => {}
+    fn named(&mut self, depth: u32) -> usize {
+        let at = path_at(self.rest);
+        let word = self.step();
+        if at.last.is_empty() {
+            return self.refuse(word, UNDECLARED);
         }
-        if self.is_same_everywhere(word) {
-            return self.known(word, depth);
+        self.rest = at.rest;
+        if at.path.is_empty() {
+            match self.given(at.last) {
+                Some(Given::Type(place)) => return place,
+                Some(Given::Wrong(name, why)) => return self.refuse(name, why),
+                _ => {}
+            }
+            if at.last == "Self" {
+                return self.itself();
+            }
         }
-        if word == "Self" {
-            return self.itself();
+        let found = self.found(&at);
+        self.resolved(found, &at, depth)
+    }
+
+    /// What a path stands for where it is read.
+    fn found(&self, at: &PathAt<'a>) -> Found<'a> {
+        let names = self.names;
+        if self.here == self.asked {
+            match names.find_asked(at.path, at.last) {
+                Found::Not => {}
+                found => return found,
+            }
+            if at.path.is_empty() {
+                return if is_known(at.last) {
+                    Found::Known(at.last)
+                } else {
+                    Found::Not
+                };
+            }
         }
-        let found = self.found(word);
-        self.resolved(found, word, depth)
+        if at.path.is_empty() {
+            return names.find(self.here, at.last, Space::Types);
+        }
+        names.find_by_path(self.here, at.path, at.last, Space::Types)
     }
 
     /// The place of the type whose field is read.
     fn itself(&mut self) -> usize {
-        match self.found(self.at.name) {
-            Found::Declared(place) => place,
-            _ => self.wrong(&[
-                "`Self` isn't followed in a type with parameters: write its name and what they stand for",
-            ]),
+        for made in &self.instances {
+            if self.is_itself(made) {
+                return made.place;
+            }
+        }
+        self.wrong(&[
+            "`Self` isn't followed in a type with parameters: write its name and what they stand for",
+        ])
+    }
+
+    /// Whether a type that was made is the one whose field is read, and has no parameters.
+    fn is_itself(&self, made: &Made<'a>) -> bool {
+        match self.declared.get(made.index) {
+            Some(it) => it.name == self.at.name
+                && !has_type_parameters(it)
+                && self.names.scope_of(made.index) == self.here,
+            None => false,
         }
     }
 
-    /// The place of what a name stands for.
+    /// The place of what a path stands for.
     #[cycle(types)]
-    fn resolved(&mut self, found: Found<'a>, word: &'a str, depth: u32) -> usize {
+    fn resolved(&mut self, found: Found<'a>, at: &PathAt<'a>, depth: u32) -> usize {
         match found {
-            Found::Declared(place) => {
-                self.lifetimes();
-                place
-            }
-            Found::Generic(index) => self.instance(index, depth),
-            Found::Alias(words, there) => {
+            Found::In(What::Marked(index), _) => self.instance(index, depth),
+            Found::In(What::Alias(words), there) => {
                 self.lifetimes();
                 self.alias(words, there, depth)
             }
             Found::Known(name) => self.known(name, depth),
-            Found::Wrong(why) => self.refuse(word, why),
+            Found::Wrong(why) => self.refuse(at.last, why),
+            Found::Two => self.refuse_two(at.last),
+            Found::Outside => self.refuse_path(at),
+            _ => self.unknown(at.last),
         }
     }
 
-    /// Behind a declared type: takes its lifetimes, if it has any.
+    /// Refuses a name that stands for more than one thing, with the paths that say which.
+    pub(super) fn refuse_two(&mut self, word: &str) -> usize {
+        if !self.is_wrong {
+            self.begin_wrong();
+            self.faults.put_all(&["`", word, TWO]);
+            self.names.put_paths(&mut self.faults, word);
+            self.faults.put("\n");
+        }
+        0
+    }
+
+    /// Refuses a path that leads out of the files.
+    fn refuse_path(&mut self, at: &PathAt<'a>) -> usize {
+        self.wrong(&[
+            "`",
+            at.path.root(),
+            "::..`: write `",
+            at.last,
+            "` alone, and its declaration into this file, or the type that is on the wire",
+        ])
+    }
+
+    /// Refuses a type that is sent as another.
+    fn refuse_sent(&mut self, word: &str, sent: &str) -> usize {
+        self.wrong(&["`", word, "` is sent as `", sent, "`: write that"])
+    }
+
+    /// Refuses a type that isn't known.
+    fn unknown(&mut self, word: &str) -> usize {
+        match sent_as(word) {
+            Some(sent) => self.refuse_sent(word, sent),
+            None if self.names.is_endpoint(word) => self.refuse(word, ENDPOINT),
+            None if self.names.is_handed(word) => self.refuse(word, HANDED),
+            None => self.refuse_unknown(word, UNDECLARED),
+        }
+    }
+
+    /// What a parameter stands for.
+    pub(super) fn given(&self, word: &str) -> Option<Given<'a>> {
+        let bound = self.bound.get(self.scope..)?;
+        for it in bound {
+            if it.name == word {
+                return Some(it.given);
+            }
+        }
+        None
+    }
+
+    /// Behind a type without parameters: takes its lifetimes, if it has any.
     fn lifetimes(&mut self) {
-        if self.peek() != "<" {
+        if !self.take("<") {
             return;
         }
-        self.step();
         for _ in 0..self.rest.len() {
             let word = self.step();
             if word == ">" {
@@ -231,7 +284,7 @@ impl<'a> Builder<'a, '_> {
                 self.refuse(name, LEFT_OUT);
             } else {
                 let it = if is_among(name, lengths) {
-                    Given::Length(self.length())
+                    Given::Length(self.length(&[">", ","]))
                 } else {
                     self.argument(depth)
                 };
@@ -242,26 +295,31 @@ impl<'a> Builder<'a, '_> {
                 self.faults.note(failed);
             }
         }
-        self.close();
+        self.take(",");
+        self.owe(">");
         given
     }
 
     /// What stands for a parameter that is a type. A name that stands for none is wrong only where the parameter is sent.
     #[cycle(types)]
     fn argument(&mut self, depth: u32) -> Given<'a> {
-        let is_alone = match self.rest {
-            [_, behind, ..] => is_among(behind.text.as_str(), &[",", ">"]),
+        let at = path_at(self.rest);
+        let is_alone = match at.rest {
+            [behind, ..] => is_among(behind.text.as_str(), &[",", ">"]),
             _ => false,
         };
-        let word = plain_name(self.peek());
-        let is_free = is_alone && self.given(word).is_none() && !self.is_same_everywhere(word);
-        if is_free
-            && word != "Self"
-            && word != "_"
-            && let Found::Wrong(why) = self.found(word)
-        {
-            self.step();
-            return Given::Wrong(word, why);
+        if is_alone && at.path.is_empty() && self.given(at.last).is_none() && at.last != "Self" {
+            match self.found(&at) {
+                Found::Wrong(why) => {
+                    self.rest = at.rest;
+                    return Given::Wrong(at.last, why);
+                }
+                Found::Two => {
+                    self.rest = at.rest;
+                    return Given::Wrong(at.last, TWO);
+                }
+                _ => {}
+            }
         }
         Given::Type(self.place(depth))
     }
@@ -276,19 +334,31 @@ impl<'a> Builder<'a, '_> {
         None
     }
 
-    /// The place of a type with parameters, of what stands in angle brackets behind it.
+    /// The place of a declared type, with what stands in angle brackets behind it.
     #[cycle(types)]
     fn instance(&mut self, index: usize, depth: u32) -> usize {
-        let generic = self.generic;
-        let Some(it) = generic.get(index) else {
+        let declared = self.declared;
+        let Some(it) = declared.get(index) else {
             return 0;
         };
+        if !has_type_parameters(it) {
+            self.lifetimes();
+            return match self.made_before(index, &[]) {
+                Some(place) => place,
+                None => self.owe_type(index),
+            };
+        }
         let of = self.arguments(&it.parameters, &it.lengths, depth);
         if self.is_wrong {
             return 0;
         }
         if let Some(place) = self.made_before(index, &of) {
             return place;
+        }
+        if !it.wrong.is_empty() {
+            self.faults.put(it.wrong.as_str());
+            self.is_wrong = true;
+            return 0;
         }
         self.made(index, it, of, depth)
     }
@@ -311,7 +381,7 @@ impl<'a> Builder<'a, '_> {
         }
         let failed = self.instances.push(Made { index, of, place }).is_err();
         self.faults.note(failed);
-        let entry = self.declaration(it, place_in(self.generic_in, index), depth);
+        let entry = self.declaration(it, self.names.scope_of(index), depth);
         self.put(place, entry);
         self.bound.truncate(self.scope);
         self.at = at;
@@ -323,31 +393,11 @@ impl<'a> Builder<'a, '_> {
     /// The place of a known type by its name.
     #[cycle(types)]
     fn known(&mut self, word: &'a str, depth: u32) -> usize {
+        if let Some(form) = form_of(word) {
+            return self.formed(form, depth);
+        }
         match word {
-            "String" if self.peek() == "<" => return self.text_up_to(),
-            "Box"
-            | "Rc"
-            | "Arc"
-            | "Cell"
-            | "RefCell"
-            | "Mutex"
-            | "RwLock"
-            | "Wrapping"
-            | "Saturating"
-            | "Reverse" => return self.inner(depth),
-            "Cow" => return self.lent(depth),
-            "Option" => return self.option(depth),
-            "HashSet" => return self.hashed(depth),
-            "Vec" | "BTreeSet" | "BinaryHeap" | "LinkedList" | "VecDeque" => return self.list(
-                depth,
-            ),
-            "ArrayVec" | "Deque" | "FnvIndexSet" => return self.list_up_to(depth),
-            "Result" => return self.outcome(depth),
-            "BTreeMap" | "HashMap" => return self.map(depth),
-            "FnvIndexMap" | "LinearMap" => return self.map_up_to(depth),
-            "ArrayString" => return self.text_up_to(),
-            "LE" | "BE" => return self.ordered(word, depth),
-            "PhantomData" => return self.phantom(),
+            "String" if self.peek() == "<" => return self.formed(Form::TextUpTo, depth),
             "f32" => return self.add(Node::LE(IntegerType::U32), Names::Float),
             "f64" => return self.add(Node::LE(IntegerType::U64), Names::Float),
             _ => {}

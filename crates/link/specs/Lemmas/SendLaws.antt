@@ -1,5 +1,6 @@
 -- Sessions of one sender, one behind the other, are a session; and runs are a run.
-use Rattle.std.proofs.Common.{◌≡◌, ℕ, ◌+◌, ◌≤◌, Bool, false, List, [], ◌∷◌, ◌++◌, map, Option, refl, sym, ap, ◌∙◌, subst, inl, inr, arith, append_assoc}
+use Rattle.std.proofs.Common.{◌≡◌, ℕ, ◌+◌, ◌*◌, ◌≤◌, Bool, false, List, [], ◌∷◌, ◌++◌, length, map, Option, refl, sym, ap, ◌∙◌, subst, inl, inr, arith, append_assoc, length-append}
+use Rattle.std.proofs.Math.Nat.{mul-add, mul-one}
 use Rattle.std.proofs.lemmas.List.{map-append}
 use Rattle.line_io.specs.Device.{LineState}
 use Rattle.line_io.specs.Calls.{Wrote-none, Wrote-then}
@@ -49,9 +50,19 @@ did_then u v w a b m n p q = record {
   calls = omega (arith, p.calls, q.calls);
 }
 
+-- so many calls for each of some values, and for each of others
+calls_then : {V : Type 0} (each a b c : ℕ) (vs ws : List V) → a ≤ b + each * length vs → b ≤ c + each * length ws → a ≤ c + each * length (vs ++ ws)
+calls_then each a b c vs ws p q =
+    let parts : each * length (vs ++ ws) ≡ each * length vs + each * length ws = ap (λ n. each * n) (length-append vs ws) ∙ mul-add each (length vs) (length ws) in
+    omega (arith, p, q, parts)
+
+-- and for one
+pub calls_of_one : {V : Type 0} (each a b : ℕ) (v : V) → a ≤ b + each → a ≤ b + each * length (v ∷ [])
+calls_of_one each a b v p = let one : each * length (v ∷ []) ≡ each = mul-one each in omega (arith, p, one)
+
 module _ {V : Type 0} (limit s : ℕ) (writes : V → Option Tree) (valid : V → Type 0) where
   pub none_sent : (clean : Bool) (w : LineState) → SendsAll limit s writes valid clean clean w w [] []
-  none_sent clean w = record { sends = []; are = tt; of = tt; fated = refl; did = record { wrote = Wrote-none w; few = inl (omega arith); once = omega arith; calls = omega arith }; then = refl }
+  none_sent clean w = record { sends = []; are = tt; of = tt; fated = refl; did = record { wrote = Wrote-none w; few = inl (omega arith); once = omega arith; calls = omega arith }; few = omega arith; then = refl }
 
   -- values, and then values
   pub sends_then : (clean now later : Bool) (u v w : LineState) (vs ws : List V) (fs gs : List Fate) → SendsAll limit s writes valid clean now u v vs fs
@@ -67,5 +78,6 @@ module _ {V : Type 0} (limit s : ℕ) (writes : V → Option Tree) (valid : V �
         fated = ap (λ l. l ++ gs) p.fated ∙ ap (λ l. map fate_of xs ++ l) q.fated ∙ sym (map-append fate_of xs ys);
         did = subst (λ n. Did u w (session_line s clean (xs ++ ys)) n) (sym (brokens_then xs ys))
             (subst (λ b. Did u w b (brokens xs + brokens ys)) (sym line) (did_then _ _ _ (session_line s clean xs) (session_line s now ys) (brokens xs) (brokens ys) p.did q.did));
+        few = calls_then (limit + 2) u.calls_left v.calls_left w.calls_left vs ws p.few q.few;
         then = q.then ∙ ap (λ z. clean_after_all z ys) p.then ∙ sym (clean_then clean xs ys);
       }

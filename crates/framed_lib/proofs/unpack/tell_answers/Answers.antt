@@ -5,7 +5,9 @@ use Rattle.line_io.specs.Transfers.{Writing, broken}
 use Rattle.framed_lib.specs.Lines.{answer_lines}
 use Rattle.framed_lib.proofs.OutputLemmas.{put-flush, put-went}
 use Rattle.framed_lib.proofs.LinesLemmas.{received, all-same}
+use Rattle.framed_lib.proofs.LiveLemmas.{written_live}
 use Rattle.framed_lib.proofs.WorkLemmas.{is-err}
+use Rattle.link.specs.Each.{gave_now}
 use Rattle.framed_lib.proofs.unpack.tell_answers.Goals as goal
 
 pub returns-clause-told : goal.returns-clause-told
@@ -13,7 +15,7 @@ returns-clause-told g c =
     let h = c.hand_texts-end.ensures.received in
     let t = h.2.heard in
     let w = c.write_rest-written.result in
-    let v = received c.args.strict c.args.sentinel c.hand_texts-end.result h.2.answers h.0 h.2.so in
+    let v = received c.args.strict c.args.sentinel c.hand_texts-end.result h.2.answers h.0 h.2.so.0 h.2.so.1 in
     let (same, good) = all-same h.2.answers v.0 v.2 in (
       h.0,
       h.1,
@@ -28,6 +30,14 @@ returns-clause-told g c =
               | inr broke ↦ rw c.new.ensures at (put-flush (t.went refl broke.0) broke.1)
             ]) c.write_rest-written.ensures.err);
       },
+    )
+
+pub returns-clause-live : goal.returns-clause-live
+returns-clause-live g c = λ on.
+    let h = c.hand_texts-end.ensures.received in (
+      h.0,
+      gave_now _ _ _ h.0 h.1,
+      written_live g.W.Outlet.line c.args.strict c.args.sentinel _ c.hand_texts-end.new.hearer _ h.0 c.write_rest-written.result on refl c.new.ensures h.3 c.write_rest-written.ensures.ok c.write_rest-written.ensures.err,
     )
 
 pub returns-clause-stopped : goal.returns-clause-stopped

@@ -1,14 +1,22 @@
+use Rattle.std.proofs.Common.{refl}
 use Rattle.line_io.specs.Calls.{WentOut-none}
 use Rattle.line_io.specs.Transfers.{Writing}
 use Rattle.link.specs.Each.{HasReadNow}
+use Rattle.link.specs.Firsts.{not_both as no_both}
 use Rattle.framed_lib.proofs.WorkLemmas.{bytes-worked}
 use Rattle.framed_lib.proofs.unpack.unpack.Goals as goal
 
-pub returns-then-hex : goal.returns-then-hex
-returns-then-hex g c = rw c.if-hex.true c.unpack_hex.ensures
+pub returns-then-hex-clause-worked : goal.returns-then-hex-clause-worked
+returns-then-hex-clause-worked g c = rw c.if-hex.true c.unpack_hex.ensures
 
-pub returns : goal.returns
-returns g c =
+pub returns-then-hex-clause-live : goal.returns-then-hex-clause-live
+returns-then-hex-clause-live g c = λ bytes. absurd (no_both c.args.hex c.if-hex.true bytes)
+
+pub returns-clause-live : goal.returns-clause-live
+returns-clause-live g c = λ bytes. c.tell_answers-told.ensures.live refl
+
+pub returns-clause-worked : goal.returns-clause-worked
+returns-clause-worked g c =
     let t = c.tell_answers-told.ensures in
     let told = c.tell_answers-told.result in
     rw (c.if-hex.false, c.outcome.ensures)

@@ -1,6 +1,6 @@
 use Rattle.std.proofs.Common.{subst}
 use Rattle.postcard_tree.specs.Reading.{ReadsBytes}
-use Rattle.postcard.specs.Answer.{ReadsFront}
+use Rattle.postcard_de.specs.Answer.{ReadsFront}
 use Rattle.frames.proofs.CountsLemmas.{as_read, stand_behind, lengths_fit}
 use Rattle.frames.proofs.counting.counted_long.Goals as goal
 

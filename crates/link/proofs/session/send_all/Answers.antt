@@ -1,6 +1,7 @@
 use Rattle.std.proofs.lemmas.Grind.{common_steps}
-use Rattle.std.proofs.Common.{◌∙◌, ap, sym, arith, ◌++◌, ◌∷◌, [], take, length, ◌<◌}
+use Rattle.std.proofs.Common.{refl, ◌∙◌, ap, sym, arith, ◌++◌, ◌∷◌, [], take, length, ◌<◌}
 use Rattle.std.proofs.lemmas.List.{take_more, take_more_set}
+use Rattle.link.specs.Lemmas.SendLaws.{none_sent}
 use Rattle.link.proofs.SendingLemmas.{one_sent}
 use Rattle.link.proofs.session.send_all.Goals as goal
 
@@ -18,7 +19,7 @@ loop-i-preserved g c =
     }
 
 pub loop-i-init : goal.loop-i-init
-loop-i-init g c = grind (arith, common_steps)
+loop-i-init g c = record { sentinel = refl; sent = none_sent _ _ _ _ _ _ }
 
 pub returns : goal.returns
 returns g c = grind (arith, common_steps)

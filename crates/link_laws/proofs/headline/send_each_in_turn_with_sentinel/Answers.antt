@@ -7,6 +7,11 @@ returns g c =
     let a = c.send_each_with_sentinel-after_first.ensures.1 in
     let b = c.send_each_with_sentinel.ensures.1 in
     record {
+      between = g.W.Outlet.line c.send_each_with_sentinel-after_first.result;
+      first_clean = c.send_each_with_sentinel-after_first.ensures.0;
+      second_clean = c.send_each_with_sentinel.ensures.0;
+      first_sent = a;
+      second_sent = b;
       one = a.sends;
       other = b.sends;
       first_of = a.of;

@@ -36,3 +36,6 @@ decreases-put_members l = 4 * l.style.depth + 1
 
 abbrev pub decreases-put_variant : goal.decreases-put_variant
 decreases-put_variant l = 4 * l.style.depth + 2
+
+abbrev pub decreases-put_newtype : goal.decreases-put_newtype
+decreases-put_newtype l = 4 * l.style.depth + 1

@@ -1,7 +1,7 @@
 use Rattle.std.proofs.Common.{◌≡◌, ◌∙◌, ℕ, ◌<◌, length, get_or, Some, sym, ap, subst, arith}
 use Rattle.std.specs.Prelude.{slice_set}
 use Rattle.std.proofs.lemmas.List.Edits.{map_over_more}
-use Rattle.schemas.specs.declared.node.Node.TheVariants as node
+use Rattle.schema_table.specs.declared.node.Node.TheVariants as node
 use Rattle.wire_lib.specs.Sizes.{node_bounded, AreSizesOf}
 use Rattle.wire_lib.proofs.SizesLemmas.{bounded_is, at_this, at_none, all_mapped}
 use Rattle.wire_lib.proofs.sizes.bound_lists.Goals.{in-Some+in-Struct-1, in-Some+in-Enum-1, in-Some+in-Bool-1, in_default}

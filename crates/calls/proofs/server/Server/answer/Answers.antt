@@ -8,14 +8,14 @@ returns-in-Above-clause-replied g c = (call c.args.number c.args.request c.execu
 pub returns-in-Same-clause-replied : goal.returns-in-Same-clause-replied
 returns-in-Same-clause-replied g c =
     let k = c.in-Same.ensures in
-    (k.0, c.send_last.ensures.kept ∙ k.1, c.send_last.ensures.sent k.0 k.1)
+    (k.1, c.send_last.ensures.kept ∙ k.2, c.send_last.ensures.sent k.1 k.2)
 
 pub returns-in-Changed-clause-replied : goal.returns-in-Changed-clause-replied
 returns-in-Changed-clause-replied g c =
     let k = c.in-Changed.ensures in
-    (k.0, c.say_passed.ensures.kept ∙ k.1, rw k.2 c.say_passed.ensures.passed)
+    (k.1, c.say_passed.ensures.kept ∙ k.2, rw k.3 c.say_passed.ensures.passed)
 
 pub returns-in-Below-clause-replied : goal.returns-in-Below-clause-replied
 returns-in-Below-clause-replied g c =
     let k = c.in-Below.ensures in
-    (k.0, c.say_passed-in-Below.ensures.kept ∙ k.1, rw (sym k.3) c.say_passed-in-Below.ensures.passed)
+    (k.1, c.say_passed-in-Below.ensures.kept ∙ k.2, rw (sym k.4) c.say_passed-in-Below.ensures.passed)

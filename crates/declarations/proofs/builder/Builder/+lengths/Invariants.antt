@@ -1,11 +1,17 @@
 use Rattle.std.proofs.Common.{◌+◌, ◌*◌}
 use Rattle.declarations.proofs.builder.Builder.+lengths.Given as goal
 
-abbrev pub decreases-number : goal.decreases-number
-decreases-number l = 4 * l.depth + 1
+abbrev pub decreases-computed : goal.decreases-computed
+decreases-computed l = 8 * l.depth + (3 + l.levels)
 
-abbrev pub decreases-number_called : goal.decreases-number_called
-decreases-number_called l = 4 * l.depth
+abbrev pub decreases-constant : goal.decreases-constant
+decreases-constant l = 8 * l.depth + 8
+
+abbrev pub decreases-named_number : goal.decreases-named_number
+decreases-named_number l = 8 * l.depth + 9
+
+abbrev pub decreases-number : goal.decreases-number
+decreases-number l = 8 * l.depth + 2
 
 abbrev pub decreases-value_of : goal.decreases-value_of
-decreases-value_of l = 4 * l.depth + 2
+decreases-value_of l = 8 * l.depth + 7

@@ -22,38 +22,20 @@ decreases-declaration l = 16 * l.depth + 7
 abbrev pub decreases-field : goal.decreases-field
 decreases-field l = 16 * l.depth + 2
 
+abbrev pub decreases-formed : goal.decreases-formed
+decreases-formed l = 16 * l.depth + 2
+
 abbrev pub decreases-group : goal.decreases-group
 decreases-group l = 16 * l.depth + 4
 
-abbrev pub decreases-inner : goal.decreases-inner
-decreases-inner l = 16 * l.depth + 1
+abbrev pub decreases-held : goal.decreases-held
+decreases-held l = 16 * l.depth + 1
 
 abbrev pub decreases-instance : goal.decreases-instance
 decreases-instance l = 16 * l.depth + 9
 
 abbrev pub decreases-known : goal.decreases-known
 decreases-known l = 16 * l.depth + 9
-
-abbrev pub decreases-lent : goal.decreases-lent
-decreases-lent l = 16 * l.depth + 1
-
-abbrev pub decreases-list : goal.decreases-list
-decreases-list l = 16 * l.depth + 1
-
-abbrev pub decreases-list_up_to : goal.decreases-list_up_to
-decreases-list_up_to l = 16 * l.depth + 1
-
-abbrev pub decreases-map : goal.decreases-map
-decreases-map l = 16 * l.depth + 3
-
-abbrev pub decreases-map_up_to : goal.decreases-map_up_to
-decreases-map_up_to l = 16 * l.depth + 3
-
-abbrev pub decreases-key_and_value : goal.decreases-key_and_value
-decreases-key_and_value l = 16 * l.depth + 1
-
-abbrev pub decreases-hashed : goal.decreases-hashed
-decreases-hashed l = 16 * l.depth + 1
 
 abbrev pub decreases-named : goal.decreases-named
 decreases-named l = 16 * l.depth + 11
@@ -63,21 +45,6 @@ decreases-made l = 16 * l.depth + 8
 
 abbrev pub decreases-resolved : goal.decreases-resolved
 decreases-resolved l = 16 * l.depth + 10
-
-abbrev pub decreases-option : goal.decreases-option
-decreases-option l = 16 * l.depth + 2
-
-abbrev pub decreases-ordered : goal.decreases-ordered
-decreases-ordered l = 16 * l.depth + 1
-
-abbrev pub decreases-outcome : goal.decreases-outcome
-decreases-outcome l = 16 * l.depth + 2
-
-abbrev pub decreases-pair : goal.decreases-pair
-decreases-pair l = 16 * l.depth + 1
-
-abbrev pub decreases-path : goal.decreases-path
-decreases-path l = 16 * l.depth + 12
 
 abbrev pub decreases-payload : goal.decreases-payload
 decreases-payload l = 16 * l.depth + 5
@@ -93,6 +60,3 @@ decreases-tuple l = 16 * l.depth + 1
 
 abbrev pub decreases-whole : goal.decreases-whole
 decreases-whole l = 16 * l.depth + 1
-
-abbrev pub decreases-worded : goal.decreases-worded
-decreases-worded l = 16 * l.depth + 13

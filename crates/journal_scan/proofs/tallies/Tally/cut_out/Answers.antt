@@ -1,17 +1,26 @@
-use Rattle.std.proofs.Common.{◌≡◌, ◌+◌, ◌-◌, ap, ◌∙◌, arith, rules}
-use Rattle.std.specs.List.{insert}
-use Rattle.std.proofs.Math.ListN.{set}
-use Rattle.journal_scan.proofs.GapsLemmas.{cut_low, cut_high, cut_both}
+use Rattle.std.proofs.Common.{◌+◌, ◌∷◌}
+use Rattle.journal_scan.proofs.MapLemmas.{below, parted, cut_inside, cut_end, on_ok, on_err}
 use Rattle.journal_scan.proofs.tallies.Tally.cut_out.Goals as goal
 
-pub returns-then-number-last-clause-cut : goal.returns-then-number-last-clause-cut
-returns-then-number-last-clause-cut c g =
-    let v = c.index.result.now in
-    let e : c.insert.new.self.items ≡ insert c.args.self.now.gaps.items (c.args.i + 1) (record { first = c.args.number + 1; last = v.last }) = search rules in
-    ap (λ x. set x c.args.i (record { first = v.first; last = c.args.number - 1 })) e ∙ cut_both _ _ _ v g c.requires.place c.index.ensures c.if-first-number.true c.if-number-last.true
+pub returns-in-Ok-clause-cut : goal.returns-in-Ok-clause-cut
+returns-in-Ok-clause-cut c =
+    on_ok c.shorten.result (λ h front rest a are. cut_inside c.args.first c.args.last front rest _ a are c.args.number _ c.if-number-last.true
+    (h front ((c.args.number + 1, c.args.last) ∷ rest) c.args.last (below c.args.first c.args.last front rest _ a are) (parted c.args.first c.args.last front rest _ a are c.args.number _ c.requires.first c.if-number-last.true c.in-Ok.ensures.entries)))
+    c.shorten.ensures.shortened
 
-pub returns-then-first-number-2-clause-cut : goal.returns-then-first-number-2-clause-cut
-returns-then-first-number-2-clause-cut c g = cut_low _ _ _ c.index.result.now g c.requires.place c.index.ensures c.if-first-number-2.true (omega (arith, c.else-first-number.either))
+pub returns-in-Ok-clause-kept : goal.returns-in-Ok-clause-kept
+returns-in-Ok-clause-kept c =
+    on_err c.shorten.result (λ h front rest a are. absurd
+    (h front ((c.args.number + 1, c.args.last) ∷ rest) c.args.last (below c.args.first c.args.last front rest _ a are) (parted c.args.first c.args.last front rest _ a are c.args.number _ c.requires.first c.if-number-last.true c.in-Ok.ensures.entries)))
+    c.shorten.ensures.there
 
-pub returns-then-number-last-2-clause-cut : goal.returns-then-number-last-2-clause-cut
-returns-then-number-last-2-clause-cut c g = cut_high _ _ _ c.index.result.now g c.requires.place c.index.ensures c.if-first-number-2.false c.if-number-last-2.true
+pub returns-clause-cut : goal.returns-clause-cut
+returns-clause-cut c =
+    on_ok c.shorten-2.result (λ h front rest a are. cut_end c.args.first c.args.last front rest _ a are c.args.number _ c.requires.last c.if-number-last.false
+    (h front rest c.args.last (below c.args.first c.args.last front rest _ a are) are))
+    c.shorten-2.ensures.shortened
+
+pub returns-clause-kept : goal.returns-clause-kept
+returns-clause-kept c =
+    on_err c.shorten-2.result (λ h front rest a are. absurd (h front rest c.args.last (below c.args.first c.args.last front rest _ a are) are))
+    c.shorten-2.ensures.there

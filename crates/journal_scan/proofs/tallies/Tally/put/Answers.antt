@@ -1,24 +1,25 @@
-use Rattle.std.proofs.Common.{◌≡◌, true, false, refl, rules}
-use Rattle.journal_scan.proofs.GapsLemmas.{one_again, was_counted, not_counted, one_next, counted_late, not_counted_late}
+use Rattle.std.proofs.Common.{◌≡◌, true, false, refl, arith, rules}
+use Rattle.journal_scan.proofs.GapsLemmas.{one_again, was_counted, not_counted, one_next}
+use Rattle.journal_scan.proofs.MapLemmas.{counted_late, not_counted_late}
 use Rattle.journal_scan.proofs.tallies.Tally.put.Goals as goal
 
 never : ◌≡◌ false true → ⊥
 never e = cc
 
 pub returns-in_ok-cut_out-in-Some-clause-put : goal.returns-in_ok-cut_out-in-Some-clause-put
-returns-in_ok-cut_out-in-Some-clause-put c numbers t = counted_late t c.in-Some.i c.args.number c.in-Some.ensures.0 c.in-Some.ensures.1 c.in-Some.ensures.2 _ _ c.in_ok-cut_out-in-Some.ensures.next c.in_ok-cut_out-in-Some.ensures.cut
+returns-in_ok-cut_out-in-Some-clause-put c numbers t = counted_late t _ c.args.number (c.in-Some.ensures.at t.apart) _ _ c.in_ok-cut_out-in-Some.ensures.next c.in_ok-cut_out-in-Some.ensures.cut
 
 pub returns-in_ok-cut_out-in-Some-clause-again : goal.returns-in_ok-cut_out-in-Some-clause-again
-returns-in_ok-cut_out-in-Some-clause-again c numbers t l = (λ e. absurd (never e), λ h. absurd (not_counted_late t c.in-Some.i c.args.number c.in-Some.ensures.0 c.in-Some.ensures.1 c.in-Some.ensures.2 h))
+returns-in_ok-cut_out-in-Some-clause-again c numbers t l = (λ e. absurd (never e), λ h. absurd (not_counted_late t _ c.args.number (c.in-Some.ensures.at t.apart) h))
 
 pub returns-in-None-clause-put : goal.returns-in-None-clause-put
-returns-in-None-clause-put c numbers t = one_again t c.args.number c.if-number-self.true (c.in-None.ensures t.apart)
+returns-in-None-clause-put c numbers t = one_again t c.args.number c.if-number-self.true (c.in-None.ensures.at t.apart)
 
 pub returns-in-None-clause-again : goal.returns-in-None-clause-again
-returns-in-None-clause-again c numbers t l = (λ _. was_counted t c.args.number c.if-number-self.true (c.in-None.ensures t.apart), λ _. refl)
+returns-in-None-clause-again c numbers t l = (λ _. was_counted t c.args.number c.if-number-self.true (c.in-None.ensures.at t.apart), λ _. refl)
 
 pub returns-clause-put : goal.returns-clause-put
-returns-clause-put c numbers t = one_next t c.args.number _ _ c.if-number-self.false (search rules) c.saturating_add-self.ensures c.in_ok-pass_to.ensures.ahead
+returns-clause-put c numbers t = one_next t c.args.number _ _ c.if-number-self.false (search rules) c.saturating_add-self.ensures (c.in_ok-pass_to.ensures.ahead t.apart (λ l. t.under (omega (arith, l))))
 
 pub returns-clause-again : goal.returns-clause-again
 returns-clause-again c numbers t l = (λ e. absurd (never e), λ h. absurd (not_counted t c.args.number c.if-number-self.false l h))

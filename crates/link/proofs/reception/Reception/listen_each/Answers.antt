@@ -21,7 +21,7 @@ returns-in-Some-clause-heard g c =
         few = few_then _ _ _ k.0 e.bytes 1 k.3 e.few;
         adds = adds_then g.D.Decoding.inside judging g.H.Hearer.hears g.H.Hearer.laws c.args.goes_on k.0 e.bytes _ _ c.listen_by.new.self _ _ _ (Some c.in-Some.end) k.4 e.adds;
       },
-      inr (was_asked g.D.Decoding.inside judging g.H.Hearer.hears g.H.Hearer.enough _ _ _ _ _ _ k.0 e.bytes e.adds.answers k.4 e.adds.heard (sym c.has_enough.ensures ∙ c.if-has_enough.false) (omega (arith, c.in-Some.ensures.heard.1))),
+      inr (was_asked g.D.Decoding.inside judging g.H.Hearer.hears g.H.Hearer.enough g.H.Hearer.settled _ _ _ _ _ _ k.0 e.bytes e.adds.answers k.4 e.adds.heard (sym c.has_enough.ensures ∙ c.if-has_enough.false) c.loop-alloc.invariant.2 (omega (arith, c.in-Some.ensures.heard.1))),
     )
 
 pub loop-alloc-preserved : goal.loop-alloc-preserved
@@ -35,7 +35,7 @@ loop-alloc-preserved g c =
         e.read.1 ∙ k.2,
         few_then _ _ _ k.0 e.bytes 0 k.3 e.few,
         adds_then g.D.Decoding.inside judging g.H.Hearer.hears g.H.Hearer.laws c.args.goes_on k.0 e.bytes _ _ _ _ _ _ None k.4 e.adds,
-        inr (was_asked g.D.Decoding.inside judging g.H.Hearer.hears g.H.Hearer.enough _ _ _ _ _ _ k.0 e.bytes e.adds.answers k.4 e.adds.heard (sym c.has_enough.ensures ∙ c.if-has_enough.false) (omega (arith, c.in_default.ensures.heard.1))),
+        inr (was_asked g.D.Decoding.inside judging g.H.Hearer.hears g.H.Hearer.enough g.H.Hearer.settled _ _ _ _ _ _ k.0 e.bytes e.adds.answers k.4 e.adds.heard (sym c.has_enough.ensures ∙ c.if-has_enough.false) c.loop-alloc.invariant.2 (omega (arith, c.in_default.ensures.heard.1))),
       ),
       (c.listen_by.ensures.same.0 ∙ c.loop-alloc.invariant.1.0, c.listen_by.ensures.same.1 ∙ c.loop-alloc.invariant.1.1),
       λ h. c.listen_by.ensures.settled (c.loop-alloc.invariant.2 h),

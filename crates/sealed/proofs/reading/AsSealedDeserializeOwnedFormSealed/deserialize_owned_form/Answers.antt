@@ -4,8 +4,8 @@ use Rattle.sealed.proofs.reading.AsSealedDeserializeOwnedFormSealed.deserialize_
 pub returns-in-Ok : goal.returns-in-Ok
 returns-in-Ok g c =
     let T = g.T.Readable.form in
-    seal_outcome T.takes T.reads g.T.Readable.form.writes T.refuses g.met.T.Exact.writes_back T.growing (λ w. w.0) c.sealed_with.result c.in-Ok.pair.0 c.in-Ok.pair.1.0 g.T.Readable.form.laws.taken
+    seal_outcome 0 T.takes T.reads g.T.Readable.form.writes T.refuses g.met.T.Exact.writes_back T.growing (λ w. w.0) c.sealed_with.result c.in-Ok.pair.0 c.in-Ok.pair.1.0 g.T.Readable.form.laws.taken
     c.in-Ok.ensures (λ t h. h) c.sealed_with.ensures.ok c.sealed_with.ensures.err
 
 pub returns-in-Err : goal.returns-in-Err
-returns-in-Err g c = pair_fails g.T.Readable.form.takes g.T.Readable.form.refuses g.T.Readable.form.growing c.in-Err.ensures
+returns-in-Err g c = pair_fails 0 g.T.Readable.form.takes g.T.Readable.form.refuses g.T.Readable.form.growing c.in-Err.ensures

@@ -1,4 +1,4 @@
-use Rattle.schemas.specs.declared.node.Node.TheVariants.{Array}
+use Rattle.schema_table.specs.declared.node.Node.TheVariants.{Array}
 use Rattle.schemas.proofs.TablesLemmas.{added_as, array_schema, begins_more}
 use Rattle.schemas.proofs.types.containers.OwnSchemaFormArray.add_form_schema.Goals as goal
 

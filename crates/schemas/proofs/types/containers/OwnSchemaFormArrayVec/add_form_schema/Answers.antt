@@ -1,4 +1,4 @@
-use Rattle.schemas.specs.declared.node.Node.TheVariants.{ListUpTo}
+use Rattle.schema_table.specs.declared.node.Node.TheVariants.{ListUpTo}
 use Rattle.schemas.proofs.TablesLemmas.{added_as, begins_more, list_up_to_schema}
 use Rattle.schemas.proofs.types.containers.OwnSchemaFormArrayVec.add_form_schema.Goals as goal
 

@@ -1,4 +1,4 @@
-use Rattle.schemas.specs.declared.node.Node.TheVariants.{List}
+use Rattle.schema_table.specs.declared.node.Node.TheVariants.{List}
 use Rattle.schemas.proofs.TablesLemmas.{added_as, begins_more, list_schema}
 use Rattle.schemas.proofs.types.containers.OwnSchemaFormBTreeMap.add_form_schema.Goals as goal
 

@@ -1,4 +1,4 @@
-use Rattle.schemas.specs.declared.node.Node.TheVariants.{Option}
+use Rattle.schema_table.specs.declared.node.Node.TheVariants.{Option}
 use Rattle.schemas.proofs.TablesLemmas.{added_as, begins_more, option_schema}
 use Rattle.schemas.proofs.types.containers.OwnSchemaFormOption.add_form_schema.Goals as goal
 

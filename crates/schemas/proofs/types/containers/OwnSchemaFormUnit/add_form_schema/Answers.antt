@@ -1,4 +1,4 @@
-use Rattle.schemas.specs.declared.node.Node.TheVariants.{Struct}
+use Rattle.schema_table.specs.declared.node.Node.TheVariants.{Struct}
 use Rattle.schemas.proofs.TablesLemmas.{added_as, struct_schema, no_fields}
 use Rattle.schemas.proofs.types.containers.OwnSchemaFormUnit.add_form_schema.Goals as goal
 

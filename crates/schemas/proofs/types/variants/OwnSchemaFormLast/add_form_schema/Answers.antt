@@ -1,4 +1,4 @@
-use Rattle.schemas.specs.declared.node.Node.TheVariants.{Enum}
+use Rattle.schema_table.specs.declared.node.Node.TheVariants.{Enum}
 use Rattle.schemas.proofs.TablesLemmas.{added_as, begins_more, enum_added}
 use Rattle.schemas.proofs.types.variants.OwnSchemaFormLast.add_form_schema.Goals as goal
 

@@ -1,5 +1,0 @@
-use Rattle.declarations.specs.TypeNames.{NoTypeName}
-use Rattle.declarations.proofs.schema.Schema.place_of.Given as goal
-
-abbrev pub invariant-loop-place : goal.invariant-loop-place
-invariant-loop-place l = NoTypeName l.self.types.items l.place l.name

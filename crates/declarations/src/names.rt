@@ -1,0 +1,351 @@
+//! The names of files: what each module declares, and what a `use` brings into it.
+mod reading;
+mod rule;
+mod uses;
+
+use crate::known::KNOWN_CRATES;
+use declaration_parser::declaration::Declaration;
+use declaration_parser::tokens::{Read, Token, is_among};
+pub use rule::{Found, Path, Space};
+use std::alloc::{AllocError, Global};
+use std::collections::BTreeMap;
+
+/// What a name stands for where it is declared.
+#[derive(Clone, Copy, Drop)]
+pub enum What<'a> {
+    /// The marked type at this place among all declarations.
+    Marked(usize),
+    /// A type that isn't marked.
+    Unmarked,
+    /// What an alias stands for.
+    Alias(&'a [Token]),
+    /// An alias with parameters.
+    Generic,
+    /// A constant: the words of its type, and those that it is computed of.
+    Constant(&'a [Token], &'a [Token]),
+    /// What a macro makes: a type, a constant, or flags that are sent as their bits.
+    Made,
+    MadeConstant,
+    Bits,
+}
+
+/// A name that a scope declares.
+#[derive(Clone, Copy, Drop)]
+struct Item<'a> {
+    name: &'a str,
+    what: What<'a>,
+    scope: usize,
+    line: usize,
+    is_conditional: bool,
+}
+
+/// What a scope is.
+#[derive(Clone, Copy, PartialEq, Eq, Drop)]
+enum Kind {
+    File,
+    Module,
+    /// A module with a file of its own, where it is named, and one whose file has another name.
+    Outline,
+    Misnamed,
+    /// The body of a function, which sees what stands round it.
+    Body,
+    /// What belongs to a type or a trait: no name of it is seen.
+    Impl,
+}
+
+/// A file, a module that is written in one, or a body.
+#[derive(Clone, Copy, Drop)]
+struct Scope<'a> {
+    kind: Kind,
+    name: &'a str,
+    file: usize,
+    /// The scope round it; of a file its own.
+    outer: usize,
+}
+
+/// What a `use` brings into a scope: the last name of a path, by this name; all of it by `*`.
+#[derive(Clone, Copy, Drop)]
+struct Import<'a> {
+    name: &'a str,
+    path: Path<'a>,
+    last: &'a str,
+    scope: usize,
+    is_glob: bool,
+    is_crate: bool,
+    is_public: bool,
+    is_conditional: bool,
+}
+
+/// Where a declaration stands, and how many declarations stand where it was found.
+#[derive(Clone, Copy, Drop)]
+struct Stand {
+    scope: usize,
+    count: usize,
+}
+
+/// What was said before an item of what follows.
+#[derive(Clone, Copy, Drop)]
+struct Before {
+    is_conditional: bool,
+    is_public: bool,
+    has_path: bool,
+}
+
+/// The names of files. Where memory runs out for one, [`failed`](Names::failed) says so.
+#[derive(Drop)]
+pub struct Names<'a> {
+    alloc: Global,
+    files: &'a [Read],
+    scopes: Vec<Scope<'a>>,
+    items: Vec<Item<'a>>,
+    imports: Vec<Import<'a>>,
+    stands: Vec<Stand>,
+    /// All names that are declared, or brought in from what isn't known.
+    named: BTreeMap<&'a str, ()>,
+    /// Macros that declare a type by the name that is handed to them first.
+    makers: Vec<&'a str>,
+    /// Names that are handed to macros.
+    handed: Vec<&'a str>,
+    /// The words in tables of endpoints and topics.
+    endpoints: Vec<&'a str>,
+    /// Scopes whose words aren't read yet, and these.
+    pending: Vec<(usize, &'a [Token])>,
+    before: Before,
+    pub failed: bool,
+}
+
+/// The name of a file without its ending, and the folder of it.
+fn parts_of(file: &str) -> (&str, &str) {
+    let (folder, name) = file.rsplit_once('/').unwrap_or(("", file));
+    let (stem, _) = name.split_once('.').unwrap_or((name, ""));
+    (folder, stem)
+}
+
+/// The last name of a folder.
+fn last_of(folder: &str) -> &str {
+    let (_, name) = folder.rsplit_once('/').unwrap_or(("", folder));
+    name
+}
+
+/// Whether a file is the root of a crate.
+fn is_root(stem: &str) -> bool {
+    matches!(stem, "lib" | "main")
+}
+
+/// The module that a file is: by its name, or by its folder's.
+fn module_of_file(file: &str) -> &str {
+    let (folder, stem) = parts_of(file);
+    if is_root(stem) {
+        return last_of(folder.strip_suffix("/src").unwrap_or(folder));
+    }
+    if stem == "mod" {
+        return last_of(folder);
+    }
+    stem
+}
+
+/// Whether two names are one, where a crate's has `_` for the `-` of its folder.
+fn is_same_name(name: &str, other: &str) -> bool {
+    if name.len() != other.len() {
+        return false;
+    }
+    for (first, second) in name.chars().zip(other.chars()) {
+        let is_line = first == '-' && second == '_';
+        if first != second && !is_line {
+            return false;
+        }
+    }
+    true
+}
+
+/// Keeps a name.
+fn put<'a>(names: &mut BTreeMap<&'a str, ()>, name: &'a str) -> bool {
+    names.insert(name, ()).is_err()
+}
+
+impl<'a> Names<'a> {
+    /// The names of files, in which these declarations are marked.
+    pub fn new(
+        alloc: Global,
+        files: &'a [Read],
+        declared: &[Declaration<'a>],
+    ) -> Result<Names<'a>, AllocError> {
+        let mut names = Names {
+            alloc,
+            files,
+            scopes: Vec::new(alloc),
+            items: Vec::new(alloc),
+            imports: Vec::new(alloc),
+            stands: Vec::new(alloc),
+            named: BTreeMap::new(alloc),
+            makers: Vec::new(alloc),
+            handed: Vec::new(alloc),
+            endpoints: Vec::new(alloc),
+            pending: Vec::new(alloc),
+            before: Before {
+                is_conditional: false,
+                is_public: false,
+                has_path: false,
+            },
+            failed: false,
+        };
+        names.read_files();
+        for (index, it) in declared.iter().enumerate() {
+            names.mark(index, it);
+        }
+        if names.failed {
+            return Err(AllocError);
+        }
+        Ok(names)
+    }
+
+    /// Adds a scope, and gives its place.
+    fn add_scope(&mut self, kind: Kind, name: &'a str, file: usize, outer: usize) -> usize {
+        let place = self.scopes.len();
+        let scope = Scope {
+            kind,
+            name,
+            file,
+            outer,
+        };
+        self.failed = self.scopes.push(scope).is_err() || self.failed;
+        place
+    }
+
+    /// Adds a scope in another, whose words are these.
+    fn add_inner(&mut self, kind: Kind, name: &'a str, outer: usize, words: &'a [Token]) {
+        let file = self.file_at(outer);
+        let scope = self.add_scope(kind, name, file, outer);
+        self.failed = self.pending.push((scope, words)).is_err() || self.failed;
+    }
+
+    /// Adds what a name stands for in a scope.
+    fn add(&mut self, scope: usize, name: &'a str, line: usize, what: What<'a>) {
+        let item = Item {
+            name,
+            what,
+            scope,
+            line,
+            is_conditional: self.before.is_conditional,
+        };
+        if matches!(self.kind_of(scope), Kind::Impl) {
+            return;
+        }
+        self.failed = self.items.push(item).is_err() || self.failed;
+        self.failed = put(&mut self.named, name) || self.failed;
+    }
+
+    /// What a scope is.
+    fn kind_of(&self, scope: usize) -> Kind {
+        match self.scopes.get(scope) {
+            Some(it) => it.kind,
+            None => Kind::File,
+        }
+    }
+
+    /// The scope round one; of a file's its own.
+    fn outer_of(&self, scope: usize) -> usize {
+        match self.scopes.get(scope) {
+            Some(it) => it.outer,
+            None => scope,
+        }
+    }
+
+    /// The file of a scope, by its place.
+    fn file_at(&self, scope: usize) -> usize {
+        match self.scopes.get(scope) {
+            Some(it) => it.file,
+            None => 0,
+        }
+    }
+
+    /// The name of a file by its place.
+    fn name_of_file(&self, file: usize) -> &'a str {
+        match self.files.get(file) {
+            Some(read) => read.file.as_str(),
+            None => "",
+        }
+    }
+
+    /// The name of the file of a scope.
+    pub fn file_of(&self, scope: usize) -> &'a str {
+        self.name_of_file(self.file_at(scope))
+    }
+
+    /// The name of a scope.
+    pub fn module_name(&self, scope: usize) -> &'a str {
+        match self.scopes.get(scope) {
+            Some(it) => it.name,
+            None => "",
+        }
+    }
+
+    /// Whether the item at a place is what a declaration says.
+    fn is_declared(&self, place: usize, it: &Declaration<'a>) -> bool {
+        match self.items.get(place) {
+            Some(item) => item.name == it.name
+                && item.line == it.line
+                && matches!(item.what, What::Unmarked)
+                && self.file_of(item.scope) == it.file.file.as_str(),
+            None => false,
+        }
+    }
+
+    /// Notes which item a marked declaration is, and where it stands.
+    fn mark(&mut self, index: usize, it: &Declaration<'a>) {
+        let mut stand = Stand { scope: 0, count: 0 };
+        for place in 0..self.items.len() {
+            if self.is_declared(place, it)
+                && let Some(item) = self.items.get_mut(place)
+            {
+                stand.scope = item.scope;
+                stand.count = stand.count.saturating_add(1);
+                item.what = What::Marked(index);
+            }
+        }
+        self.failed = self.stands.push(stand).is_err() || self.failed;
+    }
+
+    /// Whether a marked declaration is one alone where it was found.
+    pub fn is_single(&self, index: usize) -> bool {
+        match self.stands.get(index) {
+            Some(stand) => stand.count == 1,
+            None => false,
+        }
+    }
+
+    /// The scope of a marked declaration.
+    pub fn scope_of(&self, index: usize) -> usize {
+        match self.stands.get(index) {
+            Some(stand) => stand.scope,
+            None => 0,
+        }
+    }
+
+    /// Adds a scope for words that stand in no file, which sees what the files declare.
+    pub fn add_outside(&mut self) -> usize {
+        let file = self.files.len();
+        let place = self.scopes.len();
+        self.add_scope(Kind::File, "", file, place)
+    }
+
+    /// Whether a file declares a name, or brings it in from what isn't known.
+    pub fn has(&self, name: &str) -> bool {
+        self.named.contains_key(name)
+    }
+
+    /// Whether a name stands in a table of endpoints or topics.
+    pub fn is_endpoint(&self, name: &str) -> bool {
+        is_among(name, &self.endpoints)
+    }
+
+    /// Whether a macro is handed a name.
+    pub fn is_handed(&self, name: &str) -> bool {
+        is_among(name, &self.handed)
+    }
+}
+
+/// Whether a crate's types are known by their names.
+fn is_known_crate(name: &str) -> bool {
+    is_among(name, KNOWN_CRATES)
+}

@@ -1,0 +1,94 @@
+-- What was written before the last read, from what a hearer was when it was asked.
+use Rattle.std.proofs.Common.{◌≡◌, ℕ, Bool, true, false, ◌&&◌, List, [], ◌++◌, Option, Some, refl, sym, ap, ◌∙◌, subst, inl, inr, ◌⊎◌}
+use Rattle.std.specs.Prelude.{Result, Ok, Err, OnOk, OnErr}
+use Rattle.std.specs.declared.string.String.{String}
+use Rattle.line_io.specs.Device.{LineState, Wrote}
+use Rattle.line_io.specs.Calls.{Wrote-then, WentOut-none}
+use Rattle.line_io.specs.Transfers.{Writing, whole, broken}
+use Rattle.line_io.specs.declared.transfers.WriteFault.{WriteFault}
+use Rattle.link.specs.Decoding.{Inside}
+use Rattle.link.specs.Judged.{Judging}
+use Rattle.link.specs.Each.{IsAsked}
+use Rattle.link.specs.Listening.{Hears}
+use Rattle.link.specs.Firsts.{not_both as no_both}
+use Rattle.link.specs.declared.reception.Reception.{Reception}
+use Rattle.link.specs.declared.receiver.Answer.{Answer}
+use Rattle.framed_lib.specs.Lines.{holds_text, reads_text, answer_lines}
+use Rattle.framed_lib.specs.Live.{IsAskedFor, IsWrittenLive}
+use Rattle.framed_lib.specs.Telling.{Tells, IsSettled}
+use Rattle.framed_lib.specs.declared.telling.Telling.{Telling}
+use Rattle.framed_lib.proofs.LinesLemmas.{all-same}
+use Rattle.framed_lib.proofs.OutputLemmas.{put-went}
+
+-- a receiver that was given nothing
+pub asked_for : {D H A : Type 0} (inside : D → Inside) (growing : Bool) (hears : H → List (Answer (String A)) → H → Type 0) (enough : H → Bool) (settled : H → Type 0) (r : Reception D) (strict : Bool) (sentinel : ℕ)
+    (h k : H) (answers : List (Answer (String A))) (bytes : List ℕ)
+    → Hears inside (holds_text strict) (reads_text {A = A}) 1024 sentinel r [] []
+    → IsAsked inside (record { holds = holds_text strict; reads = reads_text {A = A}; growing = growing }) hears enough settled 1024 r h k answers bytes
+    → IsAskedFor hears enough settled strict sentinel h k bytes
+asked_for inside growing hears enough settled r strict sentinel h k answers bytes none (inl e) = inl e
+asked_for inside growing hears enough settled r strict sentinel h k answers bytes none (inr w) = inr (record {
+  before = w.before;
+  last = w.last;
+  parts = w.parts;
+  short = w.short;
+  early = w.early;
+  later = w.later;
+  given = w.given 1024 sentinel [] [] none;
+  asked = w.asked;
+  heard = w.heard;
+  wants = w.wants;
+  settles = w.settles;
+  hears_on = w.hears_on;
+})
+
+pub some_is : {A : Type 0} {x y : A} → ◌≡◌ {A = Option A} (Some x) (Some y) → x ≡ y
+some_is e = cc
+
+-- who is live and hasn't had enough has met no failed write
+not_failed : (failed live : Bool) → live ≡ true → (failed && live) ≡ false → failed ≡ false
+not_failed true live l e = absurd (no_both live l e)
+not_failed false live l e = refl
+
+settled_empty : {B : Type 0} (held : B) (failed : Bool) (P : Type 0) → P ⊎ (failed ≡ true) → failed ≡ false → P
+settled_empty held failed P (inl p) f = p
+settled_empty held failed P (inr t) f = absurd (no_both failed t f)
+
+module _ {A W : Type 0} (line : W → LineState) where
+  -- what was written from there
+  goes_on : (asked k : Telling W) (later : List (Answer (String A))) (new : W) (w : Result (Unit {0}) WriteFault) (f : Bool) → k.failed ≡ f → asked.failed ≡ false → Tells line asked later k
+      → OnOk w ((k.failed ≡ false) × Writing (line k.writer) (line new) whole k.held.items)
+      → OnErr w (((k.failed ≡ true) × (new ≡ k.writer)) ⊎ ((k.failed ≡ false) × Writing (line k.writer) (line new) broken k.held.items))
+      → (more : List ℕ) × Wrote (line asked.writer) (line new) more
+  goes_on asked k later new (Ok u) f e a t ok err = let p = t.went a ok.0 in (p.sent ++ k.held.items, Wrote-then _ _ _ _ _ p.went.wrote ok.1.wrote)
+  goes_on asked k later new (Err x) f e a t ok (inl s) = let b = t.broke a s.0 in (b.front, subst (λ z. Wrote (line asked.writer) (line z) b.front) (sym s.1) b.wrote)
+  goes_on asked k later new (Err x) f e a t ok (inr b) = let p = t.went a b.0 in (p.sent ++ b.1.front, Wrote-then _ _ _ _ _ p.went.wrote b.1.wrote)
+
+  -- the lines of what it was told before the last read had gone out
+  pub written_live : (strict : Bool) (sentinel : ℕ) (old k : Telling W) (new : W) (bytes : List ℕ) (w : Result (Unit {0}) WriteFault)
+      → old.live ≡ true → old.failed ≡ false → old.held.items ≡ []
+      → IsAskedFor {A = A} (Tells line) (λ t. t.failed && t.live) IsSettled strict sentinel old k bytes
+      → OnOk w ((k.failed ≡ false) × Writing (line k.writer) (line new) whole k.held.items)
+      → OnErr w (((k.failed ≡ true) × (new ≡ k.writer)) ⊎ ((k.failed ≡ false) × Writing (line k.writer) (line new) broken k.held.items))
+      → IsWrittenLive line strict sentinel old.writer new bytes
+  written_live strict sentinel old k new bytes w live failed empty (inl e) ok err = inl e
+  written_live strict sentinel old k new bytes w live failed empty (inr a) ok err =
+      let on : a.asked.live ≡ true = a.heard.live ∙ live in
+      let good : a.asked.failed ≡ false = not_failed a.asked.failed a.asked.live on a.wants in
+      let none : a.asked.held.items ≡ [] = settled_empty a.asked.held a.asked.failed (a.asked.held.items ≡ []) (a.settles (λ l. inl empty) on) good in
+      let put = a.heard.went failed good in
+      let gone = put-went put (subst (λ x. Writing (line a.asked.writer) (line a.asked.writer) whole x) (sym none) (WentOut-none (line a.asked.writer))) in
+      let lines = (all-same a.early a.given.verdicts a.given.matching).0 in
+      let rest = goes_on a.asked k a.later new w k.failed refl good a.hears_on ok err in
+      inr (record {
+        before = a.before;
+        last = a.last;
+        parts = a.parts;
+        short = a.short;
+        verdicts = a.given.verdicts;
+        given = a.given.given;
+        then = a.asked.writer;
+        went = subst (λ x. Writing (line old.writer) (line a.asked.writer) whole x) (ap (λ x. x ++ answer_lines a.early) empty ∙ lines) gone;
+        more = rest.0;
+        on = rest.1;
+      })

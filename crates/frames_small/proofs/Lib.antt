@@ -1,0 +1,6 @@
+mod DecidingLemmas
+mod EndingLemmas
+mod EventsLemmas
+mod CountsLemmas
+mod RunsLemmas
+mod SumsLemmas

@@ -1,0 +1,40 @@
+//! A caller.
+ghost use Rattle.std.specs.Prelude.{All, IsOk, IfOk, IfSome};
+ghost use Rattle.postcard.specs.Frames.{Holds};
+ghost use Rattle.link.specs.Listening.{HasAnswered};
+ghost use Rattle.link_codec.specs.Whole.{answers_of};
+
+use crate::error::DecodeError;
+use crate::laws::answered_whole;
+use crate::owned::OwnedLinkDecoder;
+use futures::{FutureExt, StreamExt};
+use link::{Answer, NoMemory};
+use postcard::DeserializeOwned;
+use std::alloc::AllocGlobal;
+use std::io;
+use std::random::RandomSource;
+use tokio_util::codec::FramedRead;
+
+/// The items of a framed reader over a stream that is there whole, collected by one poll; with no error among them they are all
+/// answers of the stream. `None` where the reader yielded in between. So a caller's items are those of which the laws speak.
+pub fn answers_at_once<T: DeserializeOwned, R: RandomSource + AllocGlobal>(
+    rt: &R,
+    stream: &[u8],
+    limit: usize,
+    sentinel: u8,
+) -> io::Result<Option<Vec<Result<Answer<T>, DecodeError>>>>
+    ensures all { IfOk result (λ o. IfSome o (λ items. All IsOk items.items
+        → HasAnswered (Holds T.form.takes) T.form.reads limit sentinel
+        (answers_of items.items) stream.now)) }
+{
+    let decoder = match OwnedLinkDecoder::<T>::new(rt.alloc(), limit, sentinel) {
+        Ok(decoder) => decoder,
+        Err(NoMemory) => return Err(io::ErrorKind::OutOfMemory.into()),
+    };
+    let answers = FramedRead::new(rt.alloc(), stream, decoder)?;
+    answered_whole(&answers);
+    match answers.collect(rt.alloc()).now_or_never(rt)? {
+        Some(items) => Ok(Some(items?)),
+        None => Ok(None),
+    }
+}

@@ -1,0 +1,83 @@
+//! What the words after the program's name ask for.
+use crate::about::{CONSOLE, DEVICE, PUMP};
+use crate::console::call_by;
+use crate::serving::serve;
+use help::{About, answer};
+use std::{env, io};
+
+// Says how it is called.
+fn say_usage(rt: &HostRuntime, about: About) -> io::Result<u8> {
+    eprintln!(rt; "{}", about.usage)?;
+    Ok(2)
+}
+
+// What these words ask of the program itself, where they do; the status of the program.
+fn answered(rt: &HostRuntime, about: About, words: &[String]) -> io::Result<Option<u8>> {
+    let status = answer(&mut rt.stdout(), about, words);
+    if let Some(3) = status {
+        eprintln!(rt; "pump: standard output: write failed")?;
+    }
+    Ok(status)
+}
+
+// Serves, where no words stand behind `device`.
+fn serve_by(rt: &HostRuntime, words: &[String]) -> io::Result<u8> {
+    if words.is_empty() {
+        return serve(rt);
+    }
+    match answered(rt, DEVICE, words)? {
+        Some(status) => Ok(status),
+        None => say_usage(rt, DEVICE),
+    }
+}
+
+// Calls by the words behind `console`.
+fn console_by(rt: &HostRuntime, words: &[String]) -> io::Result<u8> {
+    if let Some(status) = answered(rt, CONSOLE, words)? {
+        return Ok(status);
+    }
+    match call_by(rt, words)? {
+        Some(status) => Ok(status),
+        None => say_usage(rt, CONSOLE),
+    }
+}
+
+// Does what the words say.
+fn run_by(rt: &HostRuntime, words: &[String]) -> io::Result<u8> {
+    if let [mode, rest @ ..] = words {
+        match mode.as_str() {
+            "device" => return serve_by(rt, rest),
+            "console" => return console_by(rt, rest),
+            _ => {}
+        }
+    }
+    match answered(rt, PUMP, words)? {
+        Some(status) => Ok(status),
+        None => say_usage(rt, PUMP),
+    }
+}
+
+// The words after the program's name.
+fn words_of(rt: &HostRuntime) -> io::Result<Vec<String>> {
+    let mut words: Vec<String> = Vec::new(rt.alloc());
+    for word in env::args(rt)?.skip(1) {
+        words.push(word)?;
+    }
+    Ok(words)
+}
+
+fn run_or_say(rt: &HostRuntime) -> io::Result<u8> {
+    match words_of(rt) {
+        Ok(words) => run_by(rt, &words),
+        Err(error) => {
+            eprintln!(rt; "pump: the words can't be read, as where one isn't UTF-8: {error}")?;
+            say_usage(rt, PUMP)
+        }
+    }
+}
+
+/// Does what the words after the program's name say: `device`, or `console` and a call. The status of the program, which is 3 where
+/// what failed can't be said.
+pub fn run(rt: &HostRuntime) -> u8 {
+    run_or_say(rt).unwrap_or(3)
+}

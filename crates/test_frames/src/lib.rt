@@ -1,5 +1,0 @@
-//! Tests of `frames`, by its public calls alone.
-#![tactic(auto)]
-
-#[cfg(test)]
-mod line;

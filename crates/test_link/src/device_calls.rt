@@ -1,0 +1,146 @@
+//! How often devices are called: each call offers all that there is to write, or all the room that there is.
+ghost use Rattle.std.specs.Prelude.{◌<◌};
+
+use crate::checks::{all_true, check};
+use framed_lib::arguments::Mode;
+use framed_lib::run::run;
+use line_io::memory::{In, Out};
+use line_io::{End, Inlet, Reads, Writes, read_to_end, write_all};
+use link::{Sender, receive, receive_by_accumulator};
+use std::alloc::Global;
+use std::io;
+use std::io::{Read, Write};
+
+/// Takes all that it is offered, and counts its calls.
+#[derive(Drop)]
+struct Counted {
+    calls: usize,
+}
+
+impl Write for Counted {
+    fn write(&mut self, buf: &[u8]) -> io::Result<usize> {
+        self.calls = self.calls.saturating_add(1);
+        Ok(buf.len())
+    }
+
+    fn flush(&mut self) -> io::Result<()> {
+        Ok(())
+    }
+}
+
+/// Fills what it is offered, with so many bytes in all, and counts its calls.
+#[derive(Drop)]
+struct Filling {
+    left: usize,
+    calls: usize,
+}
+
+impl Read for Filling {
+    fn read(&mut self, buf: &mut [u8]) -> io::Result<usize> {
+        let count = buf.len().min(self.left);
+        buf[..count].fill(b'a');
+        self.left -= count;
+        self.calls = self.calls.saturating_add(1);
+        Ok(count)
+    }
+}
+
+fn counting_writer() -> Writes<Counted> {
+    Writes::new(Counted { calls: 0 })
+}
+
+fn filling_reader(left: usize) -> Reads<Filling> {
+    Reads::new(Filling { left, calls: 0 })
+}
+
+/// How many writes the bytes take.
+fn writes_of_all(bytes: &[u8]) -> usize {
+    let mut line = counting_writer();
+    let _ = write_all(&mut line, bytes);
+    line.into_inner().calls
+}
+
+/// How many writes two sends take: the first has a zero in front.
+fn writes_of_sends() -> usize {
+    let mut sender = Sender::<_, 8>::new(counting_writer());
+    let _ = sender.send(&300u32);
+    let _ = sender.send(&300u32);
+    sender.into_inner().into_inner().calls
+}
+
+/// How many writes a run of the program takes, of which each read gives so many bytes.
+fn writes_of_run(alloc: Global, mode: Mode, text: &[u8], each: usize) -> usize
+    requires { 0 < each }
+{
+    let mut said = [0u8; 8];
+    let reader = In::new(text, each, None);
+    let ran = run(
+        alloc,
+        mode,
+        false,
+        0,
+        reader,
+        counting_writer(),
+        Out::new(&mut said, 8, None),
+    );
+    ran.writer.into_inner().calls
+}
+
+/// Three frames of texts of a byte, of five bytes each.
+const TEXTS: &[u8] = b"\0\x03\x01a\0\0\x03\x01b\0\0\x03\x01c\0";
+
+#[test]
+fn pieces_are_offered_whole(rt: HostRuntime) {
+    let alloc = rt.alloc();
+    let found = [
+        writes_of_all(&[1; 300]) == 1,
+        writes_of_sends() == 3,
+        // lines wait for as many as there is room for
+        writes_of_run(alloc, Mode::Pack, b"a\nb\nc\n", 2) == 1,
+        // but for no later read where frames are read
+        writes_of_run(alloc, Mode::Unpack, TEXTS, 5) == 3,
+        writes_of_run(alloc, Mode::Strict, TEXTS, 15) == 1,
+    ];
+    check(&rt, all_true(found));
+}
+
+/// How many reads so many bytes take to their end.
+fn reads_to_end(alloc: Global, count: usize) -> usize {
+    let mut line = filling_reader(count);
+    let mut bytes = Vec::new(alloc);
+    let end = read_to_end(&mut line, &mut bytes);
+    if end != End::Ended || bytes.len() != count {
+        return 0;
+    }
+    line.into_inner().calls
+}
+
+/// How many reads it takes to receive so many bytes.
+fn reads_of_reception(alloc: Global, count: usize) -> usize {
+    receive::<u32, _, 8>(alloc, filling_reader(count))
+        .reader
+        .into_inner()
+        .calls
+}
+
+/// The same by the loop over an accumulator.
+fn reads_of_gathering(alloc: Global, count: usize) -> usize {
+    let got = receive_by_accumulator::<u32, _, 8>(alloc, filling_reader(count));
+    got.reader.into_inner().calls
+}
+
+#[test]
+fn rooms_are_offered_whole(rt: HostRuntime) {
+    let mut room = [0u8; 8];
+    let mut line = filling_reader(7);
+    let found = [
+        line.read(&mut room[..4]) == Some(4),
+        line.read_over(&mut room) == Some(3),
+        // 16384 bytes a read, and one that tells the end
+        reads_to_end(rt.alloc(), 40000) == 4,
+        // 1024
+        reads_of_reception(rt.alloc(), 3000) == 4,
+        reads_of_gathering(rt.alloc(), 3000) == 4,
+    ];
+    check(&rt, all_true(found));
+}

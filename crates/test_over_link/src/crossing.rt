@@ -1,0 +1,286 @@
+//! The types of `example_nested`, which hold one another, go over a line at three sentinels, and a pair that is lent. The
+//! bytes are as postcard's format has them.
+use crate::checks::{all_true, check, writes};
+use example_nested::messages::{Borrower, Deep, Drawing, Holders, Message, Point, Sample, Text};
+use line_io::memory::{In, Out};
+use link::{Answer, Sender, read_in_place_with_sentinel, receive_with_sentinel};
+use postcard::experimental::max_size::MaxSize;
+use postcard::fixint::{BE, LE};
+use postcard::{Deserialize, DeserializeOwned, Serialize, from_bytes, from_bytes_owned};
+use std::alloc::Global;
+
+/// The sentinels.
+const SENTINELS: [u8; 3] = [0, 0x0A, 0xFF];
+
+/// How many bytes a value's frame has on a line, if it was sent.
+fn send<T: Serialize>(value: &T, line: &mut [u8; 80], sentinel: u8) -> Option<usize> {
+    let mut sender = Sender::<_, 64>::new_with_sentinel(Out::new(line, 80, None), sentinel);
+    match sender.send(value) {
+        Ok(()) => Some(sender.into_inner().moved()),
+        Err(_) => None,
+    }
+}
+
+/// Whether a value of these bytes is heard alone on a line, read seven bytes at a time.
+fn hears<T: Serialize + DeserializeOwned>(
+    alloc: Global,
+    line: &[u8],
+    sentinel: u8,
+    bytes: &[u8],
+) -> bool {
+    let received = receive_with_sentinel::<T, _, 64>(alloc, In::new(line, 7, None), sentinel);
+    match received.answers.as_slice() {
+        [Answer::Value(value)] => writes(value, bytes),
+        _ => false,
+    }
+}
+
+/// Whether a value is heard as these bytes where it was sent at a sentinel.
+fn crosses_at<T: Serialize + DeserializeOwned>(
+    alloc: Global,
+    value: &T,
+    bytes: &[u8],
+    sentinel: u8,
+) -> bool {
+    let mut line = [0u8; 80];
+    let sent = send(value, &mut line, sentinel);
+    match sent.and_then(|count| line.get(..count)) {
+        Some(frame) => hears::<T>(alloc, frame, sentinel, bytes),
+        None => false,
+    }
+}
+
+/// Whether a value is written as these bytes, and crosses a line at each sentinel.
+fn crosses_as<T: Serialize + DeserializeOwned>(alloc: Global, value: &T, bytes: &[u8]) -> bool {
+    for sentinel in SENTINELS {
+        if !crosses_at(alloc, value, bytes, sentinel) {
+            return false;
+        }
+    }
+    writes(value, bytes)
+}
+
+/// The value of these bytes, if it is written as they are, and crosses a line at each sentinel.
+fn crossed<T: Serialize + DeserializeOwned>(alloc: Global, bytes: &[u8]) -> Option<T> {
+    match from_bytes_owned::<T>(alloc, bytes) {
+        Ok(value) if crosses_as(alloc, &value, bytes) => Some(value),
+        _ => None,
+    }
+}
+
+/// What a text is spelled as.
+const TEXT: &[u8] = &[2, 72, 105, 7];
+
+/// Whether it is what its bytes say.
+fn is_the_text(text: &Text) -> bool {
+    text.text.as_str() == "Hi" && text.kind == 7
+}
+
+fn text_crosses(alloc: Global) -> bool {
+    match crossed::<Text>(alloc, TEXT) {
+        Some(text) => is_the_text(&text),
+        None => false,
+    }
+}
+
+const DRAWING: &[u8] = &[
+    1, 1, 0, 0, 216, 4, 1, 1, 3, 0, 205, 171, 1, 2, 3, 4, 172, 2, 1, 0, 0, 0, 0, 0, 0, 0, 0, 0, 0,
+    0, 0, 0, 0, 0,
+];
+
+const LEFT: Point = Point {
+    x: -1,
+    is_seen: true,
+};
+
+const ORIGIN: Point = Point {
+    x: 0,
+    is_seen: false,
+};
+
+const RIGHT: Point = Point {
+    x: 300,
+    is_seen: true,
+};
+
+const CENTER: Point = Point {
+    x: -2,
+    is_seen: false,
+};
+
+const THE_DRAWING: Drawing = Drawing {
+    corners: [LEFT, ORIGIN, RIGHT],
+    center: Some(CENTER),
+    short: LE(0xABCD),
+    word: BE(0x0102_0304),
+    whole: 300,
+    long: LE(1),
+};
+
+fn drawing_crosses(alloc: Global) -> bool {
+    match crossed::<Drawing>(alloc, DRAWING) {
+        Some(drawing) => drawing == THE_DRAWING,
+        None => false,
+    }
+}
+
+/// 300 and -2 as their bytes, and three of its own.
+const SAMPLE: &[u8] = &[44, 1, 0, 0, 255, 254, 1, 2, 3];
+
+/// Whether a sample is what its bytes say.
+fn is_the_sample(sample: &Sample<u8, 3>) -> bool {
+    sample.at == 300 && sample.offset == -2 && sample.levels == [1, 2, 3]
+}
+
+fn sample_crosses(alloc: Global) -> bool {
+    match crossed::<Sample<u8, 3>>(alloc, SAMPLE) {
+        Some(sample) => is_the_sample(&sample),
+        None => false,
+    }
+}
+
+const DEEP: &[u8] = &[2, 72, 105, 7, 1, 2, 3, 4, 5, 6, 7, 8, 9, 10, 11, 12];
+
+#[test]
+fn structs(rt: HostRuntime) {
+    let alloc = rt.alloc();
+    let are_crossing = [
+        text_crosses(alloc),
+        drawing_crosses(alloc),
+        sample_crosses(alloc),
+        crossed::<Deep>(alloc, DEEP).is_some(),
+    ];
+    check(&rt, all_true(are_crossing));
+    check(&rt, Drawing::postcard_max_size() == Some(12 + 5 + 41));
+}
+
+/// A message of each variant.
+const MESSAGES: [&[u8]; 7] = [
+    &[0, 2, 72, 105, 7],
+    &[
+        1, 1, 1, 0, 0, 216, 4, 1, 1, 3, 0, 205, 171, 1, 2, 3, 4, 172, 2, 1, 0, 0, 0, 0, 0, 0, 0, 0,
+        0, 0, 0, 0, 0, 0, 0,
+    ],
+    &[
+        2, 2, 2, 72, 105, 7, 0, 0, 1, 1, 120, 1, 1, 172, 2, 1, 98, 2, 2, 72, 105, 7,
+    ],
+    &[3, 1, 1, 120, 1, 216, 4, 1],
+    // 300 as its bytes, the highest first
+    &[4, 0, 0, 0, 0, 0, 0, 1, 44],
+    // a seven that is there, and 300 as its bytes, the lowest first
+    &[5, 1, 7, 44, 1],
+    &[
+        6, 1, 2, 3, 4, 10, 0, 0, 0, 0, 0, 0, 0, 0, 0, 0, 0, 0, 0, 0, 0, 128, 1,
+    ],
+];
+
+/// Whether a text is this one.
+fn is_text(text: Option<&Text>, wanted: &str, kind: u8) -> bool {
+    match text {
+        Some(text) => text.text.as_str() == wanted && text.kind == kind,
+        None => false,
+    }
+}
+
+/// Whether they hold what their bytes say.
+fn are_the_holders(it: &Holders) -> bool {
+    it.texts.len() == 2
+        && is_text(it.texts.get(0), "Hi", 7)
+        && is_text(it.first.as_ref(), "x", 1)
+        && is_text(it.numbered.get(&300), "b", 2)
+        && is_the_text(&it.boxed)
+}
+
+/// Whether a message is what the bytes of its variant say.
+fn is_the_message(message: &Message, variant: usize) -> bool {
+    match message {
+        Message::Text(text) => variant == 0 && is_the_text(text),
+        Message::Drawing(drawing) => variant == 1 && *drawing == THE_DRAWING,
+        Message::Holders(holders) => variant == 2 && are_the_holders(holders),
+        Message::Seen { by, at } => { variant == 3 && is_text(by.as_ref(), "x", 1) && *at == RIGHT }
+        Message::Lost(number) => variant == 4 && *number == 300,
+        Message::Kept { parts, sum } => variant == 5 && *parts == Some(7) && *sum == 300,
+        Message::Numbers(word, long, whole) => {
+            variant == 6 && *word == BE(0x0102_0304) && *long == LE(10) && *whole == 128
+        }
+    }
+}
+
+/// Whether each of these messages crosses, and is what its bytes say.
+fn are_crossing(alloc: Global) -> bool {
+    for (variant, bytes) in MESSAGES.iter().enumerate() {
+        match crossed::<Message>(alloc, bytes) {
+            Some(message) if is_the_message(&message, variant) => {}
+            _ => return false,
+        }
+    }
+    true
+}
+
+#[test]
+fn variants(rt: HostRuntime) {
+    check(&rt, are_crossing(rt.alloc()));
+}
+
+/// Whether what lies in a frame is lent as these bytes.
+fn is_lent<'a, T: Serialize + Deserialize<&'a [u8]>>(
+    alloc: Global,
+    frame: &'a mut [u8],
+    sentinel: u8,
+    bytes: &[u8],
+) -> bool {
+    match read_in_place_with_sentinel::<T>(alloc, frame, sentinel) {
+        Some((Ok(Answer::Value(value)), _)) => writes(&value, bytes),
+        _ => false,
+    }
+}
+
+/// Whether the value of these bytes is sent at a sentinel.
+fn is_sent<'a, T: Serialize + Deserialize<&'a [u8]>>(
+    alloc: Global,
+    bytes: &'a [u8],
+    line: &mut [u8; 80],
+    sentinel: u8,
+) -> bool {
+    match from_bytes::<T>(alloc, bytes) {
+        Ok(value) => send(&value, line, sentinel).is_some(),
+        Err(_) => false,
+    }
+}
+
+/// Whether the value of these bytes crosses over this line, and lies there then.
+fn crosses_over<'a, T: Serialize + Deserialize<&'a [u8]>>(
+    alloc: Global,
+    bytes: &'a [u8],
+    line: &'a mut [u8; 80],
+    sentinel: u8,
+) -> bool {
+    is_sent::<T>(alloc, bytes, line, sentinel) && is_lent::<T>(alloc, line, sentinel, bytes)
+}
+
+const BORROWER: &[u8] = &[2, 72, 105, 7, 2, 0, 0, 1, 121, 9, 1, 1, 120, 1];
+
+const LENT_PAIR: &[u8] = &[2, 72, 105, 2, 0, 10];
+
+/// Whether what holds texts that are lent crosses at a sentinel.
+fn borrower_crosses(alloc: Global, sentinel: u8) -> bool {
+    let mut line = [0u8; 80];
+    crosses_over::<Borrower<'_, '_, Text>>(alloc, BORROWER, &mut line, sentinel)
+}
+
+/// Whether a text and bytes do.
+fn pair_crosses(alloc: Global, sentinel: u8) -> bool {
+    let mut line = [0u8; 80];
+    crosses_over::<(&str, &[u8])>(alloc, LENT_PAIR, &mut line, sentinel)
+}
+
+#[test]
+fn lent(rt: HostRuntime) {
+    let alloc = rt.alloc();
+    for sentinel in SENTINELS {
+        check(
+            &rt,
+            borrower_crosses(alloc, sentinel) && pair_crosses(alloc, sentinel),
+        );
+    }
+}

@@ -1,0 +1,133 @@
+//! What goes out, and what is heard of a line that is damaged: bytes by hand, from the rules.
+
+use crate::checks::check;
+use frames::{FrameEvent, FrameReceiver, FrameSender, encode, encode_with_sentinel, seal, unseal};
+use std::alloc::Global;
+
+// `hi` with its length; a send that broke off inside its block; three bytes that count as nine; nine bytes, which are too many; `yo`.
+const LINE: [u8; 30] = [
+    0, 4, 2, b'h', b'i', 0, 9, 7, 0, 5, 9, 1, 2, 3, 0, 1, 1, 1, 1, 1, 1, 1, 1, 1, 0, 4, 2, b'y',
+    b'o', 0,
+];
+
+// At which byte each event comes, of how long a stretch, and which it is.
+const HEARD: [(usize, usize, FrameEvent); 5] = [
+    (
+        5,
+        4,
+        FrameEvent::Message {
+            start: 1,
+            length: 2,
+        },
+    ),
+    (8, 2, FrameEvent::Damaged),
+    (14, 5, FrameEvent::Damaged),
+    (23, 8, FrameEvent::TooLong),
+    (
+        29,
+        4,
+        FrameEvent::Message {
+            start: 1,
+            length: 2,
+        },
+    ),
+];
+
+// Whether these are heard of the line, byte by byte.
+fn is_heard(alloc: Global) -> bool {
+    let mut receiver = FrameReceiver::new(0);
+    let mut buffer = [0u8; 8];
+    let mut count: usize = 0;
+    let mut is_right = true;
+    for (at, byte) in LINE.iter().enumerate() {
+        match receiver.push_byte(alloc, &mut buffer, *byte) {
+            Ok(push) => match push.event {
+                Some(event) => {
+                    is_right = is_right
+                        && count < 5
+                        && HEARD[count % 5] == (at, push.stretch, event);
+                    count = count.saturating_add(1);
+                }
+                None => {}
+            },
+            Err(_) => is_right = false,
+        }
+    }
+    is_right && count == 5 && receiver.begun_bytes() == 0 && !receiver.finish()
+}
+
+#[test]
+fn damaged_line(rt: HostRuntime) {
+    check(&rt, is_heard(rt.alloc()));
+}
+
+// Whether a piece brings about this first event, at the end of so many bytes.
+fn brings(alloc: Global, piece: &[u8], used: usize, wanted: FrameEvent, plain: bool) -> bool {
+    let mut receiver = FrameReceiver::new(0);
+    let mut buffer = [0u8; 8];
+    let pushed = if plain {
+        receiver.push_plain(&mut buffer, piece)
+    } else {
+        receiver.push(alloc, &mut buffer, piece)
+    };
+    match pushed {
+        Ok(push) => push.used == used && push.event == Some(wanted),
+        Err(_) => false,
+    }
+}
+
+#[test]
+fn pieces(rt: HostRuntime) {
+    let alloc = rt.alloc();
+    let message = FrameEvent::Message {
+        start: 1,
+        length: 2,
+    };
+    check(&rt, brings(alloc, &LINE, 6, message, false));
+    // a plain send of `pay`, zero, `me` that broke off behind five bytes, and the next one's zero
+    let pay = FrameEvent::Message {
+        start: 0,
+        length: 3,
+    };
+    check(
+        &rt,
+        brings(alloc, &[0, 4, b'p', b'a', b'y', 0], 6, pay, true),
+    );
+}
+
+#[test]
+fn sends(rt: HostRuntime) {
+    let mut sender = FrameSender::new(0);
+    let mut room = [0u8; 6];
+    check(&rt, sender.send(b"hi", &mut room[..5]).is_err());
+    check(
+        &rt,
+        sender.send(b"hi", &mut room) == Ok(6) && room == [0, 4, 2, b'h', b'i', 0],
+    );
+    sender.went_out();
+    check(
+        &rt,
+        sender.send_plain(b"hi", &mut room) == Ok(4) && room == [3, b'h', b'i', 0, b'i', 0],
+    );
+}
+
+#[test]
+fn frames_and_sums(rt: HostRuntime) {
+    let mut room = [0u8; 6];
+    check(
+        &rt,
+        encode(&[10, 11, 0, 12], &mut room) == Ok(5) && room == [3, 10, 11, 2, 12, 0],
+    );
+    let masked = encode_with_sentinel(&[10, 11, 0, 12], &mut room, 10);
+    check(&rt, masked == Ok(5) && room == [9, 0, 1, 8, 6, 0]);
+    let mut message = [b'h', b'i', 0, 0, 0, 0];
+    check(
+        &rt,
+        seal(&mut message, 2) == Ok(6) && unseal(&message) == Some(2),
+    );
+    message[0] = b'H';
+    check(
+        &rt,
+        unseal(&message).is_none() && seal(&mut message, 3).is_err(),
+    );
+}

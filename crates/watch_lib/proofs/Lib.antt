@@ -1,2 +1,0 @@
-pub mod DrawnLemmas
-pub mod SeenLemmas

@@ -1,7 +1,0 @@
-use Rattle.std.specs.List.{All}
-use Rattle.std.proofs.Common.{◌≡◌}
-use Rattle.watch_lib.proofs.kinds.rows_of.Given as goal
-
--- no message came of those that are there so far
-abbrev pub invariant-loop-name : goal.invariant-loop-name
-invariant-loop-name l = All (λ row. row.count ≡ 0) l.rows.items

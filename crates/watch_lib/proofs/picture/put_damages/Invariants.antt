@@ -1,6 +1,0 @@
-use Rattle.watch_lib.specs.Pictures.{Fits}
-use Rattle.watch_lib.proofs.picture.put_damages.Given as goal
-
--- what is there so far can be shown
-abbrev pub invariant-loop-told : goal.invariant-loop-told
-invariant-loop-told l = Fits l.view.columns l.lines.items

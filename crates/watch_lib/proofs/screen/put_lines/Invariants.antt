@@ -1,7 +1,0 @@
-use Rattle.std.proofs.Common.{◌≡◌, ◌++◌, drop}
-use Rattle.watch_lib.specs.Drawn.{lines_over}
-use Rattle.watch_lib.proofs.screen.put_lines.Given as goal
-
--- what was appended, and what the lines that are left append
-abbrev pub invariant-loop-line : goal.invariant-loop-line
-invariant-loop-line l = l.out.items ++ lines_over (drop l.line-index l.lines) ≡ l.fn.out.items ++ lines_over l.lines

@@ -1,0 +1,113 @@
+//! Lines as frames or messages.
+use crate::devices::{ROOM, read_some, read_whole, say, say_wrongs};
+use crate::stop::{Stop, wrong};
+use wire_lib::raw::message_of;
+use wire_lib::send::{FramesOfLines, Sending};
+use wire_lib::words::Options;
+use wire_lib::wrong::{ParseError, put_wrong};
+
+/// Writes bytes, as they are or as hexadecimal text, and forgets them.
+fn put(rt: &HostRuntime, hex: bool, bytes: &mut Vec<u8>) -> Result<(), Stop> {
+    if hex {
+        let digits = hex::encode(rt.alloc(), bytes.as_slice())?;
+        say(rt, digits.as_bytes())?;
+    } else {
+        say(rt, bytes)?;
+    }
+    bytes.clear();
+    Ok(())
+}
+
+/// Makes frames of lines as they come. Those of each read are written at its end.
+fn send_reads(
+    rt: &HostRuntime,
+    sender: &mut FramesOfLines<'_>,
+    hex: bool,
+    frames: &mut Vec<u8>,
+    wrongs: &mut String,
+) -> Result<(), Stop> {
+    let mut room = [0u8; ROOM];
+    for _ in 0..u64::MAX {
+        let count = read_some(rt, &mut room)?;
+        if count == 0 {
+            break;
+        }
+        let pushed = sender.push(room.get(..count).unwrap_or(&[]), frames, wrongs);
+        put(rt, hex, frames)?;
+        say_wrongs(rt, wrongs)?;
+        pushed?;
+    }
+    Ok(())
+}
+
+/// Makes a frame of each line, and says whether all were values. The first has a sentinel before it.
+fn write_frames(rt: &HostRuntime, sending: Sending<'_>, hex: bool) -> Result<bool, Stop> {
+    let mut frames = Vec::from_elem(rt.alloc(), sending.sentinel, 1)?;
+    let mut wrongs = String::new(rt.alloc());
+    put(rt, hex, &mut frames)?;
+    let mut sender = FramesOfLines::new(sending);
+    send_reads(rt, &mut sender, hex, &mut frames, &mut wrongs)?;
+    let finished = sender.finish(&mut frames, &mut wrongs);
+    put(rt, hex, &mut frames)?;
+    say_wrongs(rt, &mut wrongs)?;
+    let is_good = finished?;
+    if hex {
+        say(rt, b"\n")?;
+    }
+    Ok(is_good)
+}
+
+/// Writes the message of a line, with a line feed behind its digits, or says what is wrong with the line; and whether it is one.
+fn write_message(
+    rt: &HostRuntime,
+    sending: Sending<'_>,
+    hex: bool,
+    number: u64,
+    line: &str,
+) -> Result<bool, Stop> {
+    let mut wrongs = String::new(rt.alloc());
+    match message_of(sending, line.as_bytes()) {
+        Ok(mut message) => {
+            put(rt, hex, &mut message)?;
+            if hex {
+                say(rt, b"\n")?;
+            }
+            Ok(true)
+        }
+        Err(ParseError::Wrong(why)) => {
+            put_wrong(&mut wrongs, number, &why)?;
+            say_wrongs(rt, &mut wrongs)?;
+            Ok(false)
+        }
+        Err(ParseError::OutOfMemory) => Err(Stop::NoMemory),
+    }
+}
+
+/// Makes a message of each line: one alone, unless they are digits.
+fn write_messages(rt: &HostRuntime, sending: Sending<'_>, hex: bool) -> Result<bool, Stop> {
+    let whole = read_whole(rt)?;
+    let Ok(text) = str::from_utf8(&whole) else {
+        return Err(wrong(rt, &["standard input isn't text in UTF-8\n"]));
+    };
+    if !hex && text.lines().count() != 1 {
+        return Err(wrong(
+            rt,
+            &["`raw` without `hex` makes one message: standard input is to be one line\n"],
+        ));
+    }
+    let mut is_good = true;
+    let mut number: u64 = 0;
+    for line in text.lines() {
+        number = number.saturating_add(1);
+        is_good &= write_message(rt, sending, hex, number, line)?;
+    }
+    Ok(is_good)
+}
+
+/// Makes a frame or a message of each line, and says whether all were values.
+pub fn write(rt: &HostRuntime, sending: Sending<'_>, options: Options<'_>) -> Result<bool, Stop> {
+    if options.raw {
+        return write_messages(rt, sending, options.hex);
+    }
+    write_frames(rt, sending, options.hex)
+}

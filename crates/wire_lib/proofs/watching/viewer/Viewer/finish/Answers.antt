@@ -1,0 +1,30 @@
+use Rattle.std.proofs.Common.{◌≡◌, ◌<◌, ◌∷◌, [], ◌++◌, false, refl, sym, ap, ◌∙◌, subst, arith}
+use Rattle.link.specs.Stream.{begun}
+use Rattle.link.specs.Pushes.{begun_length}
+use Rattle.link.specs.declared.receiver.Answer.TheVariants as answer
+use Rattle.wire_lib.specs.Received.{are_all_values}
+use Rattle.wire_lib.specs.Seen.{HasCounted}
+use Rattle.wire_lib.proofs.SeenLemmas.{good_counted, damage_counts, adds_cut, counted_plain, cut_is_bad}
+use Rattle.wire_lib.proofs.watching.viewer.Viewer.finish.Goals as goal
+
+pub returns-then-begun-eq0-clause-good : goal.returns-then-begun-eq0-clause-good
+returns-then-begun-eq0-clause-good c stream answers h =
+    let v = c.args.self.now in
+    let b = begun 65536 v.reading.sentinel stream in
+    let none : begun_length b ≡ 0 = omega (arith, c.begun_bytes-begun.ensures 65536 v.reading.sentinel stream h.hears.after, c.if-begun-eq0.true) in
+    good_counted v.table _ (counted_plain v.table answers b none h.counted)
+
+pub returns-clause-counted : goal.returns-clause-counted
+returns-clause-counted c stream answers h =
+    let v = c.args.self.now in
+    let new = c.hear_damage.new.self.table in
+    let s = v.reading.sentinel in
+    let some : 0 < begun_length (begun 65536 s stream) = omega (arith, c.begun_bytes-begun.ensures 65536 s stream h.hears.after, c.if-begun-eq0.false) in
+    subst (λ x. HasCounted new (answers ++ x)) (sym (adds_cut (begun 65536 s stream) some))
+    (damage_counts v.table new answer.Cut refl (λ k. refl) c.in_ok-hear_damage.ensures.damaged c.hear_damage.ensures.rows answers h.counted)
+
+pub returns-clause-good : goal.returns-clause-good
+returns-clause-good c stream answers h =
+    let s = c.args.self.now.reading.sentinel in
+    let some : 0 < begun_length (begun 65536 s stream) = omega (arith, c.begun_bytes-begun.ensures 65536 s stream h.hears.after, c.if-begun-eq0.false) in
+    subst (λ x. false ≡ are_all_values (answers ++ x)) (sym (adds_cut (begun 65536 s stream) some)) (cut_is_bad answers)

@@ -1,0 +1,15 @@
+use Rattle.std.proofs.Common.{◌≡◌, ℕ, List, ◌++◌, length}
+use Rattle.link.specs.declared.receiver.Answer.{Answer}
+use Rattle.schemas.specs.declared.value.Value.{Value}
+use Rattle.wire_lib.specs.Seen.{HasSeen, reading_of}
+use Rattle.wire_lib.proofs.watching.viewer.Viewer.push.Given as goal
+
+-- what is left of the piece, and that what came before it was seen
+abbrev pub invariant-loop-rest : goal.invariant-loop-rest
+invariant-loop-rest l =
+    (done : List ℕ) × (l.fn.piece ≡ done ++ l.rest) × (reading_of l.self ≡ reading_of l.fn.self)
+    × ((stream : List ℕ) (answers : List (Answer Value)) → HasSeen l.fn.self stream answers
+    → (more : List (Answer Value)) × HasSeen l.self (stream ++ done) (answers ++ more))
+
+abbrev pub decreases-loop-rest : goal.decreases-loop-rest
+decreases-loop-rest l = length l.rest

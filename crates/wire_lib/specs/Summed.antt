@@ -1,0 +1,42 @@
+-- Messages with a checksum behind the value.
+use Rattle.std.specs.Prelude.{◌≡◌, ℕ, ◌-◌, Bool, true, false, List, ◌++◌, length, take, drop}
+use Rattle.postcard_tree.specs.Tree.{Tree}
+use Rattle.postcard_tree.specs.Spelling.{short}
+use Rattle.postcard_tree.specs.Fixed.{little_endian}
+use Rattle.link.specs.Judged.{FrontLaws}
+use Rattle.sealed.specs.Checksum.{sum_of_bytes}
+
+-- bytes with their CRC-32 behind them, the lowest byte first
+abbrev pub with_sum : List ℕ → List ℕ
+with_sum bytes = bytes ++ little_endian 4 (sum_of_bytes bytes)
+
+-- the last four bytes are the CRC-32 of those before them
+abbrev pub EndsInSum : List ℕ → Type 0
+EndsInSum bytes = drop (length bytes - 4) bytes ≡ little_endian 4 (sum_of_bytes (take (length bytes - 4) bytes))
+
+-- a tree whose shortest spelling ends so, where a sum is wanted
+abbrev pub IsSummed : Bool → Tree → Type 0
+IsSummed false t = Unit {0}
+IsSummed true t = EndsInSum (short t)
+
+-- a tree that is taken, and ends so
+abbrev pub TakesSummed : Bool → (Tree → Type 0) → Tree → Type 0
+TakesSummed summed takes t = takes t × IsSummed summed t
+
+-- the value that such a tree is read as
+abbrev pub ReadsSummed : {V : Type 0} → Bool → (Tree → V → Type 0) → Tree → V → Type 0
+ReadsSummed summed reads t v = reads t v × IsSummed summed t
+
+-- its laws
+pub summed_laws : {V : Type 0} {takes : Tree → Type 0} {reads : Tree → V → Type 0} (summed : Bool)
+    → FrontLaws takes reads → FrontLaws (TakesSummed summed takes) (ReadsSummed summed reads)
+summed_laws summed laws = record {
+  taken = λ t v h. (laws.taken t v h.0, h.1);
+  trees = λ t h. laws.trees t h.0;
+  once = λ t u a b x y p q. laws.once t u a b x y p.0 q.0;
+}
+
+-- a message, with its sum where one is wanted
+abbrev pub message_with : Bool → List ℕ → List ℕ
+message_with false bytes = bytes
+message_with true bytes = with_sum bytes

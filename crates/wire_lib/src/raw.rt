@@ -1,0 +1,125 @@
+//! Messages without frames.
+ghost use Rattle.std.specs.Prelude.{◌≡◌, true, IfOk, OnOk};
+ghost use Rattle.postcard_de.specs.Answer.{ReadsFront};
+ghost use Rattle.wire_lib.specs.Received.{read_by};
+ghost use Rattle.wire_lib.specs.Raw.{ShowsWhole, IsMessageToSend};
+
+use crate::parse::parse;
+use crate::receive::{Reading, put_stretch_line, put_value_line};
+use crate::send::Sending;
+use crate::summed::{kept, put_sum};
+use crate::table::TableReader;
+use crate::wrong::ParseError;
+use postcard::{Error, to_allocvec};
+use schemas::{Value, take_from_bytes};
+use std::alloc::AllocError;
+use std::cell::Cell;
+
+/// Whether a message is what is written of a value.
+fn is_written(reading: Reading<'_>, value: &Value, message: &[u8]) -> Result<bool, AllocError> {
+    match to_allocvec(reading.alloc, value) {
+        Ok(written) => Ok(*written == *message),
+        Err(_) => Err(AllocError),
+    }
+}
+
+/// What a message is that isn't read.
+fn what_of(reading: Reading<'_>, error: Error, message: &[u8]) -> &'static str {
+    let is_deep = Cell::new(false);
+    let table = TableReader {
+        nodes: &reading.schema.nodes,
+        place: reading.place,
+        depth: reading.depth,
+        is_deep: &is_deep,
+        summed: reading.summed,
+    };
+    if matches!(error, Error::SerdeDeCustom) {
+        table.note_depth(reading.alloc, message);
+    }
+    if is_deep.get() { "too_deep" } else { "damaged" }
+}
+
+/// The value in front of a message, and what is left of that.
+fn take_kept<'a>(reading: Reading<'_>, message: &'a [u8]) -> postcard::Result<(Value, &'a [u8])>
+    ensures { IfOk result (λ p. ReadsFront (read_by reading.entry) message.now p.1.now p.0) }
+{
+    let Reading {
+        alloc,
+        schema,
+        place,
+        depth,
+        summed,
+        ..
+    } = reading;
+    let (value, rest) = take_from_bytes(alloc, &schema.nodes, place, depth, message)?;
+    match kept(alloc, summed, value) {
+        Ok(value) => Ok((value, rest)),
+        Err(error) => Err(error),
+    }
+}
+
+/// Appends the line of a message that stands by itself, and answers whether it is a value of the type to its last byte:
+/// `{"value": ..}`, and behind it `{"rest": {"from": .., "to": ..}}` if bytes are left; else `damaged` or `too_deep`, with all bytes
+/// of the message. With `strict` a message is damaged that isn't what is written of its value.
+///
+/// # Errors
+///
+/// Out of memory.
+pub fn put_message(
+    reading: Reading<'_>,
+    message: &[u8],
+    text: &mut Vec<u8>,
+    lines: &mut Vec<u8>,
+) -> Result<bool, AllocError>
+    ensures good { IfOk result (λ good. good ≡ true
+        → ShowsWhole reading.entry message.now lines.old.items lines.new.items) }
+{
+    let alloc = reading.alloc;
+    let to = message.len() as u64;
+    match take_kept(reading, message) {
+        Ok((value, rest)) => {
+            if reading.strict && !is_written(reading, &value, message)? {
+                put_stretch_line(alloc, "damaged", 0, to, lines)?;
+                return Ok(false);
+            }
+            put_value_line(reading, &value, text, lines)?;
+            if rest.is_empty() {
+                return Ok(true);
+            }
+            let from = to.saturating_sub(rest.len() as u64);
+            put_stretch_line(alloc, "rest", from, to, lines)?;
+            Ok(false)
+        }
+        Err(Error::OutOfMemory) => Err(AllocError),
+        Err(error) => {
+            put_stretch_line(alloc, what_of(reading, error, message), 0, to, lines)?;
+            Ok(false)
+        }
+    }
+}
+
+/// The message of the value of the type that a line of JSON is, without a frame.
+///
+/// # Errors
+///
+/// That of [`parse`], or out of memory.
+pub fn message_of(sending: Sending<'_>, line: &[u8]) -> Result<Vec<u8>, ParseError>
+    ensures { IfOk result (λ message. IsMessageToSend sending.entry message.items) }
+{
+    let Sending {
+        alloc,
+        schema,
+        place,
+        depth,
+        summed,
+        ..
+    } = sending;
+    let value = parse(alloc, schema, place, depth, line)?;
+    let Ok(mut message) = to_allocvec(alloc, &value) else {
+        return Err(ParseError::OutOfMemory);
+    };
+    if summed {
+        put_sum(&mut message)?;
+    }
+    Ok(message)
+}

@@ -1,0 +1,224 @@
+//! A table of types as JSON, for other tools.
+use crate::sizes::greatest_sizes;
+use json::Writer;
+use schema_table::{IntegerType, Names, Node, Schema};
+use std::alloc::{AllocError, Global};
+
+type Put = Result<(), AllocError>;
+
+/// The version of the form.
+const VERSION: u64 = 1;
+
+/// Appends a member that is a number.
+fn put_number(out: &mut Writer, name: &str, number: u64) -> Put {
+    out.key(name)?;
+    out.u64(number)
+}
+
+/// Appends a member that is a number, or `null`.
+fn put_maybe(out: &mut Writer, name: &str, number: Option<u64>) -> Put {
+    out.key(name)?;
+    match number {
+        Some(number) => out.u64(number),
+        None => out.null(),
+    }
+}
+
+/// Appends a member that is a text.
+fn put_text(out: &mut Writer, name: &str, text: &str) -> Put {
+    out.key(name)?;
+    out.string(text)
+}
+
+/// Appends what a node is.
+fn put_kind(out: &mut Writer, kind: &str) -> Put {
+    put_text(out, "kind", kind)
+}
+
+/// Appends an object of a name and a place.
+fn put_named(out: &mut Writer, name: &str, node: usize) -> Put {
+    out.begin_object()?;
+    put_text(out, "name", name)?;
+    put_number(out, "node", node as u64)?;
+    out.end_object()
+}
+
+/// Appends a member that lists places by names.
+fn put_parts(out: &mut Writer, of: &str, names: &[String], places: &[usize]) -> Put {
+    out.key(of)?;
+    out.begin_array()?;
+    for (name, place) in names.iter().zip(places) {
+        put_named(out, name.as_str(), *place)?;
+    }
+    out.end_array()
+}
+
+/// Appends a member that lists places.
+fn put_places(out: &mut Writer, places: &[usize]) -> Put {
+    out.key("nodes")?;
+    out.begin_array()?;
+    for place in places {
+        out.u64(*place as u64)?;
+    }
+    out.end_array()
+}
+
+/// The name of an integer type.
+fn integer_name(of: IntegerType) -> &'static str {
+    match of {
+        IntegerType::U16 => "u16",
+        IntegerType::U32 => "u32",
+        IntegerType::U64 => "u64",
+        IntegerType::U128 => "u128",
+        IntegerType::I16 => "i16",
+        IntegerType::I32 => "i32",
+        IntegerType::I64 => "i64",
+        IntegerType::I128 => "i128",
+    }
+}
+
+/// Appends an integer whose bytes stand as they are, or a float.
+fn put_fixed(out: &mut Writer, names: &Names, of: IntegerType, order: &str) -> Put {
+    match (names, of) {
+        (Names::Float, IntegerType::U32) => put_kind(out, "f32"),
+        (Names::Float, IntegerType::U64) => put_kind(out, "f64"),
+        _ => {
+            put_kind(out, "fixed")?;
+            put_text(out, "integer", integer_name(of))?;
+            put_text(out, "order", order)
+        }
+    }
+}
+
+/// Appends a list or a map, by the place of what it holds.
+fn put_list(out: &mut Writer, names: &Names, most: Option<u64>, inner: usize) -> Put {
+    put_kind(
+        out,
+        match names {
+            Names::Map => "map",
+            _ => "list",
+        },
+    )?;
+    put_maybe(out, "most", most)?;
+    put_number(out, "node", inner as u64)
+}
+
+/// Appends an array.
+fn put_array(out: &mut Writer, count: u64, inner: usize) -> Put {
+    put_kind(out, "array")?;
+    put_number(out, "count", count)?;
+    put_number(out, "node", inner as u64)
+}
+
+/// Appends a struct or a tuple.
+fn put_struct(out: &mut Writer, names: &Names, places: &[usize]) -> Put {
+    match (names, places) {
+        (Names::Empty, _) => put_kind(out, "empty"),
+        (Names::Unit, _) => put_kind(out, "unit"),
+        (Names::Newtype, [only]) => {
+            put_kind(out, "newtype")?;
+            put_number(out, "node", *only as u64)
+        }
+        (Names::Fields(names), _) => {
+            put_kind(out, "struct")?;
+            put_parts(out, "fields", names, places)
+        }
+        _ => {
+            put_kind(out, "tuple")?;
+            put_places(out, places)
+        }
+    }
+}
+
+/// Appends an enum.
+fn put_enum(out: &mut Writer, names: &Names, places: &[usize]) -> Put {
+    put_kind(out, "enum")?;
+    match names {
+        Names::Variants(names) => put_parts(out, "variants", names, places),
+        _ => put_places(out, places),
+    }
+}
+
+/// Appends a text that is bounded or isn't.
+fn put_any_text(out: &mut Writer, most: Option<u64>) -> Put {
+    put_kind(out, "text")?;
+    put_maybe(out, "most", most)
+}
+
+/// The name of a node that has no parts.
+fn plain_name(node: &Node) -> &'static str {
+    match node {
+        Node::Bool => "bool",
+        Node::U8 => "u8",
+        Node::U16 => "u16",
+        Node::U32 => "u32",
+        Node::U64 => "u64",
+        Node::U128 => "u128",
+        Node::I8 => "i8",
+        Node::I16 => "i16",
+        Node::I32 => "i32",
+        Node::I64 => "i64",
+        Node::I128 => "i128",
+        Node::Char => "char",
+        _ => "bytes",
+    }
+}
+
+/// Appends what a node is, with its parts.
+fn put_node(out: &mut Writer, names: &Names, node: &Node) -> Put {
+    match node {
+        Node::LE(of) => put_fixed(out, names, *of, "little"),
+        Node::BE(of) => put_fixed(out, names, *of, "big"),
+        Node::Text => put_any_text(out, None),
+        Node::TextUpTo(most) => put_any_text(out, Some(*most)),
+        Node::Option(inner) => {
+            put_kind(out, "option")?;
+            put_number(out, "node", *inner as u64)
+        }
+        Node::List(inner) => put_list(out, names, None, *inner),
+        Node::ListUpTo(most, inner) => put_list(out, names, Some(*most), *inner),
+        Node::Array(count, inner) => put_array(out, *count, *inner),
+        Node::Struct(fields) => put_struct(out, names, fields),
+        Node::Enum(payloads) => put_enum(out, names, payloads),
+        _ => put_kind(out, plain_name(node)),
+    }
+}
+
+/// Appends the declared types, each by its name, its line, and its place.
+fn put_types(out: &mut Writer, schema: &Schema) -> Put {
+    out.key("types")?;
+    out.begin_array()?;
+    for (place, it) in schema.types.iter().enumerate() {
+        out.begin_object()?;
+        put_text(out, "name", it.name.as_str())?;
+        put_number(out, "line", it.line as u64)?;
+        put_number(out, "node", place as u64)?;
+        out.end_object()?;
+    }
+    out.end_array()
+}
+
+/// Appends the nodes, each with its greatest size.
+fn put_nodes(out: &mut Writer, schema: &Schema, sizes: &[Option<u64>]) -> Put {
+    out.key("nodes")?;
+    out.begin_array()?;
+    for ((node, names), size) in schema.nodes.iter().zip(&schema.names).zip(sizes) {
+        out.begin_object()?;
+        put_node(out, names, node)?;
+        put_maybe(out, "size", *size)?;
+        out.end_object()?;
+    }
+    out.end_array()
+}
+
+/// A table of types as one line of JSON: `{"version":1,"types":[..],"nodes":[..]}`. README.md says what stands in it.
+pub fn table_json(alloc: Global, schema: &Schema) -> Result<Vec<u8>, AllocError> {
+    let sizes = greatest_sizes(alloc, &schema.nodes)?;
+    let mut out = Writer::new(Vec::new(alloc));
+    out.begin_object()?;
+    put_number(&mut out, "version", VERSION)?;
+    put_types(&mut out, schema)?;
+    put_nodes(&mut out, schema, &sizes)?;
+    out.end_object()?;
+    Ok(out.into_inner())
+}

@@ -1,0 +1,80 @@
+//! Texts as they may be shown: in printable ASCII alone, so that each byte takes one column and nothing drives a terminal.
+ghost use Rattle.std.specs.Prelude.{◌≡◌, ℕ, ◌≤◌, ◌↔◌, List, length, true, OnOk, IfOk};
+ghost use Rattle.wire_lib.specs.Printable.{IsPrintable, ArePrintable};
+
+use std::alloc::{AllocError, Global};
+
+/// Whether a character is shown as it is.
+fn is_plain(character: char) -> bool
+    ensures { result ≡ true ↔ IsPrintable character }
+{
+    character >= ' ' && character <= '~'
+}
+
+/// The last hexadecimal digit of a number.
+fn digit(number: u16) -> u8
+    ensures { IsPrintable result }
+{
+    let last = (number % 16) as u8;
+    if last < 10 {
+        b'0' + last
+    } else {
+        b'a' + (last - 10)
+    }
+}
+
+/// Appends a unit of UTF-16 as JSON escapes it.
+fn put_escape(line: &mut Vec<u8>, unit: u16) -> Result<(), AllocError>
+    ensures printable { ArePrintable line.old.items → ArePrintable line.new.items }
+{
+    let escape = [
+        b'\\',
+        b'u',
+        digit(unit / 4096),
+        digit(unit / 256),
+        digit(unit / 16),
+        digit(unit),
+    ];
+    line.extend_from_slice(&escape)
+}
+
+/// Appends a character by its escapes.
+fn put_escaped(line: &mut Vec<u8>, character: char) -> Result<(), AllocError>
+    ensures printable { ArePrintable line.old.items → ArePrintable line.new.items }
+{
+    let mut units = [0u16; 2];
+    match character.encode_utf16(&mut units) {
+        [unit] => put_escape(line, *unit),
+        [high, low] => {
+            put_escape(line, *high)?;
+            put_escape(line, *low)
+        }
+        _ => Ok(()),
+    }
+}
+
+/// Appends a character, as it is or by its escapes.
+fn put(line: &mut Vec<u8>, character: char) -> Result<(), AllocError>
+    ensures printable { ArePrintable line.old.items → ArePrintable line.new.items }
+{
+    if is_plain(character) {
+        return Ok(line.push(character as u8)?);
+    }
+    put_escaped(line, character)
+}
+
+/// A text as one line of so many columns at most: what is no printable character of ASCII is shown as JSON escapes it.
+pub fn printable(alloc: Global, text: &str, columns: usize) -> Result<Vec<u8>, AllocError>
+    ensures printable { IfOk result (λ line. ArePrintable line.items) }
+    ensures fits { IfOk result (λ line. length line.items ≤ columns) }
+{
+    let mut line = Vec::new(alloc);
+    for character in text.chars() {
+        if line.len() >= columns {
+            break;
+        }
+        put(&mut line, character)?;
+    }
+    line.truncate(columns);
+    Ok(line)
+}

@@ -1,0 +1,89 @@
+//! What is kept of the messages that came: of each kind the last, how many, and how fast; and the last damages.
+ghost use Rattle.std.specs.Prelude.{◌≡◌, ℕ, ◌+◌, ◌<◌, ◌≤◌, List, [], ◌∷◌, ◌++◌, length, slice_set, slice_index_or, OnOk};
+ghost use Rattle.wire_lib.specs.Rates.{capped, HasTimed};
+ghost use Rattle.wire_lib.specs.Tables.{IsNoted, last_of};
+
+use crate::watching::rate::Rate;
+use std::alloc::{AllocError, Global};
+
+/// How many damages are kept.
+pub const DAMAGES: usize = 3;
+
+/// A kind of messages.
+#[derive(Drop)]
+pub struct Row {
+    /// What it is called.
+    pub name: String,
+    /// How many came.
+    pub count: u64,
+    /// What the last one said.
+    pub last: String,
+    /// How fast they come.
+    pub rate: Rate,
+}
+
+impl Row {
+    /// A kind of which none came.
+    pub fn new(name: String, alloc: Global) -> Row
+        ensures name { result.name ≡ name }
+        ensures count { result.count ≡ 0 }
+        ensures rate { HasTimed result.rate [] }
+    {
+        Row {
+            name,
+            count: 0,
+            last: String::new(alloc),
+            rate: Rate::new(),
+        }
+    }
+
+    /// Notes a message of this kind.
+    pub fn note(&mut self, last: String, window: u64)
+        ensures { IsNoted last window self.old self.new }
+    {
+        self.count = self.count.saturating_add(1);
+        self.last = last;
+        self.rate.note(window);
+    }
+}
+
+/// The kinds of messages, and the damages.
+#[derive(Drop)]
+pub struct Table {
+    /// The kinds.
+    pub rows: Vec<Row>,
+    /// How many stretches were no message.
+    pub damaged: u64,
+    /// What is told of the last of them.
+    pub damages: Vec<String>,
+}
+
+impl Table {
+    /// Notes a message of the kind at that place; none where there is no such kind.
+    pub fn note(&mut self, kind: usize, last: String, window: u64)
+        ensures noted { kind < length self.old.rows.items → (old new : Row)
+            × (old ≡ slice_index_or self.old.rows.items kind old) × IsNoted last window old new
+            × (self.new.rows.items ≡ slice_set self.old.rows.items kind new) }
+        ensures none { length self.old.rows.items ≤ kind → self.new.rows ≡ self.old.rows }
+        ensures damaged { self.new.damaged ≡ self.old.damaged }
+        ensures damages { self.new.damages ≡ self.old.damages }
+    {
+        if kind < self.rows.len() {
+            self.rows[kind].note(last, window);
+        }
+    }
+
+    /// Notes a stretch that is no message.
+    pub fn note_damage(&mut self, told: String) -> Result<(), AllocError>
+        ensures damaged { self.new.damaged ≡ capped (self.old.damaged + 1) }
+        ensures damages { length self.old.damages.items ≤ 3 → OnOk result
+            (self.new.damages.items ≡ last_of 3 (self.old.damages.items ++ told ∷ [])) }
+        ensures rows { self.new.rows ≡ self.old.rows }
+    {
+        self.damaged = self.damaged.saturating_add(1);
+        if self.damages.len() >= DAMAGES {
+            let _ = self.damages.remove(0);
+        }
+        Ok(self.damages.push(told)?)
+    }
+}
