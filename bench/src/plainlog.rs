@@ -1,8 +1,9 @@
 //! A log of lines as plain Rust writes one: each record its length, the CRC-32 of its payload, and the payload (its number and its
-//! text); synced and printed record by record, as `records append` does.
+//! text); synced and printed as `records append` does: lines that are there already share a sync.
 //!
 //! usage: plainlog append FILE, or plainlog show FILE
 use std::env;
+use std::fmt::Write as _;
 use std::fs::{File, OpenOptions};
 use std::io::{self, BufRead, BufReader, Read, Write};
 use std::process::ExitCode;
@@ -63,19 +64,32 @@ fn append(path: &str) -> io::Result<()> {
         }
     }
     let mut record = Vec::new();
-    for line in io::stdin().lock().lines() {
-        let line = line?;
+    let mut line = Vec::new();
+    let mut first = number;
+    let mut input = BufReader::with_capacity(65536, io::stdin());
+    while input.read_until(b'\n', &mut line)? > 0 {
+        if line.last() == Some(&b'\n') {
+            line.pop();
+        }
         payload.clear();
         payload.extend_from_slice(&number.to_le_bytes());
-        payload.extend_from_slice(line.as_bytes());
+        payload.extend_from_slice(&line);
         record.clear();
         record.extend_from_slice(&(payload.len() as u32).to_le_bytes());
         record.extend_from_slice(&crc32(&payload).to_le_bytes());
         record.extend_from_slice(&payload);
         file.write_all(&record)?;
-        file.sync_all()?;
-        println!("{number}");
         number += 1;
+        line.clear();
+        if !input.buffer().contains(&b'\n') {
+            file.sync_all()?;
+            let mut numbers = String::new();
+            for number in first..number {
+                writeln!(numbers, "{number}").unwrap();
+            }
+            io::stdout().write_all(numbers.as_bytes())?;
+            first = number;
+        }
     }
     Ok(())
 }

@@ -1,4 +1,4 @@
-//! A server of sealed requests, by hand: each has its number inside too, and a sum of both.
+//! A server of sealed requests, by hand: each has its number inside too, and a sum of both; in a reply the number inside is one above.
 use super::remote::{number, read, Line, Receiver, Spelling, EACH};
 use super::sums::by_bytes;
 use crate::remote::Counted;
@@ -36,7 +36,7 @@ fn send_reply(line: &mut Line<'_>, (called, even, said): (u64, bool, u64)) {
     let mut spelling = Spelling::new();
     spelling.number(called);
     let start = spelling.len;
-    spelling.number(called);
+    spelling.number(called.wrapping_add(1));
     spelling.number(even.into());
     spelling.number(said);
     spelling.seal(start);
