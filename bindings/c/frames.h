@@ -14,7 +14,7 @@
  * What no frame promises. A byte that was changed on the line may make the frame of another message, counted or not. Where that may
  * not be, seal each message: frames_seal before it is sent, frames_unseal of what is heard.
  *
- * Targets: x86-64 and aarch64. A 32-bit microcontroller can't link the library; bindings/c/README.md has a sender of ten lines for one.
+ * Targets: x86-64 and aarch64. A 32-bit microcontroller can't link the library; frames_small.h is for one.
  *
  * No call allocates, keeps a pointer, prints, waits, or stops the process. None has state of its own: what has to be remembered
  * stands in a struct of yours. Calls on different structs and buffers may run at the same time.
@@ -34,6 +34,10 @@
 
 #ifdef __cplusplus
 extern "C" {
+#if defined(__GNUC__) && !defined(__clang__)
+#pragma GCC diagnostic push
+#pragma GCC diagnostic ignored "-Wshadow" /* a struct and a function of one name, as C has them */
+#endif
 #endif
 
 /* What a call answers. */
@@ -127,16 +131,16 @@ struct frames_written frames_c_unseal(const uint8_t *message, size_t length);
 /* ---- What to call. Each looks for null pointers and calls the function of its name. ---- */
 
 /* Whether a buffer may be handed on. */
-static inline bool frames_is_there(const void *bytes, size_t length) { return bytes != NULL || length == 0; }
+static inline bool frames_is_there(const void *bytes, size_t length) { return bytes || length == 0; }
 
 /* A pointer that isn't null, in place of one to nothing. */
 static inline const uint8_t *frames_from(const uint8_t *bytes) {
     static const uint8_t nothing = 0;
-    return bytes != NULL ? bytes : &nothing;
+    return bytes ? bytes : &nothing;
 }
 static inline uint8_t *frames_to(uint8_t *bytes) {
     static uint8_t nothing; /* never written: its length is 0 */
-    return bytes != NULL ? bytes : &nothing;
+    return bytes ? bytes : &nothing;
 }
 
 /* The most bytes that the frame of a message of so many bytes has; 0 where no message is so long. The longest send of a plain message
@@ -208,7 +212,7 @@ static inline struct frames_receiver frames_receiver(uint8_t sentinel) { return 
  * none is FRAMES_DAMAGED, and bytes behind the counted ones are ignored. */
 static inline struct frames_event frames_push(struct frames_receiver *receiver, uint8_t *buffer, size_t room, const uint8_t *bytes,
                                               size_t length) {
-    if (receiver == NULL || !frames_is_there(buffer, room) || !frames_is_there(bytes, length)) {
+    if (!receiver || !frames_is_there(buffer, room) || !frames_is_there(bytes, length)) {
         struct frames_event null = {0, 0, 0, 0, FRAMES_MISUSED};
         return null;
     }
@@ -218,7 +222,7 @@ static inline struct frames_event frames_push(struct frames_receiver *receiver, 
 /* The same of plain messages, which stand in front of the buffer: event.start is 0. */
 static inline struct frames_event frames_push_plain(struct frames_receiver *receiver, uint8_t *buffer, size_t room,
                                                     const uint8_t *bytes, size_t length) {
-    if (receiver == NULL || !frames_is_there(buffer, room) || !frames_is_there(bytes, length)) {
+    if (!receiver || !frames_is_there(buffer, room) || !frames_is_there(bytes, length)) {
         struct frames_event null = {0, 0, 0, 0, FRAMES_MISUSED};
         return null;
     }
@@ -229,7 +233,7 @@ static inline struct frames_event frames_push_plain(struct frames_receiver *rece
  * FRAMES_MORE; the event stays as it was then. */
 static inline uint8_t frames_push_byte(struct frames_receiver *receiver, uint8_t *buffer, size_t room, uint8_t byte,
                                        struct frames_event *event) {
-    if (receiver == NULL || event == NULL || !frames_is_there(buffer, room)) {
+    if (!receiver || !event || !frames_is_there(buffer, room)) {
         return FRAMES_MISUSED;
     }
     return frames_c_push_byte(receiver, frames_to(buffer), room, byte, event);
@@ -238,7 +242,7 @@ static inline uint8_t frames_push_byte(struct frames_receiver *receiver, uint8_t
 /* The same of plain messages. */
 static inline uint8_t frames_push_byte_plain(struct frames_receiver *receiver, uint8_t *buffer, size_t room, uint8_t byte,
                                              struct frames_event *event) {
-    if (receiver == NULL || event == NULL || !frames_is_there(buffer, room)) {
+    if (!receiver || !event || !frames_is_there(buffer, room)) {
         return FRAMES_MISUSED;
     }
     return frames_c_push_byte_plain(receiver, frames_to(buffer), room, byte, event);
@@ -246,11 +250,11 @@ static inline uint8_t frames_push_byte_plain(struct frames_receiver *receiver, u
 
 /* Ends the stream, and begins a new one. Whether a stretch was begun and not answered: it is cut off. The receiver is as new then, over
  * any buffer: also one that was misused. */
-static inline bool frames_finish(struct frames_receiver *receiver) { return receiver != NULL && frames_c_finish(receiver); }
+static inline bool frames_finish(struct frames_receiver *receiver) { return receiver && frames_c_finish(receiver); }
 
 /* How many bytes the stretch has so far that is begun: 0 where none is, and behind FRAMES_TOO_LONG. */
 static inline size_t frames_begun(const struct frames_receiver *receiver) {
-    return receiver != NULL ? frames_c_begun(receiver) : 0;
+    return receiver ? frames_c_begun(receiver) : 0;
 }
 
 /* A sender that hasn't written anything, and so begins with a sentinel, which ends what others may have left on the line. */
@@ -262,7 +266,7 @@ static inline struct frames_sender frames_sender(uint8_t sentinel) { return fram
  * then, and the next send writes what it would have written without this one. */
 static inline struct frames_written frames_send(struct frames_sender *sender, const uint8_t *message, size_t length, uint8_t *dest,
                                                 size_t room) {
-    if (sender == NULL || !frames_is_there(message, length) || !frames_is_there(dest, room)) {
+    if (!sender || !frames_is_there(message, length) || !frames_is_there(dest, room)) {
         struct frames_written null = {0, FRAMES_NULL};
         return null;
     }
@@ -272,7 +276,7 @@ static inline struct frames_written frames_send(struct frames_sender *sender, co
 /* The same of a plain message. */
 static inline struct frames_written frames_send_plain(struct frames_sender *sender, const uint8_t *message, size_t length,
                                                       uint8_t *dest, size_t room) {
-    if (sender == NULL || !frames_is_there(message, length) || !frames_is_there(dest, room)) {
+    if (!sender || !frames_is_there(message, length) || !frames_is_there(dest, room)) {
         struct frames_written null = {0, FRAMES_NULL};
         return null;
     }
@@ -281,7 +285,7 @@ static inline struct frames_written frames_send_plain(struct frames_sender *send
 
 /* Says that all bytes of the last send went out. */
 static inline void frames_sent(struct frames_sender *sender) {
-    if (sender != NULL) {
+    if (sender) {
         frames_c_sent(sender);
     }
 }
@@ -311,6 +315,9 @@ static inline struct frames_written frames_unseal(const uint8_t *message, size_t
 }
 
 #ifdef __cplusplus
+#if defined(__GNUC__) && !defined(__clang__)
+#pragma GCC diagnostic pop
+#endif
 }
 #endif
 #endif

@@ -1,56 +1,99 @@
 """Makes wheels of this package: it copies files, so that neither a compiler nor a network is needed.
 
-The shared object that FRAMES_LIBRARY names, or `frames/libframes.so`, goes into the wheel. A wheel without one looks for the
-library when it is imported.
+Into the wheel go the shared object, which FRAMES_LIBRARY names, and the program `wire` for typed messages, which WIRE names; where these
+aren't set, those that are stored in the clone for this processor. With `--config-settings wire=no` the program stays out. The wheel's tag
+says the earliest glibc that runs what is in it; a wheel with neither is for every system, and looks for the library when it is imported.
+An editable install (`pip install -e`) points at this folder.
 """
 import base64
 import hashlib
 import os
+import platform
+import re
 import shutil
-import sysconfig
 import zipfile
 
 NAME, VERSION = "nizkelouz_frames", "0.1.0"
 HERE = os.path.dirname(os.path.abspath(__file__))
+STORED = os.path.join(HERE, "..", "..", "built", platform.machine())
 METADATA = f"""Metadata-Version: 2.1
 Name: nizkelouz-frames
 Version: {VERSION}
 Summary: Messages as frames over a line that may break, by a library whose code is proved
 Requires-Python: >=3.8
+Classifier: Operating System :: POSIX :: Linux
+Classifier: Typing :: Typed
 """
 
 
-def files_of_package():
-    """What goes into a wheel: each file's name there, and its bytes."""
+def of_this_machine(variable, *places):
+    """The file that a variable names, which has to be there, or the first of these places that is; on Linux alone."""
+    named = os.environ.get(variable)
+    if named:
+        return named
+    if platform.system() != "Linux":
+        return None
+    return next((path for path in places if os.path.exists(path)), None)
+
+
+def files_of_package(with_wire):
+    """What goes into a wheel: each file's name there, its bytes, and its mode."""
     folder = os.path.join(HERE, "frames")
     for name in sorted(os.listdir(folder)):
-        if name.endswith((".py", ".typed", ".so")):
+        if name.endswith((".py", ".typed")):
             with open(os.path.join(folder, name), "rb") as file:
-                yield f"frames/{name}", file.read()
-    library = os.environ.get("FRAMES_LIBRARY")
-    if library and not os.path.exists(os.path.join(folder, "libframes.so")):
-        with open(library, "rb") as file:
-            yield "frames/libframes.so", file.read()
+                yield f"frames/{name}", file.read(), 0o644
+    library = of_this_machine("FRAMES_LIBRARY", os.path.join(folder, "libframes.so"), os.path.join(STORED, "libframes.so"),
+                              os.path.join(HERE, "..", "c", "out", "libframes.so"))  # fmt: skip
+    wire = of_this_machine("WIRE", os.path.join(STORED, "wire")) if with_wire else None
+    for name, path in (("libframes.so", library), ("wire", wire)):
+        if path:
+            with open(path, "rb") as file:
+                yield f"frames/{name}", file.read(), 0o755
+
+
+def tag_of(files):
+    """The tag of a wheel: for every system, or from the glibc on that its ELF files name, 2.17 at least."""
+    built = [content for _, content, _ in files if content[:4] == b"\x7fELF"]
+    if not built:
+        return "py3-none-any"
+    wanted = max([17] + [int(it) for content in built for it in re.findall(rb"\x00GLIBC_2\.(\d+)(?=[\x00.])", content)])
+    return f"py3-none-manylinux_2_{wanted}_{platform.machine()}"
+
+
+def written(folder, files):
+    """Writes a wheel of these files, the same bytes each time, and returns its name."""
+    tag, info = tag_of(files), f"{NAME}-{VERSION}.dist-info"
+    is_pure = "false" if tag != "py3-none-any" else "true"
+    wheel = f"Wheel-Version: 1.0\nGenerator: build_frames\nRoot-Is-Purelib: {is_pure}\nTag: {tag}\n"
+    files = files + [(f"{info}/METADATA", METADATA.encode(), 0o644), (f"{info}/WHEEL", wheel.encode(), 0o644)]
+    name, record = f"{NAME}-{VERSION}-{tag}.whl", ""
+    for path, content, _ in files:
+        digest = base64.urlsafe_b64encode(hashlib.sha256(content).digest()).rstrip(b"=").decode()
+        record += f"{path},sha256={digest},{len(content)}\n"
+    files.append((f"{info}/RECORD", f"{record}{info}/RECORD,,\n".encode(), 0o644))
+    with zipfile.ZipFile(os.path.join(folder, name), "w", zipfile.ZIP_DEFLATED) as archive:
+        for path, content, mode in files:
+            entry = zipfile.ZipInfo(path, (1980, 1, 1, 0, 0, 0))
+            entry.external_attr = (0o100000 | mode) << 16
+            archive.writestr(entry, content, zipfile.ZIP_DEFLATED)
+    return name
 
 
 def build_wheel(wheel_directory, config_settings=None, metadata_directory=None):
-    files = list(files_of_package())
-    has_library = any(name.endswith(".so") for name, _ in files)
-    platform = sysconfig.get_platform().replace("-", "_").replace(".", "_") if has_library else "any"
-    tag = f"py3-none-{platform}"
-    info = f"{NAME}-{VERSION}.dist-info"
-    wheel = f"Wheel-Version: 1.0\nGenerator: build_frames\nRoot-Is-Purelib: {'false' if has_library else 'true'}\nTag: {tag}\n"
-    files += [(f"{info}/METADATA", METADATA.encode()), (f"{info}/WHEEL", wheel.encode())]
-    name = f"{NAME}-{VERSION}-{tag}.whl"
-    with zipfile.ZipFile(os.path.join(wheel_directory, name), "w", zipfile.ZIP_DEFLATED) as archive:
-        record = []
-        for path, content in files:
-            archive.writestr(path, content)
-            digest = base64.urlsafe_b64encode(hashlib.sha256(content).digest()).rstrip(b"=").decode()
-            record.append(f"{path},sha256={digest},{len(content)}\n")
-        record.append(f"{info}/RECORD,,\n")
-        archive.writestr(f"{info}/RECORD", "".join(record))
-    return name
+    with_wire = (config_settings or {}).get("wire", "yes") != "no"
+    return written(wheel_directory, list(files_of_package(with_wire)))
+
+
+def build_editable(wheel_directory, config_settings=None, metadata_directory=None):
+    return written(wheel_directory, [(f"__editable__.{NAME}.pth", f"{HERE}\n".encode(), 0o644)])
+
+
+def get_requires_for_build_wheel(config_settings=None):
+    return []
+
+
+get_requires_for_build_editable = get_requires_for_build_sdist = get_requires_for_build_wheel
 
 
 def build_sdist(sdist_directory, config_settings=None):

@@ -14,15 +14,23 @@ messages where that may not be (`seal`, `unseal`).
     for event in listen(port, limit=1024):
         ...                             # the same, and Cut at the end, where it broke off
 
-This module itself is tested, not proved. It hands the library copies and buffers of its own, so nothing overlaps and no pointer is null.
+A receiver and a sender may be used by several threads: each call is done as a whole, and so is each `Sender.write`.
+
+This module itself is tested, not proved. It hands the library bytes that don't change and buffers of its own, so nothing overlaps and no
+pointer is null. What isn't bytes, or holds none, is a `TypeError`: a number is no message of so many zeros.
 """
 from __future__ import annotations
 
 import ctypes
 import ctypes.util
 import os
-from ctypes import POINTER, Structure, byref, c_bool, c_char_p, c_size_t, c_uint8, c_uint32
+import select
+import stat
+import time
+from ctypes import POINTER, Structure, addressof, byref, c_bool, c_char_p, c_size_t, c_uint8, c_uint32, c_void_p, cast, string_at
 from dataclasses import dataclass
+from operator import index
+from threading import Lock
 from typing import Any, BinaryIO, Callable, Iterator, List, Optional, Union
 
 __all__ = [
@@ -78,14 +86,14 @@ class _Sender(Structure):
     _fields_ = [("clean", c_uint8), ("sentinel", c_uint8)]
 
 
-_SOURCE, _BUFFER = [c_char_p, c_size_t], [POINTER(c_uint8), c_size_t]
+_SOURCE, _BUFFER = [c_char_p, c_size_t], [c_void_p, c_size_t]
 _CALLS = [
     ("encoded_length", c_size_t, _SOURCE),
     ("encode_with_sentinel", _Written, _SOURCE + _BUFFER + [c_uint8]),
     ("decode_with_sentinel", _Written, _SOURCE + _BUFFER + [c_uint8]),
     ("receiver", _Receiver, [c_uint8]),
-    ("push", _Event, [POINTER(_Receiver)] + _BUFFER + [POINTER(c_uint8), c_size_t]),
-    ("push_plain", _Event, [POINTER(_Receiver)] + _BUFFER + [POINTER(c_uint8), c_size_t]),
+    ("push", _Event, [POINTER(_Receiver)] + _BUFFER + _BUFFER),
+    ("push_plain", _Event, [POINTER(_Receiver)] + _BUFFER + _BUFFER),
     ("finish", c_bool, [POINTER(_Receiver)]),
     ("begun", c_size_t, [POINTER(_Receiver)]),
     ("sender", _Sender, [c_uint8]),
@@ -99,17 +107,25 @@ _CALLS = [
 _loaded: Optional[ctypes.CDLL] = None
 
 
+def _beside() -> Optional[str]:
+    here = os.path.dirname(os.path.abspath(__file__))
+    bindings = os.path.dirname(os.path.dirname(here))
+    stored = os.path.join(os.path.dirname(bindings), "built", os.uname().machine) if hasattr(os, "uname") else here
+    folders = (here, os.path.join(bindings, "c", "out"), stored)
+    return next((path for path in (os.path.join(folder, "libframes.so") for folder in folders) if os.path.exists(path)), None)
+
+
 def library(path: Optional[str] = None) -> ctypes.CDLL:
     """The shared object, which is loaded at the first call.
 
-    It is the one at `path`, or that FRAMES_LIBRARY names, or the one beside this file, or the system's `libframes`.
+    It is the one at `path`, or that FRAMES_LIBRARY names, or the one beside this file, as in a wheel, or of the clone that this file is in:
+    what `make -C bindings/c` made, or what is stored for this processor; or the system's `libframes`. Raises `OSError` if there is none.
     """
     global _loaded
     if _loaded is None or path is not None:
-        beside = os.path.join(os.path.dirname(__file__), "libframes.so")
-        found = path or os.environ.get("FRAMES_LIBRARY") or (beside if os.path.exists(beside) else ctypes.util.find_library("frames"))
+        found = path or os.environ.get("FRAMES_LIBRARY") or _beside() or ctypes.util.find_library("frames")
         if not found:
-            raise OSError("no libframes.so: name it by FRAMES_LIBRARY, or install bindings/c")
+            raise OSError("no libframes.so: `make -C bindings/c` makes it in a clone; or name one by FRAMES_LIBRARY")
         loaded = ctypes.CDLL(found)
         for name, result, arguments in _CALLS:
             function = getattr(loaded, "frames_c_" + name)
@@ -118,52 +134,70 @@ def library(path: Optional[str] = None) -> ctypes.CDLL:
     return _loaded
 
 
-def _room(length: int) -> Any:
-    return (c_uint8 * max(length, 1))()
+class _Room:
+    """A buffer that the library writes to. It makes no type for each length, which `c_uint8 * length` does."""
+
+    def __init__(self, length: int) -> None:
+        self._held = bytearray(max(length, 1))
+        self._first = c_uint8.from_buffer(self._held)  # while this exists the bytes stay at their address
+        self.address = addressof(self._first)
+
+    def front(self, length: int) -> bytes:
+        return string_at(self.address, length)
+
+
+def _bytes(message: Any) -> bytes:
+    """The bytes of an object that holds bytes. `bytes(3)` would be three zeros, and `bytes([1, 2])` two bytes: both are refused."""
+    return message if type(message) is bytes else bytes(memoryview(message))
 
 
 def encoded_length(message: bytes) -> int:
     """How many bytes the frame of a message has."""
-    message = bytes(message)
-    return library().frames_c_encoded_length(message, len(message))
+    message = _bytes(message)
+    return int(library().frames_c_encoded_length(message, len(message)))
 
 
 def encode(message: bytes, sentinel: int = 0) -> bytes:
     """The shortest frame of a message's bytes, each XORed with the sentinel; none stands behind it."""
-    message = bytes(message)
+    message = _bytes(message)
     room = encoded_length(message)
-    dest = _room(room)
-    written = library().frames_c_encode_with_sentinel(message, len(message), dest, room, _byte(sentinel))
-    return bytes(dest[: written.length])
+    dest = _Room(room)
+    written = library().frames_c_encode_with_sentinel(message, len(message), dest.address, room, _byte(sentinel))
+    return dest.front(written.length)
 
 
 def decode(frame: bytes, sentinel: int = 0) -> bytes:
-    """The message of a frame, which may end in its sentinel. Bytes that are no frame are `Invalid`."""
-    frame = bytes(frame)
-    dest = _room(len(frame))
-    written = library().frames_c_decode_with_sentinel(frame, len(frame), dest, len(frame), _byte(sentinel))
+    """The message of one frame, with or without the sentinel that ends it.
+
+    Raises `Invalid` for all other bytes: none, a sentinel in front (as `Sender.send` may write one), bytes after the sentinel.
+    """
+    frame, mark = _bytes(frame), bytes([_byte(sentinel)])
+    if frame[:1] in (b"", mark):
+        raise Invalid("no frame: " + ("a sentinel is in front" if frame else "there are no bytes"))
+    if mark in frame[:-1]:
+        raise Invalid("bytes are after the sentinel that ends the frame")
+    dest = _Room(len(frame))
+    written = library().frames_c_decode_with_sentinel(frame, len(frame), dest.address, len(frame), sentinel)
     if written.status != _OK:
         raise Invalid(f"no frame, behind {written.length} bytes of a message")
-    return bytes(dest[: written.length])
+    return dest.front(written.length)
 
 
 def crc32(message: bytes) -> int:
     """The CRC-32 of bytes, as Ethernet, gzip and PNG have it."""
-    message = bytes(message)
-    return library().frames_c_crc32(message, len(message))
+    message = _bytes(message)
+    return int(library().frames_c_crc32(message, len(message)))
 
 
 def seal(message: bytes) -> bytes:
     """A message with its CRC-32 behind it, as four bytes, the lowest first."""
-    message = bytes(message)
-    room = (c_uint8 * (len(message) + 4)).from_buffer_copy(message + bytes(4))
-    library().frames_c_seal(room, len(room), len(message))
-    return bytes(room)
+    message = _bytes(message)
+    return message + crc32(message).to_bytes(4, "little")
 
 
 def unseal(message: bytes) -> bytes:
     """The message before its sum; `Invalid` where its last four bytes aren't that."""
-    message = bytes(message)
+    message = _bytes(message)
     written = library().frames_c_unseal(message, len(message))
     if written.status != _OK:
         raise Invalid("the sum isn't that of the message")
@@ -171,16 +205,16 @@ def unseal(message: bytes) -> bytes:
 
 
 def _byte(sentinel: int) -> int:
-    if not 0 <= sentinel < 256:
+    if not 0 <= index(sentinel) < 256:
         raise ValueError("a sentinel is a byte")
-    return sentinel
+    return index(sentinel)
 
 
 class Sender:
     """Makes what goes out for each message."""
 
     def __init__(self, sentinel: int = 0, plain: bool = False) -> None:
-        self._state = library().frames_c_sender(_byte(sentinel))
+        self._state, self._lock = library().frames_c_sender(_byte(sentinel)), Lock()
         self._send = library().frames_c_send_plain if plain else library().frames_c_send
 
     def send(self, message: bytes) -> bytes:
@@ -188,89 +222,140 @@ class Sender:
 
         Call `sent` once all of them went out. Where they didn't, call nothing: the next send then begins with a sentinel.
         """
-        message = bytes(message)
+        message = _bytes(message)
         room = len(message) + len(message) // 254 + 16
-        dest = _room(room)
-        written = self._send(byref(self._state), message, len(message), dest, room)
+        dest = _Room(room)
+        written = self._send(byref(self._state), message, len(message), dest.address, room)
         if written.status != _OK:
             raise AssertionError("the room is enough for every message")
-        return bytes(dest[: written.length])
+        return dest.front(written.length)
 
     def sent(self) -> None:
         """Says that all bytes of the last send went out."""
         library().frames_c_sent(byref(self._state))
 
     def write(self, line: BinaryIO, message: bytes) -> None:
-        """Sends a message over a file object or a serial port, which is flushed.
+        """Sends a message over a file object or a serial port, which is flushed; of several threads one after another.
 
-        What it raises comes out, and a write that took too little is an `OSError`; the next send then begins with a sentinel.
+        What it raises comes out, and a write that takes nothing is an `OSError`; the next send then begins with a sentinel. A writer of
+        asyncio has no count to return: `frames.aio.Line` sends over that.
         """
-        out = memoryview(self.send(message))
-        while out:
-            count = line.write(out)
-            if not count:
-                raise OSError("the line takes nothing")
-            out = out[count:]
-        line.flush()
-        self.sent()
+        with self._lock:
+            out = memoryview(self.send(message))
+            while out:
+                count = line.write(out)
+                if not count:
+                    raise OSError("the line takes nothing")
+                out = out[count:]
+            line.flush()
+            self.sent()
 
 
 class Receiver:
-    """Hears the messages of a stream that comes in pieces, with stretches of at most `limit` bytes."""
+    """Hears the messages of a stream that comes in pieces, with stretches of at most `limit` bytes, for which it has a buffer."""
 
     def __init__(self, limit: int, sentinel: int = 0, plain: bool = False) -> None:
-        self._limit = limit
-        self._state, self._buffer = library().frames_c_receiver(_byte(sentinel)), _room(limit)
+        if index(limit) < 1:
+            raise ValueError("a limit is a number of bytes, 1 or more")
+        self._limit = index(limit)
+        self._state, self._buffer = library().frames_c_receiver(_byte(sentinel)), _Room(self._limit)
+        self._lock = Lock()
         self._push = library().frames_c_push_plain if plain else library().frames_c_push
 
     def push(self, piece: bytes) -> List[Event]:
         """What these bytes bring about, in order: messages as `bytes`, `Damaged`, `TooLong`."""
-        piece, at, events = bytes(piece), 0, []  # type: ignore[var-annotated]
-        room = (c_uint8 * max(len(piece), 1)).from_buffer_copy(piece or b"\0")
-        while True:
-            rest = ctypes.cast(ctypes.addressof(room) + at, POINTER(c_uint8))
-            event = self._push(byref(self._state), self._buffer, self._limit, rest, len(piece) - at)
-            at += event.used
-            if event.kind == _MESSAGE:
-                events.append(bytes(self._buffer[event.start : event.start + event.length]))
-            elif event.kind == _DAMAGED:
-                events.append(Damaged(event.stretch))
-            elif event.kind == _TOO_LONG:
-                events.append(TooLong(self._limit))
-            else:
-                return events
+        piece = _bytes(piece)
+        events: List[Event] = []
+        state, room, limit = byref(self._state), self._buffer.address, self._limit
+        at: int = cast(c_char_p(piece), c_void_p).value or room  # the library reads the bytes where they stand
+        end = at + len(piece)
+        with self._lock:
+            while True:
+                event = self._push(state, room, limit, at, end - at)
+                at += event.used
+                kind = event.kind
+                if kind == _MESSAGE:
+                    events.append(string_at(room + event.start, event.length))
+                elif kind == _DAMAGED:
+                    events.append(Damaged(event.stretch))
+                elif kind == _TOO_LONG:
+                    events.append(TooLong(limit))
+                else:
+                    return events
 
     @property
     def begun(self) -> int:
         """How many bytes a begun stretch has so far."""
-        return library().frames_c_begun(byref(self._state))
+        with self._lock:
+            return int(library().frames_c_begun(byref(self._state)))
 
     def finish(self) -> Optional[Cut]:
         """Ends the stream, and begins a new one: `Cut` where it ended inside a stretch."""
-        begun = self.begun
-        return Cut(begun) if library().frames_c_finish(byref(self._state)) else None
+        with self._lock:
+            begun = int(library().frames_c_begun(byref(self._state)))
+            return Cut(begun) if library().frames_c_finish(byref(self._state)) else None
+
+
+def _descriptor(source: Any) -> Optional[int]:
+    """The descriptor of a pipe, a terminal or a socket, whose next bytes can be waited for; None of a file on a disk, and others."""
+    try:
+        descriptor = index(source.fileno())
+        mode = os.fstat(descriptor).st_mode
+    except (AttributeError, OSError, TypeError, ValueError):
+        return None
+    return descriptor if stat.S_ISCHR(mode) or stat.S_ISFIFO(mode) or stat.S_ISSOCK(mode) else None
+
+
+def _is_ready(descriptor: Optional[int]) -> bool:
+    """Waits until there is something to read, or the other end is gone, at most a twentieth of a second: whether there is."""
+    if descriptor is not None and hasattr(select, "poll"):
+        waiting = select.poll()
+        waiting.register(descriptor, select.POLLIN)
+        return bool(waiting.poll(50))
+    time.sleep(0.01)
+    return False
+
+
+def _read(source: Any) -> Optional[bytes]:
+    """What is there, and at least a byte; none at the end or where a port's time is over; None where a file that doesn't wait has none yet."""
+    piece: Optional[bytes]
+    if hasattr(source, "in_waiting"):  # a port of pyserial
+        piece = source.read(max(1, source.in_waiting))
+    elif hasattr(source, "read1"):
+        piece = source.read1(4096)
+    else:
+        piece = source.read(4096)
+    return piece
 
 
 def _pieces(source: Any, ends: bool, is_over: Callable[[], bool] = lambda: False) -> Iterator[bytes]:
-    """What a file object, a socket's file or a serial port gives, as it comes, until it ends or nobody wants more."""
+    """What a file object, a socket's file or a serial port gives, as it comes, until it ends or nobody wants more.
+
+    Where a read gives nothing and the stream goes on, it waits before it reads again, so that a source that never waits costs no processor.
+    """
+    descriptor = _descriptor(source)
+    is_port = hasattr(source, "in_waiting")
+    never_waits = descriptor is not None and not is_port and hasattr(os, "get_blocking") and not os.get_blocking(descriptor)
+    is_ready = False
     while not is_over():
-        if hasattr(source, "in_waiting"):  # a port of pyserial
-            piece = source.read(max(1, source.in_waiting))
-        elif hasattr(source, "read1"):
-            piece = source.read1(4096)
-        else:
-            piece = source.read(4096)
+        piece = _read(source)
         if piece:
+            is_ready = False
             yield piece
-        elif ends:
+        elif ends and piece is not None and (is_ready or not never_waits):
             return
+        else:
+            if is_ready:  # it said so, and gave nothing: an end that others may write behind
+                time.sleep(0.01)
+            is_ready = _is_ready(descriptor)
 
 
 def listen(source: Any, limit: int, sentinel: int = 0, plain: bool = False, ends: bool = True) -> Iterator[Event]:
     """What is heard of a file object, a socket's file or a serial port, as it comes.
 
     It reads what is there, and at least a byte. A read of nothing ends the stream, and `Cut` may then come last; with `ends=False`, for
-    a serial port with a timeout, it is read again.
+    a serial port with a timeout, it is read again, after a wait where the read itself didn't wait. A file that doesn't block and has
+    nothing yet hasn't ended.
     """
     receiver = Receiver(limit, sentinel, plain)
     for piece in _pieces(source, ends):

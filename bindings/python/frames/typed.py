@@ -12,16 +12,24 @@ from __future__ import annotations
 
 import json
 import os
+import shutil
 import subprocess
 import tempfile
 import threading
 from typing import IO, Any, Dict, Iterable, Iterator, List, Optional
 
-from . import _pieces
+from . import _byte, _pieces
 
 
 def _wire(wire: Optional[str]) -> str:
-    return wire or os.environ.get("WIRE") or "wire"
+    """The program: as it is named, or in the wheel, or on the PATH, where `./install` puts it under two names."""
+    inside = os.path.join(os.path.dirname(os.path.abspath(__file__)), "wire")
+    if os.access(inside, os.X_OK) and os.path.isfile(inside):
+        return wire or os.environ.get("WIRE") or inside
+    found = wire or os.environ.get("WIRE") or shutil.which("framed-json") or shutil.which("wire")
+    if not found:
+        raise FileNotFoundError("no framed-json or wire on the PATH: `./install --built DIR framed-json` puts it into a folder; or name one by WIRE")
+    return found
 
 
 def _closed(pipe: IO[bytes]) -> None:
@@ -34,11 +42,11 @@ def _closed(pipe: IO[bytes]) -> None:
 def write(declarations: str, type_name: str, values: Iterable[Any], sentinel: int = 0, wire: Optional[str] = None) -> bytes:
     """The bytes that `wire write` makes of these values: a sentinel, and a frame and a sentinel for each.
 
-    A value that isn't of the type is a `ValueError`; what the program says of its words or of the declarations is an `OSError`. Nothing is
-    answered then.
+    A value that isn't of the type is a `ValueError`; what the program says of its words or of the declarations is an `OSError`, and so is
+    that there is no such program (`FileNotFoundError`). Nothing is answered then.
     """
     lines = "".join(json.dumps(value) + "\n" for value in values)
-    command = [_wire(wire), "write", declarations, type_name, f"sentinel={sentinel:02x}"]
+    command = [_wire(wire), "write", declarations, type_name, f"sentinel={_byte(sentinel):02x}"]
     done = subprocess.run(command, input=lines.encode(), capture_output=True)
     if done.returncode != 0:
         said = done.stderr.decode(errors="replace").strip() or f"wire ended with status {done.returncode}"
@@ -54,7 +62,7 @@ class TypedReceiver:
     """
 
     def __init__(self, declarations: str, type_name: str, sentinel: int = 0, strict: bool = False, wire: Optional[str] = None) -> None:
-        words = [_wire(wire), "read", declarations, type_name] + (["strict"] if strict else []) + [f"sentinel={sentinel:02x}"]
+        words = [_wire(wire), "read", declarations, type_name] + (["strict"] if strict else []) + [f"sentinel={_byte(sentinel):02x}"]
         self._said = tempfile.TemporaryFile()
         self._feeder: Optional[threading.Thread] = None
         self._failure: Optional[BaseException] = None

@@ -1,18 +1,28 @@
-"""Tests of the package against an encoder of its own, its wheel, and typed messages. usage: test_frames.py [FOLDER]"""
+"""Tests of the package against an encoder of its own, what misuse is refused, its wheels, and typed messages.
+
+usage: test_frames.py [FOLDER]
+"""
+import array
+import asyncio
+import ctypes
 import fcntl
+import gc
 import io
 import os
+import pathlib
 import random
 import select
 import struct
 import subprocess
 import sys
 import termios
+import threading
+import time
 import tty
 import zipfile
 
 import frames
-from frames import typed
+from frames import aio, typed
 
 
 def frame_of(message):
@@ -61,6 +71,124 @@ def test_codec(rng):
         except frames.Invalid:
             continue
         raise AssertionError("not refused")
+
+
+def refuses(kind, call, *arguments):
+    """Whether a call raises an error of this kind."""
+    try:
+        call(*arguments)
+    except kind:
+        return True
+    return False
+
+
+def test_misuse():
+    """No number, text or list is taken for bytes, and no limit for the length of a buffer that isn't there."""
+    assert all(refuses(ValueError, frames.Receiver, limit) for limit in (0, -1, -(1 << 40)))
+    assert all(refuses(TypeError, frames.Receiver, limit) for limit in (1.5, "8", None, b"8"))
+    assert all(refuses((MemoryError, OverflowError), frames.Receiver, 1 << bits) for bits in (62, 63, 64, 80))
+    assert all(refuses(ValueError, frames.encode, b"hi", sentinel) for sentinel in (-1, 256))
+    assert all(refuses(TypeError, frames.encode, b"hi", sentinel) for sentinel in (1.0, "a", None))
+    sender, receiver = frames.Sender(), frames.Receiver(8)
+    for call in (sender.send, receiver.push, frames.encode, frames.encoded_length, frames.decode, frames.seal, frames.unseal, frames.crc32):
+        assert all(refuses(TypeError, call, message) for message in (3, True, "hi", None, [1, 2], 1.5)), call
+    assert receiver.begun == 0 and receiver.push(b"\0\x04\x02hi\0") == [b"hi"]
+    for message in (bytearray(b"hi"), memoryview(b"hi"), memoryview(b"h_i_")[::2], array.array("B", b"hi")):
+        assert frames.encode(message) == b"\x03hi", message
+    # one frame: neither none, nor what a sender writes in front of it, nor what comes after it
+    assert frames.decode(b"\x03hi") == frames.decode(b"\x03hi\0") == frames.decode(b"\x09bc\x0a", 10) == b"hi"
+    for frame in (b"", b"\0", b"\0\0", b"\0\x03hi", sender.send(b"hi"), b"\x03hi\0\0", b"\x03hi\0x"):
+        assert refuses(frames.Invalid, frames.decode, frame), frame
+    assert refuses(frames.Invalid, frames.decode, b"\x0a", 10)
+
+
+def test_lengths():
+    """No type is made for each length: it would cost more than the message, and stay."""
+    sender, receiver = frames.Sender(), frames.Receiver(1 << 12)
+    sender.send(b"x"), receiver.push(b"x\0"), frames.encode(b"x")
+    gc.collect()
+    gc.disable()
+    before = len(ctypes.Array.__subclasses__())
+    for length in range(2000, 2200):
+        receiver.push(sender.send(bytes(length))), frames.decode(frames.encode(bytes(length)))
+    assert len(ctypes.Array.__subclasses__()) == before
+    gc.enable()
+
+
+def test_threads():
+    """A receiver that several threads push to tells whole messages alone, and a sender that they write by sends whole frames."""
+    receiver, sender, told = frames.Receiver(64), frames.Sender(), []
+    line = b"".join(sender.send(bytes([k % 250 + 1]) * 20) for k in range(500))
+
+    def push():
+        for _ in range(10):
+            told.extend(receiver.push(line))
+
+    class Slow(io.BytesIO):
+        def write(self, out):
+            time.sleep(0)
+            return super().write(out[:3])
+
+    out = Slow()
+
+    def write():
+        for k in range(50):
+            sender.write(out, bytes([k + 1]) * 10)
+
+    before = sys.getswitchinterval()
+    sys.setswitchinterval(1e-6)
+    for work in (push, write):
+        threads = [threading.Thread(target=work) for _ in range(4)]
+        [it.start() for it in threads], [it.join() for it in threads]
+    sys.setswitchinterval(before)
+    assert len(told) == 4 * 10 * 500 and all(isinstance(it, bytes) and it == it[:1] * 20 for it in told)
+    assert sorted(frames.Receiver(64).push(out.getvalue())) == sorted(bytes([k + 1]) * 10 for k in range(50) for _ in range(4))
+
+
+def test_waits():
+    """A source that never waits costs no processor while nothing comes, and one that has nothing yet hasn't ended."""
+    here, there = os.openpty()
+    tty.setraw(here), tty.setraw(there)
+    host, reads = Port(here, 0), []
+    host.read = lambda size=1, read=host.read: (reads.append(size), read(size))[1]
+    heard = frames.listen(host, limit=64, ends=False)
+    late = threading.Timer(0.3, lambda: os.write(there, b"\0\x04\x02hi\0"))
+    late.start()
+    assert next(heard) == b"hi" and len(reads) < 50, len(reads)
+    late.join(), os.close(here), os.close(there)
+    for is_raw in (False, True):
+        taken, given = os.pipe()
+        os.set_blocking(taken, False)
+        source = os.fdopen(taken, "rb", buffering=0 if is_raw else -1)
+        late = threading.Timer(0.2, lambda: (os.write(given, b"\0\x04\x02hi\0\x07"), os.close(given)))
+        late.start()
+        assert list(frames.listen(source, limit=64)) == [b"hi", frames.Cut(1)], is_raw
+        late.join(), source.close()
+
+
+def test_aio():
+    async def session():
+        heard, done = [], asyncio.Event()
+
+        async def serve(reader, writer):
+            async for event in aio.listen(reader, 64):
+                heard.append(event)
+            writer.close()
+            done.set()
+
+        server = await asyncio.start_server(serve, "127.0.0.1", 0)
+        _, writer = await asyncio.open_connection(*server.sockets[0].getsockname())
+        line = aio.Line(writer)
+        await asyncio.gather(*(line.send(bytes([k]) * k) for k in range(20)))
+        writer.write(b"\x07ab\0" + b"\x05c")
+        await writer.drain()
+        writer.close()
+        await done.wait()
+        server.close()
+        return heard
+
+    heard = asyncio.run(session())
+    assert heard[:20] == [bytes([k]) * k for k in range(20)] and heard[20:] == [frames.Damaged(3), frames.Cut(2)], heard[18:]
 
 
 def test_line(rng):
@@ -137,18 +265,52 @@ def test_port():
     os.close(here), os.close(there)
 
 
-def test_wheel(folder):
+def built(hook, folder, *settings, **variables):
+    """The wheel that a hook of build_frames makes, in a folder of its own, with these variables."""
     here = os.path.dirname(os.path.dirname(os.path.abspath(__file__)))
-    wheels, site = os.path.join(folder, "wheels"), os.path.join(folder, "site")
-    os.makedirs(wheels, exist_ok=True)
-    code = "import sys; sys.path.insert(0, sys.argv[1]); import build_frames; print(build_frames.build_wheel(sys.argv[2]))"
-    done = subprocess.run([sys.executable, "-B", "-c", code, here, wheels], check=True, capture_output=True, text=True)
-    with zipfile.ZipFile(os.path.join(wheels, done.stdout.strip())) as archive:
+    os.makedirs(folder, exist_ok=True)
+    code = f"import sys; sys.path.insert(0, sys.argv[1]); import build_frames; print(build_frames.{hook}(sys.argv[2], dict({', '.join(settings)})))"
+    done = subprocess.run([sys.executable, "-B", "-c", code, here, folder], check=True, capture_output=True, text=True, env={**os.environ, **variables})
+    return os.path.join(folder, done.stdout.strip())
+
+
+def runs(code, site, **variables):
+    """What a program prints that sees the package of this folder alone, with no variable that names a library or a program."""
+    environment = {name: value for name, value in os.environ.items() if name not in ("FRAMES_LIBRARY", "PYTHONPATH", "WIRE")}
+    done = subprocess.run([sys.executable, "-B", "-c", code], check=True, capture_output=True, text=True, cwd=site, env={**environment, **variables})
+    return done.stdout
+
+
+def test_wheel(folder):
+    program = os.path.join(folder, "a_program")
+    with open(program, "wb") as file:
+        file.write(b"#!/bin/sh\necho wire \"$@\" >&2\nexit 2\n")
+    wheels = [built("build_wheel", os.path.join(folder, name), WIRE=program) for name in ("first", "second")]
+    contents = [pathlib.Path(wheel).read_bytes() for wheel in wheels]
+    assert contents[0] == contents[1], "two wheels of the same files differ"
+    assert "-py3-none-manylinux_2_17_" in wheels[0], wheels[0]
+    bare = built("build_wheel", os.path.join(folder, "bare"), "wire='no'")
+    assert "frames/wire" not in zipfile.ZipFile(bare).namelist()
+    site = os.path.join(folder, "site")
+    with zipfile.ZipFile(wheels[0]) as archive:
         archive.extractall(site)
-    use = "import frames; print(frames.encode(b'hi').hex())"
-    environment = {name: value for name, value in os.environ.items() if name not in ("FRAMES_LIBRARY", "PYTHONPATH")}
-    done = subprocess.run([sys.executable, "-B", "-c", use], check=True, capture_output=True, text=True, cwd=site, env=environment)
-    assert done.stdout == "036869\n"
+        assert archive.getinfo("frames/wire").external_attr >> 16 & 0o111
+    os.chmod(os.path.join(site, "frames", "wire"), 0o755)  # as pip does for what the wheel says may be run
+    assert runs("import frames; print(frames.encode(b'hi').hex())", site) == "036869\n"
+    typed_call = "from frames import typed\ntry: typed.write('a.rs', 'T', [])\nexcept OSError as error: print(error)"
+    assert runs(typed_call, site) == "wire write a.rs T sentinel=00\n"
+    # without it: by either name on the PATH, and else it is said how to get it
+    os.remove(os.path.join(site, "frames", "wire"))
+    for name in ("framed-json", "wire"):
+        named = os.path.join(folder, "of-" + name)
+        os.makedirs(named, exist_ok=True)
+        os.link(program, os.path.join(named, name)), os.chmod(program, 0o755)
+        assert runs(typed_call, site, PATH=named + ":/usr/bin:/bin") == "wire write a.rs T sentinel=00\n", name
+    assert "./install --built DIR framed-json" in runs(typed_call, site, PATH="/usr/bin:/bin")
+    editable = built("build_editable", os.path.join(folder, "editable"))
+    with zipfile.ZipFile(editable) as archive:
+        pth = [archive.read(name).decode() for name in archive.namelist() if name.endswith(".pth")]
+    assert pth == [os.path.dirname(os.path.dirname(os.path.abspath(frames.__file__))) + "\n"], pth
 
 
 class Failing:
@@ -229,9 +391,14 @@ def test_typed(folder):
 def main():
     rng = random.Random(7)
     test_codec(rng)
+    test_misuse()
+    test_lengths()
     test_line(rng)
     test_listen()
     test_port()
+    test_threads()
+    test_waits()
+    test_aio()
     if len(sys.argv) > 1:
         test_wheel(sys.argv[1])
         test_typed(sys.argv[1])

@@ -29,6 +29,9 @@
 #![no_std]
 #![warn(missing_docs)]
 
+#[cfg(feature = "std")]
+extern crate std;
+
 mod raw;
 
 use core::fmt;
@@ -203,6 +206,7 @@ pub enum Event<'a> {
 }
 
 /// Receives messages from a stream that comes in pieces, over a buffer, which is its limit.
+#[derive(Debug)]
 pub struct Receiver<'a> {
     state: raw::Receiver,
     buffer: &'a mut [u8],
@@ -383,16 +387,18 @@ impl<'a> Receiver<'a> {
     }
 }
 
-/// What gives bytes, as a serial port does: so many at the front of the room, none at its end.
+/// What gives bytes, such as a serial port: a trait of one method, as `embedded-io`'s `Read`, to implement for a port of your own. What
+/// `std::io` reads is one by [`Io`].
 pub trait Source {
     /// Why it failed.
     type Error;
 
-    /// Reads what is there, and at least a byte where it hasn't ended.
+    /// Reads what is there to the front of the room, at least a byte, and returns how many; none at the end.
     fn read(&mut self, room: &mut [u8]) -> Result<usize, Self::Error>;
 }
 
-/// What takes bytes.
+/// What takes bytes, such as a serial port: a trait of one method, as `embedded-io`'s `Write`, to implement for a port of your own. What
+/// `std::io` writes is one by [`Io`].
 pub trait Sink {
     /// Why it failed.
     type Error;
@@ -401,7 +407,24 @@ pub trait Sink {
     fn write_all(&mut self, bytes: &[u8]) -> Result<(), Self::Error>;
 }
 
+impl<S: Source + ?Sized> Source for &mut S {
+    type Error = S::Error;
+
+    fn read(&mut self, room: &mut [u8]) -> Result<usize, Self::Error> {
+        (**self).read(room)
+    }
+}
+
+impl<S: Sink + ?Sized> Sink for &mut S {
+    type Error = S::Error;
+
+    fn write_all(&mut self, bytes: &[u8]) -> Result<(), Self::Error> {
+        (**self).write_all(bytes)
+    }
+}
+
 /// What a piece brings about, one event after another.
+#[derive(Debug)]
 pub struct Heard<'r, 'a, 'p> {
     receiver: &'r mut Receiver<'a>,
     rest: &'p [u8],
@@ -418,6 +441,7 @@ impl Heard<'_, '_, '_> {
 }
 
 /// The events of a piece, as an iterator.
+#[derive(Debug)]
 pub struct Events<'r, 'a, 'p, 'm> {
     heard: Heard<'r, 'a, 'p>,
     room: &'m mut [u8],
@@ -451,7 +475,69 @@ pub enum SendError<E> {
     Line(E),
 }
 
+impl<E: fmt::Display> fmt::Display for SendError<E> {
+    fn fmt(&self, f: &mut fmt::Formatter<'_>) -> fmt::Result {
+        match self {
+            SendError::NoRoom => f.write_str("no room"),
+            SendError::Line(error) => write!(f, "the line failed: {error}"),
+        }
+    }
+}
+
+impl<E: core::error::Error + 'static> core::error::Error for SendError<E> {
+    fn source(&self) -> Option<&(dyn core::error::Error + 'static)> {
+        match self {
+            SendError::NoRoom => None,
+            SendError::Line(error) => Some(error),
+        }
+    }
+}
+
+/// What std reads or writes, as a [`Source`] or a [`Sink`]: a serial port, a socket, a file. A read that is interrupted is made again,
+/// and a write is flushed. With the feature `std`, which is on by default.
+///
+/// ```
+/// use frames::{Event, Io, Receiver, Sender};
+///
+/// # fn main() -> Result<(), Box<dyn std::error::Error>> {
+/// let mut line = Vec::new();
+/// Sender::new(0).send_over(b"hi", &mut [0; 16], &mut Io(&mut line))?;
+/// let mut buffer = [0u8; 16];
+/// let mut receiver = Receiver::new(&mut buffer, 0);
+/// receiver.listen(&mut Io(&line[..]), &mut [0; 64], |event| assert_eq!(event, Event::Message(b"hi")))?;
+/// # Ok(())
+/// # }
+/// ```
+#[cfg(feature = "std")]
+#[derive(Debug)]
+pub struct Io<T>(pub T);
+
+#[cfg(feature = "std")]
+impl<T: std::io::Read> Source for Io<T> {
+    type Error = std::io::Error;
+
+    fn read(&mut self, room: &mut [u8]) -> std::io::Result<usize> {
+        loop {
+            match self.0.read(room) {
+                Err(error) if error.kind() == std::io::ErrorKind::Interrupted => {}
+                read => return read,
+            }
+        }
+    }
+}
+
+#[cfg(feature = "std")]
+impl<T: std::io::Write> Sink for Io<T> {
+    type Error = std::io::Error;
+
+    fn write_all(&mut self, bytes: &[u8]) -> std::io::Result<()> {
+        self.0.write_all(bytes)?;
+        self.0.flush()
+    }
+}
+
 /// Makes what goes out for each message.
+#[derive(Debug)]
 pub struct Sender {
     state: raw::Sender,
     plain: bool,

@@ -23,7 +23,7 @@ pub struct Read {
 }
 
 #[repr(C)]
-#[derive(Clone)]
+#[derive(Clone, Debug)]
 pub struct Receiver {
     count: usize,
     past: u8,
@@ -41,7 +41,7 @@ pub struct Event {
 }
 
 #[repr(C)]
-#[derive(Clone)]
+#[derive(Clone, Debug)]
 pub struct Sender {
     clean: u8,
     sentinel: u8,

@@ -1,0 +1,156 @@
+// Frames for C++17 and later, over frames.h, whose head says what is promised: a receiver and a sender that own their state, events as a
+// std::variant, messages as views of bytes. Tested, not proved. Link it as C does, or by CMake's find_package(frames).
+#ifndef FRAMES_HPP
+#define FRAMES_HPP
+
+#include <frames.h>
+
+#include <cstddef>
+#include <cstdint>
+#include <optional>
+#include <type_traits>
+#include <utility>
+#include <variant>
+#include <vector>
+
+namespace frames {
+
+// A view of bytes that others own: of a std::string, std::string_view, std::vector, std::array or std::span of elements of one byte. A
+// std::span is made of it.
+class bytes {
+    const std::uint8_t *data_ = nullptr;
+    std::size_t size_ = 0;
+
+  public:
+    bytes() = default;
+    bytes(const std::uint8_t *data, std::size_t size) : data_(data), size_(size) {}
+    template <class C, class E = std::remove_pointer_t<decltype(std::declval<const C &>().data())>,
+              class = std::enable_if_t<sizeof(E) == 1 && !std::is_same_v<C, bytes>>>
+    bytes(const C &c) : data_(reinterpret_cast<const std::uint8_t *>(c.data())), size_(c.size()) {}
+    const std::uint8_t *data() const { return data_; }
+    std::size_t size() const { return size_; }
+    bool empty() const { return size_ == 0; }
+    const std::uint8_t *begin() const { return data_; }
+    const std::uint8_t *end() const { return data_ + size_; }
+};
+
+struct message {
+    bytes content; // in the receiver's buffer, until the next push
+};
+struct damaged {
+    std::size_t stretch; // so many bytes that are no frame, or whose message isn't counted where it should be
+};
+struct too_long {}; // more bytes than the limit
+using event = std::variant<message, damaged, too_long>;
+
+enum class kind { counted, plain };
+
+// Receives the messages of a stream that comes in pieces, with at most `limit` bytes between two sentinels. Moving it keeps what is
+// begun, and leaves a receiver with a limit of 0. Two receivers of one line would be a mistake, so it isn't copied.
+class receiver {
+    struct frames_receiver state_;
+    std::vector<std::uint8_t> buffer_;
+    kind kind_;
+
+  public:
+    explicit receiver(std::size_t limit, kind k = kind::counted, std::uint8_t sentinel = 0)
+        : state_(frames_receiver(sentinel)), buffer_(limit), kind_(k) {}
+    receiver(const receiver &) = delete;
+    receiver &operator=(const receiver &) = delete;
+    receiver(receiver &&other) noexcept
+        : state_(std::exchange(other.state_, frames_receiver(other.state_.sentinel))), buffer_(std::move(other.buffer_)), kind_(other.kind_) {
+        other.buffer_.clear();
+    }
+    receiver &operator=(receiver &&other) noexcept {
+        if (this != &other) {
+            state_ = std::exchange(other.state_, frames_receiver(other.state_.sentinel));
+            buffer_ = std::move(other.buffer_);
+            other.buffer_.clear();
+            kind_ = other.kind_;
+        }
+        return *this;
+    }
+
+    // Calls `hear` with each event of the piece, in order. If `hear` throws, the rest of the piece is dropped.
+    template <class Hear> void push(bytes piece, Hear &&hear) {
+        const auto call = kind_ == kind::plain ? frames_push_plain : frames_push;
+        for (std::size_t at = 0;;) {
+            const struct frames_event e = call(&state_, buffer_.data(), buffer_.size(), piece.data() + at, piece.size() - at);
+            at += e.used;
+            switch (e.kind) {
+            case FRAMES_MESSAGE: hear(event{message{bytes(buffer_.data() + e.start, e.length)}}); break;
+            case FRAMES_DAMAGED: hear(event{damaged{e.stretch}}); break;
+            case FRAMES_TOO_LONG: hear(event{too_long{}}); break;
+            default: return;
+            }
+        }
+    }
+
+    // How many bytes are begun.
+    std::size_t begun() const { return frames_begun(&state_); }
+
+    // Ends the stream, and begins a new one: whether it ended inside a frame.
+    bool finish() { return frames_finish(&state_); }
+};
+
+class sender {
+    struct frames_sender state_;
+    kind kind_;
+
+  public:
+    explicit sender(kind k = kind::counted, std::uint8_t sentinel = 0) : state_(frames_sender(sentinel)), kind_(k) {}
+
+    // Sends over a line: `write(bytes)` returns whether all of them went out, or throws. After a failure the next send begins with a
+    // sentinel, so that it is received.
+    template <class Write> bool send(bytes content, Write &&write) {
+        std::vector<std::uint8_t> out(frames_most_encoded_length(content.size()) + 14);
+        const auto call = kind_ == kind::plain ? frames_send_plain : frames_send;
+        const struct frames_written w = call(&state_, content.data(), content.size(), out.data(), out.size());
+        if (w.status != FRAMES_OK || !write(bytes(out.data(), w.length)))
+            return false;
+        frames_sent(&state_);
+        return true;
+    }
+};
+
+// The shortest frame of a message, each byte XORed with the sentinel; none is behind it.
+inline std::vector<std::uint8_t> encode(bytes content, std::uint8_t sentinel = 0) {
+    std::vector<std::uint8_t> out(frames_encoded_length(content.data(), content.size()));
+    frames_encode_with_sentinel(content.data(), content.size(), out.data(), out.size(), sentinel);
+    return out;
+}
+
+// The message of one frame, with or without the sentinel that ends it; nothing for all other bytes.
+inline std::optional<std::vector<std::uint8_t>> decode(bytes frame, std::uint8_t sentinel = 0) {
+    for (std::size_t at = 0; at + 1 < frame.size() || at == 0; at++)
+        if (frame.empty() || frame.data()[at] == sentinel)
+            return std::nullopt;
+    std::vector<std::uint8_t> out(frame.size());
+    const struct frames_written w = frames_decode_with_sentinel(frame.data(), frame.size(), out.data(), out.size(), sentinel);
+    if (w.status != FRAMES_OK)
+        return std::nullopt;
+    out.resize(w.length);
+    return out;
+}
+
+// The CRC-32 of bytes, as Ethernet, gzip and PNG have it.
+inline std::uint32_t crc32(bytes content) { return frames_crc32(content.data(), content.size()); }
+
+// A message with its CRC-32 behind it, as four bytes, the lowest first.
+inline std::vector<std::uint8_t> seal(bytes content) {
+    std::vector<std::uint8_t> out(content.begin(), content.end());
+    out.resize(content.size() + 4);
+    frames_seal(out.data(), out.size(), content.size());
+    return out;
+}
+
+// The message before its sum; nothing if its last four bytes aren't that.
+inline std::optional<bytes> unseal(bytes sealed) {
+    const struct frames_written w = frames_unseal(sealed.data(), sealed.size());
+    if (w.status != FRAMES_OK)
+        return std::nullopt;
+    return bytes(sealed.data(), w.length);
+}
+
+} // namespace frames
+#endif

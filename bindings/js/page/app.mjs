@@ -1,0 +1,258 @@
+// The page: a serial port or a file in, lines out. lines.mjs has what doesn't touch the page.
+import { load } from "../frames.mjs";
+import { Table, Wrong } from "../table.mjs";
+import { exampleBytes, exampleTable } from "./example.mjs";
+import { hexOf, Lines, logLine, Writing } from "./lines.mjs";
+
+const it = (id) => document.getElementById(id);
+const SHOWN = 500, KEPT = 100000, KEPT_BYTES = 1 << 26, WINDOW = 2000;
+let table, lines, writing, port, reader;
+let began = performance.now(), entries = [], dropped = 0, kept = [], keptBytes = 0, kinds = new Map(), recent = [], fresh = [], paused = false;
+
+const form = () => it("form").value;
+const settings = () => ({ form: form(), table, type: it("type").value, sentinel: parseInt(it("sentinel").value || "0", 16), hex: it("hex").checked });
+
+/** Takes what is typed on the left; says what is wrong with it. */
+function settle() {
+  it("wrong").textContent = "";
+  lines = writing = undefined;
+  const isValue = form() === "value";
+  for (const id of ["table", "tableFile", "type", "hex"]) it(id).disabled = !isValue;
+  it("json").placeholder = isValue ? "a value of the type, as JSON" : 'hexadecimal digits, or a text in quotes: "hi"';
+  try {
+    if (!/^[0-9a-fA-F]{1,2}$/.test(it("sentinel").value)) throw new Error("a delimiter is two hexadecimal digits, as 00 or 0a");
+    if (isValue) {
+      if (!it("table").value.trim()) {
+        it("type").replaceChildren();
+        return show();
+      }
+      let read;
+      try { read = JSON.parse(it("table").value); } catch { throw new Error("the table is no JSON: paste what `wire check FILES json` prints"); }
+      table = new Table(read);
+      const chosen = it("type").value, sizes = table.types.map(({ node }) => table.nodes[node].size);
+      const { names } = table;
+      it("type").replaceChildren(...names.map((name, i) => new Option(sizes[i] === null ? name : `${name} (up to ${sizes[i]} bytes)`, name)));
+      it("type").value = names.includes(chosen) ? chosen : names.at(-1);
+    }
+    begin();
+  } catch (error) { it("wrong").textContent = error.message; }
+  it("send").disabled = !port || !writing;
+  show();
+}
+/** Begins a stream anew. */
+function begin() {
+  const chosen = settings();
+  if (chosen.form === "value" && !chosen.type) { lines = writing = undefined; return; }
+  lines = new Lines(chosen);
+  writing = new Writing(chosen);
+}
+function clear() {
+  [entries, kept, recent, fresh, dropped, keptBytes] = [[], [], [], [], 0, 0];
+  kinds = new Map();
+  began = performance.now();
+  it("rows").replaceChildren();
+  show();
+}
+
+/** Takes bytes from the line. */
+export function take(bytes) {
+  const now = performance.now();
+  kept.push(bytes);
+  keptBytes += bytes.length;
+  while (keptBytes > KEPT_BYTES && kept.length > 1) keptBytes -= kept.shift().length;
+  recent.push([now, bytes.length]);
+  if (lines) note(lines.push(bytes), now);
+}
+function note(found, now) {
+  for (const entry of found) {
+    entry.seconds = (now - began) / 1000;
+    const kind = kinds.get(entry.kind) ?? { count: 0, bad: entry.bad, times: [] };
+    kind.count++;
+    kind.times.push(now);
+    kinds.set(entry.kind, kind);
+    entries.push(entry);
+    fresh.push(entry);
+  }
+  if (entries.length > KEPT) dropped += entries.splice(0, entries.length - KEPT).length;
+  if (fresh.length > SHOWN) fresh = fresh.slice(-SHOWN);
+}
+
+const isWanted = ({ kind, text, bytes }) => {
+  const wanted = it("filter").value.trim().toLowerCase();
+  return !wanted || `${kind} ${text} ${hexOf(bytes)}`.toLowerCase().includes(wanted);
+};
+function rowOf(entry) {
+  const row = document.createElement("tr");
+  row.tabIndex = -1;
+  if (entry.bad) row.className = "bad";
+  const texts = { time: entry.seconds.toFixed(3), place: `${entry.from}–${entry.to}`, kind: entry.kind, text: entry.text, hex: hexOf(entry.bytes, 64) };
+  for (const [name, text] of Object.entries(texts)) {
+    const cell = row.insertCell();
+    cell.className = name;
+    cell.textContent = text;
+  }
+  row.onclick = () => open(row, entry);
+  row.onkeydown = (event) => { if (event.key === "Enter") open(row, entry); };
+  return row;
+}
+/** Shows all bytes of a row, or again only the first. */
+function open(row, entry) {
+  row.classList.toggle("open");
+  row.lastChild.textContent = hexOf(entry.bytes, row.classList.contains("open") ? 4096 : 64);
+}
+/** Draws what has come since the last time. */
+function draw() {
+  if (!paused && fresh.length) {
+    const log = it("log"), atEnd = log.scrollTop + log.clientHeight >= log.scrollHeight - 40;
+    it("rows").append(...fresh.filter(isWanted).map(rowOf));
+    while (it("rows").childElementCount > SHOWN) it("rows").firstElementChild.remove();
+    fresh = [];
+    if (atEnd) log.scrollTop = log.scrollHeight;
+  }
+  show();
+}
+function redraw() {
+  fresh = [];
+  it("rows").replaceChildren(...entries.filter(isWanted).slice(-SHOWN).map(rowOf));
+  it("log").scrollTop = it("log").scrollHeight;
+}
+/** The counts and rates, which are averages over the last two seconds. */
+function show() {
+  const now = performance.now(), span = (name, text) => Object.assign(document.createElement("span"), { className: name, textContent: text });
+  it("kinds").replaceChildren(...[...kinds].map(([name, kind]) => {
+    kind.times = kind.times.filter((time) => now - time < WINDOW);
+    const rate = kind.times.length / (WINDOW / 1000), whole = span(kind.bad ? "bad" : "", `${name} ${kind.count}`);
+    if (rate) whole.append(span("rate", ` ${rate.toFixed(1)}/s`));
+    return whole;
+  }));
+  recent = recent.filter(([time]) => now - time < WINDOW);
+  const all = [...kinds.values()].reduce((sum, { count }) => sum + count, 0), bad = [...kinds.values()].reduce((sum, it) => sum + (it.bad ? it.count : 0), 0);
+  const rate = recent.reduce((sum, [, n]) => sum + n, 0) / (WINDOW / 1000);
+  it("foot").textContent = [`${lines?.bytes ?? 0} bytes`, rate && `${rate.toFixed(0)} bytes/s`, all && `${all - bad} messages, ${bad} damaged`,
+    dropped && `the first ${dropped} lines aren't kept any more`, !lines && "paste a table, or choose bytes, to see messages"].filter(Boolean).join(" · ");
+}
+
+async function connect() {
+  it("lost").textContent = "";
+  const chosen = await navigator.serial.requestPort();
+  await chosen.open({ baudRate: Number(it("baud").value) });
+  port = chosen;
+  it("connect").disabled = true;
+  it("close").disabled = false;
+  begin();
+  it("send").disabled = !writing;
+  let closing = false;
+  it("close").onclick = () => { closing = true; reader?.cancel(); };
+  while (port.readable && !closing) { // a line error ends a stream, and the port has another one then
+    reader = port.readable.getReader();
+    try {
+      for (let chunk; !(chunk = await reader.read()).done; ) take(chunk.value);
+      closing = true;
+    } catch (error) { it("lost").textContent = `the line: ${error.message}`; } finally { reader.releaseLock(); }
+  }
+  ended();
+  try { await port.close(); } catch {}
+  port = undefined;
+  it("connect").disabled = false;
+  it("close").disabled = it("send").disabled = true;
+}
+/** The stream is over: what is begun is cut off. */
+function ended() {
+  if (lines) note(lines.finish(), performance.now());
+}
+/** Whether a port is open, which another stream must not be mixed with. */
+function isBusy() {
+  if (port) it("lost").textContent = "Close the port first.";
+  return port !== undefined;
+}
+async function takeFile(file) {
+  if (!file) return; // none was chosen, or what was dropped isn't a file
+  if (file.name.endsWith(".json")) {
+    it("table").value = await file.text();
+    return settle();
+  }
+  if (isBusy()) return;
+  begin();
+  clear();
+  const chunks = file.stream().getReader();
+  for (let chunk; !(chunk = await chunks.read()).done; ) take(chunk.value);
+  ended();
+}
+async function send() {
+  it("refused").textContent = it("sent").textContent = "";
+  let writer;
+  try {
+    writer = port.writable.getWriter();
+    const message = await writing.write(writer, it("json").value);
+    it("sent").textContent = `${message.length} bytes: ${hexOf(message, 32)}`;
+  } catch (error) { it("refused").textContent = error instanceof Wrong ? error.message : `not sent: ${error.message}`; } finally { writer?.releaseLock(); }
+}
+function save(name, type, parts) {
+  const link = document.createElement("a");
+  link.href = URL.createObjectURL(new Blob(parts, { type }));
+  link.download = name;
+  link.click();
+  setTimeout(() => URL.revokeObjectURL(link.href), 10000);
+}
+function pause() {
+  paused = !paused;
+  it("pause").setAttribute("aria-pressed", String(paused));
+  it("pause").textContent = paused ? "Go on" : "Pause";
+  if (!paused) redraw();
+}
+/** Arrow keys go from line to line, and / to the search. */
+function key(event) {
+  if (event.key === "/" && !/INPUT|TEXTAREA|SELECT/.test(document.activeElement.tagName)) {
+    event.preventDefault();
+    return it("filter").focus();
+  }
+  const row = document.activeElement.closest?.("#rows tr"), inLog = row || document.activeElement === it("log");
+  if (!inLog || !["ArrowDown", "ArrowUp"].includes(event.key)) return;
+  event.preventDefault();
+  const down = event.key === "ArrowDown";
+  (row ? (down ? row.nextElementSibling : row.previousElementSibling) : down ? it("rows").firstElementChild : it("rows").lastElementChild)?.focus();
+}
+
+await load();
+it("log").tabIndex = 0;
+for (const id of ["form", "type", "sentinel", "table"]) it(id).addEventListener(id === "type" || id === "form" ? "change" : "input", settle);
+for (const id of ["tableFile", "file"]) {
+  it(id).onchange = async () => {
+    await takeFile(it(id).files[0]);
+    it(id).value = ""; // the same file may be chosen again
+  };
+}
+it("hex").onchange = settle;
+it("connect").onclick = () => connect().catch((error) => { it("lost").textContent = error.message; });
+it("send").onclick = send;
+it("json").onkeydown = (event) => { if (event.key === "Enter" && (event.ctrlKey || event.metaKey) && !it("send").disabled) send(); };
+it("pause").onclick = pause;
+it("clear").onclick = clear;
+it("filter").oninput = redraw;
+it("save").onclick = () => save("messages.jsonl", "application/json", entries.map((entry) => `${logLine(entry)}\n`));
+it("saveBytes").onclick = () => save("line.bin", "application/octet-stream", kept);
+it("example").onclick = () => {
+  if (isBusy()) return;
+  it("form").value = "value";
+  it("table").value = JSON.stringify(exampleTable);
+  settle();
+  it("type").value = "Message";
+  settle();
+  clear();
+  take(exampleBytes);
+};
+addEventListener("keydown", key);
+document.body.ondragover = (event) => { event.preventDefault(); document.body.classList.add("over"); };
+document.body.ondragleave = () => document.body.classList.remove("over");
+document.body.ondrop = (event) => {
+  event.preventDefault();
+  document.body.classList.remove("over");
+  takeFile(event.dataTransfer.files[0]);
+};
+if (!("serial" in navigator)) {
+  it("connect").disabled = true;
+  it("lost").textContent = "This browser has no Web Serial: Chrome and Edge have it, over https or from localhost. A captured file can be dropped.";
+}
+settle();
+setInterval(draw, 100);
+document.documentElement.dataset.ready = "yes";

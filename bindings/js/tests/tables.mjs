@@ -1,0 +1,77 @@
+// table.mjs over tables that are made at random, which may be hostile: bytes are a value or are refused, in time; what is read is JSON; what is
+// written of that is read as the same; what isn't of the type is refused as such. Numbers at the edges of their types, by their bytes.
+// usage: node tables.mjs [ROUNDS]
+import assert from "node:assert";
+import { Table, Unread, Wrong } from "../table.mjs";
+
+const rounds = Number(process.argv[2] ?? 1000);
+let seed = 7;
+const some = (n) => { seed = (seed * 1103515245 + 12345) & 0x7fffffff; return (seed >> 8) % n; };
+const one = (...of) => of[some(of.length)];
+const PLAIN = ["bool", "u8", "i8", "u16", "i16", "u32", "i32", "u64", "i64", "u128", "i128", "f32", "f64", "char", "bytes", "unit", "empty"];
+
+function node(count) {
+  const place = () => some(count), parts = (name) => Array.from({ length: some(4) }, (_, i) => ({ name: `${name}${i}`, node: place() }));
+  const size = one(null, null, 0, 1);
+  switch (some(12)) {
+    case 0: return { kind: "option", node: place(), size };
+    case 1: return { kind: one("list", "map"), most: one(null, null, 3), node: place(), size };
+    case 2: return { kind: "array", count: one(0, 1, 3, 1e9), node: place(), size };
+    case 3: return { kind: "newtype", node: place(), size };
+    case 4: return { kind: "struct", fields: parts("f"), size };
+    case 5: return { kind: "tuple", nodes: parts("").map((it) => it.node), size };
+    case 6: return { kind: "enum", variants: parts("V"), size };
+    case 7: return { kind: "text", most: one(null, 5), size };
+    case 8: return { kind: "fixed", integer: one("u16", "i32", "u64", "i128"), order: one("little", "big"), size };
+    default: return { kind: one(...PLAIN), size: null };
+  }
+}
+let read = 0, refused = 0;
+for (let k = 0; k < rounds; k++) {
+  const count = 1 + some(9), nodes = Array.from({ length: count }, () => node(count));
+  const table = new Table({ version: 1, types: [{ name: "T", line: 1, node: some(count) }], nodes }), place = table.placeOf("T");
+  const options = { empty: 100 };
+  for (let j = 0; j < 6; j++) {
+    const bytes = Uint8Array.from({ length: some(40) }, () => one(0, 1, 1, 2, 3, 65, some(256)));
+    let text;
+    try { text = table.read(place, bytes, options); } catch (error) {
+      if (!(error instanceof Unread)) throw error;
+      refused++;
+      continue;
+    }
+    read++;
+    JSON.parse(text);
+    const written = table.write(place, text, options), again = table.read(place, written, options);
+    assert.equal(again, text);
+    assert.deepEqual(table.write(place, `{"value":${text}}`, options), written);
+    const other = one("null", "1", "-1.5", '"x"', "[]", "{}", '{"V0":null}', "[1,2", `${text}x`, text.replace(/\d/, "99999999999999999999"));
+    try { table.read(place, table.write(place, other, options), options); } catch (error) { if (!(error instanceof Wrong) && !(error instanceof Unread)) throw error; }
+  }
+}
+
+// by the rules of postcard
+const of = (...nodes) => new Table({ version: 1, types: [{ name: "T", line: 1, node: 0 }], nodes });
+const hex = (bytes) => Buffer.from(bytes).toString("hex");
+const cases = [
+  [of({ kind: "u8" }), "255", "ff"], [of({ kind: "i8" }), "-128", "80"], [of({ kind: "u16" }), "65535", "ffff03"], [of({ kind: "i16" }), "-32768", "ffff03"],
+  [of({ kind: "u64" }), "18446744073709551615", "ffffffffffffffffff01"], [of({ kind: "i64" }), "-9223372036854775808", "ffffffffffffffffff01"],
+  [of({ kind: "u128" }), String(2n ** 128n - 1n), "ffffffffffffffffffffffffffffffffffff03"], [of({ kind: "i128" }), String(-(2n ** 127n)), "ffffffffffffffffffffffffffffffffffff03"],
+  [of({ kind: "f32" }), "0.1", "cdcccc3d"], [of({ kind: "f64" }), "-2.5", "00000000000004c0"], [of({ kind: "char" }), '"€"', "03e282ac"],
+  [of({ kind: "fixed", integer: "u32", order: "big" }), "1", "00000001"], [of({ kind: "option", node: 1 }, { kind: "unit" }), '{"Some":null}', "01"],
+];
+for (const [table, json, bytes] of cases) {
+  assert.equal(hex(table.write(0, json)), bytes);
+  assert.equal(table.read(0, Buffer.from(bytes, "hex")), json);
+}
+// numbers between two floats of 32 bits: what a double has rounded isn't rounded again
+const single = of({ kind: "f32" });
+for (const [json, bits] of [["1.000000059604644775390625", "0000803f"], ["1.0000000596046447753906251", "0100803f"], ["1.000000178813934326171874999999", "0100803f"],
+  ["340282356779733661637539395458142568447", "ffff7f7f"], ["1e-45", "01000000"], ["7.006492321624085354618e-46", "00000000"]]) {
+  assert.equal(hex(single.write(0, json)), bits, json);
+}
+assert.throws(() => single.write(0, "340282356779733661637539395458142568448"), Wrong);
+// types of one name are told apart by their lines; without a line none is chosen
+const twice = new Table({ version: 1, types: [["Config", 3, 0], ["Config", 7, 1], ["All", 9, 1]].map(([name, line, node]) => ({ name, line, node })), nodes: [{ kind: "u8" }, { kind: "u16" }] });
+assert.deepEqual(twice.names, ["Config:3", "Config:7", "All"]);
+assert.deepEqual(["Config", "Config:3", "Config:7", "All", "All:9", "Other"].map((name) => twice.placeOf(name)), [undefined, 0, 1, 1, undefined, undefined]);
+console.log(`${rounds} tables made at random: ${read} values read, written and read again, ${refused} refused; ${cases.length} numbers at their edges`);

@@ -1,0 +1,50 @@
+"""Frames over asyncio's streams: `frames.aio`. Tested, not proved.
+
+    reader, writer = await asyncio.open_connection(host, port)
+    line = Line(writer)
+    await line.send(b"hi")
+    async for event in listen(reader, limit=1024):
+        ...                             # bytes, Damaged, TooLong, and Cut at the end, where it broke off
+"""
+from __future__ import annotations
+
+import asyncio
+from typing import AsyncIterator
+
+from . import Event, Receiver, Sender
+
+__all__ = ["Line", "listen"]
+
+
+async def listen(reader: asyncio.StreamReader, limit: int, sentinel: int = 0, plain: bool = False) -> AsyncIterator[Event]:
+    """What is heard of a stream, as it comes; `Cut` last, where it ended inside a stretch.
+
+    What reading raises comes out behind what was heard.
+    """
+    receiver = Receiver(limit, sentinel, plain)
+    while True:
+        piece = await reader.read(65536)
+        if not piece:
+            break
+        for event in receiver.push(piece):
+            yield event
+    cut = receiver.finish()
+    if cut is not None:
+        yield cut
+
+
+class Line:
+    """Sends over a stream, one send after another whoever awaits."""
+
+    def __init__(self, writer: asyncio.StreamWriter, sentinel: int = 0, plain: bool = False) -> None:
+        self._writer, self._sender, self._lock = writer, Sender(sentinel, plain), asyncio.Lock()
+
+    async def send(self, message: bytes) -> None:
+        """Sends a message, and waits until the stream takes more.
+
+        After what it raises, also where it is cancelled, the next send begins with a sentinel: send the message again, if it has to arrive.
+        """
+        async with self._lock:
+            self._writer.write(self._sender.send(message))
+            await self._writer.drain()
+            self._sender.sent()
