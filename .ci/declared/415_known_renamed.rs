@@ -1,0 +1,3 @@
+use heapless::{String as Text, Vec as List};
+// message
+struct A(Text<8>, List<u8, 4>);

@@ -1,0 +1,5 @@
+mod x { pub type Deque = u8; }
+use heapless::*;
+use x::*;
+// message
+struct A(Deque);

@@ -1,0 +1,4 @@
+#[cfg(feature = "x")]
+type Id = u16;
+// message
+struct A(Id);

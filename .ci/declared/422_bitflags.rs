@@ -1,0 +1,5 @@
+bitflags! {
+    pub struct Flags: u8 { const A = 1; }
+}
+// message
+struct A(Flags);

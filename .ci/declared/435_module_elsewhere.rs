@@ -1,0 +1,4 @@
+use crate::levels::Level;
+// message
+struct A(Level);
+mod other { pub type Level = u8; }
