@@ -5,7 +5,7 @@ use crate::answers::{Counted, Found, NONE_FOUND};
 use journal::{Halt, Journal, Visitor, frame_record, read_all};
 use link::{Answer, OfType, Strict};
 use std::alloc::Global;
-use stores::Memory;
+use stores::MemoryStore;
 
 /// How many bytes a record takes in the store at most.
 const MOST: usize = 64;
@@ -55,7 +55,10 @@ pub extern "C" fn journal_c_append(
     let Ok(text) = std::str::from_utf8(text) else {
         return;
     };
-    let mut journal: Journal<Memory, MOST> = Journal::resume(Memory::new(Vec::new(alloc)), 0);
+    let mut journal: Journal<MemoryStore, MOST> = Journal::resume(
+        MemoryStore::new(Vec::new(alloc)),
+        0,
+    );
     let mut calls = 0u64;
     for which in 0..count {
         if journal.append(&(which, text)).is_err() || journal.sync().is_err() {
@@ -86,9 +89,9 @@ pub extern "C" fn journal_c_open(alloc: Global, log: &[u8], found: &mut Found) {
         return;
     }
     let mut counting = Counting { found: NONE_FOUND };
-    let opened = Journal::<Memory, MOST>::open::<(u32, String), _, _>(
+    let opened = Journal::<MemoryStore, MOST>::open::<(u32, String), _, _>(
         alloc,
-        Memory::new(bytes),
+        MemoryStore::new(bytes),
         0,
         &Strict(OfType),
         &mut counting,
@@ -107,7 +110,7 @@ pub extern "C" fn journal_c_read_all(alloc: Global, log: &[u8], found: &mut Foun
     if bytes.extend_from_slice(log).is_err() {
         return;
     }
-    let mut store = Memory::new(bytes);
+    let mut store = MemoryStore::new(bytes);
     let mut counting = Counting { found: NONE_FOUND };
     let read = read_all::<(u32, String), _, _, _, MOST>(
         alloc,

@@ -10,7 +10,7 @@ use line_io::{Writes, write_all};
 use link::Answer;
 use sealed::Sealed;
 use std::io;
-use stores::{Memory, Store, Stored};
+use stores::{MemoryStore, Store, Stored};
 
 // What is held against a stretch, where something is.
 fn held_against(answer: &Answer<(u64, Entry)>, again: bool) -> Option<&'static str> {
@@ -132,8 +132,8 @@ pub fn check(rt: &HostRuntime, path: Option<&str>) -> io::Result<u8> {
 }
 
 // Repairs a log to an empty one, and prints that.
-fn mend_to(rt: &HostRuntime, from: &mut Memory, to: &mut Memory) -> io::Result<u8> {
-    match journal_scan::repair::<Entry, Memory, Memory>(rt.alloc(), MOST, from, to) {
+fn mend_to(rt: &HostRuntime, from: &mut MemoryStore, to: &mut MemoryStore) -> io::Result<u8> {
+    match journal_scan::repair::<Entry, MemoryStore, MemoryStore>(rt.alloc(), MOST, from, to) {
         Ok(repaired) => {
             if write_all(&mut Writes::new(rt.stdout()), to.bytes()).is_err() {
                 return Ok(say_failed(rt, OUTPUT, &"write failed"));
@@ -151,7 +151,7 @@ fn mend_to(rt: &HostRuntime, from: &mut Memory, to: &mut Memory) -> io::Result<u
 /// Repairs the log on standard input to standard output. Nothing is written unless all of it was read.
 pub fn mend(rt: &HostRuntime) -> io::Result<u8> {
     match read_input(rt) {
-        Ok(mut from) => mend_to(rt, &mut from, &mut Memory::new(Vec::new(rt.alloc()))),
+        Ok(mut from) => mend_to(rt, &mut from, &mut MemoryStore::new(Vec::new(rt.alloc()))),
         Err(status) => Ok(status),
     }
 }

@@ -6,7 +6,7 @@ use sealed::Sealed;
 use std::fmt::Display;
 use std::fs::{self, File, OpenOptions};
 use std::io::{self, ErrorKind};
-use stores::Memory;
+use stores::MemoryStore;
 
 /// The most bytes that a record takes, with its zero.
 pub const MOST: usize = 1024;
@@ -95,10 +95,10 @@ pub fn say_error(rt: &HostRuntime, file: &str, e: &io::Error) -> u8 {
 }
 
 /// The log that stands on standard input; or the status where it can't be had.
-pub fn read_input(rt: &HostRuntime) -> Result<Memory, u8> {
+pub fn read_input(rt: &HostRuntime) -> Result<MemoryStore, u8> {
     let mut bytes = Vec::new(rt.alloc());
     match read_to_end(&mut Reads::new(rt.stdin()), &mut bytes) {
-        End::Ended => Ok(Memory::new(bytes)),
+        End::Ended => Ok(MemoryStore::new(bytes)),
         End::ReadFault => Err(say_failed(rt, INPUT, &"read failed")),
         End::NoMemory => Err(say_no_memory(rt, INPUT)),
     }

@@ -1,20 +1,20 @@
 -- What a clause reads of a store in memory.
 use Rattle.std.specs.Prelude.{ℕ, List, Option, Some}
 use Rattle.line_io.specs.Device.{LineState}
-use Rattle.stores.specs.declared.memory.Memory.{Memory}
+use Rattle.stores.specs.declared.memory.MemoryStore.{MemoryStore}
 
 -- the bytes that it holds
-abbrev pub bytes_in : Memory → List ℕ
+abbrev pub bytes_in : MemoryStore → List ℕ
 bytes_in m = m.bytes.items
 
 -- where it stands: it tells all bytes that it holds
-abbrev pub line_in : Memory → LineState
+abbrev pub line_in : MemoryStore → LineState
 line_in m = record { told = Some m.bytes.items; faults = m.faults; calls_left = m.calls }
 
 -- how many no crash takes
-abbrev pub settled_in : Memory → ℕ
+abbrev pub settled_in : MemoryStore → ℕ
 settled_in m = m.settled
 
 -- after how many bytes more an append fails once, where one will
-abbrev pub fault_in : Memory → Option ℕ
+abbrev pub fault_in : MemoryStore → Option ℕ
 fault_in m = m.fault

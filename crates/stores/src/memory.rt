@@ -6,7 +6,7 @@ use std::alloc::Global;
 
 /// A store in memory. It can be made to take so many bytes more and then fail once, and to crash.
 #[derive(Drop)]
-pub struct Memory {
+pub struct MemoryStore {
     bytes: Vec<u8>,
     settled: usize,
     fault: Option<usize>,
@@ -16,18 +16,18 @@ pub struct Memory {
     ghost counted: { faults + calls ≤ 2 ^ 64 - 1 },
 }
 
-impl Memory {
+impl MemoryStore {
     ghost use Rattle.stores.specs.Memory.{bytes_in, settled_in, fault_in, line_in};
     ghost use Rattle.stores.specs.Store.{IsFresh};
 
     /// A store that holds these bytes, all of them settled.
-    pub fn new(bytes: Vec<u8>) -> Memory
+    pub fn new(bytes: Vec<u8>) -> MemoryStore
         ensures fresh { IsFresh (line_in result) }
         ensures sound { fault_in result ≡ None }
         ensures bytes { bytes_in result ≡ bytes.items }
         ensures settled { settled_in result ≡ length bytes.items }
     {
-        Memory {
+        MemoryStore {
             settled: bytes.len(),
             bytes,
             fault: None,
@@ -61,12 +61,12 @@ impl Memory {
 
     /// The store after a crash: so many of the bytes that aren't settled are left, and so many zeros stand behind them, as a file
     /// system shows bytes that were never written. All of that is settled. `None` when out of memory.
-    pub fn crash(self, left: usize, zeros: usize) -> Option<Memory>
+    pub fn crash(self, left: usize, zeros: usize) -> Option<MemoryStore>
         ensures bytes { IfSome result
             (λ m. bytes_in m ≡ take (settled_in self + left) (bytes_in self) ++ replicate zeros 0) }
         ensures settled { IfSome result (λ m. settled_in m ≡ length (bytes_in m)) }
     {
-        let Memory {
+        let MemoryStore {
             mut bytes,
             settled,
             fault: _,
@@ -76,11 +76,11 @@ impl Memory {
         let kept = settled + left.min(bytes.len() - settled);
         bytes.truncate(kept);
         bytes.resize(kept.checked_add(zeros)?, 0).ok()?;
-        Some(Memory::new(bytes))
+        Some(MemoryStore::new(bytes))
     }
 }
 
-impl Store for Memory {
+impl Store for MemoryStore {
     ghost use Rattle.stores.specs.Memory.{line_in, settled_in, fault_in};
 
     ghost line = { line_in };

@@ -5,7 +5,7 @@ use journal_scan::Stretch;
 use link::Answer;
 use std::alloc::Global;
 use std::process::Abort;
-use stores::Memory;
+use stores::MemoryStore;
 
 /// Ends a test that isn't right.
 pub fn check(rt: &impl Abort, is_right: bool) {
@@ -37,9 +37,9 @@ pub fn with(alloc: Global, bytes: &[u8], at: usize, others: &[u8]) -> Option<Vec
 }
 
 /// A store that holds these bytes.
-pub fn holding(alloc: Global, bytes: &[u8]) -> Option<Memory> {
+pub fn holding(alloc: Global, bytes: &[u8]) -> Option<MemoryStore> {
     match joined(alloc, [bytes, &[], &[]]) {
-        Some(held) => Some(Memory::new(held)),
+        Some(held) => Some(MemoryStore::new(held)),
         None => None,
     }
 }

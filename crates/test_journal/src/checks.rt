@@ -6,7 +6,7 @@ use crate::tallies::are_missing;
 use journal::Halt;
 use journal_scan::{CheckError, Judge, Report, Stretch, Tally, Watcher};
 use std::alloc::Global;
-use stores::Memory;
+use stores::MemoryStore;
 
 // Record 1, a damaged stretch, record 3, a stretch of more than twelve bytes, record 3 again, the record 2^64 - 1, and record 4
 // without its zero.
@@ -95,7 +95,7 @@ fn checked(
     told: &mut Told,
 ) -> Option<Result<Report<u32>, CheckError>> {
     match holding(alloc, bytes) {
-        Some(mut store) => Some(journal_scan::check::<u32, Memory, Told>(
+        Some(mut store) => Some(journal_scan::check::<u32, MemoryStore, Told>(
             alloc, 12, &mut store, told,
         )),
         None => None,

@@ -6,7 +6,7 @@ use journal::{Listed, read_all};
 use link::{Answer, OfType, Strict};
 use sealed::Sealed;
 use std::alloc::Global;
-use stores::Memory;
+use stores::MemoryStore;
 
 // A value with its record's number, and both sealed.
 type Entry = Sealed<(u64, u32)>;
@@ -46,9 +46,9 @@ fn bits(answers: &[Answer<(u64, Entry)>]) -> Option<u8> {
 }
 
 // Which of the values are read, as bits; nothing where a record is read that was never appended.
-fn found(alloc: Global, store: &mut Memory) -> Option<u8> {
+fn found(alloc: Global, store: &mut MemoryStore) -> Option<u8> {
     let mut list = Listed::<Entry>::new(alloc);
-    match read_all::<Entry, Strict<OfType>, Memory, Listed<Entry>, N>(
+    match read_all::<Entry, Strict<OfType>, MemoryStore, Listed<Entry>, N>(
         alloc,
         store,
         0,
@@ -81,7 +81,7 @@ fn untouched(bytes: &[u8], at: usize) -> u8 {
 fn bears(alloc: Global, bytes: &[u8], at: usize, others: &[u8]) -> bool {
     let kept = untouched(bytes, at);
     match with(alloc, bytes, at, others) {
-        Some(changed) => match found(alloc, &mut Memory::new(changed)) {
+        Some(changed) => match found(alloc, &mut MemoryStore::new(changed)) {
             Some(found) => found & kept == kept,
             None => false,
         },
@@ -111,6 +111,6 @@ fn bears_all(alloc: Global, bytes: &[u8]) -> bool {
 
 #[test]
 fn damaged_at_every_byte(rt: HostRuntime) {
-    let (done, log) = write(rt.alloc(), Memory::new(Vec::new(rt.alloc())), &ENTRIES);
+    let (done, log) = write(rt.alloc(), MemoryStore::new(Vec::new(rt.alloc())), &ENTRIES);
     check(&rt, done == 6 && bears_all(rt.alloc(), log.bytes()));
 }

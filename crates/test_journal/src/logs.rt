@@ -5,7 +5,7 @@ use journal::{Journal, Listed, Unheard};
 use link::{Answer, OfType, Strict};
 use postcard::{DeserializeOwned, Exact, Serialize};
 use std::alloc::Global;
-use stores::{Memory, Store, put};
+use stores::{MemoryStore, Store, put};
 
 /// The most bytes that a record takes.
 pub const N: usize = 24;
@@ -15,7 +15,7 @@ const VALUES: [u32; 5] = [300, 5, 0, 70000, 1];
 // What is appended behind all of them.
 const BEHIND: u32 = 9;
 
-type Log = Journal<Memory, N>;
+type Log = Journal<MemoryStore, N>;
 
 type List = Listed<u32>;
 
@@ -32,9 +32,9 @@ fn append_all<T: Serialize>(journal: &mut Log, values: &[T]) -> usize {
 /// A log in memory of the values, opened once; how many appends were Ok.
 pub fn write<T: DeserializeOwned + Exact>(
     alloc: Global,
-    store: Memory,
+    store: MemoryStore,
     values: &[T],
-) -> (usize, Memory) {
+) -> (usize, MemoryStore) {
     match Log::open::<T, Strict<OfType>, Unheard>(alloc, store, 0, &Strict(OfType), &mut Unheard) {
         Ok(mut journal) => {
             let done = append_all(&mut journal, values);
@@ -67,7 +67,7 @@ fn counted(answers: &[Answer<(u64, u32)>]) -> Option<usize> {
 }
 
 // How many records are read of a store, opened.
-fn count(alloc: Global, store: Memory) -> Option<usize> {
+fn count(alloc: Global, store: MemoryStore) -> Option<usize> {
     let mut list = List::new(alloc);
     match Log::open::<u32, Strict<OfType>, List>(alloc, store, 0, &Strict(OfType), &mut list) {
         Ok(_) => counted(&list.answers),
@@ -77,7 +77,11 @@ fn count(alloc: Global, store: Memory) -> Option<usize> {
 
 #[test]
 fn bytes_of_a_log(rt: HostRuntime) {
-    let (done, store) = write(rt.alloc(), Memory::new(Vec::new(rt.alloc())), &[300u32, 5]);
+    let (done, store) = write(
+        rt.alloc(),
+        MemoryStore::new(Vec::new(rt.alloc())),
+        &[300u32, 5],
+    );
     check(
         &rt,
         done == 2 && are_bytes(store.bytes(), &[0, 1, 3, 172, 2, 0, 3, 1, 5, 0]),
@@ -87,7 +91,7 @@ fn bytes_of_a_log(rt: HostRuntime) {
 // The store fails after so many bytes of the 24 of a session of five; then the log is opened, opened again and read: all records whose append
 // was Ok are there, and at most one more, whose frame went out whole.
 fn survives_fault(alloc: Global, at: usize) -> bool {
-    let mut store = Memory::new(Vec::new(alloc));
+    let mut store = MemoryStore::new(Vec::new(alloc));
     store.fail_after(at);
     let (done, store) = write(alloc, store, &VALUES);
     let (_, store) = write::<u32>(alloc, store, &[]);
@@ -113,7 +117,7 @@ fn goes_on(journal: &mut Log, count: usize) -> bool {
 }
 
 // How many records a log has that is opened and gets one more, synced; and what it is then.
-fn gone_on(alloc: Global, store: Memory) -> Option<(usize, Memory)> {
+fn gone_on(alloc: Global, store: MemoryStore) -> Option<(usize, MemoryStore)> {
     let mut list = List::new(alloc);
     let Ok(mut journal) = Log::open::<u32, Strict<OfType>, List>(
         alloc,
@@ -139,7 +143,7 @@ fn gone_on(alloc: Global, store: Memory) -> Option<(usize, Memory)> {
 // A crash leaves so many of the bytes that weren't synced, and so many zeros behind them; then the log is opened, gets one more
 // record, is synced and read again.
 fn survives_crash(alloc: Global, left: usize, zeros: usize) -> bool {
-    let (_, store) = write(alloc, Memory::new(Vec::new(alloc)), &VALUES);
+    let (_, store) = write(alloc, MemoryStore::new(Vec::new(alloc)), &VALUES);
     let Some(store) = store.crash(left, zeros) else {
         return false;
     };
@@ -164,7 +168,7 @@ fn crashed_at_every_byte(rt: HostRuntime) {
     }
 }
 
-fn is_read(store: &mut Memory, from: u64, wanted: &[u8; 3]) -> bool {
+fn is_read(store: &mut MemoryStore, from: u64, wanted: &[u8; 3]) -> bool {
     let mut room = [0u8; 3];
     matches!(store.read_at(from, &mut room), Some(3)) && are_bytes(&room, wanted)
 }
@@ -172,7 +176,7 @@ fn is_read(store: &mut Memory, from: u64, wanted: &[u8; 3]) -> bool {
 // Bytes that go in by parts, and are read at an offset.
 #[test]
 fn bytes_of_a_store(rt: HostRuntime) {
-    let mut store = Memory::new(Vec::new(rt.alloc()));
+    let mut store = MemoryStore::new(Vec::new(rt.alloc()));
     store.fail_after(3);
     check(
         &rt,

@@ -4,7 +4,7 @@ use crate::bytes::{Place, check, holding, is_last, is_place};
 use journal_scan::Scan;
 use link::Answer;
 use std::alloc::Global;
-use stores::{Memory, put};
+use stores::{MemoryStore, put};
 
 // Two records, a damaged stretch, one of more than five bytes, and one that no zero ends.
 const BYTES: [u8; 23] = [
@@ -32,24 +32,24 @@ fn is_number(answer: &Answer<(u64, u32)>, wanted: Option<u64>) -> bool {
 fn comes(
     alloc: Global,
     scan: &mut Scan,
-    store: &mut Memory,
+    store: &mut MemoryStore,
     place: Place,
     number: Option<u64>,
 ) -> bool {
-    match scan.next_ended::<u32, Memory>(alloc, store) {
+    match scan.next_ended::<u32, MemoryStore>(alloc, store) {
         Ok(Some(stretch)) => is_place(&stretch, place) && is_number(&stretch.answer, number),
         _ => false,
     }
 }
 
-fn finds_all(alloc: Global, scan: &mut Scan, store: &mut Memory) -> bool {
+fn finds_all(alloc: Global, scan: &mut Scan, store: &mut MemoryStore) -> bool {
     for (place, number) in PLACES {
         if !comes(alloc, scan, store, place, number) {
             return false;
         }
     }
     // no other comes, and the cut one stands at the end; what was appended since ends it
-    matches!(scan.next_ended::<u32, Memory>(alloc, store), Ok(None))
+    matches!(scan.next_ended::<u32, MemoryStore>(alloc, store), Ok(None))
         && is_last(&scan.unfinished::<u32>(), Some((21, 23, 'c')))
         && put(store, &[0]) == 1
         && comes(alloc, scan, store, (21, 23, 'd'), None)

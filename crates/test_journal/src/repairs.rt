@@ -4,7 +4,7 @@ use crate::bytes::{are_bytes, check, holding, with};
 use journal_scan::{RepairError, Repaired, Scan, ScanError, Stretch, repair};
 use link::Answer;
 use std::alloc::Global;
-use stores::{Memory, Store};
+use stores::{MemoryStore, Store};
 
 const LIMIT: usize = 12;
 
@@ -12,18 +12,22 @@ const LIMIT: usize = 12;
 const LOG: [u8; 16] = [0, 1, 3, 172, 2, 0, 3, 1, 5, 0, 5, 3, 240, 162, 4, 0];
 
 // An empty store that takes so many bytes.
-fn room_for(alloc: Global, room: usize) -> Memory {
-    let mut store = Memory::new(Vec::new(alloc));
+fn room_for(alloc: Global, room: usize) -> MemoryStore {
+    let mut store = MemoryStore::new(Vec::new(alloc));
     store.fail_after(room);
     store
 }
 
 // What repairing these bytes to a store answers.
-fn repaired(alloc: Global, bytes: &[u8], to: &mut Memory) -> Option<Result<Repaired, RepairError>> {
+fn repaired(
+    alloc: Global,
+    bytes: &[u8],
+    to: &mut MemoryStore,
+) -> Option<Result<Repaired, RepairError>> {
     let Some(mut from) = holding(alloc, bytes) else {
         return None;
     };
-    let result = repair::<u32, Memory, Memory>(alloc, LIMIT, &mut from, to);
+    let result = repair::<u32, MemoryStore, MemoryStore>(alloc, LIMIT, &mut from, to);
     // the log is as it was
     if are_bytes(from.bytes(), bytes) {
         Some(result)
@@ -94,7 +98,7 @@ fn add_all(alloc: Global, scan: Scan, bytes: &[u8], all: &mut Vec<u8>) -> bool {
         return false;
     };
     for _ in bytes {
-        if !add_stretch(scan.next_ended::<u32, Memory>(alloc, &mut from), all) {
+        if !add_stretch(scan.next_ended::<u32, MemoryStore>(alloc, &mut from), all) {
             return false;
         }
     }
