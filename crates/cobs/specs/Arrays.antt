@@ -12,7 +12,7 @@ module _ {N : ℕ} where
   abbrev pub array_buffer : CobsDecoderHeapless N → List ℕ
   array_buffer d = d.array.items
 
-  -- how far its frame was taken in
+  -- how much of its frame was taken
   abbrev pub array_progress : CobsDecoderHeapless N → Progress
   array_progress d = d.progress
 
@@ -20,7 +20,7 @@ module _ {N : ℕ} where
   abbrev pub array_sentinel : CobsDecoderHeapless N → ℕ
   array_sentinel d = d.sentinel
 
-  -- The bytes of this frame so far, as they are for the sentinel zero, were taken in.
+  -- The bytes of this frame so far, as they are for the sentinel zero, were taken.
   abbrev pub ArrayHas : CobsDecoderHeapless N → List ℕ → Type 0
   ArrayHas d bytes = HasStreamed (array_progress d) bytes
 
@@ -28,7 +28,7 @@ module _ {N : ℕ} where
   abbrev pub with_array_buffer : CobsDecoderHeapless N → List ℕ → CobsDecoderHeapless N
   with_array_buffer d bytes = record d { array = with_items d.array bytes }
 
--- The buffer is lent: it ends as what is left behind the result, and nothing else changes.
+-- The buffer is borrowed: it ends as what is left of the result, and nothing else changes.
 module _ (N : RattleType) (d : MutBor (the_row N).Denot) where
   -- the clause of a call whose result is that buffer
   abbrev pub LendsArrayBuffer : MutBor (List ℕ) → Fml

@@ -1,10 +1,10 @@
--- How the bytes of a piece are coded in the open block of a frame.
+-- How the bytes of a chunk are coded in the open block of a frame.
 use Rattle.std.specs.Prelude.{◌≡◌, ℕ, suc, ◌+◌, ◌<◌, ◌≤◌, List, [], ◌∷◌, ◌++◌, length, slice_index}
 use Rattle.std.specs.Int.{bit_at}
 use Rattle.cobs.specs.Frames.{shortest_frame, shortest_from}
 
--- The buffer has closed blocks, a place for the code of the open run, that run, and then bytes that are still to be coded: with
--- these the message is whole, and whatever follows it goes on behind them.
+-- The buffer has closed blocks, a position for the code of the open run, that run, and then bytes that are still to be coded:
+-- with these the message is whole, and whatever follows it goes on after them.
 pub record Coding (bytes : List ℕ) (code_at at : ℕ) (message rest : List ℕ) : Type 0 where
   pub closed : List ℕ
   pub code : ℕ
@@ -17,7 +17,7 @@ pub record Coding (bytes : List ℕ) (code_at at : ℕ) (message rest : List ℕ
   pub goes_on : (more : List ℕ)
       → shortest_frame (message ++ more) ≡ closed ++ shortest_from run (rest ++ more)
 
--- The same where the bytes that are still to be coded aren't copied yet: they have room behind the open run.
+-- The same where the bytes that are still to be coded aren't copied yet: they fit after the open run.
 pub record Putting (bytes : List ℕ) (code_at at : ℕ) (message rest : List ℕ) : Type 0 where
   pub closed : List ℕ
   pub code : ℕ
@@ -31,13 +31,13 @@ pub record Putting (bytes : List ℕ) (code_at at : ℕ) (message rest : List �
   pub goes_on : (more : List ℕ)
       → shortest_frame (message ++ more) ≡ closed ++ shortest_from run (rest ++ more)
 
--- The bytes stand, from a place on, within the buffer and the open block.
+-- The bytes are, from a position on, within the buffer and the open block.
 pub record InBlock (buffer : List ℕ) (code_at from : ℕ) (bytes : List ℕ) : Type 0 where
   pub begins : code_at < from
   pub within : from + length bytes ≤ length buffer
   pub short : from + length bytes ≤ code_at + 255
 
--- They are coded, and the code that is still to come goes to this place.
+-- They are coded, and the code that is still to come goes to this position.
 pub record Coded (before : List ℕ) (code_at from : ℕ)
     (bytes buffer : List ℕ) (last : ℕ) : Type 0 where
   pub begins : last < from + length bytes
@@ -45,8 +45,8 @@ pub record Coded (before : List ℕ) (code_at from : ℕ)
   pub coding : (message more : List ℕ) → Coding before code_at from message (bytes ++ more)
       → Coding buffer last (from + length bytes) message more
 
--- The buffer has closed blocks, a place for the code of the open run, that run, and then anything: a byte behind the message goes
--- on from the run.
+-- The buffer has closed blocks, a position for the code of the open run, that run, and then anything: a byte after the message
+-- goes on from the run.
 pub record Open (bytes : List ℕ) (code_at at : ℕ) (message : List ℕ) : Type 0 where
   pub closed : List ℕ
   pub code : ℕ
@@ -59,7 +59,7 @@ pub record Open (bytes : List ℕ) (code_at at : ℕ) (message : List ℕ) : Typ
   pub goes_on : (byte : ℕ) (more : List ℕ)
       → shortest_frame (message ++ byte ∷ more) ≡ closed ++ shortest_from run (byte ∷ more)
 
--- Bytes were copied into the open block and coded, and the code that is still to come goes to this place.
+-- Bytes were copied into the open block and coded, and the code that is still to come goes to this position.
 pub record Stepped (before : List ℕ) (code_at from : ℕ)
     (bytes buffer : List ℕ) (last : ℕ) : Type 0 where
   pub begins : last < from + length bytes
@@ -67,7 +67,7 @@ pub record Stepped (before : List ℕ) (code_at from : ℕ)
   pub coding : (message : List ℕ) → Open before code_at from message
       → Coding buffer last (from + length bytes) (message ++ bytes) []
 
--- the bits that are set are the places, from one on, of the bytes that are zero
+-- the bits that are set are the positions, from one on, of the bytes that are zero
 pub record Marks (bits from : ℕ) (bytes : List ℕ) : Type 0 where
   pub low : (k : ℕ) → bit_at bits k ≡ 1 → from ≤ k
   pub high : (k : ℕ) → bit_at bits k ≡ 1 → k < length bytes

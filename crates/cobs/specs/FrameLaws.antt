@@ -21,7 +21,7 @@ abbrev pub HasOneLongest : Type 0
 HasOneLongest = (message : List ℕ) → Longest (longest_frame message) message
     × ((frame : List ℕ) → Longest frame message → frame ≡ longest_frame message)
 
--- A message has a frame beside its shortest one exactly where it ends in a full run: the same and then a block 01.
+-- A message has a frame beside its shortest one exactly if it ends in a full run: the same and then a block 01.
 abbrev pub HasOneOther : Type 0
 HasOneOther = (frame message : List ℕ) → (Frame frame message × (frame ≢ shortest_frame message))
     ↔ (FillsBlocks (trailing message) × (frame ≡ shortest_frame message ++ 1 ∷ []))
@@ -32,20 +32,20 @@ LongestIsOther = (message : List ℕ)
     → (FillsBlocks (trailing message) × (longest_frame message ≡ shortest_frame message ++ 1 ∷ []))
     ⊎ ((¬ FillsBlocks (trailing message)) × (longest_frame message ≡ shortest_frame message))
 
--- A frame has one message, which its bytes decide.
+-- A frame has one message, which its bytes determine.
 abbrev pub HasOneMessage : Type 0
 HasOneMessage = (frame message : List ℕ) → Frame frame message → message ≡ part frame
 
--- A frame ends where its last block ends.
+-- A frame ends with its last block.
 abbrev pub EndsWithItsBlock : Type 0
 EndsWithItsBlock = (frame message : List ℕ) → Frame frame message → missing frame ≡ 0
 
--- Nonzero bytes that end where a block ends are a frame.
+-- Nonzero bytes that end with a block are a frame.
 abbrev pub IsFrameAtBlockEnd : Type 0
 IsFrameAtBlockEnd = (bytes : List ℕ) → AllByRecursion (λ b. (0 < b) × (b < 256)) bytes → bytes ≢ []
     → missing bytes ≡ 0 → Frame bytes (part bytes)
 
--- What bytes decide of a message is shorter than they are.
+-- What bytes determine of a message is shorter than they are.
 abbrev pub DecidesLess : Type 0
 DecidesLess = (bytes : List ℕ) → length (part bytes) ≤ length bytes - 1
 
@@ -75,7 +75,7 @@ abbrev pub IsWithinLengths : Type 0
 IsWithinLengths = (message : List ℕ) → (length message + 1 ≤ length (shortest_frame message))
     × (length (shortest_frame message) ≤ most_length (length message))
 
--- Where the message has no zero, it is as long as that.
+-- If the message has no zero, it is as long as that.
 abbrev pub ReachesMostLength : Type 0
 ReachesMostLength = (message : List ℕ) → NoZero message
     → length (shortest_frame message) ≡ most_length (length message)
@@ -85,19 +85,19 @@ abbrev pub GrowsWithItsMessage : Type 0
 GrowsWithItsMessage = (message more : List ℕ)
     → length (shortest_frame message) + length more ≤ length (shortest_frame (message ++ more))
 
--- A nonempty front of a frame is itself a frame exactly where it ends at a block's end.
+-- A nonempty prefix of a frame is itself a frame exactly if it ends with a block.
 abbrev pub IsFrameAtEachBlockEnd : Type 0
 IsFrameAtEachBlockEnd =
     (frame message front rest : List ℕ) → Frame frame message → frame ≡ front ++ rest → front ≢ []
     → ((begun : List ℕ) × Frame front begun) ↔ (missing front ≡ 0)
 
--- Where a proper front of a shortest frame is itself a frame, its message is a proper beginning of the message.
+-- If a proper prefix of a shortest frame is itself a frame, its message is a proper prefix of the message.
 abbrev pub FrontsBeginProperly : Type 0
 FrontsBeginProperly = (frame message front rest begun : List ℕ) → Shortest frame message
     → frame ≡ front ++ rest → rest ≢ [] → Frame front begun
     → (later : List ℕ) × (message ≡ begun ++ later) × (later ≢ [])
 
--- Where a message's zeros and other bytes are, in order, among those of another, its shortest frame isn't longer.
+-- If a message's zeros and other bytes are, in order, among those of another, its shortest frame isn't longer.
 abbrev pub GrowsWithItsBytes : Type 0
 GrowsWithItsBytes =
     (a b : List ℕ) → IsThinner a b → length (shortest_frame a) ≤ length (shortest_frame b)

@@ -15,48 +15,69 @@ use Rattle.cobs.specs.declared.dec.state.DecoderState.TheVariants.{Idle, Grab, G
 use Rattle.cobs.specs.declared.dec.report.DecodeReport.{DecodeReport}
 use Rattle.cobs.specs.declared.dec.progress.Progress.{Progress}
 
--- A byte is fed, behind any bytes p of a frame: which bytes those are then, the answer, what stands in the buffer; where
--- its front had the message so far, that it still has, and that an answer is a whole message.
+-- A byte is fed, after any bytes p of a frame: which bytes those are then, the result, what is in the buffer; where it began
+-- with the message so far, that it still does, and that a result is a whole message.
 pub record FeedsByte (before : Progress) (old : List ℕ) (byte : ℕ)
     (result : Result (Option ℕ) DecodeError) (behind : Progress) (new : List ℕ) : Type 0 where
+  -- The decoder then has taken the bytes of the frame with this one.
   pub has : (p : List ℕ) → HasStreamed before p → HasStreamed behind (frame_after p byte)
+  -- The result is the one that the table gives.
   pub answer : (p : List ℕ) → HasStreamed before p → result ≡ answer_of (length old) p byte
+  -- The byte of the message, if there is one, is written after the others.
   pub buffer : (p : List ℕ) → HasStreamed before p → new ≡ placed p byte old
+  -- A buffer that began with the message so far still does.
   pub decoded : (p : List ℕ) → HasStreamed before p → Decoded old p → Decoded new (frame_after p byte)
+  -- A length that is returned is that of a message, which is at the start of the buffer.
   pub message : (p : List ℕ) → HasStreamed before p → Decoded old p
       → IfOk result (λ o. IfSome o (λ n. take n new ≡ part p))
+  -- A length that is returned is within the buffer.
   pub within : IfOk result (λ o. IfSome o (λ n. n ≤ length new))
+  -- The buffer's length is unchanged.
   pub room : length new ≡ length old
 
--- A piece is pushed: the same, up to the first answer.
+-- A chunk is pushed: the same, up to the first result.
 pub record TakesPiece (before : Progress) (old piece : List ℕ)
     (result : Result (Option DecodeReport) DecodeError)
     (behind : Progress) (new : List ℕ) : Type 0 where
+  -- The decoder then has taken the bytes up to the first result.
   pub has : (p : List ℕ) → HasStreamed before p → HasStreamed behind (frame_left (length old) p piece)
+  -- The result is the first one that feeding the bytes gives.
   pub answer : (p : List ℕ) → HasStreamed before p → result ≡ first_answer (length old) p piece 0
+  -- The buffer is what feeding them up to that result leaves.
   pub buffer : (p : List ℕ) → HasStreamed before p → new ≡ buffer_left (length old) p piece old
+  -- A buffer that began with the message so far still does.
   pub decoded : (p : List ℕ) → HasStreamed before p → Decoded old p
       → Decoded new (frame_left (length old) p piece)
+  -- A report that is returned is of a message, which is at the start of the buffer.
   pub message : (p : List ℕ) → HasStreamed before p → Decoded old p → IfOk result
       (λ o. IfSome o (λ r. take (frame_size r) new ≡ part (frame_met (length old) p piece)))
+  -- The sizes in a report are within the chunk and the buffer.
   pub within : IfOk result
       (λ o. IfSome o (λ r. (parsed_size r ≤ length piece) × (frame_size r ≤ length new)))
+  -- The buffer's length is unchanged.
   pub room : length new ≡ length old
 
--- A frame that lies whole, without the zero behind it, is decoded: the answer, also by frames; the buffer; and nothing was
--- taken in of a frame afterwards.
+-- A frame that is complete, without the zero after it, is decoded: the result, also by frames; the buffer; and nothing was
+-- taken of a frame afterwards.
 pub record DecodesWhole (old frame : List ℕ) (result : Result ℕ DecodeError)
     (behind : Progress) (new : List ℕ) : Type 0 where
+  -- The result by the bytes of the frame and the length of the buffer.
   pub answer : result ≡ decoded_into (length old) frame
+  -- A length that is returned is that of the frame's message, which is at the start of the buffer.
   pub message : IfOk result (λ n. frame ≢ [] → Frame frame (take n new))
+  -- At an error the bytes are no frame, or its message is longer than the buffer.
   pub no_frame : OnErr result ((m : List ℕ) → Frame frame m → length old < length m)
+  -- The buffer begins with what the bytes determine of a message, as far as it fits.
   pub buffer : new ≡ overwritten (part frame) old
+  -- A length that is returned is within the buffer.
   pub within : IfOk result (λ n. n ≤ length new)
+  -- The buffer's length is unchanged.
   pub room : length new ≡ length old
+  -- No frame has begun afterwards.
   pub idle : HasStreamed behind []
 
--- The first n bytes of a piece are taken in at once (private contracts alone): none is zero, and all that they decide has
--- room, where there are any.
+-- The first n bytes of a chunk are taken at once (private contracts alone): none is zero, and all that they determine fits, if
+-- there are any.
 pub record TakesFront (p piece old : List ℕ) (n : ℕ)
     (behind : Progress) (new : List ℕ) : Type 0 where
   pub within : n ≤ length piece
@@ -67,7 +88,8 @@ pub record TakesFront (p piece old : List ℕ) (n : ℕ)
       (part_from (after 0 false p).0 (after 0 false p).1 (take n piece)) old
   pub same : n ≡ 0 → new ≡ old
 
--- Bytes without zeros, some, were decoded, and they had room: the answer, how many they are, and the buffer (private contracts alone).
+-- Bytes without zeros, some, were decoded, and they fitted: the result, how many they are, and the buffer (private contracts
+-- alone).
 pub record DecodesFront (old frame new : List ℕ) (answer : Result ℕ DecodeError) (count : ℕ) : Type 0 where
   pub answers : answer ≡ decoded_into (length old) frame
   pub end : count ≡ length frame
@@ -75,27 +97,27 @@ pub record DecodesFront (old frame new : List ℕ) (answer : Result ℕ DecodeEr
   pub room : length frame ≤ length old + 1
   pub buffer : new ≡ overwritten (part frame) old
 
--- How many bytes of the open block are left, and where a decoder stands behind some of them (private contracts alone).
+-- How many bytes of the open block are left, and the state of a decoder after some of them (private contracts alone).
 abbrev pub left_in : DecoderState → ℕ
 left_in Idle = 0
 left_in (Grab left) = left
 left_in (GrabChain left) = left
 
--- where a decoder stands once n of them were taken
+-- the state of a decoder once n of them were taken
 abbrev pub left_behind : DecoderState → ℕ → DecoderState
 left_behind Idle n = Idle
 left_behind (Grab left) n = Grab (left - n)
 left_behind (GrabChain left) n = GrabChain (left - n)
 
--- a code is next that tells no byte of a message: the first one, or that behind a full block
+-- a code is next that gives no byte of a message: the first one, or that after a full block
 abbrev pub Owes : DecoderState → Type 0
 Owes state = (code : ℕ) → 0 < code → (told_by (fed state code) ≡ None) × (next state code ≡ by_code code)
 
--- what is answered behind a whole frame, with so many bytes of a message, where a decoder stands so
+-- what is returned after a whole frame, with so many bytes of a message, by the state of a decoder
 abbrev pub answer_behind : DecoderState → ℕ → Result ℕ DecodeError
 answer_behind state len = if left_in state == 0 then Ok len else Err (InvalidFrame len)
 
--- an answer with how many bytes of the source were used
+-- a result with how many bytes of the source were used
 abbrev pub with_parsed : ℕ → Result ℕ DecodeError → Result DecodeReport DecodeError
 with_parsed parsed (Ok decoded) = Ok (report parsed decoded)
 with_parsed parsed (Err e) = Err e

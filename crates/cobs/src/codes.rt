@@ -1,8 +1,17 @@
-//! A piece that is copied into an open block: each zero of it becomes the code of the block that it begins.
+//! A chunk is copied into an open block, and each of its zeros becomes the code of the block that it begins.
 //!
-//! It goes by 64 bytes, and then by those that are left. They are copied by vectors, which tell whether there is a zero among
-//! them; the zeros are found by masks, and 64 zeros are filled at once. A byte is written XORed with the sentinel, as all of a
-//! frame is; the pieces are bytes of the message.
+//! It goes by 64 bytes, and then by those that are left: fewer than 64 by vectors of 32 to 1 bytes, the last
+//! overlapping. They are copied by vectors, which show whether there is a zero among them. The zeros are found by
+//! masks, and 64 zeros are filled at once. Bytes are written XORed with the sentinel, as all of a frame is; a chunk
+//! has the message's bytes.
+//!
+//! Each byte moves once. Bytes of a full block, and 64 of another, are inspected as they are copied, since reloading
+//! written bytes costs double. In several blocks each 64 bytes are marked at once; in one block only if a zero is
+//! seen.
+//!
+//! Rejected: searching all input, which is quadratic without zeros; a search and a copy for each run, which is slow
+//! for dense zeros; inspecting before copying, a third slower without zeros; a separate step for 64 bytes, a fifth
+//! faster for zeros only, and five functions more.
 ghost use Rattle.std.specs.Prelude.{◌≡◌, ◌≢◌, ℕ, ◌+◌, ◌<◌, ◌≤◌, List, length, take, drop, slice_index, true};
 ghost use Rattle.std.specs.Int.{bit_at};
 ghost use Rattle.cobs.specs.Codes.{InBlock, Coded, Marks, Stepped};
@@ -25,8 +34,8 @@ pub(crate) fn lowest(bits: u64) -> (usize, u64)
     (n, bits & (bits - 1))
 }
 
-// Writes a code at each zero of at most 64 bytes that stand in the open block, from a place on, by the marks of their zeros. Answers
-// where the last code is to be.
+// Writes a code at each zero of at most 64 bytes that are in the open block, from a position on, by the marks of
+// their zeros. Returns the position of the last code.
 #[inline(always)]
 fn put_codes_marked(
     dest: &mut [u8],
@@ -135,7 +144,8 @@ fn marks_of(bytes: &[u8], sentinel: u8) -> u64
     }
 }
 
-// Writes a code at each zero of n bytes that stand in the buffer, XORed with the sentinel, and answers where the last code is to be.
+// Writes a code at each zero of n bytes that are in the buffer, XORed with the sentinel, and returns the position of
+// the last code.
 #[inline(always)]
 pub(crate) fn put_codes_standing(
     dest: &mut [u8],
@@ -160,8 +170,9 @@ pub(crate) fn put_codes_standing(
     put_codes_marked(dest, code_at, from, n, marks, sentinel)
 }
 
-// Copies at most 64 bytes into the open block and writes a code at each zero of them. Answers where the last code is to be. The copy
-// for 0 first looks whether 64 have none; else, where zeros are likely, they are marked at once. Each caller has a copy by its number.
+// Copies at most 64 bytes into the open block and writes a code at each of their zeros. Returns the position of the
+// last code. The copy for 0 first looks whether 64 bytes have none; otherwise zeros are likely, and are marked at
+// once. Each caller has a copy of its own by its number.
 #[inline(always)]
 fn put_some<const WAY: usize, const CALL: usize>(
     dest: &mut [u8],
@@ -210,8 +221,8 @@ fn put_bytes<const WAY: usize>(
     put_some::<WAY, 1>(dest, code, at, rest, sentinel)
 }
 
-// The same as `put_bytes`, of the bytes of a block: those of a full one are copied as they are looked at, where they don't begin with
-// a zero.
+// The same as `put_bytes`, of the bytes of a block: those of a full one are inspected as they are copied, unless they
+// begin with a zero. Reloading written bytes costs double.
 #[inline(always)]
 pub(crate) fn put_block<const WAY: usize>(
     dest: &mut [u8],

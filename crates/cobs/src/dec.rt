@@ -1,4 +1,4 @@
-//! Decoding: byte by byte by a table, in streams into a buffer, and of whole sources.
+//! Decoding: byte by byte by a table, in streams into a buffer, and whole input.
 
 mod decoder;
 mod frames;

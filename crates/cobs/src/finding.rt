@@ -1,4 +1,5 @@
-//! Where the first sentinel is: masks of 64 bytes tell it, and those of the last bytes.
+//! The position of the first sentinel: by `memchr` above 256 bytes, by masks of 64 bytes and of the last bytes below, by a loop
+//! under 4. A call costs more than a short search, so `memchr` isn't used everywhere.
 ghost use Rattle.std.specs.Prelude.{◌≡◌, ◌≢◌, ℕ, ◌<◌, ◌≤◌, length, slice_index};
 ghost use Rattle.cobs.specs.InPlace.{stretch};
 ghost use Rattle.cobs.specs.Sentinel.{masked};
@@ -7,7 +8,7 @@ use crate::codes::lowest;
 use crate::moves::{is_clear, zeros_of_some};
 use memchr::memchr;
 
-// How many of few bytes come before the first sentinel.
+// How many of a few bytes come before the first sentinel.
 #[inline(always)]
 fn before_near(bytes: &[u8], sentinel: u8) -> usize
     ensures within { result ≤ length bytes.now }
@@ -22,7 +23,8 @@ fn before_near(bytes: &[u8], sentinel: u8) -> usize
     bytes.len()
 }
 
-// The same of at most 64 bytes. That a byte is below 256 nothing else says of a buffer that is lent on.
+// The same of at most 64 bytes. The clause that a byte is below 256 is needed for a buffer that is borrowed on, of
+// which nothing else says it.
 #[inline(always)]
 pub(crate) fn before_few(bytes: &[u8], sentinel: u8) -> usize
     requires { length bytes.now ≤ 64 }
@@ -74,10 +76,11 @@ pub(crate) fn before_by_64(bytes: &[u8], sentinel: u8) -> usize
     at + before_few(&bytes[at..], sentinel)
 }
 
-/// How many bytes come before the first one that is the sentinel; all where none is.
+/// Returns how many bytes come before the first sentinel; all if there is none.
 ///
-/// ```
-/// assert_eq!(before_sentinel(&[3, 10, 11, 0, 12], 0), 3);
+/// # Example
+/// ```rust
+/// check(&rt, before_sentinel(&[3, 10, 11, 0, 12], 0) == 3);
 /// ```
 #[inline(always)]
 pub fn before_sentinel(bytes: &[u8], sentinel: u8) -> usize
@@ -91,6 +94,7 @@ pub fn before_sentinel(bytes: &[u8], sentinel: u8) -> usize
     } else if bytes.len() <= 256 {
         before_by_64(bytes, sentinel)
     } else {
+        // For so many bytes a call is worth its cost.
         // Of so many bytes a call is worth its cost.
         memchr(sentinel, bytes).unwrap_or(bytes.len())
     }

@@ -1,4 +1,4 @@
-//! Bytes that are XORed with a sentinel, as those of a frame for it are.
+//! Bytes XORed with a sentinel.
 ghost use Rattle.std.specs.Prelude.{◌≡◌};
 ghost use Rattle.cobs.specs.Sentinel.{masked};
 

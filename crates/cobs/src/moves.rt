@@ -1,6 +1,6 @@
-//! Bytes that are copied and moved by vectors, each XORed with the sentinel.
+//! Copying and moving bytes by vectors, each XORed with the sentinel.
 //!
-//! Of as many bytes as one to two vectors have, one vector takes those in front and one those at the end.
+//! Of as many bytes as one to two vectors have, one vector takes the first and one the last.
 ghost use Rattle.std.specs.Prelude.{◌≡◌, ℕ, ◌+◌, ◌<◌, ◌≤◌, length, take, drop, replicate, slice_index, true, false, ◌^◌};
 ghost use Rattle.cobs.specs.Codes.{Marks};
 ghost use Rattle.cobs.specs.Lanes.{LeastOf64};
@@ -9,7 +9,7 @@ ghost use Rattle.cobs.specs.Sentinel.{masked};
 
 use std::simd::prelude::*;
 
-// The bytes from a place on.
+// The bytes from a position on.
 #[inline(always)]
 fn load<const W: usize>(bytes: &[u8], at: usize) -> Simd<u8, W>
     requires { at + W ≤ length bytes.now }
@@ -18,7 +18,7 @@ fn load<const W: usize>(bytes: &[u8], at: usize) -> Simd<u8, W>
     Simd::<u8, W>::from_slice(&bytes[at..])
 }
 
-// Writes them over a buffer, from a place on.
+// Writes them over a buffer, from a position on.
 #[inline(always)]
 fn store<const W: usize>(lanes: Simd<u8, W>, buffer: &mut [u8], at: usize, sentinel: u8)
     requires long { length lanes ≡ W }
@@ -28,7 +28,7 @@ fn store<const W: usize>(lanes: Simd<u8, W>, buffer: &mut [u8], at: usize, senti
     (Simd::<u8, W>::splat(sentinel) ^ lanes).copy_to_slice(&mut buffer[at..]);
 }
 
-// Copies bytes over a buffer, from a place on: as many as one to two vectors have.
+// Copies bytes over a buffer, from a position on: as many as one to two vectors have.
 #[inline(always)]
 fn copy_ends<const W: usize>(bytes: &[u8], buffer: &mut [u8], place: usize, sentinel: u8)
     requires some { W ≤ length bytes.now }
@@ -76,7 +76,7 @@ pub(crate) fn copy_few(bytes: &[u8], buffer: &mut [u8], place: usize, sentinel: 
     }
 }
 
-// Puts 64 zeros over a buffer, from a place on.
+// Puts 64 zeros over a buffer, from a position on.
 #[inline(always)]
 fn zero_64(buffer: &mut [u8], place: usize)
     requires { place + 64 ≤ length buffer.old }
@@ -100,7 +100,7 @@ pub(crate) fn zero_over(buffer: &mut [u8], place: usize, n: usize)
     zero_64(buffer, place + (n - 64));
 }
 
-// Copies any number of bytes over a buffer, from a place on.
+// Copies any number of bytes over a buffer, from a position on.
 #[inline(always)]
 pub(crate) fn copy_over(bytes: &[u8], buffer: &mut [u8], place: usize, sentinel: u8)
     requires room { place + length bytes.now ≤ length buffer.old }
@@ -153,7 +153,7 @@ fn least_of_four(a: u8x16, b: u8x16, c: u8x16, d: u8x16) -> u8x16
     lesser(first, second)
 }
 
-// 16 bytes from a place on, each XORed with the sentinel.
+// 16 bytes from a position on, each XORed with the sentinel.
 #[inline(always)]
 fn load_masked(bytes: &[u8], at: usize, sentinel: u8) -> u8x16
     requires { at + 16 ≤ length bytes.now }
@@ -185,7 +185,7 @@ fn least_of_64(bytes: &[u8], sentinel: u8) -> u8x16
     least_of_four(a, b, c, d)
 }
 
-// Whether none of 64 bytes is the sentinel; it is only told where that is seen at once.
+// Whether none of 64 bytes is the sentinel; it says so only if that is seen at once.
 #[inline(always)]
 pub(crate) fn is_clear(bytes: &[u8], sentinel: u8) -> bool
     requires { length bytes.now ≡ 64 }
@@ -194,8 +194,8 @@ pub(crate) fn is_clear(bytes: &[u8], sentinel: u8) -> bool
     is_positive(least_of_64(bytes, sentinel))
 }
 
-// Copies the first 64 of some bytes over a buffer, from a place on, each XORed with the sentinel, by the vectors that `least_of_64`
-// loads too: where it comes first they are loaded once.
+// Copies the first 64 of some bytes over a buffer, from a position on, each XORed with the sentinel, by the vectors that
+// `least_of_64` loads too: where it comes first they are loaded once.
 #[inline(always)]
 fn copy_four(bytes: &[u8], buffer: &mut [u8], place: usize, sentinel: u8)
     requires count { 64 ≤ length bytes.now }
@@ -212,7 +212,7 @@ fn copy_four(bytes: &[u8], buffer: &mut [u8], place: usize, sentinel: u8)
     store::<16>(d, buffer, place + 48, sentinel);
 }
 
-// The same. Answers the least of them, as they were, in each of the 16 places of a vector.
+// The same. Returns the least of them, as they were, in each of the 16 places of a vector.
 #[inline(always)]
 fn copy_least(bytes: &[u8], buffer: &mut [u8], place: usize, sentinel: u8) -> u8x16
     requires count { 64 ≤ length bytes.now }
@@ -226,8 +226,8 @@ fn copy_least(bytes: &[u8], buffer: &mut [u8], place: usize, sentinel: u8) -> u8
     least
 }
 
-// Copies 64 bytes over a buffer, from a place on, each XORed with the sentinel. Answers whether none of them is zero; it is only told
-// where that is seen at once. They are loaded once: what is loaded behind a write is loaded again.
+// Copies 64 bytes over a buffer, from a position on, each XORed with the sentinel. Returns whether none of them is zero; it
+// says so only if that is seen at once. They are loaded once: what is loaded after a write is loaded again.
 #[inline(always)]
 pub(crate) fn copy_clear_64(bytes: &[u8], buffer: &mut [u8], place: usize, sentinel: u8) -> bool
     requires count { length bytes.now ≡ 64 }
@@ -238,8 +238,8 @@ pub(crate) fn copy_clear_64(bytes: &[u8], buffer: &mut [u8], place: usize, senti
     is_positive(copy_least(bytes, buffer, place, sentinel))
 }
 
-// Copies 64 bytes over a buffer, from a place on, each XORed with the sentinel, if none of them is seen to be it: else nothing is
-// written. Answers whether it did.
+// Copies 64 bytes over a buffer, from a position on, each XORed with the sentinel, if none of them is seen to be it: else
+// nothing is written. Returns whether it did.
 #[inline(always)]
 pub(crate) fn copy_if_clear(bytes: &[u8], buffer: &mut [u8], place: usize, sentinel: u8) -> bool
     requires count { length bytes.now ≡ 64 }
@@ -257,8 +257,8 @@ pub(crate) fn copy_if_clear(bytes: &[u8], buffer: &mut [u8], place: usize, senti
     true
 }
 
-// Copies the bytes of a full block over a buffer, from a place on, each XORed with the sentinel. Answers whether none of them is
-// zero; it is only told where that is seen at once.
+// Copies the bytes of a full block over a buffer, from a position on, each XORed with the sentinel. Returns whether none of
+// them is zero; it says so only if that is seen at once.
 #[inline(always)]
 pub(crate) fn copy_clear(bytes: &[u8], buffer: &mut [u8], place: usize, sentinel: u8) -> bool
     requires count { length bytes.now ≡ 254 }
@@ -274,7 +274,7 @@ pub(crate) fn copy_clear(bytes: &[u8], buffer: &mut [u8], place: usize, sentinel
     is_positive(least)
 }
 
-// Whether none of 255 bytes, a code and as many as a full block has, is the sentinel; it is only told where that is seen at once.
+// Whether none of 255 bytes, a code and as many as a full block has, is the sentinel; it says so only if that is seen at once.
 #[inline(always)]
 pub(crate) fn is_clear_255(bytes: &[u8], sentinel: u8) -> bool
     requires { length bytes.now ≡ 255 }
@@ -297,7 +297,7 @@ pub(crate) fn are_all(byte: u8, bytes: &[u8]) -> bool
     least.simd_eq(u8x16::splat(u8::MAX)).to_bitmask() == 0xFFFF
 }
 
-// The bits of the bytes from a place on that are the sentinel.
+// The bits of the bytes from a position on that are the sentinel.
 #[inline(always)]
 fn zeros_at<const W: usize>(bytes: &[u8], at: usize, sentinel: u8) -> u64
     requires few { W ≤ 32 }
@@ -342,7 +342,7 @@ pub(crate) fn zeros_of_some(bytes: &[u8], sentinel: u8) -> u64
     }
 }
 
-// Moves n bytes towards the front, from a place on to another one: as many as one to two vectors have.
+// Moves n bytes towards the front, from one position to another: as many as one to two vectors have.
 #[inline(always)]
 fn move_ends<const W: usize>(buffer: &mut [u8], from: usize, n: usize, place: usize, sentinel: u8)
     requires some { W ≤ n }

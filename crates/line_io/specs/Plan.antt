@@ -6,7 +6,9 @@ use Rattle.line_io.specs.declared.memory.Fault.TheVariants.{Fail, Nothing}
 -- It moves at most `each` bytes a call. Where there is a fault, that many bytes move first, and then
 -- the next call that asks for bytes is the fault.
 pub record Plan : Type 0 where
+  -- The maximum of bytes that one call moves.
   pub each : ℕ
+  -- How many bytes move before the fault, and its kind; None if none is planned.
   pub fault : Option (ℕ × Fault)
 
 -- what a fault answers

@@ -11,16 +11,24 @@ Failed old new = (old.faults < new.faults) ⊎ (new.calls_left ≡ 0)
 
 -- The bytes went out, and no call was a fault.
 pub record WentOut (old new : LineState) (bytes : List ℕ) : Type 0 where
+  -- All of the bytes were written.
   pub wrote : Wrote old new bytes
+  -- No call was a fault.
   pub quiet : new.faults ≡ old.faults
 
 -- A front of the bytes went out that isn't all of them, and then the device failed.
 pub record BrokeOff (old new : LineState) (bytes : List ℕ) : Type 0 where
+  -- The bytes that were written.
   pub front : List ℕ
+  -- The bytes that were not.
   pub rest : List ℕ
+  -- Together they are what was to be written.
   pub bytes_are : bytes ≡ front ++ rest
+  -- At least one byte was not written.
   pub some_left : 0 < length rest
+  -- Exactly the first ones were written.
   pub wrote : Wrote old new front
+  -- Then a call was a fault, or none was left.
   pub failed : Failed old new
 
 -- how a device took bytes: all of them, or a front
@@ -37,10 +45,15 @@ Writing old new broken bytes = BrokeOff old new bytes
 -- that failed or took nothing.
 pub record WentOrBroke (old new : LineState) (bytes : List ℕ)
     (result : Result (Unit {0}) WriteFault) : Type 0 where
+  -- At Ok everything was written, without a fault.
   pub ok : OnOk result (Writing old new whole bytes)
+  -- At Err a proper prefix was written, then the device failed.
   pub err : OnErr result (Writing old new broken bytes)
+  -- Calls are only used up.
   pub calls : new.calls_left ≤ old.calls_left
+  -- At most one call for each byte.
   pub few : old.calls_left ≤ new.calls_left + length bytes
+  -- At most one fault: no write follows it.
   pub once : new.faults ≤ old.faults + 1
 
 -- what a device gave, by how the reading ended

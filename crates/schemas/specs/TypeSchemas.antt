@@ -11,15 +11,21 @@ use Rattle.schemas.specs.Schemas.{TakesFields, TakesPayload, TakesNode, RefusesF
 
 -- a table that begins with these nodes
 pub record BeginsWith (nodes table : List Node) : Type 0 where
+  -- The nodes after them.
   pub more : List Node
+  -- The table is these nodes and then those.
   pub whole : table ≡ nodes ++ more
 
 -- two types, or the fields of two, take the same and refuse the same
 pub record TakeTheSame {A : Type 0} (takes takes' : A → Type 0)
     (refuses refuses' : List ℕ → Error → Type 0) : Type 0 where
+  -- What the first accepts the second does.
   pub to : (t : A) → takes t → takes' t
+  -- What the second accepts the first does.
   pub from : (t : A) → takes' t → takes t
+  -- What the first refuses the second does, with the same error.
   pub refused_to : (s : List ℕ) (e : Error) → refuses s e → refuses' s e
+  -- What the second refuses the first does, with the same error.
   pub refused_from : (s : List ℕ) (e : Error) → refuses' s e → refuses s e
 
 -- a message type whose form is that of its shape takes and refuses the same
@@ -28,15 +34,19 @@ as_its_shape = record { to = λ t h. h; from = λ t h. h; refused_to = λ s e h.
 
 -- two kinds, or the kinds of the parts of two, have the same values
 pub record HaveTheSame {A : Type 0} (has has' : A → Type 0) : Type 0 where
+  -- Each value of the first is one of the second.
   pub to : (v : A) → has v → has' v
+  -- Each value of the second is one of the first.
   pub from : (v : A) → has' v → has v
 
 -- In each table that begins with these nodes, read as deep as they are many or deeper, the type at the place takes just what
 -- `takes` says, refuses just what `refuses` says, and has just the values that `has` says.
 pub record IsSchemaOf (takes : Tree → Type 0) (refuses : List ℕ → Error → Type 0)
     (has : Value → Type 0) (nodes : List Node) (place : ℕ) : Type 0 where
+  -- It accepts and refuses exactly what the type does.
   pub same : (depth : ℕ) (table : List Node) → length nodes ≤ depth → BeginsWith nodes table
       → TakeTheSame (SchemaTakes depth table place) takes (SchemaRefuses depth table place) refuses
+  -- It has exactly the values of these kinds.
   pub values : (depth : ℕ) (table : List Node) → length nodes ≤ depth → BeginsWith nodes table
       → HaveTheSame (SchemaHas depth table place) has
 
@@ -73,26 +83,33 @@ AgreesWithItsSchemas {A} takes reads refuses has =
 -- the same of fields, one after another
 pub record AreSchemasOf (takes : Trees → Type 0) (refuses : List ℕ → Error → Type 0)
     (have : List Value → Type 0) (nodes : List Node) (places : List ℕ) : Type 0 where
+  -- They accept and refuse exactly what the fields do.
   pub same : (depth : ℕ) (table : List Node) → length nodes ≤ depth → BeginsWith nodes table
       → TakeTheSame (TakesFields (SchemaTakes depth table) places) takes
       (RefusesFields (SchemaTakes depth table) (SchemaRefuses depth table) places) refuses
+  -- They have exactly the values of these kinds.
   pub values : (depth : ℕ) (table : List Node) → length nodes ≤ depth → BeginsWith nodes table
       → HaveTheSame (FieldsHave (SchemaHas depth table) places) have
 
 -- the same of what variants hold, by their indexes
 pub record ArePayloadsOf (takes : ℕ → Tree → Type 0) (refuses : ℕ → List ℕ → Error → Type 0)
     (has : ℕ → Value → Type 0) (nodes : List Node) (places : List ℕ) : Type 0 where
+  -- They accept and refuse exactly what the variants hold.
   pub same : (depth : ℕ) (table : List Node) → length nodes ≤ depth → BeginsWith nodes table → (n : ℕ)
       → TakeTheSame (TakesPayload (SchemaTakes depth table) places n) (takes n)
       (RefusesPayload (SchemaRefuses depth table) places n) (refuses n)
+  -- They have exactly the values of these kinds.
   pub values : (depth : ℕ) (table : List Node) → length nodes ≤ depth → BeginsWith nodes table → (n : ℕ)
       → HaveTheSame (PayloadHas (SchemaHas depth table) places n) (has n)
 
 -- the places of these payloads were put behind others
 pub record PayloadsAdded (takes : ℕ → Tree → Type 0) (refuses : ℕ → List ℕ → Error → Type 0)
     (has : ℕ → Value → Type 0) (nodes : List Node) (old new : List ℕ) : Type 0 where
+  -- The places that were appended.
   pub added : List ℕ
+  -- They follow the others.
   pub behind : new ≡ old ++ added
+  -- They are the places of these payloads.
   pub payloads : ArePayloadsOf takes refuses has nodes added
 
 -- this node was put behind a table, at this place

@@ -37,14 +37,23 @@ ReadsSealed key reads _ v = ⊥
 
 -- a value that is taken, and four bytes that aren't its sum
 pub record IsBroken (key : ℕ) (takes : Tree → Type 0) (s : List ℕ) (e : Error) : Type 0 where
+  -- The value, as a tree.
   pub tree : Tree
+  -- The four bytes after it, as a tree.
   pub seal : Tree
+  -- The bytes that encode both.
   pub front : List ℕ
+  -- The bytes after them.
   pub rest : List ℕ
+  -- Together they are all the bytes.
   pub whole : s ≡ front ++ rest
+  -- The first ones are an encoding of value and seal.
   pub spells : Spells (with_seal tree seal) front
+  -- The type accepts the value.
   pub taken : TakesPair takes (TakesFixed 4) (with_seal tree seal)
+  -- The seal isn't the value's.
   pub wrong : seal ≡ seal_of key tree → ⊥
+  -- The error is DeserializeBadCrc.
   pub error : e ≡ DeserializeBadCrc
 
 -- the value is refused, or fewer than four bytes stand behind it, or these aren't its sum

@@ -5,7 +5,7 @@ use journal::{Journal, Listed, Unheard};
 use link::{Answer, OfType, Strict};
 use postcard::{DeserializeOwned, Exact, Serialize};
 use std::alloc::Global;
-use stores::{MemoryStore, Store, put};
+use stores::{MemoryStore, Store, SyncFault, put};
 
 /// The most bytes that a record takes.
 pub const N: usize = 24;
@@ -186,5 +186,27 @@ fn bytes_of_a_store(rt: HostRuntime) {
             && store.settled() == 0
             && store.sync().is_ok()
             && store.settled() == 5,
+    );
+}
+
+/// Whether a store took all of these bytes, and no crash takes them now.
+fn keeps<S: Store>(store: &mut S, bytes: &[u8]) -> bool {
+    if put(store, bytes) < bytes.len() {
+        return false;
+    }
+    match store.sync() {
+        Ok(()) => true,
+        Err(SyncFault) => false,
+    }
+}
+
+#[test]
+fn bytes_that_are_kept(rt: HostRuntime) {
+    let mut store = MemoryStore::new(Vec::new(rt.alloc()));
+    check(&rt, keeps(&mut store, b"abc"));
+    let held = store.crash(0, 2);
+    check(
+        &rt,
+        matches!(&held, Some(store) if are_bytes(store.bytes(), b"abc\0\0")),
     );
 }

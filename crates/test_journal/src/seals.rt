@@ -1,8 +1,8 @@
 //! Sealed values as bytes.
 
 use crate::bytes::{are_bytes, check};
-use postcard::Error;
-use sealed::{Sealed, crc32};
+use postcard::{Error, Readable};
+use sealed::{AsKeyed, AsSealed, Keyed, Sealed, crc32};
 use std::alloc::Global;
 
 // The sum of the text 123456789, which is published, and those of nothing and of one zero.
@@ -78,4 +78,35 @@ fn flipped_bit_of_a_code_is_not_told(rt: HostRuntime) {
     check(&rt, goes_on(rt.alloc(), 2, 0, 2));
     check(&rt, goes_on(rt.alloc(), 3, 7, 0));
     check(&rt, !goes_on(rt.alloc(), 4, 7, 2));
+}
+
+// The key of an interface: the CRC-32 of its name and version.
+const KEY: u32 = 0xA0E4_4147;
+
+#[test]
+fn another_key_is_not_read(rt: HostRuntime) {
+    let mut room = [0u8; 16];
+    let is_refused = match postcard::to_slice(&Keyed::<u32, KEY>(300), &mut room) {
+        Ok(front) => matches!(
+            postcard::from_bytes::<Sealed<u32>>(rt.alloc(), front),
+            Err(Error::DeserializeBadCrc)
+        ),
+        Err(_) => false,
+    };
+    check(&rt, crc32(b"sum 1") == KEY && is_refused);
+}
+
+// What is done for all types of one form.
+fn is_sealed<T: Readable<Form = AsSealed>>(_value: &T) -> bool {
+    true
+}
+
+fn is_keyed<T: Readable<Form = AsKeyed>>(_value: &T) -> bool {
+    true
+}
+
+#[test]
+fn forms(rt: HostRuntime) {
+    check(&rt, is_sealed(&Sealed(300u32)));
+    check(&rt, is_keyed(&Keyed::<u32, KEY>(300)));
 }

@@ -20,6 +20,8 @@ mod framed_words;
 #[cfg(test)]
 mod lent_texts;
 #[cfg(test)]
+mod line_examples;
+#[cfg(test)]
 mod line_memory;
 #[cfg(test)]
 mod line_moves;

@@ -16,6 +16,8 @@ mod cobs_decoding;
 #[cfg(test)]
 mod cobs_encoding;
 #[cfg(test)]
+mod cobs_examples;
+#[cfg(test)]
 mod de;
 #[cfg(test)]
 mod large;

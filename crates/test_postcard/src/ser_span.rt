@@ -1,6 +1,7 @@
 //! `postcard_ser`: a buffer and a cursor in it, written and read, and parts of it that are taken for good.
 use crate::checks::{all_true, are_equal, check, check_all};
-use postcard_ser::memory::Span;
+use postcard_ser::memory::{Access, Memory, ReadOnly, Span, Start, Writable};
+use std::mem::size_of;
 
 #[test]
 fn bytes_are_written(rt: HostRuntime) {
@@ -48,4 +49,25 @@ fn bytes_are_read(rt: HostRuntime) {
             nothing.into_ahead().is_empty(),
         ],
     );
+}
+
+/// How many bytes a span has, before its cursor and ahead of it.
+fn size<K: Access>(span: &Span<'_, K>) -> usize {
+    span.count().saturating_add(span.remaining())
+}
+
+#[test]
+fn kinds_of_access(rt: HostRuntime) {
+    let mut buffer = [0u8; 4];
+    let writable: Span<'_, Writable> = Span::new(&mut buffer);
+    check(&rt, size(&writable) == 4);
+    let readable: Span<'_, ReadOnly> = Span::over(&[1, 2]);
+    check(&rt, size(&readable) == 2);
+}
+
+// The right to bytes takes no space beside the pointer to them.
+#[test]
+fn a_right_has_no_size(rt: HostRuntime) {
+    check(&rt, size_of::<Memory<'static, Writable>>() == 0);
+    check(&rt, size_of::<Start>() == 8);
 }

@@ -1,7 +1,9 @@
 //! Tables of declarations: the expected lines are by the rules of `schemas`' README and of serde.
 use crate::checks::{check, check_row};
 use declarations::{Error, Names, Schema, read_schema};
-use schemas::{IntegerType, Node};
+use postcard_tree::{Last, Own};
+use schema_table::Named;
+use schemas::{HasIntegerType, HasPayloadSchemas, Integer, IntegerType, Node, SchemaForm};
 use std::alloc::{AllocError, Global};
 use std::process::Abort;
 
@@ -241,4 +243,39 @@ fn places(rt: HostRuntime) {
         Err(_) => false,
     };
     check(&rt, is_right);
+}
+
+#[test]
+fn lines_of_types(rt: HostRuntime) {
+    let read = read_schema(rt.alloc(), "// message\nstruct A;\n// message\nstruct B;");
+    let is_right = match &read {
+        Ok(schema) => matches!(
+            schema.types.as_slice(),
+            [Named { line: 2, .. }, Named { line: 4, .. }]
+        ),
+        Err(_) => false,
+    };
+    check(&rt, is_right);
+}
+
+#[test]
+fn integers_with_their_types(rt: HostRuntime) {
+    check(
+        &rt,
+        <u16 as HasIntegerType>::integer_type() == IntegerType::U16,
+    );
+    check(&rt, 5u16.integer() == Integer::U16(5));
+}
+
+#[test]
+fn nodes_of_forms(rt: HostRuntime) {
+    let mut nodes = Vec::new(rt.alloc());
+    let mut payloads = Vec::new(rt.alloc());
+    let added = <Own as SchemaForm<u16>>::add_form_schema(rt.alloc(), &mut nodes);
+    check(&rt, matches!(&added, Ok(0)));
+    let added = <Last<u16>>::add_payloads(rt.alloc(), &mut nodes, &mut payloads);
+    check(
+        &rt,
+        added.is_ok() && nodes.len() == 2 && payloads.len() == 1,
+    );
 }

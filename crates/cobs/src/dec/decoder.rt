@@ -1,4 +1,4 @@
-//! The streaming decoder over a buffer of its caller.
+//! The streaming decoder over the caller's buffer.
 ghost use Rattle.std.specs.Prelude.{bit_xor, ◌≡◌, ◌+◌, ◌≤◌, [], length};
 ghost use Rattle.std.specs.Borrow.{sem};
 ghost use Rattle.cobs.specs.InPlace.{written_over};
@@ -8,12 +8,15 @@ use super::progress::Progress;
 use super::report::{DecodeError, DecodeReport};
 use super::window::write_over;
 
-/// Decodes frames that come byte by byte, into a buffer. It keeps the sentinel that ends its frames.
+/// Decodes frames that arrive in chunks, into a borrowed buffer.
 ///
-/// ```text
+/// # Example
+/// ```rust
+/// let mut buffer = [0u8; 4];
 /// let mut decoder = CobsDecoder::new(&mut buffer);
-/// decoder.push(&[3, 10, 11, 2])       // Ok(None)
-/// decoder.push(&[12, 0, 7])           // Ok(Some(report)): 2 bytes were used, and dest()[..4] is 10, 11, 0, 12
+/// check(&rt, goes_on(decoder.push(&[3, 10, 11, 2])));
+/// check(&rt, takes(decoder.push(&[12, 0, 7]), 2, 4));
+/// check(&rt, are_equal(decoder.dest(), &[10, 11, 0, 12]));
 /// ```
 #[derive(Drop)]
 pub struct CobsDecoder<'a> {
@@ -26,7 +29,7 @@ impl<'a> CobsDecoder<'a> {
     ghost use Rattle.cobs.specs.Decoder.{HasTaken, progress_of, buffer_of, sentinel_of, lent_name, LendsBuffer};
     ghost use Rattle.cobs.specs.Taking.{FeedsByte, TakesPiece};
 
-    /// A decoder between frames that end in zeros.
+    /// An idle decoder of frames that end with a zero.
     pub fn new(dest: &'a mut [u8]) -> CobsDecoder<'a>
         ensures idle { HasTaken result [] }
         ensures buffer { buffer_of result ≡ dest.old }
@@ -36,7 +39,7 @@ impl<'a> CobsDecoder<'a> {
         CobsDecoder::new_with_sentinel(dest, 0)
     }
 
-    /// A decoder between frames that end in this byte, and whose bytes are each XORed with it.
+    /// An idle decoder of frames that end with `sentinel` and whose bytes are each XORed with it.
     pub fn new_with_sentinel(dest: &'a mut [u8], sentinel: u8) -> CobsDecoder<'a>
         ensures idle { HasTaken result [] }
         ensures buffer { buffer_of result ≡ dest.old }
@@ -50,12 +53,15 @@ impl<'a> CobsDecoder<'a> {
         }
     }
 
-    /// Takes in a byte. At the sentinel behind a whole frame it gives the length n of the message, which is `dest()[..n]`;
-    /// until then, and at a sentinel between frames, nothing.
+    /// Takes a byte. At the sentinel after a complete frame it returns the message's length n: the message is
+    /// `dest()[..n]`.
     ///
-    /// `TargetBufTooSmall` at each byte whose byte of the message has no room, and again at the sentinel of such a frame.
-    /// `InvalidFrame` at a sentinel inside a block, with how many bytes were decoded and had room. After every sentinel the
-    /// decoder is between frames.
+    /// Until then, and at a sentinel between frames, it returns `None`. After every sentinel the decoder is idle.
+    ///
+    /// # Errors
+    /// - `TargetBufTooSmall`: at each byte whose byte of the message doesn't fit, and again at the sentinel of such a
+    ///   frame.
+    /// - `InvalidFrame`: at a sentinel inside a block, with the number of bytes that were decoded and fitted.
     pub fn feed(&mut self, data: u8) -> Result<Option<usize>, DecodeError>
         ensures takes { FeedsByte (progress_of self.old) (buffer_of self.old)
             (bit_xor (sentinel_of self.old) «data») result
@@ -66,8 +72,13 @@ impl<'a> CobsDecoder<'a> {
         self.progress.feed(self.dest, self.sentinel ^ data)
     }
 
-    /// Takes in bytes up to the first answer that `feed` gives. `parsed_size` counts the bytes of this piece, the sentinel
-    /// included. Where a byte is refused, the decoder stands behind it.
+    /// Takes bytes up to the first result that `feed` returns, and returns it; `None` if there is none.
+    ///
+    /// `parsed_size` counts the bytes used of this chunk, with the sentinel: push the rest next. Chunk boundaries
+    /// have no effect.
+    ///
+    /// # Errors
+    /// As [`Self::feed`]. The decoder is then after the byte that caused it.
     pub fn push(&mut self, data: &[u8]) -> Result<Option<DecodeReport>, DecodeError>
         ensures takes { TakesPiece (progress_of self.old) (buffer_of self.old)
             (masked (sentinel_of self.old) «data».now) result
@@ -85,8 +96,10 @@ impl<'a> CobsDecoder<'a> {
         self.dest
     }
 
-    /// The buffer, to be written. The decoder goes on in its frame: what is written over bytes that were decoded stands in
-    /// their place. What the decoder is afterwards only a proof by hand can use; `overwrite` says it in plain clauses.
+    /// The buffer, for writing. The frame goes on: what is written over decoded bytes replaces them.
+    ///
+    /// The decoder's state afterwards is a lending clause, which only a proof by hand can use; `overwrite` states it
+    /// in plain clauses.
     pub fn dest_mut(&mut self) -> &mut [u8]
         ensures* lends { sem 𝓛 (LendsBuffer self.entry result) }
         ensures value { result.now ≡ buffer_of self.old }
@@ -94,9 +107,10 @@ impl<'a> CobsDecoder<'a> {
         &mut *self.dest
     }
 
-    /// Writes bytes over those of the buffer, from a place on. The decoder goes on in its frame.
+    /// Writes bytes into the buffer, from `place` on. The frame goes on.
     ///
-    /// The caller owes the room: `place + bytes.len()` is no more than the buffer's length.
+    /// # Requires
+    /// `place + bytes.len()` is at most the buffer's length.
     pub fn overwrite(&mut self, place: usize, bytes: &[u8])
         requires { place + length bytes.now ≤ length (buffer_of self.old) }
         ensures buffer { buffer_of self.new ≡ written_over place bytes.now (buffer_of self.old) }

@@ -1,4 +1,4 @@
-//! The bytes of one frame, decoded into a slice by what is quicker.
+//! Decoding the bytes of one frame into a slice, by the fastest path.
 ghost use Rattle.std.specs.Prelude.{◌≡◌, ◌≢◌, ◌+◌, ◌<◌, ◌≤◌, length, slice_index, IsTrue};
 ghost use Rattle.cobs.specs.Frames.{NoZero, part};
 ghost use Rattle.cobs.specs.InPlace.{stretch, overwritten};
@@ -14,10 +14,10 @@ use super::window::{copy_until, decode_at_once, put_zeros};
 use crate::finding::before_sentinel;
 use crate::moves::is_clear_255;
 
-// How many bytes a frame has at most whose message is of one window.
+// How many bytes a frame has at most if its message is decoded in one window.
 const SHORT: usize = 255;
 
-// The answer behind a whole frame, with how many bytes of a message it has: it is one where no block is open.
+// The answer after a whole frame, with how many bytes of a message it has: it is one if no block is open.
 #[inline(always)]
 pub(crate) fn answer_behind(state: DecoderState, len: usize) -> Result<usize, DecodeError>
     ensures { result ≡ answer_behind state len }
@@ -43,8 +43,8 @@ pub(crate) fn with_parsed(
     }
 }
 
-// The answer of a call that isn't compiled into its caller, as it is. It is told from where the call puts it, so that the caller's
-// quicker ways keep their answers in registers.
+// The answer of a call that isn't compiled into its caller, as it is. It is returned from where the call puts it, so that the
+// caller's faster paths keep their results in registers.
 #[inline(always)]
 pub(crate) fn apart<T: Copy>(answer: Result<T, DecodeError>) -> Result<T, DecodeError>
     ensures { result ≡ answer }
@@ -55,7 +55,7 @@ pub(crate) fn apart<T: Copy>(answer: Result<T, DecodeError>) -> Result<T, Decode
     }
 }
 
-// How far the bytes of a frame, each XORed with the sentinel, are taken in where none has room.
+// How far the bytes of a frame, each XORed with the sentinel, are taken if none fits.
 fn count_frame(frame: &[u8], sentinel: u8) -> Progress
     requires { NoZero (masked sentinel frame.now) }
     ensures { HasStreamed result (masked sentinel frame.now) }
@@ -67,7 +67,7 @@ fn count_frame(frame: &[u8], sentinel: u8) -> Progress
     progress
 }
 
-// Whether a frame is for one window: a short one. Rows of zeros are quicker filled.
+// Whether a frame is for one window: a short one. Rows of zeros are filled faster in steps.
 #[inline(always)]
 pub(crate) fn is_short(frame: &[u8], sentinel: u8) -> bool
     requires { 0 < length frame.now }
@@ -76,9 +76,9 @@ pub(crate) fn is_short(frame: &[u8], sentinel: u8) -> bool
     frame.len() <= SHORT && (frame.len() < 64 || frame[0] != sentinel ^ 1)
 }
 
-// Takes in the bytes of a source before its first sentinel, each XORed with it: there is room for all of the source. They are
-// searched as they are copied, 255 at a time. Answers how many they are. It is compiled once for each number: one copy is for the
-// sentinel zero alone, where no byte is XORed.
+// Takes the bytes of a source before its first sentinel, each XORed with it: all of the source fits. They are searched as they
+// are copied, 255 at a time. Returns how many they are. It is compiled once for each number: one copy is for the sentinel zero
+// alone, which XORs nothing.
 #[inline(never)]
 pub(crate) fn take_source<const COPY: usize>(
     source: &[u8],
@@ -106,8 +106,8 @@ pub(crate) fn take_source<const COPY: usize>(
     (progress, end)
 }
 
-// Decodes the bytes of a source before its first sentinel, each XORed with it: the source is of one window, doesn't begin with the
-// sentinel, and there is room for all of it. They are searched as they are copied. Also answers how many they are.
+// Decodes the bytes of a source before its first sentinel, each XORed with it: the source is of one window, doesn't begin with
+// the sentinel, and all of it fits. They are searched as they are copied. Also returns how many they are.
 #[inline(always)]
 pub(crate) fn decode_near(
     source: &[u8],
@@ -131,8 +131,8 @@ pub(crate) fn decode_near(
     (answer_behind(state, n), n + 1)
 }
 
-// Decodes a frame of one window, each byte of it XORed with the sentinel, for whose bytes there is room: nothing is searched, since no
-// byte of it is the sentinel. Behind the code of a full block there is none that isn't its.
+// Decodes a frame of one window, each byte of it XORed with the sentinel, whose bytes all fit: nothing is searched, since no
+// byte of it is the sentinel. After the code of a full block there is none that isn't its.
 #[inline(always)]
 pub(crate) fn decode_short(
     frame: &[u8],
@@ -153,7 +153,7 @@ pub(crate) fn decode_short(
     answer_behind(state, len)
 }
 
-// Takes in the bytes of a frame, each XORed with the sentinel, and also counts those that have no room.
+// Takes the bytes of a frame, each XORed with the sentinel, and also counts those that don't fit.
 fn take_frame(frame: &[u8], dest: &mut [u8], sentinel: u8) -> Progress
     requires { NoZero (masked sentinel frame.now) }
     ensures stands { HasStreamed result (masked sentinel frame.now) }
@@ -166,7 +166,7 @@ fn take_frame(frame: &[u8], dest: &mut [u8], sentinel: u8) -> Progress
     }
 }
 
-// Decodes a frame, each byte of it XORed with the sentinel, and also counts the bytes of its message that have no room.
+// Decodes a frame, each byte of it XORed with the sentinel, and also counts the bytes of its message that don't fit.
 #[inline(never)]
 pub(crate) fn decode_counted(
     frame: &[u8],

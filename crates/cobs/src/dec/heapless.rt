@@ -10,7 +10,14 @@ use super::report::{DecodeError, DecodeReport};
 use super::window::write_over;
 use arrayvec::ArrayVec;
 
-/// Decodes frames that come byte by byte, into a buffer of N bytes of its own. It keeps the sentinel that ends its frames.
+/// Decodes frames that arrive in chunks, into an array of N bytes of its own.
+///
+/// # Example
+/// ```rust
+/// let mut decoder = CobsDecoderHeapless::<4>::new();
+/// check(&rt, takes(decoder.push(&[3, 10, 11, 2, 12, 0]), 6, 4));
+/// check(&rt, gives(decoder.decode_whole(&[2, 7]), 1));
+/// ```
 #[derive(Drop)]
 pub struct CobsDecoderHeapless<const N: usize> {
     array: ArrayVec<u8, N>,
@@ -22,7 +29,7 @@ impl<const N: usize> CobsDecoderHeapless<N> {
     ghost use Rattle.cobs.specs.Arrays.{ArrayHas, array_progress, array_buffer, array_sentinel, LendsArrayBuffer};
     ghost use Rattle.cobs.specs.Taking.{FeedsByte, TakesPiece, DecodesWhole};
 
-    /// An idle decoder of frames that end in zeros, over a buffer of zeros.
+    /// An idle decoder of frames that end with a zero, over a buffer of zeros.
     pub fn new() -> CobsDecoderHeapless<N>
         ensures idle { ArrayHas result [] }
         ensures buffer { array_buffer result ≡ replicate N 0 }
@@ -31,7 +38,8 @@ impl<const N: usize> CobsDecoderHeapless<N> {
         CobsDecoderHeapless::new_with_sentinel(0)
     }
 
-    /// An idle decoder of frames that end in this byte, and whose bytes are each XORed with it, over a buffer of zeros.
+    /// An idle decoder of frames that end with `sentinel` and whose bytes are each XORed with it, over a buffer of
+    /// zeros.
     pub fn new_with_sentinel(sentinel: u8) -> CobsDecoderHeapless<N>
         ensures idle { ArrayHas result [] }
         ensures buffer { array_buffer result ≡ replicate N 0 }
@@ -40,7 +48,7 @@ impl<const N: usize> CobsDecoderHeapless<N> {
         CobsDecoderHeapless::filled(ArrayVec::new(), sentinel)
     }
 
-    /// An idle decoder of frames that end in zeros, whose buffer has the vector's bytes, and then zeros.
+    /// An idle decoder of frames that end with a zero, whose buffer has the vector's bytes and then zeros.
     pub fn new_with_vec(vec: ArrayVec<u8, N>) -> CobsDecoderHeapless<N>
         ensures idle { ArrayHas result [] }
         ensures buffer { array_buffer result
@@ -70,12 +78,15 @@ impl<const N: usize> CobsDecoderHeapless<N> {
         }
     }
 
-    /// Takes in a byte. At the sentinel behind a whole frame it gives the length n of the message, which is `dest()[..n]`;
-    /// until then, and at a sentinel between frames, nothing.
+    /// Takes a byte. At the sentinel after a complete frame it returns the message's length n: the message is
+    /// `dest()[..n]`.
     ///
-    /// `TargetBufTooSmall` at each byte whose byte of the message has no room, and again at the sentinel of such a frame.
-    /// `InvalidFrame` at a sentinel inside a block, with how many bytes were decoded and had room. After every sentinel the
-    /// decoder is between frames.
+    /// Until then, and at a sentinel between frames, it returns `None`. After every sentinel the decoder is idle.
+    ///
+    /// # Errors
+    /// - `TargetBufTooSmall`: at each byte whose byte of the message doesn't fit, and again at the sentinel of such a
+    ///   frame.
+    /// - `InvalidFrame`: at a sentinel inside a block, with the number of bytes that were decoded and fitted.
     pub fn feed(&mut self, data: u8) -> Result<Option<usize>, DecodeError>
         ensures takes { FeedsByte (array_progress self.old) (array_buffer self.old)
             (bit_xor (array_sentinel self.old) «data») result
@@ -86,8 +97,13 @@ impl<const N: usize> CobsDecoderHeapless<N> {
             .feed(self.array.as_mut_slice(), self.sentinel ^ data)
     }
 
-    /// Takes in bytes up to the first answer that `feed` gives. `parsed_size` counts the bytes of this piece, the sentinel
-    /// included. Where a byte is refused, the decoder stands behind it.
+    /// Takes bytes up to the first result that `feed` returns, and returns it; `None` if there is none.
+    ///
+    /// `parsed_size` counts the bytes used of this chunk, with the sentinel: push the rest next. Chunk boundaries
+    /// have no effect.
+    ///
+    /// # Errors
+    /// As [`Self::feed`]. The decoder is then after the byte that caused it.
     pub fn push(&mut self, data: &[u8]) -> Result<Option<DecodeReport>, DecodeError>
         ensures takes { TakesPiece (array_progress self.old) (array_buffer self.old)
             (masked (array_sentinel self.old) «data».now) result
@@ -98,10 +114,16 @@ impl<const N: usize> CobsDecoderHeapless<N> {
             .push(self.array.as_mut_slice(), data, self.sentinel)
     }
 
-    /// Decodes a frame that lies whole, without its sentinel, as `decode_with_sentinel` does: the message of n bytes is then
-    /// `dest()[..n]`. What was taken in of another frame is forgotten, and the decoder is idle.
+    /// Decodes a complete frame, without its sentinel, and returns the message's length n: the message is
+    /// `dest()[..n]`.
     ///
-    /// The caller owes that no byte of it is the sentinel.
+    /// An unfinished frame is dropped, and the decoder is idle afterwards.
+    ///
+    /// # Errors
+    /// Those of [`decode_with_sentinel`](crate::decode_with_sentinel), with the same buffer.
+    ///
+    /// # Requires
+    /// No byte of the frame is the sentinel.
     pub fn decode_whole(&mut self, frame: &[u8]) -> Result<usize, DecodeError>
         requires { NoZero (masked (array_sentinel self.old) frame.now) }
         ensures decodes { DecodesWhole (array_buffer self.old)
@@ -113,7 +135,7 @@ impl<const N: usize> CobsDecoderHeapless<N> {
             .decode(self.array.as_mut_slice(), frame, self.sentinel)
     }
 
-    /// Makes the decoder idle. What was taken in of a frame is forgotten; the sentinel stays.
+    /// Makes the decoder idle. An unfinished frame is dropped; the sentinel stays.
     pub fn reset(&mut self)
         ensures idle { ArrayHas self.new [] }
         ensures buffer { array_buffer self.new ≡ array_buffer self.old }
@@ -136,8 +158,10 @@ impl<const N: usize> CobsDecoderHeapless<N> {
         self.array.as_slice()
     }
 
-    /// The buffer, to be written. The decoder goes on in its frame: what is written over bytes that were decoded stands in
-    /// their place. What the decoder is afterwards only a proof by hand can use; `overwrite` says it in plain clauses.
+    /// The buffer, for writing. The frame goes on: what is written over decoded bytes replaces them.
+    ///
+    /// The decoder's state afterwards is a lending clause, which only a proof by hand can use; `overwrite` states it
+    /// in plain clauses.
     pub fn dest_mut(&mut self) -> &mut [u8]
         ensures* lends { sem 𝓛 (LendsArrayBuffer N.row self.entry result) }
         ensures value { result.now ≡ array_buffer self.old }
@@ -145,9 +169,10 @@ impl<const N: usize> CobsDecoderHeapless<N> {
         self.array.as_mut_slice()
     }
 
-    /// Writes bytes over those of the buffer, from a place on. The decoder goes on in its frame.
+    /// Writes bytes into the buffer, from `place` on. The frame goes on.
     ///
-    /// The caller owes the room: `place + bytes.len()` is no more than the buffer's length.
+    /// # Requires
+    /// `place + bytes.len()` is at most the buffer's length.
     pub fn overwrite(&mut self, place: usize, bytes: &[u8])
         requires { place + length bytes.now ≤ length (array_buffer self.old) }
         ensures buffer { array_buffer self.new

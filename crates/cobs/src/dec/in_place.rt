@@ -1,4 +1,4 @@
-//! A buffer whose bytes are decoded over themselves.
+//! Decoding a buffer in place: the first 256 bytes are one window; longer frames, and rows of codes 01, have a loop.
 ghost use Rattle.std.specs.Prelude.{◌≡◌, ◌≢◌, ℕ, ◌<◌, ◌≤◌, List, [], length, take, drop, slice_index, IfOk, OnErr};
 ghost use Rattle.cobs.specs.Frames.{Frame, part};
 ghost use Rattle.cobs.specs.Reports.{frame_size};
@@ -14,8 +14,8 @@ use crate::finding::{before_by_64, before_few};
 use crate::masks::mask;
 use crate::moves::{is_clear_255, move_down};
 
-// Decodes the bytes in front of a buffer that are of a frame, each XORed with the sentinel, over themselves: those of one window.
-// Behind the code of a full block there is none that isn't its.
+// Decodes the bytes at the start of a buffer that are in a frame, each XORed with the sentinel, in place: those of
+// one window. After the code of a full block no byte is outside it.
 #[inline(always)]
 fn decode_short_in_place(
     buf: &mut [u8],
@@ -43,9 +43,10 @@ fn decode_short_in_place(
     with_parsed(answer_behind(state, len), end)
 }
 
-// Where the first sentinel of more than 64 bytes is, if it is among the first 256 and they don't begin with a row of codes 01, which
-// are quicker filled than put one by one: else 256. The first byte and the 64th tell a row. That a byte is below 256 nothing else
-// says of a buffer that is lent on.
+// The position of the first sentinel of more than 64 bytes, if it is among the first 256 and they don't begin with a
+// row of codes 01, which are filled faster than they are put one by one; otherwise 256. The first byte and the 64th
+// show a row. The clause that a byte is below 256 is needed for a buffer that is borrowed on, of which nothing else
+// says it.
 #[inline(always)]
 fn near_end(bytes: &[u8], sentinel: u8) -> usize
     requires { 64 < length bytes.now }
@@ -64,8 +65,8 @@ fn near_end(bytes: &[u8], sentinel: u8) -> usize
     before_by_64(&bytes[..bytes.len().min(256)], sentinel)
 }
 
-// As `decode_in_place_report_with_sentinel`, of a buffer that doesn't begin with the sentinel: 255 bytes are searched and moved at
-// a time. It is compiled once for each number: one copy is for the sentinel zero alone, where no byte is XORed.
+// As `decode_in_place_report_with_sentinel`, of a buffer that doesn't begin with the sentinel: 255 bytes are searched
+// and moved at a time. It is compiled once for each number: one copy is for the sentinel zero, which XORs nothing.
 #[inline(never)]
 fn decode_long_in_place<const COPY: usize>(
     buf: &mut [u8],
@@ -93,7 +94,8 @@ fn decode_long_in_place<const COPY: usize>(
     with_parsed(answer_behind(state, len), read)
 }
 
-// As `decode_in_place_report_with_sentinel`, by the copy of that number. A short frame is searched for its end, and then moved.
+// As `decode_in_place_report_with_sentinel`, by the copy of that number. A short frame is searched for its end, and
+// then moved.
 #[inline(always)]
 pub(crate) fn decode_by<const COPY: usize>(
     buf: &mut [u8],
@@ -114,13 +116,21 @@ pub(crate) fn decode_by<const COPY: usize>(
     decode_short_in_place(buf, end, sentinel)
 }
 
-/// Decodes the bytes before the first zero, or all where there is none, over themselves.
+/// Decodes the bytes before the first zero in place, or all if there is none, and returns both sizes.
 ///
-/// The message then stands in front. An empty buffer and one that begins with a zero give sizes 0 and 0; that zero
-/// isn't counted. The bytes from `parsed_size` on are as they were.
+/// The message is then at the start of the buffer. An empty buffer, and one that begins with a zero, give sizes 0 and
+/// 0; that zero isn't counted. The bytes from `parsed_size` on are unchanged.
 ///
-/// Bytes that are no frame are `InvalidFrame`, with the length of the part of a message that they decide, which then
-/// stands in front.
+/// # Errors
+/// `InvalidFrame`, with the length of the part of a message that the bytes determine; that part is then at the start
+/// of the buffer.
+///
+/// # Example
+/// ```rust
+/// let mut line = [3u8, 10, 11, 2, 12, 0, 7];
+/// check(&rt, decodes(decode_in_place_report(&mut line), 5, 4));
+/// check(&rt, are_equal(&line[..4], &[10, 11, 0, 12]));
+/// ```
 pub fn decode_in_place_report(buf: &mut [u8]) -> Result<DecodeReport, DecodeError>
     ensures answer { result ≡ in_place (stretch buf.old) }
     ensures frame { IfOk result (λ r. stretch buf.old ≢ []
@@ -133,17 +143,13 @@ pub fn decode_in_place_report(buf: &mut [u8]) -> Result<DecodeReport, DecodeErro
     decode_by::<0>(buf, 0)
 }
 
-/// As `decode_in_place_report`, of the bytes before the first sentinel, or all where there is none, each XORed with the
-/// sentinel.
+/// Decodes the bytes before the first sentinel in place, or all if there is none, each XORed with it, and returns
+/// both sizes.
 ///
-/// The bytes from `parsed_size` on are as they were: the sentinel, and those behind it, aren't XORed. After a refusal the
-/// same holds from the first sentinel on.
+/// The bytes from `parsed_size` on are unchanged: the sentinel, and those after it, aren't XORed.
 ///
-/// ```
-/// let mut bytes = [9, 0, 1, 8, 6, 10, 7];
-/// let report = decode_in_place_report_with_sentinel(&mut bytes, 10)?;
-/// assert_eq!((report.parsed_size(), report.frame_size()), (5, 4)); // bytes is 10, 11, 0, 12, 6, 10, 7
-/// ```
+/// # Errors
+/// As [`decode_in_place_report`]; the bytes from the first sentinel on are unchanged.
 #[inline(always)]
 pub fn decode_in_place_report_with_sentinel(
     buf: &mut [u8],
@@ -161,7 +167,18 @@ pub fn decode_in_place_report_with_sentinel(
     decode_by::<1>(buf, sentinel)
 }
 
-/// As `decode_in_place_report`, with the length of the message alone.
+/// Decodes as [`decode_in_place_report`], and returns the message's length alone.
+///
+/// # Errors
+/// `InvalidFrame`, with the length of the part of a message that the bytes determine; that part is then at the start
+/// of the buffer.
+///
+/// # Example
+/// With `room` beginning with a frame of 5 bytes:
+/// ```rust
+/// let decoded = cobs::decode_in_place(&mut room[..5]);
+/// check(&rt, matches!(&decoded, Ok(4)));
+/// ```
 pub fn decode_in_place(buf: &mut [u8]) -> Result<usize, DecodeError>
     ensures answer { result ≡ in_place_length (stretch buf.old) }
     ensures frame { IfOk result (λ n. stretch buf.old ≢ []
@@ -177,9 +194,13 @@ pub fn decode_in_place(buf: &mut [u8]) -> Result<usize, DecodeError>
     }
 }
 
-/// As `decode_in_place`, after each byte of the buffer was XORed with the sentinel.
+/// Decodes as [`decode_in_place`], after every byte of the buffer was XORed with the sentinel, and returns the
+/// message's length.
 ///
-/// Bytes behind the first sentinel are left XORed.
+/// Bytes after the first sentinel stay XORed.
+///
+/// # Errors
+/// As [`decode_in_place`].
 pub fn decode_in_place_with_sentinel(buf: &mut [u8], sentinel: u8) -> Result<usize, DecodeError>
     ensures answer { result ≡ in_place_length (stretch (masked sentinel buf.old)) }
     ensures frame { let p = stretch (masked sentinel buf.old) in

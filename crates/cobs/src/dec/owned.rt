@@ -10,7 +10,15 @@ use super::report::{DecodeError, DecodeReport};
 use super::window::write_over;
 use std::alloc::{AllocError, Global};
 
-/// Decodes frames that come byte by byte, into a buffer of its own. It keeps the sentinel that ends its frames.
+/// Decodes frames that arrive in chunks, into a buffer of its own.
+///
+/// # Example
+/// ```rust
+/// let is_decoded = match CobsDecoderOwned::new(rt.alloc(), 4) {
+///     Ok(mut decoder) => takes(decoder.push(&[3, 10, 11, 2, 12, 0]), 6, 4),
+///     Err(_) => false,
+/// };
+/// ```
 #[derive(Drop)]
 pub struct CobsDecoderOwned {
     buffer: Vec<u8>,
@@ -22,7 +30,13 @@ impl CobsDecoderOwned {
     ghost use Rattle.cobs.specs.Owners.{OwnedHas, owned_progress, owned_buffer, owned_sentinel, LendsOwnedBuffer};
     ghost use Rattle.cobs.specs.Taking.{FeedsByte, TakesPiece, DecodesWhole};
 
-    /// An idle decoder of frames that end in zeros, over a buffer of `size` zeros.
+    /// An idle decoder of frames that end with a zero, over a buffer of `size` zeros.
+    ///
+    /// # Errors
+    /// `AllocError` when out of memory.
+    ///
+    /// # Allocates
+    /// The buffer.
     pub fn new(alloc: Global, size: usize) -> Result<CobsDecoderOwned, AllocError>
         ensures idle { IfOk result (λ d. OwnedHas d []) }
         ensures buffer { IfOk result (λ d. owned_buffer d ≡ replicate size 0) }
@@ -31,8 +45,14 @@ impl CobsDecoderOwned {
         CobsDecoderOwned::new_with_sentinel(alloc, size, 0)
     }
 
-    /// An idle decoder of frames that end in this byte, and whose bytes are each XORed with it, over a buffer of `size`
-    /// zeros.
+    /// An idle decoder of frames that end with `sentinel` and whose bytes are each XORed with it, over a buffer of
+    /// `size` zeros.
+    ///
+    /// # Errors
+    /// `AllocError` when out of memory.
+    ///
+    /// # Allocates
+    /// The buffer.
     pub fn new_with_sentinel(
         alloc: Global,
         size: usize,
@@ -49,12 +69,15 @@ impl CobsDecoderOwned {
         })
     }
 
-    /// Takes in a byte. At the sentinel behind a whole frame it gives the length n of the message, which is `dest()[..n]`;
-    /// until then, and at a sentinel between frames, nothing.
+    /// Takes a byte. At the sentinel after a complete frame it returns the message's length n: the message is
+    /// `dest()[..n]`.
     ///
-    /// `TargetBufTooSmall` at each byte whose byte of the message has no room, and again at the sentinel of such a frame.
-    /// `InvalidFrame` at a sentinel inside a block, with how many bytes were decoded and had room. After every sentinel the
-    /// decoder is between frames.
+    /// Until then, and at a sentinel between frames, it returns `None`. After every sentinel the decoder is idle.
+    ///
+    /// # Errors
+    /// - `TargetBufTooSmall`: at each byte whose byte of the message doesn't fit, and again at the sentinel of such a
+    ///   frame.
+    /// - `InvalidFrame`: at a sentinel inside a block, with the number of bytes that were decoded and fitted.
     pub fn feed(&mut self, data: u8) -> Result<Option<usize>, DecodeError>
         ensures takes { FeedsByte (owned_progress self.old) (owned_buffer self.old)
             (bit_xor (owned_sentinel self.old) «data») result
@@ -65,8 +88,13 @@ impl CobsDecoderOwned {
             .feed(self.buffer.as_mut_slice(), self.sentinel ^ data)
     }
 
-    /// Takes in bytes up to the first answer that `feed` gives. `parsed_size` counts the bytes of this piece, the sentinel
-    /// included. Where a byte is refused, the decoder stands behind it.
+    /// Takes bytes up to the first result that `feed` returns, and returns it; `None` if there is none.
+    ///
+    /// `parsed_size` counts the bytes used of this chunk, with the sentinel: push the rest next. Chunk boundaries
+    /// have no effect.
+    ///
+    /// # Errors
+    /// As [`Self::feed`]. The decoder is then after the byte that caused it.
     pub fn push(&mut self, data: &[u8]) -> Result<Option<DecodeReport>, DecodeError>
         ensures takes { TakesPiece (owned_progress self.old) (owned_buffer self.old)
             (masked (owned_sentinel self.old) «data».now) result
@@ -77,10 +105,16 @@ impl CobsDecoderOwned {
             .push(self.buffer.as_mut_slice(), data, self.sentinel)
     }
 
-    /// Decodes a frame that lies whole, without its sentinel, as `decode_with_sentinel` does: the message of n bytes is then
-    /// `dest()[..n]`. What was taken in of another frame is forgotten, and the decoder is idle.
+    /// Decodes a complete frame, without its sentinel, and returns the message's length n: the message is
+    /// `dest()[..n]`.
     ///
-    /// The caller owes that no byte of it is the sentinel.
+    /// An unfinished frame is dropped, and the decoder is idle afterwards.
+    ///
+    /// # Errors
+    /// Those of [`decode_with_sentinel`](crate::decode_with_sentinel), with the same buffer.
+    ///
+    /// # Requires
+    /// No byte of the frame is the sentinel.
     pub fn decode_whole(&mut self, frame: &[u8]) -> Result<usize, DecodeError>
         requires { NoZero (masked (owned_sentinel self.old) frame.now) }
         ensures decodes { DecodesWhole (owned_buffer self.old)
@@ -92,7 +126,7 @@ impl CobsDecoderOwned {
             .decode(self.buffer.as_mut_slice(), frame, self.sentinel)
     }
 
-    /// Makes the decoder idle. What was taken in of a frame is forgotten; the sentinel stays.
+    /// Makes the decoder idle. An unfinished frame is dropped; the sentinel stays.
     pub fn reset(&mut self)
         ensures idle { OwnedHas self.new [] }
         ensures buffer { owned_buffer self.new ≡ owned_buffer self.old }
@@ -101,7 +135,7 @@ impl CobsDecoderOwned {
         self.progress.reset();
     }
 
-    /// Whether no frame is begun.
+    /// Returns whether no frame has begun.
     pub fn is_idle(&self) -> bool
         ensures idle { IsTrue result ↔ OwnedHas self.now [] }
         ensures begun { (p : List ℕ) → OwnedHas self.now p → (IsTrue result ↔ p ≡ []) }
@@ -109,11 +143,13 @@ impl CobsDecoderOwned {
         self.progress.is_new()
     }
 
-    /// Makes the buffer so many bytes long: it keeps its bytes as far as there is room, and has zeros behind them.
+    /// Makes the buffer `size` bytes long. It keeps its bytes up to that size, and zeros follow them.
     ///
-    /// A refusal changes nothing, and a size that isn't greater is never refused.
+    /// # Errors
+    /// `AllocError` when out of memory; nothing is changed. Never if the buffer doesn't grow.
     ///
-    /// The caller owes that no frame is begun, which `is_idle` tells.
+    /// # Requires
+    /// No frame has begun, which `is_idle` says.
     pub fn resize(&mut self, size: usize) -> Result<(), AllocError>
         requires { OwnedHas self.old [] }
         ensures idle { OwnedHas self.new [] }
@@ -140,8 +176,10 @@ impl CobsDecoderOwned {
         self.buffer.as_slice()
     }
 
-    /// The buffer, to be written. The decoder goes on in its frame: what is written over bytes that were decoded stands in
-    /// their place. What the decoder is afterwards only a proof by hand can use; `overwrite` says it in plain clauses.
+    /// The buffer, for writing. The frame goes on: what is written over decoded bytes replaces them.
+    ///
+    /// The decoder's state afterwards is a lending clause, which only a proof by hand can use; `overwrite` states it
+    /// in plain clauses.
     pub fn dest_mut(&mut self) -> &mut [u8]
         ensures* lends { sem 𝓛 (LendsOwnedBuffer self.entry result) }
         ensures value { result.now ≡ owned_buffer self.old }
@@ -149,9 +187,10 @@ impl CobsDecoderOwned {
         self.buffer.as_mut_slice()
     }
 
-    /// Writes bytes over those of the buffer, from a place on. The decoder goes on in its frame.
+    /// Writes bytes into the buffer, from `place` on. The frame goes on.
     ///
-    /// The caller owes the room: `place + bytes.len()` is no more than the buffer's length.
+    /// # Requires
+    /// `place + bytes.len()` is at most the buffer's length.
     pub fn overwrite(&mut self, place: usize, bytes: &[u8])
         requires { place + length bytes.now ≤ length (owned_buffer self.old) }
         ensures buffer { owned_buffer self.new

@@ -1,4 +1,9 @@
-//! A frame that comes in pieces, decoded into a buffer: what the streaming decoders keep beside it.
+//! Decoding a frame in chunks into a buffer: the state of the streaming decoders beside their buffer.
+//!
+//! What fits is taken by one search and one copy, with zeros written at the codes. First codes, sentinels, bytes that
+//! don't fit and chunks under 4 bytes go one by one through the table that defines all decoders; the table alone is
+//! several times slower. `take_255`, `take_some` and `take_some_within` have one caller for each copy, so they are
+//! inlined. `within` accompanies `answer` in contracts, since facts for each prefix don't bound an index.
 ghost use Rattle.std.specs.Prelude.{bit_xor, ◌≡◌, ◌≢◌, ◌^◌, ℕ, ◌+◌, ◌-◌, ◌<◌, ◌≤◌, List, [], ◌∷◌, ◌++◌, length, take, drop, slice_index, ◌↔◌, IsTrue, IfOk, IfSome, IsNone};
 ghost use Rattle.cobs.specs.Feeding.{placed};
 ghost use Rattle.cobs.specs.Frames.{NoZero};
@@ -12,7 +17,7 @@ use super::window::{FEW, ROW, WINDOW, decode_at_once, put_zeros, same_by_64};
 use crate::finding::before_sentinel;
 use crate::moves::{copy_block, copy_over, move_down, zero_over};
 
-// How far a frame was taken in, and how many bytes of its message were decided, also those that had no room.
+// How far a frame was taken, and how many bytes of its message were decided, also those that didn't fit.
 #[derive(Clone, Copy)]
 pub(crate) struct Progress {
     pub(crate) state: DecoderState,
@@ -49,7 +54,7 @@ impl Progress {
         }
     }
 
-    // Takes in a byte of a frame.
+    // Takes a byte of a frame.
     #[inline(always)]
     pub(crate) fn take_in(
         &mut self,
@@ -80,8 +85,8 @@ impl Progress {
         }
     }
 
-    // Takes in the next bytes at once, each XORed with the sentinel, where they are codes 01 behind a block, each of which is a zero
-    // of the message. There is room for all. Answers how many.
+    // Takes the next bytes at once, each XORed with the sentinel, if they are codes 01 after a block, each of which is a zero
+    // of the message. All fit. Returns how many.
     #[inline(always)]
     fn take_row(&mut self, buffer: &mut [u8], bytes: &[u8], sentinel: u8) -> usize
         requires { 0 < length bytes.now → self.old.len + length bytes.now ≤ length buffer.old }
@@ -132,7 +137,7 @@ impl Progress {
         }
     }
 
-    // The same of bytes of any number, also codes 01, and with the code before them where no block is open: at least one. It is
+    // The same of bytes of any number, also codes 01, and with the code before them if no block is open: at least one. It is
     // compiled once for each pair of numbers: one that is called once goes into its caller.
     #[inline(always)]
     pub(crate) fn take_some<const COPY: usize, const PLACE: usize>(
@@ -162,8 +167,8 @@ impl Progress {
         1 + self.take_clear(buffer, &bytes[1..], sentinel)
     }
 
-    // The same of a code and as many bytes as a full block has. A full block behind another one is told apart: what is kept is then
-    // known, and the same behind it.
+    // The same of a code and as many bytes as a full block has. A full block after another one is handled separately: what is
+    // kept is then known, and the same after it.
     #[inline(always)]
     pub(crate) fn take_255<const COPY: usize>(
         &mut self,
@@ -209,8 +214,8 @@ impl Progress {
         }
     }
 
-    // Takes in the next bytes of the buffer itself at once, each XORed with the sentinel, where they are of an open block: up to
-    // a place before which there is no sentinel, or as many as a window may have; codes 01 in any number. Answers how many.
+    // Takes the next bytes of the buffer itself at once, each XORed with the sentinel, if they are in an open block: up to a
+    // position before which there is no sentinel, or as many as a window may have; codes 01 in any number. Returns how many.
     #[inline(always)]
     fn take_within(&mut self, buffer: &mut [u8], read: usize, end: usize, sentinel: u8) -> usize
         requires some { read ≤ end }
@@ -251,8 +256,8 @@ impl Progress {
         }
     }
 
-    // The same of bytes of any number, with the code before them where no block is open: at least one. That of a full block is told
-    // apart, so that as many are moved as are known.
+    // The same of bytes of any number, with the code before them if no block is open: at least one. That of a full block is
+    // handled separately, so that as many are moved as are known.
     #[inline(always)]
     pub(crate) fn take_some_within<const COPY: usize, const PLACE: usize>(
         &mut self,
@@ -307,7 +312,7 @@ impl Progress {
         }
     }
 
-    // Takes in a byte of a frame, or the zero behind one.
+    // Takes a byte of a frame, or the zero after one.
     #[inline(always)]
     pub(crate) fn feed(&mut self, buffer: &mut [u8], byte: u8) -> Result<Option<usize>, DecodeError>
         ensures { FeedsByte self.old buffer.old byte result self.new buffer.new }
@@ -319,8 +324,9 @@ impl Progress {
         }
     }
 
-    // Takes in the next bytes at once, each XORed with the sentinel, as many as surely have room: a row of codes 01, or up to a
-    // sentinel. None of few bytes, for which this costs more, nor a frame's first one, behind which a row may come. Answers how many.
+    // Takes the next bytes at once, each XORed with the sentinel, as many as certainly fit: a row of codes 01, or up to a
+    // sentinel. None of few bytes, for which this costs more, nor a frame's first one, after which a row may come. Returns how
+    // many.
     #[inline(always)]
     fn take_stretch(&mut self, buffer: &mut [u8], piece: &[u8], sentinel: u8) -> usize
         ensures within { result ≤ length piece.now }
@@ -344,9 +350,9 @@ impl Progress {
         n
     }
 
-    // Takes in a piece, of which each byte is XORed with the sentinel, up to the first answer: bytes before a sentinel at once, and
-    // sentinels and bytes without room by themselves. It is compiled once for each number: one copy is for the sentinel zero alone,
-    // where no byte is XORed.
+    // Takes a chunk, of which each byte is XORed with the sentinel, up to the first answer: bytes before a sentinel at once,
+    // and sentinels and bytes that don't fit by themselves. It is compiled once for each number: one copy is for the sentinel
+    // zero alone, which XORs nothing.
     #[inline(never)]
     fn push_piece<const COPY: usize>(
         &mut self,
@@ -395,7 +401,7 @@ impl Progress {
         }
     }
 
-    // Decodes a frame that lies whole, each byte of it XORed with the sentinel. What was taken in of another is forgotten.
+    // Decodes a frame that is complete, each byte of it XORed with the sentinel. What was taken of another is dropped.
     #[inline(always)]
     pub(crate) fn decode(
         &mut self,
@@ -410,7 +416,7 @@ impl Progress {
         decode_clear(frame, buffer, sentinel)
     }
 
-    // Takes in a piece up to the first answer. One byte takes no call.
+    // Takes a chunk up to the first answer. One byte takes no call.
     #[inline(always)]
     pub(crate) fn push(
         &mut self,

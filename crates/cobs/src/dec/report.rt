@@ -1,29 +1,40 @@
-//! What decoding answers: how much was used and decoded, or why not.
+//! Results of decoding: how much was used and decoded, or why it failed.
 ghost use Rattle.std.specs.Prelude.{◌≡◌};
 ghost use Rattle.cobs.specs.Reports.{parsed_size, frame_size};
 
 use thiserror::Error;
 
-/// Why a frame was refused.
+/// Why decoding failed.
+///
+/// # Example
+/// ```rust
+/// let mut cut = [3u8, 10];
+/// let refused = DecodeError::InvalidFrame { decoded_bytes: 1 };
+/// check(&rt, fails(decode_in_place(&mut cut), refused));
+/// ```
 #[derive(Clone, Copy, PartialEq, Eq, Debug, Error)]
 pub enum DecodeError {
     /// There is no nonzero byte.
     #[error("empty frame")]
     EmptyFrame,
-    /// The bytes are no frame.
+    /// The bytes aren't a frame.
     #[error("invalid frame after {decoded_bytes} bytes")]
     InvalidFrame {
-        /// How many bytes of a message were decided: from `decode`, the in-place forms and those with a sentinel or into
-        /// a vector, all that the bytes decide; from `CobsDecoder`, `CobsDecoderOwned` and `CobsDecoderHeapless`, those of
-        /// them that had room; from `DecoderState::feed`, which keeps no count, always 0.
+        /// How many bytes of a message the input determines.
+        ///
+        /// From `decode`, the calls in place, with a sentinel or into a vector: all of them. From `CobsDecoder`,
+        /// `CobsDecoderOwned` and `CobsDecoderHeapless`: those that fitted the buffer. From `DecoderState::feed`,
+        /// which doesn't count: always 0.
         decoded_bytes: usize,
     },
-    /// A byte of the message has no room.
+    /// A byte of the message doesn't fit the buffer.
     #[error("target buffer too small")]
     TargetBufTooSmall,
 }
 
-/// How much of a source was used, and how much it decodes to.
+/// How many bytes of a source were used, and how many they decode to.
+///
+/// Example: see [`DecodingResult`].
 #[derive(Clone, Copy, PartialEq, Debug)]
 pub struct DecodeReport {
     pub(crate) parsed: usize,
@@ -31,14 +42,14 @@ pub struct DecodeReport {
 }
 
 impl DecodeReport {
-    /// How many bytes of the source were used.
+    /// Returns how many bytes of the source were used.
     pub fn parsed_size(&self) -> usize
         ensures { result ≡ parsed_size self.now }
     {
         self.parsed
     }
 
-    /// How many bytes the message has.
+    /// Returns how many bytes the message has.
     pub fn frame_size(&self) -> usize
         ensures { result ≡ frame_size self.now }
     {
@@ -46,16 +57,32 @@ impl DecodeReport {
     }
 }
 
-/// Another name of `DecodeReport`.
+/// Another name of [`DecodeReport`].
+///
+/// # Example
+/// ```rust
+/// let decoded: Result<DecodingResult, DecodeError> =
+///     decode(&[3, 10, 11, 2, 12, 0], &mut message);
+/// let is_whole = match decoded {
+///     Ok(report) => report.parsed_size() == 6 && report.frame_size() == 4,
+///     Err(_) => false,
+/// };
+/// ```
 pub type DecodingResult = DecodeReport;
 
-/// Why decoding into a vector of its own failed.
+/// Why decoding into a new vector failed.
+///
+/// # Example
+/// ```rust
+/// let refused = DecodeVecError::Decode(DecodeError::EmptyFrame);
+/// check(&rt, fails(decode_vec(rt.alloc(), &[0, 0]), refused));
+/// ```
 #[derive(Clone, Copy, PartialEq, Eq, Debug, Error)]
 pub enum DecodeVecError {
-    /// The bytes were refused.
+    /// The bytes couldn't be decoded.
     #[error(transparent)]
     Decode(DecodeError),
-    /// No memory was found.
+    /// The message couldn't be allocated.
     #[error("no memory")]
     OutOfMemory,
 }

@@ -1,34 +1,45 @@
-//! The table: where a decoder stands in a frame, and what the next byte tells.
+//! The table of all decoders: the position in a frame, and what the next byte means.
 ghost use Rattle.std.specs.Prelude.{◌≡◌, ◌<◌, ◌≤◌};
 ghost use Rattle.cobs.specs.Feeding.{by_code as state_by_code, told_by as byte_told_by, fed, next};
 
 use super::report::DecodeError;
 
-/// Where a decoder stands in a frame. Its user keeps the message.
+/// The position of a decoder in a frame. The caller keeps the message.
+///
+/// # Example
+/// ```rust
+/// let mut state = DecoderState::Idle;
+/// check(&rt, state.feed(2) == Ok(DecodeResult::DataStart));
+/// check(&rt, state.feed(10) == Ok(DecodeResult::DataContinue(10)));
+/// check(&rt, state.feed(0) == Ok(DecodeResult::DataComplete));
+/// ```
 #[derive(Clone, Copy, PartialEq, Debug)]
 pub enum DecoderState {
     /// Between frames.
     Idle,
-    /// This many bytes of the block are left, and the next code stands for a zero.
+    /// So many bytes of the block are left; the next code stands for a zero.
     Grab(u8),
-    /// This many bytes of the block are left, and the next code doesn't.
+    /// So many bytes of the block are left; the next code doesn't stand for a zero.
     GrabChain(u8),
 }
 
-/// What a byte tells.
+/// What a byte means.
+///
+/// Example: see [`DecoderState`].
 #[derive(Clone, Copy, PartialEq, Debug)]
 pub enum DecodeResult {
-    /// No byte of a message: a zero between frames, or the code behind a full block.
+    /// Not a byte of a message: a zero between frames, or the code after a full block.
     NoData,
     /// A frame begins.
     DataStart,
-    /// The frame is whole.
+    /// The frame is complete.
     DataComplete,
     /// The next byte of the message.
     DataContinue(u8),
 }
 
-// Where a code leads. That it is below 256 nothing else says of one in a buffer that is lent on.
+// The state after a code. The clause that a code is below 256 is needed for a buffer that is borrowed on, of which
+// nothing else says it.
 #[inline(always)]
 pub(crate) fn by_code(code: u8) -> DecoderState
     requires { 0 < code }
@@ -43,9 +54,12 @@ pub(crate) fn by_code(code: u8) -> DecoderState
 }
 
 impl DecoderState {
-    /// Takes a byte, and says what it tells: over a frame and a zero, from `Idle`, the bytes of its message.
+    /// Takes a byte, and returns what it means: over a frame and a zero, from `Idle`, the bytes of its message.
     ///
-    /// A zero inside a block is `InvalidFrame`, with no bytes counted. After every zero the state is `Idle`.
+    /// The state after every zero is `Idle`.
+    ///
+    /// # Errors
+    /// `InvalidFrame`, with no bytes counted, at a zero inside a block.
     pub fn feed(&mut self, data: u8) -> Result<DecodeResult, DecodeError>
         ensures answer { result ≡ fed self.old «data» }
         ensures state { self.new ≡ next self.old «data» }
@@ -90,7 +104,7 @@ impl DecoderState {
         }
     }
 
-    // Where it stands behind so many of them.
+    // The state after so many of them.
     #[inline(always)]
     pub(crate) fn behind(self, n: u8) -> DecoderState
         requires { n ≤ left_in self }
@@ -104,7 +118,7 @@ impl DecoderState {
     }
 }
 
-// The byte of the message that an answer tells.
+// The byte of the message that a result contains.
 pub(crate) fn told_by(answer: Result<DecodeResult, DecodeError>) -> Option<u8>
     ensures { result ≡ byte_told_by answer }
 {

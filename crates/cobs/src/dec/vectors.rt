@@ -1,4 +1,4 @@
-//! A source that is there as a whole, decoded into a vector of its own.
+//! Decoding whole input into a new vector.
 ghost use Rattle.std.specs.Prelude.{◌≡◌, ◌≢◌, ℕ, List, [], IfOk, IfErr, MatchResult, ◌⊎◌};
 ghost use Rattle.cobs.specs.Frames.{Frame};
 ghost use Rattle.cobs.specs.InPlace.{stretch};
@@ -11,7 +11,7 @@ use super::report::{DecodeError, DecodeVecError};
 use super::whole::{before, behind_zeros};
 use std::alloc::Global;
 
-// Decodes the bytes before the first sentinel, each XORed with it, in a vector of their own, by the copy of that number.
+// Decodes the bytes before the first sentinel, each XORed with it, in a new vector, by the copy of that number.
 #[inline(always)]
 fn decode_copied<const COPY: usize>(
     alloc: Global,
@@ -34,9 +34,21 @@ fn decode_copied<const COPY: usize>(
     }
 }
 
-/// As `decode` with room for every message, into a vector of its own.
+/// Decodes the first frame of a source, as [`decode`](crate::decode) with a large enough buffer, into a new vector.
 ///
-/// Where the source holds no frame and no memory is found, either may be answered.
+/// # Errors
+/// - `Decode`: there is no frame, with the error of `decode`.
+/// - `OutOfMemory`: the message couldn't be allocated. If the source has no frame either, either error may come.
+///
+/// # Allocates
+/// The frame's length, once.
+///
+/// # Example
+/// With `MESSAGE` as `[10, 11, 0, 12]`:
+/// ```rust
+/// let plain = cobs::decode_vec(alloc, &[3, 10, 11, 2, 12]);
+/// wants.bytes(plain, DecodeVecError::OutOfMemory, &MESSAGE);
+/// ```
 pub fn decode_vec(alloc: Global, source: &[u8]) -> Result<Vec<u8>, DecodeVecError>
     ensures answer { MatchResult result (λ v. message_of_frame (frame_in source.now) ≡ Ok v.items)
         (λ e. RefusesWhole e (message_of_frame (frame_in source.now))) }
@@ -51,9 +63,22 @@ pub fn decode_vec(alloc: Global, source: &[u8]) -> Result<Vec<u8>, DecodeVecErro
     decode_copied::<0>(alloc, frame, 0)
 }
 
-/// As `decode_with_sentinel` with room for every message, into a vector of its own.
+/// Decodes the bytes before the first sentinel, as [`decode_with_sentinel`](crate::decode_with_sentinel) with a large
+/// enough buffer, into a new vector.
 ///
-/// Where the source holds no frame and no memory is found, either may be answered.
+/// # Errors
+/// - `Decode`: the bytes aren't a frame, with the error of `decode_with_sentinel`.
+/// - `OutOfMemory`: the message couldn't be allocated. If the bytes aren't a frame either, either error may come.
+///
+/// # Allocates
+/// The length of the bytes before the sentinel, once.
+///
+/// # Example
+/// With `MESSAGE` as `[10, 11, 0, 12]`:
+/// ```rust
+/// let unmasked = cobs::decode_vec_with_sentinel(alloc, &[9, 0, 1, 8, 6], 10);
+/// wants.bytes(unmasked, DecodeVecError::OutOfMemory, &MESSAGE);
+/// ```
 pub fn decode_vec_with_sentinel(
     alloc: Global,
     source: &[u8],

@@ -1,4 +1,13 @@
-//! A source that is there as a whole, decoded into a slice.
+//! Decoding whole input into a slice.
+//!
+//! `decode` and `decode_with_sentinel` share `decode_part`. Up to 255 bytes that fit, or as many as fit before a
+//! sentinel, are searched while they are copied; longer input is checked and taken 255 at a time (`take_source`).
+//! Otherwise the end is searched first, and what doesn't fit is pushed or counted. Only bytes that are known to be in
+//! the frame are written. Loops are compiled twice, for zero and for any sentinel, which is a third slower.
+//!
+//! Rejected: searching 256 bytes first (678 instructions for 1 KiB without zeros, now 542); separate families for
+//! each sentinel, which agreed except in the report; copying searched vectors, which is faster only from 64 KiB on;
+//! one body inlined in two functions, which the compiler gives up.
 ghost use Rattle.std.specs.Prelude.{◌≡◌, ◌≢◌, ℕ, ◌+◌, ◌-◌, ◌^◌, ◌<◌, ◌≤◌, List, [], length, take, slice_index, IsTrue, IfOk, OnErr, IfSome, IsNone};
 ghost use Rattle.cobs.specs.Frames.{Frame, NoZero, part};
 ghost use Rattle.cobs.specs.Reports.{frame_size};
@@ -24,7 +33,7 @@ pub(crate) fn before(bytes: &[u8], sentinel: u8) -> &[u8]
     &bytes[..before_sentinel(bytes, sentinel)]
 }
 
-// The bytes behind leading zeros.
+// The bytes after leading zeros.
 pub(crate) fn behind_zeros(bytes: &[u8]) -> &[u8]
     ensures value { result.now ≡ unpadded bytes.now }
     ensures within { length result.now ≤ length bytes.now }
@@ -37,7 +46,7 @@ pub(crate) fn behind_zeros(bytes: &[u8]) -> &[u8]
     &[]
 }
 
-// Whether a frame isn't empty, and there is room for all its bytes but the first.
+// Whether a frame isn't empty, and all its bytes except the first fit.
 #[inline(always)]
 fn has_room(frame: &[u8], room: usize) -> bool
     ensures some { IsTrue result → 0 < length frame.now }
@@ -55,7 +64,7 @@ fn begins_with_row(bytes: &[u8], sentinel: u8) -> bool {
     bytes[0] == sentinel ^ 1 && are_all(sentinel ^ 1, &bytes[..64])
 }
 
-// How many bytes of a source are looked at without a search: all of them, or as many as there is room for where a sentinel is next.
+// How many bytes of a source are looked at without a search: all of them, or as many as fit if a sentinel is next.
 #[inline(always)]
 fn front(source: &[u8], room: usize, sentinel: u8) -> usize
     requires { room < 2 ^ 63 }
@@ -68,7 +77,7 @@ fn front(source: &[u8], room: usize, sentinel: u8) -> usize
     source.len()
 }
 
-// The same by a search where there is no room for all.
+// The same by a search if they don't all fit.
 #[inline(always)]
 fn reach(source: &[u8], room: usize, sentinel: u8) -> usize
     ensures within { result ≤ length source.now }
@@ -80,10 +89,10 @@ fn reach(source: &[u8], room: usize, sentinel: u8) -> usize
     before_sentinel(source, sentinel)
 }
 
-// Decodes the bytes of a source before its first sentinel, each XORed with it, where there are some and the bytes that are looked at
-// have room: also answers how many they are. It is compiled once for each caller, into which it goes.
+// Decodes the bytes of a source before its first sentinel, each XORed with it, if there are some and those looked at
+// fit. Also returns how many they are. It is compiled once for each caller, into which it is inlined.
 //
-// A long row of codes 01 is left to a decoder that is pushed it, and fills it at once.
+// A long row of codes 01 is left to a decoder to which it is pushed, which fills it at once.
 #[inline(always)]
 fn decode_part<const COPY: usize>(
     source: &[u8],
@@ -111,7 +120,8 @@ fn decode_part<const COPY: usize>(
     Some((answer_behind(state, len), end))
 }
 
-// As `decode`, by a decoder that is pushed what is behind leading zeros, and then a zero: it sees at which byte there is no room.
+// As `decode`, by a decoder to which what follows leading zeros is pushed, and then a zero: it sees which byte
+// doesn't fit.
 #[inline(never)]
 fn decode_pushed(source: &[u8], rest: &[u8], dest: &mut [u8]) -> Result<DecodeReport, DecodeError>
     requires rest { rest.now ≡ unpadded source.now }
@@ -137,7 +147,8 @@ fn decode_pushed(source: &[u8], rest: &[u8], dest: &mut [u8]) -> Result<DecodeRe
     }
 }
 
-// As `decode`, of a source that begins with zeros, or has no room: the frame's end is searched, but not behind a long row of codes 01.
+// As `decode`, of a source that begins with zeros, or doesn't fit. The frame's end is searched first, except after a
+// long row of codes 01. Only bytes that are known to be in the frame are written.
 #[inline(never)]
 fn decode_slowly(source: &[u8], dest: &mut [u8]) -> Result<DecodeReport, DecodeError>
     ensures answer { result ≡ decoded_from (length dest.old) source.now }
@@ -156,14 +167,24 @@ fn decode_slowly(source: &[u8], dest: &mut [u8]) -> Result<DecodeReport, DecodeE
     }
 }
 
-/// Decodes the first frame of a source: leading zeros are skipped, and the frame ends at the next zero or at the end.
+/// Decodes the first frame of a source into `dest`, and returns both sizes.
 ///
-/// The message then stands in front of `dest`. `parsed_size` counts the zeros that were skipped, the frame, and its
-/// zero where there is one.
+/// Leading zeros are skipped; the frame ends at the next zero, or at the end of the source. `parsed_size` counts the
+/// skipped zeros, the frame and its zero, if there is one.
 ///
-/// `EmptyFrame` where no byte is nonzero. `TargetBufTooSmall` where `dest` has no room for what the bytes decide, and
-/// else `InvalidFrame` where they are no frame. What they decide of a message is then in front of `dest`, as far as
-/// there is room.
+/// # Errors
+/// After each, `dest` begins with what the frame determines of a message, as far as it fits.
+/// - `EmptyFrame`: no byte is nonzero.
+/// - `TargetBufTooSmall`: `dest` is too small for what the bytes determine.
+/// - `InvalidFrame`: otherwise, if the bytes aren't a frame.
+///
+/// # Example
+/// With `MESSAGE` as `[10, 11, 0, 12]`, and `room` beginning with its frame:
+/// ```rust
+/// let mut back = [0u8; 4];
+/// let decoded = cobs::decode(&room[..5], &mut back);
+/// check(&rt, decoded.is_ok() && are_bytes(&back, &MESSAGE));
+/// ```
 pub fn decode(source: &[u8], dest: &mut [u8]) -> Result<DecodeReport, DecodeError>
     ensures answer { result ≡ decoded_from (length dest.old) source.now }
     ensures frame { IfOk result (λ r. Frame (frame_in source.now) (take (frame_size r) dest.new)) }
@@ -177,7 +198,7 @@ pub fn decode(source: &[u8], dest: &mut [u8]) -> Result<DecodeReport, DecodeErro
     }
 }
 
-// As `decode_with_sentinel`, of a source for which there is no room: the end of the bytes that are decoded is searched.
+// As `decode_with_sentinel`, of a source that doesn't fit: the end of the bytes to decode is searched first.
 #[inline(never)]
 fn decode_stretch(source: &[u8], dest: &mut [u8], sentinel: u8) -> Result<usize, DecodeError>
     ensures answer { result
@@ -191,12 +212,15 @@ fn decode_stretch(source: &[u8], dest: &mut [u8], sentinel: u8) -> Result<usize,
     }
 }
 
-/// Decodes the bytes before the first sentinel, or all where there is none, each XORed with the sentinel.
+/// Decodes the bytes before the first sentinel, or all if there is none, each XORed with it, and returns the
+/// message's length.
 ///
-/// The message then stands in front of `dest`. A source with no such bytes gives length 0.
+/// The message is then at the start of `dest`. If there are no such bytes, the length is 0.
 ///
-/// `InvalidFrame` where the bytes are no frame, and `TargetBufTooSmall` where they are one whose message is longer than
-/// `dest`. What they decide of a message is then in front of `dest`, as far as there is room.
+/// # Errors
+/// After each, `dest` begins with what the bytes determine of a message, as far as it fits.
+/// - `InvalidFrame`: the bytes aren't a frame.
+/// - `TargetBufTooSmall`: they are one, and its message is longer than `dest`.
 pub fn decode_with_sentinel(
     source: &[u8],
     dest: &mut [u8],
@@ -216,7 +240,8 @@ pub fn decode_with_sentinel(
     }
 }
 
-// Decodes bytes that hold no sentinel, each XORed with it: few are compiled into each of a receiver's ways, and not searched.
+// Decodes bytes that contain no sentinel, each XORed with it. Short frames are decoded at once, without a second
+// search, and compiled into each path of a receiver.
 #[inline(always)]
 pub(crate) fn decode_clear(
     frame: &[u8],

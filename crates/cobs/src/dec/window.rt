@@ -1,4 +1,4 @@
-//! The bytes: searched, copied without their sentinel, and zeros put at the codes.
+//! The bytes of a window: searched, copied without their sentinel, and zeros put at the codes.
 ghost use Rattle.std.specs.Prelude.{◌≡◌, ◌≢◌, ℕ, ◌+◌, ◌<◌, ◌≤◌, length, take, slice_index, true};
 ghost use Rattle.cobs.specs.Frames.{part_from, after};
 ghost use Rattle.cobs.specs.Feeding.{stands_by};
@@ -9,17 +9,17 @@ use super::state::DecoderState;
 use crate::finding::before_few;
 use crate::moves::{are_all, copy_few, copy_if_clear, copy_over};
 
-// How many bytes are copied at once: what lies behind the code of a full block among them is of that block.
+// How many bytes are copied at once: what follows the code of a full block among them is of that block.
 pub(crate) const WINDOW: usize = 254;
 
-// How many bytes of a piece are looked at at once: a fill of more goes byte by byte in the processor.
+// How many bytes of a chunk are looked at at once: a fill of more goes byte by byte in the processor.
 pub(crate) const ROW: usize = 1024;
 
 // How many bytes are searched and copied at once: of fewer each is fed by itself.
 pub(crate) const FEW: usize = 4;
 
-// Copies bytes up to a sentinel, each XORed with it, into a buffer, from a place on: at most 64, which are searched first. Answers
-// how many.
+// Copies bytes up to a sentinel, each XORed with it, into a buffer, from a position on: at most 64, which are searched first.
+// Returns how many.
 #[inline(always)]
 fn copy_few_until(bytes: &[u8], buffer: &mut [u8], place: usize, sentinel: u8) -> usize
     requires few { length bytes.now ≤ 64 }
@@ -60,7 +60,7 @@ pub(crate) fn copy_until(bytes: &[u8], buffer: &mut [u8], place: usize, sentinel
     at + copy_few_until(&bytes[at..], buffer, place + at, sentinel)
 }
 
-// How many bytes in front are this one, in steps of 64.
+// How many bytes at the start are this one, in steps of 64.
 #[inline(always)]
 pub(crate) fn same_by_64(byte: u8, bytes: &[u8]) -> usize
     ensures within { result ≤ length bytes.now }
@@ -74,7 +74,7 @@ pub(crate) fn same_by_64(byte: u8, bytes: &[u8]) -> usize
     end
 }
 
-// Puts a zero for each code of bytes of a frame, where so many are left of a block. Answers where their last block stands.
+// Puts a zero for each code of bytes of a frame, where so many are left of a block. Returns the position of their last block.
 #[inline(always)]
 pub(crate) fn put_zeros(out: &mut [u8], left: u8) -> DecoderState
     requires short { length out.old ≤ 254 }
@@ -90,15 +90,15 @@ pub(crate) fn put_zeros(out: &mut [u8], left: u8) -> DecoderState
         out[at] = 0;
         at += code as usize;
     }
-    // The block of a code 255 goes on behind the window, so that this code is the last one.
+    // The block of a code 255 goes on after the window, so that this code is the last one.
     if code == u8::MAX {
         return DecoderState::GrabChain((at - end) as u8);
     }
     DecoderState::Grab((at - end) as u8)
 }
 
-// Copies bytes of a frame by vectors, where so many are left of a block, and puts a zero for each code. Answers where their last
-// block stands.
+// Copies bytes of a frame by vectors, where so many are left of a block, and puts a zero for each code. Returns the position of
+// their last block.
 #[inline(always)]
 pub(crate) fn decode_at_once(bytes: &[u8], out: &mut [u8], left: u8, sentinel: u8) -> DecoderState
     requires long { length bytes.now ≡ length out.old }
@@ -112,7 +112,7 @@ pub(crate) fn decode_at_once(bytes: &[u8], out: &mut [u8], left: u8, sentinel: u
     put_zeros(out, left)
 }
 
-// Writes bytes over those of a buffer, from a place on.
+// Writes bytes over those of a buffer, from a position on.
 pub(crate) fn write_over(buffer: &mut [u8], place: usize, bytes: &[u8])
     requires { place + length bytes.now ≤ length buffer.old }
     ensures { buffer.new ≡ written_over place bytes.now buffer.old }

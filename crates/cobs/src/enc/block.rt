@@ -1,20 +1,24 @@
-//! Blocks: pieces of a message put behind a frame, each zero as a code.
+//! Blocks: chunks of a message are appended to a frame, each zero as a code.
+//!
+//! Fewer than 8 bytes into the open block go by a loop. A first chunk of one block has a call of its own, whose
+//! positions are known; `encode` uses it too. If the bytes don't fit, the position has length 0, which no frame has:
+//! an `Option` of a position would go through memory.
 ghost use Rattle.std.specs.Prelude.{◌≡◌, ◌+◌, ◌<◌, ◌≤◌, [], length};
 ghost use Rattle.cobs.specs.Held.{pushed, Laid, GoesOnFromBlock, GoesOnBy, WentOn, HoldsFrame};
 ghost use Rattle.cobs.specs.Sentinel.{masked};
 
 use crate::codes::put_block;
 
-// Where the last block's code is, and where the frame ends.
+// The positions of the last block's code and of the frame's end.
 #[derive(Clone, Copy)]
 pub(crate) struct Place {
     pub(crate) code_at: usize,
     pub(crate) len: usize,
 }
 
-// Copies a piece into the open block, which has place for it, and writes a code at each of its zeros. Whatever is written here
-// is XORed with the sentinel, so the contracts speak of the buffer as it is without that: masked once more. The number says which
-// way 64 bytes go: 0 where few are coded. Each caller has a copy by its number.
+// Copies a chunk into the open block, which has space for it, and writes a code at each of its zeros. Whatever is
+// written is XORed with the sentinel, so contracts speak of the buffer without that: masked once more. The number
+// says how 64 bytes are copied: 0 if few zeros are likely. Each caller has a copy of its own by its number.
 #[inline(always)]
 fn put_run<const WAY: usize>(dest: &mut [u8], at: Place, piece: &[u8], sentinel: u8) -> Place
     requires laid { Laid (masked sentinel dest.old) at.code_at at.len }
@@ -30,7 +34,7 @@ fn put_run<const WAY: usize>(dest: &mut [u8], at: Place, piece: &[u8], sentinel:
     Place { code_at, len: end }
 }
 
-// The same in one pass: for a few bytes a call that copies a slice takes longer than they do.
+// The same in one pass: for a few bytes a call that copies a slice costs more than they do.
 #[inline(always)]
 fn put_few(dest: &mut [u8], at: Place, piece: &[u8], sentinel: u8) -> Place
     requires laid { Laid (masked sentinel dest.old) at.code_at at.len }
@@ -55,7 +59,7 @@ fn put_few(dest: &mut [u8], at: Place, piece: &[u8], sentinel: u8) -> Place
     Place { code_at, len: here }
 }
 
-// The same of a first piece, which opens the frame: compiled by itself, since its places are known.
+// The same for a first chunk, which opens the frame: compiled by itself, since its positions are known.
 #[inline(never)]
 fn put_first(piece: &[u8], dest: &mut [u8], sentinel: u8) -> Place
     requires laid { Laid (masked sentinel dest.old) 0 1 }
@@ -68,8 +72,8 @@ fn put_first(piece: &[u8], dest: &mut [u8], sentinel: u8) -> Place
     put_run::<0>(dest, Place { code_at: 0, len: 1 }, piece, sentinel)
 }
 
-// The block that goes on: behind a full one a new one opens. A full block is closed only here, by the byte behind it, so that the
-// buffer always begins with the shortest frame.
+// Returns the open block; after a full one a new block is opened. A full block is closed only here, by the byte after
+// it, so that the buffer always begins with the shortest frame.
 #[inline(always)]
 fn open_block(dest: &mut [u8], at: Place, sentinel: u8) -> Place
     requires holds { HoldsFrame (masked sentinel dest.old) at.code_at at.len }
@@ -89,8 +93,8 @@ fn open_block(dest: &mut [u8], at: Place, sentinel: u8) -> Place
     at
 }
 
-// Puts bytes behind the frame, block by block, and answers where it ends then: at 0 where there isn't room for them all. It is
-// compiled once for each number: one copy is for the sentinel zero alone, where no byte is XORed.
+// Appends bytes to the frame, block by block, and returns its new end: length 0 if they don't all fit. It is compiled
+// once for each number: one copy is for the sentinel zero, which XORs nothing.
 #[inline(never)]
 fn put_blocks<const WAY: usize>(dest: &mut [u8], at: Place, bytes: &[u8], sentinel: u8) -> Place
     requires { HoldsFrame (masked sentinel dest.old) at.code_at at.len }
@@ -114,8 +118,8 @@ fn put_blocks<const WAY: usize>(dest: &mut [u8], at: Place, bytes: &[u8], sentin
     place
 }
 
-// Puts bytes behind the frame, and answers where it ends then: at 0 where there isn't room for them all. A few bytes that go into the
-// open block take no call, and a first piece of one block takes a short one. Each caller has a copy by its number.
+// Appends bytes to the frame, and returns its new end: length 0 if they don't all fit. A few bytes into the open
+// block need no call, and a first chunk of one block a short one. Each caller has a copy of its own by its number.
 #[inline(always)]
 pub(crate) fn put_all<const CALL: usize>(
     dest: &mut [u8],

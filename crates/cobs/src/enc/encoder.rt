@@ -1,4 +1,4 @@
-//! A message that comes in pieces, into a buffer of its caller.
+//! Encoding a message in chunks, into the caller's buffer.
 ghost use Rattle.std.specs.Prelude.{◌≡◌, ◌<◌, ◌≤◌, [], ◌++◌, length, take, true, false, OnOk, OnErr, ◌⊎◌};
 ghost use Rattle.cobs.specs.Frames.{shortest_frame};
 ghost use Rattle.cobs.specs.Sentinel.{frame_for};
@@ -7,17 +7,19 @@ ghost use Rattle.cobs.specs.Fronts.{StandsIn};
 use super::DestBufTooSmallError;
 use super::front::FrameFront;
 
-/// Encodes a message that comes in pieces, into a buffer.
+/// Encodes a message in chunks, into a borrowed buffer.
 ///
-/// The buffer begins with the shortest frame of what was pushed so far. A push whose bytes don't all fit is refused, and spends
-/// the encoder: it refuses from then on, and its frame has the length 0.
+/// The buffer always begins with the shortest frame of everything pushed so far. After a push that fails, every later
+/// push fails too, and the frame's length is 0.
 ///
-/// ```
-/// let mut buffer = [0; 5];
+/// # Example
+/// ```rust
+/// let mut buffer = [0u8; 5];
 /// let mut encoder = CobsEncoder::new(&mut buffer);
-/// encoder.push(&[10, 11])?;
-/// encoder.push(&[0, 12])?;
-/// assert_eq!(encoder.finalize(), 5); // 3, 10, 11, 2, 12
+/// check(&rt, encoder.push(&[10, 11]).is_ok());
+/// check(&rt, encoder.push(&[0, 12]).is_ok());
+/// check(&rt, encoder.finalize() == 5);
+/// check(&rt, are_equal(&buffer, &[3, 10, 11, 2, 12]));
 /// ```
 #[derive(Drop)]
 pub struct CobsEncoder<'a> {
@@ -29,7 +31,10 @@ pub struct CobsEncoder<'a> {
 impl<'a> CobsEncoder<'a> {
     ghost use Rattle.cobs.specs.Encoder.{message_of, room_of, is_spent, buffer_of, lent_name, sentinel_of};
 
-    /// An encoder that was given nothing, over a buffer. The caller owes that it isn't empty.
+    /// Begins a frame in a buffer.
+    ///
+    /// # Requires
+    /// The buffer isn't empty.
     pub fn new(dest: &'a mut [u8]) -> CobsEncoder<'a>
         requires { 0 < length dest.old }
         ensures message { message_of result ≡ [] }
@@ -41,7 +46,10 @@ impl<'a> CobsEncoder<'a> {
         CobsEncoder::new_with_sentinel(dest, 0)
     }
 
-    /// The same, of frames whose bytes are XORed with `sentinel`, so that no byte of them is the sentinel.
+    /// Begins a frame whose bytes are XORed with `sentinel`, so that it doesn't contain the sentinel.
+    ///
+    /// # Requires
+    /// The buffer isn't empty.
     pub fn new_with_sentinel(dest: &'a mut [u8], sentinel: u8) -> CobsEncoder<'a>
         requires { 0 < length dest.old }
         ensures message { message_of result ≡ [] }
@@ -54,9 +62,11 @@ impl<'a> CobsEncoder<'a> {
         CobsEncoder { dest, front }
     }
 
-    /// Puts a piece, which may be empty, behind the message. It is refused exactly where the shortest frame of all the bytes so
-    /// far and these doesn't fit the buffer. The encoder is then spent: it refuses every later push, an empty one too. An empty
-    /// piece leaves the buffer as it is.
+    /// Appends a chunk, which may be empty, to the message. An empty chunk leaves the buffer unchanged.
+    ///
+    /// # Errors
+    /// `DestBufTooSmallError` exactly if the shortest frame of everything pushed so far and this chunk doesn't fit,
+    /// or an earlier push failed. The encoder is then spent: every later push fails too, even an empty one.
     #[inline(always)]
     pub fn push(&mut self, data: &[u8]) -> Result<(), DestBufTooSmallError>
         ensures ok { OnOk result ((is_spent self.old ≡ false) × (is_spent self.new ≡ false)
@@ -76,8 +86,8 @@ impl<'a> CobsEncoder<'a> {
         pushed
     }
 
-    /// The length of the frame of the message so far, without ending it; 0 where a push was refused. The buffer begins with that
-    /// frame.
+    /// Returns the length of the frame so far, without ending it; 0 after a push that failed. The buffer begins with
+    /// that frame.
     pub fn frame_length(&self) -> usize
         ensures spent { is_spent self.now ≡ true → result ≡ 0 }
         ensures length { is_spent self.now ≡ false
@@ -88,12 +98,15 @@ impl<'a> CobsEncoder<'a> {
         self.front.length()
     }
 
-    /// Ends the message, and answers the length of its frame; 0 where a push was refused. The buffer begins with that frame. What
-    /// it holds behind the frame, or after a refusal, isn't stated.
+    /// Ends the message, and returns the length of its frame; 0 after a push that failed. The buffer begins with that
+    /// frame.
+    ///
+    /// The bytes after the frame, and the whole buffer after a failure, aren't specified.
     pub fn finalize(self) -> usize
         ensures spent { is_spent self.entry ≡ true → result ≡ 0 }
         ensures length { is_spent self.entry ≡ false
             → (0 < result) × (result ≡ length (shortest_frame (message_of self.entry))) }
+        // `self.exit.0` is the buffer as the caller gets it back.
         // `self.exit.0` is the buffer as the caller finds it again.
         ensures frame { is_spent self.entry ≡ false → take result self.exit.0.now
             ≡ frame_for (sentinel_of self.entry) (message_of self.entry) }

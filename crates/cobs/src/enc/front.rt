@@ -1,4 +1,4 @@
-//! How far a frame has come, without its buffer.
+//! The state of a frame that is encoded in chunks, without its buffer.
 ghost use Rattle.std.specs.Prelude.{◌≡◌, ℕ, ◌<◌, ◌≤◌, List, [], ◌++◌, length, take, true, false, OnOk, OnErr, ◌⊎◌};
 ghost use Rattle.cobs.specs.Frames.{shortest_frame};
 ghost use Rattle.cobs.specs.Sentinel.{frame_for};
@@ -7,8 +7,18 @@ ghost use Rattle.cobs.specs.Fronts.{StandsIn, message_in, is_over, sentinel_in};
 use super::DestBufTooSmallError;
 use super::block::{Place, put_all};
 
-/// How far the frame of a message that comes in pieces has come, in a buffer that its user keeps and hands in at each call: what a
-/// [`CobsEncoder`] keeps beside its buffer. The caller owes that no one else writes the buffer.
+/// The state of a frame in progress, without its buffer: what a [`CobsEncoder`] keeps beside its buffer.
+///
+/// The buffer is passed at each call; nothing else may write to it meanwhile.
+///
+/// # Example
+/// ```rust
+/// let mut buffer = [0u8; 5];
+/// let mut front = FrameFront::begin(&mut buffer);
+/// check(&rt, front.push(&mut buffer, &[10, 11]).is_ok());
+/// check(&rt, front.length() == 3);
+/// check(&rt, are_equal(&buffer[..3], &[3, 10, 11]));
+/// ```
 #[derive(Clone, Copy, Drop)]
 pub struct FrameFront {
     place: Place,
@@ -17,7 +27,10 @@ pub struct FrameFront {
 }
 
 impl FrameFront {
-    /// Begins a frame in a buffer. The caller owes that it isn't empty.
+    /// Begins a frame in a buffer, and returns its state.
+    ///
+    /// # Requires
+    /// The buffer isn't empty.
     pub fn begin(dest: &mut [u8]) -> FrameFront
         requires { 0 < length dest.old }
         ensures stands { StandsIn dest.new result }
@@ -28,7 +41,10 @@ impl FrameFront {
         FrameFront::begin_with_sentinel(dest, 0)
     }
 
-    /// Begins a frame whose bytes are XORed with `sentinel`. The caller owes that the buffer isn't empty.
+    /// Begins a frame whose bytes are XORed with `sentinel`, and returns its state.
+    ///
+    /// # Requires
+    /// The buffer isn't empty.
     pub fn begin_with_sentinel(dest: &mut [u8], sentinel: u8) -> FrameFront
         requires { 0 < length dest.old }
         ensures stands { StandsIn dest.new result }
@@ -44,7 +60,14 @@ impl FrameFront {
         }
     }
 
-    /// As [`CobsEncoder::push`].
+    /// Appends a chunk to the message.
+    ///
+    /// # Errors
+    /// `DestBufTooSmallError` exactly if the frame of everything pushed doesn't fit `dest`, or an earlier push
+    /// failed. Every later push then fails too.
+    ///
+    /// # Requires
+    /// `dest` is the buffer of the earlier calls, unchanged since.
     #[inline(always)]
     pub fn push(&mut self, dest: &mut [u8], data: &[u8]) -> Result<(), DestBufTooSmallError>
         requires { StandsIn dest.old self.old }
@@ -70,7 +93,7 @@ impl FrameFront {
         Ok(())
     }
 
-    /// As [`CobsEncoder::frame_length`].
+    /// Returns the length of the frame so far; 0 after a push that failed.
     pub fn length(&self) -> usize
         ensures spent { is_over self.now ≡ true → result ≡ 0 }
         ensures length { (buffer : List ℕ) → StandsIn buffer self.now → is_over self.now ≡ false

@@ -1,4 +1,4 @@
-//! A message whose frame is made where it stands.
+//! Encoding a message in place.
 ghost use Rattle.std.specs.Prelude.{◌≡◌, ◌+◌, ◌<◌, ◌≤◌, [], length, take, drop};
 ghost use Rattle.cobs.specs.Frames.{shortest_frame};
 ghost use Rattle.cobs.specs.Codes.{Coding};
@@ -7,12 +7,20 @@ ghost use Rattle.cobs.specs.Sentinel.{masked, frame_for};
 use crate::codes::put_codes_standing;
 use crate::masks::mask;
 
-/// Makes the frame of a message of n bytes, 254 at most, where it stands: in the buffer behind its first byte, which may be any.
-/// Answers the frame's length, n + 1. What the buffer holds behind the frame isn't stated.
+/// Encodes a message of n bytes where it is, after a spare first byte of the buffer, and returns the frame's length,
+/// n + 1.
 ///
-/// ```
-/// let mut buffer = [0, 10, 11, 0, 12];
-/// assert_eq!(encode_in_place(&mut buffer, 4, 0), 5); // buffer is 3, 10, 11, 2, 12
+/// Every byte of the frame is XORed with `sentinel`. The spare byte may have any value. The bytes after the frame
+/// aren't specified.
+///
+/// # Requires
+/// At most 254 bytes, which all are in the buffer.
+///
+/// # Example
+/// ```rust
+/// let mut buffer = [0u8, 10, 11, 0, 12];
+/// check(&rt, encode_in_place(&mut buffer, 4, 0) == 5);
+/// check(&rt, are_equal(&buffer, &[3, 10, 11, 2, 12]));
 /// ```
 pub fn encode_in_place(buffer: &mut [u8], n: usize, sentinel: u8) -> usize
     requires few { n ≤ 254 }
@@ -39,7 +47,7 @@ fn mask_message(buffer: &mut [u8], n: usize, sentinel: u8)
     }
 }
 
-// Writes a code at each zero of the message, and answers where the last code is to be.
+// Writes a code at each zero of the message, and returns the position of the last code.
 #[inline(always)]
 fn put_all_codes(buffer: &mut [u8], n: usize, sentinel: u8) -> usize
     requires few { n ≤ 254 }

@@ -1,10 +1,12 @@
-//! A message that comes byte by byte: what is to be done to the buffer that its user keeps.
+//! Encoding byte by byte: what the caller does to the buffer that it keeps.
 ghost use Rattle.std.specs.Prelude.{◌≡◌, ◌^◌, ℕ, ◌+◌, ◌<◌, ◌↔◌, List, [], ◌∷◌, ◌++◌, length, slice_set, IsTrue};
 ghost use Rattle.cobs.specs.Frames.{longest_frame};
 
 use std::alloc::AllocError;
 
-/// What the user of an `EncoderState` is to do to the buffer that it keeps.
+/// What the caller of an [`EncoderState`] does to its buffer.
+///
+/// Example: see [`EncoderState`].
 #[derive(Clone, Copy, PartialEq, Debug)]
 pub enum PushResult {
     /// Append the byte.
@@ -15,32 +17,20 @@ pub enum PushResult {
     ModifyFromStartAndPushAndSkip((usize, u8, u8)),
 }
 
-/// Encodes a message byte by byte, into a buffer that its user keeps.
+/// Encodes a message byte by byte, into a buffer that the caller keeps.
 ///
-/// The buffer begins as one placeholder, which is any byte, at index 0. For each byte of the message the user does what `push`
-/// answers, and at the end what `finalize` answers. Every index that they name lies in that buffer, and it is then a frame of
-/// what was pushed: the longest one, since a placeholder stands behind a full block at once. Where the message ends in a run of
-/// 254 nonzero bytes, or of a multiple of that, it so has one block 01 more than the frame that `encode` gives.
+/// The buffer begins as one placeholder of any value. For each byte the caller does what `push` returns, and in the
+/// end what `finalize` returns. Every index in these results is within the buffer.
 ///
-/// ```
-/// let mut buffer = vec![in alloc; 0]?;
+/// The buffer is then the longest frame of what was pushed, since a placeholder follows a full block at once. It has
+/// one block 01 more than the frame of `encode` if the message ends in a nonzero run whose length is a positive
+/// multiple of 254.
+///
+/// # Example
+/// ```rust
 /// let mut state = EncoderState::default();
-/// for byte in [10, 0, 12] {
-///     match state.push(byte) {
-///         PushResult::AddSingle(b) => buffer.push(b)?,
-///         PushResult::ModifyFromStartAndSkip((i, code)) => {
-///             buffer[i] = code;
-///             buffer.push(0)?;
-///         }
-///         PushResult::ModifyFromStartAndPushAndSkip((i, code, b)) => {
-///             buffer[i] = code;
-///             buffer.push(b)?;
-///             buffer.push(0)?;
-///         }
-///     }
-/// }
-/// let (i, code) = state.finalize();
-/// buffer[i] = code; // 2, 10, 2, 12
+/// check(&rt, state.can_push() && state.push(10) == PushResult::AddSingle(10));
+/// check(&rt, state.finalize() == (0, 2));
 /// ```
 #[derive(Drop)]
 pub struct EncoderState {
@@ -53,8 +43,9 @@ pub struct EncoderState {
 impl EncoderState {
     ghost use Rattle.cobs.specs.Kept.{applied, Keeps, SetsWithin, next_placeholder};
 
-    /// Whether the index of the next placeholder is sure to fit `usize`, as `push` needs. It is while the buffer has fewer than
-    /// 2^64 - 255 bytes.
+    /// Returns whether the index of the next placeholder is known to fit `usize`, which `push` requires.
+    ///
+    /// It is while the buffer has fewer than 2^64 - 255 bytes.
     pub fn can_push(&self) -> bool
         ensures fits { IsTrue result ↔ (next_placeholder self.now < 2 ^ 64) }
         ensures near { (buffer message : List ℕ) → Keeps self.now buffer message
@@ -63,7 +54,10 @@ impl EncoderState {
         self.code_at <= usize::MAX - 255
     }
 
-    /// Takes the next byte of the message, and answers what is to be done to the buffer. The caller owes `can_push`.
+    /// Takes the next byte of the message, and returns what to do to the buffer.
+    ///
+    /// # Requires
+    /// `can_push` holds: the index of the next placeholder fits `usize`.
     pub fn push(&mut self, byte: u8) -> PushResult
         requires { next_placeholder self.old < 2 ^ 64 }
         ensures keeps { (placeholder : ℕ) (buffer message : List ℕ) → Keeps self.old buffer message
@@ -87,7 +81,7 @@ impl EncoderState {
         PushResult::AddSingle(byte)
     }
 
-    /// Ends the message, and answers what is to be done last: set the byte at the index to the code. The buffer is then the frame.
+    /// Ends the message, and returns an index and the code to set there. The buffer is then the frame.
     pub fn finalize(self) -> (usize, u8)
         ensures frame { (buffer message : List ℕ) → Keeps self buffer message
             → slice_set buffer result.0 result.1 ≡ longest_frame message }
@@ -98,7 +92,7 @@ impl EncoderState {
     }
 }
 
-/// A state that was given nothing. It keeps a buffer of one placeholder.
+/// A state to which nothing was pushed. Its buffer is one placeholder.
 impl Default for EncoderState {
     ghost use Rattle.cobs.specs.Kept.{Keeps};
 
@@ -112,7 +106,7 @@ impl Default for EncoderState {
     }
 }
 
-/// The same state, for a copy of the buffer. It takes no memory and never fails.
+/// The same state, for a copy of the buffer. It allocates nothing and is never an error.
 impl Clone for EncoderState {
     ghost is_clone = { λ x y. y ≡ x };
 

@@ -1,4 +1,4 @@
-//! A message that is there as a whole.
+//! Encoding a whole message.
 ghost use Rattle.std.specs.Prelude.{◌≡◌, ◌+◌, ◌<◌, ◌≤◌, ◌↔◌, length, take, IsTrue, IfOk, OnOk, OnErr};
 ghost use Rattle.cobs.specs.Frames.{NoZero, shortest_frame, most_length};
 ghost use Rattle.cobs.specs.Sentinel.{between_zeros, frame_for};
@@ -10,13 +10,19 @@ use crate::moves::is_clear_255;
 use memchr::memrchr;
 use std::alloc::{AllocError, Global};
 
-/// Writes the frame of `source` to the front of `dest`, and answers its length. The caller owes room for it: `encoded_length`
-/// bytes are what it takes, and `max_encoding_length` bytes are always enough, as `laws::lengths` says. What `dest` holds behind
-/// the frame isn't stated.
+/// Encodes a message into `dest`, and returns the length of its shortest frame.
 ///
-/// ```
-/// let mut dest = [0; 5];
-/// assert_eq!(encode(&[10, 11, 0, 12], &mut dest), 5); // 3, 10, 11, 2, 12
+/// The bytes of `dest` after the frame aren't specified.
+///
+/// # Requires
+/// `dest` has at least `encoded_length(source)` bytes; `max_encoding_length(source.len())` always suffices
+/// (`laws::lengths`).
+///
+/// # Example
+/// With `MESSAGE` as `[10, 11, 0, 12]`, whose frame is `[3, 10, 11, 2, 12]`:
+/// ```rust
+/// let mut room = [0u8; 8];
+/// check(&rt, cobs::encode(&MESSAGE, &mut room) == 5);
 /// ```
 pub fn encode(source: &[u8], dest: &mut [u8]) -> usize
     requires { length (shortest_frame source.now) ≤ length dest.old }
@@ -26,12 +32,12 @@ pub fn encode(source: &[u8], dest: &mut [u8]) -> usize
     encode_with_sentinel(source, dest, 0)
 }
 
-/// As `encode`, with a zero before the frame and one behind it, which the length counts.
+/// Encodes a message between two zeros, and returns the length with both.
 ///
-/// ```
-/// let mut dest = [0; 3];
-/// assert_eq!(encode_including_sentinels(&[], &mut dest), 3); // 0, 1, 0
-/// ```
+/// The bytes of `dest` after them aren't specified.
+///
+/// # Requires
+/// `dest` has at least `encoded_length(source) + 2` bytes.
 pub fn encode_including_sentinels(source: &[u8], dest: &mut [u8]) -> usize
     requires { length (shortest_frame source.now) + 2 ≤ length dest.old }
     ensures length { result ≡ length (shortest_frame source.now) + 2 }
@@ -43,12 +49,12 @@ pub fn encode_including_sentinels(source: &[u8], dest: &mut [u8]) -> usize
     n + 2
 }
 
-/// As `encode`, with every byte of the frame XORed with `sentinel`, so that no byte of it is the sentinel.
+/// Encodes as [`encode`], with every byte of the frame XORed with `sentinel`, and returns the frame's length.
 ///
-/// ```
-/// let mut dest = [0; 5];
-/// assert_eq!(encode_with_sentinel(&[10, 11, 0, 12], &mut dest, 10), 5); // 9, 0, 1, 8, 6
-/// ```
+/// No byte of the frame is the sentinel.
+///
+/// # Requires
+/// `dest` has at least `encoded_length(source)` bytes.
 #[inline(always)]
 pub fn encode_with_sentinel(source: &[u8], dest: &mut [u8], sentinel: u8) -> usize
     requires { length (shortest_frame source.now) ≤ length dest.old }
@@ -60,11 +66,14 @@ pub fn encode_with_sentinel(source: &[u8], dest: &mut [u8], sentinel: u8) -> usi
     end.len
 }
 
-/// The length of the frame of `source`: what `encode` needs, and no more. A message of n bytes has n + 1 at least, and
-/// `max_encoding_length` of n at most, which it has where none of its bytes is zero.
+/// Returns the length of the shortest frame of `source`: exactly what [`encode`] needs.
 ///
-/// ```
-/// assert_eq!(encoded_length(&[10, 11, 0, 12]), 5);
+/// It is at least n + 1 for a message of n bytes, and at most `max_encoding_length(n)`, which a message without zeros
+/// has.
+///
+/// # Example
+/// ```rust
+/// check(&rt, encoded_length(&[10, 11, 0, 12]) == 5);
 /// ```
 #[inline(never)]
 pub fn encoded_length(source: &[u8]) -> usize
@@ -75,9 +84,11 @@ pub fn encoded_length(source: &[u8]) -> usize
 {
     let mut full_runs: usize = 0;
     let mut rest = source;
+    // A byte after 254 nonzero ones costs another code. Every other code except the first replaces a zero.
     // A byte behind 254 nonzero ones costs a further code. Every other code but the first stands in place of a zero.
     while rest.len() > 254 {
         let (run, behind) = rest.split_at(254);
+        // A full run is recognised at once.
         // A full run is seen at once.
         if is_clear_255(&rest[..255], 0) {
             full_runs += 1;
@@ -95,7 +106,7 @@ pub fn encoded_length(source: &[u8]) -> usize
     source.len() + 1 + full_runs
 }
 
-// Whether the frame of `source` has room in so many bytes. It is counted only where the bounds of its length leave that open.
+// Whether the frame of `source` fits `room` bytes. Its length is counted only if its bounds don't decide that.
 #[tactic(auto, using(crate::proofs::LengthsLemmas::frame_at_least, crate::proofs::LengthsLemmas::frame_at_most))]
 fn fits(source: &[u8], room: usize) -> bool
     ensures { IsTrue result ↔ (length (shortest_frame source.now) ≤ room) }
@@ -103,6 +114,7 @@ fn fits(source: &[u8], room: usize) -> bool
     if room <= source.len() {
         return false;
     }
+    // One more byte suffices for these.
     // One byte more is enough for these.
     if source.len() <= 254 {
         return true;
@@ -110,11 +122,16 @@ fn fits(source: &[u8], room: usize) -> bool
     max_encoding_length(source.len()) <= room || encoded_length(source) <= room
 }
 
-/// As `encode`, but where the frame doesn't fit `dest` it is refused, and `dest` stays as it is.
+/// Encodes a message into `dest`, and returns the length of its shortest frame.
 ///
-/// ```
-/// let mut small = [0; 4];
-/// assert!(try_encode(&[10, 11, 0, 12], &mut small).is_err());
+/// # Errors
+/// `DestBufTooSmallError` exactly if the frame doesn't fit; `dest` is unchanged.
+///
+/// # Example
+/// With `MESSAGE` as `[10, 11, 0, 12]`:
+/// ```rust
+/// let tried = cobs::try_encode(&MESSAGE, &mut room);
+/// check(&rt, matches!(&tried, Ok(5)));
 /// ```
 pub fn try_encode(source: &[u8], dest: &mut [u8]) -> Result<usize, DestBufTooSmallError>
     ensures fits { OnOk result (length (shortest_frame source.now) ≤ length dest.old) }
@@ -129,8 +146,10 @@ pub fn try_encode(source: &[u8], dest: &mut [u8]) -> Result<usize, DestBufTooSma
     Ok(encode(source, dest))
 }
 
-/// As `encode_including_sentinels`, but where the frame and its two zeros don't fit `dest` it is refused, and `dest` stays as
-/// it is.
+/// Encodes a message between two zeros, and returns the length with both.
+///
+/// # Errors
+/// `DestBufTooSmallError` exactly if the frame and its two zeros don't fit; `dest` is unchanged.
 pub fn try_encode_including_sentinels(
     source: &[u8],
     dest: &mut [u8],
@@ -147,14 +166,40 @@ pub fn try_encode_including_sentinels(
     Ok(encode_including_sentinels(source, dest))
 }
 
-/// The frame of `source`, in a new vector. It fails only where no memory is found.
+/// Returns the shortest frame of `source` in a new vector.
+///
+/// # Errors
+/// `AllocError` when out of memory.
+///
+/// # Allocates
+/// The frame's length, once.
+///
+/// # Example
+/// With `MESSAGE` as `[10, 11, 0, 12]`:
+/// ```rust
+/// let plain = cobs::encode_vec(alloc, &MESSAGE);
+/// wants.bytes(plain, AllocError, &[3, 10, 11, 2, 12]);
+/// ```
 pub fn encode_vec(alloc: Global, source: &[u8]) -> Result<Vec<u8>, AllocError>
     ensures { IfOk result (λ frame. frame.items ≡ shortest_frame source.now) }
 {
     encode_vec_with_sentinel(alloc, source, 0)
 }
 
-/// As `encode_vec`, with a zero before the frame and one behind it.
+/// Returns the shortest frame of `source` between two zeros, in a new vector.
+///
+/// # Errors
+/// `AllocError` when out of memory.
+///
+/// # Allocates
+/// The length of the frame and two bytes, once.
+///
+/// # Example
+/// With `MESSAGE` as `[10, 11, 0, 12]`:
+/// ```rust
+/// let between = cobs::encode_vec_including_sentinels(alloc, &MESSAGE);
+/// wants.bytes(between, AllocError, &[0, 3, 10, 11, 2, 12, 0]);
+/// ```
 pub fn encode_vec_including_sentinels(alloc: Global, source: &[u8]) -> Result<Vec<u8>, AllocError>
     ensures { IfOk result (λ frame. frame.items ≡ between_zeros (shortest_frame source.now)) }
 {
@@ -163,7 +208,20 @@ pub fn encode_vec_including_sentinels(alloc: Global, source: &[u8]) -> Result<Ve
     Ok(frame)
 }
 
-/// As `encode_vec`, with every byte of the frame XORed with `sentinel`.
+/// Returns the shortest frame of `source` in a new vector, every byte XORed with `sentinel`.
+///
+/// # Errors
+/// `AllocError` when out of memory.
+///
+/// # Allocates
+/// The frame's length, once.
+///
+/// # Example
+/// With `MESSAGE` as `[10, 11, 0, 12]`:
+/// ```rust
+/// let masked = cobs::encode_vec_with_sentinel(alloc, &MESSAGE, 10);
+/// wants.bytes(masked, AllocError, &[9, 0, 1, 8, 6]);
+/// ```
 pub fn encode_vec_with_sentinel(
     alloc: Global,
     source: &[u8],
