@@ -19,11 +19,11 @@ out_bytes o = take o.moved o.buffer.now
 abbrev pub out_moved : Out → ℕ
 out_moved o = o.moved
 
--- how many more bytes its buffer has room for
+-- how many more bytes fit its buffer
 abbrev pub out_room : Out → ℕ
 out_room o = length o.buffer.now - o.moved
 
--- how it goes on
+-- its plan
 abbrev pub out_plan : Out → Plan
 out_plan o = record { each = o.each; fault = o.fault }
 
@@ -35,7 +35,7 @@ in_bytes i = i.rest.now
 abbrev pub in_moved : In → ℕ
 in_moved i = i.given
 
--- how it goes on
+-- its plan
 abbrev pub in_plan : In → Plan
 in_plan i = record { each = i.each; fault = failing i.fault }
 
@@ -43,18 +43,18 @@ in_plan i = record { each = i.each; fault = failing i.fault }
 abbrev pub owned_bytes : OwnedOut → List ℕ
 owned_bytes o = o.bytes.items
 
--- how it goes on
+-- its plan
 abbrev pub owned_plan : OwnedOut → Plan
 owned_plan o = record { each = o.each; fault = o.fault }
 
--- where it stands
+-- its state
 abbrev pub out_line : Out → LineState
 out_line d = record { told = Some (out_bytes d); faults = d.faults; calls_left = d.calls }
 
--- where it stands
+-- its state
 abbrev pub in_line : In → LineState
 in_line d = record { told = Some (in_bytes d); faults = d.faults; calls_left = d.calls }
 
--- where it stands
+-- its state
 abbrev pub owned_line : OwnedOut → LineState
 owned_line d = record { told = Some (owned_bytes d); faults = d.faults; calls_left = d.calls }

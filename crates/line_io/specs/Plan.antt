@@ -3,20 +3,20 @@ use Rattle.std.specs.Prelude.{◌≡◌, ℕ, ◌-◌, ◌⊎◌, zero, suc, min
 use Rattle.line_io.specs.declared.memory.Fault.{Fault}
 use Rattle.line_io.specs.declared.memory.Fault.TheVariants.{Fail, Nothing}
 
--- It moves at most `each` bytes a call. Where there is a fault, that many bytes move first, and then
--- the next call that asks for bytes is the fault.
+-- It moves at most `each` bytes a call. If a fault is planned, so many bytes move first, and the next call that asks for bytes
+-- is the fault.
 pub record Plan : Type 0 where
   -- The maximum of bytes that one call moves.
   pub each : ℕ
   -- How many bytes move before the fault, and its kind; None if none is planned.
   pub fault : Option (ℕ × Fault)
 
--- what a fault answers
+-- what a fault returns
 abbrev pub answer_of_fault : Fault → Option ℕ
 answer_of_fault Fail = None
 answer_of_fault Nothing = Some 0
 
--- what a call answers that could move `most` bytes, by the fault that is still to come
+-- what a call returns that could move `most` bytes, by the fault that is still to come
 abbrev pub step_answer : Option (ℕ × Fault) → ℕ → Option ℕ
 step_answer None most = Some most
 step_answer (Some (zero, kind)) most = answer_of_fault kind
@@ -28,7 +28,7 @@ step_fault None most = None
 step_fault (Some (zero, kind)) most = None
 step_fault (Some (suc before, kind)) most = Some (suc before - min most (suc before), kind)
 
--- what a call answers, by the calls that are left, the bytes that can still move, and those that it asks for
+-- what a call returns, by the calls that are left, the bytes that can still move, and those that it asks for
 abbrev pub planned_answer : Plan → ℕ → ℕ → ℕ → Option ℕ
 planned_answer plan zero left asked = None
 planned_answer plan (suc calls) left zero = Some 0
@@ -47,8 +47,8 @@ abbrev pub failing : Option ℕ → Option (ℕ × Fault)
 failing None = None
 failing (Some before) = Some (before, Fail)
 
--- What a call answers of a device that grows, and the plan after it: both as planned; or None where a growth was refused,
--- and the plan as it was.
+-- What a call of a growing device returns, and the plan after it: both as planned; or None if an allocation failed, and the
+-- plan unchanged.
 abbrev pub GoesOn : Plan → ℕ → ℕ → Option ℕ → Plan → Type 0
 GoesOn plan calls asked answer after =
     ((answer ≡ planned_answer plan calls asked asked) × (after ≡ plan_after plan calls asked asked))

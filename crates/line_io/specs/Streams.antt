@@ -12,7 +12,7 @@ inner_writer w = w.inner
 abbrev pub inner_reader : {R : Type 0} → Reads R → R
 inner_reader r = r.inner
 
--- where a device over a writer stands: the bytes that the writer holds, where it tells them, and none are told from a fault on
+-- the state of a device over a writer: the bytes that the writer holds, if it reports them; none from a fault on
 abbrev pub writes_line : {W : Type 0} → (W → Option (List ℕ)) → Writes W → LineState
 writes_line contents w = record {
   told = if w.faults == 0 then contents w.inner else None;
@@ -20,7 +20,7 @@ writes_line contents w = record {
   calls_left = w.calls;
 }
 
--- where a device over a reader stands: the bytes that the reader will give, likewise
+-- the state of a device over a reader: the bytes that the reader will give, likewise
 abbrev pub reads_line : {R : Type 0} → (R → Option (List ℕ)) → Reads R → LineState
 reads_line remaining r = record {
   told = if r.faults == 0 then remaining r.inner else None;

@@ -1,4 +1,4 @@
--- What writing some bytes, or reading a text, does to a device, in as many calls as it takes.
+-- What writing some bytes, or reading a text, does to a device, in as many calls as needed.
 use Rattle.std.specs.Prelude.{◌≡◌, ℕ, ◌+◌, ◌<◌, ◌≤◌, ◌⊎◌, List, [], ◌++◌, length, IfSome, Result, OnOk, OnErr}
 use Rattle.line_io.specs.Device.{LineState, Wrote, Gave}
 use Rattle.line_io.specs.declared.transfers.End.{End}
@@ -9,14 +9,14 @@ use Rattle.line_io.specs.declared.transfers.End.TheVariants.{Ended, ReadFault, N
 abbrev pub Failed : LineState → LineState → Type 0
 Failed old new = (old.faults < new.faults) ⊎ (new.calls_left ≡ 0)
 
--- The bytes went out, and no call was a fault.
+-- The bytes were written, and no call was a fault.
 pub record WentOut (old new : LineState) (bytes : List ℕ) : Type 0 where
   -- All of the bytes were written.
   pub wrote : Wrote old new bytes
   -- No call was a fault.
   pub quiet : new.faults ≡ old.faults
 
--- A front of the bytes went out that isn't all of them, and then the device failed.
+-- A proper prefix of the bytes was written, and then the device failed.
 pub record BrokeOff (old new : LineState) (bytes : List ℕ) : Type 0 where
   -- The bytes that were written.
   pub front : List ℕ
@@ -31,18 +31,18 @@ pub record BrokeOff (old new : LineState) (bytes : List ℕ) : Type 0 where
   -- Then a call was a fault, or none was left.
   pub failed : Failed old new
 
--- how a device took bytes: all of them, or a front
+-- whether a device took all of the bytes, or a proper prefix
 pub data Fate : Type 0 where
   whole : Fate
   broken : Fate
 
--- What happened to a device that was handed bytes to write.
+-- The effect of writing bytes to a device.
 abbrev pub Writing : LineState → LineState → Fate → List ℕ → Type 0
 Writing old new whole bytes = WentOut old new bytes
 Writing old new broken bytes = BrokeOff old new bytes
 
--- What happened to a device that was handed bytes to write, by the answer: it made at most a call for each byte, and none behind one
--- that failed or took nothing.
+-- The effect of writing bytes to a device, by the result: at most one call for each byte, and none after one that failed or
+-- took nothing.
 pub record WentOrBroke (old new : LineState) (bytes : List ℕ)
     (result : Result (Unit {0}) WriteFault) : Type 0 where
   -- At Ok everything was written, without a fault.

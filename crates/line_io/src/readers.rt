@@ -5,13 +5,14 @@ ghost use Rattle.line_io.specs.Device.{Gave, moved_front, read_faults};
 use crate::traits::Inlet;
 use std::io::Read;
 
-// How many bytes a reader is asked for at most, in one read.
+// The maximum of bytes that a reader is asked for in one read.
 const SCRATCH: usize = 16384;
 
-// A room of so many bytes or fewer is read by way of as many: clearing all of the scratch takes longer than such a read.
+// A buffer of at most so many bytes is read by way of as many: clearing all of the scratch takes longer than such a
+// read.
 const FEW: usize = 1024;
 
-// Reads once by way of the scratch, which isn't empty, and copies what came to the front of the room.
+// Reads once into the scratch, which isn't empty, and copies what came to the start of the buffer.
 fn read_by<R: Read>(reader: &mut R, room: &mut [u8], scratch: &mut [u8]) -> Option<usize>
     requires { 0 < length scratch.old }
     ensures bound { IfSome result (λ n. n ≤ length room.new) }
@@ -32,9 +33,11 @@ fn read_by<R: Read>(reader: &mut R, room: &mut [u8], scratch: &mut [u8]) -> Opti
     }
 }
 
-/// Reads once, and copies what came to the front of the room: past its answer a reader of std may write what it likes.
+/// Reads once into `room`, and returns how many bytes came; `None` if the read failed or was interrupted.
 ///
-/// It asks for at most 16384 bytes. At `None`, a read that failed or was interrupted, the room is as it was.
+/// It leaves the buffer past these bytes unchanged, and all of it at `None`: a reader of std may write past its
+/// result, so the bytes come by way of a buffer on the stack. At most 16384 bytes are read. Into a nonempty buffer, 0
+/// is the end.
 pub fn read_front<R: Read>(reader: &mut R, room: &mut [u8]) -> Option<usize>
     ensures bound { IfSome result (λ n. n ≤ length room.new) }
     ensures past { drop (unwrap_or result 0) room.new ≡ drop (unwrap_or result 0) room.old }
@@ -53,14 +56,16 @@ pub fn read_front<R: Read>(reader: &mut R, room: &mut [u8]) -> Option<usize>
 
 /// An [`Inlet`](crate::Inlet) over a reader of std.
 ///
-/// A read that the reader fails, or breaks off as interrupted, is `None`, and nothing is tried again. What is to
-/// come is told up to the first fault, where the reader tells it. A read asks for at most 16384 bytes, and a reader that
-/// writes past its answer changes nothing of the room.
+/// If the reader fails or is interrupted, `read` returns `None`; nothing is retried. The bytes to come are reported
+/// up to the first fault, if the reader reports them. A read asks for at most 16384 bytes. A reader that writes past
+/// its result changes nothing of the buffer.
 ///
-/// ```
+/// # Example
+/// ```rust
 /// let mut line = Reads::new(b"hi".as_slice());
 /// let mut room = [0u8; 8];
-/// assert!(rt; line.read(&mut room) == Some(2));
+/// check(&rt, line.read(&mut room) == Some(2));
+/// check(&rt, line.read(&mut room) == Some(0));
 /// ```
 #[derive(Drop)]
 pub struct Reads<R> {
@@ -73,7 +78,7 @@ pub struct Reads<R> {
 impl<R: Read> Reads<R> {
     ghost use Rattle.line_io.specs.Streams.{inner_reader};
 
-    /// A device over the reader. It has met no fault.
+    /// A device over the reader, without faults so far.
     pub fn new(inner: R) -> Reads<R>
         ensures to_come { (⟦<Reads<R> as Inlet>⟧.line result).told ≡ R.remaining inner }
         ensures faults { (⟦<Reads<R> as Inlet>⟧.line result).faults ≡ 0 }
@@ -87,7 +92,7 @@ impl<R: Read> Reads<R> {
         }
     }
 
-    /// The reader, after the calls so far.
+    /// Returns the reader, as the calls so far left it.
     pub fn into_inner(self) -> R
         ensures inner { result ≡ inner_reader self }
         ensures told { (⟦<Reads<R> as Inlet>⟧.line self).faults ≡ 0
@@ -118,12 +123,12 @@ impl<R: Read> Inlet for Reads<R> {
         ensures past { drop (unwrap_or result 0) room.new ≡ drop (unwrap_or result 0) room.old }
         ensures silent { 0 < (reads_line R.remaining self.new).faults
             → (reads_line R.remaining self.new).told ≡ None }
-        // What the reader will give is its own to tell, after a fault too.
+        // The reader itself reports what it will give, after a fault too.
         ensures inner { MatchOption result
             (Keeps (R.remaining (inner_reader self.old)) (R.remaining (inner_reader self.new)))
             (λ n. Consumes (R.remaining (inner_reader self.old))
             (R.remaining (inner_reader self.new)) (take n room.new)) }
-        // It has ended only where the reader has, after a fault too.
+        // It has ended only if the reader has, after a fault too.
         ensures inner_end { result ≡ Some 0 → 0 < length room.new
             → IsAtEnd (R.remaining (inner_reader self.new)) }
     {

@@ -5,21 +5,31 @@ ghost use Rattle.line_io.specs.declared.transfers.End.TheVariants.{Ended, ReadFa
 
 use crate::traits::{Inlet, Outlet};
 
-/// How many bytes are asked for in one read.
+// The maximum of bytes that one read asks for.
 const ROOM: usize = 16384;
 
 /// A write failed, was interrupted or took nothing.
+///
+/// # Example
+/// ```rust
+/// check(&rt, write_all(&mut out, b"hello") == Err(WriteFault));
+/// check(&rt, out.moved() == 4);
+/// ```
 #[derive(Clone, Copy, Debug, PartialEq, Eq, Drop)]
 pub struct WriteFault;
 
-/// Writes the bytes, in as many writes as the device needs.
+/// Writes all of the bytes, in as many writes as the device needs.
 ///
-/// The first fault ends it: nothing is tried again.
+/// # Errors
+/// `WriteFault` at the first fault, or with no call left. A proper prefix of the bytes was written; nothing is
+/// retried.
 ///
-/// ```
-/// let mut room = [0u8; 8];
-/// let mut out = Out::new(&mut room, 1, None);
-/// assert!(rt; write_all(&mut out, b"hello").is_ok());
+/// # Example
+/// ```rust
+/// let mut room = [0u8; 4];
+/// let mut out = Out::new(&mut room, 2, None);
+/// check(&rt, write_all(&mut out, b"hi").is_ok());
+/// check(&rt, write_all(&mut out, b"hello") == Err(WriteFault));
 /// ```
 pub fn write_all<W: Outlet>(outlet: &mut W, bytes: &[u8]) -> Result<(), WriteFault>
     ensures { WentOrBroke (W.line outlet.old) (W.line outlet.new) bytes.now result }
@@ -36,20 +46,32 @@ pub fn write_all<W: Outlet>(outlet: &mut W, bytes: &[u8]) -> Result<(), WriteFau
     Ok(())
 }
 
-/// How a reading ended.
+/// Why reading ended.
+///
+/// Example: see [`read_to_end`].
 #[derive(Clone, Copy, Debug, PartialEq, Eq, Drop)]
 pub enum End {
-    /// The reader told its end.
+    /// The reader is at its end.
     Ended,
     /// A read failed, or the reader has no call left.
     ReadFault,
-    /// No memory was found for what was read.
+    /// What was read couldn't be allocated.
     NoMemory,
 }
 
-/// Reads all there is, and puts it behind what the vector holds.
+/// Appends everything that a reader gives to the vector, and returns why it stopped.
 ///
-/// Where memory runs out, the vector has got a front of what was read.
+/// At `ReadFault` the vector has everything before the fault. At `NoMemory` it has a prefix of what was read.
+///
+/// # Allocates
+/// What the vector grows by; 16384 bytes are on the stack.
+///
+/// # Example
+/// ```rust
+/// let mut text = Vec::new(rt.alloc());
+/// let end = read_to_end(&mut In::new(b"abc", 2, Some(1)), &mut text);
+/// check(&rt, end == End::ReadFault && are_bytes(&text, b"a"));
+/// ```
 pub fn read_to_end<R: Inlet>(inlet: &mut R, bytes: &mut Vec<u8>) -> End
     ensures ended { result ≡ Ended → (text : List ℕ) × (bytes.new.items ≡ bytes.old.items ++ text)
         × HasRead (R.line inlet.old) (R.line inlet.new) Ended text }

@@ -7,12 +7,13 @@ use std::io::Write;
 
 /// An [`Outlet`](crate::Outlet) over a writer of std.
 ///
-/// A write that the writer fails, or breaks off as interrupted, is `None`, and nothing is tried again. The bytes
-/// are told up to the first fault, where the writer tells them.
+/// If the writer fails or is interrupted, `write` returns `None`; nothing is retried. The bytes are reported up to
+/// the first fault, if the writer reports them.
 ///
-/// ```
-/// let mut line = Writes::new(Vec::new(alloc));
-/// assert!(rt; line.write(b"hi") == Some(2));
+/// # Example
+/// ```rust
+/// let mut line = Writes::new(Vec::new(rt.alloc()));
+/// check(&rt, line.write(b"hi") == Some(2));
 /// ```
 #[derive(Drop)]
 pub struct Writes<W> {
@@ -25,7 +26,7 @@ pub struct Writes<W> {
 impl<W: Write> Writes<W> {
     ghost use Rattle.line_io.specs.Streams.{inner_writer};
 
-    /// A device over the writer. It has met no fault.
+    /// A device over the writer, without faults so far.
     pub fn new(inner: W) -> Writes<W>
         ensures written { (⟦<Writes<W> as Outlet>⟧.line result).told ≡ W.contents inner }
         ensures faults { (⟦<Writes<W> as Outlet>⟧.line result).faults ≡ 0 }
@@ -39,7 +40,7 @@ impl<W: Write> Writes<W> {
         }
     }
 
-    /// The writer, after the calls so far. Nothing is flushed.
+    /// Returns the writer, as the calls so far left it. Nothing is flushed.
     pub fn into_inner(self) -> W
         ensures inner { result ≡ inner_writer self }
         ensures told { (⟦<Writes<W> as Outlet>⟧.line self).faults ≡ 0
@@ -67,7 +68,7 @@ impl<W: Write> Outlet for Writes<W> {
         ensures spent { (writes_line W.contents self.old).calls_left ≡ 0 → result ≡ None }
         ensures silent { 0 < (writes_line W.contents self.new).faults
             → (writes_line W.contents self.new).told ≡ None }
-        // What the writer holds is its own to tell, after a fault too.
+        // The writer itself reports what it holds, after a fault too.
         ensures inner { MatchOption result
             (Keeps (W.contents (inner_writer self.old)) (W.contents (inner_writer self.new)))
             (λ n. Appends (W.contents (inner_writer self.old)) (W.contents (inner_writer self.new))

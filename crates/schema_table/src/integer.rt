@@ -1,6 +1,12 @@
-//! Integers that stand on the wire as their bytes.
+//! Integers that are sent as their bytes.
 
 /// An integer type of 16 to 128 bits.
+///
+/// # Example
+/// ```rust
+/// self.add(Node::LE(IntegerType::U16));
+/// self.add(Node::BE(IntegerType::U16));
+/// ```
 #[derive(Clone, Copy, Debug, PartialEq, Eq, Drop)]
 pub enum IntegerType {
     /// `u16`.

@@ -1,5 +1,7 @@
-//! What message types are, as one table: its nodes, and how their values are called. `schemas` reads and writes by its nodes,
-//! `declarations` makes one of Rust's declarations, `wire_lib` shows values by its names.
+//! What message types are, as one table: its nodes, and the names of their values.
+//!
+//! `schemas` reads and writes by its nodes, `declarations` makes one of Rust's declarations, `wire_lib` shows values
+//! by its names.
 #![tactic(auto)]
 
 mod integer;

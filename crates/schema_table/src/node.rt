@@ -2,7 +2,16 @@
 
 use crate::IntegerType;
 
-/// A type. The types inside are given by their places in the table, so that a type may hold itself.
+/// A type. The types inside it are given by their places in the table, so a type may hold itself.
+///
+/// # Example
+/// ```rust
+/// self.add(Node::Option(U8));
+/// self.add(Node::Option(16));
+/// self.add(Node::Option(BOOL));
+/// self.add(Node::List(BOOL));
+/// self.add(Node::Array(2, OPTION));
+/// ```
 #[derive(Drop)]
 pub enum Node {
     /// `bool`.
@@ -41,14 +50,14 @@ pub enum Node {
     Bytes,
     /// `Option<T>`.
     Option(usize),
-    /// `Vec<T>`; a map by the type of its pairs.
+    /// `Vec<T>`; also a map, by the type of its pairs.
     List(usize),
-    /// `ArrayVec<T, N>`: at most how many elements, and their type.
+    /// `ArrayVec<T, N>`: the maximum number of elements, and their type.
     ListUpTo(u64, usize),
-    /// `[T; N]`: how many elements, and their type.
+    /// `[T; N]`: the number of elements, and their type.
     Array(u64, usize),
     /// A tuple or a struct, by the types of its fields; without fields, `()`.
     Struct(Vec<usize>),
-    /// An enum, by the types of what its variants hold; a `Result` by those of its value and its error.
+    /// An enum, by the types of what its variants hold; a `Result`, by those of its value and its error.
     Enum(Vec<usize>),
 }

@@ -4,7 +4,14 @@ ghost use Rattle.schema_table.specs.TypeNames.{HasTypeName, NoTypeName};
 
 use crate::Node;
 
-/// What a node's values are called by, and so how they look as text.
+/// What a node's values are called, and so what they look like as text.
+///
+/// # Example
+/// ```rust
+/// if let Names::Fields(names) | Names::Variants(names) = names {
+///     put_names(line, names)?;
+/// }
+/// ```
 #[derive(Debug, Drop)]
 pub enum Names {
     /// No names: numbers, texts, options, lists, arrays.
@@ -28,6 +35,17 @@ pub enum Names {
 }
 
 /// A declared type.
+///
+/// # Example
+/// ```rust
+/// let is_right = match &read {
+///     Ok(schema) => matches!(
+///         schema.types.as_slice(),
+///         [Named { line: 2, .. }, Named { line: 4, .. }]
+///     ),
+///     Err(_) => false,
+/// };
+/// ```
 #[derive(Debug, Drop)]
 pub struct Named {
     /// Its name.
@@ -37,17 +55,30 @@ pub struct Named {
 }
 
 /// The types of some declarations as one table.
+///
+/// # Example
+/// ```rust
+/// fn put_lines(line: &mut String, schema: &Schema) -> Result<(), AllocError> {
+///     for (node, names) in schema.nodes.iter().zip(schema.names.iter()) {
+///         line.push_str(kind_of(node))?;
+///         put_held(line, node)?;
+///         put_called(line, names)?;
+///     }
+///     Ok(())
+/// }
+/// ```
 #[derive(Drop)]
 pub struct Schema {
-    /// The declared types, in the order of the text: the first has place 0 in the table, the second place 1 and so on.
+    /// The declared types, in the order of the text: the first has place 0 in the table, the second place 1 and so
+    /// on.
     pub types: Vec<Named>,
-    /// The table: behind the declared types stand those that have no name.
+    /// The table: the declared types, then those without a name.
     pub nodes: Vec<Node>,
-    /// What each node's values are called by, at its place.
+    /// What each node's values are called, at its place.
     pub names: Vec<Names>,
 }
 
-/// Whether two texts are one.
+// Whether two texts are equal.
 fn is_text(text: &str, wanted: &str) -> bool
     ensures { Decides result (text.now ≡ wanted.now) }
 {
@@ -55,7 +86,15 @@ fn is_text(text: &str, wanted: &str) -> bool
 }
 
 impl Schema {
-    /// The place of the declared type of this name, if there is one: the first of that name.
+    /// Returns the place of the declared type of this name, the first if there are several; `None` if there is none.
+    ///
+    /// # Example
+    /// ```rust
+    /// let is_right = match &read {
+    ///     Ok(schema) => schema.place_of("B") == Some(1) && schema.place_of("C").is_none(),
+    ///     Err(_) => false,
+    /// };
+    /// ```
     pub fn place_of(&self, name: &str) -> Option<usize>
         ensures within { IfSome result (λ place. place < length self.now.types.items) }
         ensures found { IfSome result (λ place. HasTypeName self.now.types.items place name.now) }

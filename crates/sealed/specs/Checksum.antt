@@ -1,7 +1,8 @@
--- The sum CRC-32, bit by bit: reflected, by the polynomial EDB88320, from a register of ones, whose bits are turned at the end.
+-- The sum CRC-32, bit by bit: reflected, by the polynomial EDB88320, from a register of ones, whose bits are inverted at the
+-- end.
 use Rattle.std.specs.Prelude.{◌≡◌, ℕ, zero, suc, ◌/◌, ◌%◌, nat_eq, if◌then◌else◌, List, [], ◌∷◌, ◌++◌, refl, bit_xor}
 
--- EDB88320, the polynomial with its bits turned
+-- EDB88320, the polynomial with its bits reversed
 abbrev pub polynomial : ℕ
 polynomial = 3988292384
 
@@ -18,11 +19,11 @@ abbrev pub shifted_by : ℕ → ℕ → ℕ
 shifted_by zero r = r
 shifted_by (suc k) r = shifted_by k (shifted r)
 
--- the register behind one byte more
+-- the register after one more byte
 unfoldable pub behind_byte : ℕ → ℕ → ℕ
 behind_byte r b = shifted_by 8 (bit_xor r b)
 
--- the register behind these bytes
+-- the register after these bytes
 abbrev pub behind_bytes : ℕ → List ℕ → ℕ
 behind_bytes r [] = r
 behind_bytes r (b ∷ bs) = behind_bytes (behind_byte r b) bs

@@ -1,4 +1,4 @@
--- Values with the sums of their spellings behind them. A sum is XORed with a key: 0 where there is none.
+-- Values followed by the sums of their encodings. A sum is XORed with a key: 0 if there is none.
 use Rattle.std.specs.Prelude.{◌≡◌, ℕ, ◌<◌, ◌^◌, List, ◌++◌, ◌⊎◌, Option, Some, None, refl, bit_xor}
 use Rattle.std.proofs.Common.{sym, ◌∙◌, ap, subst, inl, inr}
 use Rattle.postcard_tree.specs.declared.error.Error.{Error}
@@ -12,20 +12,20 @@ use Rattle.postcard_tree.specs.Alike.{AlikePairs}
 use Rattle.postcard_tree.specs.ReadingLaws.{ReadingLaws, pair_laws}
 use Rattle.sealed.specs.Checksum.{sum_of_bytes}
 
--- the sum of a tree's shortest spelling, XORed with a key, as four bytes, the lowest first
+-- the sum of a tree's shortest encoding, XORed with a key, as four bytes, the lowest first
 unfoldable pub seal_of : ℕ → Tree → Tree
 seal_of key t = group (bytes_of (little_endian 4 (bit_xor key (sum_of_bytes (short t)))))
 
--- a tree, and the sum behind it
+-- a tree, followed by the sum
 abbrev pub with_seal : Tree → Tree → Tree
 with_seal t seal = group (part t (part seal end))
 
--- what a value writes with the sum behind it; nothing where it refuses itself
+-- what a value writes followed by the sum; nothing if it can't be encoded
 abbrev pub writes_sealed : ℕ → Option Tree → Option Tree
 writes_sealed key None = None
 writes_sealed key (Some t) = Some (with_seal t (seal_of key t))
 
--- a tree that is taken, and its sum
+-- an accepted tree, and its sum
 abbrev pub TakesSealed : ℕ → (Tree → Type 0) → Tree → Type 0
 TakesSealed key takes (group (part t (part u end))) = takes t × (u ≡ seal_of key t)
 TakesSealed key takes _ = ⊥
@@ -35,7 +35,7 @@ abbrev pub ReadsSealed : {A : Type 0} → ℕ → (Tree → A → Type 0) → Tr
 ReadsSealed key reads (group (part t (part u end))) v = reads t v × (u ≡ seal_of key t)
 ReadsSealed key reads _ v = ⊥
 
--- a value that is taken, and four bytes that aren't its sum
+-- an accepted value, and four bytes that aren't its sum
 pub record IsBroken (key : ℕ) (takes : Tree → Type 0) (s : List ℕ) (e : Error) : Type 0 where
   -- The value, as a tree.
   pub tree : Tree
@@ -56,7 +56,7 @@ pub record IsBroken (key : ℕ) (takes : Tree → Type 0) (s : List ℕ) (e : Er
   -- The error is DeserializeBadCrc.
   pub error : e ≡ DeserializeBadCrc
 
--- the value is refused, or fewer than four bytes stand behind it, or these aren't its sum
+-- the value is refused, or fewer than four bytes follow it, or these aren't its sum
 abbrev pub RefusesSealed : ℕ → (Tree → Type 0) → (List ℕ → Error → Type 0) → List ℕ → Error → Type 0
 RefusesSealed key takes refuses s e = RefusesPair takes refuses (TakesFixed 4) (IsShort 4) s e ⊎ IsBroken key takes s e
 
@@ -65,7 +65,7 @@ abbrev pub KeysDiffer : (Tree → Type 0) → Type 0
 KeysDiffer takes = (key other : ℕ) (t u : Tree) (front before rest behind : List ℕ) → key < 2 ^ 32 → other < 2 ^ 32
     → TakesSealed key takes t → TakesSealed other takes u → Spells t front → Spells u before → front ++ rest ≡ before ++ behind → key ≡ other
 
--- Its laws: those of the pair of a value and a number, of which some aren't taken
+-- Its laws: those of the pair of a value and a number, of which some aren't accepted
 
 seal_taken : (key : ℕ) (t : Tree) → TakesFixed 4 (seal_of key t)
 unfolding seal_of

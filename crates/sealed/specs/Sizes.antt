@@ -1,4 +1,4 @@
--- How long a spelling with its sum is.
+-- The length of an encoding with its sum.
 use Rattle.std.specs.Prelude.{◌≡◌, ℕ, ◌+◌, ◌≤◌, List, [], ◌∷◌, length, Option, Some, None, refl, bit_xor}
 use Rattle.std.proofs.Common.{◌∙◌, subst, arith, length-append}
 use Rattle.postcard_tree.specs.Tree.{Tree, part, end, bytes_of}

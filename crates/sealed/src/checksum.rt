@@ -7,7 +7,7 @@ use crate::table::{FOURFOLD, SHIFTED, THRICE, TWICE};
 // The register before the first byte.
 pub(crate) const FIRST: u32 = 0xFFFF_FFFF;
 
-// The register behind one byte more.
+// The register after one more byte.
 pub(crate) fn add_byte(register: u32, byte: u8) -> u32
     ensures { result ≡ behind_byte register byte }
 {
@@ -15,7 +15,7 @@ pub(crate) fn add_byte(register: u32, byte: u8) -> u32
     (mixed / 256) ^ SHIFTED[(mixed % 256) as usize]
 }
 
-// The register behind four bytes more, by a look into each table, of which none waits for another.
+// The register after four more bytes, by one lookup in each table; none waits for another.
 #[inline(always)]
 fn add_four(register: u32, a: u8, b: u8, c: u8, d: u8) -> u32
     ensures { result ≡ behind_byte (behind_byte (behind_byte (behind_byte register a) b) c) d }
@@ -29,7 +29,7 @@ fn add_four(register: u32, a: u8, b: u8, c: u8, d: u8) -> u32
     (fourth / 256) ^ behind
 }
 
-// The register behind these bytes, one by one.
+// The register after these bytes, one by one.
 fn add_each(register: u32, bytes: &[u8]) -> u32
     ensures { result ≡ behind_bytes register bytes.now }
 {
@@ -53,7 +53,15 @@ pub(crate) fn add_bytes(register: u32, bytes: &[u8]) -> u32
     add_each(register, rest)
 }
 
-/// The CRC-32 of bytes: `CBF43926` of the text `123456789`.
+/// Returns the CRC-32 of bytes: `CBF43926` for the text `123456789`.
+///
+/// # Example
+/// ```rust
+/// check(
+///     &rt,
+///     crc32(b"123456789") == 0xCBF4_3926 && crc32(b"") == 0 && crc32(&[0]) == 0xD202_EF8D,
+/// );
+/// ```
 pub fn crc32(bytes: &[u8]) -> u32
     ensures { result ≡ sum_of_bytes bytes.now }
 {

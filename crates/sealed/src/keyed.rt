@@ -1,4 +1,4 @@
-//! A value with the sum of its spelling behind it, under the key of those who may read it.
+//! A value and the sum of its encoding, under a key that both sides name.
 ghost use Rattle.std.specs.Prelude.{◌≡◌, ◌<◌, ◌^◌, Some, IfOk, IfErr, IfSome, bit_xor};
 ghost use Rattle.postcard_tree.specs.declared.error.Error.TheVariants.{DeserializeBadCrc};
 ghost use Rattle.postcard_tree.specs.Spelling.{short};
@@ -19,15 +19,33 @@ use postcard::{
     Serializer,
 };
 
-/// A value with the CRC-32 of its spelling behind it, XORed with `KEY`.
+/// A value with the CRC-32 of its encoding XORed with `KEY`.
 ///
-/// Both sides of a line name one key, which stands on no line: a message that was sealed under another one isn't read, as one whose
-/// sum is wrong isn't (`laws::other_key`). With the key 0 it is what [`Sealed`](crate::Sealed) is. Take the CRC-32 of the name and
-/// version of your interface, as of `pump 1`, and change it whenever a message type changes.
+/// Both sides of a line name one key, which no line carries. A message that was sealed under another one isn't read,
+/// just as one whose sum is wrong (`laws::other_key`). With the key 0 it is [`Sealed`](crate::Sealed). Take the
+/// CRC-32 of the name and version of your interface, such as `pump 1`, and change it whenever a message type changes.
+///
+/// # Example
+/// ```rust
+/// let is_refused = match postcard::to_slice(&Keyed::<u32, KEY>(300), &mut room) {
+///     Ok(front) => matches!(
+///         postcard::from_bytes::<Sealed<u32>>(rt.alloc(), front),
+///         Err(Error::DeserializeBadCrc)
+///     ),
+///     Err(_) => false,
+/// };
+/// ```
 #[derive(PartialEq, Drop)]
 pub struct Keyed<T, const KEY: u32>(pub T);
 
-/// The form of [`Keyed`], by which it has what is done by the form of a type.
+/// The form of [`Keyed`], for what is implemented by the form of a type.
+///
+/// # Example
+/// ```rust
+/// fn is_keyed<T: Readable<Form = AsKeyed>>(_value: &T) -> bool {
+///     true
+/// }
+/// ```
 pub struct AsKeyed;
 
 impl<T: Readable, const KEY: u32> Readable for Keyed<T, KEY> {
@@ -71,7 +89,7 @@ impl<T: Exact, const KEY: u32> ExactForm<Keyed<T, KEY>> for AsKeyed {
         T.writes_back t v.0 h };
 }
 
-// A value with a number behind it, where that is the sum of what the value writes, under the key.
+// A value, if the number after it is the sum of what the value writes, under the key.
 fn keyed_with<T: Serialize + Drop, const KEY: u32>(value: T, seal: u32) -> Result<Keyed<T, KEY>>
     ensures ok { IfOk result (λ v. (v.0 ≡ value) × IfSome (T.form.writes value)
         (λ t. seal ≡ bit_xor KEY (sum_of_bytes (short t)))) }

@@ -14,7 +14,7 @@ use postcard::{
     Exact, Result, Serialize, Serializer,
 };
 
-// The sum of what a value writes; an error where it refuses itself.
+// The sum of what a value writes; an error if the value can't be encoded.
 fn sum_of<T: Serialize>(value: &T) -> Result<u32>
     ensures ok { IfOk result (λ n. IfSome (T.form.writes value.now)
         (λ t. n ≡ sum_of_bytes (short t))) }
@@ -44,7 +44,7 @@ pub(crate) fn is_sealed_by<T: Serialize>(value: &T, key: u32, seal: u32) -> bool
     }
 }
 
-// A value with a number behind it, where that is the sum of what the value writes.
+// A value, if the number after it is the sum of what the value writes.
 fn sealed_with<T: Serialize + Drop>(value: T, seal: u32) -> Result<Sealed<T>>
     ensures ok { IfOk result (λ v. (v.0 ≡ value) × IfSome (T.form.writes value)
         (λ t. seal ≡ bit_xor 0 (sum_of_bytes (short t)))) }

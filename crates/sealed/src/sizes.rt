@@ -1,4 +1,4 @@
-//! How long a sealed value is at most.
+//! The maximum size of a sealed value.
 ghost use Rattle.std.specs.Prelude.{Some};
 ghost use Rattle.postcard.specs.Greatest.{sum_of};
 

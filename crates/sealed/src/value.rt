@@ -1,4 +1,4 @@
-//! A value with the sum of its spelling behind it.
+//! A value and the sum of its encoding.
 ghost use Rattle.std.specs.Prelude.{◌≡◌, Some, IfOk, OnOk, IfSome};
 ghost use Rattle.postcard_tree.specs.Spelling.{short};
 ghost use Rattle.postcard_tree.specs.ReadingLaws.{seen_as};
@@ -14,15 +14,31 @@ use postcard::{
     Exact, ExactForm, Grows, GrowsForm, Lawful, LawfulForm, Readable, Result, Serialize, Serializer,
 };
 
-/// A value with the CRC-32 of its spelling behind it.
+/// A value with the CRC-32 of its encoding, as four bytes, the lowest first.
 ///
-/// The sum is that of the shortest spelling of the value, which is the one that is written: four bytes, the lowest first. A value is
-/// read exactly where these four bytes are the sum of what it writes; where they aren't, the answer is
-/// `DeserializeBadCrc`, after all refusals of the value itself, and of fewer than four bytes.
+/// The sum is that of the shortest encoding, which is the one that is written. A value is read exactly if the next
+/// four bytes are the sum of what it writes. Otherwise reading returns the value's own error,
+/// `DeserializeUnexpectedEnd` for fewer than four bytes, or else `DeserializeBadCrc`. Neither writing nor reading
+/// allocates for the sum.
+///
+/// # Example
+/// ```rust
+/// match postcard::to_slice(&Sealed(300u32), &mut room) {
+///     Ok(front) => are_bytes(front, &SEALED),
+///     Err(_) => false,
+/// }
+/// ```
 #[derive(PartialEq, Drop)]
 pub struct Sealed<T>(pub T);
 
-/// The form of [`Sealed`], by which it has what is done by the form of a type.
+/// The form of [`Sealed`], for what is implemented by the form of a type.
+///
+/// # Example
+/// ```rust
+/// fn is_sealed<T: Readable<Form = AsSealed>>(_value: &T) -> bool {
+///     true
+/// }
+/// ```
 pub struct AsSealed;
 
 impl<T: Readable> Readable for Sealed<T> {
@@ -46,7 +62,7 @@ impl<T: Grows> GrowsForm<Sealed<T>> for AsSealed {
     }
 }
 
-// Writes a value, hands the loan back, and answers the sum of what was written.
+// Writes a value, hands the borrow back, and returns the sum of what was written.
 pub(crate) fn write_summed<'b, T: Serialize, F: Flavor>(
     value: &T,
     output: &'b mut F,

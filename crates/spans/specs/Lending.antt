@@ -12,7 +12,7 @@ use Rattle.spans.specs.contracts.memory.WritableAccess.TheImpl as wa
 abbrev pub with_bytes : Memory Writable → List ℕ → Memory Writable
 with_bytes m ws = record { mark = m.mark; place = m.place; name = m.name; bytes = ws }
 
--- all of a memory's bytes are lent: it ends with what is left of them, and else as it was
+-- all of a memory's bytes are borrowed: it ends with what is left of them, and is otherwise unchanged
 abbrev pub lends_all : MutBor (Memory Writable) → MutBor (List ℕ) → Fml
 lends_all m r = Lends (the_row (record { mir = named 1; lft = [] }) W'.the_row wa.ghosts)
     (Array u8 0) m r (with_bytes m.now)

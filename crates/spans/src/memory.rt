@@ -1,35 +1,28 @@
-//! A caller's buffer by raw memory: the one place of these crates with raw pointers.
+//! A caller's buffer by raw memory: the only raw pointers of these crates.
 //!
-//! A [`Span`] is a buffer and a cursor in it. It keeps where the buffer starts, how many bytes lie behind the cursor
-//! and how many there are in all. Contracts see it as two lists, the bytes behind the cursor and those ahead of it.
-//! A span of a `&'a mut [u8]` is [`Writable`], one of a `&'a [u8]` is [`ReadOnly`].
+//! A [`Span`] is a buffer and a cursor in it. It keeps the buffer's start, the number of bytes before the cursor, and
+//! the number of all. Contracts see it as two lists: the bytes before the cursor, and those ahead of it. A span over
+//! a `&'a mut [u8]` is [`Writable`], one over a `&'a [u8]` is [`ReadOnly`].
 //!
-//! ```
-//! let mut span = Span::new(&mut buffer); // four bytes
-//! span.push(7);
-//! span.push_slice(&[1, 2]);
-//! let written = span.into_behind(); // 07 01 02
-//! ```
+//! # Why it is sound
 //!
-//! # What makes it sound
-//!
-//! The pointer, [`Start`], owns nothing: it is copied freely, and holding it allows nothing. The right to the bytes is
-//! a value of its own, [`Memory`]. It has no size, can't be copied, and is proved to own just what the slice owned
-//! that it was made of: a `&'a mut [u8]` or a `&'a [u8]` of these bytes at that place. Whoever reads or writes by a
-//! pointer shows the right to its bytes, that the pointer is where they begin, and that the index is within them.
-//! A pointer moves by adding to it only, and never becomes a number.
+//! The pointer, [`Start`], owns nothing: it can be copied, and holding it allows nothing. The right to the bytes is a
+//! value of its own, [`Memory`]. It has no size, can't be copied, and is proved to own exactly what the slice owned
+//! that it was made of: a `&'a mut [u8]` or a `&'a [u8]` of these bytes at that position. Code that reads or writes
+//! through a pointer shows the right to its bytes, that the pointer is where they begin, and that the index is within
+//! them. A pointer moves only by adding to it, and never becomes a number.
 //!
 //! - **Who may hold which part.** As long as a span lives, it alone has the right to the whole buffer: the caller's
-//!   borrow lasts for `'a`, so that a use of the buffer meanwhile doesn't compile. Lent for a call (`&self`,
-//!   `&mut self`), the bytes are back at its end. For good, as slices of `'a`, they are given only by calls that
-//!   consume the span: `into_behind` and `into_ahead`, and `split_front`, which gives the front as a slice and the
-//!   right to the rest as a new span. What no part keeps stays borrowed until `'a` ends.
-//! - **Why two parts never share a byte.** The right is never doubled: `Memory::split_at` takes it, and gives back one
-//!   for the bytes before a place and one for those from there on. Its contract says that these follow one another,
-//!   that together they are the bytes there were, and that no byte of the one lies where a byte of the other does.
-//!   Its proof cuts the borrow in two, so each part is written without regard to the other: a front that was taken
-//!   for good stays readable while the rest is still written. (A right that only reads may be doubled by Rust's rules,
-//!   but these calls don't.)
+//!   borrow lasts for `'a`, so using the buffer meanwhile doesn't compile. Borrowed for a call (`&self`, `&mut
+//!   self`), the bytes are back at its end. As slices of `'a` they are given only by calls that consume the span:
+//!   `into_behind` and `into_ahead`, and `split_front`, which gives the first bytes as a slice and the right to the
+//!   rest as a new span. What no part keeps stays borrowed until `'a` ends.
+//! - **Why two parts never share a byte.** The right is never doubled: `Memory::split_at` takes it, and returns one
+//!   for the bytes before a position and one for those from there on. Its contract says that these follow one
+//!   another, that together they are the bytes there were, and that no byte of one is where a byte of the other is.
+//!   Its proof cuts the borrow in two, so each part is written independently of the other: first bytes that were
+//!   given away stay readable while the rest is still written. (A right that only reads may be doubled by Rust's
+//!   rules, but these calls don't.)
 //!
 //! A flavor behind a `&mut` that needs a call which consumes its span puts an empty span in its place meanwhile.
 ghost use Rattle.std.specs.Prelude.{◌≡◌, ℕ, ◌+◌, ◌<◌, ◌≤◌, Bool, true, false, List, ◌++◌, length, slice_set};
@@ -43,19 +36,38 @@ pub use span::Span;
 use std::marker::{Model, PhantomData};
 use std::slice;
 
-/// Where bytes begin. It owns nothing, and only the calls here use it.
+/// The position where bytes begin. It owns nothing, and only the calls here use it.
+///
+/// # Example
+/// ```rust
+/// check(&rt, size_of::<Memory<'static, Writable>>() == 0);
+/// check(&rt, size_of::<Start>() == 8);
+/// ```
 #[derive(Clone, Copy, Drop)]
 pub struct Start {
     at: *mut u8,
 }
 
-/// Whether the bytes of a span may be written.
+/// Whether the bytes of a span may be written: [`Writable`] or [`ReadOnly`].
+///
+/// # Example
+/// ```rust
+/// fn size<K: Access>(span: &Span<'_, K>) -> usize {
+///     span.count().saturating_add(span.remaining())
+/// }
+/// ```
 pub trait Access {
     /// Whether they may.
     ghost writes: { Bool };
 }
 
-/// They may be read and written.
+/// The bytes may be read and written.
+///
+/// # Example
+/// ```rust
+/// let mut buffer = [0u8; 4];
+/// let writable: Span<'_, Writable> = Span::new(&mut buffer);
+/// ```
 #[derive(Drop)]
 pub struct Writable;
 
@@ -63,7 +75,13 @@ impl Access for Writable {
     ghost writes = { true };
 }
 
-/// They may only be read.
+/// The bytes may only be read.
+///
+/// # Example
+/// ```rust
+/// let readable: Span<'_, ReadOnly> = Span::over(&[1, 2]);
+/// check(&rt, size(&readable) == 2);
+/// ```
 #[derive(Drop)]
 pub struct ReadOnly;
 
@@ -71,8 +89,10 @@ impl Access for ReadOnly {
     ghost writes = { false };
 }
 
-/// The right to bytes, which lie at a place. It has no size: where they begin, a start says. Only the calls here
-/// make one or use it.
+/// The right to bytes at a position. It has no size; a [`Start`] says where they begin. Only the calls here make one
+/// or use it.
+///
+/// Example: see [`Start`].
 #[derive(Drop)]
 pub struct Memory<'a, K: Access> {
     mark: PhantomData<(&'a mut u8, K)>,
@@ -88,7 +108,7 @@ impl<'a, K: Access> Model for Memory<'a, K> {
 }
 
 impl<'a, K: Access> Memory<'a, K> {
-    // All the bytes, to be read for the call.
+    // All the bytes, for reading during the call.
     pub(crate) fn as_slice(&self, start: Start, count: usize) -> &[u8]
         requires start { start.at ≡ block_ptr self.now.place.0 self.now.place.1 }
         requires count { count ≡ length self.now.bytes }
@@ -97,7 +117,7 @@ impl<'a, K: Access> Memory<'a, K> {
         unsafe { slice::from_raw_parts(start.at, count) }
     }
 
-    // The right to the first `count` bytes, and that to the rest with its start.
+    // The right to the first `count` bytes, and the right to the rest with its start.
     pub(crate) fn split_at(
         self,
         start: Start,
@@ -160,7 +180,7 @@ impl<'a> Memory<'a, Writable> {
         unsafe { *start.at.add(index) = byte };
     }
 
-    // All the bytes, to be written for the call.
+    // All the bytes, for writing during the call.
     pub(crate) fn as_mut_slice(&mut self, start: Start, count: usize) -> &mut [u8]
         requires start { start.at ≡ block_ptr self.old.place.0 self.old.place.1 }
         requires count { count ≡ length self.old.bytes }

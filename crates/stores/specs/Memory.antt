@@ -7,7 +7,7 @@ use Rattle.stores.specs.declared.memory.MemoryStore.{MemoryStore}
 abbrev pub bytes_in : MemoryStore → List ℕ
 bytes_in m = m.bytes.items
 
--- where it stands: it tells all bytes that it holds
+-- its state: it reports all bytes that it holds
 abbrev pub line_in : MemoryStore → LineState
 line_in m = record { told = Some m.bytes.items; faults = m.faults; calls_left = m.calls }
 
@@ -15,6 +15,6 @@ line_in m = record { told = Some m.bytes.items; faults = m.faults; calls_left = 
 abbrev pub settled_in : MemoryStore → ℕ
 settled_in m = m.settled
 
--- after how many bytes more an append fails once, where one will
+-- after how many more bytes an append fails once, if one will
 abbrev pub fault_in : MemoryStore → Option ℕ
 fault_in m = m.fault

@@ -6,10 +6,20 @@ use line_io::read_front;
 use std::fs::OpenFile;
 use std::io::{Read, Seek, SeekFrom, Write};
 
-/// A store over a file that was opened to be read and appended to. It tells no bytes: no contract can say what a file holds.
+/// A store over a file that was opened for reading and appending. It reports no bytes: no contract can say what a
+/// file holds.
 ///
-/// The file has to be opened in append mode, so that each write goes to the end, also where another handle has written; nothing is
-/// tried again.
+/// Open the file in append mode, so that each write goes to the end, even if another handle has written. Nothing is
+/// retried.
+///
+/// # Example
+/// ```rust
+/// let file = Stored::new(Counting {
+///     got,
+///     bytes: Vec::new(alloc),
+///     at: 0,
+/// });
+/// ```
 #[derive(Drop)]
 pub struct Stored<F> {
     file: F,
@@ -22,7 +32,7 @@ impl<F> Stored<F> {
     ghost use Rattle.stores.specs.Files.{file_line};
     ghost use Rattle.stores.specs.Store.{IsFresh};
 
-    /// Over a file.
+    /// A store over a file, without faults so far.
     pub fn new(file: F) -> Stored<F>
         ensures fresh { IsFresh (file_line result) }
     {

@@ -4,7 +4,22 @@ ghost use Rattle.std.specs.Prelude.{◌≡◌, ℕ, ◌+◌, ◌-◌, ◌<◌, �
 use crate::traits::{Store, SyncFault};
 use std::alloc::Global;
 
-/// A store in memory. It can be made to take so many bytes more and then fail once, and to crash.
+/// A store in memory, which can fail once after a given number of bytes, and crash.
+///
+/// # Example
+/// ```rust
+/// let mut store = MemoryStore::new(Vec::new(rt.alloc()));
+/// store.fail_after(3);
+/// check(
+///     &rt,
+///     put(&mut store, &[1, 2, 3, 4]) == 3
+///         && put(&mut store, &[4, 5]) == 2
+///         && is_read(&mut store, 2, &[3, 4, 5])
+///         && store.settled() == 0
+///         && store.sync().is_ok()
+///         && store.settled() == 5,
+/// );
+/// ```
 #[derive(Drop)]
 pub struct MemoryStore {
     bytes: Vec<u8>,
@@ -36,7 +51,7 @@ impl MemoryStore {
         }
     }
 
-    /// After so many bytes more, an append fails once; before that it takes what is left of these.
+    /// Makes an append fail once, after `count` more bytes; an append before that takes what is left of them.
     pub fn fail_after(&mut self, count: usize)
         ensures fault { fault_in self.new ≡ Some count }
         ensures bytes { bytes_in self.new ≡ bytes_in self.old }
@@ -45,22 +60,33 @@ impl MemoryStore {
         self.fault = Some(count);
     }
 
-    /// The bytes that it holds.
+    /// Returns the bytes that it holds.
     pub fn bytes(&self) -> &[u8]
         ensures { result.now ≡ bytes_in self.now }
     {
         &self.bytes
     }
 
-    /// How many of them no crash takes.
+    /// Returns how many of them no crash takes.
     pub fn settled(&self) -> usize
         ensures { result ≡ settled_in self.now }
     {
         self.settled
     }
 
-    /// The store after a crash: so many of the bytes that aren't settled are left, and so many zeros stand behind them, as a file
-    /// system shows bytes that were never written. All of that is settled. `None` when out of memory.
+    /// Returns the store after a crash, with all of its bytes settled; `None` when out of memory.
+    ///
+    /// Of the bytes that aren't settled at most `left` remain; `zeros` zeros follow them, as a file system shows
+    /// bytes that were never written.
+    ///
+    /// # Example
+    /// ```rust
+    /// let held = store.crash(0, 2);
+    /// check(
+    ///     &rt,
+    ///     matches!(&held, Some(store) if are_bytes(store.bytes(), b"abc\0\0")),
+    /// );
+    /// ```
     pub fn crash(self, left: usize, zeros: usize) -> Option<MemoryStore>
         ensures bytes { IfSome result
             (λ m. bytes_in m ≡ take (settled_in self + left) (bytes_in self) ++ replicate zeros 0) }

@@ -5,28 +5,51 @@ ghost use Rattle.stores.specs.Store.{GaveAt, EndsBefore, Settles};
 
 use thiserror::Error;
 
-/// A store could not be synced. What a crash may take of it is as before; most systems say so only once, and may have dropped what
-/// was written, so nothing more should be appended through this handle.
+/// A store could not be synced; what was settled before still is.
+///
+/// Most systems report a lost page only once, and may have dropped what was written: append nothing more through this
+/// handle.
+///
+/// # Example
+/// ```rust
+/// match store.sync() {
+///     Ok(()) => true,
+///     Err(SyncFault) => false,
+/// }
+/// ```
 #[derive(Clone, Copy, PartialEq, Eq, Debug, Drop, Error)]
 #[error("not synced")]
 pub struct SyncFault;
 
 /// Bytes that grow at their end.
 ///
-/// A fault is an `append` that answers `None` or takes nothing of a nonempty piece, a `read_at` that answers `None`, or a `sync`
-/// that answers an error. A fault of an append moves no byte. Each call takes one of those that are left; where none is, it is a
-/// fault that isn't counted.
+/// A fault is an `append` that returns `None` or takes nothing of a nonempty chunk, a `read_at` that returns `None`,
+/// or a `sync` that returns an error. A fault of an append moves no byte. Each call uses one of those left; with none
+/// left it is a fault that isn't counted.
+///
+/// # Example
+/// ```rust
+/// fn keeps<S: Store>(store: &mut S, bytes: &[u8]) -> bool {
+///     if put(store, bytes) < bytes.len() {
+///         return false;
+///     }
+///     match store.sync() {
+///         Ok(()) => true,
+///         Err(SyncFault) => false,
+///     }
+/// }
+/// ```
 pub trait Store {
-    /// Where it stands: the bytes that it holds, where it tells them, which a read gives; its faults; the calls that it still answers.
+    /// The bytes that it holds, if it reports them, which a read gives; its faults; the calls that it still serves.
     ghost line: { Self → LineState };
 
-    /// How many bytes, from the first on, no crash takes. Behind them a crash may leave anything.
+    /// How many bytes, from the first on, no crash takes. After them a crash may leave anything.
     ghost settled: { Self → ℕ };
 
-    /// Where it holds, an append that is no fault takes the whole piece.
+    /// If it holds, an append that is no fault takes the whole chunk.
     ghost whole: { Self → Type 0 };
 
-    /// Puts a front of the piece behind what it holds, and says how many bytes that is.
+    /// Appends a prefix of the chunk, and returns its length; `None` at a fault.
     fn append(&mut self, piece: &[u8]) -> Option<usize>
         ensures bound { IfSome result (λ n. n ≤ length piece.now) }
         ensures bytes { Wrote (line self.old) (line self.new)
@@ -38,8 +61,9 @@ pub trait Store {
         ensures spent { (line self.old).calls_left ≡ 0 → result ≡ None }
         ensures whole { whole self.old → IfSome result (λ n. n ≡ length piece.now) };
 
-    /// Moves the bytes from an offset on to the front of the room, and says how many. Where there is room, 0 is the end. What lies in
-    /// the room past those bytes is as it was.
+    /// Moves the bytes from an offset on to the start of the buffer, and returns how many; `None` at a fault.
+    ///
+    /// Into a nonempty buffer, 0 is the end. The buffer past these bytes is unchanged.
     fn read_at(&mut self, at: u64, room: &mut [u8]) -> Option<usize>
         ensures bound { IfSome result (λ n. n ≤ length room.new) }
         ensures within { IfSome result (λ n. at + n < 2 ^ 64) }
@@ -53,7 +77,10 @@ pub trait Store {
         ensures spent { (line self.old).calls_left ≡ 0 → result ≡ None }
         ensures past { drop (unwrap_or result 0) room.new ≡ drop (unwrap_or result 0) room.old };
 
-    /// Makes what it holds safe from crashes.
+    /// Settles all that it holds: no crash takes it then.
+    ///
+    /// # Errors
+    /// `SyncFault`: the store failed; what was settled before still is.
     fn sync(&mut self) -> Result<(), SyncFault>
         ensures settled { OnOk result (Settles (line self.new).told (settled self.new)) }
         ensures no_less { settled self.old ≤ settled self.new }

@@ -61,8 +61,7 @@ impl DecodeReport {
 ///
 /// # Example
 /// ```rust
-/// let decoded: Result<DecodingResult, DecodeError> =
-///     decode(&[3, 10, 11, 2, 12, 0], &mut message);
+/// let decoded: Result<DecodingResult, DecodeError> = decode(&[3, 10, 11, 2, 12, 0], &mut message);
 /// let is_whole = match decoded {
 ///     Ok(report) => report.parsed_size() == 6 && report.frame_size() == 4,
 ///     Err(_) => false,

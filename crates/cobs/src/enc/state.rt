@@ -29,7 +29,10 @@ pub enum PushResult {
 /// # Example
 /// ```rust
 /// let mut state = EncoderState::default();
-/// check(&rt, state.can_push() && state.push(10) == PushResult::AddSingle(10));
+/// check(
+///     &rt,
+///     state.can_push() && state.push(10) == PushResult::AddSingle(10),
+/// );
 /// check(&rt, state.finalize() == (0, 2));
 /// ```
 #[derive(Drop)]

@@ -5,16 +5,16 @@ ghost use Rattle.line_io.specs.Plan.{GoesOn};
 use crate::memory::Fault;
 use crate::traits::Outlet;
 
-/// An [`Outlet`](crate::Outlet) into memory of its own, which grows.
+/// An [`Outlet`](crate::Outlet) into a vector of its own, which grows.
 ///
-/// Each write takes its piece, and at most `each` bytes of it. A growth that finds no memory is a fault.
+/// Each write takes its chunk, and at most `each` bytes of it. A failed allocation is a fault. The bytes are reported
+/// after a fault too, so a contract can say what was written.
 ///
-/// It tells its bytes after a fault too, and what owns it can hand it on: so a contract can say what was written.
-///
-/// ```
-/// let mut out = OwnedOut::new(Vec::new(alloc), 2, None);
-/// assert!(rt; out.write(b"abc") == Some(2));
-/// assert!(rt; out.into_bytes() == *b"ab");
+/// # Example
+/// ```rust
+/// let mut out = OwnedOut::new(Vec::new(rt.alloc()), 2, None);
+/// check(&rt, out.write(b"abc") == Some(2));
+/// check(&rt, are_bytes(&out.into_bytes(), b"ab"));
 /// ```
 #[derive(Drop)]
 pub struct OwnedOut {
@@ -30,9 +30,13 @@ pub struct OwnedOut {
 impl OwnedOut {
     ghost use Rattle.line_io.specs.Memory.{owned_bytes, owned_plan};
 
-    /// A device that writes behind these bytes, at most `each` a call; the caller owes 1 or more.
+    /// A device that appends to these bytes, at most `each` a call.
     ///
-    /// After as many bytes as `fault` says, the next write of a nonempty piece is that fault, and then it goes on.
+    /// After as many bytes as `fault` says, the next write of a nonempty chunk is that fault; then the device goes
+    /// on.
+    ///
+    /// # Requires
+    /// `each` is 1 or more.
     pub fn new(bytes: Vec<u8>, each: usize, fault: Option<(usize, Fault)>) -> OwnedOut
         requires { 0 < each }
         ensures written { (⟦<OwnedOut as Outlet>⟧.line result).told ≡ Some bytes.items }
@@ -49,7 +53,7 @@ impl OwnedOut {
         }
     }
 
-    /// The bytes that it was given at first, and behind them those that it has taken.
+    /// Returns the bytes that it was given, followed by those that it has taken.
     pub fn into_bytes(self) -> Vec<u8>
         ensures { (⟦<OwnedOut as Outlet>⟧.line self).told ≡ Some result.items }
     {

@@ -5,9 +5,16 @@ ghost use Rattle.spans.specs.Memory.{Apart};
 
 use crate::memory::{Access, Memory, ReadOnly, Start, Writable};
 
-/// A caller's buffer and a cursor in it: bytes behind the cursor, and bytes ahead of it.
+/// A caller's buffer and a cursor in it. `K` says whether the bytes may be written.
 ///
-/// `K` says whether the bytes may be written.
+/// # Example
+/// ```rust
+/// let mut buffer = [0u8; 4];
+/// let mut span = Span::new(&mut buffer);
+/// span.push(7);
+/// span.push_slice(&[1, 2]);
+/// span.set_byte(0, 9);
+/// ```
 #[derive(Drop)]
 pub struct Span<'a, K: Access> {
     start: Start,
@@ -22,14 +29,14 @@ pub struct Span<'a, K: Access> {
 impl<'a, K: Access> Span<'a, K> {
     ghost use Rattle.spans.specs.Span.{behind_of, ahead_of};
 
-    /// How many bytes are ahead.
+    /// Returns the number of bytes ahead of the cursor.
     pub fn remaining(&self) -> usize
         ensures { result ≡ length (ahead_of self.now) }
     {
         self.total - self.behind
     }
 
-    /// How many bytes are behind.
+    /// Returns the number of bytes before the cursor.
     pub fn count(&self) -> usize
         ensures { result ≡ length (behind_of self.now) }
     {
@@ -40,7 +47,7 @@ impl<'a, K: Access> Span<'a, K> {
 impl<'a> Span<'a, Writable> {
     ghost use Rattle.spans.specs.Span.{behind_of, ahead_of, lent_as, place_of};
 
-    /// Over a buffer that may be written, or an empty one. No byte is behind the cursor.
+    /// A span over a buffer for writing, which may be empty, with the cursor at its start.
     pub fn new(slice: &'a mut [u8]) -> Span<'a, Writable>
         ensures behind { behind_of result ≡ [] }
         ensures ahead { ahead_of result ≡ slice.entry.now }
@@ -57,7 +64,10 @@ impl<'a> Span<'a, Writable> {
         }
     }
 
-    /// Writes the next byte. The caller owes that a byte is ahead.
+    /// Writes the next byte, and advances the cursor.
+    ///
+    /// # Requires
+    /// A byte is ahead.
     pub fn push(&mut self, byte: u8)
         requires { 0 < length (ahead_of self.old) }
         ensures behind { behind_of self.new ≡ behind_of self.old ++ byte ∷ [] }
@@ -70,7 +80,10 @@ impl<'a> Span<'a, Writable> {
         self.behind = at + 1;
     }
 
-    /// Writes the next bytes. The caller owes that so many are ahead.
+    /// Writes the next bytes, and advances the cursor.
+    ///
+    /// # Requires
+    /// So many bytes are ahead.
     pub fn push_slice(&mut self, bytes: &[u8])
         requires { length bytes.now ≤ length (ahead_of self.old) }
         ensures behind { behind_of self.new ≡ behind_of self.old ++ bytes.now }
@@ -86,7 +99,10 @@ impl<'a> Span<'a, Writable> {
         self.behind = end;
     }
 
-    /// The byte at an index behind the cursor. The caller owes an index below `count`.
+    /// Returns the byte at an index before the cursor.
+    ///
+    /// # Requires
+    /// The index is below `count`.
     pub fn byte(&self, index: usize) -> u8
         requires { index < length (behind_of self.now) }
         ensures { result ≡ slice_index (behind_of self.now) index }
@@ -94,7 +110,10 @@ impl<'a> Span<'a, Writable> {
         self.memory.as_slice(self.start, self.total)[index]
     }
 
-    /// Writes the byte at an index behind the cursor. The caller owes an index below `count`.
+    /// Writes the byte at an index before the cursor.
+    ///
+    /// # Requires
+    /// The index is below `count`.
     pub fn set_byte(&mut self, index: usize, byte: u8)
         requires { index < length (behind_of self.old) }
         ensures behind { behind_of self.new ≡ slice_set (behind_of self.old) index byte }
@@ -105,7 +124,10 @@ impl<'a> Span<'a, Writable> {
         self.memory.write(self.start, index, byte);
     }
 
-    /// The next bytes, to be read for the call. The caller owes that so many are ahead.
+    /// Borrows the next `count` bytes for reading.
+    ///
+    /// # Requires
+    /// So many bytes are ahead.
     pub fn front(&self, count: usize) -> &[u8]
         requires { count ≤ length (ahead_of self.now) }
         ensures { result.now ≡ take count (ahead_of self.now) }
@@ -115,7 +137,10 @@ impl<'a> Span<'a, Writable> {
         &all[at..at + count]
     }
 
-    /// The next bytes for good, and a span of the rest. The caller owes that so many are ahead.
+    /// Gives the next `count` bytes away as a slice, with a span over the rest.
+    ///
+    /// # Requires
+    /// So many bytes are ahead.
     pub fn split_front(self, count: usize) -> (&'a mut [u8], Span<'a, Writable>)
         requires { count ≤ length (ahead_of self) }
         ensures parts { ahead_of self.entry ≡ result.0.now ++ ahead_of result.1 }
@@ -142,7 +167,7 @@ impl<'a> Span<'a, Writable> {
         (front, rest)
     }
 
-    /// All bytes, for good: once their `&mut` has ended, the caller's buffer is what it was then.
+    /// Returns the whole buffer. When this borrow ends, the caller's buffer is what it was then.
     pub fn into_whole(self) -> &'a mut [u8]
         ensures bytes { result.now ≡ behind_of self.entry ++ ahead_of self.entry }
         ensures same_reference { result.ghost_name ≡ lent_as self.entry }
@@ -156,7 +181,7 @@ impl<'a> Span<'a, Writable> {
         memory.into_slice(start, total)
     }
 
-    /// The bytes behind the cursor, for good.
+    /// Returns the bytes before the cursor.
     pub fn into_behind(self) -> &'a mut [u8]
         ensures bytes { result.now ≡ behind_of self.entry }
         ensures place { result.ref_ptr ≡ place_of self.entry }
@@ -171,7 +196,7 @@ impl<'a> Span<'a, Writable> {
         written.into_slice(start, behind)
     }
 
-    /// The bytes ahead, for good.
+    /// Returns the bytes ahead of the cursor.
     pub fn into_ahead(self) -> &'a mut [u8]
         ensures { result.now ≡ ahead_of self.entry }
     {
@@ -189,7 +214,7 @@ impl<'a> Span<'a, Writable> {
 impl<'a> Span<'a, ReadOnly> {
     ghost use Rattle.spans.specs.Span.{behind_of, ahead_of, place_of};
 
-    /// Over a buffer that is only read, or an empty one. No byte is behind the cursor.
+    /// A span over a buffer for reading, which may be empty, with the cursor at its start.
     pub fn over(slice: &'a [u8]) -> Span<'a, ReadOnly>
         ensures behind { behind_of result ≡ [] }
         ensures ahead { ahead_of result ≡ slice.now }
@@ -204,7 +229,10 @@ impl<'a> Span<'a, ReadOnly> {
         }
     }
 
-    /// Reads the next byte. The caller owes that a byte is ahead.
+    /// Returns the next byte, and advances the cursor.
+    ///
+    /// # Requires
+    /// A byte is ahead.
     pub fn next(&mut self) -> u8
         requires { 0 < length (ahead_of self.old) }
         ensures ahead { ahead_of self.old ≡ result ∷ ahead_of self.new }
@@ -216,7 +244,10 @@ impl<'a> Span<'a, ReadOnly> {
         byte
     }
 
-    /// The next bytes for good, and a span of the rest. The caller owes that so many are ahead.
+    /// Gives the next `count` bytes away as a slice, with a span over the rest.
+    ///
+    /// # Requires
+    /// So many bytes are ahead.
     pub fn split_front(self, count: usize) -> (&'a [u8], Span<'a, ReadOnly>)
         requires { count ≤ length (ahead_of self) }
         ensures parts { ahead_of self.entry ≡ result.0.now ++ ahead_of result.1 }
@@ -243,7 +274,7 @@ impl<'a> Span<'a, ReadOnly> {
         (taken, left)
     }
 
-    /// The bytes ahead, for good.
+    /// Returns the bytes ahead of the cursor.
     pub fn into_ahead(self) -> &'a [u8]
         ensures { result.now ≡ ahead_of self.entry }
     {
