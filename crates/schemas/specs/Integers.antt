@@ -1,4 +1,4 @@
--- Integers that stand on the wire as their bytes.
+-- Integers that are sent as their bytes.
 use Rattle.std.specs.Prelude.{ℕ}
 use Rattle.std.specs.Int.{w16, w32, w64, w128, cast_unsigned}
 use Rattle.postcard_tree.specs.Tree.{Tree, group, bytes_of}
@@ -30,7 +30,7 @@ type_of (integers.I32 n) = types.I32
 type_of (integers.I64 n) = types.I64
 type_of (integers.I128 n) = types.I128
 
--- its bits as a number: of a negative one those of its two's complement
+-- its bits as a number: for a negative one those of its two's complement
 abbrev pub bits_in : Integer → ℕ
 bits_in (integers.U16 n) = n
 bits_in (integers.U32 n) = n

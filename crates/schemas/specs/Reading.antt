@@ -9,9 +9,8 @@ use Rattle.schema_table.specs.declared.node.Node.{Node}
 use Rattle.schemas.specs.declared.value.Value.{Value}
 use Rattle.schemas.specs.Schemas.{ReadsBy, AtTop, OfGroup, OfVariant, TakesFields, TakesPayload, TakesNode, RefusesFields, RefusesPayload, RefusesNode, FieldsHave, PayloadHas, NodeHas, SchemaTakes, SchemaHas, SchemaRefuses}
 
--- A value of this node's kind was read of a tree that the node's type takes, or bytes were refused
--- as that type refuses them, or memory was out; where the nodes inside are those of this table, and
--- nest at most so deep.
+-- A value of this node's kind was read from a tree that the node's type accepts, or bytes were refused as that type refuses
+-- them, or memory was out. The nodes inside are those of this table, and nest at most so deep.
 abbrev pub ReadsNode : {F : Type 0} → (F → SourceState) → ℕ → List Node → Node
     → Deserializer F → Deserializer F → Result Value Error → Type 0
 ReadsNode source depth nodes n old new r = OutcomeOf source old new r
@@ -19,12 +18,12 @@ ReadsNode source depth nodes n old new r = OutcomeOf source old new r
     (AtTop (NodeHas (SchemaHas depth nodes) n))))
     (RefusesNode (SchemaTakes depth nodes) (SchemaRefuses depth nodes) n) true
 
--- so of a node that has none inside
+-- the same for a node that has none inside
 abbrev pub ReadsLeaf : {F : Type 0} → (F → SourceState) → Node
     → Deserializer F → Deserializer F → Result Value Error → Type 0
 ReadsLeaf source n old new r = ReadsNode source 0 [] n old new r
 
--- so of a struct, by the places of its fields
+-- the same for a struct, by the places of its fields
 abbrev pub ReadsStructOf : {F : Type 0} → (F → SourceState) → ℕ → List Node → List ℕ
     → Deserializer F → Deserializer F → Result Value Error → Type 0
 ReadsStructOf source depth nodes is old new r = OutcomeOf source old new r
@@ -32,7 +31,7 @@ ReadsStructOf source depth nodes is old new r = OutcomeOf source old new r
     (AtTop (OfGroup (FieldsHave (SchemaHas depth nodes) is)))))
     (RefusesFields (SchemaTakes depth nodes) (SchemaRefuses depth nodes) is) true
 
--- so of an enum, by the places of what its variants hold
+-- the same for an enum, by the places of what its variants hold
 abbrev pub ReadsEnumOf : {F : Type 0} → (F → SourceState) → ℕ → List Node → List ℕ
     → Deserializer F → Deserializer F → Result Value Error → Type 0
 ReadsEnumOf source depth nodes is old new r = OutcomeOf source old new r

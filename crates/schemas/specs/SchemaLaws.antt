@@ -1,4 +1,4 @@
--- What the trees that a type of a table takes, its values and the bytes that it refuses owe one another.
+-- How the trees that a type of a table accepts, its values and the bytes that it refuses agree.
 use Rattle.std.specs.Prelude.{◌≡◌, ℕ, zero, suc, nat_le, true, List, [], ◌∷◌, Option, Some, None, refl}
 use Rattle.std.specs.List.{slice_get}
 use Rattle.std.proofs.Common.{sym, ◌∙◌}
@@ -20,7 +20,7 @@ use Rattle.schemas.specs.Integers.{width_of}
 use Rattle.schemas.specs.Values.{AreOneTree}
 use Rattle.schemas.specs.Schemas.{ReadsBy, TakesFields, RefusesFields, TakesPayload, RefusesPayload, TakesNode, RefusesNode, TakesPlace, RefusesPlace, SchemaTakes, SchemaRefuses, SchemaReads}
 
--- of a type by its trees alone
+-- the laws of a type by its trees alone
 abbrev pub LawsBy : (Tree → Type 0) → (List ℕ → Error → Type 0) → Type 0
 LawsBy takes refuses = ReadingLaws takes (ReadsBy takes (λ v. Unit {0})) refuses AreOneTree
 
@@ -97,13 +97,13 @@ place_laws : {takes : ℕ → Tree → Type 0} {refuses : ℕ → List ℕ → E
 place_laws one None = by (unknown_laws {A = Value} {L = λ v w. Unit {0}} SerdeDeCustom)
 place_laws one (Some n) = node_laws one n
 
--- of every type of every table, by its trees
+-- the laws of every type of every table, by its trees
 tree_laws : (depth : ℕ) (nodes : List Node) (i : ℕ) → LawsBy (SchemaTakes depth nodes i) (SchemaRefuses depth nodes i)
 unfolding SchemaTakes SchemaRefuses
 tree_laws zero nodes i = by (unknown_laws {A = Value} {L = λ v w. Unit {0}} SerdeDeCustom)
 tree_laws (suc depth) nodes i = place_laws (tree_laws depth nodes) (slice_get nodes i)
 
--- of every type of every table, at every depth
+-- the laws of every type of every table, at every depth
 pub schema_laws : (depth : ℕ) (nodes : List Node) (i : ℕ) → ReadingLaws (SchemaTakes depth nodes i) (SchemaReads depth nodes i) (SchemaRefuses depth nodes i) AreOneTree
 schema_laws depth nodes i =
     let laws = tree_laws depth nodes i in

@@ -1,4 +1,4 @@
--- Which trees a type of a table takes, as which values, and which bytes it refuses.
+-- Which trees a type of a table accepts, as which values, and which bytes it refuses.
 use Rattle.std.specs.Prelude.{◌≡◌, ℕ, zero, suc, List, [], ◌∷◌, Option, Some, None}
 use Rattle.std.specs.List.{slice_get}
 use Rattle.postcard_tree.specs.declared.error.Error.{Error}
@@ -27,7 +27,7 @@ TakesPayload takes [] n t = ⊥
 TakesPayload takes (i ∷ is) zero t = takes i t
 TakesPayload takes (i ∷ is) (suc n) t = TakesPayload takes is n t
 
--- what the Rust type of a node takes
+-- what the Rust type of a node accepts
 abbrev pub TakesNode : (ℕ → Tree → Type 0) → Node → Tree → Type 0
 TakesNode takes node.Bool = TakesBool
 TakesNode takes node.U8 = TakesByte
@@ -53,19 +53,19 @@ TakesNode takes (node.Array n i) = TakesArray n (takes i)
 TakesNode takes (node.Struct is) = GroupOf (TakesFields takes is.items)
 TakesNode takes (node.Enum is) = TakesVariant (TakesPayload takes is.items)
 
--- a place without a node takes nothing
+-- a place without a node accepts nothing
 abbrev pub TakesPlace : (ℕ → Tree → Type 0) → Option Node → Tree → Type 0
 TakesPlace takes None t = ⊥
 TakesPlace takes (Some n) t = TakesNode takes n t
 
--- what the type at a place takes, of the trees that nest in at most so many nodes
+-- what the type at a place accepts, of the trees that nest in at most so many nodes
 unfoldable pub SchemaTakes : ℕ → List Node → ℕ → Tree → Type 0
 SchemaTakes zero nodes i = λ t. ⊥
 SchemaTakes (suc depth) nodes i = TakesPlace (SchemaTakes depth nodes) (slice_get nodes i)
 
 -- Which bytes are refused, and how: `refuses` says it of the types inside
 
--- one of the fields is refused, behind those before it
+-- one of the fields is refused, after those before it
 abbrev pub RefusesFields : (ℕ → Tree → Type 0) → (ℕ → List ℕ → Error → Type 0) → List ℕ → List ℕ → Error → Type 0
 RefusesFields takes refuses [] = RefusesNoParts
 RefusesFields takes refuses (i ∷ is) = RefusesPartThen (takes i) (refuses i) (RefusesFields takes refuses is)
@@ -107,7 +107,7 @@ abbrev pub RefusesPlace : (ℕ → Tree → Type 0) → (ℕ → List ℕ → Er
 RefusesPlace takes refuses None s e = e ≡ SerdeDeCustom
 RefusesPlace takes refuses (Some n) s e = RefusesNode takes refuses n s e
 
--- the first refusal of the type at a place; where the nodes are as deep as they may be, whatever comes is refused
+-- the first refusal of the type at a place; at the greatest depth, whatever comes is refused
 unfoldable pub SchemaRefuses : ℕ → List Node → ℕ → List ℕ → Error → Type 0
 SchemaRefuses zero nodes i = λ s e. e ≡ SerdeDeCustom
 SchemaRefuses (suc depth) nodes i = RefusesPlace (SchemaTakes depth nodes) (SchemaRefuses depth nodes) (slice_get nodes i)
@@ -272,10 +272,10 @@ unfoldable pub SchemaHas : ℕ → List Node → ℕ → Value → Type 0
 SchemaHas zero nodes i = λ v. ⊥
 SchemaHas (suc depth) nodes i = PlaceHas (SchemaHas depth nodes) (slice_get nodes i)
 
--- a tree that is taken, read as a value that has this kind and stands for the tree
+-- an accepted tree, read as a value that has this kind and whose tree it is
 abbrev pub ReadsBy : (Tree → Type 0) → (Value → Type 0) → Tree → Value → Type 0
 ReadsBy takes has t v = takes t × (tree_of v ≡ t) × has v
 
--- a tree that the type at a place takes, read as the value of that type which stands for it
+-- a tree that the type at a place accepts, read as the value of that type whose tree it is
 abbrev pub SchemaReads : ℕ → List Node → ℕ → Tree → Value → Type 0
 SchemaReads depth nodes i = ReadsBy (SchemaTakes depth nodes i) (SchemaHas depth nodes i)

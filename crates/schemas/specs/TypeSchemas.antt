@@ -1,4 +1,5 @@
--- When a type of a table is a Rust type: it takes that type's trees, refuses what that type refuses, and reads values of its kinds.
+-- When a type of a table is a Rust type: it accepts that type's trees, refuses what that type refuses, and reads values of its
+-- kinds.
 use Rattle.std.specs.Prelude.{◌≡◌, ℕ, zero, suc, ◌≤◌, List, [], ◌∷◌, ◌++◌, length}
 use Rattle.postcard_tree.specs.declared.error.Error.{Error}
 use Rattle.postcard_tree.specs.Tree.{Tree, Trees}
@@ -16,7 +17,7 @@ pub record BeginsWith (nodes table : List Node) : Type 0 where
   -- The table is these nodes and then those.
   pub whole : table ≡ nodes ++ more
 
--- two types, or the fields of two, take the same and refuse the same
+-- two types, or the fields of two, accept the same and refuse the same
 pub record TakeTheSame {A : Type 0} (takes takes' : A → Type 0)
     (refuses refuses' : List ℕ → Error → Type 0) : Type 0 where
   -- What the first accepts the second does.
@@ -28,7 +29,7 @@ pub record TakeTheSame {A : Type 0} (takes takes' : A → Type 0)
   -- What the second refuses the first does, with the same error.
   pub refused_from : (s : List ℕ) (e : Error) → refuses' s e → refuses s e
 
--- a message type whose form is that of its shape takes and refuses the same
+-- a message type whose form is that of its shape accepts and refuses the same
 pub as_its_shape : {P : Tree → Type 0} {F : List ℕ → Error → Type 0} → TakeTheSame P P F F
 as_its_shape = record { to = λ t h. h; from = λ t h. h; refused_to = λ s e h. h; refused_from = λ s e h. h }
 
@@ -39,8 +40,8 @@ pub record HaveTheSame {A : Type 0} (has has' : A → Type 0) : Type 0 where
   -- Each value of the second is one of the first.
   pub from : (v : A) → has' v → has v
 
--- In each table that begins with these nodes, read as deep as they are many or deeper, the type at the place takes just what
--- `takes` says, refuses just what `refuses` says, and has just the values that `has` says.
+-- In each table that begins with these nodes, at a depth of as many nodes or more, the type at the place accepts exactly what
+-- `takes` says, refuses exactly what `refuses` says, and has exactly the values that `has` says.
 pub record IsSchemaOf (takes : Tree → Type 0) (refuses : List ℕ → Error → Type 0)
     (has : Value → Type 0) (nodes : List Node) (place : ℕ) : Type 0 where
   -- It accepts and refuses exactly what the type does.
@@ -55,7 +56,7 @@ abbrev pub NoneHave : List Value → Type 0
 NoneHave [] = Unit {0}
 NoneHave (v ∷ vs) = ⊥
 
--- a value that has it, and behind it others that have theirs
+-- a value that has it, followed by others that have theirs
 abbrev pub OneThenHave : (Value → Type 0) → (List Value → Type 0) → List Value → Type 0
 OneThenHave has have [] = ⊥
 OneThenHave has have (v ∷ vs) = has v × have vs
@@ -70,8 +71,8 @@ abbrev pub FirstHas : (Value → Type 0) → (ℕ → Value → Type 0) → ℕ 
 FirstHas has others zero v = has v
 FirstHas has others (suc n) v = others n v
 
--- A schema of a type and the type agree: they take the same trees and refuse the same bytes, as the same errors; and what both
--- read from bytes is one tree, with one rest behind it, the schema as a value of the type's kinds.
+-- A schema of a type and the type agree: they accept the same trees, and refuse the same bytes with the same errors. If both
+-- read from the same bytes, they read one tree and leave one rest; the schema reads it as a value of the type's kinds.
 abbrev pub AgreesWithItsSchemas : {A : Type 0} → (Tree → Type 0) → (Tree → A → Type 0)
     → (List ℕ → Error → Type 0) → (Value → Type 0) → Type 0
 AgreesWithItsSchemas {A} takes reads refuses has =
@@ -102,7 +103,7 @@ pub record ArePayloadsOf (takes : ℕ → Tree → Type 0) (refuses : ℕ → Li
   pub values : (depth : ℕ) (table : List Node) → length nodes ≤ depth → BeginsWith nodes table → (n : ℕ)
       → HaveTheSame (PayloadHas (SchemaHas depth table) places n) (has n)
 
--- the places of these payloads were put behind others
+-- the places of these payloads were appended to others
 pub record PayloadsAdded (takes : ℕ → Tree → Type 0) (refuses : ℕ → List ℕ → Error → Type 0)
     (has : ℕ → Value → Type 0) (nodes : List Node) (old new : List ℕ) : Type 0 where
   -- The places that were appended.
@@ -112,7 +113,7 @@ pub record PayloadsAdded (takes : ℕ → Tree → Type 0) (refuses : ℕ → Li
   -- They are the places of these payloads.
   pub payloads : ArePayloadsOf takes refuses has nodes added
 
--- this node was put behind a table, at this place
+-- this node was appended to a table, at this place
 pub record IsAdded (n : Node) (old new : List Node) (place : ℕ) : Type 0 where
   pub behind : new ≡ old ++ n ∷ []
   pub there : place ≡ length old
@@ -122,7 +123,7 @@ abbrev pub IsStructOf : List ℕ → Node → Type 0
 IsStructOf fields (node.Struct held) = held.items ≡ fields
 IsStructOf fields _ = ⊥
 
--- the struct of these fields was put last, and place is where
+-- the struct of these fields was appended, at this place
 pub record IsStructAdded (fields : List ℕ) (old new : List Node) (place : ℕ) : Type 0 where
   pub put : Node
   pub of_fields : IsStructOf fields put
@@ -138,7 +139,7 @@ IsLeaf (node.Struct is) = ⊥
 IsLeaf (node.Enum is) = ⊥
 IsLeaf _ = Unit {0}
 
--- what a leaf takes
+-- what a leaf accepts
 abbrev pub LeafTakes : Node → Tree → Type 0
 LeafTakes n = TakesNode (λ i t. ⊥) n
 

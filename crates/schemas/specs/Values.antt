@@ -1,4 +1,4 @@
--- The tree that a value stands for.
+-- The tree of a value.
 use Rattle.std.specs.Prelude.{◌≡◌, List, [], ◌∷◌, map, string_bytes, if◌then◌else◌}
 use Rattle.std.specs.Int.{w8, cast_unsigned}
 use Rattle.postcard_tree.specs.Tree.{Tree, byte, number, character, sequence, group, Trees, end, part, text_of, zigzag}
@@ -11,7 +11,7 @@ abbrev pub parts_as : List Tree → Trees
 parts_as [] = end
 parts_as (t ∷ ts) = part t (parts_as ts)
 
--- one level of a value, with each value inside already as its tree
+-- one level of a value, with each value inside already given as its tree
 abbrev pub tree_step : Value-F Tree → Tree
 tree_step (Value-F.Bool b) = byte (if b then 1 else 0)
 tree_step (Value-F.U8 b) = byte b
@@ -43,6 +43,6 @@ tree_of = fold-Value Tree tree_step
 abbrev pub trees_in : List Value → Trees
 trees_in vs = parts_as (map tree_of vs)
 
--- both stand for one tree
+-- both have one tree
 abbrev pub AreOneTree : Value → Value → Type 0
 AreOneTree v w = tree_of v ≡ tree_of w

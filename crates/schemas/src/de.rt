@@ -9,10 +9,16 @@ use postcard_de::Deserializer;
 use postcard_tree::Result;
 use std::alloc::Global;
 
-/// Reads the value at the front of the bytes, of the type at that place of the table, nesting in at most so many nodes; what
-/// follows it is ignored.
+/// Returns the value at the start of the bytes, of the type at that place of the table. What follows it is ignored.
 ///
-/// An error is the first refusal in the order of reading, so that no front spells a value, or out of memory.
+/// `depth` bounds how many nodes the value nests in: 1 is enough for a number, 2 for a list of numbers.
+///
+/// # Errors
+/// The first error in the order of reading, for bytes of which no prefix is accepted; or `OutOfMemory`. A place
+/// without a node, and nodes nested deeper than `depth`, are `SerdeDeCustom`.
+///
+/// # Allocates
+/// What the value holds. A count alone allocates nothing: each element is read before its memory is requested.
 pub fn from_bytes(
     alloc: Global,
     nodes: &[Node],
@@ -31,7 +37,18 @@ pub fn from_bytes(
     read_value(&mut d, nodes, place, depth)
 }
 
-/// As `from_bytes`, with the rest of the bytes.
+/// Returns the value as [`from_bytes`] does, and the rest of the bytes.
+///
+/// # Errors
+/// As [`from_bytes`].
+///
+/// # Example
+/// ```rust
+/// match take_from_bytes(alloc, nodes, place, DEPTH, bytes) {
+///     Ok((value, _)) => is_written_as(alloc, &value, wanted),
+///     Err(_) => false,
+/// }
+/// ```
 pub fn take_from_bytes<'a>(
     alloc: Global,
     nodes: &[Node],

@@ -1,4 +1,4 @@
-//! Integers that stand on the wire as their bytes, two to sixteen of them.
+//! Integers that are sent as their bytes, two to sixteen of them.
 ghost use Rattle.std.specs.Prelude.{◌≡◌, refl};
 ghost use Rattle.schema_table.specs.declared.integer.IntegerType.{IntegerType as Types};
 ghost use Rattle.schema_table.specs.declared.integer.IntegerType.TheVariants as types;
@@ -7,7 +7,9 @@ ghost use Rattle.schemas.specs.Integers.{width_of, type_of, bits_in};
 use postcard_tree::fixint::FixInt;
 use schema_table::IntegerType;
 
-/// An integer of one of these types.
+/// An integer with its type.
+///
+/// Example: see [`HasIntegerType`].
 #[derive(Clone, Copy, Debug, PartialEq, Eq, Drop)]
 pub enum Integer {
     /// A number of 16 bits.
@@ -29,20 +31,29 @@ pub enum Integer {
 }
 
 /// A Rust type that is one of the integer types.
+///
+/// # Example
+/// ```rust
+/// check(
+///     &rt,
+///     <u16 as HasIntegerType>::integer_type() == IntegerType::U16,
+/// );
+/// check(&rt, 5u16.integer() == Integer::U16(5));
+/// ```
 pub trait HasIntegerType: FixInt {
     /// Which one.
     ghost which: { Types };
 
-    /// Which one.
+    /// Returns which one.
     fn integer_type() -> IntegerType
         ensures { result ≡ which };
 
-    /// The number with its type.
+    /// Returns the number with its type.
     fn integer(self) -> Integer
         ensures of_type { type_of result ≡ which }
         ensures bits { bits_in result ≡ Self.bits self };
 
-    /// It has as many bytes.
+    /// The type has so many bytes.
     ghost wide: { width_of which ≡ Self.size };
 }
 

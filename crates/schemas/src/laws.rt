@@ -1,4 +1,4 @@
-//! What holds of every table of types.
+//! Laws of every table of types: functions without a body. Call one where a proof needs its contract.
 ghost use Rattle.std.specs.Prelude.{ℕ, List};
 ghost use Rattle.postcard_tree.specs.ReadingLaws.{ReadingLaws};
 ghost use Rattle.schemas.specs.Values.{AreOneTree};
@@ -8,17 +8,20 @@ ghost use Rattle.schema_table.specs.declared.node.Node.{Node as Nodes};
 
 use crate::HasSchema;
 
-/// Of every type of every table, at every depth, what `postcard_tree::laws::reading` says of a type: only what is taken is
-/// read, what is taken is a tree, none of its spellings begins that of another, what is refused has no front that is taken,
-/// and two values that a tree is read as stand for one tree.
+/// What `postcard_tree::laws::reading` says of a type, for every type of every table, at every depth.
+///
+/// Only what is accepted is read, and it is a tree. No encoding of it is a prefix of another's, what is refused has
+/// no prefix that is accepted, and two values of one tree are the same.
 pub fn reading_by_schemas()
     ensures { (depth : ℕ) (nodes : List Nodes) (place : ℕ)
         → ReadingLaws (SchemaTakes depth nodes place)
         (SchemaReads depth nodes place) (SchemaRefuses depth nodes place) AreOneTree }
 {}
 
-/// Of every type that has a schema: the schema and the type take the same trees and refuse the same bytes, as the same errors;
-/// and what both read from bytes is of one tree, and leaves one rest, by the schema as a value of the type's kinds.
+/// A type and its schema accept the same trees, and refuse the same bytes with the same errors.
+///
+/// If both read from the same bytes, they read one tree and leave one rest; by the schema as a value of the type's
+/// kinds.
 pub fn reading_by_schemas_agrees<T: HasSchema>()
     ensures { AgreesWithItsSchemas T.form.takes T.form.reads T.form.refuses T.kinds }
 {}

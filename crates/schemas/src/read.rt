@@ -13,7 +13,7 @@ use postcard_tree::fixint::{BE, LE};
 use postcard_tree::{Error, Result};
 use std::alloc::AllocError;
 
-/// For how many values a list asks room at the first of them.
+// For how many values a list requests memory at the first of them.
 const FEW: u64 = 32;
 
 fn read_bool<F: Flavor>(d: &mut Deserializer<F>) -> Result<Value>
@@ -93,7 +93,7 @@ fn read_i128<F: Flavor>(d: &mut Deserializer<F>) -> Result<Value>
     Ok(Value::I128(v))
 }
 
-// An integer of a type that is known by name.
+// An integer of a named type.
 fn little_as<T: HasIntegerType, F: Flavor>(d: &mut Deserializer<F>) -> Result<Value>
     ensures { ReadsLeaf F.source (kind.LE T.which) d.old d.new result }
 {
@@ -152,7 +152,7 @@ fn read_text<F: Flavor>(d: &mut Deserializer<F>) -> Result<Value>
     Ok(Value::Text(v))
 }
 
-// A text that is too long is taken whole before it is refused.
+// A text that is too long is read whole before it is refused.
 fn read_text_up_to<F: Flavor>(d: &mut Deserializer<F>, most: u64) -> Result<Value>
     ensures { ReadsLeaf F.source (kind.TextUpTo most) d.old d.new result }
 {
@@ -189,8 +189,7 @@ fn read_option<F: Flavor>(
     }
 }
 
-// Makes room in a full list for one value more: in an empty one for as many as are to come, but for a few at most, and from there
-// for twice as many as it holds.
+// Grows a full list for one more value: an empty one for as many as are to come, but for a few at most; after that it doubles.
 #[cold]
 #[inline(never)]
 fn make_room(items: &mut Vec<Value>, count: u64) -> std::result::Result<(), AllocError>
@@ -205,7 +204,7 @@ fn make_room(items: &mut Vec<Value>, count: u64) -> std::result::Result<(), Allo
     items.reserve(more as usize)
 }
 
-// Appends a value that was read, where so many come in all: so a count alone asks for no room, and a short list asks once.
+// Appends a value that was read, of so many in all: so a count alone allocates nothing, and a short list allocates once.
 #[inline(always)]
 fn append(items: &mut Vec<Value>, item: Value, count: u64) -> std::result::Result<(), AllocError>
     ensures { OnOk result (items.new.items ≡ items.old.items ++ item ∷ []) }
@@ -217,7 +216,7 @@ fn append(items: &mut Vec<Value>, item: Value, count: u64) -> std::result::Resul
     Ok(())
 }
 
-// Each element is read before room for it is asked.
+// Each element is read before its memory is requested.
 #[cycle(read)]
 fn read_list<F: Flavor>(
     d: &mut Deserializer<F>,
@@ -358,11 +357,16 @@ fn read_node<F: Flavor>(
     }
 }
 
-/// Reads a value of the type at that place of the table, nesting in at most so many nodes.
+/// Returns a value of the type at that place of the table, which nests in at most `depth` nodes, from any source.
 ///
-/// A value is answered only where a front of the bytes spells a tree that the type takes. From a source that refuses only
-/// past its end an error is the first refusal in the order of reading, or out of memory; `SerdeDeCustom` where nodes are
-/// nested deeper, or a place has no node.
+/// A value is returned only if a prefix of the bytes encodes a tree that the type accepts.
+///
+/// # Errors
+/// The first error in the order of reading, if the source refuses only past its end; or `OutOfMemory`. A place without a
+/// node, and nodes nested deeper than `depth`, are `SerdeDeCustom`.
+///
+/// # Allocates
+/// What the value holds. A count alone allocates nothing: each element is read before its memory is requested.
 #[cycle(read)]
 pub fn read_value<F: Flavor>(
     d: &mut Deserializer<F>,

@@ -13,20 +13,33 @@ use crate::Node;
 use postcard_tree::{AsShape, Readable, ReadableVariants, Shaped};
 use std::alloc::{AllocError, Global};
 
-/// A type that is a type of a table: by its nodes it takes the same trees, refuses the same bytes, and is read as values of
+/// A type that is a type of a table: its nodes accept the same trees and refuse the same bytes, and read values of
 /// its own kinds.
 ///
-/// Every type of the format has it, and a message type by [`SchemaOfShape`]. A type that holds itself has none: it would take
-/// every depth.
+/// Every type of the format has it, and a message type by [`SchemaOfShape`]. A recursive type has none: it would
+/// accept every depth.
+///
+/// # Example
+/// ```rust
+/// fn by_schema<T: HasSchema>(alloc: Global, bytes: &[u8]) -> Result<String, AllocError> {
+///     let (nodes, place) = schema_of::<T>(alloc)?;
+///     match take_from_bytes(alloc, &nodes, place, DEPTH, bytes) {
+///         Ok((value, rest)) => say_again(alloc, &value, rest.len()),
+///         Err(cause) => say_refused(alloc, cause),
+///     }
+/// }
+/// ```
 pub trait HasSchema: Readable {
-    /// Which values the type is read as, kind by kind: of `i16` those of `Value::I16`, of a struct the groups of its fields'
-    /// values, in order.
+    /// The values that the type is read as, kind by kind: of `i16` those of `Value::I16`, of a struct the groups of
+    /// its fields' values, in order.
     ghost kinds: { Value → Type 0 };
 
-    /// Puts the nodes of the type behind those of a table, and answers the type's place among them. When out of memory some
-    /// of them may have been put.
+    /// Appends the type's nodes to a table, and returns the type's place among them.
     ///
-    /// The type is read as deep as the table is long, or deeper; more nodes may follow.
+    /// The type is read to a depth of the table's length, or deeper; more nodes may follow.
+    ///
+    /// # Errors
+    /// `AllocError` when out of memory; some of the nodes may have been appended.
     fn add_schema(alloc: Global, nodes: &mut Vec<Node>) -> Result<usize, AllocError>
         ensures kept { BeginsWith nodes.old.items nodes.new.items }
         ensures is_schema { IfOk result (λ place.
@@ -34,11 +47,17 @@ pub trait HasSchema: Readable {
 }
 
 /// How a type has [`HasSchema`], by its form.
+///
+/// # Example
+/// ```rust
+/// let added = <Own as SchemaForm<u16>>::add_form_schema(rt.alloc(), &mut nodes);
+/// check(&rt, matches!(&added, Ok(0)));
+/// ```
 pub trait SchemaForm<M: Readable> {
-    /// Which values the type is read as.
+    /// The values that the type is read as.
     ghost form_kinds: { Value → Type 0 };
 
-    /// Puts the nodes of the type behind those of a table, as `HasSchema` does.
+    /// Appends the type's nodes to a table, as [`HasSchema::add_schema`] does.
     fn add_form_schema(alloc: Global, nodes: &mut Vec<Node>) -> Result<usize, AllocError>
         ensures kept { BeginsWith nodes.old.items nodes.new.items }
         ensures is_schema { IfOk result (λ place.
@@ -56,10 +75,11 @@ where
     }
 }
 
-/// A message type that has the schema of its shape:
+/// A message type that has the schema of its shape, which this one line gives it.
 ///
-/// ```text
-/// impl SchemaOfShape for Light {
+/// # Example
+/// ```rust
+/// impl SchemaOfShape for NewTypeStruct {
 ///     ghost same = { as_its_shape };
 /// }
 /// ```
@@ -67,7 +87,7 @@ pub trait SchemaOfShape: Shaped + Readable
 where
     Self::Shape: Readable,
 {
-    /// It takes the trees of its shape, and refuses the bytes that its shape refuses.
+    /// It accepts the trees of its shape, and refuses the bytes that its shape refuses.
     ghost same: { TakeTheSame Self.Shape.form.takes Self.form.takes
         Self.Shape.form.refuses Self.form.refuses };
 }
@@ -84,12 +104,23 @@ where
 }
 
 /// Variants that are types of a table.
+///
+/// # Example
+/// ```rust
+/// let added = <Last<u16> as HasPayloadSchemas>::add_payloads(
+///     rt.alloc(),
+///     &mut nodes,
+///     &mut payloads,
+/// );
+/// ```
 pub trait HasPayloadSchemas: ReadableVariants {
-    /// Which values the payload of an index is read as.
+    /// The values that the payload of an index is read as.
     ghost kinds_at: { ℕ → Value → Type 0 };
 
-    /// Puts the nodes of what the variants hold behind those of a table, and their places behind others. When out of memory
-    /// some of them may have been put.
+    /// Appends the nodes of what the variants hold to a table, and their places to `payloads`.
+    ///
+    /// # Errors
+    /// `AllocError` when out of memory; some of them may have been appended.
     fn add_payloads(
         alloc: Global,
         nodes: &mut Vec<Node>,
@@ -101,7 +132,22 @@ pub trait HasPayloadSchemas: ReadableVariants {
             payloads.old.items payloads.new.items) };
 }
 
-/// A table of the type alone, and the type's place in it.
+/// Returns a table of the type alone, and the type's place in it.
+///
+/// # Errors
+/// `AllocError` when out of memory.
+///
+/// # Allocates
+/// The nodes.
+///
+/// # Example
+/// ```rust
+/// let (nodes, place) = schema_of::<T>(alloc)?;
+/// match take_from_bytes(alloc, &nodes, place, DEPTH, bytes) {
+///     Ok((value, rest)) => say_again(alloc, &value, rest.len()),
+///     Err(cause) => say_refused(alloc, cause),
+/// }
+/// ```
 pub fn schema_of<T: HasSchema>(alloc: Global) -> Result<(Vec<Node>, usize), AllocError>
     ensures { IfOk result (λ p. IsSchemaOf T.form.takes T.form.refuses T.kinds p.0.items p.1) }
 {
@@ -110,7 +156,7 @@ pub fn schema_of<T: HasSchema>(alloc: Global) -> Result<(Vec<Node>, usize), Allo
     Ok((nodes, place))
 }
 
-// Puts a node behind those of a table, and answers its place.
+// Appends a node to a table, and returns its place.
 fn add_node(nodes: &mut Vec<Node>, node: Node) -> Result<usize, AllocError>
     ensures kept { BeginsWith nodes.old.items nodes.new.items }
     ensures added { IfOk result (λ place. IsAdded node nodes.old.items nodes.new.items place) }
@@ -120,7 +166,7 @@ fn add_node(nodes: &mut Vec<Node>, node: Node) -> Result<usize, AllocError>
     Ok(place)
 }
 
-// Puts a node that names no place behind those of a table.
+// Appends a node that names no place to a table.
 fn add_leaf(nodes: &mut Vec<Node>, node: Node) -> Result<usize, AllocError>
     requires { IsLeaf node }
     ensures kept { BeginsWith nodes.old.items nodes.new.items }

@@ -3,6 +3,15 @@
 use crate::Integer;
 
 /// A value as its type has it; the names of fields and variants are the reader's.
+///
+/// # Example
+/// ```rust
+/// Value::Absent => line.push_str("none"),
+/// Value::Present(inner) => say_present(inner, line),
+/// Value::List(items) => say_inside("[", items, ']', line),
+/// Value::Group(items) => say_inside("(", items, ')', line),
+/// Value::Variant(index, inner) => say_variant(*index, inner, line),
+/// ```
 #[derive(Drop)]
 pub enum Value {
     /// `true` or `false`.
@@ -37,9 +46,9 @@ pub enum Value {
     Text(String),
     /// Bytes.
     Bytes(Vec<u8>),
-    /// No value where one may be.
+    /// An option without a value.
     Absent,
-    /// A value where none may be.
+    /// An option's value.
     Present(Box<Value>),
     /// Elements that have a count on the wire; of a map, its pairs as they came.
     List(Vec<Value>),

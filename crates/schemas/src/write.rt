@@ -12,7 +12,7 @@ use postcard_ser::{Serialize, Serializer};
 use postcard_tree::fixint::{BE, FixInt, LE};
 use postcard_tree::{Own, Readable, Result};
 
-/// A value is written as the tree that it stands for; its type isn't asked. It is read by a schema alone.
+/// A value is written as its tree, without its type. It is read by a schema alone.
 impl Readable for Value {
     type Form = Own;
 

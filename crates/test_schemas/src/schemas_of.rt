@@ -273,7 +273,11 @@ fn nodes_of_forms(rt: HostRuntime) {
     let mut payloads = Vec::new(rt.alloc());
     let added = <Own as SchemaForm<u16>>::add_form_schema(rt.alloc(), &mut nodes);
     check(&rt, matches!(&added, Ok(0)));
-    let added = <Last<u16>>::add_payloads(rt.alloc(), &mut nodes, &mut payloads);
+    let added = <Last<u16> as HasPayloadSchemas>::add_payloads(
+        rt.alloc(),
+        &mut nodes,
+        &mut payloads,
+    );
     check(
         &rt,
         added.is_ok() && nodes.len() == 2 && payloads.len() == 1,

@@ -1,4 +1,4 @@
-//! Nothing, options, results, boxes, sequences, arrays and maps.
+//! Schemas of unit, options, results, boxes, sequences, arrays and maps.
 ghost use Rattle.schemas.specs.Schemas.{AtTop, OfOption, OfList, OfGroup, OfVariant, EachHas};
 ghost use Rattle.schemas.specs.TypeSchemas.{NoneHave, OneThenHave, LastHas, FirstHas};
 
@@ -53,7 +53,7 @@ impl<'a, T: HasSchema> SchemaForm<&'a T> for Own {
     }
 }
 
-/// Of `Vec<u8>` too: a list of bytes, which takes the same as `Bytes`.
+/// Also of `Vec<u8>`: a list of bytes, which accepts what `Bytes` accepts.
 impl<T: HasSchema> SchemaForm<Vec<T>> for Own {
     ghost form_kinds = { AtTop (OfList (EachHas T.kinds)) };
 
@@ -81,7 +81,7 @@ impl<T: HasSchema, const N: usize> SchemaForm<[T; N]> for Own {
     }
 }
 
-/// A list of its pairs.
+/// A map is a list of its pairs.
 impl<K: HasSchema + Ord, V: HasSchema> SchemaForm<BTreeMap<K, V>> for Own {
     ghost form_kinds = { AtTop (OfList (EachHas (AtTop (OfGroup (OneThenHave K.kinds (OneThenHave V.kinds NoneHave)))))) };
 

@@ -1,4 +1,4 @@
-//! Characters, texts and byte strings.
+//! Schemas of characters, texts and byte strings.
 ghost use Rattle.std.specs.Prelude.{IfOk};
 ghost use Rattle.postcard_tree.specs.Reading.{TakesByte, TakesSequence, RefusesByte, RefusesSequence, TakesText, RefusesText};
 ghost use Rattle.schemas.specs.Schemas.{AtTop, OfChar, OfText, OfBytes};

@@ -1,4 +1,4 @@
-//! Tuples of one to six parts.
+//! Schemas of tuples of one to six parts.
 ghost use Rattle.std.specs.Prelude.{IfOk};
 ghost use Rattle.schemas.specs.Schemas.{AtTop, OfGroup};
 ghost use Rattle.schemas.specs.TypeSchemas.{BeginsWith, IsStructAdded, NoneHave, OneThenHave};
@@ -8,7 +8,7 @@ use crate::Node;
 use postcard_tree::Own;
 use std::alloc::{AllocError, Global};
 
-// Puts the struct of these fields behind the nodes of a table, and answers its place.
+// Appends the struct of these fields to a table, and returns its place.
 fn add_struct<const N: usize>(
     alloc: Global,
     nodes: &mut Vec<Node>,

@@ -1,4 +1,4 @@
-//! The variants of an enum, which are the shapes of message types.
+//! Schemas of the variants of an enum, which are the shapes of message types.
 ghost use Rattle.schemas.specs.Schemas.{AtTop, OfVariant};
 ghost use Rattle.schemas.specs.TypeSchemas.{LastHas, FirstHas};
 
