@@ -34,7 +34,19 @@ pub enum DecodeError {
 
 /// How many bytes of a source were used, and how many they decode to.
 ///
-/// Example: see [`DecodingResult`].
+/// # Example
+/// ```rust
+/// pub(crate) fn decodes(
+///     decoded: std::result::Result<DecodeReport, DecodeError>,
+///     parsed: usize,
+///     size: usize,
+/// ) -> bool {
+///     match decoded {
+///         Ok(report) => report.parsed_size() == parsed && report.frame_size() == size,
+///         Err(_) => false,
+///     }
+/// }
+/// ```
 #[derive(Clone, Copy, PartialEq, Debug)]
 pub struct DecodeReport {
     pub(crate) parsed: usize,
