@@ -15,7 +15,8 @@ pub(crate) fn add_byte(register: u32, byte: u8) -> u32
     (mixed / 256) ^ SHIFTED[(mixed % 256) as usize]
 }
 
-// The register after four more bytes, by one lookup in each table; none waits for another.
+// The register after four more bytes, by one lookup in each table; none waits for another. A step of one byte waits for the byte
+// before it.
 #[inline(always)]
 fn add_four(register: u32, a: u8, b: u8, c: u8, d: u8) -> u32
     ensures { result ≡ behind_byte (behind_byte (behind_byte (behind_byte register a) b) c) d }
