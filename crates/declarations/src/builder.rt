@@ -6,7 +6,7 @@ mod fields;
 mod lengths;
 mod types;
 
-use crate::names::Names as Scopes;
+use crate::names::Scopes;
 use crate::near::put_nearest;
 use crate::{Error, Names};
 use declaration_parser::declaration::Declaration;

@@ -28,7 +28,7 @@ const PRIMITIVE: &[&str] = &[
 
 /// How a known type holds others.
 #[derive(Clone, Copy, PartialEq, Eq, Drop)]
-pub enum Form {
+pub enum KnownForm {
     /// What stands in it is sent as it is.
     Inner,
     Option,
@@ -51,38 +51,38 @@ pub enum Form {
 }
 
 /// The known types that hold others, or a length.
-const FORMS: &[(&str, Form)] = &[
-    ("Arc", Form::Inner),
-    ("ArrayString", Form::TextUpTo),
-    ("ArrayVec", Form::ListUpTo),
-    ("BE", Form::Big),
-    ("BTreeMap", Form::Map),
-    ("BTreeSet", Form::List),
-    ("BinaryHeap", Form::Heap),
-    ("Box", Form::Inner),
-    ("ByteArray", Form::Bytes),
-    ("Cell", Form::Inner),
-    ("Cow", Form::Inner),
-    ("Deque", Form::ListUpTo),
-    ("FnvIndexMap", Form::MapUpTo),
-    ("FnvIndexSet", Form::ListUpTo),
-    ("HashMap", Form::Map),
-    ("HashSet", Form::Set),
-    ("LE", Form::Little),
-    ("LinearMap", Form::MapUpTo),
-    ("LinkedList", Form::List),
-    ("Mutex", Form::Inner),
-    ("Option", Form::Option),
-    ("PhantomData", Form::Phantom),
-    ("Rc", Form::Inner),
-    ("RefCell", Form::Inner),
-    ("Result", Form::Outcome),
-    ("Reverse", Form::Inner),
-    ("RwLock", Form::Inner),
-    ("Saturating", Form::Inner),
-    ("Vec", Form::List),
-    ("VecDeque", Form::List),
-    ("Wrapping", Form::Inner),
+const FORMS: &[(&str, KnownForm)] = &[
+    ("Arc", KnownForm::Inner),
+    ("ArrayString", KnownForm::TextUpTo),
+    ("ArrayVec", KnownForm::ListUpTo),
+    ("BE", KnownForm::Big),
+    ("BTreeMap", KnownForm::Map),
+    ("BTreeSet", KnownForm::List),
+    ("BinaryHeap", KnownForm::Heap),
+    ("Box", KnownForm::Inner),
+    ("ByteArray", KnownForm::Bytes),
+    ("Cell", KnownForm::Inner),
+    ("Cow", KnownForm::Inner),
+    ("Deque", KnownForm::ListUpTo),
+    ("FnvIndexMap", KnownForm::MapUpTo),
+    ("FnvIndexSet", KnownForm::ListUpTo),
+    ("HashMap", KnownForm::Map),
+    ("HashSet", KnownForm::Set),
+    ("LE", KnownForm::Little),
+    ("LinearMap", KnownForm::MapUpTo),
+    ("LinkedList", KnownForm::List),
+    ("Mutex", KnownForm::Inner),
+    ("Option", KnownForm::Option),
+    ("PhantomData", KnownForm::Phantom),
+    ("Rc", KnownForm::Inner),
+    ("RefCell", KnownForm::Inner),
+    ("Result", KnownForm::Outcome),
+    ("Reverse", KnownForm::Inner),
+    ("RwLock", KnownForm::Inner),
+    ("Saturating", KnownForm::Inner),
+    ("Vec", KnownForm::List),
+    ("VecDeque", KnownForm::List),
+    ("Wrapping", KnownForm::Inner),
 ];
 
 /// Types that aren't read, and as what they are sent.
@@ -159,7 +159,7 @@ pub fn plain_node(word: &str) -> Option<Node>
 }
 
 /// How the known type of this name holds others, if it does.
-pub fn form_of(word: &str) -> Option<Form> {
+pub fn form_of(word: &str) -> Option<KnownForm> {
     for (name, form) in FORMS {
         if *name == word {
             return Some(*form);

@@ -12,6 +12,6 @@ mod paths;
 mod read;
 
 pub use read::{
-    Checked, Error, Outcome, Source, check_sources, read_schema, read_sources, read_type,
+    CheckedType, Error, Outcome, Source, check_sources, read_schema, read_sources, read_type,
 };
 pub use schema_table::{Named, Names, Schema};

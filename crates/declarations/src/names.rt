@@ -91,9 +91,9 @@ struct Before {
     has_path: bool,
 }
 
-/// The names of files. Where memory runs out for one, [`failed`](Names::failed) says so.
+/// The names of files. Where memory runs out for one, [`failed`](Scopes::failed) says so.
 #[derive(Drop)]
-pub struct Names<'a> {
+pub struct Scopes<'a> {
     alloc: Global,
     files: &'a [Read],
     scopes: Vec<Scope<'a>>,
@@ -163,14 +163,14 @@ fn put<'a>(names: &mut BTreeMap<&'a str, ()>, name: &'a str) -> bool {
     names.insert(name, ()).is_err()
 }
 
-impl<'a> Names<'a> {
+impl<'a> Scopes<'a> {
     /// The names of files, in which these declarations are marked.
     pub fn new(
         alloc: Global,
         files: &'a [Read],
         declared: &[Declaration<'a>],
-    ) -> Result<Names<'a>, AllocError> {
-        let mut names = Names {
+    ) -> Result<Scopes<'a>, AllocError> {
+        let mut names = Scopes {
             alloc,
             files,
             scopes: Vec::new(alloc),

@@ -2,7 +2,7 @@
 ghost use Rattle.std.specs.Prelude.{◌≡◌, ◌≤◌, ◌<◌, length, IfOk};
 
 use crate::builder::{Builder, has_type_parameters};
-use crate::names::Names as Scopes;
+use crate::names::Scopes;
 use crate::{Named, Schema};
 use declaration_parser::declaration::Declaration;
 use declaration_parser::parser::Purpose;
@@ -39,7 +39,7 @@ impl From<AllocError> for Error {
 
 /// A declared type, and what came of it.
 #[derive(Drop)]
-pub struct Checked {
+pub struct CheckedType {
     /// Its name.
     pub name: String,
     /// The line of its declaration, counted from 1.
@@ -241,7 +241,10 @@ fn outcome_of<'a>(
 ///
 /// # Errors
 /// `Wrong` if nothing is declared.
-pub fn check_sources(alloc: Global, sources: &[Source]) -> Result<(Vec<Checked>, String), Error> {
+pub fn check_sources(
+    alloc: Global,
+    sources: &[Source],
+) -> Result<(Vec<CheckedType>, String), Error> {
     let files = tokens_in(alloc, sources)?;
     let (declared, faults) = declarations(alloc, Purpose::Schemas, &files)?;
     if declared.is_empty() {
@@ -255,7 +258,7 @@ pub fn check_sources(alloc: Global, sources: &[Source]) -> Result<(Vec<Checked>,
             let outcome = outcome_of(alloc, &declared, &scopes, asked, index)?;
             let name = String::from_str(alloc, it.name)?;
             let line = it.line;
-            let one = Checked {
+            let one = CheckedType {
                 name,
                 line,
                 outcome,

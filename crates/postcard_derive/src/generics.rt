@@ -8,7 +8,7 @@ use declaration_parser::tokens::{Token, closes, first_letter, is_among, is_lifet
 
 /// How parameters are spelled.
 #[derive(Clone, Copy, Drop)]
-pub enum Way<'a> {
+pub enum ParameterStyle<'a> {
     /// By their names alone.
     Named,
     /// As an alias declares them: without bounds.
@@ -163,19 +163,19 @@ impl Text {
     }
 
     /// Appends a parameter, without what it is when it is left out.
-    fn put_parameter(&mut self, parameter: &[Token], way: Way) {
+    fn put_parameter(&mut self, parameter: &[Token], way: ParameterStyle) {
         let (parameter, _) = up_to(parameter, &["="]);
         let is_length = first_word(parameter) == "const";
         match way {
-            Way::Named if is_length => self.put(word_at(parameter, 1)),
-            Way::Declared if is_length => self.put_words(parameter),
-            Way::Named | Way::Declared => self.put(first_word(parameter)),
-            Way::Bounded(bound) => self.put_bounded(parameter, bound),
+            ParameterStyle::Named if is_length => self.put(word_at(parameter, 1)),
+            ParameterStyle::Declared if is_length => self.put_words(parameter),
+            ParameterStyle::Named | ParameterStyle::Declared => self.put(first_word(parameter)),
+            ParameterStyle::Bounded(bound) => self.put_bounded(parameter, bound),
         }
     }
 
     /// Appends the parameters of a declaration.
-    pub fn put_parameters(&mut self, it: &Declaration, way: Way) {
+    pub fn put_parameters(&mut self, it: &Declaration, way: ParameterStyle) {
         let (mut rest, _) = parameters_of(it);
         let mut before = "<";
         for _ in 0..rest.len() {

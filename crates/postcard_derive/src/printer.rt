@@ -1,5 +1,5 @@
 //! From declarations to implementations, laid out as `rt fmt` leaves them.
-use crate::generics::Way;
+use crate::generics::ParameterStyle;
 use crate::names::{Module, names_used};
 use crate::parts::{Parts, ROW, Spelling, spelled};
 use crate::text::Text;
@@ -68,7 +68,7 @@ impl Text {
     /// Appends a type's name, with this behind it, and its parameters.
     pub fn put_whole_name(&mut self, it: &Declaration, suffix: &str) {
         self.put_all(&[it.name, suffix]);
-        self.put_parameters(it, Way::Named);
+        self.put_parameters(it, ParameterStyle::Named);
     }
 
     /// Appends the names that are used of a module.
@@ -106,10 +106,10 @@ impl Text {
             "NameShape" => self.put_whole_name(it, "Shape"),
             "NewShape" => {
                 self.put_all(&[it.name, "Shape"]);
-                self.put_parameters(it, Way::Declared);
+                self.put_parameters(it, ParameterStyle::Declared);
             }
             "Where" => self.put_where(it),
-            bound => self.put_parameters(it, Way::Bounded(bound)),
+            bound => self.put_parameters(it, ParameterStyle::Bounded(bound)),
         }
     }
 

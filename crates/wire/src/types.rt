@@ -2,7 +2,7 @@
 use crate::sources::sources_of;
 use crate::stop::{Stop, WRITE_FAULT};
 use declarations::{
-    Checked, Error, Outcome, Schema, Source, check_sources, read_sources, read_type,
+    CheckedType, Error, Outcome, Schema, Source, check_sources, read_sources, read_type,
 };
 use wire_lib::sizes::greatest_sizes;
 
@@ -57,7 +57,7 @@ pub fn type_of(rt: &HostRuntime, files: &str, words: &str) -> Result<(Schema, us
 }
 
 /// The declared types of files, and what is wrong with the files themselves.
-pub fn types_of(rt: &HostRuntime, files: &str) -> Result<(Vec<Checked>, String), Stop> {
+pub fn types_of(rt: &HostRuntime, files: &str) -> Result<(Vec<CheckedType>, String), Stop> {
     let sources = sources_of(rt, files)?;
     match check_sources(rt.alloc(), &sources) {
         Ok(types) => Ok(types),
@@ -66,7 +66,7 @@ pub fn types_of(rt: &HostRuntime, files: &str) -> Result<(Vec<Checked>, String),
 }
 
 /// Says the greatest size of a declared type, or that it can't be read; appends why, once for each cause.
-pub fn say_type(rt: &HostRuntime, it: &Checked, wrong: &mut String) -> Result<(), Stop> {
+pub fn say_type(rt: &HostRuntime, it: &CheckedType, wrong: &mut String) -> Result<(), Stop> {
     let name = it.name.as_str();
     let said = match &it.outcome {
         Outcome::Readable(schema, place) => {

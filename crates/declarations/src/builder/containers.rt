@@ -3,7 +3,7 @@ ghost use Rattle.std.specs.Prelude.{◌≡◌, ◌∷◌, [], IfOk};
 
 use super::{Builder, Entry};
 use crate::Names;
-use crate::known::{Form, list_node, varint_type};
+use crate::known::{KnownForm, list_node, varint_type};
 use declaration_parser::tokens::{is_among, is_lifetime};
 use schema_table::{IntegerType, Node};
 use std::alloc::{AllocError, Global};
@@ -32,26 +32,26 @@ fn payloads_of(alloc: Global, value: usize, error: usize) -> Result<Vec<usize>, 
 }
 
 /// How many types a known type holds.
-fn types_of(form: Form) -> usize {
+fn types_of(form: KnownForm) -> usize {
     match form {
-        Form::TextUpTo | Form::Bytes | Form::Phantom => 0,
-        Form::Outcome | Form::Map | Form::MapUpTo => 2,
+        KnownForm::TextUpTo | KnownForm::Bytes | KnownForm::Phantom => 0,
+        KnownForm::Outcome | KnownForm::Map | KnownForm::MapUpTo => 2,
         _ => 1,
     }
 }
 
 /// Whether a known type has a length behind its types.
-fn has_length(form: Form) -> bool {
+fn has_length(form: KnownForm) -> bool {
     matches!(
         form,
-        Form::ListUpTo | Form::MapUpTo | Form::TextUpTo | Form::Bytes
+        KnownForm::ListUpTo | KnownForm::MapUpTo | KnownForm::TextUpTo | KnownForm::Bytes
     )
 }
 
 impl<'a> Builder<'a, '_> {
     /// The place of a known type that holds others.
     #[cycle(types)]
-    pub(super) fn formed(&mut self, form: Form, depth: u32) -> usize {
+    pub(super) fn formed(&mut self, form: KnownForm, depth: u32) -> usize {
         let before = self.nodes.len();
         let held = self.held(form, depth);
         if self.is_wrong {
@@ -61,20 +61,20 @@ impl<'a> Builder<'a, '_> {
     }
 
     /// The place of the node of a known type, by what it holds; the nodes of that stand behind so many.
-    fn node_of(&mut self, form: Form, held: Held<'a>, before: usize) -> usize {
+    fn node_of(&mut self, form: KnownForm, held: Held<'a>, before: usize) -> usize {
         match form {
-            Form::Inner => held.first,
-            Form::Option => self.add(Node::Option(held.first), Names::Nothing),
-            Form::List | Form::Heap => self.list(held),
-            Form::Set => self.add(Node::List(held.first), Names::Nothing),
-            Form::ListUpTo => self.list_up_to(held),
-            Form::TextUpTo => self.text_up_to(held),
-            Form::Bytes => self.add(Node::Bytes, Names::Nothing),
-            Form::Phantom => self.add(Node::Struct(Vec::new(self.alloc)), Names::Unit),
-            Form::Outcome => self.outcome(held),
-            Form::Map => self.map(held),
-            Form::MapUpTo => self.map_up_to(held),
-            Form::Little | Form::Big => self.ordered(form, held, before),
+            KnownForm::Inner => held.first,
+            KnownForm::Option => self.add(Node::Option(held.first), Names::Nothing),
+            KnownForm::List | KnownForm::Heap => self.list(held),
+            KnownForm::Set => self.add(Node::List(held.first), Names::Nothing),
+            KnownForm::ListUpTo => self.list_up_to(held),
+            KnownForm::TextUpTo => self.text_up_to(held),
+            KnownForm::Bytes => self.add(Node::Bytes, Names::Nothing),
+            KnownForm::Phantom => self.add(Node::Struct(Vec::new(self.alloc)), Names::Unit),
+            KnownForm::Outcome => self.outcome(held),
+            KnownForm::Map => self.map(held),
+            KnownForm::MapUpTo => self.map_up_to(held),
+            KnownForm::Little | KnownForm::Big => self.ordered(form, held, before),
         }
     }
 
@@ -104,7 +104,7 @@ impl<'a> Builder<'a, '_> {
 
     /// Takes what stands in the angle brackets of a known type.
     #[cycle(types)]
-    fn held(&mut self, form: Form, depth: u32) -> Held<'a> {
+    fn held(&mut self, form: KnownForm, depth: u32) -> Held<'a> {
         let mut held = Held {
             word: "",
             first: 0,
@@ -140,13 +140,13 @@ impl<'a> Builder<'a, '_> {
     }
 
     /// Takes the length of a known type that has one, if it stands there.
-    fn most_in(&mut self, form: Form) -> Option<u64> {
+    fn most_in(&mut self, form: KnownForm) -> Option<u64> {
         let is_first = types_of(form) == 0 && has_length(form);
-        let may_follow = has_length(form) || matches!(form, Form::List | Form::Heap);
+        let may_follow = has_length(form) || matches!(form, KnownForm::List | KnownForm::Heap);
         if !is_first && (!may_follow || !self.take(",") || self.peek() == ">") {
             return None;
         }
-        if form == Form::Heap {
+        if form == KnownForm::Heap {
             // what stands between says which element is first
             self.skip_one();
             self.owe(",");
@@ -192,7 +192,7 @@ impl<'a> Builder<'a, '_> {
 
     /// An integer whose bytes stand in this order. It is put at the place of the integer's node, where that is of no other
     /// type, since it stands behind so many.
-    fn ordered(&mut self, form: Form, held: Held<'a>, before: usize) -> usize {
+    fn ordered(&mut self, form: KnownForm, held: Held<'a>, before: usize) -> usize {
         let of = match varint_type(self.nodes.get(held.first)) {
             Some(of) if !is_among(held.word, &["isize", "usize"]) => of,
             _ => {
@@ -282,9 +282,9 @@ impl<'a> Builder<'a, '_> {
 }
 
 /// The node of an integer's bytes in this order.
-fn in_order(form: Form, of: IntegerType) -> Node {
+fn in_order(form: KnownForm, of: IntegerType) -> Node {
     match form {
-        Form::Little => Node::LE(of),
+        KnownForm::Little => Node::LE(of),
         _ => Node::BE(of),
     }
 }

@@ -1,7 +1,7 @@
 //! The places of types, by their words.
 use super::{Bound, Builder, Given, Made, has_type_parameters};
 use crate::Names;
-use crate::known::{Form, form_of, is_known, plain_node, sent_as};
+use crate::known::{KnownForm, form_of, is_known, plain_node, sent_as};
 use crate::names::{Found, Space, What};
 use crate::paths::{PathAt, path_at};
 use declaration_parser::declaration::Declaration;
@@ -397,7 +397,7 @@ impl<'a> Builder<'a, '_> {
             return self.formed(form, depth);
         }
         match word {
-            "String" if self.peek() == "<" => return self.formed(Form::TextUpTo, depth),
+            "String" if self.peek() == "<" => return self.formed(KnownForm::TextUpTo, depth),
             "f32" => return self.add(Node::LE(IntegerType::U32), Names::Float),
             "f64" => return self.add(Node::LE(IntegerType::U64), Names::Float),
             _ => {}

@@ -1,5 +1,5 @@
 //! What the words of files declare, in one pass: scope by scope, item by item.
-use super::{Before, Kind, Names, What, is_root, module_of_file, parts_of};
+use super::{Before, Kind, Scopes, What, is_root, module_of_file, parts_of};
 use declaration_parser::attributes::{attribute, behind, first_word, group, passed_over, up_to};
 use declaration_parser::parser::plain_name;
 use declaration_parser::tokens::{Token, first_letter, is_among, is_lifetime, opens};
@@ -86,7 +86,7 @@ fn is_plain_alias(words: &[Token]) -> bool {
     true
 }
 
-impl<'a> Names<'a> {
+impl<'a> Scopes<'a> {
     /// Reads the words of all files.
     pub(super) fn read_files(&mut self) {
         let files = self.files;

@@ -1,5 +1,5 @@
 //! What a name stands for: the one thing that it can be, or nothing.
-use super::{Import, Item, Kind, Names, What, is_known_crate, is_same_name};
+use super::{Import, Item, Kind, Scopes, What, is_known_crate, is_same_name};
 use crate::known::{is_everywhere, is_known, is_primitive};
 use declaration_parser::attributes::same_words;
 use declaration_parser::faults::Faults;
@@ -215,7 +215,7 @@ impl<'a> What<'a> {
     }
 }
 
-impl<'a> Names<'a> {
+impl<'a> Scopes<'a> {
     /// Whether a scope is among these.
     fn is_in(&self, scope: usize, place: Where<'a>) -> bool {
         let Some(it) = self.scopes.get(scope) else {

@@ -1,6 +1,6 @@
 //! What `use` brings into a scope, name by name.
 use super::rule::Path;
-use super::{Import, Names, put};
+use super::{Import, Scopes, put};
 use declaration_parser::attributes::first_word;
 use declaration_parser::parser::plain_name;
 use declaration_parser::tokens::Token;
@@ -30,7 +30,7 @@ fn renamed<'a>(own: &'a str, words: &'a [Token]) -> (&'a str, &'a [Token]) {
     }
 }
 
-impl<'a> Names<'a> {
+impl<'a> Scopes<'a> {
     /// Adds what a `use` brings in by these words.
     pub(super) fn read_use(&mut self, scope: usize, words: &'a [Token]) {
         let mut prefix = Prefix {
