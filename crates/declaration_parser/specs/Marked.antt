@@ -4,7 +4,7 @@ use Rattle.std.specs.Cmp.Lexicographic.{pointwise}
 use Rattle.std.specs.List.{list_any, starts_with}
 use Rattle.declaration_parser.specs.declared.tokens.Token.{Token}
 
--- the text of a comment that marks the declaration behind it
+-- the text of a comment that marks the declaration after it
 abbrev pub is_marking : List ℕ → Bool
 is_marking s = pointwise nat_eq s (codes "// message") || starts_with nat_eq s (codes "// message:")
 

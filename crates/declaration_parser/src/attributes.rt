@@ -2,13 +2,13 @@
 use crate::declaration::Marks;
 use crate::tokens::{Token, is_among, is_comment_mark, opens};
 
-/// What marks where it stands in a derive, or before a name there; and `self`, which may stand for such in a `use`.
+/// Names that mark if they are in a derive, or before a name there; and `self`, which a `use` may have for one.
 const RENAMED: &[&str] = &["Deserialize", "Serialize", "self", "serde", "serde_derive"];
 
 /// Crates that have derives of their own called as serde's are.
 const NOT_OF_SERDE: &[&str] = &["miniserde", "rkyv"];
 
-/// The text of the first of these tokens; nothing where there is none.
+/// The text of the first of these tokens; nothing if there is none.
 pub fn first_word(tokens: &[Token]) -> &str {
     match tokens {
         [token, ..] => token.text.as_str(),
@@ -24,8 +24,7 @@ pub fn last_word(tokens: &[Token]) -> &str {
     }
 }
 
-/// What stands in the group that the first token opens, and what stands behind it; nothing where it opens none that is
-/// closed.
+/// The content of the group that the first token opens, and what follows it; nothing if it opens none that is closed.
 pub fn group(tokens: &[Token]) -> Option<(&[Token], &[Token])> {
     match tokens {
         [open, rest @ ..] if open.span > 1 => {
@@ -40,7 +39,7 @@ pub fn group(tokens: &[Token]) -> Option<(&[Token], &[Token])> {
     }
 }
 
-/// What stands behind the first token, or behind the group that it opens.
+/// What follows the first token, or the group that it opens.
 pub fn behind(tokens: &[Token]) -> &[Token] {
     match tokens {
         [first, ..] => {
@@ -51,7 +50,7 @@ pub fn behind(tokens: &[Token]) -> &[Token] {
     }
 }
 
-/// What stands between the brackets of the attribute at the front, which is of what stands behind it.
+/// What is between the brackets of the attribute at the start, which is of what follows it.
 pub fn attribute(tokens: &[Token]) -> Option<(&[Token], &[Token])> {
     match tokens {
         [hash, rest @ ..] if hash.text.as_str() == "#" && first_word(rest) == "[" => group(rest),
@@ -59,8 +58,8 @@ pub fn attribute(tokens: &[Token]) -> Option<(&[Token], &[Token])> {
     }
 }
 
-/// What a call of a macro, or an attribute of all that a file has, holds at the front, and what stands behind it. The
-/// words before what it holds have no brackets.
+/// What a call of a macro, or an attribute of all that a file has, holds at the start, and what follows it. The words before
+/// what it holds have no brackets.
 pub fn passed_over(tokens: &[Token]) -> Option<(&[Token], &[Token])> {
     let rest = match tokens {
         [_, mark, rest @ ..] if mark.text.as_str() == "!" => rest,
@@ -72,7 +71,7 @@ pub fn passed_over(tokens: &[Token]) -> Option<(&[Token], &[Token])> {
     }
 }
 
-/// What stands in the parentheses behind the first word.
+/// The content of the parentheses after the first word.
 pub fn held(words: &[Token]) -> &[Token] {
     match words {
         [_, rest @ ..] if first_word(rest) == "(" => match group(rest) {
@@ -83,7 +82,7 @@ pub fn held(words: &[Token]) -> &[Token] {
     }
 }
 
-/// What stands before the first of these words that nothing encloses, and what begins with it.
+/// What precedes the first of these words that nothing encloses, and what begins with it.
 pub fn up_to<'a>(tokens: &'a [Token], ends: &[&str]) -> (&'a [Token], &'a [Token]) {
     let mut rest = tokens;
     for _ in 0..tokens.len() {
@@ -95,7 +94,7 @@ pub fn up_to<'a>(tokens: &'a [Token], ends: &[&str]) -> (&'a [Token], &'a [Token
     tokens.split_at(tokens.len().saturating_sub(rest.len()))
 }
 
-/// What stands before the first comma that nothing encloses, and what stands behind it.
+/// What precedes the first comma that nothing encloses, and what follows it.
 pub fn first_part(tokens: &[Token]) -> (&[Token], &[Token]) {
     let (part, rest) = up_to(tokens, &[","]);
     match rest {
@@ -127,7 +126,7 @@ pub fn has_mark(words: &[Token]) -> bool {
     false
 }
 
-/// Whether a derive stands among these words that marks a declaration.
+/// Whether one of these words is a derive that marks a declaration.
 pub fn has_derive(words: &[Token]) -> bool {
     let mut is_derive = false;
     for token in words {
@@ -172,7 +171,7 @@ pub fn renamed_derive(tokens: &[Token]) -> Option<&Token> {
     None
 }
 
-/// Whether a derive's name is one of serde's, by what stands before it: nothing, or any path that isn't another crate's, since
+/// Whether a derive's name is one of serde's, by what precedes it: nothing, or any path that isn't another crate's, since
 /// serde's derives are passed on by others too.
 fn is_of_serde(path: &[Token]) -> bool {
     match path {

@@ -1,7 +1,7 @@
-//! The declarations of message types, which lend their words from the tokens that they were read from.
+//! The declarations of message types, which borrow their words from the tokens that they were read from.
 use crate::tokens::{Read, Token};
 
-/// How the bytes of a field stand.
+/// How the bytes of a field are arranged.
 #[derive(Clone, Copy, PartialEq, Eq, Drop)]
 pub enum Layout {
     /// As its type has it.
@@ -10,7 +10,7 @@ pub enum Layout {
     Little,
     /// The highest first.
     Big,
-    /// As a buffer's, behind their count.
+    /// As a buffer's, after their count.
     Buffer,
     /// As an array's.
     Array,
@@ -21,11 +21,11 @@ pub enum Layout {
 pub struct Field<'a> {
     /// Its place among the fields.
     pub place: usize,
-    /// Its name; empty where it has none.
+    /// Its name; empty if it has none.
     pub name: &'a str,
     /// The words of its type.
     pub of: &'a [Token],
-    /// How its bytes stand, where an attribute says it.
+    /// How its bytes are arranged, if an attribute says it.
     pub layout: Layout,
 }
 
@@ -76,10 +76,10 @@ pub struct Marks {
 pub struct Declaration<'a> {
     /// Its comments and attributes.
     pub attributes: &'a [Token],
-    /// The words behind these.
+    /// The words after these.
     pub words: &'a [Token],
     pub name: &'a str,
-    /// The file that it stands in.
+    /// The file that it is in.
     pub file: &'a Read,
     /// The line of its name.
     pub line: usize,
@@ -89,6 +89,6 @@ pub struct Declaration<'a> {
     pub lengths: Vec<&'a str>,
     pub body: Body<'a>,
     pub marks: Marks,
-    /// Why it can't be read, a line each; empty where it can.
+    /// Why it can't be read, a line each; empty if it can.
     pub wrong: String,
 }

@@ -4,12 +4,12 @@ ghost use Rattle.std.specs.Prelude.{◌≡◌, [], false, string_bytes, IfOk, Is
 use std::alloc::{AllocError, Global};
 use std::fmt::Write;
 
-/// Lines that are made piece by piece. Where memory runs out the other calls go on, and [`finished`](Faults::finished) says
-/// so at the end: so those who note a fault need not ask at each piece.
+/// Lines that are made of pieces. If memory runs out, the other calls go on, and [`finished`](Faults::finished) says so at the
+/// end: so those who note a fault need not ask at each piece.
 #[derive(Drop)]
 pub struct Faults<'a> {
     whole: String,
-    /// The file of which something is noted; empty where it has no name.
+    /// The file of which something is noted; empty if it has no name.
     file: &'a str,
     failed: bool,
 }

@@ -1,4 +1,4 @@
-//! What stands before a declaration: attributes, and comments that mark.
+//! What precedes a declaration: attributes, and comments that mark.
 ghost use Rattle.std.specs.Prelude.{◌≡◌, ◌<◌, ◌++◌, length, IsTrue};
 
 use crate::attributes::{add_marks, attribute};
@@ -19,7 +19,7 @@ pub struct Mismark<'a> {
 #[derive(Clone, Copy, Drop)]
 pub struct Marking<'a> {
     pub marks: Marks,
-    /// The condition of the derive that marks; empty where there is none.
+    /// The condition of the derive that marks; empty if there is none.
     pub condition: &'a [Token],
     /// Whether derives mark, and whether they alone do.
     has_derive: bool,
@@ -28,7 +28,7 @@ pub struct Marking<'a> {
     pub wrong: Option<Mismark<'a>>,
 }
 
-/// Comments and attributes at the front of tokens, what they mark, and the tokens behind them.
+/// Comments and attributes at the start of tokens, what they mark, and the tokens after them.
 #[derive(Clone, Copy, Drop)]
 pub struct Head<'a> {
     pub attributes: &'a [Token],
@@ -81,7 +81,7 @@ impl<'a> Marking<'a> {
         }
     }
 
-    /// Adds what a word behind `// message:` marks.
+    /// Adds what a word after `// message:` marks.
     fn add_word(&mut self, line: usize, word: &'a str) {
         let why = match word {
             "Serialize" => {

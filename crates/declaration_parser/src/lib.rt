@@ -1,8 +1,8 @@
 //! Declarations of message types, read from Rust: those structs and enums that are marked, by a comment `// message` in a
 //! line before one, or by the names `Serialize` and `Deserialize` among its derives.
 //!
-//! [`tokens_of`](tokens::tokens_of) reads a text, [`declarations`](reading::declarations) what is declared; what can't be taken is
-//! said by its line.
+//! [`tokens_of`](tokens::tokens_of) reads a text, [`declarations`](reading::declarations) what is declared. What can't be read is
+//! reported by its line.
 #![tactic(auto)]
 
 pub mod attributes;

@@ -10,21 +10,21 @@ const MESSAGE: &str = "message";
 /// The same from its end.
 const BACKWARDS: &[u8] = b"egassem";
 
-/// How many letters a word has in common with `message`, from the front and from the back, that seems meant for it.
+/// How many letters a word has in common with `message`, from the start and from the back, that seems meant for it.
 const COMMON: usize = 5;
 
 /// How long such a word is at most, in bytes.
 const LONGEST: usize = 9;
 
-/// Whether a line marks the declaration behind it.
+/// Whether a line marks the declaration after it.
 pub fn is_mark(line: &str) -> bool
     ensures { result ≡ is_marking line.now }
 {
     line.as_bytes() == b"// message".as_slice() || line.as_bytes().starts_with(b"// message:")
 }
 
-/// Whether a comment, which begins with its slashes, is almost a mark: it begins with a word like `message`, and behind that
-/// it has nothing to read, a colon, or the name of what messages can be marked for.
+/// Whether a comment, which begins with its slashes, is almost a mark: it begins with a word like `message`, and after that it
+/// has nothing to read, a colon, or the name of what messages can be marked for.
 pub fn is_almost_mark(comment: &str) -> bool {
     let is_doc = comment.starts_with("///");
     let (word, rest) = first_word(comment.trim_start_matches('/').trim_start());
@@ -36,7 +36,7 @@ pub fn is_almost_mark(comment: &str) -> bool {
     is_meant && is_behind_mark(rest)
 }
 
-/// The word at the front of a text, and the rest.
+/// The word at the start of a text, and the rest.
 fn first_word(text: &str) -> (&str, &str) {
     let rest = text.trim_start_matches(is_of_word);
     let length = text.len().saturating_sub(rest.len());
@@ -74,7 +74,7 @@ fn common_back(letters: &[u8]) -> usize {
     BACKWARDS.len()
 }
 
-/// Whether what stands behind a word like `message` is as behind a mark.
+/// Whether what follows a word like `message` is as after a mark.
 fn is_behind_mark(rest: &str) -> bool {
     let rest = rest.trim_start();
     if rest.starts_with(':') {
@@ -98,7 +98,7 @@ fn is_marked_for(word: &str) -> bool {
         || word.eq_ignore_ascii_case("Exact")
 }
 
-/// The way in which a comment says that the field behind it is sent, as `// with = "postcard::fixint::le"` does.
+/// The way in which a comment says that the field after it is sent, as `// with = "postcard::fixint::le"` does.
 pub fn way_of(comment: &str) -> Option<&str> {
     let way = comment.strip_prefix("// with = ")?;
     let (_, text) = way.split_once('"')?;

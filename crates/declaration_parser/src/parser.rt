@@ -23,7 +23,7 @@ pub enum Purpose {
     Schemas,
 }
 
-/// Reads a declaration from the front of tokens. What is wrong is noted and hides the tokens behind it, so that the calls that
+/// Reads a declaration from the start of tokens. What is wrong is noted and hides the tokens after it, so that the calls that
 /// follow take nothing and note nothing: so those who read need not ask after each step.
 #[derive(Drop)]
 pub struct Parser<'a> {
@@ -71,7 +71,7 @@ fn last_line(tokens: &[Token]) -> usize {
 }
 
 impl<'a> Parser<'a> {
-    /// Behind what marks a declaration.
+    /// A parser of the tokens after what marks a declaration.
     pub fn new(alloc: Global, purpose: Purpose, file: &'a Read, head: &Head<'a>) -> Parser<'a> {
         let mut parser = Parser {
             alloc,
@@ -115,7 +115,7 @@ impl<'a> Parser<'a> {
         }
     }
 
-    /// The token behind the next.
+    /// The token after the next.
     fn peek_second(&self) -> &'a str {
         match self.rest {
             [_, token, ..] => token.text.as_str(),
@@ -144,7 +144,7 @@ impl<'a> Parser<'a> {
         found
     }
 
-    /// Notes what is wrong at the last token, unless it stands behind something that is wrong.
+    /// Notes what is wrong at the last token, unless it follows something that is wrong.
     fn wrong(&mut self, pieces: &[&str]) {
         if self.is_wrong {
             return;
@@ -158,7 +158,7 @@ impl<'a> Parser<'a> {
         self.rest = &[];
     }
 
-    /// Notes which type is read, which variant and which field of it, so far as one is.
+    /// Notes which type is read, which variant and which field of it, as far as one is.
     fn note_field(&mut self) {
         if self.name.is_empty() {
             return;
@@ -179,7 +179,7 @@ impl<'a> Parser<'a> {
         self.purpose == Purpose::Implementations
     }
 
-    /// Notes why a word is wrong: what is said behind it.
+    /// Notes why a word is wrong: what is said after it.
     fn refuse(&mut self, word: &str, why: &str) {
         self.wrong(&["`", word, why]);
     }
@@ -248,7 +248,7 @@ impl<'a> Parser<'a> {
         name
     }
 
-    /// Takes the name of a field, where fields have names.
+    /// Takes the name of a field, if fields have names.
     fn field_name(&mut self, named: bool) -> &'a str {
         if !named {
             return "";
@@ -264,7 +264,7 @@ impl<'a> Parser<'a> {
         name
     }
 
-    /// Takes a field; nothing where it isn't sent.
+    /// Takes a field; nothing if it isn't sent.
     fn item(&mut self, place: usize, named: bool) -> Option<Field<'a>> {
         if place == MOST_FIELDS && self.implements() {
             self.wrong(&[TOO_MANY]);
@@ -358,7 +358,7 @@ impl<'a> Parser<'a> {
         VariantOf { name, fields }
     }
 
-    /// Takes what stands before the first of these words that nothing encloses, and refuses a mark in it.
+    /// Takes what precedes the first of these words that nothing encloses, and refuses a mark in it.
     fn skip_to(&mut self, ends: &[&str]) {
         let (skipped, rest) = up_to(self.rest, ends);
         if has_mark(skipped) {
@@ -428,7 +428,7 @@ impl<'a> Parser<'a> {
         Body::Struct(fields)
     }
 
-    /// Takes a declaration, behind its attributes, of a file that has these types by hand.
+    /// Takes a declaration, after its attributes, of a file that has these types by hand.
     pub fn declaration(
         &mut self,
         attributes: &'a [Token],

@@ -14,7 +14,7 @@ use crate::tokens::{Read, Token, is_among, is_comment_mark};
 use crate::words::{ALMOST, IN_MACRO, IN_WORDS, NO_MESSAGES_MARKED, RENAMES};
 use std::alloc::{AllocError, Global};
 
-/// Whether a struct or an enum stands at the front of these tokens.
+/// Whether a struct or an enum is at the start of these tokens.
 fn begins_declaration(tokens: &[Token]) -> bool {
     let rest = match tokens {
         [public, rest @ ..] if public.text.as_str() == "pub" => match first_word(rest) {
@@ -86,7 +86,7 @@ fn refuses_call(tokens: &[Token], faults: &mut Faults<'_>) -> bool
     false
 }
 
-/// How many tokens are passed over where nothing is marked: one, or a call of a macro with all that it holds.
+/// How many tokens are skipped if nothing is marked: one, or a call of a macro with all that it holds.
 fn passed_length(tokens: &[Token]) -> usize
     ensures within { result ≤ length tokens.now }
     ensures some { 0 < length tokens.now → 0 < result }
@@ -101,7 +101,7 @@ fn passed_length(tokens: &[Token]) -> usize
     }
 }
 
-/// Passes over what isn't marked, and answers how many tokens behind its attributes are.
+/// Skips what isn't marked, and returns how many tokens after its attributes are.
 fn pass_over(purpose: Purpose, head: &Head<'_>, faults: &mut Faults<'_>) -> usize
     ensures silent { SaysNothing faults.new → SaysNothing faults.old }
     ensures within { result ≤ length head.now.behind.now }
@@ -121,7 +121,7 @@ fn pass_over(purpose: Purpose, head: &Head<'_>, faults: &mut Faults<'_>) -> usiz
     length
 }
 
-/// Keeps a declaration, with its attributes, the words behind them, and what is wrong with it.
+/// Keeps a declaration, with its attributes, the words after them, and what is wrong with it.
 fn keep<'a>(
     mut declaration: Declaration<'a>,
     attributes: &'a [Token],
@@ -145,8 +145,8 @@ fn keep<'a>(
     }
 }
 
-/// Reads what is marked, and answers how many tokens behind its attributes it takes. What is wrong is kept with it, and hides
-/// the tokens behind it that were not read.
+/// Reads what is marked, and returns how many tokens after its attributes it takes. What is wrong is kept with it, and hides
+/// the tokens after it that were not read.
 fn add_declaration<'a>(
     alloc: Global,
     purpose: Purpose,
@@ -171,7 +171,7 @@ fn add_declaration<'a>(
     length
 }
 
-/// Reads what stands at the front of tokens: a declaration, or what is passed over. Answers the tokens behind it.
+/// Reads what is at the start of tokens: a declaration, or what is skipped. Returns the tokens after it.
 fn read_front<'a>(
     alloc: Global,
     purpose: Purpose,
@@ -207,7 +207,7 @@ fn refuse_renamed(tokens: &[Token], faults: &mut Faults<'_>)
     }
 }
 
-/// Reads the declarations of a file, behind those of others.
+/// Reads the declarations of a file, after those of others.
 fn add_declarations<'a>(
     alloc: Global,
     purpose: Purpose,
@@ -238,7 +238,7 @@ fn by_hand_in<'a>(alloc: Global, files: &'a [Read]) -> Result<ByHand<'a>, AllocE
     Ok(by_hand)
 }
 
-/// Says that nothing is marked, where that is all that there is to say.
+/// Says that nothing is marked, if there is nothing else to say.
 fn refuse_nothing<'a>(files: &'a [Read], finds_none: bool, faults: &mut Faults<'a>)
     ensures { SaysNothing faults.new → SaysNothing faults.old }
 {
@@ -252,9 +252,9 @@ fn refuse_nothing<'a>(files: &'a [Read], finds_none: bool, faults: &mut Faults<'
     faults.put(NO_MESSAGES_MARKED);
 }
 
-/// The marked declarations of files, and what is wrong, a line each: in others, and that there are none.
+/// Returns the marked declarations of files, and what is wrong with others, a line each; or that there are none.
 ///
-/// Where nothing is wrong each token of the files stands in a declaration, or was skipped; and then it is no mark.
+/// If nothing is wrong, each token of the files is in a declaration, or was skipped and is no mark.
 pub fn declarations(
     alloc: Global,
     purpose: Purpose,

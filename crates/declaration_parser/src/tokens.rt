@@ -7,7 +7,7 @@ use crate::marks::{is_almost_mark, is_almost_way, is_mark, way_of};
 use crate::words::ALMOST_WAY;
 use std::alloc::{AllocError, Global};
 
-/// What is said of a mark behind code.
+/// What is said of a mark after code.
 const ALMOST: &str =
     "` marks nothing: a line of its own does, `// message` or `// message: Serialize`\n";
 
@@ -18,25 +18,24 @@ const INSIDE_COMMENT: &str =
 /// The same in a text.
 const INSIDE_TEXT: &str = "` stands in a text, where it marks nothing: write it otherwise\n";
 
-/// Before what a comment that is almost a mark is told of.
+/// What follows a comment that is almost a mark, for it to be reported.
 const BEFORE: &[&str] = &["#", "pub", "struct", "enum"];
 
 /// A word, a lifetime, a number, a text, a character or a mark, and the line where it begins. A comment `// message` is one
-/// token, and so is one that is almost that, where a declaration may stand behind it. One that says how a field is sent is the
-/// tokens of an attribute. A text stands between `"` whatever it
-/// was written between.
+/// token, and so is one that is almost that, if a declaration may follow it. One that says how a field is sent is the tokens of
+/// an attribute. A text is between `"`, whatever it was written between.
 #[derive(Drop)]
 pub struct Token {
     pub text: String,
     pub line: usize,
-    /// How many tokens the group has that it opens, with its two marks; 0 where it opens none, or one that isn't closed.
+    /// How many tokens the group has that it opens, with its two marks; 0 if it opens none, or one that isn't closed.
     pub span: usize,
 }
 
 /// The tokens of a file, and what is wrong with its comments and texts, a line each.
 #[derive(Drop)]
 pub struct Read {
-    /// The name of the file; empty where it has none.
+    /// The name of the file; empty if it has none.
     pub file: String,
     pub tokens: Vec<Token>,
     pub faults: String,
@@ -47,22 +46,22 @@ pub struct Read {
 enum Inside {
     /// A comment between `/*` and `*/`.
     Comment,
-    /// A text, which ends at the first `"` that isn't behind `\`.
+    /// A text, which ends at the first `"` that isn't after `\`.
     Text,
-    /// A text that ends at a `"` with so many `#` behind it.
+    /// A text that ends at a `"` with so many `#` after it.
     Raw(usize),
 }
 
-/// Takes tokens from the front of a text. Where memory runs out the calls go on, and [`finished`](Tokens::finished) says so at
+/// Takes tokens from the start of a text. If memory runs out, the calls go on, and [`finished`](Tokens::finished) says so at
 /// the end.
 #[derive(Drop)]
 struct Tokens<'a> {
     alloc: Global,
     rest: &'a str,
-    /// The line of what is read, counted from 1, and whether code stands before it there.
+    /// The line of what is read, counted from 1, and whether code precedes it there.
     line: usize,
     is_behind_code: bool,
-    /// A comment that is almost a mark, with nothing behind it yet.
+    /// A comment that is almost a mark, with nothing after it yet.
     almost: Option<(&'a str, usize)>,
     found: Vec<Token>,
     /// The places of the tokens that opened groups which aren't closed yet.
@@ -71,7 +70,10 @@ struct Tokens<'a> {
     failed: bool,
 }
 
-/// The tokens of the text of a file. What is wrong is said with its name, unless that is empty.
+/// Returns the tokens of the text of a file. What is wrong is reported with the file's name, unless that is empty.
+///
+/// # Errors
+/// `AllocError` when out of memory.
 pub fn tokens_of<'a>(alloc: Global, file: &'a str, text: &'a str) -> Result<Read, AllocError> {
     let name = String::from_str(alloc, file)?;
     let text = text.strip_prefix('\u{feff}').unwrap_or(text);
@@ -86,7 +88,7 @@ pub fn tokens_of<'a>(alloc: Global, file: &'a str, text: &'a str) -> Result<Read
     tokens.finished(name)
 }
 
-/// Whether a character can stand in a word or a number.
+/// Whether a character can be in a word or a number.
 pub fn is_of_word(character: char) -> bool {
     character.is_alphanumeric() || character == '_'
 }
@@ -128,7 +130,7 @@ pub fn first_letter(word: &str) -> Option<char> {
     word.chars().next()
 }
 
-/// How many bytes of a text stand before what is left of it.
+/// How many bytes of a text precede what is left of it.
 fn length_before(text: &str, rest: &str) -> usize {
     text.len().saturating_sub(rest.len())
 }
@@ -152,7 +154,7 @@ fn hashes(text: &str) -> usize {
     length_before(text, text.trim_start_matches('#'))
 }
 
-/// The line at the front of a text.
+/// The line at the start of a text.
 fn first_line(text: &str) -> &str {
     match text.split_once('\n') {
         Some((line, _)) => line,
@@ -227,7 +229,7 @@ impl<'a> Tokens<'a> {
         self.skip(length);
     }
 
-    /// Appends a comment that marks what is behind it, in a line of its own.
+    /// Appends a comment that marks what is after it, in a line of its own.
     fn read_mark(&mut self, comment: &str) {
         if self.is_behind_code {
             self.refuse(self.line, comment, ALMOST);
@@ -236,8 +238,8 @@ impl<'a> Tokens<'a> {
         }
     }
 
-    /// Appends what a comment says of how the field behind it is sent, as an attribute: `#[with = ".."]`, or with all its
-    /// words as one token, `#[with ..]`, where it only seems meant to.
+    /// Appends what a comment says of how the field after it is sent, as an attribute: `#[with = ".."]`, or with all its words
+    /// as one token, `#[with ..]`, if it only seems meant to.
     fn read_way(&mut self, comment: &str) {
         let way = way_of(comment);
         if self.is_behind_code {
@@ -356,7 +358,7 @@ impl<'a> Tokens<'a> {
         });
     }
 
-    /// How long what ends a comment or a text is, where it stands at the front.
+    /// How long what ends a comment or a text is, if it is at the start.
     fn ending(&self, inside: Inside) -> Option<usize> {
         match inside {
             Inside::Comment if self.rest.starts_with("*/") => Some(2),
@@ -369,7 +371,7 @@ impl<'a> Tokens<'a> {
         }
     }
 
-    /// Refuses a mark at the front, inside a comment or a text.
+    /// Refuses a mark at the start, inside a comment or a text.
     fn refuse_inside(&mut self, inside: Inside) {
         let line = first_line(self.rest).trim_end();
         if is_mark(line) {
@@ -390,7 +392,7 @@ impl<'a> Tokens<'a> {
         self.put(text, self.line);
     }
 
-    /// Appends a token, and before it a comment that is almost a mark, where a declaration may begin with it.
+    /// Appends a token, and before it a comment that is almost a mark, if a declaration may begin with it.
     fn put(&mut self, text: &str, line: usize) {
         if let Some((comment, line)) = self.almost
             && is_among(text, BEFORE)

@@ -56,7 +56,7 @@ pub const ONE_SIDE: &str =
 pub const ONLY_FIELD: &str =
     "` of the only field of a struct in parentheses leaves out nothing, since serde writes it all the same: take the word out";
 
-/// What is said of a field that is left out, where what is read back is to be what was written.
+/// What is said of a field that is left out, if what is read back must be what was written.
 pub const LEFT_OUT: &str =
     "` leaves the field out, but what is read back has to be what was written: declare a type without the field, and hold both in another that isn't sent";
 

@@ -38,7 +38,7 @@ struct Bound<'a> {
     given: Given<'a>,
 }
 
-/// A declared type that was made, or is owed: which, of what, and at which place.
+/// A declared type that was made, or is to be made: which, of what, and at which place.
 #[derive(Drop)]
 struct Made<'a> {
     index: usize,
@@ -61,14 +61,14 @@ struct Entry {
     names: Names,
 }
 
-/// Makes nodes of the words of types. What is wrong is noted and hides the words behind it in the same field.
+/// Makes nodes of the words of types. What is wrong is noted and hides the words after it in the same field.
 #[derive(Drop)]
 pub struct Builder<'a, 'b> {
     alloc: Global,
     declared: &'b [Declaration<'a>],
-    /// Declared types that were made or are owed, in the order in which they were met.
+    /// Declared types that were made or are still to be made, in the order in which they were met.
     instances: Vec<Made<'a>>,
-    /// What parameters stand for: those of the type that is made stand behind so many.
+    /// What parameters stand for: those of the type that is made follow so many.
     bound: Vec<Bound<'a>>,
     scope: usize,
     /// The names of all files, the scope whose words are read, and that of words that are asked for.
@@ -81,7 +81,7 @@ pub struct Builder<'a, 'b> {
     line: usize,
     /// How many numbers more the length that is read may be computed of.
     left: u32,
-    /// The constant that can't be one of its numbers, and why; empty where there is none.
+    /// The constant that can't be one of its numbers, and why; empty if there is none.
     doubt: (&'a str, &'a str),
     /// The table: the nodes, and what their values are called by.
     nodes: Vec<Node>,
@@ -173,7 +173,7 @@ impl<'a, 'b> Builder<'a, 'b> {
         0
     }
 
-    /// Notes where something is wrong, and hides the words behind it.
+    /// Notes where something is wrong, and hides the words after it.
     fn begin_wrong(&mut self) {
         if self.here != self.asked {
             self.faults.put_line_number(self.line);
@@ -183,7 +183,7 @@ impl<'a, 'b> Builder<'a, 'b> {
         self.rest = &[];
     }
 
-    /// Notes which type is read, which variant and which field of it, so far as one is.
+    /// Notes which type is read, which variant and which field of it, as far as one is.
     fn note_field(&mut self) {
         let parted = if self.at.variant.is_empty() { "" } else { "::" };
         self.faults
@@ -197,12 +197,12 @@ impl<'a, 'b> Builder<'a, 'b> {
         self.faults.put("`: ");
     }
 
-    /// Notes why a word is wrong: what is said behind it.
+    /// Notes why a word is wrong: what is said after it.
     fn refuse(&mut self, word: &str, why: &str) -> usize {
         self.wrong(&["`", word, why])
     }
 
-    /// Goes over to the words of a scope.
+    /// Turns to the words of a scope.
     fn turn_to(&mut self, scope: usize) {
         self.here = scope;
         self.faults.turn_to(self.names.file_of(scope));
@@ -269,7 +269,7 @@ impl<'a, 'b> Builder<'a, 'b> {
         }
     }
 
-    /// Goes over to a declaration of a scope.
+    /// Turns to a declaration of a scope.
     fn begin(&mut self, it: &Declaration<'a>, scope: usize) {
         self.turn_to(scope);
         self.at = At {
@@ -279,7 +279,7 @@ impl<'a, 'b> Builder<'a, 'b> {
         };
     }
 
-    /// Whether another declaration of the same module has this name, and stands before it.
+    /// Whether another declaration of the same module has this name, and precedes it.
     fn is_twice(&self, index: usize, it: &Declaration<'a>) -> bool {
         let scope = self.names.scope_of(index);
         for (other, declared) in self.declared.iter().enumerate() {
@@ -312,7 +312,7 @@ impl<'a, 'b> Builder<'a, 'b> {
         place
     }
 
-    /// Makes the types that are owed, and those that these owe.
+    /// Makes the types that are still to be made, and those that these need.
     pub fn make_owed(&mut self) {
         for next in 0..usize::MAX {
             let Some(made) = self.instances.get(next) else {
@@ -352,7 +352,7 @@ impl<'a, 'b> Builder<'a, 'b> {
         self.whole(words, DEEPEST)
     }
 
-    /// Refuses a name that isn't declared; one that is asked for with the nearest, and with all that there are.
+    /// Refuses a name that isn't declared; one that is requested with the nearest, and with all that there are.
     fn refuse_unknown(&mut self, word: &str, why: &str) -> usize {
         self.refuse(word, why);
         if self.here == self.asked {

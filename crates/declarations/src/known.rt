@@ -29,14 +29,14 @@ const PRIMITIVE: &[&str] = &[
 /// How a known type holds others.
 #[derive(Clone, Copy, PartialEq, Eq, Drop)]
 pub enum KnownForm {
-    /// What stands in it is sent as it is.
+    /// What is in it is sent as it is.
     Inner,
     Option,
-    /// A list; with a length behind the type one of at most so many.
+    /// A list; with a length after the type one of at most so many.
     List,
     Set,
     ListUpTo,
-    /// The same, where a kind stands between the type and the length.
+    /// The same, if a kind is between the type and the length.
     Heap,
     Outcome,
     Map,
@@ -193,7 +193,7 @@ pub fn sent_as(word: &str) -> Option<&'static str> {
     None
 }
 
-/// An integer type that may stand as its bytes, by its word.
+/// An integer type that may be sent as its bytes, by its word.
 pub fn integer_type(word: &str) -> Option<IntegerType>
     ensures { IfSome result (λ of. IsIntegerWord of word.now) }
 {
@@ -234,7 +234,7 @@ pub fn list_node(is_byte: bool, element: usize) -> Node {
     Node::List(element)
 }
 
-/// The integer type of a node that spells one as a varint.
+/// The integer type of a node that writes one as a varint.
 pub fn varint_type(node: Option<&Node>) -> Option<IntegerType> {
     Some(match node? {
         Node::U16 => IntegerType::U16,

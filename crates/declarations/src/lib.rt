@@ -1,5 +1,8 @@
-//! Schemas from declarations of Rust: [`read_type`] makes of the words of a type, by the structs and enums of files, a table of
-//! [`schema_table::Node`]s, with the names of fields and variants beside it; [`read_schema`] one table of all types of a text.
+//! Schemas from declarations of Rust.
+//!
+//! [`read_type`] makes the table of one type, given by its words, from the structs and enums of files:
+//! [`schema_table::Node`]s with the names of fields and variants beside them. [`check_sources`] tries each declared
+//! type. [`read_schema`] makes one table of all types of a text.
 #![tactic(auto)]
 
 mod builder;

@@ -25,7 +25,7 @@ fn digit_of(character: char, radix: u64) -> Option<u64> {
     Some(u64::from(digit?))
 }
 
-/// A number by its digits, as Rust writes it, and the type that stands behind them, which may be left out.
+/// A number by its digits, as Rust writes it, and the type that follows them, which may be left out.
 pub fn literal(word: &str) -> Option<(u64, &str)> {
     let (digits, radix) = digits_of(word);
     let mut number: u64 = 0;

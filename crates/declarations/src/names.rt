@@ -44,10 +44,10 @@ struct Item<'a> {
 enum Kind {
     File,
     Module,
-    /// A module with a file of its own, where it is named, and one whose file has another name.
+    /// A module with a file of its own, at its name, and one whose file has another name.
     Outline,
     Misnamed,
-    /// The body of a function, which sees what stands round it.
+    /// The body of a function, which sees what surrounds it.
     Body,
     /// What belongs to a type or a trait: no name of it is seen.
     Impl,
@@ -76,7 +76,7 @@ struct Import<'a> {
     is_conditional: bool,
 }
 
-/// Where a declaration stands, and how many declarations stand where it was found.
+/// Where a declaration is, and how many declarations are where it was found.
 #[derive(Clone, Copy, Drop)]
 struct Stand {
     scope: usize,
@@ -91,7 +91,7 @@ struct Before {
     has_path: bool,
 }
 
-/// The names of files. Where memory runs out for one, [`failed`](Scopes::failed) says so.
+/// The names of files. If memory runs out for one, [`failed`](Scopes::failed) says so.
 #[derive(Drop)]
 pub struct Scopes<'a> {
     alloc: Global,
@@ -144,7 +144,7 @@ fn module_of_file(file: &str) -> &str {
     stem
 }
 
-/// Whether two names are one, where a crate's has `_` for the `-` of its folder.
+/// Whether two names are one, if a crate's has `_` for the `-` of its folder.
 fn is_same_name(name: &str, other: &str) -> bool {
     if name.len() != other.len() {
         return false;
@@ -291,7 +291,7 @@ impl<'a> Scopes<'a> {
         }
     }
 
-    /// Notes which item a marked declaration is, and where it stands.
+    /// Notes which item a marked declaration is, and where it is.
     fn mark(&mut self, index: usize, it: &Declaration<'a>) {
         let mut stand = Stand { scope: 0, count: 0 };
         for place in 0..self.items.len() {
@@ -322,7 +322,7 @@ impl<'a> Scopes<'a> {
         }
     }
 
-    /// Adds a scope for words that stand in no file, which sees what the files declare.
+    /// Adds a scope for words that are in no file, which sees what the files declare.
     pub fn add_outside(&mut self) -> usize {
         let file = self.files.len();
         let place = self.scopes.len();
@@ -334,7 +334,7 @@ impl<'a> Scopes<'a> {
         self.named.contains_key(name)
     }
 
-    /// Whether a name stands in a table of endpoints or topics.
+    /// Whether a name is in a table of endpoints or topics.
     pub fn is_endpoint(&self, name: &str) -> bool {
         is_among(name, &self.endpoints)
     }

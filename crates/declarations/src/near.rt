@@ -4,7 +4,7 @@ ghost use Rattle.declaration_parser.specs.Silent.{SaysNothing};
 use declaration_parser::declaration::Declaration;
 use declaration_parser::faults::Faults;
 
-/// How many letters two words have in common at their fronts, great or small.
+/// How many letters two words have in common at their starts, ignoring case.
 fn common_front(word: &str, other: &str) -> usize {
     let mut count: usize = 0;
     for (first, second) in word.chars().zip(other.chars()) {

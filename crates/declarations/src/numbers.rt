@@ -21,7 +21,7 @@ pub struct Number {
     pub most: u64,
 }
 
-/// What stands between two numbers.
+/// What is between two numbers.
 #[derive(Clone, Copy, PartialEq, Eq, Drop)]
 pub enum Operator {
     Left,
@@ -43,7 +43,7 @@ pub fn greatest(word: &str) -> Option<u64> {
     None
 }
 
-/// What a type of numbers has under this name, where that is the same on all devices.
+/// What a type of numbers has under this name, if that is the same on all devices.
 pub fn of_type(word: &str, name: &str) -> Option<Number> {
     for (known, most, bits) in OF_NUMBERS {
         if *known == word && *bits > 0 {
@@ -95,7 +95,7 @@ impl Number {
 }
 
 impl Operator {
-    /// The operator of this level at the front of words, and the words behind it: shifts have 3, sums 2, products 1.
+    /// The operator of this level at the start of words, and the words after it: shifts have 3, sums 2, products 1.
     pub fn at(words: &[Token], level: u32) -> Option<(Operator, &[Token])> {
         let [first, rest @ ..] = words else {
             return None;

@@ -4,11 +4,11 @@ use declaration_parser::attributes::first_word;
 use declaration_parser::parser::plain_name;
 use declaration_parser::tokens::{Token, first_letter};
 
-/// A path: the names before the last, the last, and the words behind it.
+/// A path: the names before the last, the last, and the words after it.
 #[derive(Clone, Copy, Drop)]
 pub struct PathAt<'a> {
     pub path: Path<'a>,
-    /// Empty where none stands there.
+    /// Empty if there is none.
     pub last: &'a str,
     pub rest: &'a [Token],
 }
@@ -21,7 +21,7 @@ fn is_name(word: &str) -> bool {
     }
 }
 
-/// What stands behind `::`, if words begin with it.
+/// What follows `::`, if words begin with it.
 fn behind_colons(words: &[Token]) -> Option<&[Token]> {
     match words {
         [first, second, rest @ ..] if first.text.as_str() == ":" && second.text.as_str() == ":" =>
@@ -30,7 +30,7 @@ fn behind_colons(words: &[Token]) -> Option<&[Token]> {
     }
 }
 
-/// The path at the front of words.
+/// The path at the start of words.
 pub fn path_at(words: &[Token]) -> PathAt<'_> {
     let mut path = Path::new();
     let mut last = "";
@@ -54,7 +54,7 @@ pub fn path_at(words: &[Token]) -> PathAt<'_> {
     PathAt { path, last, rest }
 }
 
-/// The words behind the first.
+/// The words after the first.
 fn behind_first(words: &[Token]) -> &[Token] {
     match words {
         [_, rest @ ..] => rest,

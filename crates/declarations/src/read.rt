@@ -10,15 +10,15 @@ use declaration_parser::reading::declarations;
 use declaration_parser::tokens::{Read, Token, tokens_of};
 use std::alloc::{AllocError, Global};
 
-/// What is said where no file is named.
+/// What is said if no file is named.
 const NO_FILE: &str = "no file of declarations is named\n";
 
 /// A file of declarations.
 #[derive(Drop)]
 pub struct Source {
-    /// What it is called where something in it is wrong; empty where it has no name.
+    /// The name that errors begin with; empty if it has none.
     pub file: String,
-    /// What stands in it.
+    /// Its text.
     pub text: String,
 }
 
@@ -37,13 +37,14 @@ impl From<AllocError> for Error {
     }
 }
 
-/// A declared type, and what came of it.
+/// A declared type, and whether it can be read.
 #[derive(Drop)]
 pub struct CheckedType {
     /// Its name.
     pub name: String,
     /// The line of its declaration, counted from 1.
     pub line: usize,
+    /// Its table, or why it can't be read.
     pub outcome: Outcome,
 }
 
@@ -123,12 +124,15 @@ fn read_all(alloc: Global, files: &[Read]) -> Result<Schema, Error>
     table_of(alloc, &declared, &scopes, asked)
 }
 
-/// Reads declarations, and makes one table of those that are marked: by a line `// message` before one, or by the names
-/// `Serialize` or `Deserialize` among its derives.
+/// Returns one table of the marked declarations of a text: those after a line `// message`, or with `Serialize` or
+/// `Deserialize` among their derives.
 ///
-/// A type may hold itself, and others that are declared before or behind it. What can't be taken is said in lines, each with
-/// the number of the line in `text` where it stands: all that the declarations themselves have, or else all that the types of
-/// fields have.
+/// A type may hold itself, and others that are declared before or after it.
+///
+/// # Errors
+/// - `Wrong`: a line for each thing that can't be read, with its line in `text`: all that is wrong with the
+///   declarations themselves, or else with the types of fields.
+/// - `OutOfMemory`.
 pub fn read_schema(alloc: Global, text: &str) -> Result<Schema, Error>
     ensures named { IfOk result (λ s. length s.names.items ≡ length s.nodes.items) }
     ensures declared { IfOk result (λ s. length s.types.items ≤ length s.nodes.items) }
@@ -147,7 +151,7 @@ fn tokens_in(alloc: Global, sources: &[Source]) -> Result<Vec<Read>, AllocError>
     Ok(files)
 }
 
-/// The tokens of each file, and behind them those of words.
+/// The tokens of each file, and after them those of words.
 fn tokens_with(alloc: Global, sources: &[Source], words: &str) -> Result<Vec<Read>, AllocError> {
     let mut files = tokens_in(alloc, sources)?;
     let read = tokens_of(alloc, "", words)?;
@@ -155,7 +159,10 @@ fn tokens_with(alloc: Global, sources: &[Source], words: &str) -> Result<Vec<Rea
     Ok(files)
 }
 
-/// As [`read_schema`], of all that these files have, whose names stand before the lines of what is wrong.
+/// Returns what [`read_schema`] does, of the declarations of all these files.
+///
+/// # Errors
+/// As [`read_schema`]; each line begins with the file's name, if it has one.
 pub fn read_sources(alloc: Global, sources: &[Source]) -> Result<Schema, Error>
     ensures named { IfOk result (λ s. length s.names.items ≡ length s.nodes.items) }
     ensures declared { IfOk result (λ s. length s.types.items ≤ length s.nodes.items) }
@@ -190,12 +197,15 @@ fn table_asked<'a>(
     Ok((schema, place))
 }
 
-/// Returns the table of a type, and its place there, by its words: what may stand as the type of a field, as `Reading`,
-/// `Framed<Accel>`, `[Rgb8; 24]`, `Result<(), Error>`, `v1::Config`.
+/// Returns the table of a type, given by its words, and its place there.
+///
+/// The words are what can be the type of a field, such as `Reading`, `Framed<Accel>`, `[Rgb8; 24]`, `Result<(),
+/// Error>`, `v1::Config`. Only what they reach has to be readable.
 ///
 /// # Errors
-/// `Wrong` if the words are no type that can be read; only what they reach has to be. Of a name that isn't there the nearest is
-/// said, and which there are.
+/// - `Wrong`: the words are no type that can be read. If a name isn't there, the error has the nearest one, and all
+///   that there are.
+/// - `OutOfMemory`.
 pub fn read_type(alloc: Global, sources: &[Source], words: &str) -> Result<(Schema, usize), Error>
     ensures named { IfOk result (λ r. length r.0.names.items ≡ length r.0.nodes.items) }
     ensures within { IfOk result (λ r. r.1 < length r.0.nodes.items) }
@@ -236,11 +246,12 @@ fn outcome_of<'a>(
     }
 }
 
-/// Returns each declared type without parameters, with its table or why it can't be read; and what is wrong with marks and texts of
-/// the files, a line each: nothing is marked by these.
+/// Returns each declared type without parameters, with its table or why it can't be read; and what is wrong with
+/// marks and texts of the files, a line each.
 ///
 /// # Errors
-/// `Wrong` if nothing is declared.
+/// - `Wrong`: nothing is declared.
+/// - `OutOfMemory`.
 pub fn check_sources(
     alloc: Global,
     sources: &[Source],

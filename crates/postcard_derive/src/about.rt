@@ -2,7 +2,7 @@
 use crate::USAGE;
 use help::About;
 
-/// What it answers to `--help` and `--version`.
+/// What it returns to `--help` and `--version`.
 pub const ABOUT: About = About {
     name: "postcard_derive",
     text: "writes how message types are sent and read

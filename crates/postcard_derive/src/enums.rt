@@ -5,7 +5,7 @@ use crate::text::Text;
 use declaration_parser::declaration::{Declaration, Fields, Form, VariantOf};
 use declaration_parser::tokens::is_among;
 
-/// Where the shape of a variant stands: behind so many fours, and behind so many single ones.
+/// The position of a variant's shape: after so many fours, and after so many single ones.
 #[derive(Clone, Copy, Drop)]
 struct Place {
     fours: usize,
@@ -76,7 +76,7 @@ fn is_of_shapes(name: &str) -> bool {
     )
 }
 
-/// How the shape of these variants begins, and how many it holds before its rest: none where the last stands alone.
+/// How the shape of these variants begins, and how many it holds before its rest: none if the last stands alone.
 fn first_of(variants: &[VariantOf]) -> (&'static str, usize) {
     match place_of(0, variants.len()).kind {
         Kind::Last => ("Last<", 0),
@@ -206,8 +206,8 @@ impl Text {
         self.closed(opened);
     }
 
-    /// Ends a line with a shape where it fits, and else with how it begins, behind so many that are open. Says how many variants
-    /// stand before the rest of one that is broken.
+    /// Ends a line with a shape if it fits, and else with how it begins, after so many that are open. Says how many variants
+    /// precede the rest of one that is broken.
     fn broken(&mut self, opened: usize, variants: &[VariantOf]) -> usize {
         let (open, count) = first_of(variants);
         let after = if opened == 0 { ";" } else { "," };
@@ -283,7 +283,7 @@ impl Text {
         self.put("),\n");
     }
 
-    /// As [`arm_written`](Text::arm_written), behind the pattern of a variant with fields.
+    /// As [`arm_written`](Text::arm_written), after the pattern of a variant with fields.
     fn payload_written(&mut self, index: usize, variant: &VariantOf) {
         self.put(" => serializer.serialize_newtype_variant(");
         let held = spelled(&variant.fields, Spelling::Lent);
@@ -298,7 +298,7 @@ impl Text {
         }
     }
 
-    /// What stands in the parentheses of such a call, over lines.
+    /// What is in the parentheses of such a call, over lines.
     fn long_payload(&mut self, index: usize, lent: &str, held: Parts) {
         self.put("\n");
         self.begin(16, "");
@@ -328,8 +328,8 @@ impl Text {
         self.literal(indent, &variant.fields, ",");
     }
 
-    /// Begins the value of an arm, and says how far it is indented: in a line of its own where what stands before its parts
-    /// doesn't fit behind the pattern.
+    /// Begins the value of an arm, and says how far it is indented: in a line of its own if what precedes its parts doesn't fit
+    /// after the pattern.
     fn value_begun(&mut self, indent: usize, name: &str, variant: &VariantOf) -> usize {
         let opening: usize = match variant.fields.form {
             Form::Named => 5,

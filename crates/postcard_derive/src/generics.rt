@@ -6,7 +6,7 @@ use declaration_parser::attributes::{first_word, group};
 use declaration_parser::declaration::Declaration;
 use declaration_parser::tokens::{Token, closes, first_letter, is_among, is_lifetime, opens};
 
-/// How parameters are spelled.
+/// How parameters are written.
 #[derive(Clone, Copy, Drop)]
 pub enum ParameterStyle<'a> {
     /// By their names alone.
@@ -17,7 +17,7 @@ pub enum ParameterStyle<'a> {
     Bounded(&'a str),
 }
 
-/// What stands behind the name of what these words declare.
+/// What follows the name of what these words declare.
 fn behind_name(words: &[Token]) -> &[Token] {
     let mut rest = words;
     for _ in 0..words.len() {
@@ -35,7 +35,7 @@ fn behind_name(words: &[Token]) -> &[Token] {
     }
 }
 
-/// Within how many marks that are open the words behind this one stand, of which another stands before.
+/// Within how many marks that are open the words after this one are, which follow another.
 fn depth_behind(word: &str, before: &str, depth: usize) -> usize {
     if word == "<" || opens(word) {
         depth.saturating_add(1)
@@ -46,7 +46,7 @@ fn depth_behind(word: &str, before: &str, depth: usize) -> usize {
     }
 }
 
-/// What stands before the first of these marks that nothing encloses, and what begins with it.
+/// What precedes the first of these marks that nothing encloses, and what begins with it.
 fn up_to<'a>(tokens: &'a [Token], marks: &[&str]) -> (&'a [Token], &'a [Token]) {
     let mut depth: usize = 0;
     let mut before = "";
@@ -70,7 +70,7 @@ fn behind_first(tokens: &[Token]) -> &[Token] {
     }
 }
 
-/// The parameters of a declaration, with commas between them, and what stands behind them.
+/// The parameters of a declaration, with commas between them, and what follows them.
 fn parameters_of<'a>(it: &Declaration<'a>) -> (&'a [Token], &'a [Token]) {
     let rest = behind_name(it.words);
     if first_word(rest) != "<" {
@@ -80,7 +80,7 @@ fn parameters_of<'a>(it: &Declaration<'a>) -> (&'a [Token], &'a [Token]) {
     (inside, behind_first(behind))
 }
 
-/// The bounds behind `where`, with commas between them.
+/// The bounds after `where`, with commas between them.
 pub fn bounds_of<'a>(it: &Declaration<'a>) -> &'a [Token] {
     let (_, behind) = parameters_of(it);
     let rest = match group(behind) {
@@ -94,7 +94,7 @@ pub fn bounds_of<'a>(it: &Declaration<'a>) -> &'a [Token] {
     bounds
 }
 
-/// All words of bounds: those behind parameters, and those behind `where`.
+/// All words of bounds: those after parameters, and those after `where`.
 pub fn bounding<'a>(it: &Declaration<'a>) -> [&'a [Token]; 2] {
     let (parameters, _) = parameters_of(it);
     [parameters, bounds_of(it)]
@@ -108,7 +108,7 @@ fn is_wordy(word: &str) -> bool {
     }
 }
 
-/// Whether a blank stands before the word at a place.
+/// Whether a blank precedes the word at a place.
 fn is_blank_before(words: &[Token], place: usize) -> bool {
     if place == 0 {
         return false;
@@ -192,7 +192,7 @@ impl Text {
         }
     }
 
-    /// Appends what opens an implementation, behind the bounds of its declaration.
+    /// Appends what opens an implementation, after the bounds of its declaration.
     pub fn put_where(&mut self, it: &Declaration) {
         let mut rest = bounds_of(it);
         if rest.is_empty() {

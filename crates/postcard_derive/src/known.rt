@@ -1,4 +1,4 @@
-//! Types that no message can hold, and what stands in their place.
+//! Types that no message can hold, and what to use instead.
 use declaration_parser::tokens::is_among;
 
 /// The types of the language that a message can hold.
@@ -22,7 +22,7 @@ pub const NO_TYPE: &str =
 pub const AT_THE_ROOT: &str =
     "` stands behind `::`, with which no path begins in Rattle: leave that out";
 
-/// What is said of a type that stands behind another.
+/// What is said of a type that follows another.
 pub const BEHIND_A_TYPE: &str = "` leads to a type of its own: write that type itself";
 
 /// What is said of a reference without a lifetime.
@@ -115,7 +115,7 @@ const NO_MESSAGES: &[(&str, &str)] = &[
     ),
 ];
 
-/// Why a type's name can't stand in a message, if it can't, unless the name is the crate's own.
+/// Why a type's name can't be in a message, if it can't, unless the name is the crate's own.
 pub fn no_message(word: &str) -> Option<&'static str> {
     for (name, why) in NO_MESSAGES {
         if *name == word {
@@ -128,7 +128,7 @@ pub fn no_message(word: &str) -> Option<&'static str> {
     None
 }
 
-/// Why a type of `heapless` can't stand in a message.
+/// Why a type of `heapless` can't be in a message.
 pub fn of_heapless(word: &str) -> Option<&'static str> {
     match word {
         "String" => Some(ARRAY_STRING),
@@ -137,7 +137,7 @@ pub fn of_heapless(word: &str) -> Option<&'static str> {
     }
 }
 
-/// Why a word can't stand in any type of a message, if it can't.
+/// Why a word can't be in any type of a message, if it can't.
 pub fn no_word(word: &str) -> Option<&'static str> {
     match word {
         "f32" => Some("` is no message: take `LE<u32>` of its bits"),

@@ -1,12 +1,13 @@
-//! Writes how message types are written and read: reads declarations of Rust or Rattle on standard input, and writes the
-//! implementations for those that are marked, for a child module.
+//! Reads declarations of Rust or Rattle on standard input, and writes the implementations of those that are marked, for a
+//! child module.
 //!
 //! `postcard_derive CRATE MODULE < src/MODULE.rt > src/MODULE/wire.rt`; at the root of a crate without MODULE. With
-//! `--schemas` behind, those that are read have schemas too, for a crate that stands on `schemas`. A declaration
-//! is marked by a comment `// message` in a line before it, with `: Serialize` behind where it is only written and
-//! `: Deserialize` where it is only read; or by these names among its derives. What is written is proved with the crate in
-//! which it stands. One thing rests on this program: that fields of one type stand in the order of the declaration, which
-//! the ghost line says.
+//! `--schemas` after it, those that are read have schemas too, for a crate that depends on `schemas`.
+//!
+//! A declaration is marked by a comment `// message` in a line before it, followed by `: Serialize` if it is only written
+//! and by `: Deserialize` if it is only read; or by these names among its derives. What is written is proved with the crate
+//! that it is in. One thing depends on this program: that fields of one type are in the order of the declaration, which the
+//! ghost line says.
 #![tactic(auto)]
 
 mod about;
@@ -34,7 +35,7 @@ use std::{env, io};
 
 const USAGE: &str = "usage: postcard_derive CRATE [MODULE].. [--schemas]";
 
-/// What the words behind the program ask for.
+/// What the words after the program ask for.
 #[derive(Drop)]
 struct Asked {
     /// The path of the definitions of a module: the crate, and the modules in it.
@@ -43,7 +44,7 @@ struct Asked {
     with_schemas: bool,
 }
 
-/// What is asked for, where the words are right.
+/// What is asked for, if the words are right.
 fn asked_by(rt: &HostRuntime, words: &[String]) -> io::Result<Option<Asked>> {
     let mut path = Text::new(rt.alloc());
     let mut with_schemas = false;

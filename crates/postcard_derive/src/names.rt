@@ -33,7 +33,7 @@ enum User {
     Enum,
     /// An enum of more than four variants.
     OfFours,
-    /// An enum of a variant that stands neither in a four nor last.
+    /// An enum of a variant that is neither in a four nor last.
     OfOnes,
     /// One with a field that is sent as its bytes.
     OfFixed,
@@ -97,7 +97,7 @@ struct Names<'a> {
 /// Traits that the implementations bring in.
 const OF_WRITING: &[&str] = &["Flavor", "Readable", "Serialize", "Shaped"];
 
-/// Names of the language that stand in types, unless the file gives them to others.
+/// Names of the language that are in types, unless the file gives them to others.
 const OF_THE_LANGUAGE: &[&str] = &["Box", "Option", "Result", "String", "Vec"];
 
 /// Whether the word at a place of a type must be brought in: a type's name that stands alone, or the module of the file's own

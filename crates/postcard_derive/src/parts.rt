@@ -1,26 +1,26 @@
-//! Fields in a list, each spelled for where it stands.
+//! Fields in a list, each written as its position needs.
 use crate::scope::{is_led, is_of_the_language, leads, word_at};
 use crate::text::Text;
 use declaration_parser::declaration::{Field, Fields, Form, Layout};
 use declaration_parser::tokens::{Token, is_among, is_lifetime};
 
-/// How many parts a tuple has at most; more stand in rows.
+/// How many parts a tuple has at most; more are in rows.
 pub const ROW: usize = 6;
 
-/// How fields are spelled. Those that are sent as their bytes stand in what sends them so, where they are parts of a shape.
+/// How fields are written. Those that are sent as their bytes are in what sends them so, if they are parts of a shape.
 #[derive(Clone, Copy, Drop)]
 pub enum Spelling<'a> {
     /// By their types in the shape.
     Type,
-    /// As members of the value that is written, each behind this.
+    /// As members of the value that is written, each after this.
     Member(&'a str),
     /// As parts of a value's shape, in ghost text.
     Seen,
     /// By the names to which they are bound: their own, or by their places.
     Bound,
-    /// By the same, where a shape is taken apart.
+    /// By the same, if a shape is taken apart.
     Taken,
-    /// By the same, where a variant is written, of which they are lent.
+    /// By the same, if a variant is written, of which they are borrowed.
     Lent,
     /// As `Taken`, by the names to which rows are bound. One without a type stands for a row of several.
     Row,
@@ -30,7 +30,7 @@ pub enum Spelling<'a> {
     Held,
 }
 
-/// Fields, and how they are spelled.
+/// Fields, and how they are written.
 #[derive(Clone, Copy, Drop)]
 pub struct Parts<'a> {
     pub fields: &'a [Field<'a>],
@@ -47,7 +47,7 @@ impl<'a> Parts<'a> {
     }
 }
 
-/// The type that sends a field as its bytes, where an attribute says that it is sent so.
+/// The type that sends a field as its bytes, if an attribute says that it is sent so.
 fn fixed_by(field: &Field) -> Option<&'static str> {
     match field.layout {
         Layout::Little => Some("fixint::LE"),
@@ -74,12 +74,12 @@ pub fn is_one_alone_fixed(parts: Parts) -> bool {
     }
 }
 
-/// Whether a blank stands between a word of a type and the next, where that doesn't close anything.
+/// Whether a blank is between a word of a type and the next, if that doesn't close anything.
 fn is_parted(word: &str) -> bool {
     is_among(word, &[",", ";"]) || is_lifetime(word)
 }
 
-/// Whether what stands behind the comma at this place closes several parts: one part in parentheses keeps its comma.
+/// Whether what follows the comma at this place closes several parts: one part in parentheses keeps its comma.
 fn closes_behind(words: &[Token], place: usize) -> bool {
     match words.get(place.saturating_add(1)) {
         Some(next) if next.text.as_str() == ")" => has_comma_before(words, place),
@@ -88,7 +88,7 @@ fn closes_behind(words: &[Token], place: usize) -> bool {
     }
 }
 
-/// Whether a comma stands before this place in the same parentheses.
+/// Whether a comma precedes this place in the same parentheses.
 fn has_comma_before(words: &[Token], place: usize) -> bool {
     let mut depth: usize = 0;
     for token in words.get(..place).unwrap_or(&[]).iter().rev() {
@@ -103,7 +103,7 @@ fn has_comma_before(words: &[Token], place: usize) -> bool {
     false
 }
 
-/// A word of a type or a bound as it is written in the module below: another where it begins a path.
+/// A word of a type or a bound as it is written in the module below: another if it begins a path.
 pub fn below(words: &[Token], place: usize) -> &str {
     let word = word_at(words, place);
     if !leads(words, place) || is_led(words, place) {
@@ -118,8 +118,8 @@ pub fn below(words: &[Token], place: usize) -> &str {
 }
 
 impl Text {
-    /// Appends a type as it is named in the module below, without a comma that stands before a mark which closes it, as where
-    /// a type is broken over lines.
+    /// Appends a type as it is named in the module below, without a comma before a closing mark, such as that of a
+    /// type over several lines.
     pub fn put_type(&mut self, words: &[Token]) {
         let mut parted = false;
         for (place, token) in words.iter().enumerate() {
@@ -139,7 +139,7 @@ impl Text {
         self.put_number(place);
     }
 
-    /// Appends a field as a member, behind this.
+    /// Appends a field as a member, after this.
     fn put_member(&mut self, before: &str, field: &Field) {
         if field.name.is_empty() {
             return self.put_placed(before, field.place);
@@ -222,7 +222,7 @@ impl Text {
         self.put(")");
     }
 
-    /// Appends a tuple: one part stands for itself, and more than six stand in rows.
+    /// Appends a tuple: one part stands for itself, and more than six are in rows.
     pub fn put_tuple(&mut self, parts: Parts) {
         if parts.fields.len() <= ROW {
             return self.put_row(parts);
@@ -236,7 +236,7 @@ impl Text {
         self.put(")");
     }
 
-    /// Appends the fields that are behind the name of a struct or a variant, by the names to which they are bound.
+    /// Appends the fields that are after the name of a struct or a variant, by the names to which they are bound.
     pub fn put_fields(&mut self, fields: &Fields) {
         let parts = spelled(fields, Spelling::Bound);
         let (open, close) = match fields.form {
@@ -251,7 +251,7 @@ impl Text {
     }
 }
 
-/// The fields, spelled in this way.
+/// The fields, written in this way.
 pub fn spelled<'a>(fields: &'a Fields<'_>, spelling: Spelling<'a>) -> Parts<'a> {
     Parts {
         fields: &fields.items,

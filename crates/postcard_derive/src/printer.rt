@@ -65,7 +65,7 @@ impl%Serialize% Serialize for %Name%%Where%
 ";
 
 impl Text {
-    /// Appends a type's name, with this behind it, and its parameters.
+    /// Appends a type's name, with this after it, and its parameters.
     pub fn put_whole_name(&mut self, it: &Declaration, suffix: &str) {
         self.put_all(&[it.name, suffix]);
         self.put_parameters(it, ParameterStyle::Named);
@@ -85,8 +85,8 @@ impl Text {
     }
 
     /// Appends a text in which a word between two `%` stands for a part of a declaration: `Name` for its name and `NameShape`
-    /// for that of its shape, both with the parameters, `NewShape` for the latter where it is declared, `Where` for what opens
-    /// an implementation, and another for the parameters with their bounds, those that are types with that one too.
+    /// for that of its shape, both with the parameters, `NewShape` for the latter if it is declared, `Where` for what opens an
+    /// implementation, and another for the parameters with their bounds, those that are types with that one too.
     pub fn fill(&mut self, it: &Declaration, text: &str) {
         let mut is_part = false;
         for piece in text.split('%') {
@@ -131,7 +131,7 @@ impl Text {
         self.end(text);
     }
 
-    /// Writes parts a line each, with a comma behind.
+    /// Writes parts a line each, with a comma after.
     fn lines(&mut self, indent: usize, parts: Parts) {
         for field in parts.fields {
             self.begin(indent, "");
@@ -151,7 +151,7 @@ impl Text {
         fits
     }
 
-    /// Writes a row of a tuple, with a comma behind.
+    /// Writes a row of a tuple, with a comma after.
     fn row(&mut self, indent: usize, parts: Parts) {
         let mut text = Text::new(self.alloc);
         text.put_row(parts);
@@ -163,7 +163,7 @@ impl Text {
         }
     }
 
-    /// Writes the parts of a tuple a line each; more than six stand in rows.
+    /// Writes the parts of a tuple a line each; more than six are in rows.
     fn parts(&mut self, indent: usize, parts: Parts) {
         if parts.fields.len() <= ROW {
             return self.lines(indent, parts);
@@ -173,8 +173,8 @@ impl Text {
         }
     }
 
-    /// Ends a line that is begun, and indented so far, with a tuple and a text behind it. A call, as `.call()`, stands in a line
-    /// of its own behind a tuple that is broken.
+    /// Ends a line that is begun, and indented so far, with a tuple and a text after it. A call, as `.call()`, is in a line of
+    /// its own after a tuple that is broken.
     pub fn tuple(&mut self, indent: usize, parts: Parts, after: &str) {
         if parts.fields.len() < 2 {
             self.put_tuple(parts);
@@ -200,8 +200,8 @@ impl Text {
         self.end(after);
     }
 
-    /// Ends a line that is begun, and indented so far, with the fields behind the name of a struct or a variant, and a text
-    /// behind them.
+    /// Ends a line that is begun, and indented so far, with the fields after the name of a struct or a variant, and a text
+    /// after them.
     pub fn literal(&mut self, indent: usize, fields: &Fields, after: &str) {
         if fields.items.is_empty() {
             self.put_fields(fields);
@@ -234,7 +234,7 @@ impl Text {
         self.end(after);
     }
 
-    /// Writes parts with a comma behind each, as many a line as fit.
+    /// Writes parts with a comma after each, as many a line as fit.
     fn filled(&mut self, indent: usize, parts: Parts) {
         self.begin(indent, "");
         for field in parts.fields {
@@ -278,7 +278,7 @@ impl Text {
         }
     }
 
-    /// Writes names with a comma behind each, as many a line as fit.
+    /// Writes names with a comma after each, as many a line as fit.
     fn wrapped(&mut self, names: &[&str]) {
         for name in names {
             let before = self.before_name(name.len());
@@ -288,7 +288,7 @@ impl Text {
         self.put("\n");
     }
 
-    /// What stands before a name that is so long: a blank, or what begins a line.
+    /// What precedes a name that is so long: a blank, or what begins a line.
     fn before_name(&self, length: usize) -> &'static str {
         let column = self.column();
         if column == 0 {
@@ -308,7 +308,7 @@ impl Text {
         self.put(LEMMAS);
     }
 
-    /// Writes what stands before the implementations.
+    /// Writes what precedes the implementations.
     fn top(&mut self, all: &[Declaration], with_schemas: bool) {
         self.put(HEAD);
         let used = uses_of(all, with_schemas);
@@ -367,7 +367,7 @@ fn uses_of(all: &[Declaration], with_schemas: bool) -> Uses {
 }
 
 /// Writes the implementations of these declarations, with the schemas of those that are read or without. `path` is that of the
-/// definitions of the module in which they stand.
+/// definitions of the module that they are in.
 pub fn write_all(
     alloc: Global,
     path: &str,

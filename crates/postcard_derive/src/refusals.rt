@@ -53,7 +53,7 @@ fn layout_refusal(field: &Field) -> Option<&'static str> {
     }
 }
 
-/// Why a reference can't stand where it does, if it can't.
+/// Why a reference can't be where it is, if it can't.
 fn reference_refusal(it: &Declaration, words: &[Token], place: usize) -> Option<&'static str> {
     if !is_lifetime(word_at(words, place.saturating_add(1))) {
         return Some(NO_LIFETIME);
@@ -90,7 +90,7 @@ fn name_refusal(it: &Declaration, word: &str) -> Option<&'static str> {
     }
 }
 
-/// Why a name in a path can't stand there, if it can't.
+/// Why a name in a path can't be there, if it can't.
 fn path_refusal(it: &Declaration, words: &[Token], place: usize) -> Option<&'static str> {
     let word = word_at(words, place);
     let head = head_of(words, place);
@@ -115,7 +115,7 @@ fn path_refusal(it: &Declaration, words: &[Token], place: usize) -> Option<&'sta
     None
 }
 
-/// Why the word at a place of a type can't stand there, if it can't.
+/// Why the word at a place of a type can't be there, if it can't.
 fn refusal(it: &Declaration, words: &[Token], place: usize) -> Option<&'static str> {
     let word = word_at(words, place);
     if let Some(why) = no_word(word) {
@@ -156,7 +156,7 @@ impl<'a> Judge<'a> {
         self.faults.put("`: ");
     }
 
-    /// Says why a word of a field can't stand there.
+    /// Says why a word of a field can't be there.
     fn refuse(&mut self, it: &Declaration, variant: &str, field: &Field, word: &Token, why: &str) {
         self.put_place(it, variant, field, word);
         self.faults.put_all(&["`", word.text.as_str(), why, "\n"]);
@@ -201,7 +201,7 @@ impl<'a> Judge<'a> {
     }
 }
 
-/// What can't be implemented of these declarations, a line each; nothing where all can.
+/// What can't be implemented of these declarations, a line each; nothing if all can.
 pub fn refused(alloc: Global, all: &[Declaration]) -> Result<String, AllocError> {
     let mut judge = Judge {
         faults: Faults::new(alloc),

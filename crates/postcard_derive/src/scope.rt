@@ -1,7 +1,7 @@
 //! What the names of a file stand for, and where the names of a type lead.
 use declaration_parser::tokens::{Token, first_letter, is_among};
 
-/// What stands before a name that is declared.
+/// What precedes a name that is declared.
 const DECLARING: &[&str] = &["struct", "enum", "union", "type", "mod", "trait", "const"];
 
 /// What begins a path within the crate.
@@ -10,7 +10,7 @@ const OF_THE_CRATE: &[&str] = &["crate", "self", "super"];
 /// The libraries of the language, all of which are `std` in Rattle.
 const OF_THE_LANGUAGE: &[&str] = &["alloc", "core", "std"];
 
-/// The word at a place; nothing where there is none.
+/// The word at a place; nothing if there is none.
 pub fn word_at(words: &[Token], place: usize) -> &str {
     match words.get(place) {
         Some(token) => token.text.as_str(),
@@ -18,19 +18,19 @@ pub fn word_at(words: &[Token], place: usize) -> &str {
     }
 }
 
-/// Whether `::` stands before the word at a place.
+/// Whether `::` precedes the word at a place.
 pub fn is_led(words: &[Token], place: usize) -> bool {
     place > 1
         && word_at(words, place.saturating_sub(1)) == ":"
         && word_at(words, place.saturating_sub(2)) == ":"
 }
 
-/// Whether `::` stands behind the word at a place.
+/// Whether `::` follows the word at a place.
 pub fn leads(words: &[Token], place: usize) -> bool {
     word_at(words, place.saturating_add(1)) == ":" && word_at(words, place.saturating_add(2)) == ":"
 }
 
-/// The first word of the path in which the word at a place stands.
+/// The first word of the path that the word at a place is in.
 pub fn head_of(words: &[Token], place: usize) -> &str {
     let mut first = place;
     for _ in 0..place {

@@ -21,7 +21,7 @@ impl Text {
         self.put_tuple(spelled(fields, Spelling::Seen));
     }
 
-    /// Appends what stands between the parentheses of the function that reads a shape.
+    /// Appends what is between the parentheses of the function that reads a shape.
     fn put_argument(&mut self, it: &Declaration, fields: &Fields) {
         match fields.items.len() {
             0 => self.put("()"),
@@ -98,7 +98,7 @@ impl Text {
         self.tuple(8, parts, " = it;");
     }
 
-    /// Takes a row of a shape apart, where it has several fields.
+    /// Takes a row of a shape apart, if it has several fields.
     fn row_taken_apart(&mut self, place: usize, row: Parts) {
         if row.fields.len() > 1 {
             let mut after = Text::new(self.alloc);

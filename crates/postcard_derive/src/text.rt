@@ -1,4 +1,4 @@
-//! Texts that are made piece by piece.
+//! Texts that are made of pieces.
 use std::alloc::{AllocError, Global};
 use std::fmt::Write;
 

@@ -5,18 +5,17 @@ use crate::words::BY_HAND;
 use std::alloc::{AllocError, Global};
 use std::collections::BTreeMap;
 
-/// The types of files that implement one of serde's traits by hand, so that each file is gone over
-/// once for all types.
+/// The types of files that implement one of serde's traits by hand, so that each file is read once for all types.
 #[derive(Drop)]
 pub struct ByHand<'a> {
     written: BTreeMap<&'a str, ()>,
     read: BTreeMap<&'a str, ()>,
 }
 
-/// Where a word stands in the head of an `impl`.
+/// The position of a word in the head of an `impl`.
 #[derive(Drop)]
 struct ImplHead {
-    /// Within how many `<` the words behind stand.
+    /// How many `<` the words after it are within.
     depth: usize,
     is_head: bool,
     /// The traits that were named in it.
@@ -40,7 +39,7 @@ impl ImplHead {
         }
     }
 
-    /// At the front of one.
+    /// At the start of one.
     fn begin(&mut self) {
         self.is_head = true;
         self.writes = false;
@@ -48,7 +47,7 @@ impl ImplHead {
         self.depth = 0;
     }
 
-    /// Goes over a word.
+    /// Reads a word.
     fn go_over(&mut self, word: &str) {
         let is_first = self.is_head && self.depth == 0 && word == "for";
         let is_name = self.is_next && word != ":";
@@ -83,7 +82,7 @@ impl<'a> ByHand<'a> {
         }
     }
 
-    /// Adds those among these tokens. An error is left where memory runs out, and some of them are missing then.
+    /// Adds those among these tokens. An error is left if memory runs out, and some of them are missing then.
     pub fn add_all(&mut self, tokens: &'a [Token]) -> Result<(), AllocError> {
         let mut head = ImplHead::none();
         for token in tokens {

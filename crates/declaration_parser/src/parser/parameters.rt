@@ -21,7 +21,7 @@ impl<'a> Parser<'a> {
         self.skip_bounds();
     }
 
-    /// Takes what stands behind the name of a parameter.
+    /// Takes what follows the name of a parameter.
     fn skip_bounds(&mut self) {
         let mut depth: usize = 0;
         let mut before = "";

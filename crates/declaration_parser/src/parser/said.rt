@@ -10,7 +10,7 @@ use crate::words::{
     OTHER_CONDITION, REPR, UNKNOWN, WAY_OF_SERDE,
 };
 
-/// Where an attribute stands.
+/// The position of an attribute.
 #[derive(Clone, Copy, PartialEq, Eq, Drop)]
 pub(super) enum At {
     Item,
@@ -26,7 +26,7 @@ pub(super) struct Said {
     pub(super) layout: Layout,
 }
 
-/// How the bytes of a field stand that is sent in a way which `with` names.
+/// How the bytes of a field are arranged, by the way that `with` names.
 fn layout_of(way: &str) -> Option<Layout> {
     match way {
         "\"postcard::fixint::le\"" | "\"::postcard::fixint::le\"" => Some(Layout::Little),
@@ -39,7 +39,7 @@ fn layout_of(way: &str) -> Option<Layout> {
     }
 }
 
-/// These without an attribute at their front, which in an attribute is what a comment was.
+/// These without an attribute at their start, which in an attribute is what a comment was.
 fn without_comment(words: &[Token]) -> &[Token] {
     match attribute(words) {
         Some((_, behind)) => behind,
@@ -48,7 +48,7 @@ fn without_comment(words: &[Token]) -> &[Token] {
 }
 
 impl<'a> Parser<'a> {
-    /// Goes over attributes, and gathers what they say of the bytes. What is wrong is told of their lines.
+    /// Reads attributes, and gathers what they say of the bytes. What is wrong is reported by their lines.
     pub(super) fn said(&mut self, attributes: &'a [Token], at: At) -> Said {
         let line = self.line;
         let said = self.gathered(attributes, at);
@@ -77,7 +77,7 @@ impl<'a> Parser<'a> {
         said
     }
 
-    /// Goes over an attribute, which is one of these.
+    /// Reads an attribute, which is one of these.
     fn read_attribute(&mut self, words: &'a [Token], all: &'a [Token], at: At, said: &mut Said) {
         if let [word, ..] = words {
             self.line = word.line;
@@ -102,7 +102,7 @@ impl<'a> Parser<'a> {
         }
     }
 
-    /// Goes over an attribute that has no condition, or another one than the derive.
+    /// Reads an attribute that has no condition, or another one than the derive.
     fn read_plain(&mut self, words: &'a [Token], at: At, is_other: bool, said: &mut Said) {
         let name = first_word(words);
         match name {
@@ -126,7 +126,7 @@ impl<'a> Parser<'a> {
         }
     }
 
-    /// Goes over a comment that says how a field is sent, or only seems meant to.
+    /// Reads a comment that says how a field is sent, or only seems meant to.
     fn read_way(&mut self, words: &'a [Token], at: At, said: &mut Said) {
         match words {
             [_, comment] if !self.is_derived => {
@@ -154,7 +154,7 @@ impl<'a> Parser<'a> {
         }
     }
 
-    /// Goes over the words of an attribute of serde's.
+    /// Reads the words of an attribute of serde's.
     fn read_serde(&mut self, words: &'a [Token], at: At, is_other: bool, said: &mut Said) {
         let mut rest = words;
         for _ in 0..words.len() {
@@ -171,7 +171,7 @@ impl<'a> Parser<'a> {
         }
     }
 
-    /// Goes over a word of serde's that may change the bytes, with what stands behind it.
+    /// Reads a word of serde's that may change the bytes, with what follows it.
     fn read_changing(&mut self, name: &str, words: &'a [Token], at: At, said: &mut Said) {
         let value = match words {
             [_, equals, value] if equals.text.as_str() == "=" => value.text.as_str(),
@@ -203,7 +203,7 @@ impl<'a> Parser<'a> {
         self.refuse(name, UNKNOWN);
     }
 
-    /// Whether a field is left out, where it is on all sides that there are.
+    /// Whether a field is left out, on all sides that there are.
     pub(super) fn is_left_out(&mut self, said: Said) -> bool {
         let not_written = self.marks.written && said.not_written;
         let not_read = self.marks.read && said.not_read;

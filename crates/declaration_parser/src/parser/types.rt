@@ -2,17 +2,18 @@
 use super::Parser;
 use crate::tokens::{Token, is_among};
 
-/// Where a word of a type stands.
+/// The position of a word of a type.
 #[derive(Clone, Copy, Drop)]
 struct Place {
     /// Within how many marks that are open.
     depth: usize,
-    /// Within how many of them a length begins, behind `;` or `{`; 0 where none does. In a length `<` and `>` open and close nothing.
+    /// Within how many of them a length begins, after `;` or `{`; 0 if none does. In a length `<` and `>` open and close
+    /// nothing.
     length: usize,
 }
 
 impl Place {
-    /// In front of a type.
+    /// Before a type.
     fn front() -> Place {
         Place {
             depth: 0,
@@ -20,7 +21,7 @@ impl Place {
         }
     }
 
-    /// Behind a mark that opens.
+    /// After a mark that opens.
     fn inside(self) -> Place {
         Place {
             depth: self.depth.saturating_add(1),
@@ -28,7 +29,7 @@ impl Place {
         }
     }
 
-    /// Behind a mark that closes.
+    /// After a mark that closes.
     fn outside(self) -> Place {
         let depth = self.depth.saturating_sub(1);
         Place {
@@ -37,7 +38,7 @@ impl Place {
         }
     }
 
-    /// At the front of a length, unless one was begun.
+    /// At the start of a length, unless one was begun.
     fn at_length(self) -> Place {
         Place {
             length: if self.length == 0 {
@@ -49,7 +50,7 @@ impl Place {
         }
     }
 
-    /// Where the words behind this one stand; nothing where the type has ended before it.
+    /// The position of the words after this one; nothing if the type ended before it.
     fn behind(self, word: &str) -> Option<Place> {
         if self.depth == 0 && is_among(word, &[")", "]", ">", ",", ";", "}", "="]) {
             return None;

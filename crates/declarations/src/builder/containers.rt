@@ -12,7 +12,7 @@ use std::alloc::{AllocError, Global};
 const NO_LENGTH: &str =
     "a type and how many of it there may be are wanted, as in `ArrayVec<u8, 4>`";
 
-/// What stands in the angle brackets of a known type: the first word, the places of types, and a length.
+/// What is in the angle brackets of a known type: the first word, the places of types, and a length.
 #[derive(Clone, Copy, Drop)]
 struct Held<'a> {
     word: &'a str,
@@ -21,7 +21,7 @@ struct Held<'a> {
     most: Option<u64>,
 }
 
-/// The places of what a `Result` holds: its value's, and its error's behind that.
+/// The places of what a `Result` holds: its value's, and its error's after that.
 fn payloads_of(alloc: Global, value: usize, error: usize) -> Result<Vec<usize>, AllocError>
     ensures { IfOk result (λ places. places.items ≡ value ∷ error ∷ []) }
 {
@@ -40,7 +40,7 @@ fn types_of(form: KnownForm) -> usize {
     }
 }
 
-/// Whether a known type has a length behind its types.
+/// Whether a known type has a length after its types.
 fn has_length(form: KnownForm) -> bool {
     matches!(
         form,
@@ -60,7 +60,7 @@ impl<'a> Builder<'a, '_> {
         self.node_of(form, held, before)
     }
 
-    /// The place of the node of a known type, by what it holds; the nodes of that stand behind so many.
+    /// The place of the node of a known type, by what it holds; the nodes of that follow so many.
     fn node_of(&mut self, form: KnownForm, held: Held<'a>, before: usize) -> usize {
         match form {
             KnownForm::Inner => held.first,
@@ -78,7 +78,7 @@ impl<'a> Builder<'a, '_> {
         }
     }
 
-    /// A list; of at most so many, where a length stands behind its type.
+    /// A list; of at most so many, if a length follows its type.
     fn list(&mut self, held: Held<'a>) -> usize {
         match held.most {
             Some(most) => self.add(Node::ListUpTo(most, held.first), Names::Nothing),
@@ -102,7 +102,7 @@ impl<'a> Builder<'a, '_> {
         }
     }
 
-    /// Takes what stands in the angle brackets of a known type.
+    /// Takes what is in the angle brackets of a known type.
     #[cycle(types)]
     fn held(&mut self, form: KnownForm, depth: u32) -> Held<'a> {
         let mut held = Held {
@@ -128,7 +128,7 @@ impl<'a> Builder<'a, '_> {
         held
     }
 
-    /// Takes lifetimes before types, with the commas behind them.
+    /// Takes lifetimes before types, with the commas after them.
     fn lifetimes_before(&mut self) {
         for _ in 0..self.rest.len() {
             if !is_lifetime(self.peek()) {
@@ -139,7 +139,7 @@ impl<'a> Builder<'a, '_> {
         }
     }
 
-    /// Takes the length of a known type that has one, if it stands there.
+    /// Takes the length of a known type that has one, if it is there.
     fn most_in(&mut self, form: KnownForm) -> Option<u64> {
         let is_first = types_of(form) == 0 && has_length(form);
         let may_follow = has_length(form) || matches!(form, KnownForm::List | KnownForm::Heap);
@@ -147,7 +147,7 @@ impl<'a> Builder<'a, '_> {
             return None;
         }
         if form == KnownForm::Heap {
-            // what stands between says which element is first
+            // what is between says which element is first
             self.skip_one();
             self.owe(",");
         }
@@ -190,8 +190,8 @@ impl<'a> Builder<'a, '_> {
         self.add(list_node(is_byte, element), Names::Nothing)
     }
 
-    /// An integer whose bytes stand in this order. It is put at the place of the integer's node, where that is of no other
-    /// type, since it stands behind so many.
+    /// An integer whose bytes are in this order. It is put at the place of the integer's node, if that is of no other type,
+    /// since it follows so many.
     fn ordered(&mut self, form: KnownForm, held: Held<'a>, before: usize) -> usize {
         let of = match varint_type(self.nodes.get(held.first)) {
             Some(of) if !is_among(held.word, &["isize", "usize"]) => of,
@@ -212,7 +212,7 @@ impl<'a> Builder<'a, '_> {
         held.first
     }
 
-    /// Behind `[`: an array, or what is lent as a slice.
+    /// After `[`: an array, or what is borrowed as a slice.
     #[cycle(types)]
     pub(super) fn array(&mut self, depth: u32) -> usize {
         let word = self.peek();
@@ -226,7 +226,7 @@ impl<'a> Builder<'a, '_> {
         self.add(Node::Array(count, element), Names::Nothing)
     }
 
-    /// Behind `(`: a tuple, or a type in parentheses.
+    /// After `(`: a tuple, or a type in parentheses.
     #[cycle(types)]
     pub(super) fn tuple(&mut self, depth: u32) -> usize {
         let mut places = Vec::new(self.alloc);

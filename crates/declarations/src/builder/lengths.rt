@@ -88,7 +88,7 @@ impl<'a> Builder<'a, '_> {
         }
     }
 
-    /// The number that the words at the front compute by operators of so many levels.
+    /// The number that the words at the start compute by operators of so many levels.
     #[cycle(lengths)]
     fn computed(&mut self, reading: &mut Reading<'a>, levels: u32, depth: u32) -> Option<Number> {
         if levels == 0 {
@@ -106,7 +106,7 @@ impl<'a> Builder<'a, '_> {
         Some(number)
     }
 
-    /// The number at the front: of digits, by a name, or in marks; and as what it is taken.
+    /// The number at the start: of digits, by a name, or in marks; and as what it is taken.
     #[cycle(lengths)]
     fn number(&mut self, reading: &mut Reading<'a>, depth: u32) -> Option<Number> {
         self.left = self.left.checked_sub(1)?;
@@ -129,7 +129,7 @@ impl<'a> Builder<'a, '_> {
         self.taken_as(reading, number)
     }
 
-    /// Takes `as` and a type behind a number, if they stand there.
+    /// Takes `as` and a type after a number, if they are there.
     fn taken_as(&mut self, reading: &mut Reading<'a>, number: Number) -> Option<Number> {
         let mut number = number;
         for _ in 0..reading.rest.len() {
@@ -153,7 +153,7 @@ impl<'a> Builder<'a, '_> {
         greatest(word)
     }
 
-    /// The number that the digits or the path at the front say.
+    /// The number that the digits or the path at the start say.
     #[cycle(lengths)]
     fn named_number(&mut self, reading: &mut Reading<'a>, depth: u32) -> Option<Number> {
         let word = first_word(reading.rest);

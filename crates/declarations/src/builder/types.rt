@@ -11,7 +11,7 @@ use schema_table::{IntegerType, Node};
 /// How many nodes a table has at most, which parameters could make many.
 const MOST_NODES: usize = 100_000;
 
-/// What is said of a parameter for which nothing stands.
+/// What is said of a parameter for which there is nothing.
 const LEFT_OUT: &str = "` is left out, and defaults aren't followed: write it";
 
 /// What is said of a type that isn't declared.
@@ -44,7 +44,7 @@ fn is_same(first: &[Bound<'_>], second: &[Bound<'_>]) -> bool {
 }
 
 impl<'a> Builder<'a, '_> {
-    /// The place of the type at the front of the words, which are taken. It may nest in so many words.
+    /// The place of the type at the start of the words, which are taken. It may nest in so many words.
     #[cycle(types)]
     pub(super) fn place(&mut self, depth: u32) -> usize {
         if self.is_wrong {
@@ -79,7 +79,7 @@ impl<'a> Builder<'a, '_> {
         }
     }
 
-    /// Behind `&`: takes a lifetime and `mut`, if they stand there.
+    /// After `&`: takes a lifetime and `mut`, if they are there.
     fn lent(&mut self) {
         if is_lifetime(self.peek()) {
             self.step();
@@ -219,7 +219,7 @@ impl<'a> Builder<'a, '_> {
         None
     }
 
-    /// Behind a type without parameters: takes its lifetimes, if it has any.
+    /// After a type without parameters: takes its lifetimes, if it has any.
     fn lifetimes(&mut self) {
         if !self.take("<") {
             return;
@@ -251,7 +251,7 @@ impl<'a> Builder<'a, '_> {
         place
     }
 
-    /// Refuses a type behind which nothing stands for its parameters.
+    /// Refuses a type after which nothing stands for its parameters.
     fn refuse_left_out(&mut self, parameters: &[&str]) {
         for name in parameters {
             if !is_lifetime(name) {
@@ -261,7 +261,7 @@ impl<'a> Builder<'a, '_> {
         }
     }
 
-    /// What stands in angle brackets for the parameters of a type.
+    /// What is in angle brackets for the parameters of a type.
     #[cycle(types)]
     fn arguments(
         &mut self,
@@ -300,7 +300,7 @@ impl<'a> Builder<'a, '_> {
         given
     }
 
-    /// What stands for a parameter that is a type. A name that stands for none is wrong only where the parameter is sent.
+    /// What stands for a parameter that is a type. A name that stands for none is wrong only if the parameter is sent.
     #[cycle(types)]
     fn argument(&mut self, depth: u32) -> Given<'a> {
         let at = path_at(self.rest);
@@ -334,7 +334,7 @@ impl<'a> Builder<'a, '_> {
         None
     }
 
-    /// The place of a declared type, with what stands in angle brackets behind it.
+    /// The place of a declared type, with what is in angle brackets after it.
     #[cycle(types)]
     fn instance(&mut self, index: usize, depth: u32) -> usize {
         let declared = self.declared;
@@ -408,7 +408,7 @@ impl<'a> Builder<'a, '_> {
         }
     }
 
-    /// The place of the type that these words say, and nothing behind it.
+    /// The place of the type that these words say, and nothing after it.
     #[cycle(types)]
     pub(super) fn whole(&mut self, words: &'a [Token], depth: u32) -> usize {
         let (rest, line) = (self.rest, self.line);

@@ -4,7 +4,7 @@ use declaration_parser::attributes::{attribute, behind, first_word, group, passe
 use declaration_parser::parser::plain_name;
 use declaration_parser::tokens::{Token, first_letter, is_among, is_lifetime, opens};
 
-/// The words that begin an item, or stand before one.
+/// The words that begin an item, or precede one.
 #[derive(Clone, Copy, PartialEq, Eq, Drop)]
 enum Word {
     Attribute,
@@ -67,7 +67,7 @@ fn line_at(tokens: &[Token]) -> usize {
     }
 }
 
-/// What stands behind the first token alone.
+/// What follows the first token alone.
 fn behind_one(tokens: &[Token]) -> &[Token] {
     match tokens {
         [_, rest @ ..] => rest,
@@ -75,7 +75,7 @@ fn behind_one(tokens: &[Token]) -> &[Token] {
     }
 }
 
-/// The words behind the name of an alias up to its `=`, and whether they are lifetimes alone.
+/// The words after the name of an alias up to its `=`, and whether they are lifetimes alone.
 fn is_plain_alias(words: &[Token]) -> bool {
     for token in words {
         let word = token.text.as_str();
@@ -122,7 +122,7 @@ impl<'a> Scopes<'a> {
         matches!(self.kind_of(scope), Kind::File | Kind::Module)
     }
 
-    /// Reads the item at the front, or the word; gives the words behind it.
+    /// Reads the item at the start, or the word; gives the words after it.
     fn read_front(&mut self, scope: usize, words: &'a [Token]) -> &'a [Token] {
         let rest = behind_one(words);
         match word_of(first_word(words)) {
@@ -166,7 +166,7 @@ impl<'a> Scopes<'a> {
         rest
     }
 
-    /// Reads a module, behind its word.
+    /// Reads a module, after its word.
     fn read_module(&mut self, scope: usize, words: &'a [Token]) -> &'a [Token] {
         let Some(name) = name_at(words) else {
             return words;
@@ -188,7 +188,7 @@ impl<'a> Scopes<'a> {
         rest
     }
 
-    /// Reads a type, behind `struct`, `enum` or `union`.
+    /// Reads a type, after `struct`, `enum` or `union`.
     fn read_type(&mut self, scope: usize, words: &'a [Token]) -> &'a [Token] {
         let Some(name) = name_at(words) else {
             return words;
@@ -199,7 +199,7 @@ impl<'a> Scopes<'a> {
         behind(rest)
     }
 
-    /// Reads an alias, behind its word.
+    /// Reads an alias, after its word.
     fn read_alias(&mut self, scope: usize, words: &'a [Token]) -> &'a [Token] {
         let Some(name) = name_at(words) else {
             return words;
@@ -216,7 +216,7 @@ impl<'a> Scopes<'a> {
         rest
     }
 
-    /// Reads a constant, behind its word. What its value holds may declare types for itself.
+    /// Reads a constant, after its word. What its value holds may declare types for itself.
     fn read_constant(&mut self, scope: usize, words: &'a [Token]) -> &'a [Token] {
         let colon = behind_one(words);
         let Some(name) = name_at(words) else {
@@ -234,7 +234,7 @@ impl<'a> Scopes<'a> {
         rest
     }
 
-    /// Reads what a `use` brings in, behind its word.
+    /// Reads what a `use` brings in, after its word.
     fn read_import(&mut self, scope: usize, words: &'a [Token]) -> &'a [Token] {
         if first_word(words) == "<" {
             return words;
@@ -261,7 +261,7 @@ impl<'a> Scopes<'a> {
         }
     }
 
-    /// Reads `crate NAME as OTHER`, behind `extern`.
+    /// Reads `crate NAME as OTHER`, after `extern`.
     fn read_extern(&mut self, scope: usize, words: &'a [Token]) -> &'a [Token] {
         if first_word(words) != "crate" {
             return words;
@@ -272,7 +272,7 @@ impl<'a> Scopes<'a> {
         rest
     }
 
-    /// Reads a group: a body in what stands round it.
+    /// Reads a group: a body in what surrounds it.
     fn read_group(&mut self, scope: usize, words: &'a [Token]) -> &'a [Token] {
         self.before = NOTHING_BEFORE;
         match group(words) {
@@ -344,7 +344,7 @@ impl<'a> Scopes<'a> {
         }
     }
 
-    /// Reads what a macro makes: names behind the words of items, in all groups.
+    /// Reads what a macro makes: names after the words of items, in all groups.
     fn read_made(&mut self, scope: usize, inside: &'a [Token], are_bits: bool) {
         let mut rest = inside;
         for _ in 0..inside.len() {
@@ -362,7 +362,7 @@ impl<'a> Scopes<'a> {
         self.before = NOTHING_BEFORE;
     }
 
-    /// Adds a name that a macro makes, behind this word.
+    /// Adds a name that a macro makes, after this word.
     fn add_made(&mut self, scope: usize, name: &'a str, line: usize, word: Word, are_bits: bool) {
         match word {
             Word::Type if are_bits => self.add(scope, name, line, What::Bits),
@@ -372,7 +372,7 @@ impl<'a> Scopes<'a> {
         }
     }
 
-    /// The file of a crate's root that a scope stands in: its own, or the only one of its folder.
+    /// The file of a crate's root that a scope is in: its own, or the only one of its folder.
     pub(super) fn root_of(&self, scope: usize) -> Option<usize> {
         let own = self.file_at(scope);
         let (folder, stem) = parts_of(self.name_of_file(own));

@@ -7,7 +7,7 @@ use declaration_parser::faults::Faults;
 const TWO: &str =
     "` stands for more than one thing: write its path, with the module's name before it, as `module::Name`";
 
-/// What is said of a name that stands under a condition, where it may be another.
+/// What is said of a name that is under a condition, if it may be another.
 const AT_TIMES: &str =
     "` stands under a condition, without which it is another: call it otherwise, or leave that one out";
 
@@ -72,7 +72,7 @@ pub struct Path<'a> {
     before: &'a str,
     ups: usize,
     count: usize,
-    /// Whether `::` stands before all of them.
+    /// Whether `::` precedes all of them.
     is_absolute: bool,
 }
 
@@ -107,7 +107,7 @@ enum Lead {
     Doubtful,
 }
 
-/// Whether a `*` stands in a module, of which kinds.
+/// Whether a `*` is in a module, of which kinds.
 #[derive(Clone, Copy, Drop)]
 struct Globs {
     is_any: bool,
@@ -127,7 +127,7 @@ impl<'a> Path<'a> {
         }
     }
 
-    /// Takes a colon, which tells of other crates where a path begins with it.
+    /// Takes a colon, which tells of other crates if a path begins with it.
     pub fn begin(&mut self) {
         if self.count == 0 {
             self.is_absolute = true;
@@ -146,7 +146,7 @@ impl<'a> Path<'a> {
         self.count = self.count.saturating_add(1);
     }
 
-    /// The name that is brought in as this one: that of the module, where it is `self`.
+    /// The name that is brought in as this one: that of the module, if it is `self`.
     pub fn last_of(self, name: &'a str) -> &'a str {
         if name == "self" && self.count > 0 {
             return self.before;
@@ -154,7 +154,7 @@ impl<'a> Path<'a> {
         name
     }
 
-    /// The first name; empty where there is none.
+    /// The first name; empty if there is none.
     pub fn root(self) -> &'a str {
         self.root
     }
@@ -185,7 +185,7 @@ impl<'a> Path<'a> {
     }
 }
 
-/// A scope as where a name is looked for.
+/// A scope in which a name is looked for.
 fn as_place<'a>(scope: Option<usize>) -> Option<Where<'a>> {
     Some(Where::Scope(scope?))
 }
@@ -333,7 +333,7 @@ impl<'a> Scopes<'a> {
         Found::Not
     }
 
-    /// The one thing that is declared or brought in. Under a condition it may be another, where the name is free for one.
+    /// The one thing that is declared or brought in. Under a condition it may be another, if the name is free for one.
     fn single(
         &self,
         scope: usize,
@@ -475,7 +475,7 @@ impl<'a> Scopes<'a> {
         count
     }
 
-    /// Whether a `*` of what isn't known stands in a file, or passes on its names from another.
+    /// Whether a `*` of what isn't known is in a file, or passes on its names from another.
     fn has_outside_glob(&self, file: usize) -> bool {
         for it in &self.imports {
             let is_near = it.is_public || self.file_at(it.scope) == file;
@@ -513,7 +513,7 @@ impl<'a> Scopes<'a> {
         }
     }
 
-    /// Whether a `*` of what isn't known stands in one of these scopes.
+    /// Whether a `*` of what isn't known is in one of these scopes.
     fn has_glob_out(&self, place: Where<'a>) -> bool {
         for it in &self.imports {
             if it.is_glob && self.is_in(it.scope, place) && self.glob_lead(it) == Lead::Outside {
@@ -590,7 +590,7 @@ impl<'a> Scopes<'a> {
         false
     }
 
-    /// The import of a module or a crate by this name, where a module has it.
+    /// The import of a module or a crate by this name, if a module has it.
     fn import_of(&self, module: usize, name: &str) -> Option<&Import<'a>> {
         for it in &self.imports {
             if it.name == name && (it.scope == module || it.is_crate) {
@@ -600,7 +600,7 @@ impl<'a> Scopes<'a> {
         None
     }
 
-    /// Where a path of a module leads: into these files only where they have its last module too.
+    /// Where a path of a module leads: into these files only if they have its last module too.
     fn lead(&self, module: usize, path: Path<'a>, last: &'a str) -> Lead {
         let root = if path.count == 0 { last } else { path.root };
         let lead = if path.is_absolute {
@@ -630,7 +630,7 @@ impl<'a> Scopes<'a> {
         }
     }
 
-    /// Whether the last name before another is a type's: in the module, where it is the only one, or anywhere.
+    /// Whether the last name before another is a type's: in the module, if it is the only one, or anywhere.
     fn is_type(&self, module: usize, path: Path<'a>, name: &str) -> bool {
         let place = if path.count == 1 {
             Where::Scope(module)
@@ -772,8 +772,8 @@ impl<'a> Scopes<'a> {
         self.found_as(item)
     }
 
-    /// Where a path that leads into these files is looked in: in one module, in those of the name before the last, or, where
-    /// that isn't known, everywhere.
+    /// Where a path that leads into these files is looked in: in one module, in those of the name before the last, or, if that
+    /// isn't known, everywhere.
     fn place_of_path(
         &self,
         module: usize,
@@ -821,7 +821,7 @@ impl<'a> Scopes<'a> {
         found
     }
 
-    /// The module so many round another, where these files have it.
+    /// The module so many round another, if these files have it.
     fn above(&self, module: usize, ups: usize) -> Option<usize> {
         let mut at = module;
         for _ in 0..ups {
@@ -864,7 +864,7 @@ impl<'a> Scopes<'a> {
         }
     }
 
-    /// What a name stands for that is asked for: a type that is marked or an alias, outside of bodies where there is one.
+    /// What a name stands for that is requested: a type that is marked or an alias, outside of bodies where there is one.
     pub fn find_asked(&self, path: Path<'a>, name: &'a str) -> Found<'a> {
         let place = if path.count > 0 {
             Where::Module(path.before)

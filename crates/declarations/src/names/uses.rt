@@ -13,7 +13,7 @@ struct Prefix<'a> {
 }
 
 impl<'a> Prefix<'a> {
-    /// Goes back to what stands before the `{` that is open.
+    /// Goes back to what precedes the `{` that is open.
     fn cut(&mut self) {
         self.path = match self.kept.last() {
             Some(path) => *path,
@@ -22,7 +22,7 @@ impl<'a> Prefix<'a> {
     }
 }
 
-/// The words behind a name, and the name that it has from there on.
+/// The words after a name, and the name that it has from there on.
 fn renamed<'a>(own: &'a str, words: &'a [Token]) -> (&'a str, &'a [Token]) {
     match words {
         [by, name, rest @ ..] if by.text.as_str() == "as" => (plain_name(name.text.as_str()), rest),
@@ -46,7 +46,7 @@ impl<'a> Scopes<'a> {
         }
     }
 
-    /// Reads a word of a `use`, with the words behind it; gives those that are left.
+    /// Reads a word of a `use`, with the words after it; gives those that are left.
     fn read_part(
         &mut self,
         scope: usize,
@@ -105,7 +105,7 @@ impl<'a> Scopes<'a> {
         self.bring_in(scope, "", path, "");
     }
 
-    /// Adds a crate by the words behind `extern crate`, which may give it another name.
+    /// Adds a crate by the words after `extern crate`, which may give it another name.
     pub(super) fn read_crate(&mut self, scope: usize, words: &'a [Token]) {
         let [token, behind @ ..] = words else {
             return;
