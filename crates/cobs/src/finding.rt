@@ -95,7 +95,6 @@ pub fn before_sentinel(bytes: &[u8], sentinel: u8) -> usize
         before_by_64(bytes, sentinel)
     } else {
         // For so many bytes a call is worth its cost.
-        // Of so many bytes a call is worth its cost.
         memchr(sentinel, bytes).unwrap_or(bytes.len())
     }
 }

@@ -17,7 +17,7 @@ use crate::moves::is_clear_255;
 // How many bytes a frame has at most if its message is decoded in one window.
 const SHORT: usize = 255;
 
-// The answer after a whole frame, with how many bytes of a message it has: it is one if no block is open.
+// The result after a whole frame, with how many bytes of a message it has: it is one if no block is open.
 #[inline(always)]
 pub(crate) fn answer_behind(state: DecoderState, len: usize) -> Result<usize, DecodeError>
     ensures { result ≡ answer_behind state len }
@@ -29,7 +29,7 @@ pub(crate) fn answer_behind(state: DecoderState, len: usize) -> Result<usize, De
     }
 }
 
-// The same answer with how many bytes of the source were used.
+// The same result with how many bytes of the source were used.
 #[inline(always)]
 pub(crate) fn with_parsed(
     answer: Result<usize, DecodeError>,
@@ -43,7 +43,7 @@ pub(crate) fn with_parsed(
     }
 }
 
-// The answer of a call that isn't compiled into its caller, as it is. It is returned from where the call puts it, so that the
+// The result of a call that isn't compiled into its caller, as it is. It is returned from where the call puts it, so that the
 // caller's faster paths keep their results in registers.
 #[inline(always)]
 pub(crate) fn apart<T: Copy>(answer: Result<T, DecodeError>) -> Result<T, DecodeError>

@@ -350,7 +350,7 @@ impl Progress {
         n
     }
 
-    // Takes a chunk, of which each byte is XORed with the sentinel, up to the first answer: bytes before a sentinel at once,
+    // Takes a chunk, of which each byte is XORed with the sentinel, up to the first result: bytes before a sentinel at once,
     // and sentinels and bytes that don't fit by themselves. It is compiled once for each number: one copy is for the sentinel
     // zero alone, which XORs nothing.
     #[inline(never)]
@@ -416,7 +416,7 @@ impl Progress {
         decode_clear(frame, buffer, sentinel)
     }
 
-    // Takes a chunk up to the first answer. One byte takes no call.
+    // Takes a chunk up to the first result. One byte needs no call.
     #[inline(always)]
     pub(crate) fn push(
         &mut self,

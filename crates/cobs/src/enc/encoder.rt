@@ -107,7 +107,6 @@ impl<'a> CobsEncoder<'a> {
         ensures length { is_spent self.entry ≡ false
             → (0 < result) × (result ≡ length (shortest_frame (message_of self.entry))) }
         // `self.exit.0` is the buffer as the caller gets it back.
-        // `self.exit.0` is the buffer as the caller finds it again.
         ensures frame { is_spent self.entry ≡ false → take result self.exit.0.now
             ≡ frame_for (sentinel_of self.entry) (message_of self.entry) }
     {

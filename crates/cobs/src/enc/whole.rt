@@ -85,11 +85,9 @@ pub fn encoded_length(source: &[u8]) -> usize
     let mut full_runs: usize = 0;
     let mut rest = source;
     // A byte after 254 nonzero ones costs another code. Every other code except the first replaces a zero.
-    // A byte behind 254 nonzero ones costs a further code. Every other code but the first stands in place of a zero.
     while rest.len() > 254 {
         let (run, behind) = rest.split_at(254);
         // A full run is recognised at once.
-        // A full run is seen at once.
         if is_clear_255(&rest[..255], 0) {
             full_runs += 1;
             rest = behind;
@@ -115,7 +113,6 @@ fn fits(source: &[u8], room: usize) -> bool
         return false;
     }
     // One more byte suffices for these.
-    // One byte more is enough for these.
     if source.len() <= 254 {
         return true;
     }
