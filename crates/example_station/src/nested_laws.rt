@@ -6,10 +6,10 @@ ghost use Rattle.std.specs.Prelude.{◌≡◌, ℕ, List, IfOk, Some};
 ghost use Rattle.postcard_tree.specs.Tree.{Tree};
 ghost use Rattle.postcard_de.specs.Answer.{ReadsFront};
 ghost use Rattle.postcard.specs.Greatest.{SizeWithin};
-ghost use Rattle.example_nested.specs.declared.messages.Drawing.{Drawing as Drawings};
-ghost use Rattle.example_nested.specs.declared.messages.Text.{Text as Texts};
+ghost use Rattle.example_station.specs.declared.nested.Drawing.{Drawing as Drawings};
+ghost use Rattle.example_station.specs.declared.nested.Text.{Text as Texts};
 
-use crate::messages::{Borrower, Deep, Drawing, Message, Sample, Text};
+use crate::nested::{Borrower, Deep, Drawing, Message, Sample, Text};
 use postcard::experimental::max_size::MaxSize;
 use postcard::laws::{round_trip, within_greatest};
 use postcard::{Exact, Readable, Result, from_bytes, from_bytes_owned};
