@@ -12,8 +12,11 @@ use Rattle.postcard_de.specs.Source.{slice_source, Reads, Fails, Outcome}
 -- the front of s before rest spells a tree that is read as v
 pub record ReadsFront {A : Type 0} (reads : Tree → A → Type 0) (s rest : List ℕ)
     (v : A) : Type 0 where
+  -- the prefix
   pub front : List ℕ
+  -- the prefix and the rest are all of s
   pub whole : s ≡ front ++ rest
+  -- the prefix encodes a tree that is read as v
   pub spelled : Spelled reads front v
 
 -- where a front of s spells a tree that is taken, the answer is what it is read as, or out of memory
