@@ -36,10 +36,12 @@ total (g ∷ gs) = sum_of g (total gs)
 
 -- a value that writes this is spelled in at most so many bytes
 pub record SizeWithin (o : Option Tree) (g : Option ℕ) : Type 0 where
+  -- the shortest encoding of the tree is at most so long
   pub at_most : (t : Tree) (m : ℕ) → o ≡ Some t → g ≡ Some m → length (short t) ≤ m
 
 -- the same for parts one after another
 pub record AllWithin (os : List (Option Tree)) (gs : List (Option ℕ)) : Type 0 where
+  -- the shortest encodings of the trees together are at most so long
   pub at_most : (ts : Trees) (m : ℕ) → parts os ≡ Some ts → total gs ≡ Some m
       → length (short_all ts) ≤ m
 
