@@ -1,4 +1,4 @@
--- What a message type owes its shape. It is said of the parts of both forms, since forms are long to compare as a whole.
+-- How a message type matches its shape. It is stated of the parts of both forms, since whole forms are long to compare.
 use Rattle.std.specs.Prelude.{◌≡◌, ℕ, List, Bool, Option, refl}
 use Rattle.postcard_tree.specs.declared.error.Error.{Error}
 use Rattle.postcard_tree.specs.Tree.{Tree}
