@@ -36,7 +36,7 @@ pub fn sample<'a>(
 }
 
 /// Texts that borrow from what was read, and one of its own, which is alike as texts are: a clause that quotes the trait of the
-/// type within.
+/// type within, so a law needs no more words where types are nested deeper.
 pub fn borrower<'a>(
     alloc: Global,
     v: &Borrower<'a, 'a, Text>,
