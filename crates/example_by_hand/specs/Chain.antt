@@ -18,7 +18,7 @@ use Rattle.example_by_hand.specs.declared.chain.Chain.TheVariants.{More}
 abbrev pub end_tree : Tree
 end_tree = group (part (number 32 0) (part (group end) end))
 
--- a byte in front of a chain, variant 1
+-- a byte before a chain, variant 1
 abbrev pub more_tree : ℕ → Tree → Tree
 more_tree b t = group (part (number 32 1) (part (group (part (byte b) (part t end))) end))
 
@@ -33,7 +33,7 @@ pub data ReadsChain : Tree → Chain → Type 0 where
   reads_more : (b : ℕ) (t : Tree) (rest : Box Chain Global) → ReadsChain t rest.value
       → ReadsChain (more_tree b t) (More b rest)
 
--- the first refusal
+-- the first error in the order of reading
 pub data RefusesChain : List ℕ → Error → Type 0 where
   at_index : (s : List ℕ) (e : Error) → RefusesGroups 5 15 s e → RefusesChain s e
   unknown : (n : ℕ) (front rest : List ℕ) → Number 32 n front → 2 ≤ n
@@ -69,7 +69,7 @@ payload_is : (s : List ℕ) (b : ℕ) (u : Tree) → (h : SpellsAll (part (byte 
 unfolding Spells SpellsAll payload
 payload_is s b u (f, v, j, g, h) = j ∙ ap (λ z. z ++ v) g ∙ ap (λ z. b ∷ z) (h.2 ∙ ap (λ z. h.0 ++ z) h.4 ∙ append-nil h.0)
 
--- the index that stands at a front
+-- the index at the start
 indexed : (s rest : List ℕ) (t : Tree) (front more f : List ℕ) (n : ℕ) → TakesChain t
     → Spells t front → s ≡ front ++ more → Number 32 n f → s ≡ f ++ rest
     → ((n ≡ 0) × (t ≡ end_tree))

@@ -11,7 +11,7 @@ use postcard_ser::ser_flavors::Flavor as Writing;
 use postcard_ser::{LawfulForm, Serialize, Serializer};
 use postcard_tree::{Error, GrowsForm, Readable, Result};
 
-/// Bytes, each in front of the rest of the chain.
+/// Bytes, each before the rest of the chain.
 #[derive(Drop)]
 pub enum Chain {
     End,

@@ -26,7 +26,7 @@ pub fn read_as_written<T: Exact>()
     ensures { (t : Tree) (v : _) → T.form.reads t v → T.form.writes v ≡ Some t }
 {}
 
-/// Two parts that lie where they were read.
+/// Two parts that are borrowed from what was read.
 pub fn ref_struct<'a>()
     ensures written { (v : RefStructs) → ⟦<RefStruct<'a> as Readable>⟧.form.writes v
         ≡ group_of (parts (sequence_of (parts (map (λ b. Some (byte b)) v.bytes.now))

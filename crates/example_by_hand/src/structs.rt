@@ -7,7 +7,7 @@ use postcard::ser_flavors::Flavor;
 use postcard::{AsShape, MatchesShape, Readable, Result, Serialize, Serializer, ShapeOf, Shaped};
 use schemas::SchemaOfShape;
 
-/// Bytes and a text that lie where they were read.
+/// Bytes and a text that are borrowed from what was read.
 #[derive(Drop)]
 pub struct RefStruct<'a> {
     pub bytes: &'a [u8],

@@ -1,6 +1,6 @@
 //! What is written and read back has equal fields, and reading by a type's schema is reading by the type, type by type.
 //!
-//! Each call but the last writes a value at the front of a room and reads it there, as [`postcard::laws::round_trip`] does; its clause
+//! Each call but the last writes a value to the start of a buffer and reads it there, as [`postcard::laws::round_trip`] does; its clause
 //! says what the value that comes back has in common with the first. Texts are compared by their bytes, lists and maps
 //! item by item.
 ghost use Rattle.std.specs.Prelude.{◌≡◌, IfOk, string_bytes};

@@ -1,7 +1,7 @@
 //! Which tree each message writes: its fields in their places, and its variants by their numbers.
 //!
 //! The functions do nothing; the contract of each is what it is for. They say what the declarations mean on the wire, so that a
-//! field that changed its place, or a variant that changed its number, is refused even where reading and writing agree on it.
+//! field that changed its place, or a variant that changed its number, is refused even if reading and writing agree on it.
 ghost use Rattle.std.specs.Prelude.{◌≡◌, ℕ, ℤ, Bool, [], ◌∷◌, Option, Some, map, if◌then◌else◌, string_bytes};
 ghost use Rattle.std.specs.Int.{w8, cast_unsigned};
 ghost use Rattle.postcard_tree.specs.Tree.{byte, number, character, group, end, parts, group_of, sequence_of, text_of, variant_of, option_writes, zigzag, pair_writes};

@@ -1,4 +1,4 @@
-//! A menu that holds menus, and the message that it is sent as: its nodes, each behind those below it.
+//! A menu that holds menus, and the message that it is sent as: its nodes, each after those below it.
 mod wire;
 
 use std::alloc::{AllocError, Global};
@@ -23,7 +23,7 @@ pub enum Node {
 #[derive(Drop)]
 pub struct Nodes(pub Vec<Node>);
 
-/// Puts the nodes of a menu behind others: behind none, they are its message.
+/// Appends the nodes of a menu to others: without others, they are its message.
 pub fn put_nodes(menu: &Menu, nodes: &mut Vec<Node>) -> Result<(), AllocError> {
     let node = match menu {
         Menu::Entry(number) => Node::Entry(*number),
@@ -37,7 +37,7 @@ pub fn put_nodes(menu: &Menu, nodes: &mut Vec<Node>) -> Result<(), AllocError> {
     Ok(())
 }
 
-/// The menu of a message; none where the nodes are those of no menu.
+/// Returns the menu of a message; none if the nodes are those of no menu.
 pub fn menu_of(alloc: Global, message: &Nodes) -> Result<Option<Menu>, AllocError> {
     let mut built: Vec<Menu> = Vec::new(alloc);
     for node in &message.0 {

@@ -1,4 +1,4 @@
--- How long the spelling of a value is at most.
+-- How long the encoding of a value is at most.
 use Rattle.std.specs.Prelude.{◌≡◌, ℕ, zero, suc, ◌+◌, ◌*◌, ◌/◌, ◌^◌, ◌<◌, ◌≤◌, List, [], ◌∷◌, ◌++◌, length, map, max, Option, Some, None, Result, Ok, Err, if◌then◌else◌, nat_lt, refl, MatchResult, IfSome}
 use Rattle.std.specs.List.{All}
 use Rattle.std.specs.Char.{encode_utf8}
@@ -8,17 +8,17 @@ use Rattle.std.proofs.lemmas.Bool.{cases_lt}
 use Rattle.postcard_tree.specs.Tree.{Tree, Trees, byte, number, character, sequence, group, end, part, count_of, parts, with_part, group_of, sequence_of, option_writes, result_writes, bytes_of, text_of}
 use Rattle.postcard_tree.specs.Spelling.{groups_of, varint, single, short, short_all}
 
--- a size, where usize holds it
+-- a size, if `usize` holds it
 abbrev pub size_of : ℕ → Option ℕ
 size_of n = if nat_lt n (2 ^ 64) then Some n else None
 
--- the size of two parts together; none where one has none, or usize doesn't hold it
+-- the size of two parts together; none if one has none, or it exceeds `usize`
 abbrev pub sum_of : Option ℕ → Option ℕ → Option ℕ
 sum_of None b = None
 sum_of (Some a) None = None
 sum_of (Some a) (Some b) = size_of (a + b)
 
--- the greater of two sizes; none where one has none
+-- the greater of two sizes; none if one has none
 abbrev pub greater_of : Option ℕ → Option ℕ → Option ℕ
 greater_of None b = None
 greater_of (Some a) None = None
@@ -34,12 +34,14 @@ abbrev pub total : List (Option ℕ) → Option ℕ
 total [] = Some 0
 total (g ∷ gs) = sum_of g (total gs)
 
--- a value that writes this is spelled in at most so many bytes
+-- a value that writes this is encoded in at most so many bytes
 pub record SizeWithin (o : Option Tree) (g : Option ℕ) : Type 0 where
+  -- the shortest encoding of the tree is at most so long
   pub at_most : (t : Tree) (m : ℕ) → o ≡ Some t → g ≡ Some m → length (short t) ≤ m
 
 -- the same for parts one after another
 pub record AllWithin (os : List (Option Tree)) (gs : List (Option ℕ)) : Type 0 where
+  -- the shortest encodings of the trees together are at most so long
   pub at_most : (ts : Trees) (m : ℕ) → parts os ≡ Some ts → total gs ≡ Some m
       → length (short_all ts) ≤ m
 

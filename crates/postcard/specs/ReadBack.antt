@@ -6,7 +6,7 @@ use Rattle.postcard_tree.specs.Tree.{Tree}
 use Rattle.postcard_de.specs.Answer.{ReadsFront, AnswersFronts}
 use Rattle.postcard.specs.Written.{WrittenWhole}
 
--- s is what v was written as: each value that is read at its front is alike v
+-- s is what v was written as: each value that is read at its start is alike v
 abbrev pub IsReadBack : {A : Type 0} → (Tree → A → Type 0)
     → (A → A → Type 0) → Option Tree → A → Type 0
 IsReadBack {A} reads alike o v =

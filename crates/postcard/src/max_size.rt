@@ -1,8 +1,7 @@
-//! The greatest size of a type's values.
+//! The maximum size of a type's values.
 //!
-//! `T::postcard_max_size()` tells how many bytes the longest value of `T` takes, so that a buffer can be
-//! made before there is a value. It is `None` where that number doesn't fit `usize`. A message type of your
-//! own has the greatest size of its shape, where that has one.
+//! `T::postcard_max_size()` is the number of bytes of the longest value of `T`, so a buffer can be made before there is a
+//! value. A message type of your own has the maximum size of its shape, if that has one.
 ghost use Rattle.std.specs.Prelude.{◌≡◌, ℕ, length, Option, Some};
 ghost use Rattle.postcard_tree.specs.Spelling.{varint};
 ghost use Rattle.postcard.specs.Greatest.{SizeWithin, sum_of, greater_of, times};
@@ -15,29 +14,61 @@ use postcard_ser::Serialize;
 use postcard_tree::Readable;
 use postcard_tree::varint::varint_usize;
 
-/// A type whose values have a greatest size.
+/// A type whose values have a maximum size.
+///
+/// # Example
+/// ```rust
+/// fn is_greatest<T: MaxSize>(size: Option<usize>) -> bool {
+///     T::postcard_max_size() == size
+/// }
+/// ```
 pub trait MaxSize: Readable {
-    /// The greatest size in bytes; none where it doesn't fit `usize`.
+    /// The maximum size in bytes; none if it exceeds `usize`.
     ghost greatest: { Option ℕ };
 
-    /// The greatest size in bytes; `None` where it doesn't fit `usize`.
+    /// Returns the maximum size in bytes; `None` if it exceeds `usize`.
+    ///
+    /// # Example
+    /// ```rust
+    /// is_greatest::<(u16, Option<u8>)>(Some(5)),
+    /// is_greatest::<Result<u16, u8>>(Some(4)),
+    /// is_greatest::<Range<u16>>(Some(6)),
+    /// ```
     fn postcard_max_size() -> Option<usize>
         ensures { result ≡ greatest };
 }
 
-/// A type none of whose values is spelled longer than its greatest size.
+/// A type of which no value's encoding is longer than its maximum size.
+///
+/// # Example
+/// ```rust
+/// fn fits<T: MaxWritten>(value: &T, greatest: usize) -> bool {
+///     within_greatest(value);
+///     T::postcard_max_size() == Some(greatest) && gives(serialized_size(value), greatest)
+/// }
+/// ```
 pub trait MaxWritten: MaxSize + Serialize {
-    /// No valid value is spelled in more bytes.
+    /// The encoding of a valid value has at most so many bytes.
     ghost longest: { (v : Self) → Self.form.valid v → SizeWithin (Self.form.writes v)
         Self.greatest };
 }
 
 /// How a type has [`MaxSize`], by its form.
+///
+/// # Example
+/// ```rust
+/// pub fn size_by_form<M: Readable>() -> Option<usize>
+/// where
+///     M::Form: MaxSizeForm<M>,
+/// {
+///     <M::Form as MaxSizeForm<M>>::form_max_size()
+/// }
+/// ```
 pub trait MaxSizeForm<M> {
-    /// The greatest size in bytes; none where it doesn't fit `usize`.
+    /// The maximum size in bytes; none if it exceeds `usize`.
     ghost form_greatest: { Option ℕ };
 
-    /// The greatest size in bytes; `None` where it doesn't fit `usize`.
+    /// Returns the maximum size in bytes; `None` if it exceeds `usize`.
     fn form_max_size() -> Option<usize>
         ensures { result ≡ form_greatest };
 }
@@ -54,8 +85,16 @@ where
 }
 
 /// How a type has [`MaxWritten`], by its form.
+///
+/// # Example
+/// ```rust
+/// pub fn is_bounded_and_exact<M: Serialize>()
+/// where
+///     M::Form: ExactForm<M> + MaxWrittenForm<M>,
+/// {}
+/// ```
 pub trait MaxWrittenForm<M: Serialize>: MaxSizeForm<M> {
-    /// No valid value is spelled in more bytes.
+    /// The encoding of a valid value has at most so many bytes.
     ghost form_longest: { (v : M) → M.form.valid v → SizeWithin (M.form.writes v)
         Self.form_greatest };
 }
@@ -67,7 +106,7 @@ where
     ghost longest = { M.Form.form_longest };
 }
 
-// The sum of two sizes.
+// Returns the sum of two sizes.
 pub(crate) fn sum(a: Option<usize>, b: Option<usize>) -> Option<usize>
     ensures { result ≡ sum_of a b }
 {
@@ -77,7 +116,7 @@ pub(crate) fn sum(a: Option<usize>, b: Option<usize>) -> Option<usize>
     }
 }
 
-// The greater of two sizes.
+// Returns the greater of two sizes.
 pub(crate) fn greater(a: Option<usize>, b: Option<usize>) -> Option<usize>
     ensures { result ≡ greater_of a b }
 {
@@ -87,7 +126,7 @@ pub(crate) fn greater(a: Option<usize>, b: Option<usize>) -> Option<usize>
     }
 }
 
-// So many of a size.
+// Returns so many times a size; `None` stays `None`, of no elements too.
 pub(crate) fn product(a: Option<usize>, n: usize) -> Option<usize>
     ensures { result ≡ times a n }
 {
@@ -97,7 +136,7 @@ pub(crate) fn product(a: Option<usize>, n: usize) -> Option<usize>
     }
 }
 
-// How long a count is spelled.
+// Returns how many bytes a count takes.
 pub(crate) fn count_size(n: usize) -> Option<usize>
     ensures { result ≡ Some (length (varint n)) }
 {

@@ -1,4 +1,4 @@
-//! Greatest sizes of message types, by their shapes, and of what references point to.
+//! Maximum sizes of message types, by their shapes, and of what references point to.
 ghost use Rattle.std.proofs.Common.{sym, subst};
 ghost use Rattle.postcard.specs.Greatest.{SizeWithin};
 

@@ -1,4 +1,4 @@
-//! Values that are short: spelled in a room of the call's own, or framed where they stand.
+//! Values that are short: encoded in a buffer of the call's own, or framed in place.
 ghost use Rattle.std.specs.Prelude.{◌≡◌, ◌+◌, ◌<◌, ◌≤◌, [], ◌++◌, ◌∷◌, Ok, IfOk, IfErr, IfSome, IsSome, length, take, drop};
 ghost use Rattle.cobs.specs.Frames.{longest_frame};
 ghost use Rattle.cobs.specs.Sentinel.{masked};
@@ -11,17 +11,14 @@ use postcard_ser::{Serialize, Serializer};
 use postcard_tree::{Error, Result};
 use std::alloc::Global;
 
-/// How many bytes a value, or its frame with what ends it, takes at most to be made in a room of
-/// the call's own.
+// How many bytes a value, or its frame with what ends it, takes at most to be made in a buffer of the call's own.
 pub(crate) const SHORT: usize = 256;
 
-/// Writes the frame of a value and the sentinel to the front of a room, and answers where they end.
-/// None where the value takes more than 253 bytes, where there is no room, or where the value
-/// refuses itself: nothing is said of which.
-///
-/// The value is spelled behind the room's first byte, and its frame made where it stands, which
-/// costs less than to frame each byte as it comes. Of so few bytes the longest frame is the
-/// shortest.
+// Writes the frame of a value and the sentinel to the start of a buffer, and returns where they end. `None` if the value takes
+// more than 253 bytes, the buffer is too short, or the value refuses itself; which of them isn't stated.
+//
+// The value is encoded after the buffer's first byte, and its frame made in place, which costs less than to frame each byte as
+// it comes. Of so few bytes the longest frame is the shortest.
 pub(crate) fn frame_short<T: Serialize>(v: &T, room: &mut [u8], sentinel: u8) -> Option<usize>
     ensures framed { IfSome result (λ end. WrittenWhole (T.form.writes v.now) (λ bytes.
         take end room.new ≡ masked sentinel (longest_frame bytes) ++ sentinel ∷ [])) }
@@ -40,8 +37,8 @@ pub(crate) fn frame_short<T: Serialize>(v: &T, room: &mut [u8], sentinel: u8) ->
     }
 }
 
-// Spells a value behind a room's first byte, where it takes at most 253 bytes and one is left
-// behind them. Nothing is said of why it isn't spelled.
+// Encodes a value after a buffer's first byte, if it takes at most 253 bytes and one is left after them. Why it isn't encoded
+// isn't stated.
 fn spell_behind<T: Serialize>(v: &T, room: &mut [u8]) -> Option<usize>
     ensures spelled { IfSome result (λ n. WrittenWhole (T.form.writes v.now)
         (λ bytes. take n (drop 1 room.new) ≡ bytes)) }
@@ -56,10 +53,17 @@ fn spell_behind<T: Serialize>(v: &T, room: &mut [u8]) -> Option<usize>
     spell_into(v, &mut room[1..end])
 }
 
-/// Writes a value at the front of a buffer, and returns how many bytes it takes.
+/// Writes a value to the start of a buffer, and returns how many bytes it takes. Doesn't allocate.
 ///
-/// `None` if the buffer is too short, or if the value refuses itself: nothing is said of which. The
-/// buffer may hold anything after that, and after the value.
+/// `None` if the buffer is too short, or the value refuses itself; which of them isn't stated. The buffer may hold anything
+/// then, and after the value.
+///
+/// # Example
+/// ```rust
+/// pub fn fits_into<T: Serialize>(value: &T, buffer: &mut [u8]) -> bool {
+///     spell_into(value, buffer).is_some()
+/// }
+/// ```
 pub fn spell_into<T: Serialize>(v: &T, room: &mut [u8]) -> Option<usize>
     ensures spelled { IfSome result (λ n. WrittenWhole (T.form.writes v.now)
         (λ bytes. take n room.new ≡ bytes)) }
@@ -70,7 +74,7 @@ pub fn spell_into<T: Serialize>(v: &T, room: &mut [u8]) -> Option<usize>
     spelled
 }
 
-// The same, and gives the buffer back, by which its lender knows what it holds.
+// Does the same, and returns the buffer, so its lender knows what it holds.
 fn spell_and_return<'a, T: Serialize>(v: &T, room: &'a mut [u8]) -> (&'a mut [u8], Option<usize>)
     ensures same_reference { result.0.ghost_name ≡ room.entry.ghost_name }
     ensures spelled { IfSome result.1 (λ n. WrittenWhole (T.form.writes v.now)
@@ -91,7 +95,7 @@ fn spell_and_return<'a, T: Serialize>(v: &T, room: &'a mut [u8]) -> (&'a mut [u8
     }
 }
 
-/// These bytes in a new vector that has no room beyond them.
+// Returns these bytes in a new vector that has no space beyond them.
 pub(crate) fn in_vec(alloc: Global, bytes: &[u8]) -> Result<Vec<u8>>
     ensures ok { IfOk result (λ vec. vec.items ≡ bytes.now) }
     ensures err { IfErr result (λ e. e ≡ OutOfMemory) }

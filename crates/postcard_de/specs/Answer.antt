@@ -1,4 +1,4 @@
--- What reading the front of some bytes answers.
+-- The result of reading the start of some bytes.
 use Rattle.std.specs.Prelude.{◌≡◌, ℕ, List, ◌++◌, refl, Bool, true, Result, Ok, Err, MatchResult}
 use Rattle.std.proofs.Common.{sym, ◌∙◌, subst, inl, inr}
 use Rattle.postcard_tree.specs.declared.error.Error.{Error}
@@ -9,14 +9,17 @@ use Rattle.postcard_tree.specs.Reading.{Spelled}
 use Rattle.postcard_tree.specs.ReadingLaws.{ReadingLaws}
 use Rattle.postcard_de.specs.Source.{slice_source, Reads, Fails, Outcome}
 
--- the front of s before rest spells a tree that is read as v
+-- the prefix of s before rest encodes a tree that is read as v
 pub record ReadsFront {A : Type 0} (reads : Tree → A → Type 0) (s rest : List ℕ)
     (v : A) : Type 0 where
+  -- the prefix
   pub front : List ℕ
+  -- the prefix and the rest are all of s
   pub whole : s ≡ front ++ rest
+  -- the prefix encodes a tree that is read as v
   pub spelled : Spelled reads front v
 
--- where a front of s spells a tree that is taken, the answer is what it is read as, or out of memory
+-- if a prefix of s encodes an accepted tree, the result is what it is read as, or out of memory
 abbrev pub AnswersFronts : {A : Type 0} → (Tree → Type 0) → (Tree → A → Type 0)
     → Bool → List ℕ → Result A Error → Type 0
 AnswersFronts takes reads grows s r =
@@ -44,7 +47,7 @@ module _ {A : Type 0} {takes : Tree → Type 0} {reads : Tree → A → Type 0} 
   answers_fronts (Ok v) h = answers_ok v (read_front h)
   answers_fronts (Err e) h = answers_err e h
 
--- the first of a pair, where it is one
+-- the first of a pair, if it is one
 abbrev pub first_of : {A B : Type 0} → Result (A × B) Error → Result A Error
 first_of (Ok p) = Ok p.0
 first_of (Err e) = Err e

@@ -1,4 +1,4 @@
--- Bytes that are read as a sequence is, one by one, are those that are taken at once: the same is refused, and alike is the same.
+-- Bytes that are read as a sequence is, one by one, are those that are accepted at once: the same is refused, and alike is the same.
 use Rattle.std.specs.Prelude.{◌≡◌, ◌↔◌, ℕ, zero, suc, ◌<◌, List, [], ◌∷◌, ◌++◌, length, refl}
 use Rattle.std.proofs.Common.{sym, ◌∙◌, ap, subst, inl, inr, arith}
 use Rattle.postcard_tree.specs.declared.error.Error.{Error}
@@ -7,7 +7,7 @@ use Rattle.postcard_tree.specs.Spelling.{Spells}
 use Rattle.postcard_tree.specs.Alike.{AlikeLists}
 use Rattle.postcard_tree.specs.Reading.{TakesByte, RefusesByte, RefusesAfter, RefusesEach, RefusesSequence, RefusesBytes, RefusesGroups, RefusesCounted, RefusesBehindCount, IsShort}
 
--- one of n bytes is missing where fewer are left
+-- one of n bytes is missing if fewer are left
 short_each : (n : ℕ) (s : List ℕ) (e : Error) → IsShort n s e → RefusesEach TakesByte RefusesByte n s e
 unfolding Spells RefusesEach
 short_each zero s e h = absurd (omega (arith, h.0))
@@ -22,7 +22,7 @@ short_each (suc n) (b ∷ s) e h = inr (record {
   refused = short_each n s e (omega (arith, h.0), h.1);
 })
 
--- behind a byte fewer are left than were asked for
+-- after a byte fewer are left than were requested
 behind_short : (n : ℕ) (s : List ℕ) (e : Error) (t : Tree) (front rest : List ℕ) → s ≡ front ++ rest
     → Spells t front → TakesByte t → IsShort n rest e → IsShort (suc n) s e
 unfolding Spells

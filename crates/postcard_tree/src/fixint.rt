@@ -1,52 +1,66 @@
-//! Numbers of a fixed width, byte by byte: two, four, eight or sixteen bytes, whatever the number.
+//! Numbers of a fixed width: two, four, eight or sixteen bytes, whatever the number.
 ghost use Rattle.std.specs.Prelude.{◌≡◌, ◌<◌, ◌≤◌, ◌^◌, ℕ, length, refl};
 ghost use Rattle.std.specs.Int.{w16, w32, w64, w128, cast_unsigned, cast_signed};
 ghost use Rattle.std.specs.Int.RustNames.{FitsSigned};
 ghost use Rattle.postcard_tree.specs.Fixed.{little_endian, big_endian, FixedLaws};
 ghost use Rattle.postcard_tree.specs.FixedOnce.{unsigned_laws, signed_fixed_laws};
 
-/// An integer type of 16 to 128 bits, signed or not, which can be written as its bytes.
+/// An integer type of 16 to 128 bits, signed or not, that can be written as its bytes.
+///
+/// # Example
+/// ```rust
+/// fn is_put<T: FixInt>(value: T, little: &[u8], big: &[u8]) -> bool {
+///     are_equal(LE(value).put(&mut [0; 16]), little) && are_equal(BE(value).put(&mut [0; 16]), big)
+/// }
+/// ```
 pub trait FixInt: Copy {
     /// How many bytes it has.
     ghost size: { ℕ };
 
-    /// A value of the type, as its range says.
+    /// Being a value of the type: within its range.
     ghost in_range: { Self → Type 0 };
 
-    /// Its bits as a number: a negative value by its two's complement.
+    /// A value's bits as a number: of a negative value its two's complement.
     ghost bits: { Self → ℕ };
 
-    /// The value of these bits.
+    /// The value that has these bits.
     ghost of_bits: { ℕ → Self };
 
-    /// The values in range and the numbers below `256 ^ size` are one to one.
+    /// The values in range and the numbers below `256 ^ size` correspond one to one.
     ghost laws: { FixedLaws size in_range bits of_bits };
 
-    /// How many bytes it has.
+    /// Returns how many bytes the type has.
     fn size() -> usize
         ensures is { result ≡ size }
         ensures small { result ≤ 16 };
 
-    /// Its bits as a number.
+    /// Returns the bits as a number.
     fn to_bits(self) -> u128
         ensures is { result ≡ bits self }
         ensures in_range { in_range self };
 
-    /// The value of these bits.
+    /// Returns the value that has these bits.
+    ///
+    /// # Requires
+    /// `n` is below `256 ^ size`.
     fn from_bits(n: u128) -> Self
         requires { n < 256 ^ size }
         ensures { result ≡ of_bits n };
 }
 
-/// A number that is written as its bytes, the lowest first: `LE(0xABCDu16)` is `CD AB`.
+/// A number that is written as its bytes, lowest first: `LE(0xABCDu16)` is `CD AB`.
+///
+/// Example: see [`FixInt`].
 #[derive(Clone, Copy, Debug, Default, PartialEq, Eq, PartialOrd, Ord, Drop)]
 pub struct LE<T: FixInt>(pub T);
 
-/// A number that is written as its bytes, the highest first: `BE(0xABCDu16)` is `AB CD`.
+/// A number that is written as its bytes, highest first: `BE(0xABCDu16)` is `AB CD`.
+///
+/// Example: see [`FixInt`].
 #[derive(Clone, Copy, Debug, Default, PartialEq, Eq, PartialOrd, Ord, Drop)]
 pub struct BE<T: FixInt>(pub T);
 
-// Writes the lowest bytes of a number, the lowest first.
+// Writes the lowest bytes of a number, lowest first.
 fn put_bytes(n: u128, out: &mut [u8])
     ensures { out.new ≡ little_endian (length out.old) n }
 {
@@ -57,7 +71,7 @@ fn put_bytes(n: u128, out: &mut [u8])
     }
 }
 
-// The number of these bytes, the lowest first.
+// Returns the number of these bytes, lowest first.
 fn little_number(bytes: &[u8]) -> u128
     requires { length bytes.now ≤ 16 }
     ensures bytes { little_endian (length bytes.now) result ≡ bytes.now }
@@ -72,7 +86,7 @@ fn little_number(bytes: &[u8]) -> u128
     n
 }
 
-// The number of these bytes, the highest first.
+// Returns the number of these bytes, highest first.
 fn big_number(bytes: &[u8]) -> u128
     requires { length bytes.now ≤ 16 }
     ensures bytes { big_endian (length bytes.now) result ≡ bytes.now }
@@ -86,8 +100,15 @@ fn big_number(bytes: &[u8]) -> u128
 }
 
 impl<T: FixInt> LE<T> {
-    /// Writes the bytes of the number into the front of a buffer, and answers that front. The bytes behind it aren't
-    /// stated.
+    /// Writes the bytes of the number to the start of a buffer, lowest first, and returns them. The bytes after them aren't
+    /// specified.
+    ///
+    /// # Example
+    /// ```rust
+    /// is_put(0xABCDu16, &[0xCD, 0xAB], &[0xAB, 0xCD]),
+    /// is_put(-2i16, &[0xFE, 0xFF], &[0xFF, 0xFE]),
+    /// LE::<i16>::from_bytes(&[0xFE, 0xFF]).0 == -2,
+    /// ```
     pub fn put<'a>(&self, buffer: &'a mut [u8; 16]) -> &'a mut [u8]
         ensures bytes { result.now ≡ little_endian T.size (T.bits self.now.0) }
         ensures sized { length result.now ≡ T.size }
@@ -98,7 +119,10 @@ impl<T: FixInt> LE<T> {
         front
     }
 
-    /// The number of these bytes, of which the caller owes as many as the type has.
+    /// Returns the number that has these bytes, lowest first.
+    ///
+    /// # Requires
+    /// As many bytes as the type has.
     pub fn from_bytes(bytes: &[u8]) -> LE<T>
         requires { length bytes.now ≡ T.size }
         ensures bytes { little_endian T.size (T.bits result.0) ≡ bytes.now }
@@ -109,8 +133,15 @@ impl<T: FixInt> LE<T> {
 }
 
 impl<T: FixInt> BE<T> {
-    /// Writes the bytes of the number into the front of a buffer, and answers that front. The bytes behind it aren't
-    /// stated.
+    /// Writes the bytes of the number to the start of a buffer, highest first, and returns them. The bytes after them aren't
+    /// specified.
+    ///
+    /// # Example
+    /// ```rust
+    /// BE::<u16>::from_bytes(&[0xAB, 0xCD]).0 == 0xABCD,
+    /// BE(0xABCDu16).put(&mut fixed).len() == 2,
+    /// begin_with(&fixed, &[0xAB, 0xCD]),
+    /// ```
     pub fn put<'a>(&self, buffer: &'a mut [u8; 16]) -> &'a mut [u8]
         ensures bytes { result.now ≡ big_endian T.size (T.bits self.now.0) }
         ensures sized { length result.now ≡ T.size }
@@ -121,7 +152,10 @@ impl<T: FixInt> BE<T> {
         front
     }
 
-    /// The number of these bytes, of which the caller owes as many as the type has.
+    /// Returns the number that has these bytes, highest first.
+    ///
+    /// # Requires
+    /// As many bytes as the type has.
     pub fn from_bytes(bytes: &[u8]) -> BE<T>
         requires { length bytes.now ≡ T.size }
         ensures bytes { big_endian T.size (T.bits result.0) ≡ bytes.now }

@@ -1,4 +1,4 @@
-//! Whether reading a type can ask for memory, as a call: what generic code asks before it reads where there is none.
+//! Whether reading a type can allocate, as a call: for generic code that reads where there is no memory to spare.
 //!
 //! Every type that can be read has this, a message type by its shape.
 ghost use Rattle.std.specs.Prelude.{◌≡◌, false};
@@ -10,17 +10,32 @@ use crate::variants::{Last, ReadableVariants, Variant, Variants4};
 use arrayvec::{ArrayString, ArrayVec};
 use std::collections::BTreeMap;
 
-/// A type that tells whether reading it can ask for memory.
+/// A type that says whether reading it can allocate. Rust has no such call.
+///
+/// # Example
+/// ```rust
+/// fn grows<T: Grows>() -> bool {
+///     T::grows()
+/// }
+/// ```
 pub trait Grows: Readable {
-    /// Whether reading can ask for memory. A type for which this is false never answers
-    /// [`crate::Error::OutOfMemory`].
+    /// Returns whether reading can allocate. If not, reading never returns [`crate::Error::OutOfMemory`].
     fn grows() -> bool
         ensures { result ≡ Self.form.growing };
 }
 
-/// How a type has [`Grows`], by its form.
+/// How a type has [`Grows`], by its form. A type that is written by hand implements it for a form of its own.
+///
+/// # Example
+/// ```rust
+/// impl GrowsForm<Chain> for AsChain {
+///     fn form_grows() -> bool {
+///         true
+///     }
+/// }
+/// ```
 pub trait GrowsForm<M: Readable> {
-    /// Whether reading can ask for memory.
+    /// Returns whether reading can allocate.
     fn form_grows() -> bool
         ensures { result ≡ M.form.growing };
 }
@@ -43,9 +58,18 @@ where
     }
 }
 
-/// Variants that tell whether reading one can ask for memory.
+/// Variants that say whether reading one can allocate.
+///
+/// # Example
+/// ```rust
+/// pub fn seen_of<V: SerializeVariants + MaxSizeVariants + VariantsGrow>(
+///     variants: &V,
+/// ) -> (Option<u32>, Option<usize>, bool) {
+///     (variants.index(), V::greatest_from(0), V::variants_grow())
+/// }
+/// ```
 pub trait VariantsGrow: ReadableVariants {
-    /// Whether reading can ask for memory.
+    /// Returns whether reading can allocate.
     fn variants_grow() -> bool
         ensures { result ≡ Self.variants_growing };
 }

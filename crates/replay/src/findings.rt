@@ -5,7 +5,7 @@ ghost use Rattle.replay.specs.Findings.{noted};
 use crate::words::{Trouble, digits};
 use std::alloc::{AllocError, Global};
 
-/// The answers of a line's calls that aren't those of the line.
+/// The results of a line's calls that differ from the line's.
 #[derive(Drop)]
 pub struct Findings {
     alloc: Global,
@@ -32,12 +32,12 @@ impl Findings {
         self.text.is_empty()
     }
 
-    /// Each answer that differs, behind its call.
+    /// Each result that differs, after its call.
     pub fn text(&self) -> &str {
         self.text.as_str()
     }
 
-    /// Notes the answer of a call as one that differs.
+    /// Notes the result of a call as one that differs.
     pub fn add(&mut self, call: &str, answer: &str) -> Result<(), AllocError>
         ensures adds { OnOk result (0 < noted self.new) }
         ensures kept { noted self.old ≤ noted self.new }
@@ -48,7 +48,7 @@ impl Findings {
         self.text.push_str(answer)
     }
 
-    /// Compares what a call answered, in the line's words.
+    /// Compares what a call returned, in the line's words.
     pub fn compare(&mut self, call: &str, answer: &str, wanted: &str) -> Result<(), AllocError>
         ensures equal { answer.now ≡ wanted.now → noted self.new ≡ noted self.old }
         ensures differs { answer.now ≢ wanted.now → OnOk result (0 < noted self.new) }
@@ -96,7 +96,7 @@ impl Findings {
         self.add(call, answer.as_str())
     }
 
-    /// As [`compare`](Findings::compare), of an answer in the line's words that was just made.
+    /// As [`compare`](Findings::compare), of a result in the line's words that was just made.
     pub fn check(
         &mut self,
         call: &str,
@@ -125,7 +125,7 @@ impl Findings {
         Ok(noted?)
     }
 
-    /// As [`compare_bytes`](Findings::compare_bytes), of so many bytes at the front of a room that a call has just
+    /// As [`compare_bytes`](Findings::compare_bytes), of so many bytes at the start of a buffer that a call has just
     /// filled, or refused to. A trouble is noted.
     pub fn see_front(
         &mut self,
@@ -150,7 +150,7 @@ impl Findings {
         }
     }
 
-    /// As [`compare`](Findings::compare), of an answer in the line's words that was just made. A trouble is noted.
+    /// As [`compare`](Findings::compare), of a result in the line's words that was just made. A trouble is noted.
     pub fn see(&mut self, call: &str, answer: Result<String, AllocError>, wanted: &str) {
         let noted = match answer {
             Ok(answer) => self.compare(call, answer.as_str(), wanted),
@@ -159,7 +159,7 @@ impl Findings {
         self.keep(noted);
     }
 
-    /// Notes that no memory was found, where something couldn't be noted or made for that.
+    /// Notes that memory ran out, if something couldn't be noted or made for that reason.
     pub fn keep(&mut self, noted: Result<(), AllocError>) {
         if noted.is_err() {
             self.give_up(Trouble::NoMemory);

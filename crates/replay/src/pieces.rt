@@ -1,10 +1,10 @@
-//! Bytes that come in pieces.
+//! Bytes that come in chunks.
 use crate::words::{Trouble, bytes_of};
 use std::alloc::Global;
 use std::io;
 use std::io::Read;
 
-/// The pieces of a word, which commas part.
+/// The chunks of a word, which commas part.
 pub fn pieces_of(alloc: Global, word: &str) -> Result<Vec<Vec<u8>>, Trouble> {
     let mut pieces = Vec::new(alloc);
     for piece in word.split(',') {
@@ -13,7 +13,7 @@ pub fn pieces_of(alloc: Global, word: &str) -> Result<Vec<Vec<u8>>, Trouble> {
     Ok(pieces)
 }
 
-/// A reader in memory that gives pieces as they are cut, and at most so many bytes a call.
+/// A reader in memory that gives chunks as they are cut, and at most so many bytes a call.
 #[derive(Drop)]
 pub struct Pieces<'a> {
     pieces: &'a [Vec<u8>],
@@ -22,7 +22,7 @@ pub struct Pieces<'a> {
 }
 
 impl<'a> Pieces<'a> {
-    /// A reader of these pieces.
+    /// A reader of these chunks.
     pub fn new(pieces: &'a [Vec<u8>], each: usize) -> Pieces<'a> {
         Pieces {
             pieces,
@@ -31,7 +31,7 @@ impl<'a> Pieces<'a> {
         }
     }
 
-    /// What is left of the first piece that was not given whole.
+    /// What is left of the first chunk that was not given whole.
     fn rest(&mut self) -> &'a [u8] {
         let pieces = self.pieces;
         for (i, piece) in pieces.iter().enumerate() {

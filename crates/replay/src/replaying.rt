@@ -6,9 +6,9 @@ use std::io;
 use std::io::{BufRead, BufReader, BufWriter, ErrorKind, Read, Write};
 use std::process::ExitCode;
 
-/// What answers lines.
+/// What replays lines.
 pub trait Replays {
-    /// Answers a line of a kind, its first word, by the calls that it speaks of, and compares each answer.
+    /// Makes the calls that a line of a kind, its first word, mentions, and compares each result.
     fn replay(
         &self,
         alloc: Global,
@@ -18,8 +18,8 @@ pub trait Replays {
     ) -> Result<(), Trouble>;
 }
 
-/// Answers each line of an input, prints each that differs with what was answered, and then how many lines passed and
-/// failed. A line that isn't text, or isn't one of a known kind, fails. The status is 0 where none failed, else 1.
+/// Replays each line of an input, prints each that differs with what was returned, and then how many lines passed and
+/// failed. A line that isn't text, or isn't of a known kind, fails. The status is 0 if none failed, else 1.
 ///
 /// It holds one line at a time. A read or a write that fails, or being out of memory, ends it with that error.
 pub fn replay_all<L: Replays, R: Read + Drop, W: Write + Drop>(
@@ -59,7 +59,7 @@ fn end<W: Write>(passed: u64, failed: u64, out: &mut W) -> io::Result<ExitCode> 
     Ok(ExitCode::from(if failed == 0 { 0 } else { 1 }))
 }
 
-/// Replays a line as it was read, prints it where it differs, and says whether it passed.
+/// Replays a line as it was read, prints it if it differs, and returns whether it passed.
 fn replay_line<L: Replays, W: Write>(
     lines: &L,
     alloc: Global,
@@ -72,7 +72,7 @@ fn replay_line<L: Replays, W: Write>(
     }
 }
 
-/// Prints that a line isn't text, where it was not read for that.
+/// Prints that a line isn't text, if it was not read for that reason.
 fn unread<W: Write>(error: io::Error, out: &mut W) -> io::Result<bool> {
     if error.kind() != ErrorKind::InvalidData {
         return Err(error);
@@ -81,7 +81,7 @@ fn unread<W: Write>(error: io::Error, out: &mut W) -> io::Result<bool> {
     Ok(false)
 }
 
-/// Replays a line of text, prints it where it differs, and says whether it passed.
+/// Replays a line of text, prints it if it differs, and returns whether it passed.
 fn passes<L: Replays, W: Write>(
     lines: &L,
     alloc: Global,
@@ -93,7 +93,7 @@ fn passes<L: Replays, W: Write>(
     report(line, findings.end(answer), &findings, out)
 }
 
-/// Prints a line that was not answered as it should be, and says whether it was.
+/// Prints a line whose results differ, and returns whether it passed.
 fn report<W: Write>(
     line: &str,
     answer: Result<(), Trouble>,

@@ -52,7 +52,7 @@ impl<'a> Words<'a> {
         }
     }
 
-    /// All that is left behind a word `->`.
+    /// All that is left after a word `->`.
     pub fn answer(&mut self) -> Result<&'a str, Trouble> {
         if self.next()? != "->" {
             return Err(Trouble::Unreadable);
@@ -108,7 +108,7 @@ pub fn bytes_of(alloc: Global, word: &str) -> Result<Vec<u8>, Trouble> {
     }
 }
 
-/// The digits of bytes; a dash where there are none.
+/// The digits of bytes; a dash if there are none.
 pub fn digits(alloc: Global, bytes: &[u8]) -> Result<String, AllocError> {
     if bytes.is_empty() {
         return String::from_str(alloc, "-");
@@ -116,7 +116,7 @@ pub fn digits(alloc: Global, bytes: &[u8]) -> Result<String, AllocError> {
     hex::encode(alloc, bytes)
 }
 
-/// The digits of bytes behind a text.
+/// Appends the digits of bytes to a text.
 pub fn digits_behind(alloc: Global, front: &str, bytes: &[u8]) -> Result<String, AllocError> {
     let digits = digits(alloc, bytes)?;
     [front, digits.as_str()].concat(alloc)

@@ -3,7 +3,7 @@ use cobs::{DecodeError, DecodeReport, DecodeVecError};
 use replay::{Findings, Trouble, Words, digits, digits_behind};
 use std::alloc::{AllocError, Global};
 
-/// `SOURCE CAP -> PARSED MESSAGE` or `SOURCE CAP -> !ERROR`: the first frame of a source, decoded into so much room.
+/// `SOURCE CAP -> PARSED MESSAGE` or `SOURCE CAP -> !ERROR`: the first frame of a source, decoded into so many bytes.
 pub(crate) fn replay_decode(
     alloc: Global,
     words: &mut Words<'_>,
@@ -19,7 +19,7 @@ pub(crate) fn replay_decode(
     Ok(())
 }
 
-/// Compares what `decode` answers, into so much room.
+/// Compares what `decode` returns, into so many bytes.
 fn compare_decode(
     alloc: Global,
     source: &[u8],
@@ -37,7 +37,7 @@ fn compare_decode(
     findings.see("decode", text, wanted);
 }
 
-/// Compares what `decode_vec` answers.
+/// Compares what `decode_vec` returns.
 fn compare_decode_vec(alloc: Global, source: &[u8], wanted: &str, findings: &mut Findings) {
     let text = match cobs::decode_vec(alloc, source) {
         Ok(message) => digits(alloc, &message),
@@ -60,7 +60,7 @@ pub(crate) fn replay_in_place(
     Ok(())
 }
 
-/// Compares what `decode_in_place_report` answers.
+/// Compares what `decode_in_place_report` returns.
 fn compare_report(alloc: Global, source: &[u8], wanted: &str, findings: &mut Findings) {
     let Ok(mut buffer) = source.to_vec(alloc) else {
         return findings.give_up(Trouble::NoMemory);
@@ -72,7 +72,7 @@ fn compare_report(alloc: Global, source: &[u8], wanted: &str, findings: &mut Fin
     findings.see("decode_in_place_report", text, wanted);
 }
 
-/// Compares what `decode_in_place` answers.
+/// Compares what `decode_in_place` returns.
 fn compare_in_place(alloc: Global, source: &[u8], wanted: &str, findings: &mut Findings) {
     let Ok(mut buffer) = source.to_vec(alloc) else {
         return findings.give_up(Trouble::NoMemory);
@@ -84,7 +84,7 @@ fn compare_in_place(alloc: Global, source: &[u8], wanted: &str, findings: &mut F
     findings.see("decode_in_place", text, wanted);
 }
 
-/// The message of an answer, or its refusal.
+/// The message of a result, or its error.
 fn message_of(wanted: &str) -> &str {
     if wanted.starts_with('!') {
         return wanted;
@@ -95,7 +95,7 @@ fn message_of(wanted: &str) -> &str {
     }
 }
 
-/// A refusal, in the words of a line.
+/// An error, in the words of a line.
 fn error_text(alloc: Global, error: DecodeError) -> Result<String, AllocError> {
     match error {
         DecodeError::EmptyFrame => String::from_str(alloc, "!EmptyFrame"),
@@ -106,7 +106,7 @@ fn error_text(alloc: Global, error: DecodeError) -> Result<String, AllocError> {
     }
 }
 
-/// What was used of a source, and the message that stands at the front of a buffer.
+/// What was used of a source, and the message at the start of a buffer.
 fn report_text(alloc: Global, report: &DecodeReport, buffer: &[u8]) -> Result<String, AllocError> {
     let parsed = report.parsed_size();
     let parsed = format!(in alloc; "{parsed} ")?;

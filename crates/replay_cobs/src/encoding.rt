@@ -6,10 +6,10 @@ use cobs::{CobsEncoder, EncoderState, PushResult};
 use replay::{Findings, Trouble, Words};
 use std::alloc::Global;
 
-/// How many bytes a piece has, where a message is pushed in pieces.
+/// How many bytes a chunk has, if a message is pushed in chunks.
 const PIECE: usize = 100;
 
-/// What stands in a buffer that a refused call has to leave alone.
+/// What a buffer holds that a refused call has to leave unchanged.
 const UNTOUCHED: u8 = 0xA5;
 
 /// `MESSAGE FRAME MORE`: the shortest frame of a message, and whether a block 01 more makes another one.
@@ -78,7 +78,7 @@ fn compare_between_zeros(case: &Case<'_>, findings: &mut Findings) {
     compare_lent(&zeros, name, call, wanted.len(), findings);
 }
 
-/// Compares the frames of an encoder that a message is pushed to in pieces.
+/// Compares the frames of an encoder to which a message is pushed in chunks.
 pub(crate) fn encode_pieces(case: &Case<'_>, name: &str, sentinel: u8, findings: &mut Findings) {
     let Ok(mut room) = vec![in case.alloc; 0; case.wanted.len()] else {
         return findings.give_up(Trouble::NoMemory);
@@ -90,7 +90,7 @@ pub(crate) fn encode_pieces(case: &Case<'_>, name: &str, sentinel: u8, findings:
     }
 }
 
-/// How long the frame is of a message that is pushed in pieces, with nothing pushed between them.
+/// Returns the length of the frame of a message that is pushed in chunks, with empty pushes between them.
 fn push_into(room: &mut [u8], message: &[u8], piece: usize, sentinel: u8) -> Result<usize, Trouble>
     requires { 0 < piece }
 {
@@ -111,7 +111,7 @@ fn push_into(room: &mut [u8], message: &[u8], piece: usize, sentinel: u8) -> Res
     Ok(n)
 }
 
-/// The calls that refuse a message whose frame has one byte less of room.
+/// The calls that refuse a message whose frame is one byte longer than the buffer.
 fn refuse(case: &Case<'_>, findings: &mut Findings) {
     let less = case.wanted.len().saturating_sub(1);
     let Ok(mut room) = vec![in case.alloc; UNTOUCHED; less] else {
@@ -125,7 +125,7 @@ fn refuse(case: &Case<'_>, findings: &mut Findings) {
     findings.keep(noted);
 }
 
-/// What becomes of a message that `try_encode` has to refuse, and of the room, which it has to leave alone.
+/// What becomes of a message that `try_encode` has to refuse, and of the buffer, which it has to leave unchanged.
 fn refused(message: &[u8], room: &mut [u8]) -> &'static str {
     if cobs::try_encode(message, room).is_ok() {
         return "taken";
@@ -177,7 +177,7 @@ fn keep_buffer(alloc: Global, message: &[u8]) -> Result<Vec<u8>, Trouble> {
     Ok(buffer)
 }
 
-/// Puts the frame of a message behind the place of its first code.
+/// Puts the frame of a message after the position of its first code.
 fn fill_buffer(buffer: &mut Vec<u8>, message: &[u8]) -> Result<(), Trouble> {
     let mut state = EncoderState::default();
     for byte in message {
@@ -190,7 +190,7 @@ fn fill_buffer(buffer: &mut Vec<u8>, message: &[u8]) -> Result<(), Trouble> {
     set(buffer.as_mut_slice(), i, code)
 }
 
-/// Does to the buffer what the state answers to a byte.
+/// Does to the buffer what the state returns for a byte.
 fn add_pushed(buffer: &mut Vec<u8>, pushed: PushResult) -> Result<(), Trouble> {
     let added = match pushed {
         PushResult::AddSingle(b) => buffer.extend_from_slice(&[b]),

@@ -1,10 +1,10 @@
-//! Calls that write to a room that they are lent.
+//! Calls that write to a buffer that they borrow.
 use crate::streams::Streaming;
 use cobs::CobsDecoder;
 use replay::{Findings, Trouble};
 use std::alloc::Global;
 
-/// A call that writes to a room; some are told a sentinel.
+/// A call that writes to a buffer; some take a sentinel.
 #[derive(Clone, Copy)]
 pub(crate) enum Call {
     Encode,
@@ -26,7 +26,7 @@ pub(crate) struct Case<'a> {
     pub(crate) wanted: &'a [u8],
 }
 
-/// Compares what a call gives that is lent so much room.
+/// Compares what a call returns that borrows so many bytes.
 pub(crate) fn compare_lent(
     case: &Case<'_>,
     name: &str,
@@ -41,7 +41,7 @@ pub(crate) fn compare_lent(
     findings.see_front(name, count, &room, case.wanted);
 }
 
-/// How many bytes a call gives, at the front of a room. One that needs a room of some length is asked only there.
+/// How many bytes a call writes to the start of a buffer. One that needs a buffer of some length is made only there.
 fn ask(call: Call, source: &[u8], room: &mut [u8]) -> Result<usize, Trouble> {
     let refused = Err(Trouble::Refused);
     match call {
@@ -68,7 +68,7 @@ fn ask(call: Call, source: &[u8], room: &mut [u8]) -> Result<usize, Trouble> {
     }
 }
 
-/// As [`ask`], of the calls that find their source in the room.
+/// As [`ask`], of the calls that find their source in the buffer.
 fn ask_in_place(call: Call, source: &[u8], room: &mut [u8]) -> Result<usize, Trouble> {
     let refused = Err(Trouble::Refused);
     if source.len() != room.len() {
@@ -91,7 +91,7 @@ fn ask_in_place(call: Call, source: &[u8], room: &mut [u8]) -> Result<usize, Tro
     }
 }
 
-/// Whether a byte stands at a place and none behind it.
+/// Whether a byte is at a position and none after it.
 fn is_last(bytes: &[u8], at: usize, byte: u8) -> bool {
     at < bytes.len() && bytes.len() - at == 1 && bytes[at] == byte
 }

@@ -1,5 +1,5 @@
-//! Replays test vectors of `cobs`: answers each line of standard input by the calls that it speaks of, prints each line
-//! that differs with what was answered, and then how many lines passed and failed.
+//! Replays test vectors of `cobs`: makes the calls that each line of standard input mentions, prints each line
+//! that differs with what was returned, and then how many lines passed and failed.
 #![tactic(auto)]
 
 mod decoding;

@@ -6,7 +6,7 @@ use cobs::{CobsDecoderHeapless, CobsDecoderOwned};
 use replay::{Findings, Trouble, Words};
 use std::alloc::Global;
 
-/// How many bytes a decoder has room for that keeps them in an array.
+/// The capacity of a decoder that keeps its bytes in an array.
 const ROOM: usize = 1024;
 
 /// `S MESSAGE FRAME`: the frame of a message for a sentinel.

@@ -1,4 +1,4 @@
-//! Frames that come in pieces.
+//! Frames that come in chunks.
 ghost use Rattle.std.specs.Mem.{FitsInMemory};
 ghost use Rattle.cobs.specs.contracts.dec.heapless.CobsDecoderHeapless.{the_row};
 
@@ -65,7 +65,7 @@ struct Case<'a> {
     wanted: &'a str,
 }
 
-/// `CAP PIECE,PIECE,.. -> A|A|..`: what a decoder over so many bytes answers.
+/// `CAP PIECE,PIECE,.. -> A|A|..`: what a decoder over so many bytes returns.
 pub(crate) fn replay_stream(
     alloc: Global,
     words: &mut Words<'_>,
@@ -84,7 +84,7 @@ pub(crate) fn replay_stream(
     Ok(())
 }
 
-/// Compares what decoders of each kind answer.
+/// Compares what decoders of each kind return.
 fn compare_all(case: &Case<'_>, capacity: usize, findings: &mut Findings) {
     compare_lent(case, capacity, findings);
     compare_owned(case, capacity, findings);
@@ -95,7 +95,7 @@ fn compare_all(case: &Case<'_>, capacity: usize, findings: &mut Findings) {
     }
 }
 
-/// Compares what decoders answer that are lent their room.
+/// Compares what decoders return that borrow their buffer.
 fn compare_lent(case: &Case<'_>, capacity: usize, findings: &mut Findings) {
     let Ok(mut room) = vec![in case.alloc; 0; capacity] else {
         return findings.give_up(Trouble::NoMemory);
@@ -108,7 +108,7 @@ fn compare_lent(case: &Case<'_>, capacity: usize, findings: &mut Findings) {
     compare_streams(case, "CobsDecoder", &mut fed, &mut pushed, findings);
 }
 
-/// Compares what decoders answer that have a vector.
+/// Compares what decoders return that have a vector.
 fn compare_owned(case: &Case<'_>, capacity: usize, findings: &mut Findings) {
     let Ok(mut fed) = CobsDecoderOwned::new(case.alloc, capacity) else {
         return findings.give_up(Trouble::NoMemory);
@@ -119,7 +119,7 @@ fn compare_owned(case: &Case<'_>, capacity: usize, findings: &mut Findings) {
     compare_streams(case, "CobsDecoderOwned", &mut fed, &mut pushed, findings);
 }
 
-/// Compares what decoders of a fixed room answer, where one of that room stands here.
+/// Compares what decoders of a fixed capacity return, if one of that capacity is here.
 fn compare_fixed(case: &Case<'_>, capacity: usize, findings: &mut Findings) {
     let name = "CobsDecoderHeapless";
     match capacity {
@@ -136,7 +136,7 @@ fn compare_fixed(case: &Case<'_>, capacity: usize, findings: &mut Findings) {
     }
 }
 
-/// Compares what decoders of so much room answer.
+/// Compares what decoders of such a capacity return.
 fn compare_heapless<const N: usize>(case: &Case<'_>, name: &str, findings: &mut Findings)
     requires { FitsInMemory (the_row N.row) }
 {
@@ -145,8 +145,8 @@ fn compare_heapless<const N: usize>(case: &Case<'_>, name: &str, findings: &mut 
     compare_streams(case, name, &mut fed, &mut pushed, findings);
 }
 
-/// Compares what a new decoder answers to the pieces byte by byte with the line, and with what another new one answers to
-/// whole pieces.
+/// Compares what a new decoder returns for the chunks byte by byte with the line, and with what another new one returns for
+/// whole chunks.
 fn compare_streams<D: Streaming>(
     case: &Case<'_>,
     name: &str,
@@ -165,8 +165,8 @@ fn compare_streams<D: Streaming>(
     findings.keep(noted);
 }
 
-/// Says what a decoder answers to a piece byte by byte, and compares each answer with what another one answers to the piece
-/// as a whole, and to each rest again. A semicolon stands between two answers; a dash where there are none.
+/// Says what a decoder returns for a chunk byte by byte, and compares each result with what another one returns for the chunk
+/// as a whole, and for each rest again. A semicolon is between two results; a dash if there are none.
 fn compare_piece<D: Streaming>(
     name: &str,
     fed: &mut D,
@@ -197,14 +197,14 @@ fn compare_piece<D: Streaming>(
     }
 }
 
-/// Notes what a decoder answers otherwise to a whole piece, if there is something.
+/// Notes what a decoder returns otherwise for a whole chunk, if there is something.
 fn note_other(name: &str, other: &str, findings: &mut Findings) {
     let noted = findings.compare(name, other, "");
     findings.keep(noted);
 }
 
-/// What a decoder answers otherwise to a piece, of which it has to use so many bytes, than another one answered that was fed
-/// them; nothing where it answers the same.
+/// What a decoder returns for a chunk, using so many bytes of it, that differs from what another one returned that was fed
+/// them; nothing if it returns the same.
 fn compare_push<D: Streaming>(
     decoder: &mut D,
     piece: &[u8],
@@ -226,7 +226,7 @@ fn compare_push<D: Streaming>(
     }
 }
 
-/// Says an answer that isn't `Ok(None)`, at a byte of a piece; `start` is 0 at the first one of the piece.
+/// Says a result that isn't `Ok(None)`, at a byte of a chunk; `start` is 0 at the first one of the chunk.
 fn say(
     start: usize,
     at: usize,
@@ -248,7 +248,7 @@ fn say(
     }
 }
 
-/// Says the bytes of a message; a dash where there are none.
+/// Says the bytes of a message; a dash if there are none.
 fn say_message(message: Option<&[u8]>, said: &mut String) -> Result<(), AllocError> {
     let Some(message) = message else {
         return said.push_str(" past the buffer");

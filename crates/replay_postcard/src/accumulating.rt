@@ -24,7 +24,7 @@ struct Feeding<'a> {
     name: &'a str,
 }
 
-/// `N TYPE PIECE,PIECE,.. -> A|A|..`: what an accumulator of so many bytes answers by the documented loop.
+/// `N TYPE PIECE,PIECE,.. -> A|A|..`: what an accumulator of so many bytes returns by the documented loop.
 pub(crate) fn replay_accumulate(
     alloc: Global,
     words: &mut Words<'_>,
@@ -38,7 +38,7 @@ pub(crate) fn replay_accumulate(
     compare_answers(alloc, size, name, &pieces, wanted, findings)
 }
 
-/// Compares the answers by each call.
+/// Compares the results by each call.
 fn compare_answers(
     alloc: Global,
     size: usize,
@@ -55,7 +55,7 @@ fn compare_answers(
     findings.check("feed_ref", feed_new(size, feeding, pieces), wanted)
 }
 
-/// The answers of a new accumulator of so many bytes.
+/// The results of a new accumulator of so many bytes.
 fn feed_new(size: usize, feeding: Feeding<'_>, pieces: &[Vec<u8>]) -> Result<String, Trouble> {
     match size {
         1 => feed_all::<1>(feeding, pieces),
@@ -75,7 +75,7 @@ fn feed_new(size: usize, feeding: Feeding<'_>, pieces: &[Vec<u8>]) -> Result<Str
     }
 }
 
-/// The answers of a new accumulator to the pieces.
+/// The results of a new accumulator for the chunks.
 fn feed_all<const N: usize>(feeding: Feeding<'_>, pieces: &[Vec<u8>]) -> Result<String, Trouble>
     requires { FitsInMemory (the_row N.row) }
 {
@@ -84,7 +84,7 @@ fn feed_all<const N: usize>(feeding: Feeding<'_>, pieces: &[Vec<u8>]) -> Result<
     Ok(text)
 }
 
-/// Feeds the pieces, and appends the answers.
+/// Feeds the chunks, and appends the results.
 fn feed_pieces<const N: usize>(
     accumulator: &mut CobsAccumulator<N>,
     feeding: Feeding<'_>,
@@ -100,7 +100,7 @@ fn feed_pieces<const N: usize>(
     Ok(())
 }
 
-/// Feeds a piece, and each rest again until it is empty or all was consumed. Each feed takes a byte at least.
+/// Feeds a chunk, and each rest again until it is empty or all was consumed. Each feed takes a byte at least.
 fn feed_piece<const N: usize>(
     accumulator: &mut CobsAccumulator<N>,
     feeding: Feeding<'_>,
@@ -124,6 +124,7 @@ fn feed_piece<const N: usize>(
 }
 
 /// Feeds once for the type of the name.
+// One arm a type, since `feed_ref` of any type can't be a bound, which would range over every lifetime.
 fn feed_named<const N: usize>(
     accumulator: &mut CobsAccumulator<N>,
     feeding: Feeding<'_>,
@@ -144,7 +145,7 @@ fn feed_named<const N: usize>(
     }
 }
 
-/// Feeds once, shows the answer, and says how many bytes are left, if not all was consumed.
+/// Feeds once, shows the result, and returns how many bytes are left, if not all were consumed.
 fn feed<'a, T: Deserialize<&'a [u8]> + DeserializeOwned + Shown, const N: usize>(
     accumulator: &'a mut CobsAccumulator<N>,
     feeding: Feeding<'_>,
@@ -157,7 +158,7 @@ fn feed<'a, T: Deserialize<&'a [u8]> + DeserializeOwned + Shown, const N: usize>
     }
 }
 
-/// Shows the answer of a feed.
+/// Shows the result of a feed.
 fn show<T: Shown + Drop>(
     answer: FeedResult<'_, T>,
     text: &mut String,
@@ -178,7 +179,7 @@ fn show<T: Shown + Drop>(
     }
 }
 
-/// Shows what an answer is, and how many bytes are left.
+/// Shows what a result is, and how many bytes are left.
 fn show_count(answer: char, left: usize, text: &mut String) -> Result<Option<usize>, Trouble> {
     write!(text, "{answer}{left}")?;
     Ok(Some(left))

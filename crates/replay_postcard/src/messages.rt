@@ -28,9 +28,9 @@ struct Line<'a> {
     /// The value, or what the bytes are read as.
     wanted: &'a str,
     bytes: &'a [u8],
-    /// The frame of the bytes, where they are to be written.
+    /// The frame of the bytes, if they are to be written.
     frame: &'a [u8],
-    /// Bytes that are decoded over themselves; else a reader's room.
+    /// Bytes that are decoded over themselves; else a reader's buffer.
     room: &'a mut [u8],
     /// The bytes that are decoded over themselves, again.
     copy: &'a mut [u8],
@@ -143,7 +143,9 @@ fn perform_borrowing<'a, T: Serialize + Deserialize<&'a [u8]> + Shown>(
     }
 }
 
-/// Reads what a line gives, which is a frame where its task says so.
+/// Reads what a line gives, which is a frame if its task says so.
+// The bytes and the buffers that values borrow from are arguments of their own: two references at one lifetime inside a struct
+// aren't covered.
 fn read_by_task<'a, T: Deserialize<&'a [u8]> + Shown>(
     line: &mut Line<'a>,
     findings: &mut Findings,

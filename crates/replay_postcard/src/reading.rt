@@ -3,7 +3,7 @@ use postcard::{Deserialize, DeserializeOwned, Error};
 use replay::{Findings, Shown, Trouble, in_words};
 use std::alloc::Global;
 
-/// Reads bytes by each call. A reader has as much room as there are bytes.
+/// Reads bytes by each call. A reader's buffer is as long as the bytes.
 pub(crate) fn read<'a, T: Deserialize<&'a [u8]> + Shown>(
     alloc: Global,
     bytes: &'a [u8],
@@ -18,7 +18,7 @@ pub(crate) fn read<'a, T: Deserialize<&'a [u8]> + Shown>(
     findings.check("from_io", given::<T>(alloc, bytes, room), wanted)
 }
 
-/// The answer of `take_from_bytes`.
+/// The result of `take_from_bytes`.
 fn taken<'a, T: Deserialize<&'a [u8]> + Shown>(
     alloc: Global,
     bytes: &'a [u8],
@@ -29,7 +29,7 @@ fn taken<'a, T: Deserialize<&'a [u8]> + Shown>(
     }
 }
 
-/// The answer of `from_io`.
+/// The result of `from_io`.
 fn given<'a, T: Deserialize<&'a [u8]> + Shown>(
     alloc: Global,
     bytes: &'a [u8],
@@ -69,7 +69,7 @@ pub(crate) fn read_frame<'a, T: Deserialize<&'a [u8]> + Shown>(
     findings.check("from_bytes_cobs", answer, value_of(wanted))
 }
 
-/// The answer of a call that gives a value alone.
+/// The result of a call that returns a value alone.
 fn told<T: Shown + Drop>(alloc: Global, answer: Result<T, Error>) -> Result<String, Trouble> {
     match answer {
         Ok(value) => Ok(in_words(alloc, &value)?),
@@ -77,7 +77,7 @@ fn told<T: Shown + Drop>(alloc: Global, answer: Result<T, Error>) -> Result<Stri
     }
 }
 
-/// The answer without the count of bytes that are left.
+/// The result without the count of bytes that are left.
 fn value_of(wanted: &str) -> &str {
     match wanted.split_once(' ') {
         Some((value, _)) => value,
@@ -92,7 +92,7 @@ fn with_rest<T: Shown>(alloc: Global, value: &T, rest: usize) -> Result<String, 
     Ok(text)
 }
 
-/// A refusal, in the words of a line.
+/// An error, in the words of a line.
 pub(crate) fn refusal(alloc: Global, error: Error) -> Result<String, Trouble> {
     Ok(format!(in alloc; "!{error:?}")?)
 }

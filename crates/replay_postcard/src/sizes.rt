@@ -1,4 +1,4 @@
-//! The greatest sizes of types.
+//! The maximum sizes of types.
 use arrayvec::{ArrayString, ArrayVec};
 use postcard::experimental::max_size::MaxSize;
 use replay::{Findings, Trouble, Words};
@@ -12,7 +12,7 @@ use std::ops::{Range, RangeFrom, RangeInclusive, RangeTo};
 use std::rc::Rc;
 use std::time::Duration;
 
-/// `TYPE SIZE`: the greatest size of a type.
+/// `TYPE SIZE`: the maximum size of a type.
 pub(crate) fn replay_size(
     alloc: Global,
     words: &mut Words<'_>,
@@ -33,7 +33,7 @@ fn size_text(alloc: Global, size: Option<usize>) -> Result<String, Trouble> {
     Ok(text?)
 }
 
-/// The greatest size of the type of a name.
+/// The maximum size of the type of a name.
 fn greatest(name: &str) -> Result<Option<usize>, Trouble> {
     let size = match name {
         "bool" => bool::postcard_max_size(),
@@ -53,7 +53,7 @@ fn greatest(name: &str) -> Result<Option<usize>, Trouble> {
     Ok(size)
 }
 
-/// The greatest size of the type of a name.
+/// The maximum size of the type of a name.
 fn greatest2(name: &str) -> Result<Option<usize>, Trouble> {
     let size = match name {
         "i128" => i128::postcard_max_size(),
@@ -73,7 +73,7 @@ fn greatest2(name: &str) -> Result<Option<usize>, Trouble> {
     Ok(size)
 }
 
-/// The greatest size of the type of a name.
+/// The maximum size of the type of a name.
 fn greatest3(name: &str) -> Result<Option<usize>, Trouble> {
     let size = match name {
         "(u8,u16,u32)" => <(u8, u16, u32)>::postcard_max_size(),
@@ -93,7 +93,7 @@ fn greatest3(name: &str) -> Result<Option<usize>, Trouble> {
     Ok(size)
 }
 
-/// The greatest size of the type of a name.
+/// The maximum size of the type of a name.
 fn greatest4(name: &str) -> Result<Option<usize>, Trouble> {
     let size = match name {
         "RangeTo<u32>" => <RangeTo<u32>>::postcard_max_size(),
@@ -113,7 +113,7 @@ fn greatest4(name: &str) -> Result<Option<usize>, Trouble> {
     Ok(size)
 }
 
-/// The greatest size of the type of a name.
+/// The maximum size of the type of a name.
 fn greatest5(name: &str) -> Result<Option<usize>, Trouble> {
     let size = match name {
         "NonZeroIsize" => NonZeroIsize::postcard_max_size(),

@@ -7,7 +7,7 @@ use replay::{Findings, Shown, Trouble, in_words};
 use std::alloc::Global;
 use std::convert::AsSlice;
 
-/// How many bytes a vector of a fixed room holds at most.
+/// The capacity of a vector of a fixed one.
 const MOST: usize = 4096;
 
 /// How a value is written.
@@ -113,7 +113,7 @@ fn compare_size(
     Ok(())
 }
 
-/// Writes a value into exactly enough room, and into a byte less, which has to be refused.
+/// Writes a value into an exact buffer, and into a byte less, which has to be refused.
 fn write_slice<T: Serialize>(
     alloc: Global,
     form: Form,
@@ -134,7 +134,7 @@ fn write_slice<T: Serialize>(
     need_full(call, slice_of(form, value, less), findings)
 }
 
-/// What a value is written as into this room.
+/// What a value is written as into this buffer.
 fn slice_of<'a, T: Serialize>(
     form: Form,
     value: &T,
@@ -146,7 +146,7 @@ fn slice_of<'a, T: Serialize>(
     }
 }
 
-/// Notes a call that takes what it has to refuse, for a byte of room that is missing.
+/// Notes a call that takes what it has to refuse, since the buffer is a byte too short.
 fn need_full(
     call: &str,
     written: Result<&mut [u8], Error>,
@@ -159,7 +159,7 @@ fn need_full(
     Ok(())
 }
 
-/// Writes a value into a vector of a fixed room.
+/// Writes a value into a vector of a fixed capacity.
 fn write_array<T: Serialize>(
     alloc: Global,
     form: Form,

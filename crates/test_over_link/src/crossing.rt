@@ -1,7 +1,7 @@
-//! The types of `example_nested`, which hold one another, go over a line at three sentinels, and a pair that is lent. The
+//! The types of `example_station::nested`, which hold one another, go over a line at three sentinels, and a pair that is lent. The
 //! bytes are as postcard's format has them.
 use crate::checks::{all_true, check, writes};
-use example_nested::messages::{Borrower, Deep, Drawing, Holders, Message, Point, Sample, Text};
+use example_station::nested::{Borrower, Deep, Drawing, Holders, Message, Point, Sample, Text};
 use line_io::memory::{In, Out};
 use link::{Answer, Sender, read_in_place_with_sentinel, receive_with_sentinel};
 use postcard::experimental::max_size::MaxSize;

@@ -9,7 +9,7 @@ pub(crate) fn check(rt: &impl Abort, is_right: bool) {
     assert!(rt; is_right);
 }
 
-/// Whether each of these holds. All are found first: calls in a row are cheaper to prove than one behind another's success.
+/// Whether each of these holds. All are found first: calls in a row are cheaper to prove than one after another's success.
 pub(crate) fn all_true<const N: usize>(found: [bool; N]) -> bool {
     found == [true; N]
 }
@@ -29,7 +29,7 @@ pub(crate) fn succeed<const N: usize>(answers: [Result<()>; N]) -> bool {
     answers == [Ok(()); N]
 }
 
-/// Whether a call was refused for want of room.
+/// Whether a call was refused for lack of space.
 pub(crate) fn is_full(answer: Result<()>) -> bool {
     answer == Err(Error::SerializeBufferFull)
 }
@@ -79,7 +79,7 @@ pub(crate) fn is_string<E: Drop>(given: std::result::Result<String, E>, wanted: 
     }
 }
 
-/// Whether a front of so many bytes was filled.
+/// Whether so many bytes at the start were filled.
 pub(crate) fn has_length(written: Result<&mut [u8]>, length: usize) -> bool {
     match written {
         Ok(front) => front.len() == length,
@@ -87,7 +87,7 @@ pub(crate) fn has_length(written: Result<&mut [u8]>, length: usize) -> bool {
     }
 }
 
-/// Whether the front of a slice was filled, and holds these bytes.
+/// Whether the start of a slice was filled, and holds these bytes.
 pub(crate) fn is_slice(written: Result<&mut [u8]>, bytes: &[u8]) -> bool {
     match written {
         Ok(front) => are_equal(front, bytes),

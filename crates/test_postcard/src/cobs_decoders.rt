@@ -1,4 +1,4 @@
-//! `cobs`: decoders over a lent buffer, an array and a vector, also for any sentinel.
+//! `cobs`: decoders over a borrowed buffer, an array and a vector, also for any sentinel.
 use crate::checks::{all_true, are_equal, check, check_all, fails, gives, goes_on, takes};
 use arrayvec::ArrayVec;
 use cobs::{CobsDecoder, CobsDecoderHeapless, CobsDecoderOwned, DecodeError};
@@ -6,7 +6,7 @@ use cobs::{CobsDecoder, CobsDecoderHeapless, CobsDecoderOwned, DecodeError};
 // 10, 11, 0, 12 as a frame for the sentinel 10
 const FRAME: [u8; 5] = [9, 0, 1, 8, 6];
 
-// A decoder goes on behind a byte of its room that is changed in mid-frame.
+// A decoder goes on after a byte of its buffer that is changed in mid-frame.
 #[test]
 fn lent_buffer(rt: HostRuntime) {
     let mut buffer = [0u8; 4];
@@ -100,7 +100,7 @@ fn arrays_of_their_own(rt: HostRuntime) {
     );
 }
 
-// A frame that lies whole is decoded at once, whatever was taken in before it; and one behind a reset.
+// A frame that is whole is decoded at once, whatever was taken in before it; and one after a reset.
 #[test]
 fn array_of_another_sentinel(rt: HostRuntime) {
     let mut decoder = CobsDecoderHeapless::<4>::new_with_sentinel(10);
@@ -145,7 +145,7 @@ fn vector_of_another_sentinel(rt: HostRuntime) {
     check(&rt, is_right);
 }
 
-// Whether the room of a decoder of three bytes is there to be changed, also in a frame that is then given up.
+// Whether the buffer of a decoder of three bytes can be changed, also in a frame that is then given up.
 fn is_changed(decoder: &mut CobsDecoderOwned) -> bool {
     let begun = goes_on(decoder.feed(2));
     decoder.reset();
@@ -157,7 +157,7 @@ fn is_changed(decoder: &mut CobsDecoderOwned) -> bool {
     all_true([begun, taken, is_held, are_equal(decoder.dest(), &[6, 4, 5])])
 }
 
-// Whether a decoder answers so to each change of its size, and then holds these bytes.
+// Whether a decoder returns this for each change of its size, and then holds these bytes.
 fn changes_size(decoder: &mut CobsDecoderOwned, sizes: &[(usize, bool, &[u8])]) -> bool {
     for (size, is_found, held) in sizes {
         if !decoder.is_idle() || decoder.resize(*size).is_ok() != *is_found {
@@ -182,7 +182,7 @@ fn is_refused(decoder: &mut CobsDecoderOwned) -> bool {
     ])
 }
 
-// The front of a room stays through each change of size.
+// The start of a buffer stays through each change of size.
 const LESS: [(usize, bool, &[u8]); 1] = [(2, true, &[6, 4])];
 
 const MORE: [(usize, bool, &[u8]); 1] = [(4, true, &[1, 2, 0, 0])];
@@ -210,7 +210,7 @@ fn vector_of_its_own(rt: HostRuntime) {
     check(&rt, is_right);
 }
 
-// Whether a decoder of three bytes takes its frames in through each change of its room.
+// Whether a decoder of three bytes takes its frames in through each change of its buffer.
 fn takes_all(decoder: &mut CobsDecoderOwned) -> bool {
     all_true([
         is_changed(decoder),

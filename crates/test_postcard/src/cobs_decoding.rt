@@ -1,4 +1,4 @@
-//! `cobs`, decoding: each row of the decoder's table, frames where they lie, and frames cut anywhere.
+//! `cobs`, decoding: each row of the decoder's table, frames in place, and frames cut anywhere.
 ghost use Rattle.std.specs.Prelude.{◌<◌};
 
 use crate::checks::{are_equal, check, check_all, check_at, decodes, fails, gives};
@@ -6,7 +6,7 @@ use cobs::DecodeResult::{DataComplete, DataContinue, DataStart, NoData};
 use cobs::DecoderState::{Grab, GrabChain, Idle};
 use cobs::*;
 
-// A state, a byte, what is answered to it, and the state behind it.
+// A state, a byte, what is returned for it, and the state after it.
 type Step = (
     DecoderState,
     u8,
@@ -106,7 +106,7 @@ fn two_frames() -> [u8; 513] {
     stream
 }
 
-// Takes in a piece of that stream to its end, and answers how many messages came, if they were those.
+// Takes in a chunk of that stream to its end, and returns how many messages came, if they were those.
 fn taken(decoder: &mut CobsDecoder<'_>, piece: &[u8]) -> Option<usize> {
     let mut message = [1u8; 254];
     message[0] = 252;
@@ -123,7 +123,7 @@ fn taken(decoder: &mut CobsDecoder<'_>, piece: &[u8]) -> Option<usize> {
     None
 }
 
-// Whether the stream gives so many messages before a cut, and so many behind it.
+// Whether the stream gives so many messages before a cut, and so many after it.
 fn gives_messages(stream: &[u8], cut: usize, before: usize, behind: usize) -> bool {
     let mut buffer = [0u8; 254];
     let mut decoder = CobsDecoder::new(&mut buffer);
@@ -144,7 +144,7 @@ fn either_frame_cut_anywhere(rt: HostRuntime) {
     }
 }
 
-// How many messages the stream gives in pieces of this size.
+// How many messages the stream gives in chunks of this size.
 fn messages_in_pieces(stream: &[u8], size: usize) -> usize
     requires { 0 < size }
 {

@@ -1,4 +1,4 @@
-//! `cobs`, encoding: greatest lengths, pieces, refusals, and any sentinel.
+//! `cobs`, encoding: maximum lengths, chunks, errors, and any sentinel.
 use crate::checks::{are_equal, begin_with, check, check_all};
 use cobs::*;
 
@@ -21,7 +21,7 @@ fn greatest_lengths(rt: HostRuntime) {
     );
 }
 
-// No byte behind a frame is changed, by a whole message or where it stands; and none at all where there is no room.
+// No byte after a frame is changed, by a whole message or in place; and none at all if there is no space.
 #[test]
 fn what_is_behind_a_frame_stays(rt: HostRuntime) {
     let mut small = [9u8; 6];
@@ -57,19 +57,19 @@ fn front_of_a_frame(rt: HostRuntime) {
     );
 }
 
-// A message in pieces, and what an encoder makes of it in so much room.
+// A message in chunks, and what an encoder makes of it in so many bytes.
 struct Pieces {
     sentinel: u8,
     room: usize,
     // each with whether it is taken
     pieces: &'static [(&'static [u8], bool)],
     length: usize,
-    // what the room begins with in the end
+    // what the buffer begins with in the end
     front: &'static [&'static [u8]],
 }
 
 const PIECES: [Pieces; 6] = [
-    // No byte behind a frame is changed.
+    // No byte after a frame is changed.
     Pieces {
         sentinel: 0,
         room: 8,
@@ -84,7 +84,7 @@ const PIECES: [Pieces; 6] = [
         length: 5,
         front: &[&[9, 0, 1, 8, 6]],
     },
-    // Ones over more than a block, with exact room and with a byte less.
+    // Ones over more than a block, in an exact buffer and in a byte less.
     Pieces {
         sentinel: 0,
         room: 302,
@@ -109,7 +109,7 @@ const PIECES: [Pieces; 6] = [
         length: 0,
         front: &[],
     },
-    // A full block, and one byte more: behind it not even an empty piece is taken.
+    // A full block, and one byte more: after it not even an empty chunk is taken.
     Pieces {
         sentinel: 0,
         room: 255,
@@ -127,7 +127,7 @@ const PIECES: [Pieces; 6] = [
     },
 ];
 
-// Whether an encoder answers so to each piece.
+// Whether an encoder returns this for each chunk.
 fn answers(encoder: &mut CobsEncoder<'_>, pieces: &[(&[u8], bool)]) -> bool {
     for (piece, is_taken) in pieces {
         if encoder.push(piece).is_ok() != *is_taken {
@@ -137,7 +137,7 @@ fn answers(encoder: &mut CobsEncoder<'_>, pieces: &[(&[u8], bool)]) -> bool {
     true
 }
 
-// Whether bytes begin with these parts, one behind another.
+// Whether bytes begin with these parts, one after another.
 fn begin_with_parts(bytes: &[u8], parts: &[&[u8]]) -> bool {
     let mut rest = bytes;
     for part in parts {
@@ -149,7 +149,7 @@ fn begin_with_parts(bytes: &[u8], parts: &[&[u8]]) -> bool {
     true
 }
 
-// Whether a message's pieces are answered so, and make that frame.
+// Whether this is returned for a message's chunks, and they make that frame.
 fn is_framed(message: &Pieces) -> bool {
     let mut whole = [9u8; 302];
     let (room, _) = whole.split_at_mut(message.room.min(302));

@@ -1,4 +1,4 @@
-//! `postcard_de`: published bytes by each call, readers that fail, and refusals.
+//! `postcard_de`: published bytes by each call, readers that fail, and errors.
 use crate::checks::{
     all_true, are_equal, check, check_all, check_at, fails, gives, gives_bytes, is_string, is_text,
     is_vector,
@@ -18,7 +18,7 @@ fn read<'a, T: Deserialize<&'a [u8]>>(alloc: Global, bytes: &'a [u8]) -> Result<
     T::deserialize(&mut d)
 }
 
-// A value that borrows nothing, if this count of bytes is left behind it.
+// A value that borrows nothing, if this count of bytes is left after it.
 fn read_owned<T: DeserializeOwned>(alloc: Global, bytes: &[u8], left: usize) -> Option<T> {
     let mut d = Deserializer::from_bytes(alloc, bytes);
     let value = T::deserialize_owned(&mut d).ok();
@@ -148,7 +148,7 @@ fn is_hello(value: (u8, u32, &str)) -> bool {
     value.0 == 1 && value.1 == 10 && is_text(value.2, "Hello!")
 }
 
-// Whether that tuple is read whole, into a buffer with just the room for it, by a reader that is in trouble once, behind
+// Whether that tuple is read whole, into a buffer that just holds it, by a reader that is in trouble once, after
 // so many of its bytes.
 fn read_broken(alloc: Global, count: usize, interrupted: bool) -> Result<bool> {
     let (bytes, rest) = HELLO.split_at(count.min(9));
@@ -221,7 +221,7 @@ fn reads_numbers<F: Flavor>(d: &mut Deserializer<F>) -> bool {
     ])
 }
 
-// Whether each call for a text or bytes reads the next of these, lent or to keep.
+// Whether each call for a text or bytes reads the next of these, borrowed or owned.
 fn reads_texts_and_bytes<'a, F: Flavor<Taken = &'a [u8]>>(d: &mut Deserializer<F>) -> bool {
     all_true([
         gives(d.deserialize_char(), 'z'),
@@ -232,7 +232,7 @@ fn reads_texts_and_bytes<'a, F: Flavor<Taken = &'a [u8]>>(d: &mut Deserializer<F
     ])
 }
 
-// 5000 elements behind their count.
+// 5000 elements after their count.
 fn long_vector() -> [u8; 5002] {
     let mut bytes = [0u8; 5002];
     for i in 0..5000 {
@@ -243,7 +243,7 @@ fn long_vector() -> [u8; 5002] {
     bytes
 }
 
-// More elements than get room before they are read, all of them and all but the last.
+// More elements than get space before they are read, all of them and all but the last.
 #[test]
 fn a_long_vector(rt: HostRuntime) {
     let bytes = long_vector();
@@ -260,7 +260,7 @@ fn a_long_vector(rt: HostRuntime) {
 fn counts_alone(rt: HostRuntime) {
     let greatest = [0xFF, 0xFF, 0xFF, 0xFF, 0xFF, 0xFF, 0xFF, 0xFF, 0xFF, 1];
     let too_great = [0xFF, 0xFF, 0xFF, 0xFF, 0xFF, 0xFF, 0xFF, 0xFF, 0xFF, 2];
-    // One element follows, and no allocator has room for as many as the count says: so it isn't asked for them.
+    // One element follows, and no allocator has memory for as many as the count says: so it isn't asked for them.
     let one_of_the_greatest = [0xFF, 0xFF, 0xFF, 0xFF, 0xFF, 0xFF, 0xFF, 0xFF, 0xFF, 1, 7];
     let end = Error::DeserializeUnexpectedEnd;
     check_all(
@@ -281,7 +281,7 @@ fn counts_alone(rt: HostRuntime) {
     );
 }
 
-// Whether the calls that never answer leave the next byte to be read, and those that read nothing answer behind it, where
+// Whether the calls that always fail leave the next byte to be read, and those that read nothing succeed after it, where
 // there is nothing to read.
 fn reads_nothing<F: Flavor>(d: &mut Deserializer<F>) -> bool {
     all_true([
@@ -297,7 +297,7 @@ fn reads_nothing<F: Flavor>(d: &mut Deserializer<F>) -> bool {
     ])
 }
 
-// Whether three parts are foretold, of which the last one is refused, and nothing is answered behind them.
+// Whether three parts are announced, of which the last one is refused, and nothing is returned after them.
 fn reads_parts<F: Flavor>(d: &mut Deserializer<F>) -> bool {
     match d.deserialize_seq() {
         Ok(mut parts) => all_true([
@@ -311,7 +311,7 @@ fn reads_parts<F: Flavor>(d: &mut Deserializer<F>) -> bool {
     }
 }
 
-// Whether parts are answered, and so many foretold.
+// Whether parts are returned, and so many announced.
 fn foretells<F: Flavor>(parts: Result<SeqAccess<'_, F>>, count: Option<usize>) -> bool {
     match parts {
         Ok(parts) => parts.size_hint() == count,
@@ -319,7 +319,7 @@ fn foretells<F: Flavor>(parts: Result<SeqAccess<'_, F>>, count: Option<usize>) -
     }
 }
 
-// Whether counts are foretold that the bytes have room for, and no others.
+// Whether counts are announced for which there are bytes, and no others.
 fn foretells_counts<F: Flavor>(d: &mut Deserializer<F>) -> bool {
     all_true([
         foretells(d.deserialize_tuple(1), Some(1)),
@@ -330,7 +330,7 @@ fn foretells_counts<F: Flavor>(d: &mut Deserializer<F>) -> bool {
     ])
 }
 
-// Whether two entries are foretold and read, by both kinds of calls, and nothing is answered behind them.
+// Whether two entries are announced and read, by both kinds of calls, and nothing is returned after them.
 fn reads_entries<F: Flavor>(d: &mut Deserializer<F>) -> bool {
     match d.deserialize_map() {
         Ok(mut map) => all_true([
@@ -356,7 +356,7 @@ const SENT: [u8; 47] = [
     3, 1, 2, 2,
     // entries
     2, 5, 6, 1, 7,
-    // what is behind the calls that never answer
+    // what follows the calls that always fail
     3,
 ];
 

@@ -27,7 +27,7 @@ fn goes_back<T: Serialize + DeserializeOwned + Drop>(alloc: Global, bytes: &[u8]
     }
 }
 
-/// Whether a byte buffer of 100,000 bytes is read, those behind the count.
+/// Whether a byte buffer of 100,000 bytes is read, those after the count.
 fn is_buffer(alloc: Global, bytes: &[u8]) -> bool {
     match Deserializer::from_bytes(alloc, bytes).deserialize_byte_buf() {
         Ok(buffer) => buffer.len() == 100_000 && bytes.ends_with(&buffer),
@@ -52,7 +52,7 @@ fn a_hundred_thousand_letters(rt: HostRuntime) {
 // A count of 4095, and less than one element.
 const FEW: [u8; 6] = [0xFF, 0x1F, 1, 2, 3, 4];
 
-// A test that `.ci/refusals` runs: it asks for no memory.
+// A test that `.ci/refusals` runs: it doesn't allocate.
 #[test]
 fn a_count_alone_asks_for_nothing(rt: HostRuntime) {
     let (alloc, end) = (rt.alloc(), Error::DeserializeUnexpectedEnd);
@@ -111,7 +111,7 @@ impl Serialize for Refusing {
     }
 }
 
-/// Whether each way of writing passes a value's own refusal on by its name.
+/// Whether each way of writing passes a value's own error on by its name.
 fn is_passed_on(own: Error) -> bool {
     let mut room = [0u8; 8];
     let by_slice = fails(to_slice(&Refusing(own), &mut room), own);

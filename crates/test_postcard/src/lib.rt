@@ -2,7 +2,7 @@
 //! outside vectors and worked rows, each call once on its happy path, each generic one at a concrete type, writers, readers
 //! and memory that fail, buffers that stay as they were, and the texts of these crates' errors.
 //!
-//! They are in a crate of their own, because a crate with tests is proved twice, once with and once without them.
+//! They are in a crate of their own because a crate with tests is proved twice, once with and once without them.
 #![tactic(auto)]
 
 #[cfg(test)]

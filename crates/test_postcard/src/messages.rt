@@ -122,7 +122,7 @@ fn type_that_holds_itself(rt: HostRuntime) {
 // A chain of 7 and 8.
 const CHAIN: [u8; 5] = [1, 7, 1, 8, 0];
 
-/// In a run in which a growth is refused (by `.ci/refusals`; in the gate none is) a value that holds itself is out of memory, or whole.
+/// If an allocation is refused (by `.ci/refusals`; in the gate none is), a value that holds itself is out of memory, or whole.
 #[test]
 fn said_by_a_chain(rt: HostRuntime) {
     let is_right = match from_bytes::<Chain>(rt.alloc(), &CHAIN) {

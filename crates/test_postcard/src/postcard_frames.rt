@@ -1,10 +1,10 @@
-//! `postcard`, frames: a long value, exact room, and an accumulator that is fed by itself.
+//! `postcard`, frames: a long value, an exact buffer, and an accumulator by itself.
 use crate::checks::{are_equal, check, check_all, check_at, fails, gives, is_array};
 use postcard::accumulator::{CobsAccumulator, FeedResult};
 use postcard::{Error, from_bytes_cobs, to_allocvec_cobs, to_stdvec_cobs, to_vec_cobs};
 use std::alloc::Global;
 
-// A number, many of them, and the greatest.
+// A number, many of them, and the largest.
 type Long = (u32, [u32; 32], u64);
 
 const LONG: Long = (0xABCDEF00, [0x01234567; 32], u64::MAX);
@@ -37,17 +37,17 @@ pub(crate) fn is_consumed(answer: FeedResult<'_, u8>) -> bool {
     matches!(answer, FeedResult::Consumed)
 }
 
-// Whether a frame was too long, with so many bytes left behind it.
+// Whether a frame was too long, with so many bytes left after it.
 fn is_over_full(answer: FeedResult<'_, u8>, left: usize) -> bool {
     matches!(answer, FeedResult::OverFull(rest) if rest.len() == left)
 }
 
-// Whether a frame was refused, with so many bytes left behind it.
+// Whether a frame was refused, with so many bytes left after it.
 pub(crate) fn is_refused(answer: FeedResult<'_, u8>, left: usize) -> bool {
     matches!(answer, FeedResult::DeserError(rest) if rest.len() == left)
 }
 
-// Whether a frame was of this value, with so many bytes left behind it.
+// Whether a frame was of this value, with so many bytes left after it.
 pub(crate) fn is_value(answer: FeedResult<'_, u8>, wanted: u8, left: usize) -> bool {
     match answer {
         FeedResult::Success { value, remaining } => value == wanted && remaining.len() == left,
@@ -65,7 +65,7 @@ fn lent_bytes(rt: HostRuntime) {
     check(&rt, is_lent);
 }
 
-// Whether the frame of 300 times 01, in two pieces, is answered behind the second.
+// Whether the frame of 300 times 01, in two chunks, is returned after the second.
 fn is_gathered(alloc: Global, front: &[u8], rest: &[u8]) -> bool {
     let mut accumulator: CobsAccumulator<305> = CobsAccumulator::new();
     match accumulator.feed::<Vec<u8>>(alloc, front) {

@@ -33,7 +33,7 @@ fn reads_texts(alloc: Global, buffer: &mut [u8], left: &[u8]) -> Answer<bool> {
     }
 }
 
-// What a value borrows is kept at the front of the buffer, and the rest of it stays.
+// What a value borrows is kept at the start of the buffer, and the rest of it stays.
 #[test]
 fn by_reader(rt: HostRuntime) {
     let alloc = rt.alloc();

@@ -1,4 +1,4 @@
-//! `postcard`, writing: published bytes, writers that refuse, and greatest sizes.
+//! `postcard`, writing: published bytes, writers that refuse, and maximum sizes.
 use crate::checks::{
     are_equal, begin_with, check, check_all, fails, gives, has_length, is_array, is_slice,
     is_vector,
@@ -77,7 +77,7 @@ fn writers_and_flavors(rt: HostRuntime) {
 // 19 times 2^58 bytes at most.
 type Long = [u128; 288230376151711744];
 
-// Whether this is the greatest size of a type.
+// Whether this is the maximum size of a type.
 fn is_greatest<T: MaxSize>(size: Option<usize>) -> bool {
     T::postcard_max_size() == size
 }
@@ -101,7 +101,7 @@ fn greatest_sizes(rt: HostRuntime) {
     );
 }
 
-// Whether a value of a type with this greatest size takes it, and fits a vector of it.
+// Whether a value of a type with this maximum size takes it.
 fn fits<T: MaxWritten>(value: &T, greatest: usize) -> bool {
     within_greatest(value);
     T::postcard_max_size() == Some(greatest) && gives(serialized_size(value), greatest)
@@ -123,7 +123,7 @@ fn greatest_values(rt: HostRuntime) {
     );
 }
 
-// What is answered is the front of the caller's own slice, and not another part of it.
+// What is returned is the start of the caller's own slice, and not another part of it.
 #[test]
 fn the_front_of_the_room(rt: HostRuntime) {
     let mut room = [0xEEu8; 8];

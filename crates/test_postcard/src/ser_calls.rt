@@ -112,7 +112,7 @@ fn each_call(rt: HostRuntime) {
     );
 }
 
-// Nothing of a number stays where it doesn't fit; of a tuple the parts before it do.
+// Nothing of a number stays if it doesn't fit; of a tuple the parts before it do.
 #[test]
 fn numbers_are_refused_whole(rt: HostRuntime) {
     let mut numbers = serializer::<2>();

@@ -14,7 +14,7 @@ use postcard_tree::{Error, Result as Answer};
 use std::io;
 use std::io::{ErrorKind, Write};
 
-/// Writes a number into a slice by a flavor that is lent, and gives the whole slice back.
+/// Writes a number into a slice by a borrowed flavor, and returns the whole slice.
 fn fill_and_return<'a>(value: u32, room: &'a mut [u8]) -> (&'a mut [u8], Answer<usize>)
     ensures same_reference { result.0.ghost_name ≡ room.entry.ghost_name }
     ensures bytes { IfOk result.1 (λ n. take n result.0.now ≡ short (number 32 value)) }

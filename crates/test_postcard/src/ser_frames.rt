@@ -60,7 +60,7 @@ fn rows(rt: HostRuntime) {
     );
 }
 
-// A full block, one of nothing behind it, and the end.
+// A full block, one of nothing after it, and the end.
 #[test]
 fn full_blocks(rt: HostRuntime) {
     let mut frame = [1u8; 257];

@@ -6,7 +6,7 @@ use postcard_tree::{Error, Result as Answer};
 use std::fmt;
 use std::fmt::{Display, Formatter, Write};
 
-// Whether a text's formatting is answered so into this room, and leaves these bytes in it.
+// Whether a text's formatting returns this, into this buffer, and leaves these bytes in it.
 fn formats<T: Display>(value: &T, room: &mut [u8], answer: Answer<()>, bytes: &[u8]) -> bool {
     let mut serializer = Serializer {
         output: Slice::new(room),
@@ -18,7 +18,7 @@ fn formats<T: Display>(value: &T, room: &mut [u8], answer: Answer<()>, bytes: &[
     ])
 }
 
-// Whether a text's formatting is answered so where it is counted, and counts so many bytes.
+// Whether a text's formatting returns this if it is counted, and counts so many bytes.
 fn counts<T: Display>(value: &T, answer: Answer<()>, size: usize) -> bool {
     let mut counter = Serializer {
         output: Size::default(),
@@ -35,7 +35,7 @@ impl Display for Faulty {
     }
 }
 
-/// A value that doesn't tell that a piece of its text was refused.
+/// A value that doesn't report that a chunk of its text was refused.
 struct Careless;
 
 impl Display for Careless {

@@ -9,12 +9,12 @@ use postcard_tree::varint::{
 };
 use std::collections::BTreeMap;
 
-// Whether a number of 16 bits is spelled so.
+// Whether a number of 16 bits is encoded so.
 fn spells_short(value: u16, bytes: &[u8]) -> bool {
     are_equal(varint_u16(value, &mut [0; 3]), bytes)
 }
 
-// Whether a number of 64 bits is spelled so.
+// Whether a number of 64 bits is encoded so.
 fn spells_long(value: u64, bytes: &[u8]) -> bool {
     are_equal(varint_u64(value, &mut [0; 10]), bytes)
 }

@@ -87,7 +87,7 @@ fn table(alloc: Global) -> Result<Schema, AllocError> {
     Ok(schema)
 }
 
-/// It as JSON, in pieces.
+/// It as JSON, in chunks.
 const TABLE: [&str; 19] = [
     r#"{"version":1,"types":[{"name":"Light","line":3,"node":0},"#,
     r#"{"name":"Session","line":7,"node":1}],"nodes":["#,
@@ -110,7 +110,7 @@ const TABLE: [&str; 19] = [
     r#"{"kind":"bytes","size":null}]}"#,
 ];
 
-/// Texts one behind another.
+/// Texts one after another.
 fn joined(alloc: Global, pieces: &[&str]) -> Result<Vec<u8>, AllocError> {
     let mut bytes = Vec::new(alloc);
     for piece in pieces {

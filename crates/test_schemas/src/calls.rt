@@ -16,7 +16,7 @@ fn is_said(line: std::result::Result<String, AllocError>, wanted: &str) -> bool 
     }
 }
 
-// Whether it is this value, or this refusal.
+// Whether it is this value, or this error.
 fn is_answer(alloc: Global, answer: Result<Value>, wanted: &str) -> bool {
     match answer {
         Ok(value) => is_said(say_read(alloc, &value, 0), wanted),
@@ -56,7 +56,7 @@ fn from_a_reader(rt: HostRuntime) {
     );
 }
 
-// A type, how deep, the bytes, and what is answered.
+// A type, how deep, the bytes, and the result.
 type Row = (usize, u32, &'static [u8], &'static str);
 
 fn check_rows(rt: &impl Abort, alloc: Global, rows: &[Row]) {
@@ -121,7 +121,7 @@ const COUNTS: [(usize, u32, &[u8]); 6] = [
     (6, 1, &MOST),
 ];
 
-// Room for so many is never found: an answer other than the end would show that it was asked for.
+// There is never memory for so many: a result other than the end would show that it was requested.
 #[test]
 fn a_count_alone_asks_for_nothing(rt: HostRuntime) {
     let alloc = rt.alloc();

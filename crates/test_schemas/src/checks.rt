@@ -30,7 +30,7 @@ pub(crate) fn is_out_of_memory(cause: Error) -> bool {
     matches!(cause, Error::OutOfMemory)
 }
 
-/// Whether an answer is that the bytes ended.
+/// Whether a result is that the bytes ended.
 pub(crate) fn is_end<T: Drop>(answer: Result<T>) -> bool {
     matches!(answer, Err(Error::DeserializeUnexpectedEnd))
 }

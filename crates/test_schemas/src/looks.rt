@@ -9,7 +9,7 @@ use wire_lib::parse::parse;
 use wire_lib::print::{Look, print};
 use wire_lib::wrong::ParseError;
 
-/// The types that the rows speak of, behind the one that is read.
+/// The types that the rows name, after the one that is read.
 const BESIDE: &str = "
 // message
 struct Off;

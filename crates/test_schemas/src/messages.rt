@@ -1,5 +1,5 @@
 //! Message types that are read by their schemas and by themselves: what is read is written again as the same bytes, with as
-//! many left behind it, and what is refused is refused as the same error. And which numbers their schemas read.
+//! many left after it, and what is refused is refused as the same error. And which numbers their schemas read.
 use crate::checks::check_row;
 use crate::saying::{say_read, say_refused};
 use arrayvec::{ArrayString, ArrayVec};
@@ -14,7 +14,7 @@ use std::process::Abort;
 // As deep as the table of each of these types is long, or deeper.
 const DEPTH: u32 = 64;
 
-// What was read, written again, and how many bytes are left behind it.
+// What was read, written again, and how many bytes are left after it.
 fn say_again<T: Serialize>(alloc: Global, read: &T, left: usize) -> Result<String, AllocError> {
     let mut room = [0u8; 32];
     match to_slice(read, &mut room) {
@@ -118,7 +118,7 @@ fn an_enum_by_hand(rt: HostRuntime) {
     check_type::<DataEnum>(&rt, rt.alloc(), &BY_HAND);
 }
 
-// Types whose numbers have an order of bytes, and whose texts and lists have a greatest length.
+// Types whose numbers have an order of bytes, and whose texts and lists have a maximum length.
 type Bounded = (LE<u32>, ArrayVec<u8, 2>, ArrayString<3>, BE<i16>);
 
 const BOUNDED: [Row<'static>; 3] = [
@@ -138,7 +138,7 @@ fn of_lengths_and_orders(rt: HostRuntime) {
     check_type::<Bounded>(&rt, rt.alloc(), &BOUNDED);
 }
 
-// Which values a schema reads. Trees don't tell a number from a signed one of as many bits, nor one order of bytes from the other.
+// Which values a schema reads. Trees don't distinguish a number from a signed one of as many bits, nor the orders of bytes.
 fn values_of<T: HasSchema>(alloc: Global, bytes: &[u8]) -> Result<String, AllocError> {
     let (nodes, place) = schema_of::<T>(alloc)?;
     match take_from_bytes(alloc, &nodes, place, DEPTH, bytes) {

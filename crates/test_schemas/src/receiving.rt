@@ -10,7 +10,7 @@ use wire_lib::DEPTH;
 use wire_lib::receive::{LinesOfFrames, Reading};
 use wire_lib::table::TableReader;
 
-// A zero; a value; a frame that lacks a byte; the value with a byte behind it; a beginning.
+// A zero; a value; a frame that lacks a byte; the value with a byte after it; a prefix.
 const STREAM: [u8; 17] = [0, 4, 5, 0xAC, 2, 0, 3, 5, 0, 5, 5, 0xAC, 2, 7, 0, 4, 5];
 
 const LINES: &str = "{\"value\":[5,300]}
@@ -31,7 +31,7 @@ fn schema(alloc: Global) -> Option<Schema> {
     read_schema(alloc, "// message\nstruct Pair(u8, u16);").ok()
 }
 
-// A stream: whether it is read strictly, how many of its bytes are passed over, what its lines are, and whether all its answers
+// A stream: whether it is read strictly, how many of its bytes are passed over, what its lines are, and whether all its results
 // are values.
 #[derive(Clone, Copy)]
 struct Run {
@@ -66,10 +66,10 @@ const RUNS: [Run; 3] = [
     },
 ];
 
-// How many bytes a piece of a stream has.
+// How many bytes a chunk of a stream has.
 const SIZES: [usize; 5] = [1, 2, 5, 6, 17];
 
-// Whether there is memory for the lines of a stream in pieces of so many bytes.
+// Whether there is memory for the lines of a stream in chunks of so many bytes.
 fn takes(
     receiver: &mut LinesOfFrames<'_>,
     stream: &[u8],
@@ -84,7 +84,7 @@ fn takes(
     true
 }
 
-// Whether a stream has its lines, in pieces of so many bytes.
+// Whether a stream has its lines, in chunks of so many bytes.
 fn has_its_lines(alloc: Global, schema: &Schema, run: &Run, size: usize) -> bool {
     let reading = Reading {
         alloc,
@@ -120,12 +120,12 @@ fn whole_and_in_pieces(rt: HostRuntime) {
     }
 }
 
-/// Whether an answer is a value.
+/// Whether a result is a value.
 fn is_value<E>(answer: &Result<Option<Answer<Value>>, E>) -> bool {
     matches!(answer, Ok(Some(Answer::Value(_))))
 }
 
-/// Whether an answer is that a stretch is damaged.
+/// Whether a result is that the bytes between two delimiters are damaged.
 fn is_damaged<E>(answer: &Result<Option<Answer<Value>>, E>) -> bool {
     matches!(answer, Ok(Some(Answer::Damaged)))
 }

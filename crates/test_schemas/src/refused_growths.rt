@@ -1,4 +1,4 @@
-//! Out of memory: in a run in which a growth is refused, each call answers so or gives its whole answer.
+//! Out of memory: if an allocation is refused, each call says so or returns its whole result.
 use crate::checks::{are_equal, check, is_out_of_memory};
 use crate::table::{DEPTH, NESTED, TEXT, table};
 use postcard::{to_slice, to_stdvec};
@@ -10,7 +10,7 @@ const BYTES: [u8; 12] = [
     0x01, 0x02, 0x01, 0x88, 0x55, 0x79, 0x00, 0x03, 0x03, 0x29, 0x2B, 0x70,
 ];
 
-// Written into room that is there, so that no growth is asked for.
+// Written into memory that is there, so nothing is allocated.
 fn is_spelled(value: &Value, bytes: &[u8]) -> bool {
     let mut room = [0u8; 16];
     match to_slice(value, &mut room) {

@@ -42,7 +42,7 @@ fn is_written_again(
     }
 }
 
-// The type, the bytes as digits, and the words of the vectors or the bytes that are wanted.
+// The type, the bytes as digits, and the words of the vectors or the expected bytes.
 type Row = (usize, &'static str, &'static str);
 
 fn check_answers(rt: &impl Abort, alloc: Global, rows: &[Row]) {
@@ -190,7 +190,7 @@ fn variants_and_maps(rt: HostRuntime) {
     check_answers(&rt, rt.alloc(), &VARIANTS_AND_MAPS);
 }
 
-// By the rules of the format: the bytes of an integer as they stand, a count and what it counts.
+// By the rules of the format: the bytes of an integer as they are, a count and what it counts.
 const BOUNDED: [Row; 11] = [
     (LE_U16, "cdab", "43981 +0"),
     (BE_U16, "abcdff", "43981 +1"),

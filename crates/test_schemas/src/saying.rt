@@ -118,7 +118,7 @@ pub(crate) fn say(value: &Value, line: &mut String) -> Result<(), AllocError> {
     }
 }
 
-/// A value with how many bytes are left behind it.
+/// A value with how many bytes are left after it.
 pub(crate) fn say_read(alloc: Global, value: &Value, left: usize) -> Result<String, AllocError> {
     let mut line = String::new(alloc);
     say(value, &mut line)?;
@@ -126,7 +126,7 @@ pub(crate) fn say_read(alloc: Global, value: &Value, left: usize) -> Result<Stri
     Ok(line)
 }
 
-/// A refusal.
+/// An error.
 pub(crate) fn say_refused(alloc: Global, cause: Error) -> Result<String, AllocError> {
     format!(in alloc; "!{cause:?}")
 }

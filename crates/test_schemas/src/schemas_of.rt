@@ -119,7 +119,7 @@ fn are_lines(alloc: Global, schema: &Schema, wanted: &str) -> bool {
     put_lines(&mut lines, schema).is_ok() && lines.as_str() == wanted
 }
 
-/// Whether these lines are told of a text: those of its table, or what is wrong.
+/// Whether these lines are returned for a text: those of its table, or what is wrong.
 fn is_told(alloc: Global, text: &str, wanted: &str) -> bool {
     match read_schema(alloc, text) {
         Ok(schema) => are_lines(alloc, &schema, wanted),
@@ -128,7 +128,7 @@ fn is_told(alloc: Global, text: &str, wanted: &str) -> bool {
     }
 }
 
-// A text of declarations, and what is told of it.
+// A text of declarations, and what is returned for it.
 type Row = (&'static str, &'static str);
 
 fn check_rows(rt: &impl Abort, alloc: Global, rows: &[Row]) {

@@ -1,5 +1,5 @@
 //! Greatest sizes. Those of the rows are by the rules of postcard: a number of 16, 32, 64 or 128 bits takes up to 3, 5, 10 or 19
-//! bytes, a count, a length and a variant's index as many as the greatest of them needs, and a character up to 4 behind its length.
+//! bytes, a count, a length and a variant's index as many as the largest of them needs, and a character up to 4 after its length.
 use crate::checks::check_row;
 use crate::looks::schema_of;
 use declarations::Schema;

@@ -3,10 +3,13 @@ ghost use Rattle.postcard.specs.ReadBack.{IsReadBack, IsNotRefused};
 
 use postcard_ser::Lawful;
 
-/// Bytes that `to_slice` or its kin wrote of a value are read by `from_bytes` or its kin as a value that is alike it, and
-/// refused when out of memory alone. The caller owes that the value is valid, as the clause `valid` of `to_slice` says.
+/// States that bytes which `to_slice` or a variant of it wrote are read by `from_bytes` or a variant as a value that is alike
+/// the first, and refused only if out of memory.
 ///
-/// `round_trip` says this of one call; here the bytes may have gone anywhere between the two.
+/// `round_trip` says this of one call; here the bytes may have gone anywhere in between.
+///
+/// # Requires
+/// The value is valid, as the clause `valid` of `to_slice` says.
 pub fn read_back<T: Lawful>(v: &T)
     requires { T.form.valid v.now }
     ensures alike { IsReadBack T.form.reads T.form.alike (T.form.writes v.now) v.now }

@@ -1,4 +1,4 @@
-//! The greatest sizes of options, results, arrays, vectors and texts with a greatest length, and of what stands for a value.
+//! The maximum sizes of options, results, arrays, vectors and texts of a maximum length, and of references and boxes.
 ghost use Rattle.std.specs.Prelude.{length, Some};
 ghost use Rattle.postcard_tree.specs.Spelling.{varint};
 ghost use Rattle.postcard.specs.Greatest.{sum_of, greater_of, times, option_within, result_within, array_within, sequence_within, text_within};

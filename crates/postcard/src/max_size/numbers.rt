@@ -1,4 +1,4 @@
-//! The greatest sizes of numbers, of characters, and of what is spelled by none or by numbers alone.
+//! The maximum sizes of numbers, of characters, and of what is encoded as nothing or as numbers alone.
 ghost use Rattle.std.specs.Prelude.{Some, if◌then◌else◌};
 ghost use Rattle.std.specs.Int.{w8, cast_unsigned};
 ghost use Rattle.std.proofs.Common.{sym, subst};

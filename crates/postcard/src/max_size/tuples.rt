@@ -1,4 +1,4 @@
-//! The greatest sizes of tuples.
+//! The maximum sizes of tuples.
 ghost use Rattle.std.specs.Prelude.{[], ◌∷◌, Some};
 ghost use Rattle.postcard.specs.Greatest.{total, none_within, part_within, group_within};
 

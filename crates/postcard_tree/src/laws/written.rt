@@ -9,8 +9,8 @@ use crate::readable::Readable;
 use arrayvec::{ArrayString, ArrayVec};
 use std::collections::BTreeMap;
 
-/// The truth values and integers: none refuses itself. Eight bits are a byte, sixteen and more a number of that
-/// width, `usize` and `isize` one of 64; the signed ones by zigzag.
+/// States that no `bool` or integer refuses itself. Eight bits are a byte; sixteen and more are a number of that width, `usize`
+/// and `isize` of 64; the signed ones by zigzag.
 pub fn trees_of_numbers()
     ensures truth { (v : _) → ⟦<bool as Readable>⟧.form.writes v ≡ Some
         (byte (if v then 1 else 0)) }
@@ -28,7 +28,7 @@ pub fn trees_of_numbers()
     ensures of_isize { (v : _) → ⟦<isize as Readable>⟧.form.writes v ≡ Some (number 64 (zigzag v)) }
 {}
 
-/// A number of a fixed width is the group of its bytes.
+/// States that a number of a fixed width is the group of its bytes.
 #[tactic(auto, unfolding(crate::specs::FixedTree::little_tree, crate::specs::FixedTree::big_tree))]
 pub fn trees_of_fixed_numbers<T: FixInt>()
     ensures little { (v : _) → ⟦<LE<T> as Readable>⟧.form.writes v
@@ -37,7 +37,7 @@ pub fn trees_of_fixed_numbers<T: FixInt>()
         ≡ Some (group (bytes_of (big_endian T.size (T.bits v.0)))) }
 {}
 
-/// A character is its own kind of tree; a text is the sequence of its bytes.
+/// States that a character is its own kind of tree, and a text the sequence of its bytes.
 pub fn trees_of_texts<'a, const N: usize>()
     ensures of_char { (v : _) → ⟦<char as Readable>⟧.form.writes v ≡ Some (character v) }
     ensures of_str { (v : _) → ⟦<&'a str as Readable>⟧.form.writes v ≡ Some (text_of v.now) }
@@ -47,9 +47,9 @@ pub fn trees_of_texts<'a, const N: usize>()
         → ⟦<ArrayString<N> as Readable>⟧.form.writes v ≡ Some (text_of v.bytes) }
 {}
 
-/// Nothing is an empty group, an array the group of its elements; what has a length is the sequence of its
-/// elements; a reference and a box are what they hold; a map is the sequence of its pairs in ascending order of
-/// keys. A value refuses itself where a part does.
+/// States that `()` is an empty group, an array the group of its elements, and what has a length the sequence of its elements.
+/// A reference and a box are what they hold; a map is the sequence of its pairs in ascending order of keys. A value refuses
+/// itself if a part does.
 pub fn trees_of_containers<'a, T: Readable + 'a, E: Readable, K: Readable + Ord, const N: usize>()
     ensures nothing { (v : _) → ⟦<() as Readable>⟧.form.writes v ≡ Some (group end) }
     ensures option { (v : _) → ⟦<Option<T> as Readable>⟧.form.writes v ≡ option_writes
@@ -70,7 +70,7 @@ pub fn trees_of_containers<'a, T: Readable + 'a, E: Readable, K: Readable + Ord,
         (parts (map (pair_writes K.form.writes T.form.writes) v.entries)) }
 {}
 
-/// A tuple is the group of its parts.
+/// States that a tuple is the group of its parts.
 pub fn trees_of_tuples<
     A: Readable,
     B: Readable,

@@ -1,4 +1,4 @@
-//! Types of std that have a greatest size, and are neither written nor read.
+//! Types of std that have a maximum size, and are neither written nor read.
 ghost use Rattle.postcard_tree.specs.ReadingLaws.{only_sized};
 
 use super::{Own, Readable};

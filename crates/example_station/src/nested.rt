@@ -54,7 +54,7 @@ pub struct Sample<T: Clone, const N: usize> {
     pub levels: [T; N],
 }
 
-/// A text that lies where it was read.
+/// A text that borrows from what was read.
 // message
 #[derive(Drop)]
 pub struct Lent<'a> {
@@ -62,7 +62,7 @@ pub struct Lent<'a> {
     pub kind: u8,
 }
 
-/// One that holds such texts, which may be lent by two, and what is its own.
+/// Holds such texts, perhaps borrowed from two sources, and a value of its own.
 // message
 #[derive(Drop)]
 pub struct Borrower<'a, 'b, T> {

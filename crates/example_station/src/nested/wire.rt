@@ -273,7 +273,7 @@ type MessageShape = Variants4<
 >;
 
 impl Shaped for Message {
-    ghost use Rattle.example_nested.specs.declared.messages.Message.TheVariants.{Text, Drawing, Holders, Seen, Lost, Kept, Numbers};
+    ghost use Rattle.example_station.specs.declared.nested.Message.TheVariants.{Text, Drawing, Holders, Seen, Lost, Kept, Numbers};
     ghost use Rattle.postcard_tree.specs.declared.variants.Variants4.TheVariants.{V0, V1, V2, V3, More};
     ghost use Rattle.postcard_tree.specs.declared.variants.Variant.TheVariants.{This, Other};
     ghost use Rattle.postcard_tree.specs.declared.variants.Last.TheVariants.{Last};

@@ -1,15 +1,15 @@
 //! Laws of messages that hold one another.
 //!
 //! What is written is read back with equal fields, as [`postcard::laws::round_trip`] says of every type; what is read from
-//! bytes writes what was read; and no value is spelled longer than its type's greatest size.
+//! bytes writes what was read; and no value's encoding is longer than its type's maximum size.
 ghost use Rattle.std.specs.Prelude.{◌≡◌, ℕ, List, IfOk, Some};
 ghost use Rattle.postcard_tree.specs.Tree.{Tree};
 ghost use Rattle.postcard_de.specs.Answer.{ReadsFront};
 ghost use Rattle.postcard.specs.Greatest.{SizeWithin};
-ghost use Rattle.example_nested.specs.declared.messages.Drawing.{Drawing as Drawings};
-ghost use Rattle.example_nested.specs.declared.messages.Text.{Text as Texts};
+ghost use Rattle.example_station.specs.declared.nested.Drawing.{Drawing as Drawings};
+ghost use Rattle.example_station.specs.declared.nested.Text.{Text as Texts};
 
-use crate::messages::{Borrower, Deep, Drawing, Message, Sample, Text};
+use crate::nested::{Borrower, Deep, Drawing, Message, Sample, Text};
 use postcard::experimental::max_size::MaxSize;
 use postcard::laws::{round_trip, within_greatest};
 use postcard::{Exact, Readable, Result, from_bytes, from_bytes_owned};
@@ -35,8 +35,8 @@ pub fn sample<'a>(
     round_trip::<Sample<u8, 3>>(alloc, v, &[], room)
 }
 
-/// Texts that lie where they were read, and one of its own, which is alike as texts are: a clause that quotes the trait of the
-/// type within.
+/// Texts that borrow from what was read, and one of its own, which is alike as texts are: a clause that quotes the trait of the
+/// type within, so a law needs no more words where types are nested deeper.
 pub fn borrower<'a>(
     alloc: Global,
     v: &Borrower<'a, 'a, Text>,
@@ -62,7 +62,7 @@ pub fn message<'a>(alloc: Global, v: &Message, room: &'a mut [u8]) -> Result<(Me
     round_trip::<Message>(alloc, v, &[], room)
 }
 
-/// What two may lend is read from bytes that one lends.
+/// A type that borrows from two sources is read from one.
 pub fn borrower_from_bytes<'a>(alloc: Global, s: &'a [u8]) -> Result<Borrower<'a, 'a, Text>>
     ensures { IfOk result (λ v. (rest : List ℕ)
         × ReadsFront ⟦<Borrower<'a, 'a, Text> as Readable>⟧.form.reads s.now rest v) }
@@ -83,7 +83,7 @@ pub fn drawing_size()
     ensures { ⟦<Drawing as MaxSize>⟧.greatest ≡ Some 58 }
 {}
 
-/// No drawing is spelled in more bytes.
+/// No drawing takes more bytes.
 pub fn drawing_within(v: &Drawing)
     ensures { SizeWithin (⟦<Drawing as Readable>⟧.form.writes v.now)
         ⟦<Drawing as MaxSize>⟧.greatest }
