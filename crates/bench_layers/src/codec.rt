@@ -1,7 +1,8 @@
 //! The codec over a buffer as C functions.
 
 use crate::answers::{Counted, Found, NONE_FOUND};
-use crate::records::{Owned, count_answer};
+use crate::messages::Owned;
+use crate::records::count_answer;
 use bytes::BytesMut;
 use link::{Decoding, MessageReader};
 use link_codec::{AnswerDecoder, LinkDecoder, LinkEncoder, OwnedLinkDecoder, StrictLinkDecoder};

@@ -1,7 +1,8 @@
 //! Receivers that are pushed, and what is received or read at once, as C functions.
 
 use crate::answers::{Found, NONE_FOUND};
-use crate::records::{Lent, OTHER, Owned, count_answer, count_record, parts_of};
+use crate::messages::{Owned, count_record};
+use crate::records::{Lent, OTHER, count_answer, parts_of};
 use line_io::memory::In;
 use link::{
     Answer, Decoding, NoMemory, OwnedReceiver, Pushed, Receiver, Reception, read_in_place, receive,
