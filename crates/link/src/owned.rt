@@ -59,9 +59,10 @@ impl Reception<CobsDecoderOwned> {
     ///
     /// # Example
     /// ```rust
-    /// && receiver.set_limit(2).is_ok()
-    /// && receiver.limit() == 2
-    /// && takes_true(alloc, receiver)
+    /// takes_true(alloc, receiver)
+    ///     && receiver.is_between()
+    ///     && receiver.set_limit(0).is_ok()
+    ///     && takes_nothing(alloc, receiver)
     /// ```
     pub fn set_limit(&mut self, limit: usize) -> Result<(), NoMemory>
         requires { IsBetween self.old }

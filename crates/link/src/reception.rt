@@ -399,6 +399,8 @@ impl<D: Decoding> Reception<D> {
     }
 
     /// Whether no stretch is begun. After a `TooLong` one is, until its sentinel.
+    ///
+    /// Example: see [`Receiver`].
     pub fn is_between(&self) -> bool
         ensures state { IsTrue result ↔ IsBetween self.now }
         ensures begun { OnBegun D.inside self.now (λ b. IsTrue result ↔ (b ≡ kept [])) }
@@ -427,6 +429,14 @@ impl<D: Decoding> Reception<D> {
     }
 
     /// Ends the stream as `finish` does, and begins a new one with the same limit and sentinel. Allocates nothing.
+    ///
+    /// # Example
+    /// ```rust
+    /// match self.decode(src)? {
+    ///     Some(answer) => Ok(Some(answer)),
+    ///     None => Ok(self.receiver.restart()),
+    /// }
+    /// ```
     pub fn restart<T>(&mut self) -> Option<Answer<T>>
         ensures answer { OnBegun D.inside self.old (λ b. result ≡ finished b) }
         ensures anew { (limit s : ℕ) (stream : List ℕ) → IsBehind D.inside limit s self.old stream
