@@ -27,7 +27,7 @@ fn decode_all<M: MessageReader<Owned> + Drop, D: Decoding + Drop>(
     }
 }
 
-/// Decodes a stream whose pieces of `piece` bytes are put into a buffer one by one, and counts the
+/// Decodes a stream whose chunks of `piece` bytes are put into a buffer one by one, and counts the
 /// answers; nothing where there is no memory for the buffer.
 fn decode_stream<M: MessageReader<Owned> + Drop, D: Decoding + Drop>(
     alloc: Global,
@@ -52,7 +52,7 @@ fn decode_stream<M: MessageReader<Owned> + Drop, D: Decoding + Drop>(
     counts
 }
 
-/// Decodes a stream in pieces of `piece` bytes by a `LinkDecoder`, and counts the answers. Nothing
+/// Decodes a stream in chunks of `piece` bytes by a `LinkDecoder`, and counts the answers. Nothing
 /// is found where `piece` is 0.
 #[unsafe(no_mangle)]
 pub extern "C" fn codec_c_decode(alloc: Global, stream: &[u8], piece: usize, found: &mut Found) {
@@ -86,7 +86,7 @@ pub extern "C" fn codec_c_decode_owned(
     }
 }
 
-/// Encodes so many values, each a number and this text, behind one another in a buffer, which is put to the front of the room where
+/// Encodes so many values, each a number and this text, after one another in a buffer, which is put to the front of the room where
 /// that is as long. Nothing is done where the text isn't UTF-8.
 #[unsafe(no_mangle)]
 pub extern "C" fn codec_c_encode(
