@@ -459,7 +459,10 @@ impl<D: Decoding + Drop> Reception<D> {
     ///
     /// # Example
     /// ```rust
-    /// check(&rt, receiver.finish::<u32>() == Some(Answer::Cut));
+    /// match receiver.finish() {
+    ///     Some(answer) => tell(rt, answer, at, at),
+    ///     None => Ok(()),
+    /// }
     /// ```
     pub fn finish<T>(self) -> Option<Answer<T>>
         ensures { OnBegun D.inside self (λ b. result ≡ finished b) }
