@@ -1,4 +1,4 @@
-//! Both sides of remote calls over memory, by hand: as `bench_messages` has them.
+//! Both sides of remote calls over memory, by hand: as `bench_layers` has them.
 use crate::frames::{first_zero, runs};
 use crate::remote::Counted;
 

@@ -1,6 +1,6 @@
-//! What calls answer to C.
+//! What calls return to C.
 
-/// What a call answers: whether it was done, and how many bytes it gave; 0 where it wasn't.
+/// What a call returns: whether it was done, and how many bytes it gave; 0 if it wasn't.
 #[repr(C)]
 #[derive(Clone, Copy)]
 pub struct Answer {
@@ -21,7 +21,7 @@ pub struct Parts {
     pub sum: u64,
 }
 
-/// What was found: how many values, how many refusals, and a sum over the values.
+/// What was found: how many values, how many errors, and a sum over the values.
 #[repr(C)]
 #[derive(Clone, Copy)]
 pub struct Found {
@@ -30,7 +30,7 @@ pub struct Found {
     pub sum: u64,
 }
 
-/// What was done: how many times, a sum over what was said, and how many bytes were written.
+/// What was done: how many times, a sum over the results, and how many bytes were written.
 #[repr(C)]
 #[derive(Clone, Copy)]
 pub struct Counted {

@@ -1,7 +1,8 @@
 //! The codec over a buffer as C functions.
 
 use crate::answers::{Counted, Found, NONE_FOUND};
-use crate::records::{Owned, count_answer};
+use crate::messages::Owned;
+use crate::records::count_answer;
 use bytes::BytesMut;
 use link::{Decoding, MessageReader};
 use link_codec::{AnswerDecoder, LinkDecoder, LinkEncoder, OwnedLinkDecoder, StrictLinkDecoder};
@@ -26,7 +27,7 @@ fn decode_all<M: MessageReader<Owned> + Drop, D: Decoding + Drop>(
     }
 }
 
-/// Decodes a stream whose pieces of `piece` bytes are put into a buffer one by one, and counts the
+/// Decodes a stream whose chunks of `piece` bytes are put into a buffer one by one, and counts the
 /// answers; nothing where there is no memory for the buffer.
 fn decode_stream<M: MessageReader<Owned> + Drop, D: Decoding + Drop>(
     alloc: Global,
@@ -51,7 +52,7 @@ fn decode_stream<M: MessageReader<Owned> + Drop, D: Decoding + Drop>(
     counts
 }
 
-/// Decodes a stream in pieces of `piece` bytes by a `LinkDecoder`, and counts the answers. Nothing
+/// Decodes a stream in chunks of `piece` bytes by a `LinkDecoder`, and counts the answers. Nothing
 /// is found where `piece` is 0.
 #[unsafe(no_mangle)]
 pub extern "C" fn codec_c_decode(alloc: Global, stream: &[u8], piece: usize, found: &mut Found) {
@@ -85,7 +86,7 @@ pub extern "C" fn codec_c_decode_owned(
     }
 }
 
-/// Encodes so many values, each a number and this text, behind one another in a buffer, which is put to the front of the room where
+/// Encodes so many values, each a number and this text, after one another in a buffer, which is put to the front of the room where
 /// that is as long. Nothing is done where the text isn't UTF-8.
 #[unsafe(no_mangle)]
 pub extern "C" fn codec_c_encode(

@@ -3,7 +3,8 @@ ghost use Rattle.std.specs.Prelude.{◌≡◌, false, ⊤};
 ghost use Rattle.link.specs.Each.{HeardAnyhow, heard_anyhow};
 
 use crate::answers::{Counted, Found, NONE_FOUND};
-use crate::records::{OTHER, Owned, count_answer};
+use crate::messages::Owned;
+use crate::records::{OTHER, count_answer};
 use line_io::memory::{In, Out};
 use link::{Answer, Fate, Hearer, OfType, Ordinary, Receiver, Sender, send_each};
 use std::alloc::Global;

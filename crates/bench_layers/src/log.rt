@@ -42,7 +42,7 @@ impl Visitor<(u32, String)> for Counting {
     }
 }
 
-/// Appends so many records with this text to a log that holds nothing, and syncs behind each. What the log holds then is put to the
+/// Appends so many records with this text to a log that holds nothing, and syncs after each. What the log holds then is put to the
 /// front of the room where that is as long. Nothing is done where the text isn't UTF-8.
 #[unsafe(no_mangle)]
 pub extern "C" fn journal_c_append(

@@ -1,7 +1,8 @@
 //! Receivers that are pushed, and what is received or read at once, as C functions.
 
 use crate::answers::{Found, NONE_FOUND};
-use crate::records::{Lent, OTHER, Owned, count_answer, count_record, parts_of};
+use crate::messages::{Owned, count_record};
+use crate::records::{Lent, OTHER, count_answer, parts_of};
 use line_io::memory::In;
 use link::{
     Answer, Decoding, NoMemory, OwnedReceiver, Pushed, Receiver, Reception, read_in_place, receive,
@@ -21,7 +22,7 @@ fn count_pushed(answer: Result<Option<Answer<Owned>>, NoMemory>, found: &mut Fou
     }
 }
 
-/// Pushes a piece until it is used up.
+/// Pushes a chunk until it is used up.
 fn push_piece<D: Decoding>(
     alloc: Global,
     receiver: &mut Reception<D>,
@@ -57,7 +58,7 @@ fn push_piece_strict<D: Decoding>(
     }
 }
 
-/// Pushes a stream in pieces of `piece` bytes into a receiver, and counts the answers. Nothing is found where `piece` is 0.
+/// Pushes a stream in chunks of `piece` bytes into a receiver, and counts the answers. Nothing is found where `piece` is 0.
 #[unsafe(no_mangle)]
 pub extern "C" fn link_c_push(alloc: Global, stream: &[u8], piece: usize, found: &mut Found) {
     let mut receiver = Receiver::<LIMIT>::new();
@@ -88,7 +89,7 @@ pub extern "C" fn link_c_push_strict(
     *found = counts;
 }
 
-/// The same by a receiver whose limit is a value. Nothing is found where there is no memory for it.
+/// The same by a receiver whose limit is set at run time. Nothing is found where there is no memory for it.
 #[unsafe(no_mangle)]
 pub extern "C" fn link_c_push_owned(alloc: Global, stream: &[u8], piece: usize, found: &mut Found) {
     *found = NONE_FOUND;
@@ -117,7 +118,7 @@ pub extern "C" fn link_c_push_for(alloc: Global, stream: &[u8], piece: usize, fo
     *found = counts;
 }
 
-/// Pushes a piece until it is used up, of records whose texts are read where they lie.
+/// Pushes a chunk until it is used up, of records whose texts are read where they lie.
 fn push_piece_ref(alloc: Global, receiver: &mut Receiver<LIMIT>, piece: &[u8], found: &mut Found) {
     let mut rest = piece;
     for _ in 0..piece.len() {
@@ -134,7 +135,7 @@ fn push_piece_ref(alloc: Global, receiver: &mut Receiver<LIMIT>, piece: &[u8], f
     }
 }
 
-/// Pushes a stream in pieces of `piece` bytes into a receiver by `push_ref`, and counts the
+/// Pushes a stream in chunks of `piece` bytes into a receiver by `push_ref`, and counts the
 /// answers. Nothing is found where `piece` is 0.
 #[unsafe(no_mangle)]
 pub extern "C" fn link_c_push_ref(alloc: Global, stream: &[u8], piece: usize, found: &mut Found) {

@@ -3,7 +3,8 @@
 ghost use Rattle.std.specs.Prelude.{◌≤◌, length};
 
 use crate::answers::{Answer, Parts, REFUSED};
-use crate::records::{Lent, OTHER, Owned, parts_of, parts_of_owned};
+use crate::messages::Owned;
+use crate::records::{Lent, OTHER, parts_of, parts_of_owned};
 use arrayvec::ArrayVec;
 use std::alloc::Global;
 

@@ -2,7 +2,7 @@
 ghost use Rattle.std.specs.Prelude.{◌≡◌, ◌≤◌, length};
 
 use crate::answers::{Answer, Found, NONE_FOUND, REFUSED};
-use crate::records::Owned;
+use crate::messages::Owned;
 use schemas::{Value, schema_of};
 use std::alloc::Global;
 

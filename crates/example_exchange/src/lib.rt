@@ -1,4 +1,4 @@
-//! Three readings over a line, and what is heard of them: what a user proves of a program of their own.
+//! Three readings over a line, and what is received of them: what a user proves of a program of their own.
 #![tactic(auto)]
 
 ghost use Rattle.std.specs.Prelude.{◌≡◌, [], ◌∷◌, Ok, Err};
@@ -21,7 +21,7 @@ fn alike()
     ensures { (v w : Readings) → ⟦<Reading as Readable>⟧.form.alike v w → v ≡ w }
 {}
 
-/// What three sends answered, and what was heard of them.
+/// The results of three sends, and what was received of them.
 #[derive(Drop)]
 pub struct Exchanged {
     pub first: Result<(), SendError>,
@@ -33,8 +33,8 @@ pub struct Exchanged {
 
 /// Sends three readings over a line that fails once, after so many bytes, or never; and receives what came over it.
 ///
-/// Three sends that are answered `Ok` are heard as these three readings. Where the second breaks off and the others don't, what is
-/// heard of it is told by how many of its bytes went out.
+/// If all three sends return `Ok`, these three readings are received. If only the second is interrupted, what is received of it depends on
+/// how many of its bytes were written.
 pub fn exchange(
     alloc: Global,
     fault: Option<usize>,
@@ -77,7 +77,7 @@ pub fn exchange(
     }
 }
 
-/// What two sends of a reading answered, and what was heard of them.
+/// The results of two sends of a reading, and what was received of them.
 #[derive(Drop)]
 pub struct SentAgain {
     pub first: Result<(), SendError>,
@@ -88,7 +88,7 @@ pub struct SentAgain {
 
 /// Sends a reading over a line that fails once, after so many bytes, sends it again, and receives what came, two bytes at a time.
 ///
-/// Where the first send breaks off and the second doesn't, the reading is heard once, or behind `Damaged`, or twice.
+/// If only the first send is interrupted, the reading is received once, or after `Damaged`, or twice.
 pub fn send_again(alloc: Global, before: usize, reading: &Reading) -> SentAgain
     ensures { result.first ≡ Err Line → result.second ≡ Ok tt → result.end ≡ Ended
         → HeardByFront ⟦<Reading as Readable>⟧.form.writes reading.now result.answers.items

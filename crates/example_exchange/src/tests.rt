@@ -1,4 +1,4 @@
-//! What is heard of three readings over a line that fails at a byte of the second's, worked by hand.
+//! What is received of three readings over a line that fails at a byte of the second's, worked by hand.
 //!
 //! The frames are 03 07 67, 03 08 69 and 03 09 6B, so the line is 00 03 07 67 00 03 08 69 00 03 09 6B 00: the second send has the
 //! bytes from the sixth to the ninth.
@@ -48,12 +48,12 @@ fn are_heard(answers: &[Answer<Reading>], wanted: &[Option<Reading>]) -> bool {
     answers.len() == wanted.len()
 }
 
-// Whether a send broke off.
+// Whether a send was interrupted.
 fn broke_off(sent: &Result<(), SendError>) -> bool {
     matches!(sent, Err(SendError::Line))
 }
 
-// Whether all three are sent and heard.
+// Whether all three are sent and received.
 fn all_go_over(all: &Exchanged) -> bool {
     all.first.is_ok()
         && all.second.is_ok()
@@ -66,7 +66,7 @@ fn all_are_heard(rt: HostRuntime) {
     check(&rt, all_go_over(&exchange(rt.alloc(), None, &A, &B, &C)));
 }
 
-// Whether the second breaks off, and these are heard.
+// Whether the second is interrupted, and these are received.
 fn breaks_off(all: &Exchanged, wanted: &[Option<Reading>]) -> bool {
     all.first.is_ok()
         && broke_off(&all.second)
@@ -74,7 +74,7 @@ fn breaks_off(all: &Exchanged, wanted: &[Option<Reading>]) -> bool {
         && are_heard(&all.answers, wanted)
 }
 
-// After how many bytes the line fails once, and what is heard.
+// After how many bytes the line fails once, and what is received.
 type Row = (usize, &'static [Option<Reading>]);
 
 const BROKEN: [Row; 3] = [
@@ -91,7 +91,7 @@ fn the_second_breaks_off(rt: HostRuntime) {
     }
 }
 
-// Whether the first send breaks off and the second doesn't, and these are heard.
+// Whether the first send is interrupted and the second isn't, and these are received.
 fn goes_over_again(all: &SentAgain, wanted: &[Option<Reading>]) -> bool {
     broke_off(&all.first) && all.second.is_ok() && are_heard(&all.answers, wanted)
 }

@@ -1,4 +1,4 @@
-//! Prints each reading that comes over standard input, once its last byte is there; with the word `places` also where damage lies.
+//! Prints each reading that comes over standard input, as soon as its last byte was read; with any argument also where damage lies.
 #![tactic(auto)]
 
 mod places;
@@ -13,7 +13,7 @@ use places::print_places;
 use reading::Reading;
 use std::{env, io};
 
-/// Prints answers, until a line can't be printed.
+/// Prints results, until a line can't be printed.
 #[derive(Drop)]
 struct Printing<'a> {
     rt: &'a HostRuntime,

@@ -1,4 +1,4 @@
-//! Where the damage lies: each byte is pushed by itself, and `stretch` says of how many bytes an answer is.
+//! Where the damage lies: each byte is pushed by itself, and `stretch` says of how many bytes a result is.
 use crate::reading::Reading;
 use line_io::Inlet;
 use link::{Answer, NoMemory, Receiver};
@@ -13,7 +13,7 @@ fn tell(rt: &HostRuntime, answer: Answer<Reading>, from: u64, to: u64) -> io::Re
     }
 }
 
-/// Prints each reading once its last byte is there, and from which byte on and up to which one the damage lies.
+/// Prints each reading as soon as its last byte was read, and from which byte to which one the damage lies.
 pub fn print_places<I: Inlet>(rt: &HostRuntime, line: &mut I) -> io::Result<()> {
     let mut receiver = Receiver::<16>::new();
     let mut room = [0u8; 256];

@@ -1,4 +1,4 @@
-//! Sends a reading twice over a line that breaks off the first send, and prints what is heard.
+//! Sends a reading twice over a line that interrupts the first send, and prints what is received.
 #![tactic(auto)]
 
 ghost use Rattle.postcard_tree.specs.ReadingLaws.{form_as};

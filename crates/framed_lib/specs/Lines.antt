@@ -25,12 +25,19 @@ reads_text t s = ReadsText t (string_bytes s)
 -- not all.
 pub record StandBeforeLoss (strict : Bool) (sentinel : ℕ) (stream : List ℕ)
     (verdicts : List Verdict) : Type 0 where
+  -- the bytes before the push that lost the value
   pub front : List ℕ
+  -- the bytes from there on
   pub rest : List ℕ
+  -- how many of them through its sentinel
   pub used : ℕ
+  -- these are all bytes
   pub parts : stream ≡ front ++ rest
+  -- the results are those of the bytes before
   pub given : Given (holds_text strict) 1024 sentinel front verdicts
+  -- the value could not be allocated
   pub lost : IsLost (holds_text strict) 1024 sentinel front rest used
+  -- whatever follows, the results are the first ones, and not all
   pub begins : (more : List ℕ) → AnswersBeginProperly (holds_text strict) 1024 sentinel
       ((front ++ take used rest) ++ more) verdicts
 

@@ -13,20 +13,29 @@ use Rattle.framed_lib.specs.Lines.{holds_text, reads_text, lines_of}
 pub record WasAskedFor {H A : Type 0} (hears : H → List (Answer (String A)) → H → Type 0)
     (enough : H → Bool) (settled : H → Type 0) (strict : Bool) (sentinel : ℕ)
     (h k : H) (bytes : List ℕ) : Type 0 where
-  -- the bytes of all reads but the last, and those of the last one
+  -- the bytes of all reads but the last
   pub before : List ℕ
+  -- the bytes of the last read
   pub last : List ℕ
+  -- these are all bytes
   pub parts : bytes ≡ before ++ last
+  -- the last read is of at most so many
   pub short : length last ≤ 1024
-  -- the answers to the bytes before it, and those that came later
+  -- the results of the bytes before it
   pub early : List (Answer (String A))
+  -- the results that came later
   pub later : List (Answer (String A))
+  -- no result of the bytes before is missing
   pub given : HasGiven (holds_text strict) reads_text 1024 sentinel early before
-  -- the hearer then
+  -- the hearer when it was asked
   pub asked : H
+  -- it had the early results
   pub heard : hears h early asked
+  -- it hadn't had enough
   pub wants : enough asked ≡ false
+  -- and had nothing left to flush, if it had nothing at first
   pub settles : settled h → settled asked
+  -- the later results made of it what it is now
   pub hears_on : hears asked later k
 
 -- nothing was read, or a hearer was asked so
@@ -38,18 +47,25 @@ IsAskedFor hears enough settled strict sentinel h k bytes =
 -- Before the last read, of at most 1024 bytes, the lines of the answers to all bytes before it had gone out.
 pub record HadWritten {W : Type 0} (line : W → LineState) (strict : Bool) (sentinel : ℕ)
     (old new : W) (bytes : List ℕ) : Type 0 where
-  -- the bytes of all reads but the last, and those of the last one
+  -- the bytes of all reads but the last
   pub before : List ℕ
+  -- the bytes of the last read
   pub last : List ℕ
+  -- these are all bytes
   pub parts : bytes ≡ before ++ last
+  -- the last read is of at most so many
   pub short : length last ≤ 1024
-  -- the answers to the bytes before it
+  -- the results of the bytes before it
   pub verdicts : List Verdict
+  -- no result of the bytes before is missing
   pub given : Given (holds_text strict) 1024 sentinel before verdicts
-  -- the writer then, which had their lines, and what it was given later
+  -- the writer before the last read
   pub then : W
+  -- it had their lines
   pub went : WentOut (line old) (line then) (lines_of verdicts)
+  -- what was written later
   pub more : List ℕ
+  -- and it was written after them
   pub on : Wrote (line then) (line new) more
 
 -- nothing was read, or they had gone out so

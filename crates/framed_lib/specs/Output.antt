@@ -7,8 +7,11 @@ use Rattle.line_io.specs.Calls.{WentOut-none, WentOut-then, BrokeOff-then}
 
 -- The bytes were put behind those that were held: a front went out, and the others are held then.
 pub record Puts (old new : LineState) (held kept bytes : List ℕ) : Type 0 where
+  -- the bytes that were written
   pub sent : List ℕ
+  -- with those that are held now, they are all that were held and put
   pub bytes_are : held ++ bytes ≡ sent ++ kept
+  -- the device took them
   pub went : WentOut old new sent
 
 -- nothing was put

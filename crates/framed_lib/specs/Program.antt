@@ -61,28 +61,44 @@ no_memory = codes "no memory" ++ 10 ∷ []
 
 -- One session over the text's lines is written, and the refused lines are said.
 pub record Packs (hex : Bool) (sentinel : ℕ) (text out said : List ℕ) (status : ℕ) : Type 0 where
+  -- the sends of the lines
   pub sends : List Send
+  -- one of each line, in order
   pub are : AreSendsOf (lines_in text) sends
+  -- their session is written
   pub out_is : out ≡ framed_text hex (session_line sentinel false sends)
+  -- the refused ones are reported
   pub said_is : said ≡ refusals 1 sends
+  -- 0, if none is refused
   pub status_is : status ≡ (if list_all is_whole sends then 0 else 1)
 
 -- The lines of the stream's answers are written, and nothing is said.
 pub record Unpacks (strict hex : Bool) (sentinel : ℕ)
     (text out said : List ℕ) (status : ℕ) : Type 0 where
+  -- the framed bytes
   pub stream : List ℕ
+  -- the text is read as them
   pub stands : StandsFor hex text stream
+  -- their results
   pub verdicts : List Verdict
+  -- which are all of the stream
   pub are : AreAnswers strict sentinel (Some Ended) stream verdicts
+  -- their lines are written
   pub out_is : out ≡ lines_of verdicts
+  -- nothing is reported
   pub said_is : said ≡ []
+  -- 0, if all are values
   pub status_is : status ≡ (if list_all is_value verdicts then 0 else 1)
 
 -- Text that isn't hexadecimal is said to be so, and nothing is written.
 pub record RefusesHex (hex : Bool) (text out said : List ℕ) (status : ℕ) : Type 0 where
+  -- the text isn't hexadecimal
   pub not_hex : IsNotHex hex text
+  -- nothing is written
   pub out_is : out ≡ []
+  -- `bad hex` is reported
   pub said_is : said ≡ bad_hex
+  -- and the status is 2
   pub status_is : status ≡ 2
 
 -- whether a mode reads frames, and then whether strictly
@@ -110,9 +126,13 @@ WritesSoFar (Some strict) false sentinel end text out = WritesLines strict senti
 
 -- The lines of the answers to all that stands before a value of a stream that found no memory, which was read as far as this front.
 pub record WritesFirst (strict : Bool) (sentinel : ℕ) (stream out : List ℕ) : Type 0 where
+  -- the bytes before the push that lost the value
   pub front : List ℕ
+  -- the bytes from there on
   pub rest : List ℕ
+  -- these are all bytes
   pub stream_is : stream ≡ front ++ rest
+  -- the lines of the first results are written
   pub first : WritesLines strict sentinel (Some NoMemory) front out
 
 -- What is written for hexadecimal text that was read to its end, where one of its values found no memory: the lines before that one.
@@ -132,11 +152,17 @@ RunsOutOfMemory way hex sentinel _ text out said = ⊥
 
 -- The refusals of the text's first lines, as many as were looked at.
 pub record SaysFirst (text said : List ℕ) : Type 0 where
+  -- the lines that were judged
   pub seen : List (List ℕ)
+  -- the others
   pub later : List (List ℕ)
+  -- these are all lines
   pub lines_are : lines_in text ≡ seen ++ later
+  -- the sends of those judged
   pub sends : List Send
+  -- one of each, in order
   pub are : AreSendsOf seen sends
+  -- the refused ones are reported
   pub said_is : said ≡ refusals 1 sends
 
 -- what is said of a text before anything is written
@@ -165,13 +191,21 @@ module _ (way : Option Bool) (hex : Bool) (sentinel : ℕ)
     (reading : Option End → List ℕ → Type 0) (writing : Fate → List ℕ → Type 0) where
   -- A text was read so far, this was due for it, and so it went out.
   pub record CarriesOut (due : Due) (fate : Fate) (says : List ℕ → Type 0) : Type 0 where
+    -- how the reading ended
     pub end : Option End
+    -- the bytes that were read
     pub text : List ℕ
+    -- what was to be written
     pub out : List ℕ
+    -- what was to be reported
     pub said : List ℕ
+    -- this was due
     pub is : due end text out said
+    -- the reader gave the text
     pub read : reading end text
+    -- the writer took the output, or a proper prefix of it
     pub wrote : writing fate out
+    -- and this was reported
     pub told : says said
 
   -- The text was read to its end, and the program's text went out. No device failed.
@@ -214,4 +248,5 @@ module _ (way : Option Bool) (hex : Bool) (sentinel : ℕ)
     pub failed : status ≡ 3 → DeviceFails (saying whole) ⊎ SayingFails (saying broken)
     -- memory ran out, and no device failed: the lines of all answers before the value that found none went out
     pub memory : status ≡ 4 → LacksMemory (Behind no_memory (saying whole))
+    -- there are no other statuses
     pub range : status ≤ 4

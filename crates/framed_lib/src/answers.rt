@@ -1,4 +1,4 @@
-//! The answers to a stream, as texts.
+//! The results of a stream, as texts.
 ghost use Rattle.std.specs.Prelude.{◌≡◌, ℕ, List, Some, None, true};
 ghost use Rattle.framed_lib.specs.Lines.{holds_text, reads_text};
 ghost use Rattle.framed_lib.specs.Live.{IsAskedFor};
@@ -10,9 +10,17 @@ use line_io::{End, Inlet};
 use link::{Hearer, OfType, Ordinary, Receiver, Strict};
 use std::alloc::Global;
 
-/// Hands on the answers to all that a reader gives, each once the byte that ends its stretch was read, until the hearer has had enough;
-/// out of memory, those to all that stands before the value that found none. It is asked before each read, of at most 1024 bytes.
-/// Strictly only those stretches get a text that sending makes.
+/// Reports the results of everything that a reader gives, each once its last byte was read, and returns why the reader ended; `None` if
+/// the hearer had enough.
+///
+/// The hearer is asked before each read, of at most 1024 bytes. Strictly, only a stretch that sending writes is a text.
+///
+/// # Errors
+/// `NoMemory`: the results before the value that could not be allocated were reported.
+///
+/// # Allocates
+/// A `String` for each value. An `ArrayString<1024>` would allocate nothing, but is moved ten times: 78 instructions for each byte of short
+/// lines in place of 37.
 pub fn hand_texts<R: Inlet, H: Hearer<String>>(
     alloc: Global,
     strict: bool,

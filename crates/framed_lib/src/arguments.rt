@@ -8,11 +8,11 @@ pub enum Mode {
     Pack,
     /// Frames to text lines.
     Unpack,
-    /// Frames to text lines, but of the frames only those count that sending makes.
+    /// Frames to text lines; a frame that isn't exactly what sending its text writes is damaged.
     Strict,
 }
 
-/// The mode that a word names.
+/// The mode that a word names; `None` for any other word.
 fn mode_of(word: &str) -> Option<Mode>
     ensures some { IfSome result (λ mode. word.now ≡ mode_text mode) }
     ensures none { IfNone result ((mode : Mode) → word.now ≢ mode_text mode) }
@@ -25,7 +25,7 @@ fn mode_of(word: &str) -> Option<Mode>
     }
 }
 
-/// The sentinel that a word like `sentinel=0a` names.
+/// The sentinel that a word such as `sentinel=0a` names; `None` for any other word.
 fn sentinel_of(word: &str) -> Option<u8>
     ensures some { IfSome result (λ sentinel. NamesSentinel sentinel word.now) }
     ensures none { IfNone result ((sentinel : ℕ) → NamesSentinel sentinel word.now → ⊥) }
@@ -36,7 +36,7 @@ fn sentinel_of(word: &str) -> Option<u8>
     Some(sentinel[0])
 }
 
-/// Whether the first of the words is `hex`, and the words behind it.
+/// Whether the first of the words is `hex`, and the words after it.
 fn split_hex(words: &[String]) -> (bool, &[String])
     ensures words { map string_bytes words.now
         ≡ hex_words result.0 ++ map string_bytes result.1.now }
@@ -52,9 +52,10 @@ fn split_hex(words: &[String]) -> (bool, &[String])
     }
 }
 
-/// The mode, whether the framed side is hexadecimal text, and the sentinel, by the words after the program's name:
-/// `pack`, `unpack` or `strict`, then `hex` or nothing, and then a word like `sentinel=0a` or nothing, which means zero.
-/// `None` where they are other words.
+/// The mode, whether the framed side is hexadecimal text, and the sentinel; `None` for any other words.
+///
+/// The words after the program's name are `pack`, `unpack` or `strict`, then `hex` or nothing, and then a word such as `sentinel=0a` or
+/// nothing, which means zero.
 pub fn arguments(words: &[String]) -> Option<(Mode, bool, u8)>
     ensures some { IfSome result
         (λ found. AreWordsFor found.0 found.1 found.2 (map string_bytes words.now)) }

@@ -25,7 +25,7 @@ fn byte_of(high: u8, low: u8) -> Option<u8>
     Some(high * 16 + value_of(low)?)
 }
 
-/// Puts the bytes of digits at their front, and says whether they are digits. The caller owes an even number of them.
+/// Writes the bytes of digits over their front, and returns whether they are digits. Requires an even number of them.
 fn decode_front(digits: &mut [u8]) -> bool
     requires { length digits.old % 2 ≡ 0 }
     ensures ok { IsTrue result
@@ -52,7 +52,9 @@ fn without_line_feed(text: &[u8]) -> &[u8]
     }
 }
 
-/// Makes of a text the bytes of its hexadecimal digits, which take its place, and says whether it is hexadecimal.
+/// Replaces a text by the bytes of its hexadecimal digits, and returns whether it is hexadecimal. One line feed at its end is dropped.
+///
+/// The bytes are written over the text, so no second copy is held.
 pub fn decode_hex(text: &mut Vec<u8>) -> bool
     ensures ok { IsTrue result → StandsFor true text.old.items text.new.items }
     ensures bad { result ≡ false → IsNotHex true text.old.items }

@@ -2,7 +2,7 @@ ghost use Rattle.std.specs.Prelude.{◌≡◌, ◌*◌, ◌<◌, ◌≤◌, leng
 ghost use Rattle.hex.specs.Hex.{encode_lower};
 ghost use Rattle.framed_lib.specs.Program.{shown_end};
 
-/// Puts the hexadecimal digits of the bytes, in lower case, at the front of the room. Says how many these are.
+/// Writes the hexadecimal digits of the bytes, in lower case, to the front of the buffer, and returns how many they are.
 pub fn put_digits(bytes: &[u8], room: &mut [u8]) -> usize
     requires { 2 * length bytes.now ≤ length room.old }
     ensures digits { take result room.new ≡ encode_lower bytes.now }
@@ -15,8 +15,7 @@ pub fn put_digits(bytes: &[u8], room: &mut [u8]) -> usize
     count
 }
 
-/// Puts what stands behind all framed bytes at the front of the room: the line feed behind hexadecimal digits. Says how many bytes
-/// these are.
+/// Writes what follows all framed bytes to the front of the buffer, the line feed after hexadecimal digits, and returns its length.
 pub fn put_end(hex: bool, room: &mut [u8]) -> usize
     requires { 0 < length room.old }
     ensures end { take result room.new ≡ shown_end hex }

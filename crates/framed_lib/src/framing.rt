@@ -7,23 +7,23 @@ ghost use Rattle.framed_lib.specs.Sending.{IsSendOfLine, is_whole};
 use crate::digits::put_digits;
 use link::frame_into_with_sentinel;
 
-/// How long a frame may be. A text of so many bytes has a longer one.
+/// The greatest length of a frame. A text of so many bytes has a longer one.
 const LIMIT: usize = 1024;
 
-/// How many bytes a line may have, so that whatever they are its frame is within the limit.
+/// Every line of at most so many bytes has a frame within the limit.
 const SHORT: usize = 1017;
 
 /// The longest that a sender writes for a line: a frame between its sentinels.
 pub const MOST: usize = LIMIT + 2;
 
-/// The text of a line, if it is UTF-8. It is looked at only where that isn't known of it.
+/// The text of a line, if it is UTF-8. It is checked only if that isn't known of it.
 fn as_text(line: &[u8], is_text: bool) -> Option<&str>
     requires { IsTrue is_text → IsUtf8 line.now }
     ensures { MatchOption result (IsUtf8 line.now → ⊥)
         (λ text. (text.now ≡ line.now) × IsUtf8 line.now) }
 {
     if is_text {
-        // SAFETY: the caller owes that the line is UTF-8.
+        // SAFETY: `is_text` requires that the line is UTF-8.
         return Some(unsafe { std::str::from_utf8_unchecked(line) });
     }
     match std::str::from_utf8(line) {
@@ -32,7 +32,8 @@ fn as_text(line: &[u8], is_text: bool) -> Option<&str>
     }
 }
 
-/// Whether the line can be sent, or else is refused. Only a line of the few lengths between these two is framed for it.
+/// Whether the line is sent and not refused. It is judged without the sentinel, by its text and its length; only a line of the few
+/// lengths between the two limits is framed for it.
 pub fn is_sendable(line: &[u8], is_text: bool) -> bool
     requires { IsTrue is_text → IsUtf8 line.now }
     ensures { (x : Send) × IsSendOfLine line.now x × (result ≡ is_whole x) }
@@ -50,8 +51,8 @@ pub fn is_sendable(line: &[u8], is_text: bool) -> bool
     }
 }
 
-/// Puts what a clean sender writes for a line at the front of the room: the frame of its text, and a sentinel. Says how many
-/// bytes these are: none where the line is refused.
+/// Writes what a clean sender writes for a line to the front of the buffer, the frame of its text and a sentinel, and returns how many
+/// bytes these are: 0 if the line is refused.
 fn frame_clean(line: &[u8], is_text: bool, sentinel: u8, room: &mut [u8]) -> usize
     requires text { IsTrue is_text → IsUtf8 line.now }
     requires room { 1025 ≤ length room.old }
@@ -73,7 +74,7 @@ fn frame_clean(line: &[u8], is_text: bool, sentinel: u8, room: &mut [u8]) -> usi
     }
 }
 
-/// The same of a sender that is clean or isn't: then a sentinel comes first.
+/// As `frame_clean`, for a sender that may not be clean: then a sentinel comes first.
 pub fn frame_line(line: &[u8], is_text: bool, clean: bool, sentinel: u8, room: &mut [u8]) -> usize
     requires text { IsTrue is_text → IsUtf8 line.now }
     requires room { 1026 ≤ length room.old }
@@ -92,7 +93,7 @@ pub fn frame_line(line: &[u8], is_text: bool, clean: bool, sentinel: u8, room: &
     }
 }
 
-/// The same as it is shown: the bytes, or their digits. These are made of the frame in a room of its own.
+/// As `frame_line`, as bytes or as their digits. For digits the frame is made in a buffer of its own.
 pub fn show_line(
     hex: bool,
     sentinel: u8,

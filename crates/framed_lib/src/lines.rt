@@ -23,7 +23,7 @@ fn split_at_escape(text: &[u8]) -> Option<(&[u8], &[u8], &[u8])>
     Some((&text[..at], b"\\n", &text[at + 1..]))
 }
 
-/// Puts the text, with a backslash before each backslash, and each line feed as `\n`.
+/// Writes the text, with a backslash before each backslash, and each line feed as `\n`.
 fn put_escaped<W: Outlet>(outlet: &mut W, held: &mut Held, text: &[u8]) -> Result<(), WriteFault>
     ensures ok { OnOk result (Puts (W.line outlet.old) (W.line outlet.new)
         held.old.items held.new.items (flat_map escape text.now)) }
@@ -39,7 +39,7 @@ fn put_escaped<W: Outlet>(outlet: &mut W, held: &mut Held, text: &[u8]) -> Resul
     put(outlet, held, rest)
 }
 
-/// Puts the line of a text.
+/// Writes the line of a text.
 fn put_value<W: Outlet>(outlet: &mut W, held: &mut Held, text: &[u8]) -> Result<(), WriteFault>
     ensures ok { OnOk result (Puts (W.line outlet.old) (W.line outlet.new)
         held.old.items held.new.items (value_line text.now)) }
@@ -51,7 +51,7 @@ fn put_value<W: Outlet>(outlet: &mut W, held: &mut Held, text: &[u8]) -> Result<
     put(outlet, held, b"\n")
 }
 
-/// Puts the line of an answer.
+/// Writes the line of a result.
 pub fn put_answer<W: Outlet>(
     outlet: &mut W,
     held: &mut Held,
@@ -70,7 +70,7 @@ pub fn put_answer<W: Outlet>(
     }
 }
 
-/// Whether the answer is a value.
+/// Whether the result is a value.
 pub fn is_value(answer: &Answer<String>) -> bool
     ensures { result ≡ has_value answer.now }
 {

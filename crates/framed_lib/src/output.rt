@@ -5,13 +5,13 @@ ghost use Rattle.framed_lib.specs.Output.{Puts};
 use arrayvec::ArrayVec;
 use line_io::{Outlet, WriteFault, write_all};
 
-/// How many bytes are held back, to be written at once.
+/// How many bytes are held, to be written by one write.
 pub const ROOM: usize = 65536;
 
-/// Bytes on their way to an outlet.
+/// Bytes that aren't written yet.
 pub type Held = ArrayVec<u8, ROOM>;
 
-/// Puts bytes behind those that are held, and writes what is held first where there is no room.
+/// Appends bytes to those that are held; writes what is held first if they don't fit.
 pub fn put<W: Outlet>(outlet: &mut W, held: &mut Held, bytes: &[u8]) -> Result<(), WriteFault>
     ensures ok { OnOk result
         (Puts (W.line outlet.old) (W.line outlet.new) held.old.items held.new.items bytes.now) }
@@ -29,10 +29,10 @@ pub fn put<W: Outlet>(outlet: &mut W, held: &mut Held, bytes: &[u8]) -> Result<(
     write_all(outlet, bytes)
 }
 
-/// How many bytes have place behind those that are held in a room.
+/// How many bytes fit after those that are held in a buffer.
 pub const PLACE: usize = 2053;
 
-/// Writes what is held at the front of the room where it leaves little place behind it. Says how many bytes are held then.
+/// Writes what is held at the front of the buffer if it leaves little space after it, and returns how many bytes are held then.
 pub fn make_place<W: Outlet>(outlet: &mut W, room: &[u8], held: usize) -> Result<usize, WriteFault>
     requires held { held ≤ length room.now }
     requires room { 2053 ≤ length room.now }

@@ -16,7 +16,10 @@ use line_io::{End, Inlet, Outlet, WriteFault, read_to_end, write_all};
 use simdutf8::basic;
 use std::alloc::Global;
 
-/// Writes what one sender writes for all lines of the text. Frames are made in the room that goes out, one behind the other.
+/// Writes what one sender writes for all lines of the text.
+///
+/// Frames are made one after another in the output buffer of 65536 bytes, which is written once fewer than 2053 are left: the digits of
+/// the longest frame, and a line feed. A `Sender` over memory would copy once more, and by its contract could fail.
 fn write_frames<W: Outlet>(
     hex: bool,
     sentinel: u8,
@@ -49,8 +52,10 @@ fn write_frames<W: Outlet>(
     write_all(writer, &room[..held + count])
 }
 
-/// Reads a text to its end, says which of its lines are refused, and then sends the others. A text that is UTF-8 as a whole has no line
-/// that isn't, so that none is looked at again.
+/// Reads a text to its end, reports which of its lines are refused, and then sends the others.
+///
+/// If standard error fails at a refusal, nothing is written. A text that is UTF-8 as a whole is checked once, by `simdutf8`. In another
+/// text a line is checked when it is judged, and again when it is framed.
 pub fn pack<R: Inlet, W: Outlet, E: Outlet>(
     alloc: Global,
     hex: bool,

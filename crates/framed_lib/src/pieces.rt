@@ -15,7 +15,7 @@ pub fn split_at_mark(bytes: &[u8], mark: u8) -> Option<(&[u8], &[u8])>
     }
 }
 
-/// The first line of a text, and the text behind it. If the whole is UTF-8, so is each of the two.
+/// The first line of a text, and the text after it. If the whole is UTF-8, so is each of the two.
 pub fn next_line(text: &[u8]) -> Option<(&[u8], &[u8])>
     ensures line { MatchOption result (text.now ≡ []) (λ p.
         (lines_in text.now ≡ p.0.now ∷ lines_in p.1.now) × (length p.1.now < length text.now)) }

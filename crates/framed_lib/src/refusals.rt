@@ -13,7 +13,7 @@ use arrayvec::ArrayVec;
 use itoa::Buffer;
 use line_io::{Outlet, WriteFault, write_all};
 
-/// Says that the line with this number is refused.
+/// Reports that the line with this number is refused, by `itoa`, whose contract gives the digits.
 fn refuse<E: Outlet>(faults: &mut E, held: &mut Held, number: usize) -> Result<(), WriteFault>
     ensures ok { OnOk result (Puts (E.line faults.old) (E.line faults.new)
         held.old.items held.new.items (refusal number)) }
@@ -25,7 +25,7 @@ fn refuse<E: Outlet>(faults: &mut E, held: &mut Held, number: usize) -> Result<(
     put(faults, held, b": refused\n")
 }
 
-/// Says that the line with this number is refused, where it is. Answers whether it isn't.
+/// Reports the line with this number if it is refused, and returns whether it isn't.
 fn judge_line<E: Outlet>(
     line: &[u8],
     is_text: bool,
@@ -49,7 +49,7 @@ fn judge_line<E: Outlet>(
     Ok(false)
 }
 
-/// Says which lines of the text are refused. Answers whether none is.
+/// Reports which lines of the text are refused, and returns whether none is.
 fn judge_lines<E: Outlet>(
     text: &[u8],
     is_text: bool,
@@ -76,7 +76,7 @@ fn judge_lines<E: Outlet>(
     Ok(good)
 }
 
-/// Says which lines of the text are refused, before any is sent. Answers whether none is. The caller may know that the whole is
+/// Reports which lines of the text are refused, before any is sent, and returns whether none is. The caller may know that the whole is
 /// UTF-8.
 pub fn say_refusals<E: Outlet>(
     text: &[u8],

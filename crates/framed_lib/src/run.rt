@@ -12,7 +12,7 @@ use crate::unpack::unpack;
 use line_io::{Inlet, Outlet, write_all};
 use std::alloc::Global;
 
-/// What a run leaves.
+/// The status and the devices of a run.
 #[derive(Drop)]
 pub struct Ran<R, W, E> {
     /// The status that the program ends with, from 0 to 4.
@@ -21,24 +21,28 @@ pub struct Ran<R, W, E> {
     pub reader: R,
     /// The writer, after this run's writes.
     pub writer: W,
-    /// Standard error, after what this run said.
+    /// Standard error, after what this run reported.
     pub faults: E,
 }
 
-/// Does the work of the program: reads a text to its end, writes what the mode makes of it, and says on `faults` what
-/// went wrong.
+/// Does the work of the program, and returns its status and the devices: reads a text to its end, writes what the mode makes of it, and
+/// reports on `faults` what went wrong.
 ///
-/// `Mode::Pack` sends each line as text, as one sender does, and says `line K: refused` of a line that isn't UTF-8 or whose frame
-/// is longer than 1024 bytes; the refusals are said before the frames are written. `Mode::Unpack` writes a line for each
-/// answer to the framed bytes: `value` and the text, with a backslash as `\\` and a line feed as `\n`; `damaged`;
-/// `too long`, of a stretch of more than 1024 bytes; or `cut`. `Mode::Strict` does the same, but a stretch that isn't
-/// exactly what sending its text makes is `damaged`. With `hex` the framed side is hexadecimal text, in lower case where it
-/// is written. The sentinel stands on the line round each frame, whose bytes are XORed with it.
+/// - `Mode::Pack` sends each line as text, as one sender does. It reports `line K: refused` for a line that isn't UTF-8 or whose frame is
+///   longer than 1024 bytes, before the frames are written.
+/// - `Mode::Unpack` writes a line for each result: `value` and the text, with a backslash as `\\` and a line feed as `\n`; `damaged`;
+///   `too long`, for more than 1024 bytes; or `cut`.
+/// - `Mode::Strict` does the same, but a stretch that isn't exactly what sending its text writes is `damaged`.
 ///
-/// Unpacking bytes, it has written the lines of all that came before the last read, of at most 1024 bytes, when it makes that one.
+/// With `hex` the framed side is hexadecimal text, written in lower case. A sentinel is on each side of a frame, whose bytes are XORed with
+/// it. Unpacking bytes, a run has written the lines of everything before the last read, of at most 1024 bytes, before it makes that read.
 ///
-/// The status is 0; 1 where a line was refused or an answer isn't a value; 2 where the text isn't hexadecimal; 3 where a
-/// device failed; 4 where memory ran out. Statuses 2 to 4 end the run, and the last line on `faults` says why.
+/// # Errors
+/// The status is 0; 1 if a line was refused or a result isn't a value; 2 if the text isn't hexadecimal; 3 if a device failed; 4 if out of
+/// memory. Statuses 2 to 4 end the run, and the last line on `faults` says why.
+///
+/// # Allocates
+/// The whole text in `Pack` and with `hex`; else a `String` for each value.
 pub fn run<R: Inlet, W: Outlet, E: Outlet>(
     alloc: Global,
     mode: Mode,
@@ -66,7 +70,7 @@ pub fn run<R: Inlet, W: Outlet, E: Outlet>(
     }
 }
 
-/// Does the work, but for the last line on `faults`.
+/// Does the work, except for the last line on `faults`.
 fn work<R: Inlet, W: Outlet, E: Outlet>(
     alloc: Global,
     mode: Mode,
@@ -94,7 +98,7 @@ fn work<R: Inlet, W: Outlet, E: Outlet>(
     }
 }
 
-/// Says why the work ended early, and gives the status.
+/// Reports why the work ended early, and returns the status.
 fn report<E: Outlet>(faults: &mut E, worked: Result<u8, Stop>) -> u8
     ensures { Reports (E.line faults.old) (E.line faults.new) worked result }
 {
@@ -107,7 +111,7 @@ fn report<E: Outlet>(faults: &mut E, worked: Result<u8, Stop>) -> u8
     }
 }
 
-/// Says the last line, and gives the status.
+/// Reports the last line, and returns the status.
 fn say_last<E: Outlet>(faults: &mut E, line: &[u8], status: u8) -> u8
     ensures { SaysLast (E.line faults.old) (E.line faults.new) line.now status result }
 {

@@ -1,4 +1,4 @@
-//! Answers that are told as they come.
+//! Results that are written as they come.
 ghost use Rattle.std.specs.Prelude.{◌≡◌, ◌⊎◌, ◌&&◌, [], ◌∷◌, ◌++◌, false, true, OnOk, OnErr};
 ghost use Rattle.line_io.specs.Transfers.{Writing, whole, broken};
 ghost use Rattle.framed_lib.specs.Output.{Puts};
@@ -10,21 +10,21 @@ use crate::output::Held;
 use line_io::{Outlet, WriteFault, write_all};
 use link::{Answer, Hearer};
 
-/// What answers are told to: a line each. Behind a write that failed nothing is written.
+/// Writes a line for each result. After a write failed, nothing more is written.
 #[derive(Drop)]
 pub struct Telling<W> {
     pub writer: W,
     /// The lines that aren't written yet.
     pub held: Held,
-    /// Whether the lines of each read are written at its end, and a write that failed is enough.
+    /// Whether the lines of each read are written at its end, and a failed write ends the reading.
     pub live: bool,
     /// Whether a write failed.
     pub failed: bool,
-    /// Whether all answers were values.
+    /// Whether all results were values.
     pub good: bool,
 }
 
-/// Writes what is held, which is nothing then.
+/// Writes what is held; nothing is held then.
 fn flush<W: Outlet>(writer: &mut W, held: &mut Held) -> Result<(), WriteFault>
     ensures ok { OnOk result
         (Puts (W.line writer.old) (W.line writer.new) held.old.items held.new.items []) }
@@ -52,7 +52,7 @@ pub fn write_rest<W: Outlet>(writer: &mut W, failed: bool, held: &Held) -> Resul
 }
 
 impl<W: Outlet> Telling<W> {
-    /// Puts the line of an answer.
+    /// Writes the line of a result.
     fn tell(&mut self, answer: &Answer<String>)
         ensures { PutsLines W.line self.old self.new
             (answer_line answer.now) (has_value answer.now) }

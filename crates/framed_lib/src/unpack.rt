@@ -13,8 +13,8 @@ use arrayvec::ArrayVec;
 use line_io::{End, Inlet, Outlet, WriteFault, read_to_end, write_all};
 use std::alloc::Global;
 
-/// How the work ends, by how the reception ended, whether its lines were written, and whether all answers are values. A
-/// reception has no end of its own where a write failed.
+/// How the work ends, by how the reception ended, whether its lines were written, and whether all results are values. A reception that
+/// a failed write ended has no end of its own.
 fn outcome(end: Option<End>, written: Result<(), WriteFault>, good: bool) -> Result<u8, Stop>
     ensures { result ≡ outcome_of end written good }
 {
@@ -29,20 +29,20 @@ fn outcome(end: Option<End>, written: Result<(), WriteFault>, good: bool) -> Res
     }
 }
 
-/// What telling answers leaves.
+/// What writing the lines of results leaves.
 #[derive(Drop)]
 struct Told<W> {
     writer: W,
-    /// How the reading ended; nothing where a failed write ended it.
+    /// How the reading ended; `None` if a failed write ended it.
     end: Option<End>,
-    /// Whether the lines went out.
+    /// Whether the lines were written.
     written: Result<(), WriteFault>,
-    /// Whether all answers are values.
+    /// Whether all results are values.
     good: bool,
 }
 
-/// Writes the lines of the answers to all that a reader gives. Live, those of each read are written at its end, and a failed write ends the
-/// reading; else they may wait, and the reading goes to its end.
+/// Writes the lines of the results of everything that a reader gives. Live, those of each read are written at its end by one write, and a
+/// failed write ends the reading; else they may wait, and the reading goes to its end.
 fn tell_answers<R: Inlet, W: Outlet>(
     alloc: Global,
     strict: bool,
@@ -84,7 +84,8 @@ fn tell_answers<R: Inlet, W: Outlet>(
     }
 }
 
-/// Reads a text of digits to its end, and writes the lines of the answers to its bytes, which take its place.
+/// Reads a text of digits to its end, and writes the lines of the results of its bytes, once 64 KiB of lines are held. A failed write
+/// doesn't end the reading of what is in memory, so the writer has a prefix of all lines.
 fn unpack_hex<R: Inlet, W: Outlet, E: Outlet>(
     alloc: Global,
     strict: bool,
@@ -115,8 +116,8 @@ fn unpack_hex<R: Inlet, W: Outlet, E: Outlet>(
     (told.writer, outcome(told.end, told.written, told.good))
 }
 
-/// Writes the lines of the answers to framed bytes, those of each read at its end, until a write fails; or to those that a text's
-/// digits stand for.
+/// Writes the lines of the results of framed bytes, those of each read at its end, until a write fails; or, with `hex`, of the bytes that
+/// the digits of a text encode.
 pub fn unpack<R: Inlet, W: Outlet, E: Outlet>(
     alloc: Global,
     strict: bool,

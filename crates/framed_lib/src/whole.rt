@@ -1,11 +1,11 @@
-//! Bytes that lie in memory, as a reader that doesn't fail.
+//! Bytes in memory, as a reader that doesn't fail.
 ghost use Rattle.std.specs.Prelude.{◌≡◌, ◌-◌, ◌+◌, ◌<◌, ◌≤◌, length, take, drop, Some, IfSome, unwrap_or};
 ghost use Rattle.line_io.specs.Device.{LineState, Gave, moved_front, read_faults};
 
 use line_io::Inlet;
 
-/// Gives bytes in order, as many as there is room for. No read of it is a fault: `line_io`'s own reader from memory may be made to fail, and
-/// so a contract that knows it by `Inlet` alone can't rule that out.
+/// Gives bytes in order, as many as fit. Its count of faults is zero by definition: `line_io`'s reader from memory can be made to fail, and
+/// a contract over any `Inlet` couldn't exclude that.
 #[derive(Drop)]
 pub struct Whole<'a> {
     rest: &'a [u8],
@@ -15,7 +15,7 @@ pub struct Whole<'a> {
 impl<'a> Whole<'a> {
     ghost use Rattle.framed_lib.specs.Whole.{whole_line};
 
-    /// A reader that gives these bytes. It answers more calls than they are.
+    /// A reader that gives these bytes, in more calls than there are bytes.
     pub fn new(rest: &'a [u8]) -> Whole<'a>
         ensures told { (whole_line result).told ≡ Some rest.now }
         ensures calls { length rest.now + 1 < (whole_line result).calls_left }

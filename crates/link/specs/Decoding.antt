@@ -8,8 +8,11 @@ use Rattle.cobs.specs.declared.dec.owned.CobsDecoderOwned.{CobsDecoderOwned}
 
 -- how far its frame was taken in, its buffer, and its sentinel
 pub record Inside : Type 0 where
+  -- how far its frame was taken
   pub progress : Progress
+  -- its buffer, as long as the limit
   pub buffer : List ℕ
+  -- the byte that ends its frames
   pub sentinel : ℕ
 
 -- of one that holds an array

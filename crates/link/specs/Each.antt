@@ -17,7 +17,9 @@ use Rattle.line_io.specs.declared.transfers.End.TheVariants.{Ended, ReadFault, N
 
 -- What a hearer owes: no answers leave it as it is, and answers may be heard one after another.
 pub record HearerLaws {H V : Type 0} (hears : H → List (Answer V) → H → Type 0) : Type 0 where
+  -- no results leave it as it is
   pub none : (h : H) → hears h [] h
+  -- two lists of results make of it what their concatenation makes
   pub more : (h k m : H) (a b : List (Answer V)) → hears h a k → hears k b m → hears h (a ++ b) m
 
 -- a hearer of which nothing is said
@@ -30,22 +32,31 @@ heard_anyhow = record { none = λ h. tt; more = λ h k m a b p q. tt }
 -- These answers were handed on, and this is so of them.
 pub record Handed {H V : Type 0} (hears : H → List (Answer V) → H → Type 0) (old new : H)
     (P : List (Answer V) → Type 0) : Type 0 where
+  -- the results that were reported
   pub answers : List (Answer V)
+  -- they made of the old hearer the new one
   pub heard : hears old answers new
+  -- and this is so of them
   pub so : P answers
 
 -- The answer to an event, where there is one, was handed on.
 pub record HandsOn {V : Type 0} (holds : List ℕ → Tree → Type 0) (reads : Tree → V → Type 0)
     (e : Event) (answers : List (Answer V)) : Type 0 where
+  -- the result of the event, if there is one
   pub reply : Result (Option (Answer V)) NoAnswer
+  -- it is what the event gives
   pub replies : Replies holds reads e reply
+  -- and it was reported, if there is one
   pub keeps : KeepsAnswer reply [] answers
 
 -- An event has an answer that found no memory.
 pub record Withholds {V : Type 0} (holds : List ℕ → Tree → Type 0)
     (reads : Tree → V → Type 0) (e : Event) : Type 0 where
+  -- what the event gives
   pub reply : Result (Option (Answer V)) NoAnswer
+  -- it is what the event gives
   pub replies : Replies holds reads e reply
+  -- which is out of memory
   pub fails : IsErr reply
 
 -- what reading gave so far: bytes, and there may be more; or how the reading ended
@@ -61,8 +72,11 @@ last_call (Some end) = 1
 -- The reader gave bytes, and no more calls of it were used than these are, and the last one. (Of one that tells nothing these are any
 -- bytes: there it says nothing.)
 pub record UsesFew (old new : LineState) (last : ℕ) : Type 0 where
+  -- the bytes that the reads brought
   pub bytes : List ℕ
+  -- the reader gave them
   pub gave : Gave old new bytes
+  -- no more calls than bytes, and the last one
   pub few : old.calls_left ≤ new.calls_left + length bytes + last
 
 -- A receiver was given this stream, and these were its answers; or it had no memory for values, and went on behind them or not.
@@ -123,21 +137,29 @@ module _ {D H V : Type 0} (inside : D → Inside) (judging : Judging V)
   -- answers that the bytes before that read add.
   pub record WasAsked (enough : H → Bool) (settled : H → Type 0) (room : ℕ) (r : Reception D)
       (h k : H) (answers : List (Answer V)) (bytes : List ℕ) : Type 0 where
-    -- the bytes of all reads but the last, and those of the last one, which are no more than the buffer holds
+    -- the bytes of all reads but the last
     pub before : List ℕ
+    -- the bytes of the last read
     pub last : List ℕ
+    -- these are all bytes
     pub parts : bytes ≡ before ++ last
+    -- the last read brought no more than the buffer holds
     pub short : length last ≤ room
-    -- the answers that were handed on before the last read, and those after it
+    -- the results that were reported before the last read
     pub early : List (Answer V)
+    -- the results that were reported after it
     pub later : List (Answer V)
+    -- these are all results
     pub said : answers ≡ early ++ later
-    -- the hearer when it was asked: it had the early answers, hadn't had enough, and put nothing off
+    -- the hearer when it was asked
     pub asked : H
+    -- it had the early results
     pub heard : hears h early asked
+    -- it hadn't had enough
     pub wants : enough asked ≡ false
+    -- and had nothing left to flush, if it had nothing at first
     pub settles : settled h → settled asked
-    -- and the later answers made of it what it is now
+    -- and the later results made of it what it is now
     pub hears_on : hears asked later k
     -- the early answers are those that the bytes before the last read add to all that the receiver was given before
     pub given : (limit z : ℕ) (stream : List ℕ) (given : List (Answer V))
@@ -173,8 +195,11 @@ module _ {D H V : Type 0} (inside : D → Inside) (judging : Judging V)
 
 -- How contracts know a hearer: what answers make of it, whether it has had enough, and that it puts nothing off.
 pub record Hearing (H V : Type 0) : Type 1 where
+  -- what results make of it
   pub hears : H → List (Answer V) → H → Type 0
+  -- whether it has had enough
   pub enough : H → Bool
+  -- that nothing is left to flush
   pub settled : H → Type 0
 
 -- these three of a hearer
@@ -184,8 +209,11 @@ hearing hears enough settled = record { hears = hears; enough = enough; settled 
 
 -- where listening is: where the reader is, the receiver, and the hearer
 pub record ListenerPlace (D H : Type 0) : Type 0 where
+  -- where the reader is
   pub line : LineState
+  -- the receiver
   pub receiver : Reception D
+  -- the hearer
   pub hearer : H
 
 -- where these are, by where the readers are

@@ -64,9 +64,11 @@ pub record Did (old new : LineState) (bytes : List ℕ) (broken_off : ℕ) : Typ
 -- one send
 pub record SendsOne (limit s : ℕ) (writes : Option Tree) (valid : Type 0) (clean later : Bool)
     (old new : LineState) (fate : Fate) : Type 0 where
-  -- which send it was, of this value
+  -- which send it was
   pub send : Send
+  -- its frame is within the limit; interrupted, a part of its bytes was left
   pub is : IsSend IsTree limit s clean send
+  -- it is a send of this value
   pub of : IsSendOf limit writes valid send
   -- what became of it was returned
   pub fated : fate ≡ fate_of send
@@ -81,9 +83,11 @@ pub record SendsOne (limit s : ℕ) (writes : Option Tree) (valid : Type 0) (cle
 pub record SendsAll {V : Type 0} (limit s : ℕ) (writes : V → Option Tree) (valid : V → Type 0)
     (clean later : Bool) (old new : LineState)
     (values : List V) (fates : List Fate) : Type 0 where
-  -- which sends they were, one of each value, in their order
+  -- which sends they were
   pub sends : List Send
+  -- they are a session of one sender
   pub are : IsSession IsTree limit s clean sends
+  -- one of each value, in order
   pub of : AllZip (λ v x. IsSendOf limit (writes v) (valid v) x) values sends
   -- what became of each was returned
   pub fated : fates ≡ map fate_of sends

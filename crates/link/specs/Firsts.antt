@@ -11,13 +11,21 @@ use Rattle.line_io.specs.declared.transfers.End.TheVariants.{NoMemory}
 -- one none is kept.
 pub record KeepsFirst {V A : Type 0} (old new : Vec V A)
     (was full : Bool) (answers : List V) : Type 0 where
+  -- the results that were kept
   pub kept : List V
+  -- and those that weren't
   pub lost : List V
+  -- these are all results
   pub parts : answers ≡ kept ++ lost
+  -- those kept were appended to the list
   pub items : new.items ≡ old.items ++ kept
+  -- a list that isn't full kept all
   pub whole : full ≡ false → (was ≡ false) × (lost ≡ [])
+  -- one that was full kept none
   pub later : was ≡ true → kept ≡ []
+  -- one that became full lost one at least
   pub missed : full ≡ true → was ≡ false → lost ≢ []
+  -- and is full to its allocated capacity
   pub filled : (was ≡ true → IsFilled old) → full ≡ true → IsFilled new
 
 -- how a reception ended, by how its reading did and whether an answer found no memory

@@ -23,8 +23,11 @@ AccumulatorFitsInMemory N = FitsInMemory (accumulator.the_row N)
 -- from there, it gives behind them.
 pub record GathersPieces {V : Type 0} (takes : Tree → Type 0) (reads : Tree → V → Type 0) (growing : Bool) (room : ℕ)
     (held : List ℕ) (pieces : List (List ℕ)) (kept : List ℕ) (rest : List (List ℕ)) (old new : List V) : Type 0 where
+  -- the values that came
   pub got : List V
+  -- they were appended to the list
   pub values : new ≡ old ++ got
+  -- what the loop gives from what is left, it gives after them
   pub goes_on : (may_stop : Bool) (later : List (List ℕ)) (vs : List V)
       → Loops takes reads growing may_stop room kept (rest ++ later) vs
       → Loops takes reads growing may_stop room held (pieces ++ later) (got ++ vs)
@@ -50,8 +53,11 @@ some_held (b ∷ held) = 1
 -- pieces of these bytes on the line
 pub record GathersOnLine {V : Type 0} (takes : Tree → Type 0) (reads : Tree → V → Type 0) (growing : Bool)
     (room s : ℕ) (held bytes kept : List ℕ) (rest : List (List ℕ)) (old new : List V) : Type 0 where
+  -- the chunks in which the bytes came
   pub pieces : List (List ℕ)
+  -- they are these bytes
   pub are : joined pieces ≡ bytes
+  -- and were fed in turn
   pub gathers : GathersPieces takes reads growing room held (map (masked s) pieces) kept rest old new
 
 -- A further value had no place in the list, which has all values of the bytes before the last read of at most 1024.
@@ -100,22 +106,35 @@ AreThoseFor takes reads growing room s bytes values _ =
 -- The documented loop over pieces of these bytes gives these values, whether or not their stretches fit.
 pub record LoopsOver {V : Type 0} (takes : Tree → Type 0) (reads : Tree → V → Type 0)
     (growing may_stop : Bool) (room s : ℕ) (bytes : List ℕ) (values : List V) : Type 0 where
+  -- the chunks in which the bytes came
   pub pieces : List (List ℕ)
+  -- they are these bytes
   pub are : joined pieces ≡ bytes
+  -- the loop over them gives the values
   pub loops : Loops takes reads growing may_stop room [] (map (masked s) pieces) values
 
 -- One more value had no place in the list, which has all values of the bytes before the last read of at most 1024.
 pub record LoopsToLoss {V : Type 0} (takes : Tree → Type 0) (reads : Tree → V → Type 0)
     (growing : Bool) (room s : ℕ) (bytes : List ℕ) (values : List V) : Type 0 where
+  -- the value for which the list had no space
   pub lost : V
+  -- with it, the loop gives these values
   pub loops : LoopsOver takes reads growing true room s bytes (values ++ lost ∷ [])
+  -- the bytes before the last read
   pub before : List ℕ
+  -- those of the last read
   pub last : List ℕ
+  -- these are all bytes
   pub parts : bytes ≡ before ++ last
+  -- the last read is at most so long
   pub short : length last ≤ 1024
+  -- the values of the bytes before
   pub early : List V
+  -- and those after
   pub later : List V
+  -- these are all values in the list
   pub said : values ≡ early ++ later
+  -- no value of the bytes before is missing
   pub first : LoopsOver takes reads growing false room s before early
 
 -- by how the reading ended

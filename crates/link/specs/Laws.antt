@@ -29,8 +29,10 @@ IsRunWithin takes s = (n limit : ℕ) (run : List (List Send)) → n ≤ limit �
 
 -- A stream has at most one list of answers before its end is known, and at most one as a whole.
 pub record HasOneAnswer (holds : List ℕ → Tree → Type 0) (limit s : ℕ) : Type 0 where
+  -- before the end is known there is one list
   pub given : (stream : List ℕ) (us vs : List Verdict) → Given holds limit s stream us
       → Given holds limit s stream vs → us ≡ vs
+  -- and for the whole stream there is one
   pub whole : (stream : List ℕ) (us vs : List Verdict) → Answers holds limit s stream us
       → Answers holds limit s stream vs → us ≡ vs
 
@@ -89,8 +91,11 @@ HasRoom greatest writes = (limit size : ℕ) (t : Tree) → greatest ≡ Some si
 
 -- no sentinel stands first or behind another, and the last byte is one
 pub record IsTidy (s : ℕ) (stream : List ℕ) : Type 0 where
+  -- it is empty or ends in a sentinel
   pub ends : EndsBetween s stream
+  -- it begins with none
   pub first : (x : List ℕ) → stream ≢ s ∷ x
+  -- and has no two in a row
   pub single : (x y : List ℕ) → stream ≢ x ++ (s ∷ (s ∷ y))
 
 -- Tidy streams whose strict answers are values are equal exactly where these are.
@@ -122,8 +127,10 @@ DiffersByBlock writes = (t : Tree) → writes ≡ Some t
 -- to the next stretch before the answers to what is left.
 pub record IsReadInTurn {V : Type 0} (takes : Tree → Type 0)
     (reads : Tree → V → Type 0) (s : ℕ) : Type 0 where
+  -- of sentinels alone there are no results
   pub over : (bytes : List ℕ) → unpadded (masked s bytes) ≡ []
       → ReadsInPlace (Holds takes) s bytes []
+  -- else the result of the next stretch comes before those of what is left
   pub next : (bytes left : List ℕ) (answer : Answer V) (later : List Verdict)
       → ReadsNext takes reads (unpadded (masked s bytes)) (Ok answer) (masked s left)
       → ReadsInPlace (Holds takes) s left later

@@ -82,16 +82,23 @@ ReadsSome reads (t ∷ ts) (v ∷ vs) =
 -- the values are those of the trees; for a type that can ask for memory some may be missing
 pub record AreValues {A : Type 0} (reads : Tree → A → Type 0) (growing : Bool)
     (ts : List Tree) (vs : List A) : Type 0 where
+  -- none is missing for a type that doesn't allocate
   pub all : growing ≡ false → AllZip reads ts vs
+  -- for another one they are some, in order
   pub some : ReadsSome reads ts vs
 
 -- The values are those of the first of these trees; of all of them, unless the loop may be left early.
 pub record AreFirst {A : Type 0} (reads : Tree → A → Type 0) (growing may_stop : Bool)
     (ts : List Tree) (vs : List A) : Type 0 where
+  -- the trees of these values
   pub first : List Tree
+  -- and the others
   pub more : List Tree
+  -- these are all trees
   pub parts : ts ≡ first ++ more
+  -- the values are read from the first of them
   pub are : AreValues reads growing first vs
+  -- there are no others, unless the loop may stop early
   pub whole : may_stop ≡ false → more ≡ []
 
 -- Where the stretches fit the accumulator, the values are those of the answers under its size, however the stream is cut.

@@ -27,8 +27,11 @@ begun_at limit s over byte = if byte == s then kept [] else over
 
 -- what comes of a piece: how many bytes are used, to the first event or all, that event, and what is begun then
 pub record Course : Type 0 where
+  -- how many bytes were used
   pub used : ℕ
+  -- what they brought
   pub event : Event
+  -- what is begun then
   pub begun : Begun
 
 -- the course behind one byte, by its event

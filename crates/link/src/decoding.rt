@@ -1,4 +1,4 @@
-//! What a receiver asks of its decoder, so that receiving is written once.
+//! What a receiver requires of its decoder, so that receiving is written once.
 ghost use Rattle.std.specs.Prelude.{◌≡◌, [], length, bit_xor};
 ghost use Rattle.cobs.specs.Frames.{NoZero};
 ghost use Rattle.cobs.specs.Sentinel.{masked};
@@ -9,26 +9,30 @@ ghost use Rattle.link.specs.Decoding.{Inside};
 use cobs::{CobsDecoderHeapless, CobsDecoderOwned, DecodeError, DecodeReport};
 
 /// A streaming decoder of cobs over a buffer of its own: one that holds an array, or one that owns its buffer.
+///
+/// Example: see [`Reception`].
 pub trait Decoding {
-    /// How far its frame was taken in, its buffer, and its sentinel.
+    /// The progress of its frame, its buffer, and its sentinel.
     ghost inside: { Self → Inside };
 
-    /// Takes a byte of a frame.
+    /// Takes a byte of a frame; the length of the message if it ends the frame.
     fn feed(&mut self, byte: u8) -> Result<Option<usize>, DecodeError>
         ensures takes { FeedsByte (inside self.old).progress (inside self.old).buffer
             (bit_xor (inside self.old).sentinel byte) result
             (inside self.new).progress (inside self.new).buffer }
         ensures sentinel { (inside self.new).sentinel ≡ (inside self.old).sentinel };
 
-    /// Takes bytes of frames, up to the end of one.
+    /// Takes bytes of frames, up to the end of one, which it reports.
     fn push(&mut self, bytes: &[u8]) -> Result<Option<DecodeReport>, DecodeError>
         ensures takes { TakesPiece (inside self.old).progress (inside self.old).buffer
             (masked (inside self.old).sentinel bytes.now) result
             (inside self.new).progress (inside self.new).buffer }
         ensures sentinel { (inside self.new).sentinel ≡ (inside self.old).sentinel };
 
-    /// Decodes a frame that lies whole, without its sentinel, and forgets what was taken of another. The caller owes that no byte of it
-    /// is the sentinel.
+    /// Decodes a complete frame, without its sentinel, and drops what was taken of another; returns the message's length.
+    ///
+    /// # Requires
+    /// No byte of the frame is the sentinel.
     fn decode_whole(&mut self, frame: &[u8]) -> Result<usize, DecodeError>
         requires clear { NoZero (masked (inside self.old).sentinel frame.now) }
         ensures decodes { DecodesWhole (inside self.old).buffer
@@ -36,7 +40,7 @@ pub trait Decoding {
             (inside self.new).progress (inside self.new).buffer }
         ensures sentinel { (inside self.new).sentinel ≡ (inside self.old).sentinel };
 
-    /// Forgets what was taken of a frame.
+    /// Drops what was taken of a frame.
     fn reset(&mut self)
         ensures idle { HasStreamed (inside self.new).progress [] }
         ensures buffer { (inside self.new).buffer ≡ (inside self.old).buffer }

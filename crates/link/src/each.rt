@@ -1,4 +1,16 @@
-//! Receiving where each answer is handed on as soon as the byte that ends its stretch was read.
+//! Receivers that report each result as soon as its last byte was read.
+//!
+//! | Call | What it passes to whom | When it ends; out of memory |
+//! |---|---|---|
+//! | `listen_with` | to the hearer, the results of one read into the caller's buffer | After that read, or at the reader's end or fault. `NoMemory`: only the values without memory are missing from that read. |
+//! | `listen_until_with` | to the hearer, the results of each read into the caller's buffer | Once the hearer has enough, or at the reader's end or fault. `NoMemory`: as `listen_with`, after the read that lost a value. |
+//! | `receive_each_with` | to the hearer, the results of each read into 1024 bytes of its own, and `Cut` if the stream ends inside a stretch | Once the hearer has enough, or at the reader's end or fault. `NoMemory`: the results before the lost value were passed; the rest of its read is taken and not passed. |
+//! | `listen_by`, private | what `listen_with` passes, or with `goes_on` false what `receive_each_with` passes of one read | As `listen_with`. `NoMemory`: by `goes_on`, as either call. |
+//! | `listen_each`, private | what `listen_by` passes, read after read | As `listen_until_with`. `NoMemory`: by `goes_on`, as either call. |
+//!
+//! Each asks the hearer for a pause after the results of a read, also if the read lost a value. `listen_with` doesn't ask whether the
+//! hearer has enough; the other two ask before each read. At a fault nothing more is passed. `listen_with` and `listen_until_with` pass
+//! nothing at the reader's end: `restart` or `finish` says what the end adds.
 ghost use Rattle.std.specs.Prelude.{◌≡◌, ℕ, ◌-◌, ◌<◌, ◌≤◌, Bool, true, false, List, [], ◌∷◌, ◌++◌, length, Some, None, OnOk, OnErr, IfErr};
 ghost use Rattle.line_io.specs.Device.{Gave};
 ghost use Rattle.link.specs.Steps.{Course};
@@ -17,21 +29,43 @@ use crate::reception::{Reception, Taken, read};
 use line_io::{End, Inlet};
 use std::alloc::Global;
 
-// How many bytes are asked for in one read, where the caller has no room of its own.
+// The length of one read's buffer if the caller passes none.
 const ROOM: usize = 1024;
 
 /// What a receiver reports its results to, one by one and in order.
+///
+/// A program that needs no proof of its hearer takes `hears` and `laws` as below. The crate `example_hear` has one to copy.
+///
+/// # Example
+/// ```rust
+/// impl<'a> Hearer<Reading> for Printing<'a> {
+///     ghost hears = { HeardAnyhow };
+///
+///     ghost laws = { heard_anyhow };
+///
+///     ghost enough = { λ it. it.failed };
+///
+///     ghost settled = { λ _. ⊤ };
+///
+///     fn hear(&mut self, answer: Answer<Reading>)
+///         ensures { ⊤ }
+///     {
+///         if println!(self.rt; "{answer:?}").is_err() {
+///             self.failed = true;
+///         }
+///     }
+/// ```
 pub trait Hearer<T> {
-    /// What answers make of it, one after another.
+    /// What it becomes by these results, in order.
     ghost hears: { Self → List (Answer T) → Self → Type 0 };
 
-    /// No answers leave it as it is, and answers may be heard one after another.
+    /// No results leave it as it is, and two lists of results make of it what their concatenation makes.
     ghost laws: { HearerLaws hears };
 
     /// Whether it has had enough.
     ghost enough: { Self → Bool };
 
-    /// That nothing is put off until a pause.
+    /// That nothing is left to flush.
     ghost settled: { Self → Type 0 };
 
     /// Takes a result.
@@ -48,7 +82,7 @@ pub trait Hearer<T> {
         ensures { result ≡ enough self.now };
 }
 
-// Hands on the answer to what a receiver has found, where there is one.
+// Passes on the result of what a receiver has found, if there is one.
 fn hand<V, M: MessageReader<V>, H: Hearer<V>>(
     alloc: Global,
     messages: &M,
@@ -74,7 +108,7 @@ fn hand<V, M: MessageReader<V>, H: Hearer<V>>(
 }
 
 impl<D: Decoding> Reception<D> {
-    // Uses a piece up without an answer.
+    // Takes a chunk without reporting a result.
     fn pass_over(&mut self, piece: &[u8])
         ensures stands { StandsFurther D.inside self.old self.new piece.now }
         ensures same { SameTerms D.inside self.old self.new }
@@ -87,7 +121,7 @@ impl<D: Decoding> Reception<D> {
         }
     }
 
-    // Pushes a piece until it is used up or a value finds no memory, and hands on the answers. Err with what is left behind the value.
+    // Pushes a chunk until it is used up or a value can't be allocated, and passes on the results. Err has the bytes after that value.
     fn hand_on<'p, V, M: MessageReader<V>, H: Hearer<V>>(
         &mut self,
         alloc: Global,
@@ -120,7 +154,7 @@ impl<D: Decoding> Reception<D> {
         Ok(())
     }
 
-    // The same until the piece is used up. Behind a value that found no memory it goes on, or hands none on.
+    // The same until the chunk is used up. After a value that couldn't be allocated it continues, or passes no result on.
     fn hand_by<V, M: MessageReader<V>, H: Hearer<V>>(
         &mut self,
         goes_on: bool,
@@ -152,7 +186,7 @@ impl<D: Decoding> Reception<D> {
         }
     }
 
-    // Reads once into a room, and hands on the answers that the bytes bring about.
+    // Reads once into a buffer, and passes on the results of the bytes.
     fn listen_by<V, M: MessageReader<V>, R: Inlet, H: Hearer<V>>(
         &mut self,
         goes_on: bool,
@@ -189,7 +223,7 @@ impl<D: Decoding> Reception<D> {
         }
     }
 
-    // Reads to the end, or until the hearer has had enough, and hands on the answers.
+    // Reads to the end, or until the hearer has had enough, and passes on the results.
     fn listen_each<V, M: MessageReader<V>, R: Inlet, H: Hearer<V>>(
         &mut self,
         goes_on: bool,
@@ -220,7 +254,7 @@ impl<D: Decoding> Reception<D> {
         }
     }
 
-    // Hands on what the end of the stream adds, where the reader has ended.
+    // Passes on what the end of the stream adds, if the reader has ended.
     fn conclude_each<V, M: MessageReader<V>, H: Hearer<V>>(
         &self,
         messages: &M,
@@ -266,6 +300,19 @@ impl<D: Decoding> Reception<D> {
     ///
     /// # Allocates
     /// What the values need.
+    ///
+    /// # Example
+    /// ```rust
+    /// let room = &mut [0u8; 16];
+    /// match receiver.listen_with(alloc, &Ordinary(OfType), &mut line, &mut heard, room) {
+    ///     None => {}
+    ///     Some(end) => {
+    ///         wants.expect(end == End::NoMemory);
+    ///         wants.add();
+    ///         lost = lost.saturating_add(1);
+    ///     }
+    /// }
+    /// ```
     pub fn listen_with<V, M: MessageReader<V>, R: Inlet, H: Hearer<V>>(
         &mut self,
         alloc: Global,
@@ -299,6 +346,21 @@ impl<D: Decoding> Reception<D> {
     ///
     /// # Requires
     /// The buffer isn't empty.
+    ///
+    /// # Allocates
+    /// What the values need.
+    ///
+    /// # Example
+    /// ```rust
+    /// let ordinary = Ordinary(OfType);
+    /// let end = receiver.listen_until_with(
+    ///     rt.alloc(),
+    ///     &ordinary,
+    ///     &mut reader,
+    ///     &mut wanted,
+    ///     &mut room,
+    /// );
+    /// ```
     pub fn listen_until_with<V, M: MessageReader<V>, R: Inlet, H: Hearer<V>>(
         &mut self,
         alloc: Global,
@@ -333,6 +395,17 @@ impl<D: Decoding> Reception<D> {
     ///
     /// # Allocates
     /// What the values need; no result is kept.
+    ///
+    /// # Example
+    /// ```rust
+    /// let mut receiver = Receiver::<16>::new();
+    /// let mut printing = Printing {
+    ///     rt: &rt,
+    ///     failed: false,
+    /// };
+    /// let end = receiver.receive_each_with(rt.alloc(), &Ordinary(OfType), &mut reader, &mut printing);
+    /// eprintln!(rt; "{end:?}")
+    /// ```
     pub fn receive_each_with<V, M: MessageReader<V>, R: Inlet, H: Hearer<V>>(
         &mut self,
         alloc: Global,

@@ -11,10 +11,19 @@ use cobs::{FrameFront, encode_in_place};
 use postcard::ser_flavors::Flavor;
 use postcard::{Error, Result, Serialize, Serializer, spell_into};
 
-/// A flavor of postcard's that writes the shortest frame of what is pushed to the front of a buffer; its end returns the length.
+/// A flavor of postcard's that writes the shortest frame of what is pushed to the front of a buffer; `finalize` returns its length.
 ///
-/// Each byte is XORed with the sentinel; no sentinel is written after the frame. A push that doesn't fit is `SerializeBufferFull`;
-/// so is every later one that brings a byte, and the end.
+/// Each byte is XORed with the sentinel; no sentinel is written after the frame.
+///
+/// # Errors
+/// `SerializeBufferFull` if a push doesn't fit; every later push of at least one byte, and `finalize`, then fails too.
+///
+/// # Example
+/// ```rust
+/// let mut room = [0u8; 300];
+/// let framed = serialize_with_flavor(&ONES.as_slice(), Framed::new(&mut room));
+/// check(&rt, matches!(framed, Ok(count) if holds_ones(&room, count)));
+/// ```
 #[derive(Drop)]
 pub struct Framed<'a> {
     buffer: &'a mut [u8],
@@ -25,7 +34,7 @@ pub struct Framed<'a> {
 impl<'a> Framed<'a> {
     ghost use Rattle.link.specs.Framed.{framing_of, lent_as, sentinel_of};
 
-    /// A flavor over a buffer, with nothing pushed and the sentinel zero.
+    /// A flavor over this buffer, with nothing pushed and the sentinel zero.
     ///
     /// # Requires
     /// The buffer isn't empty.
@@ -39,7 +48,17 @@ impl<'a> Framed<'a> {
         Framed::new_with_sentinel(buffer, 0)
     }
 
-    /// The same, with this sentinel.
+    /// As `new`, with this sentinel.
+    ///
+    /// # Requires
+    /// The buffer isn't empty.
+    ///
+    /// # Example
+    /// ```rust
+    /// let mut framed = Framed::new_with_sentinel(room, 0x0A);
+    /// let are_taken = framed.try_extend(&[0xAC]).is_ok() && framed.try_push(2).is_ok();
+    /// let length = framed.finalize();
+    /// ```
     pub fn new_with_sentinel(buffer: &'a mut [u8], sentinel: u8) -> Framed<'a>
         requires { 0 < length buffer.old }
         ensures ready { framing_of result
@@ -101,13 +120,18 @@ impl<'a> Flavor for Framed<'a> {
 
 /// Writes the frame of a value to the front of a buffer, and returns its length.
 ///
-/// No sentinel is written after it, and the rest of the buffer isn't specified.
+/// No sentinel is written after it, and the rest of the buffer isn't specified. Allocates nothing.
 ///
 /// # Errors
-/// The value's own, if it refuses itself; `SerializeBufferFull` exactly if the frame doesn't fit. If both hold, either.
+/// The value's own, if it can't be encoded; `SerializeBufferFull` exactly if the frame doesn't fit. If both hold, either.
 ///
 /// # Requires
 /// The buffer isn't empty.
+///
+/// # Example
+/// ```rust
+/// let n = frame_into(&(number, value), &mut buffer[..room])?;
+/// ```
 pub fn frame_into<T: Serialize>(value: &T, buffer: &mut [u8]) -> Result<usize>
     requires { 0 < length buffer.old }
     ensures ok { IfOk result (λ n. WrittenWhole (T.form.writes value.now)
@@ -119,7 +143,13 @@ pub fn frame_into<T: Serialize>(value: &T, buffer: &mut [u8]) -> Result<usize>
     frame_into_with_sentinel(value, buffer, 0)
 }
 
-/// The same with each byte of the frame XORed with the sentinel.
+/// As `frame_into`, with each byte of the frame XORed with this sentinel.
+///
+/// # Errors
+/// As `frame_into`.
+///
+/// # Requires
+/// The buffer isn't empty.
 pub fn frame_into_with_sentinel<T: Serialize>(
     value: &T,
     buffer: &mut [u8],
@@ -138,8 +168,9 @@ pub fn frame_into_with_sentinel<T: Serialize>(
     }
 }
 
-// Spells a value into the buffer behind its first byte, where that has room for it and a block has: its frame can then be made where
-// it stands, which costs less than to frame each of its pieces. Nothing is said of why it isn't spelled.
+// Encodes a value into the buffer after its first byte, if it fits there and in one block, of at most 254 bytes. Its frame is then made
+// in place, which costs less than framing each chunk of it. Up to 254 bytes of a longer value are so encoded twice. No clause says why
+// it isn't encoded.
 fn spell_block<T: Serialize>(value: &T, buffer: &mut [u8]) -> Option<usize>
     requires { 0 < length buffer.old }
     ensures spelled { IfSome result (λ n. WrittenWhole (T.form.writes value.now)
@@ -152,7 +183,7 @@ fn spell_block<T: Serialize>(value: &T, buffer: &mut [u8]) -> Option<usize>
     spell_into(value, &mut buffer[1..end])
 }
 
-// The same as `frame_into_with_sentinel`, by framing each piece that the value pushes.
+// As `frame_into_with_sentinel`, by framing each chunk that the value pushes.
 fn frame_pushed<T: Serialize>(value: &T, buffer: &mut [u8], sentinel: u8) -> Result<usize>
     requires { 0 < length buffer.old }
     ensures ok { IfOk result (λ n. WrittenWhole (T.form.writes value.now) (λ bytes.

@@ -15,21 +15,27 @@ use postcard::accumulator::{CobsAccumulator, FeedResult};
 use postcard_tree::Readable;
 use std::alloc::Global;
 
-// How many bytes are asked for in one read.
+// The length of one read's buffer.
 const ROOM: usize = 1024;
 
 /// What was received by postcard's accumulator.
+///
+/// # Example
+/// ```rust
+/// let got = receive_by_accumulator::<u32, _, 4>(alloc, reader);
+/// got.end == end && got.values.as_slice() == values
+/// ```
 #[derive(Drop)]
 pub struct Gathered<T, R> {
     /// The values, in the order of their frames.
     pub values: Vec<T>,
-    /// How the reception ended.
+    /// Why it ended. `NoMemory`: the list couldn't be extended.
     pub end: End,
-    /// The reader that was handed in, after this call's reads.
+    /// The reader, after this call's reads.
     pub reader: R,
 }
 
-// Feeds a piece until nothing is left of it, and keeps the values.
+// Feeds a chunk until nothing is left of it, and keeps the values.
 fn gather<T: DeserializeOwned, const N: usize>(
     alloc: Global,
     accumulator: &mut CobsAccumulator<N>,
@@ -94,7 +100,7 @@ fn collect<T: DeserializeOwned, R: Inlet, const N: usize>(
     }
 }
 
-// What `laws::roads` says of values, of any. It does nothing.
+// What `roads` of `link_laws` says of some values, for all. It does nothing.
 fn gathered_alike<T: Readable>()
     ensures { AreSameByAccumulator T.form.takes T.form.reads T.form.growing }
 {
@@ -110,10 +116,19 @@ fn gathered_alike<T: Readable>()
 ///
 /// # Errors
 /// `end` is `ReadFault`, or `NoMemory` if the list could not be extended: the values before are there, and none is missing of those
-/// of the bytes before the last read of up to 1024.
+/// of the bytes before the last read of up to 1024. A value that can't be allocated is left out.
 ///
 /// # Requires
 /// N is at least 1.
+///
+/// # Allocates
+/// The list, and what the values need.
+///
+/// # Example
+/// ```rust
+/// let reader = In::new(&line, 3, Some(8));
+/// check(&rt, gathers(rt.alloc(), reader, &[300], End::ReadFault));
+/// ```
 pub fn receive_by_accumulator<T: DeserializeOwned, R: Inlet, const N: usize>(
     alloc: Global,
     reader: R,
@@ -127,7 +142,7 @@ pub fn receive_by_accumulator<T: DeserializeOwned, R: Inlet, const N: usize>(
     receive_by_accumulator_with_sentinel::<T, R, N>(alloc, reader, 0)
 }
 
-/// The same, with this sentinel.
+/// As `receive_by_accumulator`, with this sentinel.
 pub fn receive_by_accumulator_with_sentinel<T: DeserializeOwned, R: Inlet, const N: usize>(
     alloc: Global,
     reader: R,

@@ -1,4 +1,4 @@
-//! Reading stretches where they lie.
+//! Decoding stretches in place.
 ghost use Rattle.std.specs.Prelude.{◌≡◌, ℕ, ◌+◌, ◌<◌, ◌≤◌, List, [], ◌++◌, length, drop, true, OnErr, IfSome, IfNone};
 ghost use Rattle.std.specs.Borrow.{sem, LendsBothIf, Array, u8};
 ghost use Rattle.cobs.specs.InPlace.{stretch};
@@ -14,7 +14,7 @@ use cobs::before_sentinel;
 use postcard::{Deserialize, from_bytes};
 use std::alloc::Global;
 
-// How many sentinels stand in front.
+// How many sentinels the bytes begin with.
 fn leading_sentinels(bytes: &[u8], sentinel: u8) -> usize
     ensures rest { drop result (masked sentinel bytes.now) ≡ unpadded (masked sentinel bytes.now) }
     ensures within { result ≤ length bytes.now }
@@ -26,7 +26,7 @@ fn leading_sentinels(bytes: &[u8], sentinel: u8) -> usize
     count
 }
 
-// The answer to the stretch in front, which a sentinel ends. It is decoded over itself.
+// The result of the first stretch, which a sentinel ends. It is decoded over itself.
 fn read_stretch<'a, T: Deserialize<&'a [u8]>>(
     alloc: Global,
     bytes: &'a mut [u8],
@@ -51,8 +51,8 @@ fn read_stretch<'a, T: Deserialize<&'a [u8]>>(
     }
 }
 
-// How many bytes there are through the sentinel that ends the next stretch: one more than there are where none does, and none where
-// they are sentinels alone.
+// How many bytes there are through the sentinel that ends the next stretch: one more than all if none ends it, 0 if there are only
+// sentinels.
 fn end_of_stretch(bytes: &[u8], sentinel: u8) -> usize
     ensures { IsEnd sentinel bytes.now result }
 {
@@ -64,7 +64,8 @@ fn end_of_stretch(bytes: &[u8], sentinel: u8) -> usize
     leading + before_sentinel(rest, sentinel) + 1
 }
 
-// The same, and the bytes again.
+// The same, and the bytes again. This and `cut_behind` know no type, so the manual proof of what is lent is short, and what decodes
+// can be tried by edits.
 fn with_end(bytes: &mut [u8], sentinel: u8) -> (usize, &mut [u8])
     ensures end { IsEnd sentinel bytes.entry.now result.0 }
     ensures bytes { result.1.now ≡ bytes.entry.now }
@@ -74,7 +75,7 @@ fn with_end(bytes: &mut [u8], sentinel: u8) -> (usize, &mut [u8])
     (end, bytes)
 }
 
-// The bytes through the end, and those behind it; nothing where there are fewer, or none to it.
+// The bytes through the end, and those after it; `None` if there are fewer, or the end is 0.
 fn cut_behind(bytes: &mut [u8], end: usize) -> Option<(&mut [u8], &mut [u8])>
     ensures parts { (s : ℕ) → IsEnd s bytes.entry.now end → IsNext s end bytes.entry.now result }
     ensures* lent { sem 𝓛 (LendsBothIf (Array u8 0) (Array u8 0) (Array u8 0)
@@ -89,7 +90,7 @@ fn cut_behind(bytes: &mut [u8], end: usize) -> Option<(&mut [u8], &mut [u8])>
     Some(bytes.split_at_mut(end))
 }
 
-// The answer to the parts: nothing is lent of an unfinished stretch, so its rest is an empty slice of its own.
+// The result of the parts. Nothing is borrowed of an unfinished stretch, so its rest is a new empty slice.
 fn read_next<'a, T: Deserialize<&'a [u8]>>(
     alloc: Global,
     parts: Option<(&'a mut [u8], &'a mut [u8])>,
@@ -123,6 +124,17 @@ fn read_next<'a, T: Deserialize<&'a [u8]>>(
 ///
 /// # Errors
 /// `NoMemory`, only for a frame whose value could not be allocated; the bytes after its zero are left then too.
+///
+/// # Allocates
+/// What the value needs.
+///
+/// # Example
+/// ```rust
+/// match read_in_place::<bool>(alloc, bytes) {
+///     Some((answer, rest)) => is_told(&answer, &wanted) && rest.len() == behind,
+///     None => false,
+/// }
+/// ```
 pub fn read_in_place<'a, T: Deserialize<&'a [u8]>>(
     alloc: Global,
     bytes: &'a mut [u8],
@@ -136,7 +148,7 @@ pub fn read_in_place<'a, T: Deserialize<&'a [u8]>>(
     read_in_place_with_sentinel(alloc, bytes, 0)
 }
 
-/// The same, with this sentinel; a stretch's bytes are XORed with it.
+/// As `read_in_place`, with this sentinel, with which the bytes of a stretch are XORed.
 pub fn read_in_place_with_sentinel<'a, T: Deserialize<&'a [u8]>>(
     alloc: Global,
     bytes: &'a mut [u8],

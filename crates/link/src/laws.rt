@@ -1,5 +1,5 @@
-//! What strict reception rests on, which limit a type's frames need, and what reading in place gives in turn. Each function does nothing; its contract is what it is for:
-//! call one where a proof needs it. What holds of streams and of runs of sends is said by the crate `link_laws`.
+//! Laws: which limit a type's frames need, what strict reception depends on, and what reading in place gives in turn. Each function does
+//! nothing; a proof calls it for its contract. The laws of streams and of runs of sends are in the crate `link_laws`.
 ghost use Rattle.std.specs.Prelude.{ℕ};
 ghost use Rattle.link.specs.Laws.{HasRoom, IsToldByLengths, IsReadInTurn};
 ghost use Rattle.link.specs.Link.{IsWithinLengths};
@@ -7,8 +7,7 @@ ghost use Rattle.link.specs.Link.{IsWithinLengths};
 use postcard::Readable;
 use postcard::experimental::max_size::MaxWritten;
 
-/// A value that doesn't refuse itself has a frame within every limit that is at least as long as the longest frame of its
-/// type's greatest size.
+/// The frame of a value that can be encoded is within every limit that is at least the longest frame of its type's greatest size.
 pub fn room<T: MaxWritten>(value: &T)
     ensures { HasRoom T.greatest (T.form.writes value.now) }
 {
@@ -23,7 +22,7 @@ pub fn frame_lengths()
     cobs::laws::lengths();
 }
 
-/// Whether sending makes a stretch that holds a tree is told by two lengths.
+/// Two lengths decide whether sending writes a stretch that holds a tree.
 pub fn by_lengths<T: Readable>()
     ensures { IsToldByLengths T.form.takes }
 {
@@ -33,8 +32,8 @@ pub fn by_lengths<T: Readable>()
     postcard_tree::laws::short_is_the_shortest();
 }
 
-/// What `read_in_place` answers, again and again until nothing is left, are the answers of reading in place: those of which `roads` of
-/// the crate `link_laws` says that their values are the receiver's.
+/// Repeated `read_in_place`, until nothing is left, gives the results of reading in place, whose values are the receiver's by `roads`
+/// of the crate `link_laws`.
 pub fn in_turn<T: Readable>()
     ensures { (s : ℕ) → IsReadInTurn T.form.takes T.form.reads s }
 {}

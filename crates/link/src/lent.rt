@@ -20,7 +20,7 @@ impl<D: Decoding> Reception<D> {
     ghost use denote.Follow.{follows_so};
     ghost use Rattle.link.specs.Lending.{AdvancesToEvent, Leads, AnswersByForm, StandsBy};
 
-    // Takes bytes of a piece, up to the first that brings something about, and lends the message of a frame.
+    // Takes bytes of a chunk, up to the first that gives a result, and lends the message of a frame.
     pub(crate) fn advance<'de>(&'de mut self, piece: &[u8]) -> Taken<&'de [u8]>
         ensures answer { AdvancesToEvent D.inside self.entry.now piece.now result }
         ensures* after { sem 𝓛 (follows_so (the_row D.row) (the_row D.row) self.entry.ghost_name
@@ -32,7 +32,27 @@ impl<D: Decoding> Reception<D> {
 
     /// As `push`, for a value that may borrow from the receiver, such as `&str`.
     ///
-    /// The receiver can be used again once the value is gone, and has then taken the bytes that were used, as after `push`.
+    /// The value lies in the receiver until the next call of it, which the compiler checks. The receiver has then taken the bytes that
+    /// were used, as after `push`.
+    ///
+    /// # Errors
+    /// `answer` is `NoMemory` as with `push`.
+    ///
+    /// # Allocates
+    /// What the value needs; nothing for a value that only borrows.
+    ///
+    /// # Example
+    /// ```rust
+    /// for _ in 0..piece.len() {
+    ///     let Pushed { used, answer, .. } = receiver.push_ref::<&str>(alloc, rest);
+    ///     match answer {
+    ///         Ok(Some(Answer::Value(text))) => tally.add(text),
+    ///         Ok(None) => {}
+    ///         Ok(Some(_)) | Err(NoMemory) => tally.lost = tally.lost.saturating_add(1),
+    ///     }
+    ///     rest = &rest[used..];
+    /// }
+    /// ```
     pub fn push_ref<'de, T: Deserialize<&'de [u8]>>(
         &'de mut self,
         alloc: Global,
@@ -47,7 +67,7 @@ impl<D: Decoding> Reception<D> {
     }
 }
 
-// The answer to a stretch that is a frame with this message.
+// The result of a stretch that is a frame with this message.
 pub(crate) fn read_message<'de, T: Deserialize<&'de [u8]>>(
     alloc: Global,
     message: &'de [u8],
@@ -66,7 +86,7 @@ pub(crate) fn read_message<'de, T: Deserialize<&'de [u8]>>(
     }
 }
 
-// The answer to what was found, by a value that may borrow from it.
+// The result of what was found, with a value that may borrow from it.
 fn read_lent<'de, T: Deserialize<&'de [u8]>>(
     alloc: Global,
     taken: Taken<&'de [u8]>,
@@ -84,7 +104,7 @@ fn read_lent<'de, T: Deserialize<&'de [u8]>>(
     }
 }
 
-// What a push gives that took this.
+// The result of a push that took this.
 fn pushed<'de, T: Deserialize<&'de [u8]>>(alloc: Global, taken: Taken<&'de [u8]>) -> Pushed<T>
     ensures { ReadsLent T.form.takes T.form.reads T.form.growing taken.entry result }
 {

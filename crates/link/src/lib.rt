@@ -1,62 +1,46 @@
-//! Values over a line that may break: a sender puts each value on it as a frame that ends with a zero, and a receiver
-//! answers each stretch of bytes that a zero ends, however the bytes are cut into pieces.
+//! Values over a line that may break. A sender writes each value as a frame that ends with a zero. A receiver reports what the bytes
+//! between two zeros hold, however reads split them, and continues after any damage.
 //!
-//! ```text
-//! fn tell<W: Outlet>(sender: &mut Sender<W, 64>, celsius: i16) -> Result<(), SendError> {
-//!     // where the line failed, the next send is heard all the same
-//!     sender.send(&celsius)
-//! }
-//!
-//! #[derive(Drop)]
-//! struct Heard {
-//!     last: Option<i16>,
-//!     lost: u64,
-//! }
-//!
-//! fn hear(alloc: Global, receiver: &mut Receiver<64>, piece: &[u8], heard: &mut Heard) {
-//!     let mut rest = piece;
-//!     // each push uses a byte at least, and one of no bytes answers nothing
-//!     for _ in 0..piece.len() {
-//!         let Pushed { used, answer, .. } = receiver.push::<i16>(alloc, rest);
-//!         rest = &rest[used..];
-//!         match answer {
-//!             Ok(Some(Answer::Value(celsius))) => heard.last = Some(celsius),
-//!             Ok(None) => {}
-//!             Ok(Some(_)) | Err(NoMemory) => heard.lost = heard.lost.saturating_add(1),
-//!         }
-//!     }
-//! }
+//! # Example
+//! ```rust
+//! let mut sender = Sender::<_, 16>::new(line);
+//! println!(rt; "{:?}", sender.send(&reading))?;
+//! println!(rt; "{:?}", sender.send(&reading))?;
+//! let count = sender.into_inner().moved();
+//! let reader = In::new(&bytes[..count], 2, None);
+//! let received = receive::<Reading, _, 16>(rt.alloc(), reader);
 //! ```
 //!
 //! | To | Use |
 //! |---|---|
 //! | send values one by one | `Sender` |
-//! | send the values of a slice, and know what became of each | `send_each` |
-//! | write a value's frame into a buffer of the caller's, or see whether it fits | `frame_into` |
-//! | frame what a serializer of the caller's pushes | `Framed`, a flavor of postcard's |
-//! | receive from pieces | `Receiver`: `push`, `push_ref` of values that borrow, `push_strict` of what sending makes alone; each tells how long the answered stretch was |
-//! | receive with a limit that is a value, and set it anew | `OwnedReceiver` |
-//! | receive by a reader of messages that is a value, as one by a table of types | `push_with`, `listen_with`, `listen_until_with`, `receive_each_with` of a receiver; `MessageReader` |
-//! | receive from a reader, each answer handed on when its last byte was read | a `Hearer`, and of a receiver `listen_with` for one read, `listen_until_with` until the hearer has had enough, `receive_each_with` to the end |
-//! | receive all that a reader gives | `receive`, `receive_strict`, `receive_owned`, `receive_by_accumulator` |
-//! | read a buffer where it lies | `read_in_place` |
+//! | send the values of a slice, with the fate of each | `send_each` |
+//! | write a value's frame into a buffer, or see whether it fits | `frame_into` |
+//! | frame what your own serializer pushes | `Framed`, a flavor of postcard's |
+//! | receive from chunks | `Receiver`: `push`; `push_ref` for values that borrow; `push_strict` for exactly what sending writes |
+//! | receive with a limit that is set at run time | `OwnedReceiver` |
+//! | receive by a reader of messages that is a value, such as a table of types | `push_with`, `listen_with`, `listen_until_with`, `receive_each_with`; `MessageReader` |
+//! | act on each result as soon as its last byte was read | a `Hearer`, and `listen_with`, `listen_until_with` or `receive_each_with` |
+//! | receive everything that a reader gives | `receive`, `receive_strict`, `receive_owned`, `receive_owned_strict`, `receive_by_accumulator` |
+//! | decode a buffer in place | `read_in_place` |
 //!
-//! A **stretch** is a longest run of bytes that aren't zero. One that a zero ends is answered by the value of its frame, or
-//! `Damaged`, or `TooLong` where it has more bytes than the receiver's N; one that is still unfinished at the end is `Cut`.
-//! Zeros in a row answer nothing. So every answer is by its own stretch alone: damage in one reaches no other.
+//! A **stretch** is a longest run of bytes that aren't zero. Its result is the value of its frame, `Damaged`, or `TooLong` if it has
+//! more bytes than the receiver's limit. The last one, which no zero ends, is `Cut` at the end of the stream. Zeros in a row give no
+//! result. Each result depends on its own stretch alone, so damage in one stretch reaches no other.
 //!
-//! The zero is the line's **sentinel**. A call that ends in `with_sentinel` takes another byte in its place: there a stretch is a
-//! longest run of bytes that aren't this one, and each byte of a frame is XORed with it. Both ends have to name the same.
+//! The zero is the line's **sentinel**. A call that ends in `with_sentinel` takes another byte in its place, with which each byte of a
+//! frame is XORed. Both ends have to name the same.
 //!
-//! A send that the line breaks off leaves a beginning of its bytes. The next send that writes, of this sender or of another one,
-//! begins with a zero and so ends what was left of it: that is `Damaged`, or the value where its whole frame had gone out. No
-//! other value is ever made of it. The crate `link_laws` says this of every run of sends by `told`, and by `headline` of the calls.
+//! An interrupted send leaves a prefix of its bytes on the line. The next send that writes, of this sender or another one, begins with
+//! a zero and so ends that prefix. The receiver reports it as `Damaged`, or as its value if its whole frame was written; never as
+//! another value. The crate `link_laws` states this for every run of sends (`told`), and `link_laws::headline` for the calls.
 //!
-//! What allocates takes the allocator first. Only those that receive all that a reader gives take memory themselves, for their
-//! lists, and an `OwnedReceiver` for its buffer; the other calls take some only where a value's type does.
+//! # Allocates
+//! A call that allocates takes the allocator first. The calls that receive everything allocate their lists, and an `OwnedReceiver` its
+//! buffer; the others allocate only if a value's type does.
 //!
-//! The contracts speak of bytes as lists and of values by the trees that postcard writes them as: `specs/Stream.antt` says what
-//! is answered, `specs/Run.antt` what is sent and what is to be told of it, and the crate `link_laws` what holds of these.
+//! Contracts speak of bytes as lists, and of a value by its tree: what postcard writes it as, before encoding. `specs/Stream.antt` says
+//! what is received, `specs/Run.antt` what is sent and what is received of it.
 #![tactic(auto)]
 
 mod decoding;

@@ -1,11 +1,11 @@
-//! A list of answers, as long as it finds memory.
+//! A list of results, as long as it can be extended.
 ghost use Rattle.std.specs.Prelude.{◌≡◌, [], ◌∷◌, ⊤};
 ghost use Rattle.link.specs.Firsts.{KeepsFirst, keeps_laws};
 
 use crate::each::Hearer;
 use crate::receiver::Answer;
 
-// Keeps the answers that it hears. Once there was no place for one it is full, has had enough, and keeps none.
+// Keeps the results. Once one has no space, it is full, has had enough, and keeps no more.
 #[derive(Drop)]
 pub(crate) struct Listed<T> {
     pub answers: Vec<Answer<T>>,

@@ -1,4 +1,4 @@
-//! Receiving all that a reader gives.
+//! Receiving everything that a reader gives.
 ghost use Rattle.std.specs.Prelude.{◌≡◌, ℕ, []};
 ghost use Rattle.link.specs.Receivers.{IsBehind};
 ghost use Rattle.link.specs.Listening.{ReceiverFitsInMemory, IsReceivedBy, IsReceivedByOwned, IsUnmade, ordinary, strictly};
@@ -15,18 +15,30 @@ use postcard::{DeserializeOwned, Exact};
 use std::alloc::Global;
 
 /// What was received, why it ended, and the reader.
+///
+/// # Example
+/// ```rust
+/// let Received {
+///     answers,
+///     end,
+///     reader: _,
+/// } = receive::<Reading, _, 16>(alloc, In::new(&bytes, 64, None));
+/// ```
 #[derive(Drop)]
 pub struct Received<T, R> {
-    /// The answers, in the order of their stretches.
+    /// The results, in the order of their stretches.
     ///
-    /// At `Ended` they are those of all bytes that were read, with `Cut` for a stretch that no sentinel ended. At `ReadFault`
-    /// they are these without `Cut`. At `NoMemory` they are those before the first one that is missing: a value found no memory, or
-    /// the list no place behind all that it was granted. None is missing of the bytes before the last read of up to 1024. Where there
-    /// was no memory for a receiver of `receive_owned`, nothing was read.
+    /// | `end` | They are |
+    /// |---|---|
+    /// | `Ended` | those of all bytes that were read, with `Cut` for a stretch that no sentinel ended |
+    /// | `ReadFault` | the same, without `Cut` |
+    /// | `NoMemory` | those before the first missing one: its value couldn't be allocated, or the list is full to its allocated capacity; none is missing of the bytes before the last read of up to 1024 |
+    ///
+    /// If `receive_owned` couldn't allocate its receiver, nothing was read.
     pub answers: Vec<Answer<T>>,
-    /// How the reception ended: at `NoMemory` none was found for a value, for the list, or for a receiver whose limit is a value.
+    /// Why it ended. `NoMemory`: a value, the list, or the receiver of `receive_owned` couldn't be allocated.
     pub end: End,
-    /// The reader that was handed in, after this call's reads.
+    /// The reader, after this call's reads.
     pub reader: R,
 }
 
@@ -43,7 +55,8 @@ fn ended_as(end: Option<End>, full: bool) -> End
     }
 }
 
-// The answers to all that a reader gives, by a receiver that was given nothing and a reader of messages.
+// The results of everything that a reader gives, by a receiver that has received nothing and a reader of messages: `receive_each_with`
+// into a list that stops at the first out of memory, so that there is one loop.
 fn receive_by<V: Drop, M: MessageReader<V>, R: Inlet, D: Decoding>(
     alloc: Global,
     messages: &M,
@@ -73,18 +86,19 @@ fn receive_by<V: Drop, M: MessageReader<V>, R: Inlet, D: Decoding>(
 /// It reads chunks of up to 1024 bytes; their sizes change no result. At most one call of the reader a byte, and one that ends the
 /// reading. To act on each message as it comes use `receive_each_with`.
 ///
-/// ```rust
-///     let received = receive::<Reading, _, 16>(rt.alloc(), reader);
-///     for answer in &received.answers {
-///         println!(rt; "{answer:?}")?;
-///     }
-/// ```
-///
 /// # Errors
 /// `end` is `ReadFault` or `NoMemory`; `answers` then are the first ones, as `Received` says.
 ///
 /// # Allocates
 /// The list, and what the values need.
+///
+/// # Example
+/// ```rust
+/// let received = receive::<Reading, _, 16>(rt.alloc(), reader);
+/// for answer in &received.answers {
+///     println!(rt; "{answer:?}")?;
+/// }
+/// ```
 pub fn receive<T: DeserializeOwned, R: Inlet, const N: usize>(
     alloc: Global,
     reader: R,
@@ -132,7 +146,7 @@ pub fn receive_strict_with_sentinel<T: DeserializeOwned + Exact, R: Inlet, const
     receive_by(alloc, &Strict(OfType), reader, &mut receiver)
 }
 
-// What is received where no receiver could be made: nothing was read.
+// The result if no receiver could be allocated: nothing was read.
 fn unmade<T, R>(alloc: Global, reader: R) -> Received<T, R>
     ensures { IsUnmade reader result.reader result.end result.answers.items }
 {
@@ -147,6 +161,15 @@ fn unmade<T, R>(alloc: Global, reader: R) -> Received<T, R>
 ///
 /// # Errors
 /// As `receive`. If a receiver of that limit could not be allocated, nothing is read, and the end is `NoMemory`.
+///
+/// # Allocates
+/// The receiver's buffer, the list, and what the values need.
+///
+/// # Example
+/// ```rust
+/// let got = receive_owned::<bool, _>(alloc, In::new(&line, 2, None), 3, 0);
+/// wants.heard(got, &[Answer::TooLong, Answer::Value(true)]);
+/// ```
 pub fn receive_owned<T: DeserializeOwned, R: Inlet>(
     alloc: Global,
     reader: R,

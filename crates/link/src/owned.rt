@@ -1,4 +1,4 @@
-//! The receiver whose limit is a value.
+//! The receiver whose limit is set at run time.
 ghost use Rattle.std.specs.Prelude.{◌≡◌, ◌≤◌, ℕ, List, [], IsOk, IfOk, OnOk, OnErr};
 
 use crate::receiver::NoMemory;
@@ -10,6 +10,16 @@ use std::alloc::Global;
 ///
 /// # Allocates
 /// Its buffer, of as many bytes as the limit: when it is made, and when the limit rises.
+///
+/// # Example
+/// ```rust
+/// let Ok(mut receiver) = OwnedReceiver::new(rt.alloc(), 4, 0x0A) else {
+///     return check(&rt, false);
+/// };
+/// let lent = receiver.push_ref::<&str>(rt.alloc(), &[0x0E, 0x08, 0x62, 0x63, 0x0A]);
+/// let passed = is_lent(&lent, 5, &"hi");
+/// check(&rt, passed && receiver.is_between());
+/// ```
 pub type OwnedReceiver = Reception<CobsDecoderOwned>;
 
 impl Reception<CobsDecoderOwned> {
@@ -20,6 +30,9 @@ impl Reception<CobsDecoderOwned> {
     ///
     /// # Errors
     /// `NoMemory` if its buffer could not be allocated.
+    ///
+    /// # Allocates
+    /// A buffer of `limit` bytes.
     pub fn new(alloc: Global, limit: usize, sentinel: u8) -> Result<OwnedReceiver, NoMemory>
         ensures after { IfOk result (λ r. IsBehind in_owner limit sentinel r []) }
         ensures limit { IfOk result (λ r. limit_of in_owner r ≡ limit) }
@@ -43,6 +56,14 @@ impl Reception<CobsDecoderOwned> {
     ///
     /// # Requires
     /// No stretch is begun: `is_between`.
+    ///
+    /// # Example
+    /// ```rust
+    /// takes_true(alloc, receiver)
+    ///     && receiver.is_between()
+    ///     && receiver.set_limit(0).is_ok()
+    ///     && takes_nothing(alloc, receiver)
+    /// ```
     pub fn set_limit(&mut self, limit: usize) -> Result<(), NoMemory>
         requires { IsBetween self.old }
         ensures limit { OnOk result (limit_of in_owner self.new ≡ limit) }

@@ -1,4 +1,4 @@
-//! What receivers answer, and the receiver whose limit is part of its type.
+//! The results of receivers, and the receiver whose limit is part of its type.
 ghost use Rattle.std.specs.Prelude.{◌≡◌, []};
 
 use crate::reception::Reception;
@@ -6,52 +6,56 @@ use cobs::CobsDecoderHeapless;
 use thiserror::Error;
 
 /// What a receiver reports of the bytes between two sentinels.
+///
+/// Strictly, as `push_strict` receives, a value is reported only for exactly the frame that sending it writes.
+///
+/// Example: see [`Reception::push_ref`].
 #[derive(PartialEq, Debug, Drop)]
 pub enum Answer<T> {
-    /// It is a frame, and a front of its message is this value. (Strictly: it is the frame that sending this value makes.)
+    /// They are a frame, and a prefix of its message is this value. (Strictly: they are the frame that sending this value writes.)
     Value(T),
-    /// It is no frame, or no front of its message is a value. (Strictly: it isn't the frame that sending any value makes.)
+    /// They are no frame, or no prefix of its message is a value. (Strictly: they aren't the frame that sending any value writes.)
     Damaged,
-    /// It has more bytes than the limit. It is answered at the byte past the limit, and the rest of it isn't answered.
+    /// They are more than the limit. Reported once, at the byte past it.
     TooLong,
-    /// The stream ended inside it, within the limit.
+    /// The stream ended before a sentinel ended them, within the limit.
     Cut,
 }
 
 /// A value, or the buffer of an `OwnedReceiver`, could not be allocated.
 ///
 /// Only types that allocate (`Grows::grows`) cause it, and only for bytes that are a frame within the limit.
+///
+/// Example: see [`Reception::push`].
 #[derive(Clone, Copy, PartialEq, Eq, Debug, Drop, Error)]
 #[error("no memory")]
 pub struct NoMemory;
 
 /// What a push returns.
+///
+/// Example: see [`Reception::push_ref`].
 #[derive(Drop)]
 pub struct Pushed<T> {
-    /// How many bytes of the piece were used: all of them where they brought about no answer. Push the rest next.
+    /// How many bytes of the chunk were used: all of them if there was no result. Push the rest next.
     pub used: usize,
-    /// How many bytes of the answered stretch stand before the last of these: all of them where a sentinel ended it, as many as the
-    /// limit where that byte is the one past it. 0 where nothing was answered. So where the last byte used has the offset `at`, the
-    /// stretch begins at `at - stretch`.
+    /// How many bytes of the reported stretch come before the last byte used: its length if a sentinel ended it, the limit if that
+    /// byte is the one past it, 0 without a result. If the last byte used has the offset `at`, the stretch begins at `at - stretch`.
     pub stretch: usize,
-    /// The answer that they brought about, if any. After `NoMemory` that frame is gone, its sentinel is used, and no stretch
-    /// is begun.
+    /// Their result, if there is one. After `NoMemory` that frame is gone, its sentinel is used, and no stretch is begun.
     pub answer: Result<Option<Answer<T>>, NoMemory>,
 }
 
 /// A receiver of frames of at most N bytes; N may be 0. It allocates nothing of its own.
 ///
+/// # Example
 /// ```rust
-///     for _ in 0..piece.len() {
-///         let Pushed { used, answer, .. } = receiver.push_ref::<&str>(alloc, rest);
-///         match answer {
-///             // the text lies in the receiver until the next push
-///             Ok(Some(Answer::Value(text))) => tally.add(text),
-///             Ok(None) => {}
-///             Ok(Some(_)) | Err(NoMemory) => tally.lost = tally.lost.saturating_add(1),
-///         }
-///         rest = &rest[used..];
-///     }
+/// let mut receiver = Receiver::<4>::new();
+/// let pushed = receiver.push::<()>(rt.alloc(), &[5, 1, 1, 1, 1]);
+/// check(&rt, pushed.used == 5 && !receiver.is_between());
+/// check(&rt, is_answer(&pushed.answer, &Answer::TooLong));
+/// let ended = receiver.push::<()>(rt.alloc(), &[0]);
+/// check(&rt, matches!(&ended.answer, Ok(None)));
+/// check(&rt, receiver.is_between());
 /// ```
 pub type Receiver<const N: usize> = Reception<CobsDecoderHeapless<N>>;
 
@@ -59,7 +63,7 @@ impl<const N: usize> Reception<CobsDecoderHeapless<N>> {
     ghost use Rattle.link.specs.Decoding.{in_array};
     ghost use Rattle.link.specs.Receivers.{IsBehind, limit_of, sentinel_of};
 
-    /// A receiver that has received nothing, for the sentinel zero.
+    /// A receiver that has received nothing, with the sentinel zero.
     pub fn new() -> Receiver<N>
         ensures after { IsBehind in_array N 0 result [] }
         ensures limit { limit_of in_array result ≡ N }
@@ -68,7 +72,7 @@ impl<const N: usize> Reception<CobsDecoderHeapless<N>> {
         Receiver::<N>::new_with_sentinel(0)
     }
 
-    /// A receiver that has received nothing, for this sentinel.
+    /// As `new`, with this sentinel.
     pub fn new_with_sentinel(sentinel: u8) -> Receiver<N>
         ensures after { IsBehind in_array N sentinel result [] }
         ensures limit { limit_of in_array result ≡ N }

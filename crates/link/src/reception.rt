@@ -1,4 +1,4 @@
-//! Receiving values from a stream that comes in pieces.
+//! Receiving values from a stream that comes in chunks.
 ghost use Rattle.std.specs.Prelude.{◌≡◌, ℕ, ◌<◌, ◌≤◌, ◌↔◌, length, List, [], take, true, OnErr, IsTrue, IfSome, MatchOption};
 ghost use Rattle.postcard.specs.Frames.{Holds};
 ghost use Rattle.cobs.specs.Frames.{NoZero};
@@ -15,7 +15,7 @@ use cobs::before_sentinel;
 use postcard::{DeserializeOwned, Exact};
 use std::alloc::Global;
 
-// What is found in a piece, by what a frame carries: how long its message is, which stands in front of the buffer, or the message.
+// What is found in a chunk. M is what is kept of a frame: the length of its message at the front of the buffer, or the message.
 #[derive(Clone, Copy)]
 pub(crate) enum Found<M> {
     Nothing,
@@ -24,11 +24,11 @@ pub(crate) enum Found<M> {
     Whole(M),
 }
 
-// How many bytes of a piece were used, and what was found in them.
+// How many bytes of a chunk were used, and what was found in them.
 #[derive(Clone, Copy)]
 pub(crate) struct Taken<M> {
     pub used: usize,
-    // how many bytes of its stretch stand before the last byte of what was found
+    // how many bytes of its stretch come before the last byte used
     pub stretch: usize,
     pub found: Found<M>,
 }
@@ -36,17 +36,32 @@ pub(crate) struct Taken<M> {
 /// Receives values from a stream that comes in chunks, under a limit on the bytes between two sentinels.
 ///
 /// Its results depend on the bytes of the stream alone, however they are split. Each push may name another type. `Receiver` and
-/// `OwnedReceiver` are the names of its two kinds.
+/// `OwnedReceiver` are the names of its two kinds; code for both is generic in `D`. Code that holds a `Receiver<N>` of any N by value
+/// requires that it fits in memory (`ReceiverFitsInMemory`); a concrete N costs nothing.
+///
+/// # Example
+/// ```rust
+/// fn wait_by<D: Decoding, M: MessageReader<(u64, u32)>>(
+///     alloc: Global,
+///     receiver: &mut Reception<D>,
+///     messages: &M,
+///     reader: &mut In<'_>,
+///     waiting: &mut Waiting<Line, u32, u32, 16>,
+/// ) -> Option<End> {
+///     wait_with(alloc, receiver, messages, reader, waiting, &mut [0u8; 64])
+/// }
+/// ```
 #[derive(Drop)]
 pub struct Reception<D> {
-    // its sentinel is the receiver's, and its buffer has as many bytes as the limit
+    // Any decoder, not a type for each: so each contract, also that of `push_ref` by hand, is proved once. Its sentinel is the
+    // receiver's; its buffer has as many bytes as the limit.
     pub(crate) decoder: D,
     pub(crate) count: usize,
     pub(crate) past: bool,
     pub(crate) sentinel: u8,
 }
 
-// The answer to what was found.
+// The result of what was found.
 pub(crate) fn read<V, M: MessageReader<V>>(
     messages: &M,
     alloc: Global,
@@ -126,7 +141,7 @@ impl<D: Decoding> Reception<D> {
         self.close()
     }
 
-    // Takes a run without sentinels. Where it goes past the limit, how many bytes of it do.
+    // Takes a run without sentinels. If it exceeds the limit: how many of its bytes were used, with the one past the limit.
     fn take_run(&mut self, run: &[u8]) -> Option<usize>
         ensures runs { (limit s : ℕ) (b : Begun) → NoZero (masked s run.now)
             → IsAt D.inside limit s self.old b
@@ -151,7 +166,7 @@ impl<D: Decoding> Reception<D> {
         None
     }
 
-    // Takes a stretch that lies whole within the limit, without its sentinel, where none was begun.
+    // Takes a complete stretch within the limit, without its sentinel; none was begun.
     #[inline(always)]
     fn take_whole(&mut self, stretch: &[u8]) -> Found<usize>
         requires { NoZero (masked (D.inside self.old.decoder).sentinel stretch.now) }
@@ -171,7 +186,10 @@ impl<D: Decoding> Reception<D> {
         Found::Whole(size)
     }
 
-    // Takes bytes through the first sentinel, or up to the byte past the limit. A stretch that lies whole there is decoded at once.
+    // Takes bytes through the first sentinel, or up to the byte past the limit. Whole runs are taken, and skipped past the limit, which
+    // is several times as fast as byte by byte. A stretch that is complete there is decoded at once, which drops earlier state: one
+    // search, one copy. Another one is searched once more by the streaming decoder: to search it in `push` would rescan a long frame
+    // for each chunk.
     #[inline(always)]
     fn take_next(&mut self, bytes: &[u8]) -> Taken<usize>
         ensures brings { (limit s : ℕ) (b : Begun) → IsAt D.inside limit s self.old b
@@ -216,7 +234,7 @@ impl<D: Decoding> Reception<D> {
         }
     }
 
-    // Takes bytes of a piece, up to the first that brings something about.
+    // Takes bytes of a chunk, up to the first that gives a result.
     pub(crate) fn take(&mut self, piece: &[u8]) -> Taken<usize>
         ensures at { (limit s : ℕ) (b : Begun) → IsAt D.inside limit s self.old b
             → IsAt D.inside limit s self.new (course_of limit s b piece.now).begun }
@@ -255,7 +273,7 @@ impl<D: Decoding> Reception<D> {
         }
     }
 
-    // The same with the message of a frame, which stands in front of the buffer.
+    // The same with the message of a frame, which is at the front of the buffer.
     pub(crate) fn lend(&self, taken: Taken<usize>) -> Taken<&[u8]>
         requires { IsWithin (length (buffer_in D.inside self.now)) taken.found }
         ensures same { (limit : ℕ) (k : Course)
@@ -277,9 +295,9 @@ impl<D: Decoding> Reception<D> {
 
     /// Takes bytes up to the first result, and returns it.
     ///
-    /// `used` is how many bytes were taken: push the rest next. Without a result all were. A result is reported at the sentinel
-    /// that ends its stretch, or at the byte past the limit, and is of the stretch as a whole, also if earlier pushes took its
-    /// beginning.
+    /// `used` is how many bytes were taken: push the rest next. Without a result all were. A chunk of at least one byte uses at least
+    /// one. A result is reported at the sentinel that ends its stretch, or at the byte past the limit, and is of the stretch as a whole,
+    /// also if earlier pushes took its beginning.
     ///
     /// | `answer` | The bytes since the last sentinel |
     /// |---|---|
@@ -293,6 +311,16 @@ impl<D: Decoding> Reception<D> {
     ///
     /// # Allocates
     /// What the value needs.
+    ///
+    /// # Example
+    /// ```rust
+    /// let pushed = receiver.push::<Reading>(rt.alloc(), &[*byte]);
+    /// match pushed.answer {
+    ///     Ok(Some(answer)) => tell(rt, answer, at.saturating_sub(pushed.stretch as u64), at)?,
+    ///     Ok(None) => {}
+    ///     Err(NoMemory) => println!(rt; "no memory")?,
+    /// }
+    /// ```
     pub fn push<T: DeserializeOwned>(&mut self, alloc: Global, piece: &[u8]) -> Pushed<T>
         ensures within { result.used ≤ length piece.now }
         ensures forward { 0 < length piece.now → 0 < result.used }
@@ -309,6 +337,15 @@ impl<D: Decoding> Reception<D> {
     /// As `push`, but only the exact frame that sending a value writes is a `Value`; any other is `Damaged`.
     ///
     /// So equal values come from equal bytes. A map isn't `Exact`: its entries may come in any order.
+    ///
+    /// # Example
+    /// ```rust
+    /// let Pushed { used, answer, .. } = if strict {
+    ///     receiver.push_strict::<Vec<u8>>(alloc, piece)
+    /// } else {
+    ///     receiver.push::<Vec<u8>>(alloc, piece)
+    /// };
+    /// ```
     pub fn push_strict<T: DeserializeOwned + Exact>(
         &mut self,
         alloc: Global,
@@ -329,6 +366,15 @@ impl<D: Decoding> Reception<D> {
     /// As `push`, by a reader of messages; each push may name another.
     ///
     /// `push` is this with `Ordinary(OfType)`, and `push_strict` with `Strict(OfType)`.
+    ///
+    /// # Example
+    /// ```rust
+    /// let pushed = receiver.push_with(alloc, &Chosen { strict: false }, &LONGER);
+    /// check(&rt, pushed.used == 5 && pushed.stretch == 4);
+    /// check(&rt, is_answer(&pushed.answer, &Answer::Value(300)));
+    /// let pushed = receiver.push_with(alloc, &Chosen { strict: true }, &LONGER);
+    /// check(&rt, is_answer(&pushed.answer, &Answer::Damaged));
+    /// ```
     pub fn push_with<V, M: MessageReader<V>>(
         &mut self,
         alloc: Global,
@@ -353,6 +399,8 @@ impl<D: Decoding> Reception<D> {
     }
 
     /// Whether no stretch is begun. After a `TooLong` one is, until its sentinel.
+    ///
+    /// Example: see [`Receiver`].
     pub fn is_between(&self) -> bool
         ensures state { IsTrue result ↔ IsBetween self.now }
         ensures begun { OnBegun D.inside self.now (λ b. IsTrue result ↔ (b ≡ kept [])) }
@@ -381,6 +429,14 @@ impl<D: Decoding> Reception<D> {
     }
 
     /// Ends the stream as `finish` does, and begins a new one with the same limit and sentinel. Allocates nothing.
+    ///
+    /// # Example
+    /// ```rust
+    /// match self.decode(src)? {
+    ///     Some(answer) => Ok(Some(answer)),
+    ///     None => Ok(self.receiver.restart()),
+    /// }
+    /// ```
     pub fn restart<T>(&mut self) -> Option<Answer<T>>
         ensures answer { OnBegun D.inside self.old (λ b. result ≡ finished b) }
         ensures anew { (limit s : ℕ) (stream : List ℕ) → IsBehind D.inside limit s self.old stream
@@ -399,7 +455,15 @@ impl<D: Decoding> Reception<D> {
 impl<D: Decoding + Drop> Reception<D> {
     ghost use Rattle.link.specs.Receivers.{OnBegun};
 
-    /// Ends the stream: `Cut` if a stretch was begun and not reported, else `None`.
+    /// Ends the stream: `Cut` if a stretch was begun and not reported, else `None`. The receiver is gone then.
+    ///
+    /// # Example
+    /// ```rust
+    /// match receiver.finish() {
+    ///     Some(answer) => tell(rt, answer, at, at),
+    ///     None => Ok(()),
+    /// }
+    /// ```
     pub fn finish<T>(self) -> Option<Answer<T>>
         ensures { OnBegun D.inside self (λ b. result ≡ finished b) }
     {

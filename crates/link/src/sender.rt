@@ -8,27 +8,36 @@ use postcard::Serialize;
 use thiserror::Error;
 
 /// Why a value wasn't sent completely.
+///
+/// # Example
+/// ```rust
+/// pub fn is_too_long(sent: Result<(), SendError>) -> bool {
+///     sent == Err(SendError::Refused(Error::SerializeBufferFull))
+/// }
+/// ```
 #[derive(Clone, Copy, PartialEq, Eq, Debug, Drop, Error)]
 pub enum SendError {
-    /// The value refuses itself, or its frame is longer than N bytes, which is `SerializeBufferFull`. Nothing was written, and
-    /// whether the sender is clean stays. Where both hold, either cause may be named.
+    /// The value can't be encoded, or its frame is longer than N bytes (`SerializeBufferFull`); if both hold, either. Nothing was
+    /// written, and `is_clean` stays.
     #[error("refused: {0}")]
     Refused(postcard::Error),
-    /// A write failed or took nothing. A beginning of this send's bytes went out, not all of them, and perhaps none; the
-    /// sender isn't clean.
+    /// A write failed or took nothing. A proper prefix of this send's bytes, perhaps none, was written; the sender isn't clean.
     #[error("line failed")]
     Line,
 }
 
 /// Sends values over a line, each as a frame of at most N bytes and a sentinel: zero, unless another is chosen.
 ///
-/// Every byte of a frame is XORed with the sentinel, so that none equals it. A sender that isn't clean writes a sentinel first,
-/// which ends what an earlier send has left on the line. It has the line for itself: it doesn't know what others write between its
-/// sends.
+/// Each byte of a frame is XORed with the sentinel, so none equals it. A sender that isn't clean writes a sentinel first, which ends
+/// what an earlier send left on the line. The line must be its own while it is clean: it doesn't see what others write between its
+/// sends. Code over a `Sender<W, N>` of any N requires that it fits in memory (`SenderFitsInMemory`); a concrete N costs nothing.
 ///
+/// # Example
 /// ```rust
-///     let mut sender = Sender::<_, 16>::new(line);
-///     println!(rt; "{:?}", sender.send(&reading))?;
+/// let mut sender = Sender::<_, 16>::new(line);
+/// println!(rt; "{:?}", sender.send(&reading))?;
+/// println!(rt; "{:?}", sender.send(&reading))?;
+/// let count = sender.into_inner().moved();
 /// ```
 #[derive(Drop)]
 pub struct Sender<W, const N: usize> {
@@ -55,7 +64,10 @@ impl<W: Outlet, const N: usize> Sender<W, N> {
         Sender::new_with_sentinel(writer, 0)
     }
 
-    /// The same, with this sentinel.
+    /// As `new`, with this sentinel.
+    ///
+    /// # Requires
+    /// N is at least 1.
     pub fn new_with_sentinel(writer: W, sentinel: u8) -> Sender<W, N>
         requires { 0 < N }
         ensures writer { writer_of result ≡ writer }
@@ -70,7 +82,7 @@ impl<W: Outlet, const N: usize> Sender<W, N> {
         }
     }
 
-    /// Whether the last send that wasn't refused completed. If not, or if none was made, the next one begins with a sentinel.
+    /// Whether the last send that wasn't refused completed. If not, or if there was none, the next one begins with a sentinel.
     pub fn is_clean(&self) -> bool
         ensures { result ≡ clean_of self.now }
     {
@@ -84,8 +96,7 @@ impl<W: Outlet, const N: usize> Sender<W, N> {
         &self.writer
     }
 
-    /// Replaces the writer and returns the old one. Whether the sender is clean stays: the new writer has to continue the old one's
-    /// line.
+    /// Replaces the writer and returns the old one. `is_clean` stays, so the new writer must continue the old one's line.
     pub fn replace_inner(&mut self, writer: W) -> W
         ensures before { result ≡ writer_of self.old }
         ensures writer { writer_of self.new ≡ writer }
@@ -109,10 +120,18 @@ impl<W: Outlet, const N: usize> Sender<W, N> {
     /// written. Allocates nothing and retries nothing.
     ///
     /// # Errors
-    /// - `Refused`: the value refuses itself, or its frame has more than N bytes (`SerializeBufferFull`). Nothing was written, and
-    ///   whether the sender is clean stays.
+    /// - `Refused`: the value can't be encoded, or its frame has more than N bytes (`SerializeBufferFull`). Nothing was written, and
+    ///   `is_clean` stays.
     /// - `Line`: a write failed or took nothing. A proper prefix of the bytes, perhaps none, was written; the next send begins with
     ///   a sentinel. If the value is sent again, the receiver may get it twice.
+    ///
+    /// # Example
+    /// ```rust
+    /// let mut sender = Sender::<_, 6>::new(Out::new(&mut room, 1, None));
+    /// let sent = sender.send(&4294967295u32);
+    /// let count = sender.into_inner().moved();
+    /// let line = [0u8, 6, 0xFF, 0xFF, 0xFF, 0xFF, 0x0F, 0];
+    /// ```
     pub fn send<T: Serialize>(&mut self, value: &T) -> Result<(), SendError>
         ensures sent { HasSent N (T.form.writes value.now) (T.form.valid value.now)
             (sender_place W.line self.old) (sender_place W.line self.new) result }

@@ -8,13 +8,15 @@ use line_io::Outlet;
 use postcard::Serialize;
 
 /// What became of a send.
+///
+/// Example: see [`send_each`].
 #[derive(Clone, Copy, PartialEq, Debug, Drop)]
 pub enum Fate {
-    /// All its bytes went out.
+    /// All its bytes were written.
     Done,
-    /// The value refuses itself, or its frame is longer than N bytes. Nothing was written.
+    /// The value can't be encoded, or its frame is longer than N bytes. Nothing was written.
     Refused,
-    /// A write failed or took nothing. A beginning of this send's bytes went out, not all of them, and perhaps none.
+    /// A write failed or took nothing. A proper prefix of this send's bytes, perhaps none, was written.
     Broken,
 }
 
@@ -55,10 +57,19 @@ fn send_all<T: Serialize, W: Outlet, const N: usize>(
 /// Sends the values in turn by a new `Sender` with frames of at most N bytes, stores the fate of each, and returns the writer.
 ///
 /// It continues after refusals and faults, and retries nothing. As many sends are `Broken` as writes failed or took nothing, as
-/// long as the writer had a call left.
+/// long as the writer had a call left. Allocates nothing.
 ///
 /// # Requires
 /// As many fates as values (there may be none of either), and N is at least 1.
+///
+/// # Example
+/// ```rust
+/// let mut fates = [Fate::Broken; 2];
+/// let out = send_each::<u32, _, 2>(Out::new(&mut room, 16, None), &[300, 5], &mut fates);
+/// let count = out.moved();
+/// check(&rt, holds(&room, count, &[0, 2, 5, 0]));
+/// check(&rt, are_fates(&fates, &[Fate::Refused, Fate::Done]));
+/// ```
 pub fn send_each<T: Serialize, W: Outlet, const N: usize>(
     writer: W,
     values: &[T],
@@ -74,6 +85,9 @@ pub fn send_each<T: Serialize, W: Outlet, const N: usize>(
 }
 
 /// As `send_each`, with this sentinel.
+///
+/// # Requires
+/// As many fates as values, and N is at least 1.
 pub fn send_each_with_sentinel<T: Serialize, W: Outlet, const N: usize>(
     writer: W,
     values: &[T],

@@ -20,12 +20,19 @@ module _ {N : ℕ} where
   -- these bytes are what a completed send of the value leaves on the line
   pub record Encodes (s : LinkEncoder N) (writes : Option Tree) (holds_of_it : Type 0)
       (frame : List ℕ) (t : LinkEncoder N) : Type 0 where
+    -- what the value is written as
     pub tree : Tree
+    -- it is the value's
     pub of : writes ≡ Some tree
+    -- its frame is at most N bytes long
     pub is : IsSend IsTree N (encoder_sentinel s) (encoder_clean s) (completed tree)
+    -- the value is a valid one of its type
     pub valid : holds_of_it
+    -- the bytes are those of a completed send
     pub bytes : frame ≡ written (encoder_sentinel s) (encoder_clean s) (completed tree)
+    -- the encoder is clean then
     pub clean : encoder_clean t ≡ true
+    -- its sentinel stays
     pub sentinel : encoder_sentinel t ≡ encoder_sentinel s
 
   -- the value is refused as a sender refuses it, or its bytes had no room

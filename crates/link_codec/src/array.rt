@@ -6,14 +6,24 @@ use crate::decoder::AnswerDecoder;
 use cobs::CobsDecoderHeapless;
 use link::{OfType, Ordinary, Receiver, Strict};
 
-/// Answers as `push` of a `Receiver<N>` does, with stretches of at most N bytes; N may be 0.
+/// A decoder with the results of `push` of a `Receiver<N>`: stretches of at most N bytes; N may be 0. It allocates only for values.
+///
+/// # Example
+/// ```rust
+/// type Short = LinkDecoder<String, 4>;
+/// ```
+/// ```rust
+/// hear(rt, line, Short::new())
+/// ```
 pub type LinkDecoder<T, const N: usize> = AnswerDecoder<
     T,
     Ordinary<OfType>,
     CobsDecoderHeapless<N>,
 >;
 
-/// Answers as `push_strict` of a `Receiver<N>` does, with stretches of at most N bytes; N may be 0.
+/// As `LinkDecoder`, with the results of `push_strict`: a value only for exactly the frame that sending it writes.
+///
+/// Example: see [`LinkCodec`].
 pub type StrictLinkDecoder<T, const N: usize> = AnswerDecoder<
     T,
     Strict<OfType>,
@@ -23,14 +33,14 @@ pub type StrictLinkDecoder<T, const N: usize> = AnswerDecoder<
 impl<T, M: ByType, const N: usize> AnswerDecoder<T, M, CobsDecoderHeapless<N>> {
     ghost use Rattle.link_codec.specs.Decoders.{IsGiven};
 
-    /// A decoder that was given nothing. Its sentinel is zero.
+    /// A decoder that was given nothing, with the sentinel zero.
     pub fn new() -> AnswerDecoder<T, M, CobsDecoderHeapless<N>>
         ensures { IsGiven N 0 result [] }
     {
         AnswerDecoder::<T, M, CobsDecoderHeapless<N>>::new_with_sentinel(0)
     }
 
-    /// A decoder that was given nothing, for a line with this sentinel.
+    /// As `new`, with this sentinel.
     pub fn new_with_sentinel(sentinel: u8) -> AnswerDecoder<T, M, CobsDecoderHeapless<N>>
         ensures { IsGiven N sentinel result [] }
     {

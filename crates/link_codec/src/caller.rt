@@ -1,4 +1,4 @@
-//! A caller.
+//! A caller of a framed reader, to whose items the laws apply.
 ghost use Rattle.std.specs.Prelude.{All, IsOk, IfOk, IfSome};
 ghost use Rattle.postcard.specs.Frames.{Holds};
 ghost use Rattle.link.specs.Listening.{HasAnswered};
@@ -15,8 +15,24 @@ use std::io;
 use std::random::RandomSource;
 use tokio_util::codec::FramedRead;
 
-/// The items of a framed reader over a stream that is there whole, collected by one poll; with no error among them they are all
-/// answers of the stream. `None` where the reader yielded in between. So a caller's items are those of which the laws speak.
+/// The items of a framed reader over a complete stream, collected by one poll; `None` if the reader yielded in between.
+///
+/// If no item is an error, they are all results of the stream.
+///
+/// # Errors
+/// An `io::Error`, such as `OutOfMemory` if the decoder's buffer could not be allocated.
+///
+/// # Allocates
+/// The decoder's and the reader's buffer, the list, and what the values need.
+///
+/// # Example
+/// ```rust
+/// if let Ok(Some(items)) = answers_at_once::<String, _>(rt, &LINE, limit, 0) {
+///     for item in items {
+///         heard.push(letter(Poll::Ready(Some(item))));
+///     }
+/// }
+/// ```
 pub fn answers_at_once<T: DeserializeOwned, R: RandomSource + AllocGlobal>(
     rt: &R,
     stream: &[u8],

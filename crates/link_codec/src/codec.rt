@@ -1,4 +1,4 @@
-//! A decoder and an encoder in one, as `Framed` wants them.
+//! A decoder and an encoder in one, as `Framed` requires.
 ghost use Rattle.std.specs.Prelude.{◌≡◌};
 
 use crate::encoder::LinkEncoder;
@@ -7,12 +7,21 @@ use bytes::BytesMut;
 use postcard::Serialize;
 use tokio_util::codec::{Decoder, Encoder};
 
-/// Reads by its decoder and writes by its encoder, neither of which the other sees.
+/// Reads by its decoder and writes by its encoder; neither affects the other.
+///
+/// # Example
+/// ```rust
+/// let codec = LinkCodec {
+///     decoder: StrictLinkDecoder::new(),
+///     encoder: Letters::new(),
+/// };
+/// Framed::new(alloc, stream, codec).ok()
+/// ```
 #[derive(Drop)]
 pub struct LinkCodec<C, const N: usize> {
-    /// What it reads by.
+    /// The decoder, which reads.
     pub decoder: C,
-    /// What it writes by.
+    /// The encoder, which writes.
     pub encoder: LinkEncoder<N>,
 }
 

@@ -1,4 +1,4 @@
-//! Answers from a stream of bytes.
+//! Results from a stream of bytes.
 ghost use Rattle.std.specs.Prelude.{◌≡◌, ℕ, List, [], IfOk, IfNone};
 ghost use Rattle.link.specs.Receivers.{IsBehind};
 
@@ -8,9 +8,24 @@ use link::{Answer, Decoding, MessageReader, NoMemory, Pushed, Reception};
 use std::marker::PhantomData;
 use tokio_util::codec::Decoder;
 
-/// Answers each stretch of a stream as its receiver does by its reader of messages. `LinkDecoder`, `StrictLinkDecoder`,
-/// `OwnedLinkDecoder` and `StrictOwnedLinkDecoder` are the names of those that read a type; `with` makes one of any receiver and any
-/// reader of messages, as one by a table of types.
+/// Decodes a stream into the results of its receiver, by its reader of messages.
+///
+/// `LinkDecoder`, `StrictLinkDecoder`, `OwnedLinkDecoder` and `StrictOwnedLinkDecoder` are the names of those that decode a type; `with`
+/// makes one of any receiver and any reader of messages, such as a table of types.
+///
+/// `decode` returns `None` only once it has taken every byte of the buffer. It keeps what a stretch has so far itself, at most as many
+/// bytes as its limit, and drops the rest of a longer one after `TooLong`. `decode_eof` then adds `Cut` or nothing, and the decoder begins
+/// again.
+///
+/// # Errors
+/// `NoMemory` if a value could not be allocated. Its frame is gone then.
+///
+/// # Example
+/// ```rust
+/// letter(Poll::Ready(decoder.decode(line).transpose())) == wanted
+///     && line.len() == left
+///     && line.capacity() <= room
+/// ```
 #[derive(Drop)]
 pub struct AnswerDecoder<V, M, D: Decoding> {
     receiver: Reception<D>,
@@ -23,9 +38,15 @@ pub struct AnswerDecoder<V, M, D: Decoding> {
 impl<V, M, D: Decoding> AnswerDecoder<V, M, D> {
     ghost use Rattle.link_codec.specs.Decoders.{IsGiven, messages_in};
 
-    /// A decoder that goes on where the receiver stands, and reads messages by this reader.
+    /// A decoder that continues from where the receiver is, and decodes messages by this reader.
     ///
-    /// The caller owes a receiver that was given some stream, as each one was that `Receiver::new` or `OwnedReceiver::new` made.
+    /// # Requires
+    /// The receiver has received some stream, as each one has that `Receiver::new` or `OwnedReceiver::new` made.
+    ///
+    /// # Example
+    /// ```rust
+    /// AnswerDecoder::with(Receiver::<N>::new_with_sentinel(sentinel), M::by_type())
+    /// ```
     pub fn with(receiver: Reception<D>, messages: M) -> AnswerDecoder<V, M, D>
         requires { (limit : ℕ) × (s : ℕ) × (stream : List ℕ)
             × IsBehind D.inside limit s receiver stream }

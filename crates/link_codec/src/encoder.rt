@@ -1,4 +1,4 @@
-//! Values as the bytes of sends.
+//! Encoding values as the bytes of sends.
 ghost use Rattle.std.specs.Prelude.{◌≡◌, ◌<◌, ◌^◌, ◌++◌, false, length, OnOk, OnErr};
 ghost use Rattle.link.specs.Run.{framed};
 
@@ -10,7 +10,26 @@ use std::alloc::AllocError;
 use std::io;
 use tokio_util::codec::Encoder;
 
-/// Writes each value as a `Sender` with frames of at most N bytes sends it: a sentinel first, the frame, and a sentinel.
+/// Writes each value as a `Sender` with frames of at most N bytes sends it: a sentinel before the first one, the frame, a sentinel.
+///
+/// It holds no buffer: `encode` has one of N bytes among its locals.
+///
+/// # Errors
+/// `Refused` if the value can't be encoded or its frame is longer than N bytes, `Io` if the buffer can't grow. Nothing is written then,
+/// and the encoder is unchanged.
+///
+/// # Example
+/// ```rust
+/// pub type Letters = LinkEncoder<3>;
+/// ```
+/// ```rust
+/// let Ok(mut writer) = FramedWrite::new(rt.alloc(), Paper::new(pieces), Letters::new()) else {
+///     return sent;
+/// };
+/// if writer.start_send("a").is_err() || writer.start_send("b").is_err() {
+///     return sent;
+/// }
+/// ```
 #[derive(Clone, Copy, Drop)]
 pub struct LinkEncoder<const N: usize> {
     clean: bool,
@@ -22,8 +41,10 @@ pub struct LinkEncoder<const N: usize> {
 impl<const N: usize> LinkEncoder<N> {
     ghost use Rattle.link_codec.specs.Encoding.{encoder_clean, encoder_sentinel};
 
-    /// An encoder that hasn't written anything. Its sentinel is zero. The caller owes that N is at least 1, and less than half of all
-    /// addresses.
+    /// An encoder that has written nothing, with the sentinel zero.
+    ///
+    /// # Requires
+    /// N is at least 1, and less than half of all addresses.
     pub fn new() -> LinkEncoder<N>
         requires some { 0 < N }
         requires fits { N < 2 ^ 63 }
@@ -33,7 +54,10 @@ impl<const N: usize> LinkEncoder<N> {
         LinkEncoder::new_with_sentinel(0)
     }
 
-    /// The same with a sentinel in place of zero.
+    /// As `new`, with this sentinel.
+    ///
+    /// # Requires
+    /// N is at least 1, and less than half of all addresses.
     pub fn new_with_sentinel(sentinel: u8) -> LinkEncoder<N>
         requires some { 0 < N }
         requires fits { N < 2 ^ 63 }
@@ -46,7 +70,7 @@ impl<const N: usize> LinkEncoder<N> {
         }
     }
 
-    /// Whether a value was written. Where none was, the next one begins with a sentinel.
+    /// Whether a value was written. If not, the next one begins with a sentinel.
     pub fn is_clean(&self) -> bool
         ensures { result ≡ encoder_clean self.now }
     {
@@ -54,7 +78,7 @@ impl<const N: usize> LinkEncoder<N> {
     }
 }
 
-// Appends the sentinel where none was written yet, the frame, and the sentinel; or nothing, where there is no room for all.
+// Appends the sentinel if none was written yet, the frame, and the sentinel; nothing if the buffer can't grow for all.
 fn append(dst: &mut BytesMut, clean: bool, frame: &[u8], sentinel: u8) -> Result<(), AllocError>
     ensures ok { OnOk result (dst.new.items ≡ dst.old.items ++ framed sentinel clean frame.now) }
     ensures err { OnErr result ((dst.new.items ≡ dst.old.items)

@@ -1,24 +1,42 @@
-//! What a codec fails by.
+//! The errors of a codec.
 ghost use Rattle.std.specs.Prelude.{◌≡◌};
 
 use std::io;
 
-/// Why a decoder gave no answer. A framed reader that yields one answers `None` next, and reads on when it is polled again.
+/// Why a decoder gave no result. After one a framed reader returns `None` once, and reads on when it is polled again.
+///
+/// # Example
+/// ```rust
+/// match polled {
+///     Poll::Ready(Some(Ok(answer))) => of_answer(answer),
+///     Poll::Ready(Some(Err(DecodeError::NoMemory))) => b'!',
+///     Poll::Ready(Some(Err(DecodeError::Io(_)))) => b'#',
+///     Poll::Ready(None) => b'.',
+///     Poll::Pending => b'_',
+/// }
+/// ```
 #[derive(Clone, Copy, Debug)]
 pub enum DecodeError {
-    /// No memory was found for a value. Its frame is gone.
+    /// A value could not be allocated. Its frame is gone.
     NoMemory,
-    /// The reader failed, or no memory was found for the buffer of the stream.
+    /// The reader failed, or the buffer of the stream could not be allocated.
     Io(io::Error),
 }
 
 /// Why a value wasn't written. None of its bytes was.
+///
+/// # Example
+/// ```rust
+/// match encoder.encode("aa", line) {
+///     Err(EncodeError::Refused(Error::SerializeBufferFull)) => encoder.is_clean() == is_clean,
+///     _ => false,
+/// }
+/// ```
 #[derive(Clone, Copy, Debug)]
 pub enum EncodeError {
-    /// The value refuses itself, or its frame is longer than N bytes, which is `SerializeBufferFull`. Where both hold, either cause
-    /// may be named.
+    /// The value can't be encoded, or its frame is longer than N bytes (`SerializeBufferFull`); if both hold, either.
     Refused(postcard::Error),
-    /// The writer failed, or no memory was found for the buffer of the sink.
+    /// The writer failed, or the buffer of the sink could not be allocated.
     Io(io::Error),
 }
 

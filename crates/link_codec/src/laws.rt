@@ -1,6 +1,5 @@
-//! What holds of the items of a framed reader: they are the answers of the bytes that its reader gave, they are what is to be told of
-//! the sends that went out, and what goes out whole comes back alike. The functions here do nothing; the contract of each is what it
-//! is for: call one where a proof needs it.
+//! Laws of the items of a framed reader: they are the results of the bytes that its reader gave; they are what `told` says of the sends
+//! that were written; and what is completely written comes back alike. The functions do nothing; a proof calls one for its contract.
 ghost use Rattle.tokio_util.specs.Codec.Framed.{framed_read, reading_side};
 ghost use Rattle.link_codec.specs.Beside.{gives_beside};
 ghost use Rattle.link_codec.specs.Decoders.{IsGiven, gives_judged, messages_in};
@@ -15,7 +14,7 @@ use link::{Decoding, MessageReader};
 use tokio::io::AsyncRead;
 use tokio_util::codec::{Framed, FramedRead};
 
-/// All items of a framed reader whose end is final are the answers of all the bytes that it gave.
+/// If the end of the reader is final, and no item is an error, all items are the results of all bytes that it gave.
 pub fn answered_whole<V, M: MessageReader<V>, D: Decoding, R: AsyncRead>(
     reader: &FramedRead<R, AnswerDecoder<V, M, D>>,
 )
@@ -23,8 +22,8 @@ pub fn answered_whole<V, M: MessageReader<V>, D: Decoding, R: AsyncRead>(
         (gives_judged M.judging) (λ d. M.judging (messages_in d)) (framed_read reader.now) }
 {}
 
-/// However it goes on, as by an error of the reader or out of memory: the items before that are answers given of a front of the
-/// bytes that it gave, in order, or all their answers.
+/// However it continues, such as by an error of the reader or out of memory: the items before that are the results of a prefix of the
+/// bytes that it gave, in order, or of all of them.
 pub fn answered_so_far<V, M: MessageReader<V>, D: Decoding, R: AsyncRead>(
     reader: &FramedRead<R, AnswerDecoder<V, M, D>>,
 )
@@ -32,7 +31,7 @@ pub fn answered_so_far<V, M: MessageReader<V>, D: Decoding, R: AsyncRead>(
         (gives_judged M.judging) (λ d. M.judging (messages_in d)) (framed_read reader.now) }
 {}
 
-/// As `answered_whole`, of what is read by a `Framed`, whatever is written meanwhile.
+/// As `answered_whole`, for what a `Framed` reads, whatever is written meanwhile.
 pub fn framed_answered_whole<V, M: MessageReader<V>, D: Decoding, S: AsyncRead, const N: usize>(
     framed: &Framed<S, LinkCodec<AnswerDecoder<V, M, D>, N>>,
 )

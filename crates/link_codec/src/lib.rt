@@ -1,14 +1,17 @@
-//! Values over any reader or writer of bytes, by the codecs of `tokio_util`: an encoder that writes what a sender of `link`
-//! writes, and decoders that answer what a receiver of `link` answers.
+//! Values over any reader or writer of bytes, by the codecs of `tokio_util`: an encoder that writes what a sender of `link` writes, and
+//! decoders with the results of a receiver of `link`. The items of the stream are `Answer`s.
 //!
-//! ```text
-//! let mut answers = FramedRead::new(alloc, reader, LinkDecoder::<Reading, 64>::new())?;
-//! let mut values = FramedWrite::new(alloc, writer, LinkEncoder::<64>::new())?;
+//! # Example
+//! ```rust
+//! let Ok(mut answers) = FramedRead::new(rt.alloc(), line, decoder) else {
+//!     return heard;
+//! };
 //! ```
-//!
-//! The items of the stream are `Answer`s. A decoder asks for more only when it has taken every byte of the buffer; it keeps what a
-//! stretch has so far itself, at most as many bytes as its limit, and the rest of a stretch that has more is skipped behind
-//! `TooLong`. With a limit that is part of the type it takes no memory but for the values.
+//! ```rust
+//! let Ok(mut writer) = FramedWrite::new(rt.alloc(), Paper::new(pieces), Letters::new()) else {
+//!     return sent;
+//! };
+//! ```
 #![tactic(auto)]
 
 mod array;

@@ -1,4 +1,4 @@
-//! Decoders with a limit that is a value.
+//! Decoders with a limit that is set at run time.
 ghost use Rattle.std.specs.Prelude.{[], IfOk};
 
 use crate::by_type::ByType;
@@ -7,16 +7,39 @@ use cobs::CobsDecoderOwned;
 use link::{NoMemory, OfType, Ordinary, OwnedReceiver, Strict};
 use std::alloc::Global;
 
-/// Answers as `push` of an `OwnedReceiver` does.
+/// A decoder with the results of `push` of an `OwnedReceiver`.
+///
+/// # Example
+/// ```rust
+/// let decoder = match OwnedLinkDecoder::<T>::new(rt.alloc(), limit, sentinel) {
+///     Ok(decoder) => decoder,
+///     Err(NoMemory) => return Err(io::ErrorKind::OutOfMemory.into()),
+/// };
+/// let answers = FramedRead::new(rt.alloc(), stream, decoder)?;
+/// ```
 pub type OwnedLinkDecoder<T> = AnswerDecoder<T, Ordinary<OfType>, CobsDecoderOwned>;
 
-/// Answers as `push_strict` of an `OwnedReceiver` does.
+/// As `OwnedLinkDecoder`, with the results of `push_strict`: a value only for exactly the frame that sending it writes.
+///
+/// # Example
+/// ```rust
+/// match StrictOwnedLinkDecoder::new(rt.alloc(), limit, sentinel) {
+///     Ok(decoder) => Some(hear(rt, line, decoder)),
+///     Err(_) => None,
+/// }
+/// ```
 pub type StrictOwnedLinkDecoder<T> = AnswerDecoder<T, Strict<OfType>, CobsDecoderOwned>;
 
 impl<T, M: ByType> AnswerDecoder<T, M, CobsDecoderOwned> {
     ghost use Rattle.link_codec.specs.Decoders.{IsGiven};
 
-    /// A decoder that was given nothing, with this limit and for a line with this sentinel; or no memory was found for its buffer.
+    /// A decoder that was given nothing, with this limit and sentinel.
+    ///
+    /// # Errors
+    /// `NoMemory` if its buffer could not be allocated.
+    ///
+    /// # Allocates
+    /// A buffer of `limit` bytes; later only what the values need.
     pub fn new(
         alloc: Global,
         limit: usize,

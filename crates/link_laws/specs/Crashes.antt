@@ -45,7 +45,9 @@ among_joined (x ∷ xs) (y ∷ ys) us vs (inr h) k = inr (among_joined (x ∷ xs
 
 -- these are heard where those completed and these were tried
 pub record LiesBetween (run : List (List Send)) (heard : List Tree) : Type 0 where
+  -- every completed send is among those received, in order
   pub none_lost : Among (done run) heard
+  -- and what was received is among those tried
   pub none_invented : Among heard (tried run)
 
 -- What is heard of a run's line has the value of each completed send, in order, and none that wasn't sent.
@@ -75,8 +77,11 @@ left s k (session ∷ run) =
 
 -- these many bytes of a run's line are the line of what is left of the run, which tries nothing else
 pub record IsLine (takes : Tree → Type 0) (limit s k : ℕ) (run : List (List Send)) : Type 0 where
+  -- the bytes left are the line of a run
   pub bytes : take k (line s run) ≡ line s (left s k run)
+  -- which is one within the limit
   pub is_run : IsRun takes limit s (left s k run)
+  -- and tries nothing else
   pub tried_before : Among (tried (left s k run)) (tried run)
 
 -- A front of a run's line is the line of a run.
@@ -87,7 +92,9 @@ IsLeft takes limit s =
 -- one run and then another one
 pub record AreTwoRuns (takes : Tree → Type 0) (limit s : ℕ)
     (run later : List (List Send)) : Type 0 where
+  -- together they are a run
   pub is_run : IsRun takes limit s (run ++ later)
+  -- and its line is their lines
   pub bytes : line s (run ++ later) ≡ line s run ++ line s later
 
 -- Runs one after another are a run, and their lines its line.

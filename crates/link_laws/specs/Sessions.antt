@@ -32,31 +32,43 @@ use Rattle.line_io.specs.declared.transfers.End.TheVariants.{Ended}
 pub record LeavesSend {V : Type 0} (takes : Tree → Type 0) (writes : V → Option Tree)
     (valid : V → Type 0) (limit s : ℕ) (clean later : Bool) (old new : LineState)
     (v : V) (x : Send) : Type 0 where
+  -- its frame is within the limit; interrupted, a part of its bytes was left
   pub is : IsSend takes limit s clean x
+  -- it is a send of this value
   pub of : Sends writes valid v x
+  -- the line took what such a send writes
   pub wrote : Wrote old new (written s clean x)
+  -- the sender is clean or not as after such a send
   pub then : later ≡ clean_after clean x
 
 -- sends of values by one sender, and what they left on the line
 pub record LeavesSession {V : Type 0} (takes : Tree → Type 0) (writes : V → Option Tree)
     (valid : V → Type 0) (limit s : ℕ) (clean : Bool) (old new : LineState)
     (calls : List (V × Send)) : Type 0 where
+  -- they are a session of one sender
   pub is : IsSession takes limit s clean (sends_of calls)
+  -- each is a send of its value
   pub of : AllByRecursion (λ c. Sends writes valid c.0 c.1) calls
+  -- the line took what such a session writes
   pub wrote : Wrote old new (session_line s clean (sends_of calls))
 
 -- sends of values by new senders one after another, and what they left on the line
 pub record LeavesRun {V : Type 0} (takes : Tree → Type 0) (writes : V → Option Tree)
     (valid : V → Type 0) (limit s : ℕ) (old new : LineState)
     (run : List (List (V × Send))) : Type 0 where
+  -- they are a run
   pub is : IsRun takes limit s (runs_of run)
+  -- each is a send of its value
   pub of : AreSends writes valid run
+  -- the line took what such a run writes
   pub wrote : Wrote old new (line s (runs_of run))
 
 -- These answers are what is to be told of the run; their values are alike those sent.
 pub record HeardOfRun {V : Type 0} (reads : Tree → V → Type 0) (alike : V → V → Type 0) (s : ℕ)
     (run : List (List (V × Send))) (answers : List (Answer V)) : Type 0 where
+  -- the results are what `told` says, by trees
   pub heard : AllZip (Matches reads) answers (told s (runs_of run))
+  -- and by values alike those sent
   pub as_sent : AllZip (AlikeAnswers alike) (told_values s run) answers
 
 -- What is answered to the line of a run of values is what is to be told of it.
@@ -71,8 +83,11 @@ HearsRuns {V} takes holds reads alike writes valid = (limit s : ℕ) (run : List
 -- of them is what is to be told of it, ordinarily and strictly.
 pub record CarriesValues {V : Type 0} (takes : Tree → Type 0) (reads : Tree → V → Type 0)
     (alike : V → V → Type 0) (writes : V → Option Tree) (valid : V → Type 0) : Type 0 where
+  -- the type accepts what its valid values are written as
   pub taken : (v : V) (t : Tree) → valid v → writes v ≡ Some t → takes t
+  -- the line of a run of values gives what `told` says of it
   pub ordinary : HearsRuns takes (Holds takes) reads alike writes valid
+  -- and strictly too
   pub strict : HearsRuns takes (HoldsExactly takes) reads alike writes valid
 
 -- A reader that told its end gave all that was to come.

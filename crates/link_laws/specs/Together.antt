@@ -19,17 +19,25 @@ use Rattle.line_io.specs.declared.transfers.End.TheVariants.{Ended}
 pub record LeavesTwo {V : Type 0} (takes : Tree → Type 0) (writes : V → Option Tree)
     (valid : V → Type 0) (limit s : ℕ) (old new : LineState) (v w : V)
     (first second : Result (Unit {0}) SendError) : Type 0 where
-  -- where the first sender was behind its send, and the second one behind its own
+  -- where the first sender was after its send
   pub between : SenderPlace
+  -- where the second one was after its own
   pub after : SenderPlace
+  -- the line is where the second sender left it
   pub line_is : new ≡ after.line
+  -- the first one did what `send` promises
   pub first_sent : HasSent limit (writes v) (valid v) (new_sender s old) between first
+  -- and so did the second
   pub second_sent : HasSent limit (writes w) (valid w) (new_sender s between.line) after second
-  -- which sends they were
+  -- which send the first one was
   pub one : Send
+  -- which send the second one was
   pub other : Send
+  -- the first result is of the first send
   pub first_is : IsSent limit (writes v) first one
+  -- and the second of the second
   pub second_is : IsSent limit (writes w) second other
+  -- what both left is the line of this run
   pub run : LeavesRun takes writes valid limit s old new
       (((v, one) ∷ []) ∷ ((w, other) ∷ []) ∷ [])
 
@@ -38,19 +46,29 @@ pub record LeavesTwo {V : Type 0} (takes : Tree → Type 0) (writes : V → Opti
 pub record LeavesSessions {V : Type 0} (takes : Tree → Type 0) (writes : V → Option Tree)
     (valid : V → Type 0) (limit s : ℕ) (old new : LineState)
     (firsts seconds : List V) (first_fates second_fates : List Fate) : Type 0 where
-  -- where the line was between the two, and whether each sender was clean behind its sends
+  -- where the line was between the two
   pub between : LineState
+  -- whether the first sender was clean after its sends
   pub first_clean : Bool
+  -- and the second
   pub second_clean : Bool
+  -- the first one did what `send_each` promises
   pub first_sent : SendsAll limit s writes valid false first_clean old between firsts first_fates
+  -- and so did the second
   pub second_sent : SendsAll limit s writes valid false second_clean between new seconds second_fates
-  -- which sends they were
+  -- which sends the first one's were
   pub one : List Send
+  -- which sends the second one's were
   pub other : List Send
+  -- the first one's are of its values, in order
   pub first_of : AllZip (λ v x. IsSendOf limit (writes v) (valid v) x) firsts one
+  -- and so are the second one's
   pub second_of : AllZip (λ v x. IsSendOf limit (writes v) (valid v) x) seconds other
+  -- the first fates are of the first sends
   pub first_fated : first_fates ≡ map fate_of one
+  -- and the second of the second
   pub second_fated : second_fates ≡ map fate_of other
+  -- what both left is the line of this run
   pub run : LeavesRun takes writes valid limit s old new
       (zip firsts one ∷ zip seconds other ∷ [])
 

@@ -1,11 +1,14 @@
-//! What is received of what was sent: the contracts of `Sender`, `send_each` and `receive` brought together.
+//! The main theorem: what is received of what was sent, by the contracts of `Sender`, `send_each` and `receive` together.
 //!
-//! These calls are here to be read more than to be used. Each is a few calls of `link` one after another, and is proved by what
-//! those promise and by the laws of this crate. They say it in two parts: what senders in turn leave is the line of a run, of these
-//! sends, each of which may have broken off at any byte (`send_in_turn`, `send_each_in_turn`); and who receives the line of a run
-//! hears what is to be told of it (`receive_run`, and by values `receive_values`). How the bytes come from the one to the other is
-//! the caller's own: a program over memory is `example_exchange`. Beside that each says all that its calls of `link` promise, whatever
-//! comes and however it ends.
+//! These calls are to be read rather than used. Each is a few calls of `link` in a row, proved by their contracts and the laws of this
+//! crate. There are two parts, since the bytes of a line exist only once they are written:
+//!
+//! - What senders in turn leave is the line of a run of these sends, each perhaps interrupted at any byte: `send_in_turn`,
+//!   `send_each_in_turn`.
+//! - A receiver of the line of a run reports what `told` says of it: `receive_run`, and by values `receive_values`.
+//!
+//! How the bytes get from one to the other is the caller's own; `example_exchange` does it over memory. Each call also states all that
+//! its calls of `link` promise, whatever comes and however it ends.
 ghost use Rattle.std.specs.Prelude.{◌≡◌, ◌<◌, List, length, Some};
 ghost use Rattle.link.specs.Fates.{SenderFitsInMemory};
 ghost use Rattle.link_laws.specs.Together.{LeavesTwo, LeavesSessions, HearsValues};
@@ -23,7 +26,13 @@ use link::{
 use postcard::{DeserializeOwned, Lawful};
 use std::alloc::Global;
 
-/// As `receive`, of a reader that gives the line of a run: the answers are what is to be told of the run.
+/// As `receive`; if the reader gives the line of a run, the results are what `told` says of the run.
+///
+/// # Example
+/// ```rust
+/// let all = headline::receive_run::<u32, _, 16>(rt.alloc(), In::new(&LINE, 2, None));
+/// check(&rt, hears(&all, &[Answer::Damaged, Answer::Value(300)]));
+/// ```
 pub fn receive_run<T: DeserializeOwned, R: Inlet, const N: usize>(
     alloc: Global,
     reader: R,
@@ -37,7 +46,7 @@ pub fn receive_run<T: DeserializeOwned, R: Inlet, const N: usize>(
     receive_run_with_sentinel::<T, R, N>(alloc, reader, 0)
 }
 
-/// The same of a line with a sentinel in place of zero.
+/// As `receive_run`, with this sentinel.
 pub fn receive_run_with_sentinel<T: DeserializeOwned, R: Inlet, const N: usize>(
     alloc: Global,
     reader: R,
@@ -53,7 +62,7 @@ pub fn receive_run_with_sentinel<T: DeserializeOwned, R: Inlet, const N: usize>(
     receive_with_sentinel::<T, R, N>(alloc, reader, sentinel)
 }
 
-/// The same by `receive_owned`, with a limit that is a value.
+/// As `receive_run`, by `receive_owned`, with a limit that is set at run time.
 pub fn receive_owned_run<T: DeserializeOwned, R: Inlet>(
     alloc: Global,
     reader: R,
@@ -69,8 +78,14 @@ pub fn receive_owned_run<T: DeserializeOwned, R: Inlet>(
     receive_owned(alloc, reader, limit, sentinel)
 }
 
-/// As `receive`, of a reader that gives the line of a run of values with frames of at most N bytes: the answers are what is to be told
-/// of the run, and the values among them are alike those sent.
+/// As `receive`; if the reader gives the line of a run of values with frames of at most N bytes, the results are what `told` says of the
+/// run, and the values among them are alike those sent.
+///
+/// # Example
+/// ```rust
+/// let all = headline::receive_values::<u32, _, 16>(rt.alloc(), In::new(&LINE, 3, None));
+/// check(&rt, hears(&all, &[Answer::Damaged, Answer::Value(300)]));
+/// ```
 pub fn receive_values<T: Lawful + DeserializeOwned, R: Inlet, const N: usize>(
     alloc: Global,
     reader: R,
@@ -84,7 +99,7 @@ pub fn receive_values<T: Lawful + DeserializeOwned, R: Inlet, const N: usize>(
     receive_values_with_sentinel::<T, R, N>(alloc, reader, 0)
 }
 
-/// The same of a line with a sentinel in place of zero.
+/// As `receive_values`, with this sentinel.
 pub fn receive_values_with_sentinel<T: Lawful + DeserializeOwned, R: Inlet, const N: usize>(
     alloc: Global,
     reader: R,
@@ -100,19 +115,39 @@ pub fn receive_values_with_sentinel<T: Lawful + DeserializeOwned, R: Inlet, cons
     receive_with_sentinel::<T, R, N>(alloc, reader, sentinel)
 }
 
-/// What two senders in turn answered, and what they wrote to.
+/// The results of two senders in turn, and the writer.
+///
+/// # Example
+/// ```rust
+/// fn is_sent_again(all: &InTurn<Out<'_>>) -> bool {
+///     is_broken(all.first) && all.second.is_ok() && all.writer.moved() == 7
+/// }
+/// ```
 #[derive(Drop)]
 pub struct InTurn<W> {
-    /// The answer of the first one.
+    /// The result of the first one.
     pub first: Result<(), SendError>,
-    /// The answer of the second one.
+    /// The result of the second one.
     pub second: Result<(), SendError>,
-    /// What they wrote to.
+    /// The writer, after all writes.
     pub writer: W,
 }
 
-/// Sends a value by one sender and another one by the next, over one line. What they leave there is the line of a run: of these two
-/// sends, by what was answered, each of which may have broken off at any byte.
+/// Sends one value by one sender and another value by the next, over one line. What they leave is the line of a run of these two sends,
+/// by their results, each perhaps interrupted at any byte.
+///
+/// # Requires
+/// N is at least 1.
+///
+/// # Example
+/// ```rust
+/// let all = headline::send_in_turn::<u32, _, 8>(
+///     Out::new(&mut room, 16, Some((2, Fault::Fail))),
+///     &300,
+///     &300,
+/// );
+/// let passed = is_sent_again(&all);
+/// ```
 pub fn send_in_turn<T: Lawful, W: Outlet, const N: usize>(
     writer: W,
     first: &T,
@@ -126,7 +161,7 @@ pub fn send_in_turn<T: Lawful, W: Outlet, const N: usize>(
     send_in_turn_with_sentinel::<T, W, N>(writer, first, second, 0)
 }
 
-/// The same with a sentinel in place of zero.
+/// As `send_in_turn`, with this sentinel.
 pub fn send_in_turn_with_sentinel<T: Lawful, W: Outlet, const N: usize>(
     writer: W,
     first: &T,
@@ -152,8 +187,11 @@ pub fn send_in_turn_with_sentinel<T: Lawful, W: Outlet, const N: usize>(
     }
 }
 
-/// Sends values by one sender and others by the next, over one line. What they leave there is the line of a run: of all these sends,
-/// by what became of each, each of which may have broken off at any byte.
+/// Sends values by one sender and others by the next, over one line. What they leave is the line of a run of all these sends, by the
+/// fate of each, each perhaps interrupted at any byte.
+///
+/// # Requires
+/// As many fates as values, for each sender, and N is at least 1.
 pub fn send_each_in_turn<T: Lawful, W: Outlet, const N: usize>(
     writer: W,
     firsts: &[T],
@@ -179,7 +217,7 @@ pub fn send_each_in_turn<T: Lawful, W: Outlet, const N: usize>(
     )
 }
 
-/// The same with a sentinel in place of zero.
+/// As `send_each_in_turn`, with this sentinel.
 pub fn send_each_in_turn_with_sentinel<T: Lawful, W: Outlet, const N: usize>(
     writer: W,
     firsts: &[T],

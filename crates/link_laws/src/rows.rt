@@ -1,4 +1,4 @@
-//! Worked rows of the definitions: the line of a run, and what is told of it.
+//! Worked rows of the definitions: the line of a run, and its results.
 #![tactic(auto, unfolding(postcard_tree::specs::Spelling::varint, postcard_tree::specs::Spelling::single))]
 
 ghost use Rattle.std.specs.Prelude.{◌≡◌, List, [], ◌∷◌};
@@ -9,14 +9,14 @@ ghost use Rattle.postcard_tree.specs.Reading.{TakesNumber};
 ghost use Rattle.link.specs.Stream.{Answers};
 ghost use Rattle.link_laws.specs.Rows.{t300, t5, true_tree};
 
-/// A send that is broken off in its frame and made again.
+/// A send that is interrupted in its frame and repeated.
 pub fn broken_and_sent_again()
     ensures line { line 0 ((broken t300 3 ∷ completed t300 ∷ []) ∷ [])
         ≡ 0 ∷ 3 ∷ 172 ∷ 0 ∷ 3 ∷ 172 ∷ 2 ∷ 0 ∷ [] }
     ensures told { told 0 ((broken t300 3 ∷ completed t300 ∷ []) ∷ []) ≡ damaged ∷ value t300 ∷ [] }
 {}
 
-/// A send that is broken off behind its whole frame and made again is told twice.
+/// A send that is interrupted after its whole frame and repeated is received twice.
 pub fn whole_and_sent_again()
     ensures line { line 0 ((broken t300 4 ∷ completed t300 ∷ []) ∷ [])
         ≡ 0 ∷ 3 ∷ 172 ∷ 2 ∷ 0 ∷ 3 ∷ 172 ∷ 2 ∷ 0 ∷ [] }
@@ -24,7 +24,7 @@ pub fn whole_and_sent_again()
         ≡ value t300 ∷ value t300 ∷ [] }
 {}
 
-/// Sends that are broken off before their first byte and behind their first sentinel.
+/// Sends that are interrupted before their first byte and after their first sentinel.
 pub fn nothing_went_out()
     ensures none { told 0 ((broken t300 0 ∷ completed t300 ∷ []) ∷ []) ≡ value t300 ∷ [] }
     ensures line { line 0 ((broken t300 1 ∷ completed t300 ∷ []) ∷ [])
@@ -32,7 +32,7 @@ pub fn nothing_went_out()
     ensures sentinel { told 0 ((broken t300 1 ∷ completed t300 ∷ []) ∷ []) ≡ value t300 ∷ [] }
 {}
 
-/// Three senders in turn: the first is broken off in its frame, the second before its first byte.
+/// Three senders in turn: the first is interrupted in its frame, the second before its first byte.
 pub fn three_senders()
     ensures line { line 0 ((broken t300 2 ∷ []) ∷ (broken t5 0 ∷ []) ∷ (completed t5 ∷ []) ∷ [])
         ≡ 0 ∷ 3 ∷ 0 ∷ 2 ∷ 5 ∷ 0 ∷ [] }
@@ -46,7 +46,7 @@ pub fn three_senders()
         ≡ damaged ∷ value t5 ∷ [] }
 {}
 
-/// A whole frame that no sentinel follows, and one that another sender's follows.
+/// A whole frame that no sentinel follows, and one that another sender's sentinel follows.
 pub fn whole_frame()
     ensures line { line 0 ((broken t300 4 ∷ []) ∷ []) ≡ 0 ∷ 3 ∷ 172 ∷ 2 ∷ [] }
     ensures told { told 0 ((broken t300 4 ∷ []) ∷ []) ≡ cut ∷ [] }
@@ -60,7 +60,7 @@ pub fn another_sentinel()
     ensures { line 10 ((completed t300 ∷ []) ∷ []) ≡ 10 ∷ 9 ∷ 166 ∷ 8 ∷ 10 ∷ [] }
 {}
 
-/// What a receiver of `u32` with a limit of 8 bytes answers to the line of three senders.
+/// The results of a receiver of `u32` with a limit of 8 bytes, on the line of three senders.
 pub fn heard_of_three_senders()
     ensures { Answers (Holds (TakesNumber 32)) 8 0
         (0 ∷ 3 ∷ 0 ∷ 0 ∷ 2 ∷ 5 ∷ 0 ∷ []) (damaged ∷ value t5 ∷ []) }
@@ -74,8 +74,8 @@ pub fn sentinel_of_ones()
     ensures told { told 255 ((completed true_tree ∷ []) ∷ []) ≡ value true_tree ∷ [] }
 {}
 
-/// With the sentinel 0A, a send that is broken off in its frame and made again by another sender, and what a receiver of `u32`
-/// with a limit of 8 bytes answers.
+/// With the sentinel 0A, a send that is interrupted in its frame and repeated by another sender, and the results of a receiver of `u32`
+/// with a limit of 8 bytes.
 pub fn heard_with_another_sentinel()
     ensures line { line 10 ((broken t300 2 ∷ []) ∷ (completed t300 ∷ []) ∷ [])
         ≡ 10 ∷ 9 ∷ 10 ∷ 9 ∷ 166 ∷ 8 ∷ 10 ∷ [] }

@@ -36,7 +36,7 @@ pub(crate) fn show_answers<T: Shown>(
     Ok(())
 }
 
-/// Refuses a reception for which no memory was found, and notes one that broke off.
+/// Refuses a reception for which no memory was found, and notes one that was interrupted.
 pub(crate) fn need_end(end: End, text: &mut String) -> Result<(), Trouble> {
     match end {
         End::Ended => Ok(()),
@@ -60,7 +60,7 @@ pub(crate) fn without_places(alloc: Global, wanted: &str) -> Result<String, Allo
     Ok(text)
 }
 
-/// Appends the answers to a piece without their places.
+/// Appends the answers to a chunk without their places.
 fn add_without_places(piece: &str, text: &mut String) -> Result<(), AllocError> {
     for answer in piece.split(';') {
         let answer = match answer {

@@ -16,7 +16,7 @@ enum Task<'a> {
     Receive(Stream<'a>),
     ReceiveStrictly(Stream<'a>),
     ReadInPlace,
-    /// Of what comes in these pieces.
+    /// Of what comes in these chunks.
     Gather(&'a [Vec<u8>]),
     Send,
 }
@@ -31,7 +31,7 @@ pub(crate) struct Line<'a> {
     pub limit: usize,
     /// The type's name.
     pub name: &'a str,
-    /// The pieces, the bytes or the sessions.
+    /// The chunks, the bytes or the sessions.
     pub given: &'a str,
     /// The answer.
     pub wanted: &'a str,
@@ -51,7 +51,7 @@ pub(crate) fn replay_stream(
     compare_stream(line, &pieces, is_strict, findings)
 }
 
-/// Compares what receivers answer to the pieces, and to the whole stream.
+/// Compares what receivers answer to the chunks, and to the whole stream.
 fn compare_stream(
     line: Line<'_>,
     pieces: &[Vec<u8>],

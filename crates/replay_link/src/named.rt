@@ -8,7 +8,7 @@ use replay::Shown;
 use std::collections::BTreeMap;
 
 /// What is asked of a type, once its name was read. Values are read from bytes of the kind `B`, which may lie in the room
-/// that is handed on.
+/// that is reported.
 pub(crate) trait Asks<B: Bytes, R>: Drop {
     /// What is answered.
     type Answer;

@@ -28,7 +28,7 @@ fn name_of(call: Call) -> &'static str {
     }
 }
 
-/// Compares what new receivers answer to the pieces, and to each rest again, by each call.
+/// Compares what new receivers answer to the chunks, and to each rest again, by each call.
 pub(crate) fn compare_pushes(
     line: Line<'_>,
     pieces: &[Vec<u8>],
@@ -77,7 +77,7 @@ fn compare_call(
     findings.check(name_of(call), answer, line.wanted)
 }
 
-/// What a receiver answers to the pieces and to the end.
+/// What a receiver answers to the chunks and to the end.
 fn push_to<D: Decoding + Drop>(
     line: Line<'_>,
     call: Call,
@@ -92,7 +92,7 @@ fn push_to<D: Decoding + Drop>(
     Ok(text)
 }
 
-/// What a receiver answers to the pieces, each with a bar behind it.
+/// What a receiver answers to the chunks, each with a bar after it.
 fn push_pieces<D: Decoding>(
     line: Line<'_>,
     call: Call,
@@ -142,7 +142,7 @@ fn push_parts(line: Line<'_>, call: Call) -> Result<String, Trouble> {
     let mut text = String::new(line.alloc);
     for part in line.given.split('/') {
         if !text.is_empty() {
-            // in place of the bar behind the last piece
+            // in place of the bar after the last chunk
             text.pop();
             text.push('/')?;
         }
@@ -153,7 +153,7 @@ fn push_parts(line: Line<'_>, call: Call) -> Result<String, Trouble> {
     Ok(text)
 }
 
-/// `LIMIT:PIECE,..`: sets the limit and pushes the pieces.
+/// `LIMIT:PIECE,..`: sets the limit and pushes the chunks.
 fn push_part(
     line: Line<'_>,
     call: Call,
@@ -177,7 +177,7 @@ fn set_limit(receiver: &mut OwnedReceiver, limit: usize) -> Result<(), Trouble> 
     }
 }
 
-/// What a receiver answers to a piece, and to each rest until none is left.
+/// What a receiver answers to a chunk, and to each rest until none is left.
 fn push_piece<D: Decoding>(
     line: Line<'_>,
     call: Call,
@@ -210,7 +210,7 @@ fn push_piece<D: Decoding>(
     Ok(text)
 }
 
-/// Adds an answer with its place to those of a piece.
+/// Adds an answer with its place to those of a chunk.
 pub(crate) fn add(text: &mut String, at: usize, answer: &str) -> Result<(), AllocError> {
     if !text.is_empty() {
         text.push(';')?;
@@ -218,7 +218,7 @@ pub(crate) fn add(text: &mut String, at: usize, answer: &str) -> Result<(), Allo
     write!(text, "{at}{answer}")
 }
 
-/// A piece that is pushed for the type that a line names.
+/// A chunk that is pushed for the type that a line names.
 #[derive(Drop)]
 struct Push<'a> {
     alloc: Global,

@@ -19,13 +19,13 @@ pub(crate) type From<'a> = Reads<Pieces<'a>>;
 /// A stream that is received whole.
 #[derive(Clone, Copy, Drop)]
 pub(crate) struct Stream<'a> {
-    /// Its pieces.
+    /// Its chunks.
     pub pieces: &'a [Vec<u8>],
     /// The answers, without their places.
     pub wanted: &'a str,
 }
 
-/// Compares the answers to a stream that comes in its pieces, and to one that comes byte by byte.
+/// Compares the answers to a stream that comes in its chunks, and to one that comes byte by byte.
 pub(crate) fn compare_received<T: DeserializeOwned + Shown>(
     line: Line<'_>,
     stream: Stream<'_>,
@@ -83,13 +83,13 @@ fn receive_all_strictly<T: DeserializeOwned + Exact + Shown>(
     Some(show(alloc, received))
 }
 
-/// A reader of the pieces, of at most so many bytes a call.
+/// A reader of the chunks, of at most so many bytes a call.
 pub(crate) fn reader_of<'a>(pieces: &'a [Vec<u8>], each: usize) -> From<'a> {
     Reads::new(Pieces::new(pieces, each))
 }
 
 /// The answers of a receiver of so many bytes: of one whose limit is in its type for three of the limits, since each is compiled
-/// anew, else of one whose limit is a value.
+/// anew, else of one whose limit is set at run time.
 pub(crate) fn receive_all<T: DeserializeOwned + Shown>(
     line: Line<'_>,
     limit: usize,
@@ -110,7 +110,7 @@ pub(crate) fn receive_all<T: DeserializeOwned + Shown>(
     show(alloc, received)
 }
 
-/// The answers of a receiver whose limit is a value.
+/// The answers of a receiver whose limit is set at run time.
 fn receive_by_value<T: DeserializeOwned + Shown>(
     line: Line<'_>,
     limit: usize,

@@ -9,7 +9,7 @@ use postcard::{DeserializeOwned, Exact};
 use replay::{Findings, Shown, Trouble};
 use std::alloc::Global;
 
-/// Compares what a receiver of the line's limit answers to the pieces, where it is one that a row names.
+/// Compares what a receiver of the line's limit answers to the chunks, where it is one that a row names.
 pub(crate) fn compare_rows(
     line: Line<'_>,
     is_strict: bool,
@@ -71,7 +71,7 @@ fn push_small_row(
     }
 }
 
-/// What a new receiver of so many bytes answers to the pieces and to the end.
+/// What a new receiver of so many bytes answers to the chunks and to the end.
 fn push_all<T: DeserializeOwned + Exact + Shown, const N: usize>(
     line: Line<'_>,
     is_strict: bool,
@@ -90,7 +90,7 @@ fn push_all<T: DeserializeOwned + Exact + Shown, const N: usize>(
     Ok(text)
 }
 
-/// What it answers to a piece, and to each rest until none is left.
+/// What it answers to a chunk, and to each rest until none is left.
 fn push_piece<T: DeserializeOwned + Exact + Shown, const N: usize>(
     alloc: Global,
     is_strict: bool,

@@ -1,4 +1,4 @@
-//! `link` for any sentinel: a frame by its flavor, what is lent, and what is left in place. What is sent, and what is heard
+//! `link` for any sentinel: a frame by its flavor, what is lent, and what is left in place. What is sent, and what is received
 //! of plain streams, are lines of `replay_link`.
 use crate::checks::{are_bytes, check, is_lent, is_told};
 use link::{Answer, Framed, Receiver, read_in_place_with_sentinel};
@@ -28,7 +28,7 @@ fn lends(rt: HostRuntime) {
     check(&rt, passed && receiver.is_between());
 }
 
-// Whether the next stretch is answered so, with so many bytes behind it.
+// Whether the next stretch is answered so, with so many bytes after it.
 fn reads(alloc: Global, bytes: &mut [u8], wanted: Answer<bool>, behind: usize) -> bool {
     match read_in_place_with_sentinel::<bool>(alloc, bytes, 0x0A) {
         Some((answer, rest)) => is_told(&answer, &wanted) && rest.len() == behind,
@@ -36,7 +36,7 @@ fn reads(alloc: Global, bytes: &mut [u8], wanted: Answer<bool>, behind: usize) -
     }
 }
 
-// Whether a value is read, the sentinel in front of it is still there, and a stretch behind it that isn't ended stays as it was.
+// Whether a value is read, the sentinel before it is still there, and a stretch after it that isn't ended stays as it was.
 fn leaves_the_unfinished(alloc: Global, bytes: &mut [u8; 6]) -> bool {
     reads(alloc, bytes, Answer::Value(true), 2)
         && are_bytes(&bytes[..1], &[0x0A])

@@ -1,6 +1,6 @@
-//! What stands where a value or a list found no memory, and what is heard behind it.
+//! What stands where a value or a list found no memory, and what is received after it.
 //!
-//! The tests whose names begin with `said` are also run with each growth refused in turn, by `.ci/refusals`: then one answer is
+//! The tests whose names begin with `said` are also run with each allocation refused in turn, by `.ci/refusals`: then one answer is
 //! missing, and no more. In the gate none is refused, and none is missing.
 ghost use Rattle.std.specs.Prelude.{◌≡◌, ◌<◌, false, ⊤};
 ghost use Rattle.link.specs.Each.{HeardAnyhow, heard_anyhow};
@@ -12,18 +12,18 @@ use link::{Answer, End, Hearer, OfType, Ordinary, Receiver, receive, receive_by_
 use std::alloc::Global;
 
 // Four vectors and their frames. In the longer two there stands the frame of a vector that nobody sent: whoever begins to listen
-// inside them hears it.
+// inside them receives it.
 const SENT: [&[u8]; 4] = [&[9], &[3, 1, 7], &[2], &[3, 1, 8]];
 
 const LINE: [u8; 20] = [3, 1, 9, 0, 5, 3, 3, 1, 7, 0, 3, 1, 2, 0, 5, 3, 3, 1, 8, 0];
 
-/// How many of the vectors were heard, in their order.
+/// How many of the vectors were received, in their order.
 #[derive(Drop)]
 struct Hearing {
     heard: usize,
     /// Where the next one may stand.
     next: usize,
-    /// Whether nothing else was heard.
+    /// Whether nothing else was received.
     is_right: bool,
 }
 
@@ -100,7 +100,7 @@ fn listen(
 ) -> Turn {
     let mut room = [0u8; 64];
     match receiver.listen_with(alloc, &Ordinary(OfType), reader, hearer, &mut room) {
-        // the answers of this read were handed on; there may be more
+        // the answers of this read were reported; there may be more
         None => Turn::More,
         // the read took nothing: the time is over, or the line has ended
         Some(End::Ended) => Turn::Nothing,
@@ -129,7 +129,7 @@ fn listen_out(
     lost
 }
 
-/// Whoever listens on hears all but the lost one, and nothing else.
+/// A receiver that continues to listen receives all but the lost one, and nothing else.
 fn is_heard_on(alloc: Global, each: usize) -> bool
     requires { 0 < each }
 {
@@ -148,7 +148,7 @@ fn said_by_listening(rt: HostRuntime) {
     check(&rt, is_heard_on(rt.alloc(), 20));
 }
 
-/// Where a reception ended at a lost value, the receiver stands behind all that was read: who listens on hears nothing else than was
+/// Where a reception ended at a lost value, the receiver stands after all that was read: who continues to listen receives nothing else than was
 /// sent.
 fn is_behind(alloc: Global, each: usize) -> bool
     requires { 0 < each }

@@ -51,7 +51,7 @@ pub fn fails_by<T: Drop>(answer: postcard::Result<T>, cause: Error) -> bool {
     }
 }
 
-/// Whether a send broke off.
+/// Whether a send was interrupted.
 pub fn is_broken(sent: Result<(), SendError>) -> bool {
     sent == Err(SendError::Line)
 }

@@ -6,7 +6,7 @@ use std::alloc::Global;
 // The text "hi", a text of five bytes of which none is there, and "hi" again.
 const LINE: [u8; 13] = [4, 2, 104, 105, 0, 2, 5, 0, 4, 2, 104, 105, 0];
 
-/// What was heard.
+/// What was received.
 #[derive(Drop)]
 struct Tally {
     texts: usize,

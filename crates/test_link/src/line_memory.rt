@@ -1,10 +1,10 @@
-//! Devices of `line_io` over memory: pieces, faults in mid-stream, and what goes on after them.
+//! Devices of `line_io` over memory: chunks, faults in mid-stream, and what goes on after them.
 use crate::checks::{are_bytes, check, check_at};
 use crate::line_moves::{fails_once, takes};
 use line_io::memory::{Fault, In, Out};
 use line_io::{Inlet, Outlet};
 
-// Two bytes a write at most, until the device has failed once, behind its third byte.
+// Two bytes a write at most, until the device has failed once, after its third byte.
 const CALLS: [(&[u8], Option<usize>); 7] = [
     (b"abcde", Some(2)),
     (b"cde", Some(1)),
@@ -36,7 +36,7 @@ const PIECES: [(usize, [&[u8]; 4]); 4] = [
     (3, [b"abc", b"bc", b"c", b"d"]),
 ];
 
-/// Whether a device takes a byte of each piece, but answers the one at the fault so, and is full then.
+/// Whether a device takes a byte of each chunk, but answers the one at the fault so, and is full then.
 fn faults_once(
     room: &mut [u8],
     kind: Fault,

@@ -1,7 +1,7 @@
 //! What a device of `line_io` answers to calls in a row.
 use line_io::{Inlet, Outlet};
 
-/// Whether a device answers so to a write of each piece.
+/// Whether a device answers so to a write of each chunk.
 pub(crate) fn takes<W: Outlet>(line: &mut W, calls: &[(&[u8], Option<usize>)]) -> bool {
     for (piece, answer) in calls {
         if line.write(piece) != *answer {

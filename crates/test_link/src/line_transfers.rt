@@ -32,7 +32,7 @@ fn writes_all_or_to_the_fault(rt: HostRuntime) {
     }
 }
 
-// Where a reader fails, how reading behind a byte ends then, and what is there.
+// Where a reader fails, how reading after a byte ends then, and what is there.
 const READ: [(Option<usize>, End, &[u8]); 4] = [
     (None, End::Ended, b"-abc"),
     (Some(0), End::ReadFault, b"-"),
@@ -40,7 +40,7 @@ const READ: [(Option<usize>, End, &[u8]); 4] = [
     (Some(3), End::ReadFault, b"-abc"),
 ];
 
-/// Whether reading behind a byte ends so, with these bytes.
+/// Whether reading after a byte ends so, with these bytes.
 fn is_read(alloc: Global, fault: Option<usize>, end: End, bytes: &[u8]) -> bool {
     match vec![in alloc; b'-'] {
         Ok(mut held) => {
@@ -57,10 +57,10 @@ fn reads_to_the_end_or_to_the_fault(rt: HostRuntime) {
     }
 }
 
-// What a device that owns its bytes has taken where it fails once after so many, behind the byte that it was given.
+// What a device that owns its bytes has taken where it fails once after so many, after the byte that it was given.
 const OWNED: [(usize, &[u8]); 3] = [(0, b"-xy"), (1, b"-axy"), (2, b"-abxy")];
 
-// It goes on behind the fault, two bytes a write.
+// It goes on after the fault, two bytes a write.
 const BEHIND: [(&[u8], Option<usize>); 2] = [(b"xyz", Some(2)), (b"", Some(0))];
 
 /// Whether it takes a text to its fault, goes on, and has these bytes then.

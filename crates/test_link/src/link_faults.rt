@@ -1,5 +1,5 @@
-//! `link`, over writers and readers that fail at each byte: what goes out, and what is heard of it before a reader fails.
-//! What is heard of it all, in pieces of each size, are lines of `replay_link`.
+//! `link`, over writers and readers that fail at each byte: what goes out, and what is received of it before a reader fails.
+//! What is received of it all, in chunks of each size, are lines of `replay_link`.
 ghost use Rattle.std.specs.Prelude.{◌<◌};
 
 use crate::checks::{are_fates, check, holds, is_broken, is_too_long};
@@ -10,12 +10,12 @@ use std::alloc::Global;
 use std::io;
 use std::io::{ErrorKind, Read, Write};
 
-/// 300 (a `u32`) by a new sender, broken off after so many bytes, and then sent whole by the same sender.
+/// 300 (a `u32`) by a new sender, interrupted after so many bytes, and then sent whole by the same sender.
 #[derive(Clone, Copy, Drop)]
 struct Row {
     broken: usize,
     line: &'static [u8],
-    /// What is heard before the second send ends the line: at how many bytes, and whether it is the value. Else it is damaged.
+    /// What is received before the second send ends the line: at how many bytes, and whether it is the value. Else it is damaged.
     first: Option<(usize, bool)>,
 }
 
@@ -105,12 +105,12 @@ impl Read for Slow<'_> {
     }
 }
 
-/// Whether 300 is broken off by a line.
+/// Whether 300 is interrupted by a line.
 fn is_broken_off<W: Outlet>(sender: &mut Sender<W, 8>) -> bool {
     is_broken(sender.send(&300u32)) && !sender.is_clean()
 }
 
-/// Whether 300 is broken off by a line, and goes out where it is sent again.
+/// Whether 300 is interrupted by a line, and goes out where it is sent again.
 fn is_sent_again<W: Outlet>(sender: &mut Sender<W, 8>) -> bool {
     is_broken_off(sender) && sender.send(&300u32).is_ok() && sender.is_clean()
 }
@@ -139,7 +139,7 @@ fn is_end(answers: &[Answer<u32>], is_done: bool) -> bool {
     }
 }
 
-/// Whether a sender over memory that breaks a row's send off leaves so many bytes, or the row's line where it sends again.
+/// Whether a sender over memory that interrupts a row's send leaves so many bytes, or the row's line where it sends again.
 fn sends(row: &Row, each: usize, fault: Option<(usize, Fault)>, again: bool) -> bool
     requires { 0 < each }
 {
@@ -159,7 +159,7 @@ fn sends(row: &Row, each: usize, fault: Option<(usize, Fault)>, again: bool) -> 
         }
 }
 
-/// Whether a session over memory that breaks its first send off leaves the row's line.
+/// Whether a session over memory that interrupts its first send leaves the row's line.
 fn sends_each(row: &Row, each: usize, fault: Option<(usize, Fault)>) -> bool
     requires { 0 < each }
 {
@@ -224,7 +224,7 @@ fn sends_over_writers(rt: HostRuntime) {
     }
 }
 
-/// Whether so many bytes of a row's line, in pieces, are heard until a fault, ordinarily and strictly.
+/// Whether so many bytes of a row's line, in chunks, are received until a fault, ordinarily and strictly.
 fn hears(alloc: Global, row: &Row, count: usize, each: usize) -> bool
     requires { 0 < each }
 {
@@ -233,7 +233,7 @@ fn hears(alloc: Global, row: &Row, count: usize, each: usize) -> bool
     got.reader.moved() == count && is_heard(row, count, &got) && is_heard(row, count, &strictly)
 }
 
-/// Whether so many bytes of a row's line are heard until a reader is interrupted.
+/// Whether so many bytes of a row's line are received until a reader is interrupted.
 fn hears_slowly(alloc: Global, row: &Row, count: usize) -> bool {
     let slow = Slow {
         rest: row.line,
@@ -243,7 +243,7 @@ fn hears_slowly(alloc: Global, row: &Row, count: usize) -> bool {
     is_heard(row, count, &receive::<u32, _, 8>(alloc, Reads::new(slow)))
 }
 
-/// Whether so many bytes of a row's line are heard by each reader, in pieces of each size.
+/// Whether so many bytes of a row's line are received by each reader, in chunks of each size.
 fn hears_in_each_size(alloc: Global, row: &Row, count: usize) -> bool {
     for each in 1..10 {
         if !hears(alloc, row, count, each) {

@@ -1,4 +1,4 @@
-//! `link`: each answer is handed on before the next byte is asked for. The reader gives a byte a call, and a pause comes behind
+//! `link`: each answer is reported before the next byte is asked for. The reader gives a byte a call, and a pause comes after
 //! each: so the number of pauses tells by which byte an answer came.
 ghost use Rattle.std.specs.Prelude.{◌≡◌, ⊤};
 ghost use Rattle.link.specs.Each.{HeardAnyhow, heard_anyhow};
@@ -15,16 +15,16 @@ use std::alloc::Global;
 /// How many bytes a read has room for where the line is shorter.
 const ROOM: usize = 64;
 
-/// What is to be heard, each answer by the byte of this offset.
+/// What is to be received, each answer by the byte of this offset.
 #[derive(Drop)]
 struct Wanted<'a, T> {
     answers: &'a [(usize, Answer<T>)],
-    /// How many answers were heard.
+    /// How many answers were received.
     heard: usize,
     pauses: usize,
     /// Whether they were these so far, each at its byte.
     are_right: bool,
-    /// How many answers are enough, and whether so many were heard.
+    /// How many answers are enough, and whether so many were received.
     most: usize,
     is_full: bool,
 }
@@ -48,12 +48,12 @@ impl<'a, T> Wanted<'a, T> {
         self.is_full = self.heard >= self.most;
     }
 
-    /// Whether so many answers were heard, and they are right.
+    /// Whether so many answers were received, and they are right.
     fn has_heard(&self, count: usize) -> bool {
         self.are_right && self.heard == count
     }
 
-    /// Whether all that is wanted was heard, and then the end.
+    /// Whether all that is wanted was received, and then the end.
     fn is_whole(&self, end: Option<End>) -> bool {
         match end {
             Some(End::Ended) => self.has_heard(self.answers.len()),
@@ -142,7 +142,7 @@ fn are_alike(wanted: &Answer<&str>, answer: &Answer<Text>) -> bool {
     }
 }
 
-// Under a limit of 4: 5; 300; a frame that lacks a byte; two zeros; five bytes and more; 300; 5 with two bytes behind it; and a
+// Under a limit of 4: 5; 300; a frame that lacks a byte; two zeros; five bytes and more; 300; 5 with two bytes after it; and a
 // beginning.
 const LINE: [u8; 28] = [
     2, 5, 0, 3, 0xAC, 2, 0, 3, 5, 0, 0, 1, 1, 1, 1, 1, 1, 0, 3, 0xAC, 2, 0, 4, 5, 1, 1, 0, 2,
@@ -158,7 +158,7 @@ const HEARD: [(usize, Answer<u32>); 7] = [
     (28, Answer::Cut),
 ];
 
-// Strictly: no bytes are behind 5.
+// Strictly: no bytes are after 5.
 const HEARD_STRICTLY: [(usize, Answer<u32>); 7] = [
     (2, Answer::Value(5)),
     (6, Answer::Value(300)),
@@ -175,21 +175,21 @@ const MARKED: [u8; 28] = [
     0x0B, 0x0A, 0x09, 0xA6, 0x08, 0x0A, 0x0E, 0x0F, 0x0B, 0x0B, 0x0A, 0x08,
 ];
 
-/// A receiver and a reader of messages that hand each answer on, until the end.
+/// A receiver and a reader of messages that report each result, until the end.
 #[derive(Clone, Copy, Drop)]
 enum Call {
     Plain,
     Strict,
     Marked,
     MarkedStrict,
-    /// With a limit that is a value.
+    /// With a limit that is set at run time.
     Limited,
     LimitedStrict,
     /// By a reader of messages that was told when the program ran how to read.
     Chosen,
 }
 
-/// By a receiver whose limit is a value.
+/// By a receiver whose limit is set at run time.
 fn hand_on_limited<M: MessageReader<u32>>(
     alloc: Global,
     sentinel: u8,
@@ -234,7 +234,7 @@ const CALLS: [(Call, &[u8], &[(usize, Answer<u32>)]); 7] = [
     (Call::Chosen, &LINE, &HEARD),
 ];
 
-/// Whether a call hands on what is wanted, each answer at its byte.
+/// Whether a call reports what is wanted, each answer at its byte.
 fn hands_on(alloc: Global, call: Call, line: &[u8], answers: &[(usize, Answer<u32>)]) -> bool {
     let mut wanted = Wanted::new(answers);
     let end = hand_on(alloc, call, &mut In::new(line, 1, None), &mut wanted);
@@ -261,7 +261,7 @@ fn each_by_a_reader(rt: HostRuntime) {
     check(&rt, passed && wanted.pauses == 1);
 }
 
-/// Into a room of the caller's: a read brings no more than it holds, and what an earlier one has left there isn't heard.
+/// Into a room of the caller's: a read brings no more than it holds, and what an earlier one has left there isn't received.
 #[test]
 fn each_read_into_a_room(rt: HostRuntime) {
     let mut receiver = Receiver::<4>::new();
@@ -276,7 +276,7 @@ fn each_read_into_a_room(rt: HostRuntime) {
     check(&rt, wanted.heard == 6 && wanted.pauses == 2);
 }
 
-/// The same until enough was heard, which is asked between reads alone.
+/// The same until enough was received, which is asked between reads alone.
 #[test]
 fn until_enough_into_a_room(rt: HostRuntime) {
     let mut receiver = Receiver::<4>::new();
@@ -323,7 +323,7 @@ fn each_read(rt: HostRuntime) {
     check(&rt, receiver.finish::<u32>() == Some(Answer::Cut));
 }
 
-/// The same strictly, by a receiver with a limit that is a value.
+/// The same strictly, by a receiver with a limit that is set at run time.
 #[test]
 fn each_read_strictly(rt: HostRuntime) {
     let mut wanted = Wanted::new(&HEARD_STRICTLY);
@@ -345,7 +345,7 @@ fn each_read_strictly(rt: HostRuntime) {
     check(&rt, wanted.has_heard(6) && reader.moved() == 28);
 }
 
-/// A read that fails changes nothing: what comes behind it is heard as ever.
+/// A read that fails changes nothing: what comes after it is received as ever.
 #[test]
 fn behind_a_fault(rt: HostRuntime) {
     let mut receiver = Receiver::<4>::new();
@@ -379,7 +379,7 @@ fn until_enough(rt: HostRuntime) {
     check(&rt, end == Some(End::ReadFault) && wanted.has_heard(2));
 }
 
-// "hi", one with a byte behind it, bytes that are no text, and a beginning.
+// "hi", one with a byte after it, bytes that are no text, and a beginning.
 const TEXTS: [u8; 17] = [
     4, 2, 0x68, 0x69, 0, 5, 2, 0x68, 0x69, 7, 0, 3, 1, 0xFF, 0, 4, 2,
 ];
@@ -425,7 +425,7 @@ fn texts_without_memory(rt: HostRuntime) {
     }
 }
 
-// From which byte to which a piece of the line goes, how many bytes are used for the first answer in it, and how long the
+// From which byte to which a chunk of the line goes, how many bytes are used for the first answer in it, and how long the
 // stretch is that was answered.
 const SPANS: [(usize, usize, usize, usize); 8] = [
     (0, 28, 3, 2),
@@ -440,7 +440,7 @@ const SPANS: [(usize, usize, usize, usize); 8] = [
     (27, 28, 1, 0),
 ];
 
-// Whether the first answer in a piece is about so many bytes before the last that was used.
+// Whether the first answer in a chunk is about so many bytes before the last that was used.
 fn spans(alloc: Global, receiver: &mut Receiver<4>, row: (usize, usize, usize, usize)) -> bool {
     let (from, to, used, stretch) = row;
     let Some(piece) = LINE.get(from..to) else {

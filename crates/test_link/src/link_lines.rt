@@ -1,20 +1,20 @@
-//! `link`, from senders to a receiver: the headline, in which a send breaks off. Lines of `replay_link` say what is heard of
-//! other sends that break off, ordinarily and strictly.
+//! `link`, from senders to a receiver: the headline, in which a send is interrupted. Lines of `replay_link` say what is received of
+//! other sends that are interrupted, ordinarily and strictly.
 use crate::checks::{are_fates, check, holds, is_broken};
 use line_io::memory::{Fault, In, Out};
 use link::{Answer, Fate, Received};
 use link_laws::headline;
 use link_laws::headline::InTurn;
 
-// A send of 300 that broke off, and one that went out.
+// A send of 300 that was interrupted, and one that went out.
 const LINE: [u8; 7] = [0, 3, 0, 3, 0xAC, 2, 0];
 
-// Whether these answers were heard.
+// Whether these answers were received.
 fn hears(received: &Received<u32, In<'_>>, answers: &[Answer<u32>]) -> bool {
     received.answers.as_slice() == answers
 }
 
-// Whether the first send of 300 broke off, and the second went out.
+// Whether the first send of 300 was interrupted, and the second went out.
 fn is_sent_again(all: &InTurn<Out<'_>>) -> bool {
     is_broken(all.first) && all.second.is_ok() && all.writer.moved() == 7
 }

@@ -45,7 +45,7 @@ fn ends_at_a_fault(rt: HostRuntime) {
     check(&rt, got.answers.is_empty() && got.end == End::ReadFault);
 }
 
-/// Whether the next stretch is answered so, with so many bytes behind it.
+/// Whether the next stretch is answered so, with so many bytes after it.
 fn reads(alloc: Global, bytes: &mut [u8], wanted: Answer<bool>, behind: usize) -> bool {
     match read_in_place::<bool>(alloc, bytes) {
         Some((answer, rest)) => is_told(&answer, &wanted) && rest.len() == behind,
@@ -53,7 +53,7 @@ fn reads(alloc: Global, bytes: &mut [u8], wanted: Answer<bool>, behind: usize) -
     }
 }
 
-/// A stretch that isn't ended stays as it was, and so do the zeros in front of one that is.
+/// A stretch that isn't ended stays as it was, and so do the zeros before one that is.
 #[test]
 fn leaves_the_unfinished(rt: HostRuntime) {
     let alloc = rt.alloc();
@@ -83,7 +83,7 @@ fn kind_of(answer: &Answer<Vec<u8>>) -> Kind {
     }
 }
 
-// The next answer in a piece, ordinarily or strictly, and how many bytes it took.
+// The next answer in a chunk, ordinarily or strictly, and how many bytes it took.
 fn next(
     alloc: Global,
     receiver: &mut Receiver<256>,
@@ -104,7 +104,7 @@ fn next(
     }
 }
 
-// Whether a piece, taken in to its end, brings so many answers, of which so many are damaged stretches.
+// Whether a chunk, taken in to its end, brings so many answers, of which so many are damaged stretches.
 fn brings(
     alloc: Global,
     receiver: &mut Receiver<256>,
@@ -128,7 +128,7 @@ fn brings(
     false
 }
 
-// Whether the stream in two pieces brings so many values each; strictly the first of them is damaged.
+// Whether the stream in two chunks brings so many values each; strictly the first of them is damaged.
 fn is_heard(alloc: Global, first: &[u8], last: &[u8], before: u8, behind: u8) -> bool {
     let mut plain = Receiver::<256>::new();
     let mut strict = Receiver::<256>::new();
@@ -139,7 +139,7 @@ fn is_heard(alloc: Global, first: &[u8], last: &[u8], before: u8, behind: u8) ->
         && brings(alloc, &mut strict, last, true, behind, 1 - refused)
 }
 
-// How many values end in each of two pieces that the stream below is cut into.
+// How many values end in each of two chunks that the stream below is cut into.
 fn ends_by(cut: usize) -> (u8, u8) {
     if cut <= 256 {
         (0, 2)

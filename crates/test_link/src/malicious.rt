@@ -1,4 +1,4 @@
-//! Bytes that are made to hurt: counts without end, and fronts. Padded numbers and stretches that are too long are lines of
+//! Bytes that are made to hurt: counts without end, and prefixes. Padded numbers and stretches that are too long are lines of
 //! `replay_link`.
 use crate::checks::{check, fails_by, is_answer};
 use link::{Answer, Receiver};
@@ -10,7 +10,7 @@ const GREATEST: [u8; 10] = [0xFF, 0xFF, 0xFF, 0xFF, 0xFF, 0xFF, 0xFF, 0xFF, 0xFF
 
 const TOO_GREAT: [u8; 10] = [0xFF, 0xFF, 0xFF, 0xFF, 0xFF, 0xFF, 0xFF, 0xFF, 0xFF, 2];
 
-// Whether each call refuses bytes so, for types that ask for memory and for one that lends.
+// Whether each call refuses bytes so, for types that allocate and for one that lends.
 fn is_refused(alloc: Global, bytes: &[u8], cause: Error) -> bool {
     fails_by(from_bytes::<Vec<u8>>(alloc, bytes), cause)
         && fails_by(from_bytes::<&[u8]>(alloc, bytes), cause)
@@ -42,7 +42,7 @@ fn framed_endless_count(rt: HostRuntime) {
 // The tuple (1, 10, "Hello!").
 const TUPLE: [u8; 9] = [0x01, 0x0A, 0x06, 0x48, 0x65, 0x6C, 0x6C, 0x6F, 0x21];
 
-/// Each proper front of a tuple ends too early.
+/// Each proper prefix of a tuple ends too early.
 #[test]
 fn fronts(rt: HostRuntime) {
     for k in 0..9 {

@@ -35,7 +35,7 @@ impl MessageReader<u32> for Chosen {
     }
 }
 
-// 300 with a byte behind it.
+// 300 with a byte after it.
 const LONGER: [u8; 5] = [4, 0xAC, 2, 7, 0];
 
 #[test]

@@ -1,4 +1,4 @@
-//! `link`, a receiver whose limit is a value: what it lends, and a limit that is lowered and raised. What it answers to
+//! `link`, a receiver whose limit is set at run time: what it lends, and a limit that is lowered and raised. What it answers to
 //! plain streams are lines of `replay_link`.
 use crate::checks::{check, is_answer, is_lent};
 use link::{Answer, OwnedReceiver};

@@ -1,6 +1,6 @@
-//! Out of memory: in a run in which a growth is refused, each call answers so or gives its whole answer.
+//! Out of memory: in a run in which an allocation is refused, each call answers so or gives its whole answer.
 //!
-//! The tests whose names begin with `said` are also run with each growth refused in turn, by `.ci/refusals`. In the gate
+//! The tests whose names begin with `said` are also run with each allocation refused in turn, by `.ci/refusals`. In the gate
 //! none is refused, and `whole_answers` passes too.
 ghost use Rattle.std.specs.Prelude.{◌≡◌, ◌<◌, false, ⊤};
 ghost use Rattle.link.specs.Each.{HeardAnyhow, heard_anyhow};
@@ -196,13 +196,13 @@ fn read_map(alloc: Global, wants: &mut Wants) {
 // The frame of the vector of a 7, and a byte more.
 const SEVEN: [u8; 5] = [3, 1, 7, 0, 9];
 
-/// A frame of a value that asks for memory.
+/// A frame of a value that allocates.
 fn read_frame(alloc: Global, wants: &mut Wants) {
     let mut line = SEVEN;
     wants.written(from_bytes_cobs(alloc, &mut line), &[7]);
 }
 
-/// As above, with the bytes behind it.
+/// As above, with the bytes after it.
 fn take_frame(alloc: Global, wants: &mut Wants) {
     let mut line = SEVEN;
     let taken = take_from_bytes_cobs::<Vec<u8>>(alloc, &mut line);
@@ -223,7 +223,7 @@ fn read_stretch(alloc: Global, wants: &mut Wants) {
     }
 }
 
-/// Values that ask for memory, and frames of such values.
+/// Values that allocate, and frames of such values.
 fn read_all(alloc: Global, wants: &mut Wants) {
     read_parts(alloc, wants);
     read_map(alloc, wants);
@@ -235,7 +235,7 @@ fn read_all(alloc: Global, wants: &mut Wants) {
 // Two frames: the vectors of a 7 and of an 8.
 const PAIR: [u8; 8] = [3, 1, 7, 0, 3, 1, 8, 0];
 
-/// An accumulator answers a frame by `DeserError` where no memory is found, and goes on behind it.
+/// An accumulator answers a frame by `DeserError` where no memory is found, and goes on after it.
 fn feed(alloc: Global, wants: &mut Wants) {
     let mut accumulator: CobsAccumulator<8> = CobsAccumulator::new();
     wants.fed(accumulator.feed(alloc, &PAIR), 4, 7);
@@ -243,7 +243,7 @@ fn feed(alloc: Global, wants: &mut Wants) {
 }
 
 impl Wants {
-    /// A vector of this byte with so many bytes behind it, or out of memory with as many.
+    /// A vector of this byte with so many bytes after it, or out of memory with as many.
     fn fed(&mut self, answer: FeedResult<'_, Vec<u8>>, left: usize, byte: u8) {
         match answer {
             FeedResult::Success { value, remaining } => {
@@ -258,7 +258,7 @@ impl Wants {
     }
 }
 
-/// A receiver is between stretches behind a frame for which no memory was found, and goes on.
+/// A receiver is between stretches after a frame for which no memory was found, and goes on.
 fn push(alloc: Global, wants: &mut Wants) {
     let mut receiver = Receiver::<8>::new();
     wants.pushed(receiver.push(alloc, &PAIR), 7);
@@ -287,7 +287,7 @@ const LINE: [u8; 24] = [
 ];
 
 impl Wants {
-    /// What was heard to the end if it is whole, and else until out of memory.
+    /// What was received to the end if it is whole, and else until out of memory.
     fn ended(&mut self, end: End, is_whole: bool) {
         if is_whole {
             self.expect(end == End::Ended);
@@ -342,7 +342,7 @@ fn greatest(values: &[Vec<u8>]) -> Option<usize> {
     Some(usize::from(last))
 }
 
-/// How many vectors of one byte were heard, from 1 on.
+/// How many vectors of one byte were received, from 1 on.
 #[derive(Drop)]
 struct Vectors {
     next: u8,
@@ -387,7 +387,7 @@ impl Hearer<Vec<u8>> for Vectors {
 }
 
 impl Wants {
-    /// All six values were handed on, or the first ones and then out of memory.
+    /// All six values were reported, or the first ones and then out of memory.
     fn handed(&mut self, end: Option<End>, vectors: &Vectors) {
         self.expect(vectors.are_right);
         match end {
@@ -397,7 +397,7 @@ impl Wants {
     }
 }
 
-/// The same, each handed on.
+/// The same, each reported.
 fn hand_on(alloc: Global, wants: &mut Wants, each: usize)
     requires { 0 < each }
 {
@@ -408,7 +408,7 @@ fn hand_on(alloc: Global, wants: &mut Wants, each: usize)
     wants.handed(end, &vectors);
 }
 
-/// The same, with a limit that is a value: where the receiver finds no memory, nothing is read.
+/// The same, with a limit that is set at run time: where the receiver finds no memory, nothing is read.
 fn hand_on_owned(alloc: Global, wants: &mut Wants) {
     let mut vectors = Vectors::new();
     let mut line = In::new(&LINE, 7, None);
@@ -425,7 +425,7 @@ fn hand_on_owned(alloc: Global, wants: &mut Wants) {
     }
 }
 
-/// Byte by byte: where memory was wanting, every frame that was read is handed on but for the last one, which was lost.
+/// Byte by byte: where memory was wanting, every frame that was read is reported but for the last one, which was lost.
 fn stand_handed(alloc: Global, wants: &mut Wants) {
     let mut vectors = Vectors::new();
     let mut line = In::new(&LINE, 1, None);
@@ -437,7 +437,7 @@ fn stand_handed(alloc: Global, wants: &mut Wants) {
     wants.handed(end, &vectors);
 }
 
-/// Vectors of one byte that were heard live, each greater than the one before it, since one may be lost.
+/// Vectors of one byte that were received live, each greater than the one before it, since one may be lost.
 #[derive(Drop)]
 struct Rising {
     last: u8,
@@ -494,7 +494,7 @@ impl Hearer<Vec<u8>> for Rising {
 }
 
 /// The line in three reads, the first two of which cut a frame: a value that finds no memory costs itself alone, and the read that
-/// lost it says so. All others are heard, also those behind it in its read and those that its read has begun, and each read pauses.
+/// lost it says so. All others are received, also those after it in its read and those that its read has begun, and each read pauses.
 fn go_on(alloc: Global, wants: &mut Wants) {
     let mut receiver = Receiver::<8>::new();
     let mut line = In::new(&LINE, 10, None);
@@ -516,7 +516,7 @@ fn go_on(alloc: Global, wants: &mut Wants) {
     wants.expect(receiver.is_between() && line.moved() == 24);
 }
 
-/// Receptions to the end, in pieces of this size.
+/// Receptions to the end, in chunks of this size.
 fn listen(alloc: Global, wants: &mut Wants, each: usize)
     requires { 0 < each }
 {
@@ -554,7 +554,7 @@ fn read_marked(alloc: Global, wants: &mut Wants) {
     wants.written(from_bytes_cobs_with_sentinel(alloc, &mut line, 0xFF), &[7]);
 }
 
-/// As above, with the bytes behind it.
+/// As above, with the bytes after it.
 fn take_marked(alloc: Global, wants: &mut Wants) {
     let mut line = SEVEN_MARKED;
     let taken = take_from_bytes_cobs_with_sentinel::<Vec<u8>>(alloc, &mut line, 0xFF);
@@ -585,7 +585,7 @@ fn listen_for_mark(alloc: Global, wants: &mut Wants) {
     wants.gathered(receive_by_accumulator_with_sentinel::<_, _, 8>(alloc, line, 0xFF));
 }
 
-/// Receptions with a limit that is a value.
+/// Receptions with a limit that is set at run time.
 fn listen_owned(alloc: Global, wants: &mut Wants) {
     wants.received(receive_owned(alloc, In::new(&MARKED, 7, None), 8, 0xFF));
     wants.received(receive_owned_strict(alloc, In::new(&LINE, 7, None), 8, 0));
@@ -600,7 +600,7 @@ impl Wants {
     }
 }
 
-/// Short lines, by a receiver whose limit is a value.
+/// Short lines, by a receiver whose limit is set at run time.
 fn own_short(alloc: Global, wants: &mut Wants) {
     let line = [5u8, 1, 1, 1, 1, 0, 2, 1, 0];
     let got = receive_owned::<bool, _>(alloc, In::new(&line, 2, None), 3, 0);
@@ -664,7 +664,7 @@ fn raise(alloc: Global, wants: &mut Wants) {
     wants.expect(is_answer(&pushed.answer, &Answer::Value(())));
 }
 
-/// Receivers whose limit is a value.
+/// Receivers whose limit is set at run time.
 fn own_values(alloc: Global, wants: &mut Wants) {
     listen_owned(alloc, wants);
     own_short(alloc, wants);
@@ -675,7 +675,7 @@ fn own_values(alloc: Global, wants: &mut Wants) {
     raise(alloc, wants);
 }
 
-/// All calls that receive frames of a line whose mark is zero, to the end in pieces of some sizes.
+/// All calls that receive frames of a line whose mark is zero, to the end in chunks of some sizes.
 fn receive_all(alloc: Global, wants: &mut Wants) {
     feed(alloc, wants);
     push(alloc, wants);
@@ -750,7 +750,7 @@ fn whole_answers(rt: HostRuntime) {
     check(&rt, wants.are_at_most(0));
 }
 
-// With each growth refused in turn the tests below meet none.
+// With each allocation refused in turn the tests below meet none.
 
 #[test]
 fn none_asked_by_cobs(rt: HostRuntime) {

@@ -21,7 +21,7 @@ fn send<T: Serialize>(value: &T, line: &mut [u8; 80], sentinel: u8) -> Option<us
     }
 }
 
-/// Whether a value of these bytes is heard alone on a line, read seven bytes at a time.
+/// Whether a value of these bytes is received alone on a line, read seven bytes at a time.
 fn hears<T: Serialize + DeserializeOwned>(
     alloc: Global,
     line: &[u8],
@@ -35,7 +35,7 @@ fn hears<T: Serialize + DeserializeOwned>(
     }
 }
 
-/// Whether a value is heard as these bytes where it was sent at a sentinel.
+/// Whether a value is received as these bytes where it was sent at a sentinel.
 fn crosses_at<T: Serialize + DeserializeOwned>(
     alloc: Global,
     value: &T,

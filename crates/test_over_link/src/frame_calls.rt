@@ -1,10 +1,10 @@
-//! What goes out, and what is heard of a line that is damaged: bytes by hand, from the rules.
+//! What goes out, and what is received of a line that is damaged: bytes by hand, from the rules.
 
 use crate::checks::check;
 use frames::{FrameEvent, FrameReceiver, FrameSender, encode, encode_with_sentinel, seal, unseal};
 use std::alloc::Global;
 
-// `hi` with its length; a send that broke off inside its block; three bytes that count as nine; nine bytes, which are too many; `yo`.
+// `hi` with its length; a send that was interrupted inside its block; three bytes that count as nine; nine bytes, which are too many; `yo`.
 const LINE: [u8; 30] = [
     0, 4, 2, b'h', b'i', 0, 9, 7, 0, 5, 9, 1, 2, 3, 0, 1, 1, 1, 1, 1, 1, 1, 1, 1, 0, 4, 2, b'y',
     b'o', 0,
@@ -33,7 +33,7 @@ const HEARD: [(usize, usize, FrameEvent); 5] = [
     ),
 ];
 
-// Whether these are heard of the line, byte by byte.
+// Whether these are received of the line, byte by byte.
 fn is_heard(alloc: Global) -> bool {
     let mut receiver = FrameReceiver::new(0);
     let mut buffer = [0u8; 8];
@@ -61,7 +61,7 @@ fn damaged_line(rt: HostRuntime) {
     check(&rt, is_heard(rt.alloc()));
 }
 
-// Whether a piece brings about this first event, at the end of so many bytes.
+// Whether a chunk brings about this first event, at the end of so many bytes.
 fn brings(alloc: Global, piece: &[u8], used: usize, wanted: FrameEvent, plain: bool) -> bool {
     let mut receiver = FrameReceiver::new(0);
     let mut buffer = [0u8; 8];
@@ -84,7 +84,7 @@ fn pieces(rt: HostRuntime) {
         length: 2,
     };
     check(&rt, brings(alloc, &LINE, 6, message, false));
-    // a plain send of `pay`, zero, `me` that broke off behind five bytes, and the next one's zero
+    // a plain send of `pay`, zero, `me` that was interrupted after five bytes, and the next one's zero
     let pay = FrameEvent::Message {
         start: 0,
         length: 3,

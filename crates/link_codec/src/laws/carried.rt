@@ -1,4 +1,4 @@
-//! What holds of values that go over any reader and writer by the codecs.
+//! Laws of values that are sent over any writer and reader by the codecs.
 ghost use Rattle.std.specs.Prelude.{◌≤◌};
 ghost use Rattle.tokio_util.specs.Codec.Framed.{framed_read};
 ghost use Rattle.link_codec.specs.Decoders.{IsGiven, gives_judged};
@@ -13,9 +13,9 @@ use postcard::{DeserializeOwned, Exact, Lawful, Serialize};
 use tokio::io::AsyncRead;
 use tokio_util::codec::FramedRead;
 
-/// Whatever sends went out, by one sender or encoder or several in turn, each possibly broken off at any byte: from a reader that gives
-/// the line of the run, and whose end is final, a framed reader yields what is to be told of the run, and nothing else. So with a limit
-/// that is part of the type as with one that is a value.
+/// Whatever was sent, by one sender or encoder or several in turn, each send perhaps interrupted at any byte: if the reader gives the line
+/// of the run and its end is final, a framed reader yields exactly what `told` says of the run. The limit may be part of the type, or set
+/// at run time.
 pub fn told_whole<T: DeserializeOwned, D: Decoding, R: AsyncRead>(
     reader: &FramedRead<R, AnswerDecoder<T, Ordinary<OfType>, D>>,
 )
@@ -27,7 +27,7 @@ pub fn told_whole<T: DeserializeOwned, D: Decoding, R: AsyncRead>(
     link_laws::told::<T>();
 }
 
-/// The same of a strict decoder.
+/// As `told_whole`, for a strict decoder.
 pub fn strict_told_whole<T: DeserializeOwned + Exact, D: Decoding, R: AsyncRead>(
     reader: &FramedRead<R, AnswerDecoder<T, Strict<OfType>, D>>,
 )
@@ -39,14 +39,16 @@ pub fn strict_told_whole<T: DeserializeOwned + Exact, D: Decoding, R: AsyncRead>
     link_laws::told::<T>();
 }
 
-/// The bytes that an encoder writes for values one after another are those of a session of one sender, all of whose sends completed.
+/// The bytes that an encoder writes for values in a row are those of a session of one sender, all of whose sends completed.
 pub fn session_of<T: Serialize, const N: usize>(encoder: &LinkEncoder<N>, values: &[T])
     ensures { IsSessionOf encoder.now T.form.writes T.form.valid values.now }
 {}
 
-/// What an encoder that hadn't written anything wrote for values one after another, as `FramedWrite` says what it wrote: from a reader
-/// that gives these bytes, and whose end is final, a framed reader whose limit is at least the encoder's yields values alike them, one
-/// by one, and nothing else.
+/// If the reader gives what a new encoder wrote for values in a row, as `FramedWrite` says what it wrote, and its end is final, a framed
+/// reader yields values alike them, one by one, and nothing else.
+///
+/// # Requires
+/// The reader's limit L is at least the encoder's N.
 pub fn carried_whole<T: Lawful + DeserializeOwned, R: AsyncRead, const N: usize, const L: usize>(
     encoder: &LinkEncoder<N>,
     values: &[T],

@@ -158,7 +158,7 @@ fn standard_error_fails(rt: HostRuntime) {
     expect_at_each_fault(&rt, &UNSAID_ROWS);
 }
 
-/// Whether a run writes what the row has and nothing is said, or a growth was refused: then it says so, and writes a
+/// Whether a run writes what the row has and nothing is said, or an allocation was refused: then it says so, and writes a
 /// beginning.
 fn is_right_or_lacks_memory(alloc: Global, row: &Row<'_>) -> bool {
     let mut written = [0u8; ROOM];
@@ -200,7 +200,7 @@ const SHORT_RUNS: [Row<'static>; 5] = [
     },
 ];
 
-/// To be run with each growth refused in turn, as `.ci/refusals` does. The other tests of runs ask for the whole.
+/// To be run with each allocation refused in turn, as `.ci/refusals` does. The other tests of runs ask for the whole.
 #[test]
 fn memory_runs_out(rt: HostRuntime) {
     for (at, row) in SHORT_RUNS.iter().enumerate() {

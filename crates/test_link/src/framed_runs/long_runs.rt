@@ -9,7 +9,7 @@ use line_io::Fault;
 use std::alloc::{AllocError, Global};
 use std::process::Abort;
 
-/// A piece so many times, and what stands before and behind it.
+/// A chunk so many times, and what stands before and after it.
 #[derive(Clone, Copy, Drop)]
 struct Repeated {
     first: &'static [u8],
@@ -27,7 +27,7 @@ fn make(alloc: Global, bytes: &Repeated) -> Result<Vec<u8>, AllocError> {
     Ok(made)
 }
 
-/// Whether a run in pieces of some thousand bytes does what the row says, but that this is to be written: all of it, or as
+/// Whether a run in chunks of some thousand bytes does what the row says, but that this is to be written: all of it, or as
 /// many bytes as the writer takes before it fails.
 fn is_right_in(alloc: Global, row: &Row<'_>, all: &[u8], room: &mut [u8]) -> bool {
     let mut told = [0u8; ROOM];
@@ -108,7 +108,7 @@ const NOTHING: Repeated = Repeated {
     ..LINES
 };
 
-// A line is refused behind many that are sent.
+// A line is refused after many that are sent.
 const REFUSES_LATE: Row<'static> = Row {
     said: b"line 1601: refused\n",
     status: 1,

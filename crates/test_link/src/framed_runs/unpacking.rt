@@ -58,7 +58,7 @@ const UNPACKED_STRICTLY: [Row<'static>; 3] = [
     },
 ];
 
-/// A text that sending spells otherwise, behind a byte that is no part of it, and one that it spells so.
+/// A text that sending encodes otherwise, after a byte that is no part of it, and one that it encodes so.
 #[test]
 fn unpacks_strictly(rt: HostRuntime) {
     expect(&rt, &UNPACKED_STRICTLY);
@@ -135,8 +135,8 @@ const DAMAGED_BY_SENTINEL: [Row<'static>; 2] = [
     },
 ];
 
-/// So too: a frame that lacks bytes, one behind it, and one that nothing ends; a text with a byte behind it that is no part
-/// of it, and one that sending spells so.
+/// So too: a frame that lacks bytes, one after it, and one that nothing ends; a text with a byte after it that is no part
+/// of it, and one that sending encodes so.
 #[test]
 fn unpacks_damage_with_sentinel(rt: HostRuntime) {
     expect(&rt, &DAMAGED_BY_SENTINEL);

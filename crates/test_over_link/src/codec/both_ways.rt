@@ -32,7 +32,7 @@ fn is_flushed(task: &MockTask, end: &mut End) -> bool {
     matches!(flushed, Poll::Ready(Ok(())))
 }
 
-// Flushes one end and polls the other in turn, until so many letters are heard.
+// Flushes one end and polls the other in turn, until so many letters are received.
 fn carry(task: &MockTask, from: &mut End, to: &mut End, heard: &mut Heard, count: usize) -> bool {
     for _ in 0..16 {
         let is_done = is_flushed(task, from);

@@ -58,7 +58,7 @@ pub(crate) struct Heard {
     count: usize,
     /// How many polls waited.
     pub waits: usize,
-    /// How many ends were heard.
+    /// How many ends were received.
     pub ends: usize,
 }
 

@@ -6,7 +6,7 @@ use futures::task::{Context, Poll};
 use std::io;
 use tokio::io::{AsyncRead, AsyncWrite};
 
-/// How many bytes the next piece has, from 1 to the greatest that is asked for; and whether a poll waits before it.
+/// How many bytes the next chunk has, from 1 to the greatest that is asked for; and whether a poll waits before it.
 #[derive(Clone, Copy)]
 pub struct Pieces {
     state: u8,
@@ -25,12 +25,12 @@ pub enum Step {
 }
 
 impl Pieces {
-    /// Pieces of one byte.
+    /// Chunks of one byte.
     pub fn of_one() -> Pieces {
         Pieces::up_to(1, 0)
     }
 
-    /// Pieces of at most so many bytes, whose lengths this number begins.
+    /// Chunks of at most so many bytes, whose lengths this number begins.
     pub fn up_to(most: u8, seed: u8) -> Pieces {
         Pieces {
             state: seed,
@@ -41,7 +41,7 @@ impl Pieces {
         }
     }
 
-    /// As these, with a poll that waits before each piece.
+    /// As these, with a poll that waits before each chunk.
     pub fn waiting(self) -> Pieces {
         Pieces {
             waits: true,
@@ -49,7 +49,7 @@ impl Pieces {
         }
     }
 
-    /// As these, with a fault behind so many calls that went well.
+    /// As these, with a fault after so many calls that went well.
     pub fn failing_behind(self, calls: usize) -> Pieces {
         Pieces {
             before_fault: Some(calls),
@@ -81,7 +81,7 @@ impl Pieces {
     }
 }
 
-/// Gives these bytes in pieces.
+/// Gives these bytes in chunks.
 #[derive(Drop)]
 pub struct Line {
     bytes: &'static [u8],
@@ -119,7 +119,7 @@ impl AsyncRead for Line {
     }
 }
 
-/// Takes bytes in pieces, and keeps the first sixteen.
+/// Takes bytes in chunks, and keeps the first sixteen.
 #[derive(Drop)]
 pub struct Paper {
     bytes: [u8; 16],

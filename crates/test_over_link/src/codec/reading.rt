@@ -1,4 +1,4 @@
-//! Framed readers: every answer, ordinarily and strictly, by any sentinel and limit, in pieces of any length.
+//! Framed readers: every answer, ordinarily and strictly, by any sentinel and limit, in chunks of any length.
 use crate::checks::check;
 use crate::codec::checks::{Heard, letter, next};
 use crate::codec::lines::{Line, Pieces};
@@ -11,7 +11,7 @@ use std::alloc::AllocGlobal;
 use std::random::RandomSource;
 use tokio_util::codec::{Decoder, FramedRead};
 
-// With a limit of four bytes: nothing, a, c with a byte behind it, a front of a text, five bytes, b, and one that is cut.
+// With a limit of four bytes: nothing, a, c with a byte after it, a prefix of a text, five bytes, b, and one that is cut.
 const LINE: [u8; 25] = [
     0, 3, 1, 0x61, 0, 4, 1, 0x63, 7, 0, 2, 1, 0, 5, 9, 2, 3, 4, 0, 3, 1, 0x62, 0, 3, 1,
 ];
@@ -24,7 +24,7 @@ const MARKED: [u8; 25] = [
 
 type Short = LinkDecoder<String, 4>;
 
-// What is heard up to the second end, with a + where a poll that waits leaves bytes in the buffer; nothing where no memory was found
+// What is received up to the second end, with a + where a poll that waits leaves bytes in the buffer; nothing where no memory was found
 // for the reader.
 fn hear<R, D>(rt: &R, line: Line, decoder: D) -> Heard
 where
@@ -51,12 +51,12 @@ where
     heard
 }
 
-/// What is heard with a limit of four bytes.
+/// What is received with a limit of four bytes.
 pub fn hear_short<R: RandomSource + AllocGlobal>(rt: &R, line: Line) -> Heard {
     hear(rt, line, Short::new())
 }
 
-/// What is heard strictly, under a limit that is a value; nothing where no memory was found for the decoder.
+/// What is received strictly, under a limit that is set at run time; nothing where no memory was found for the decoder.
 pub fn hear_strictly<R: RandomSource + AllocGlobal>(
     rt: &R,
     line: Line,
@@ -77,7 +77,7 @@ fn in_pieces(rt: HostRuntime) {
     }
 }
 
-// What is heard where so many reads of one byte go well before one fails: the answers so far, the fault, an end, and the rest. Behind
+// What is received where so many reads of one byte go well before one fails: the answers so far, the fault, an end, and the rest. After
 // the last byte the next read ends the line, and the one after it ends it again.
 fn behind(calls: usize) -> &'static [u8] {
     match calls {
@@ -102,7 +102,7 @@ fn byte_by_byte_and_on_behind_a_fault(rt: HostRuntime) {
     }
 }
 
-// Whether the marked line is answered so, strictly, under a limit that is a value.
+// Whether the marked line is answered so, strictly, under a limit that is set at run time.
 fn is_strictly<R: RandomSource + AllocGlobal>(
     rt: &R,
     limit: usize,
@@ -124,7 +124,7 @@ fn strictly_by_another_sentinel(rt: HostRuntime) {
     check(&rt, is_strictly(&rt, 5, 9, b"a???b-.."));
 }
 
-// What is heard of the line by one poll, under a limit that is a value.
+// What is received of the line by one poll, under a limit that is set at run time.
 fn collect<R: RandomSource + AllocGlobal>(rt: &R, limit: usize) -> Heard {
     let mut heard = Heard::new();
     if let Ok(Some(items)) = answers_at_once::<String, _>(rt, &LINE, limit, 0) {
@@ -170,7 +170,7 @@ fn skips(decoder: &mut Short, line: &mut BytesMut) -> bool {
     ends(decoder, line, b'.')
 }
 
-// Whether what comes behind an end is answered as by a decoder that was given nothing.
+// Whether what comes after an end is answered as by a decoder that was given nothing.
 fn begins_anew(decoder: &mut Short, line: &mut BytesMut) -> bool {
     line.extend_from_slice(&[9, 1]).is_ok()
         && ends(decoder, line, b'-')

@@ -1,4 +1,4 @@
-//! Out of memory: in a run in which a growth is refused, each call says so or gives its whole answer, and what comes behind it
+//! Out of memory: in a run in which an allocation is refused, each call says so or gives its whole answer, and what comes after it
 //! stands.
 //!
 //! Each of these tests also passes where the first growth is refused, or the second, and so on. In the gate none is refused.
@@ -12,7 +12,7 @@ use link_codec::EncodeError;
 use std::alloc::Global;
 use tokio_util::codec::Encoder;
 
-// a, b, and a front of c.
+// a, b, and a prefix of c.
 const LINE: [u8; 11] = [0, 3, 1, 0x61, 0, 3, 1, 0x62, 0, 3, 1];
 
 // All; or one value gone, or a buffer that didn't grow, an end, and the rest; or no reader.

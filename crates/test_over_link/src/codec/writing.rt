@@ -1,4 +1,4 @@
-//! Framed writers: what they write, in pieces of any length, behind a fault, and of values that are refused.
+//! Framed writers: what they write, in chunks of any length, after a fault, and of values that are refused.
 use crate::checks::{are_equal, check};
 use crate::codec::lines::{Paper, Pieces};
 use bytes::BytesMut;

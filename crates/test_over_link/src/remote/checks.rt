@@ -18,7 +18,7 @@ pub fn is_reply(found: Option<u32>, wanted: u32) -> bool {
     }
 }
 
-/// Whether the reader told its end before a reply was heard.
+/// Whether the reader told its end before a reply was received.
 pub fn is_read(end: Option<End>) -> bool {
     matches!(end, Some(End::Ended))
 }

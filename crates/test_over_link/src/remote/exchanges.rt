@@ -85,7 +85,7 @@ fn calling(alloc: Global) -> (bool, Waiting<Line, u32, u32, 16>) {
     (is_right, Waiting { client, said: None })
 }
 
-// Waits for the reply; how the reading ended, where none was heard.
+// Waits for the reply; how the reading ended, where none was received.
 fn wait_by<D: Decoding, M: MessageReader<(u64, u32)>>(
     alloc: Global,
     receiver: &mut Reception<D>,
@@ -96,7 +96,7 @@ fn wait_by<D: Decoding, M: MessageReader<(u64, u32)>>(
     wait_with(alloc, receiver, messages, reader, waiting, &mut [0u8; 64])
 }
 
-// Whether 7 was heard, and no call is pending.
+// Whether 7 was received, and no call is pending.
 fn has_heard(waiting: &mut Waiting<Line, u32, u32, 16>) -> bool {
     is_reply(waiting.said, 7)
         && waiting.client.pending().is_none()
@@ -194,7 +194,7 @@ const PASSED: [u8; 31] = [
     0xFF, 0xFF, 0xFF, 0xFF, 0xFF, 0xFF, 1, 9, 0, 3, 9, 4, 0,
 ];
 
-// Whether a server that goes on behind call 9 knows it, and says of what it passes over which call was the last.
+// Whether a server that goes on after call 9 knows it, and says of what it passes over which call was the last.
 fn says_the_last(server: &mut Server<Line, u64, u64, 16>) -> bool {
     letter(server.answer(&mut Echo, 8, 4u64)) == 'p'
         && letter(server.answer(&mut Echo, 9, 5u64)) == 'o'
@@ -245,7 +245,7 @@ fn the_last_number_is_not_given(rt: HostRuntime) {
     );
 }
 
-// Whether of what is heard only the reply by the number 5 is taken, and once.
+// Whether of what is received only the reply by the number 5 is taken, and once.
 fn takes_the_reply(client: &mut Client<Line, u32, 16>) -> bool {
     client.hear::<u32>(Answer::Damaged).is_none()
         && client.hear(Answer::Value((4, 3u32))).is_none()
@@ -264,7 +264,7 @@ fn only_the_reply_is_taken(rt: HostRuntime) {
     check(&rt, client.hear(Answer::Value((6, 3u32))).is_none());
 }
 
-// Noise before, between and behind, and a request that is cut.
+// Noise before, between and after, and a request that is cut.
 const NOISY: [u8; 27] = [
     9, 9, 0, 3, 5, 7, 0, 1, 1, 1, 1, 1, 1, 1, 1, 1, 1, 0, 2, 2, 0, 3, 6, 1, 0, 3, 7,
 ];
@@ -295,7 +295,7 @@ fn every_way_of_serving(rt: HostRuntime) {
     );
 }
 
-// A reply with a byte behind it.
+// A reply with a byte after it.
 const LONGER: [u8; 6] = [0, 4, 5, 7, 9, 0];
 
 // It is taken ordinarily, and not strictly; how the reading ended is said, and the call is pending then.
@@ -354,7 +354,7 @@ fn waiting_in_a_room(rt: HostRuntime) {
     }
 }
 
-// A reply to call 5 isn't found behind call 6, whose reply doesn't come.
+// A reply to call 5 isn't found after call 6, whose reply doesn't come.
 #[test]
 fn an_old_reply_is_let_go(rt: HostRuntime) {
     let (is_called, mut waiting) = calling(rt.alloc());

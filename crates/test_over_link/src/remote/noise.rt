@@ -126,7 +126,7 @@ impl Sides {
             );
     }
 
-    // Calls by this value, up to eight times: the number inside and the value of the reply, if one was heard.
+    // Calls by this value, up to eight times: the number inside and the value of the reply, if one was received.
     fn call(&mut self, alloc: Global, value: u32) -> Option<(u64, u32)> {
         let number = self.console.hearer.client.next();
         let _ = self.console.hearer.client.call(Keyed((number, value)));
@@ -195,7 +195,7 @@ fn calls_over_noisy_lines(rt: HostRuntime) {
             taken = taken.saturating_add(1);
         }
     }
-    // most are heard in eight tries, and not all
+    // most are received in eight tries, and not all
     check(&rt, taken > 9_000 && taken < CALLS);
     let mut most = 0u8;
     for value in 0..CALLS {

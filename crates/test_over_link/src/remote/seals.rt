@@ -22,7 +22,7 @@ const TWICE: [u8; 19] = [
     0, 8, 5, 6, 7, 0xA3, 0xBB, 0x4A, 0x59, 0, 8, 5, 6, 7, 0xA3, 0xBB, 0x4A, 0x59, 0,
 ];
 
-// A device of a new adder that has heard all of these bytes.
+// A device of a new adder that has received all of these bytes.
 fn heard(alloc: Global, bytes: &[u8]) -> Device {
     let mut device = Checked {
         hearer: Service {
@@ -54,7 +54,7 @@ fn ask(alloc: Global, client: &mut Asker, number: u64) -> (bool, Vec<u8>) {
     (is_sent, client.replace_inner(line(alloc)).into_inner())
 }
 
-// Waits for a reply; how the reading ended, where none was heard.
+// Waits for a reply; how the reading ended, where none was received.
 fn wait_for(alloc: Global, reader: &mut In<'_>, waiting: &mut Console) -> Option<End> {
     let mut receiver = Receiver::<16>::new();
     receiver.listen_until_with::<(u64, Numbered<u32, KEY>), _, _, _>(

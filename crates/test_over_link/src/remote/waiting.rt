@@ -1,6 +1,6 @@
-//! What a client has heard of its call where a reply finds no memory.
+//! What a client has received of its call where a reply finds no memory.
 //!
-//! The test is also run with each growth refused in turn, by `.ci/refusals`: then one answer is missing, and no more. In the gate none
+//! The test is also run with each allocation refused in turn, by `.ci/refusals`: then one answer is missing, and no more. In the gate none
 //! is refused, and none is missing.
 ghost use Rattle.std.specs.Prelude.{◌<◌};
 
@@ -16,7 +16,7 @@ const REPLIES: [u8; 15] = [4, 4, 1, 1, 0, 4, 5, 1, 9, 0, 4, 6, 1, 3, 0];
 
 type Asking = Waiting<Line, u32, Vec<u8>, 16>;
 
-// Waits on behind values that find no memory, until the reply was said or the line has ended: how many found none.
+// Waits on after values that find no memory, until the reply was said or the line has ended: how many found none.
 fn wait_out(alloc: Global, reader: &mut In<'_>, waiting: &mut Asking) -> usize {
     let mut receiver = Receiver::<16>::new();
     let mut room = [0u8; 64];

@@ -50,7 +50,7 @@ fn called(
 }
 
 // Where the sends of a call and of its reply break off and their readings stop, and how often the call is sent again; then whether the
-// reply is heard, and how many calls are executed.
+// reply is received, and how many calls are executed.
 #[derive(Clone, Copy)]
 struct Exchange {
     breaks: [Option<usize>; 2],
@@ -61,7 +61,7 @@ struct Exchange {
 }
 
 impl Exchange {
-    // Whether so many of 7 were executed, and the reply was heard, or none was.
+    // Whether so many of 7 were executed, and the reply was received, or none was.
     fn is(&self, called: &Called<Adder, u32>) -> bool {
         let is_said = match called.said {
             Some(said) => self.is_said && said == 7,
@@ -114,7 +114,7 @@ fn a_reading_that_stops(rt: HostRuntime) {
     }
 }
 
-// A send that breaks off behind so many bytes, that of the call or that of the reply: alone the call isn't replied, since a last zero
+// A send that breaks off after so many bytes, that of the call or that of the reply: alone the call isn't replied, since a last zero
 // never goes out; sent again it is, and executed once.
 fn broken_behind(before: usize) -> [Exchange; 4] {
     let call = Exchange {

@@ -3,6 +3,7 @@
 //! A request is a `u16` and a `u32`, a reply a `bool` and a `u64`.
 ghost use Rattle.std.specs.Prelude.{◌≡◌, ⊤, None};
 
+use crate::answers::Counted;
 use calls::{Application, Client, Server, Service, Waiting, serve_with, wait_with};
 use line_io::memory::{In, Out};
 use link::{OfType, Ordinary, Receiver, Sender};
@@ -17,15 +18,6 @@ const FRAME: usize = 32;
 
 /// How many bytes one write or read moves at most.
 const EACH: usize = 1024;
-
-/// What came of calls: how many were executed or replied to, a sum over what was said, and how many bytes were written.
-#[repr(C)]
-#[derive(Clone, Copy)]
-pub struct Counted {
-    pub calls: u64,
-    pub sum: u64,
-    pub written: usize,
-}
 
 /// What is called: it says whether the first is even, and 2^20 times the second.
 #[derive(Drop)]
@@ -57,7 +49,7 @@ impl Application<Request, Reply> for Scale {
     }
 }
 
-/// Serves the requests of a line, and writes the replies to the front of the room.
+/// Serves the requests of a line, and writes the replies to the front of the buffer. Counts the calls that were executed.
 #[unsafe(no_mangle)]
 pub extern "C" fn calls_c_serve(
     alloc: Global,
@@ -91,8 +83,8 @@ pub extern "C" fn calls_c_serve(
     };
 }
 
-/// Makes so many calls, of numbers from `first` on, writes the requests to the front of the room, and waits for each reply, of which
-/// each read gives `each` bytes. Nothing is done where `each` is 0.
+/// Makes so many calls, with numbers from `first` on, writes the requests to the front of the buffer, and waits for each reply, of which
+/// each read gives `each` bytes. Counts the replies. Nothing is done if `each` is 0.
 #[unsafe(no_mangle)]
 pub extern "C" fn calls_c_call(
     alloc: Global,

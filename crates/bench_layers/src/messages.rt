@@ -1,30 +1,17 @@
 //! The calls of `postcard` for one record as C functions.
 //!
-//! The record is a `u32`, a `u64`, a text, perhaps a `u16`, and a list of `u16`.
+//! The record, of which most calls are, is a `u32`, a `u64`, a text, perhaps a `u16`, and a list of `u16`.
 ghost use Rattle.std.specs.Prelude.{◌≤◌, length};
 
-use crate::answers::{Answer, Found};
+use crate::answers::{Answer, Found, NONE_FOUND, Parts, REFUSED};
 use postcard::accumulator::{CobsAccumulator, FeedResult};
 use std::alloc::Global;
 
-/// The record as it is read from a frame.
-type Owned = (u32, u64, String, Option<u16>, Vec<u16>);
-
-/// What a record holds, its text and its list by their lengths and the list's sum.
-#[repr(C)]
-#[derive(Clone, Copy)]
-pub struct Parts {
-    pub number: u32,
-    pub big: u64,
-    pub text_len: usize,
-    pub has: bool,
-    pub perhaps: u16,
-    pub list_len: usize,
-    pub sum: u64,
-}
+/// The record as it is read from a stream.
+pub(crate) type Owned = (u32, u64, String, Option<u16>, Vec<u16>);
 
 /// The sum of a list.
-fn total(list: &[u16]) -> u64 {
+pub(crate) fn total(list: &[u16]) -> u64 {
     let mut sum = 0u64;
     for item in list {
         sum = sum.wrapping_add(u64::from(*item));
@@ -32,7 +19,7 @@ fn total(list: &[u16]) -> u64 {
     sum
 }
 
-/// Writes the record by `postcard::to_slice`. It isn't done where the text isn't UTF-8, nor where there is no room.
+/// Writes the record by `postcard::to_slice`. It isn't done if the text isn't UTF-8 or the record doesn't fit.
 #[unsafe(no_mangle)]
 pub extern "C" fn postcard_c_write(
     number: u32,
@@ -45,12 +32,8 @@ pub extern "C" fn postcard_c_write(
 ) -> Answer
     ensures within { result.count ≤ length room.old }
 {
-    let refused = Answer {
-        done: false,
-        count: 0,
-    };
     let Ok(text) = std::str::from_utf8(text) else {
-        return refused;
+        return REFUSED;
     };
     let record = (
         number,
@@ -64,11 +47,11 @@ pub extern "C" fn postcard_c_write(
             done: true,
             count: front.len(),
         },
-        Err(_) => refused,
+        Err(_) => REFUSED,
     }
 }
 
-/// Reads the record by `postcard::from_bytes`, and lets it go again. Answers whether there is one.
+/// Reads the record by `postcard::from_bytes`, and drops it again. Returns whether there is one.
 #[unsafe(no_mangle)]
 pub extern "C" fn postcard_c_read(alloc: Global, source: &[u8], parts: &mut Parts) -> bool {
     match postcard::from_bytes::<(u32, u64, &str, Option<u16>, Vec<u16>)>(alloc, source) {
@@ -89,7 +72,7 @@ pub extern "C" fn postcard_c_read(alloc: Global, source: &[u8], parts: &mut Part
 }
 
 /// Counts a record: its number, its text's length and the sum of its list.
-fn count_record(record: Owned, found: &mut Found) {
+pub(crate) fn count_record(record: Owned, found: &mut Found) {
     let (number, _, text, _, list) = record;
     found.values = found.values.wrapping_add(1);
     found.sum = found.sum.wrapping_add(u64::from(number));
@@ -97,7 +80,7 @@ fn count_record(record: Owned, found: &mut Found) {
     found.sum = found.sum.wrapping_add(total(&list));
 }
 
-/// Feeds a piece, then what is left of it after each answer.
+/// Feeds a chunk, then what is left of it after each result.
 fn feed_piece(
     alloc: Global,
     accumulator: &mut CobsAccumulator<512>,
@@ -123,16 +106,12 @@ fn feed_piece(
     }
 }
 
-/// Hands a stream in pieces of `piece` bytes to a `CobsAccumulator<512>`, and counts what it answers, its sum being over
-/// the records. Nothing is found where `piece` is 0.
+/// Feeds a stream in chunks of `piece` bytes to a `CobsAccumulator<512>`, and counts the results; the sum is over the records. Nothing is
+/// found if `piece` is 0.
 #[unsafe(no_mangle)]
 pub extern "C" fn postcard_c_stream(alloc: Global, stream: &[u8], piece: usize, found: &mut Found) {
     let mut accumulator: CobsAccumulator<512> = CobsAccumulator::new();
-    let mut counts = Found {
-        values: 0,
-        refused: 0,
-        sum: 0,
-    };
+    let mut counts = NONE_FOUND;
     if piece > 0 {
         for bytes in stream.chunks(piece) {
             feed_piece(alloc, &mut accumulator, bytes, &mut counts);

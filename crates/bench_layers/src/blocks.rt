@@ -1,6 +1,4 @@
-//! The calls of `cobs` as C functions, for the benchmark in `bench/`.
-#![tactic(auto)]
-
+//! The calls of `cobs` as C functions.
 ghost use Rattle.std.specs.Prelude.{◌≡◌, ◌<◌, ◌≤◌, length, take, drop, true, false, MatchResult};
 ghost use Rattle.cobs.specs.Frames.{shortest_frame, part};
 ghost use Rattle.cobs.specs.InPlace.{stretch, in_place, in_place_length, overwritten};
@@ -8,16 +6,9 @@ ghost use Rattle.cobs.specs.Reports.{frame_size};
 ghost use Rattle.cobs.specs.Sentinel.{masked, frame_for};
 ghost use Rattle.cobs.specs.Whole.{frame_in, decoded_from, decoded_into};
 
+use crate::answers::{Answer, Found, NONE_FOUND};
 use cobs::{CobsDecoder, CobsEncoder, DecodeResult, DecoderState, EncoderState, PushResult};
 use std::alloc::Global;
-
-/// What a call answers: whether it was done, and how many bytes it gave; 0 where it wasn't.
-#[repr(C)]
-#[derive(Clone, Copy)]
-pub struct Answer {
-    pub done: bool,
-    pub count: usize,
-}
 
 /// As `cobs::try_encode`.
 #[unsafe(no_mangle)]
@@ -36,7 +27,7 @@ pub extern "C" fn cobs_c_try_encode(source: &[u8], dest: &mut [u8]) -> Answer
     }
 }
 
-/// A message in one push of a `cobs::CobsEncoder`, and its end. The caller owes that `dest` isn't empty.
+/// A message in one push of a `cobs::CobsEncoder`, and its end. Requires that `dest` isn't empty.
 #[unsafe(no_mangle)]
 pub extern "C" fn cobs_c_push(source: &[u8], dest: &mut [u8]) -> Answer
     requires { 0 < length dest.old }
@@ -94,7 +85,7 @@ pub extern "C" fn cobs_c_decode_in_place(buf: &mut [u8]) -> Answer
     }
 }
 
-/// A message in one push of a `cobs::CobsEncoder` for a sentinel, and its end. The caller owes that `dest` isn't empty.
+/// A message in one push of a `cobs::CobsEncoder` for a sentinel, and its end. Requires that `dest` isn't empty.
 #[unsafe(no_mangle)]
 pub extern "C" fn cobs_c_push_with_sentinel(source: &[u8], dest: &mut [u8], sentinel: u8) -> Answer
     requires { 0 < length dest.old }
@@ -183,16 +174,7 @@ pub extern "C" fn cobs_c_before_sentinel(bytes: &[u8], sentinel: u8) -> usize
     cobs::before_sentinel(bytes, sentinel)
 }
 
-/// What was found in a stream: how many messages, how many refusals, and how many bytes the messages have.
-#[repr(C)]
-#[derive(Clone, Copy)]
-pub struct Found {
-    pub values: u64,
-    pub refused: u64,
-    pub sum: u64,
-}
-
-/// Pushes a piece, then the rest of it behind each message, which takes a byte at least.
+/// Pushes a chunk, then the rest of it after each message, which takes at least a byte.
 fn push_piece(decoder: &mut CobsDecoder<'_>, piece: &[u8], found: &mut Found) {
     let mut rest = piece;
     while !rest.is_empty() {
@@ -211,17 +193,13 @@ fn push_piece(decoder: &mut CobsDecoder<'_>, piece: &[u8], found: &mut Found) {
     }
 }
 
-/// Hands a stream in pieces of `piece` bytes to a `cobs::CobsDecoder` over 512 bytes, and counts what it answers. Nothing is
-/// found where `piece` is 0.
+/// Pushes a stream in chunks of `piece` bytes to a `cobs::CobsDecoder` over 512 bytes, and counts the results; the sum is that of the
+/// messages' bytes. Nothing is found if `piece` is 0.
 #[unsafe(no_mangle)]
 pub extern "C" fn cobs_c_stream(stream: &[u8], piece: usize, found: &mut Found) {
     let mut buffer = [0u8; 512];
     let mut decoder = CobsDecoder::new(&mut buffer);
-    let mut counts = Found {
-        values: 0,
-        refused: 0,
-        sum: 0,
-    };
+    let mut counts = NONE_FOUND;
     if piece > 0 {
         for bytes in stream.chunks(piece) {
             push_piece(&mut decoder, bytes, &mut counts);
@@ -235,11 +213,7 @@ pub extern "C" fn cobs_c_stream(stream: &[u8], piece: usize, found: &mut Found) 
 pub extern "C" fn cobs_c_feed(stream: &[u8], found: &mut Found) {
     let mut buffer = [0u8; 512];
     let mut decoder = CobsDecoder::new(&mut buffer);
-    let mut counts = Found {
-        values: 0,
-        refused: 0,
-        sum: 0,
-    };
+    let mut counts = NONE_FOUND;
     for byte in stream {
         match decoder.feed(*byte) {
             Ok(None) => {}
@@ -253,7 +227,7 @@ pub extern "C" fn cobs_c_feed(stream: &[u8], found: &mut Found) {
     *found = counts;
 }
 
-/// As `cobs::encode_with_sentinel`. The caller owes room for the frame.
+/// As `cobs::encode_with_sentinel`. Requires space for the frame.
 #[unsafe(no_mangle)]
 pub extern "C" fn cobs_c_encode_with_sentinel(source: &[u8], dest: &mut [u8], sentinel: u8) -> usize
     requires { length (shortest_frame source.now) ≤ length dest.old }
@@ -263,8 +237,7 @@ pub extern "C" fn cobs_c_encode_with_sentinel(source: &[u8], dest: &mut [u8], se
     cobs::encode_with_sentinel(source, dest, sentinel)
 }
 
-/// As `cobs::encode_vec`, with the length of the frame alone. It isn't done where there is no
-/// memory.
+/// As `cobs::encode_vec`, with the length of the frame alone. It isn't done if out of memory.
 #[unsafe(no_mangle)]
 pub extern "C" fn cobs_c_encode_vec(alloc: Global, source: &[u8]) -> Answer
     ensures { result.done ≡ true → result.count ≡ length (shortest_frame source.now) }
@@ -296,8 +269,7 @@ pub extern "C" fn cobs_c_decode_vec(alloc: Global, source: &[u8]) -> Answer {
     }
 }
 
-/// Puts a byte behind what is written, and answers how much is written then. What has no room is
-/// left out.
+/// Appends a byte to what is written, and returns how much is written then. What doesn't fit is left out.
 #[inline(always)]
 fn put(dest: &mut [u8], len: usize, byte: u8) -> usize {
     if dest.len() <= len {
@@ -307,7 +279,7 @@ fn put(dest: &mut [u8], len: usize, byte: u8) -> usize {
     len + 1
 }
 
-/// Puts a code in the place of a placeholder.
+/// Writes a code over a placeholder.
 #[inline(always)]
 fn put_code(dest: &mut [u8], at: usize, code: u8)
     ensures room { length dest.new ≡ length dest.old }
@@ -317,8 +289,8 @@ fn put_code(dest: &mut [u8], at: usize, code: u8)
     }
 }
 
-/// A message byte by byte by a `cobs::EncoderState`, whose frame is written to the front of `dest`,
-/// as far as that has room. Answers how many bytes that is.
+/// A message byte by byte by a `cobs::EncoderState`, whose frame is written to the front of `dest`, as far as it fits. Returns how many
+/// bytes that is.
 #[unsafe(no_mangle)]
 pub extern "C" fn cobs_c_state_push(source: &[u8], dest: &mut [u8]) -> usize {
     let mut len = put(dest, 0, 0);
@@ -345,16 +317,11 @@ pub extern "C" fn cobs_c_state_push(source: &[u8], dest: &mut [u8]) -> usize {
     len
 }
 
-/// Hands each byte of a stream to a `cobs::DecoderState`, and counts the messages, the refusals,
-/// and the bytes of the messages.
+/// Feeds each byte of a stream to a `cobs::DecoderState`, and counts the messages, the errors, and the bytes of the messages.
 #[unsafe(no_mangle)]
 pub extern "C" fn cobs_c_state_feed(stream: &[u8], found: &mut Found) {
     let mut state = DecoderState::Idle;
-    let mut counts = Found {
-        values: 0,
-        refused: 0,
-        sum: 0,
-    };
+    let mut counts = NONE_FOUND;
     for byte in stream {
         match state.feed(*byte) {
             Ok(DecodeResult::DataComplete) => counts.values = counts.values.wrapping_add(1),
