@@ -45,6 +45,20 @@ fn ends_at_a_fault(rt: HostRuntime) {
     check(&rt, got.answers.is_empty() && got.end == End::ReadFault);
 }
 
+// Whether a list is of one thing, and has few places.
+fn is_one_of_few<T>(list: &Vec<T>) -> bool {
+    list.len() == 1 && list.capacity() <= 64
+}
+
+/// A list asks for some places, not for many.
+#[test]
+fn one_answer_takes_few_places(rt: HostRuntime) {
+    let received = receive::<bool, _, 8>(rt.alloc(), In::new(&[2, 1, 0], 3, None));
+    check(&rt, is_one_of_few(&received.answers));
+    let gathered = receive_by_accumulator::<bool, _, 8>(rt.alloc(), In::new(&[2, 1, 0], 3, None));
+    check(&rt, is_one_of_few(&gathered.values));
+}
+
 /// Whether the next stretch is answered so, with so many bytes after it.
 fn reads(alloc: Global, bytes: &mut [u8], wanted: Answer<bool>, behind: usize) -> bool {
     match read_in_place::<bool>(alloc, bytes) {

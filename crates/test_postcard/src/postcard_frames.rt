@@ -1,7 +1,9 @@
 //! `postcard`, frames: a long value, an exact buffer, and an accumulator by itself.
 use crate::checks::{are_equal, check, check_all, check_at, fails, gives, is_array};
 use postcard::accumulator::{CobsAccumulator, FeedResult};
-use postcard::{Error, from_bytes_cobs, to_allocvec_cobs, to_stdvec_cobs, to_vec_cobs};
+use postcard::{
+    Error, Result, from_bytes_cobs, to_allocvec, to_allocvec_cobs, to_stdvec_cobs, to_vec_cobs,
+};
 use std::alloc::Global;
 
 // A number, many of them, and the largest.
@@ -28,6 +30,25 @@ fn long_values_and_exact_room(rt: HostRuntime) {
             matches!(&to_allocvec_cobs(rt.alloc(), &LONG), Ok(frame) if frame.len() == 145),
             is_array(to_vec_cobs::<_, 12>(&TEN), &FRAME_OF_TEN),
             fails(to_vec_cobs::<_, 11>(&TEN), Error::SerializeBufferFull),
+        ],
+    );
+}
+
+// Whether a vector holds so many bytes and has no place beyond them.
+fn is_exact(written: Result<Vec<u8>>, len: usize) -> bool {
+    match written {
+        Ok(vec) => vec.len() == len && vec.capacity() == len,
+        Err(_) => false,
+    }
+}
+
+#[test]
+fn short_vectors_have_no_place_to_spare(rt: HostRuntime) {
+    check_all(
+        &rt,
+        [
+            is_exact(to_allocvec(rt.alloc(), &300u32), 2),
+            is_exact(to_allocvec_cobs(rt.alloc(), &300u32), 4),
         ],
     );
 }

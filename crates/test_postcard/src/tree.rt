@@ -1,7 +1,7 @@
 //! `postcard_tree`: published numbers, and the limits of each width.
 use crate::checks::{all_true, are_equal, begin_with, check, check_all};
 use arrayvec::{ArrayString, ArrayVec};
-use postcard_tree::Grows;
+use postcard::Deserialize;
 use postcard_tree::fixint::{BE, FixInt, LE};
 use postcard_tree::varint::{
     VarintInt, max_of_last_byte, varint_max, varint_u16, varint_u32, varint_u64, varint_u128,
@@ -115,7 +115,7 @@ fn fixed_numbers_have_their_sizes(rt: HostRuntime) {
     );
 }
 
-fn grows<T: Grows>() -> bool {
+fn grows<'de, T: Deserialize<&'de [u8]>>() -> bool {
     T::grows()
 }
 
