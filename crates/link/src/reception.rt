@@ -1,10 +1,10 @@
 //! Receiving values from a stream that comes in chunks.
-ghost use Rattle.std.specs.Prelude.{◌≡◌, ℕ, ◌<◌, ◌≤◌, ◌↔◌, length, List, [], take, true, OnErr, IsTrue, IfSome, MatchOption};
+ghost use Rattle.std.specs.Prelude.{◌≡◌, ℕ, ◌<◌, ◌≤◌, ◌↔◌, length, List, [], take, drop, true, OnErr, IsTrue, IfSome, MatchOption};
 ghost use Rattle.postcard.specs.Frames.{Holds};
 ghost use Rattle.cobs.specs.Frames.{NoZero};
 ghost use Rattle.cobs.specs.Sentinel.{masked};
 ghost use Rattle.link.specs.Stream.{Begun, kept, begun, HoldsExactly};
-ghost use Rattle.link.specs.Steps.{Event, event_at, begun_at, Course, course_of, RunsOn, RunsPast};
+ghost use Rattle.link.specs.Steps.{Event, event_at, begun_at, Course, course_of, ahead, RunsOn, RunsPast};
 ghost use Rattle.link.specs.Pushes.{begun_length, finished};
 ghost use Rattle.link.specs.Finds.{Finds, IsWithin, IsTaken, Brings, Replies, front_of, lent_message};
 
@@ -59,6 +59,19 @@ pub struct Reception<D> {
     pub(crate) count: usize,
     pub(crate) past: bool,
     pub(crate) sentinel: u8,
+}
+
+// How many sentinels come before the first other byte. An idle line sends nothing else, and may send it for hours.
+fn idle_bytes(bytes: &[u8], sentinel: u8) -> usize
+    ensures idle { (limit : ℕ) → course_of limit sentinel (kept []) bytes.now
+        ≡ ahead result (course_of limit sentinel (kept []) (drop result bytes.now)) }
+    ensures within { result ≤ length bytes.now }
+{
+    let mut count = 0;
+    while count < bytes.len() && bytes[count] == sentinel {
+        count += 1;
+    }
+    count
 }
 
 // The result of what was found.
@@ -200,9 +213,21 @@ impl<D: Decoding> Reception<D> {
         ensures forward { 0 < length bytes.now → 0 < result.used }
         ensures same { SameTerms D.inside self.old self.new }
     {
-        let size = before_sentinel(bytes, self.decoder.sentinel());
+        let sentinel = self.decoder.sentinel();
+        let between = self.is_between();
+        if between {
+            let idle = idle_bytes(bytes, sentinel);
+            if 0 < idle {
+                return Taken {
+                    used: idle,
+                    stretch: 0,
+                    found: Found::Nothing,
+                };
+            }
+        }
+        let size = before_sentinel(bytes, sentinel);
         let (run, behind) = bytes.split_at(size);
-        if self.is_between() && !behind.is_empty() && 0 < size && size <= self.limit() {
+        if between && !behind.is_empty() && 0 < size && size <= self.limit() {
             return Taken {
                 used: size + 1,
                 stretch: size,

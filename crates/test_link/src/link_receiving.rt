@@ -22,6 +22,29 @@ fn too_long_by_one(rt: HostRuntime) {
     check(&rt, receiver.finish::<()>().is_none());
 }
 
+/// A line that was idle: a hundred sentinels, a value, one more and a value, and a frame that the end cuts.
+#[test]
+fn skips_idle_bytes(rt: HostRuntime) {
+    for sentinel in [0, 0x55] {
+        let mut bytes = [sentinel; 110];
+        for (at, byte) in [(100, 2), (101, 1), (104, 1), (105, 1), (107, 2)] {
+            bytes[at] = byte ^ sentinel;
+        }
+        let mut receiver = Receiver::<4>::new_with_sentinel(sentinel);
+        let first = receiver.push::<bool>(rt.alloc(), &bytes);
+        check(&rt, first.used == 103 && first.stretch == 2);
+        check(&rt, is_answer(&first.answer, &Answer::Value(true)));
+        let second = receiver.push::<bool>(rt.alloc(), &bytes[103..]);
+        check(&rt, second.used == 4 && second.stretch == 2);
+        check(&rt, is_answer(&second.answer, &Answer::Value(false)));
+        let last = receiver.push::<bool>(rt.alloc(), &bytes[107..108]);
+        check(
+            &rt,
+            matches!(&last.answer, Ok(None)) && !receiver.is_between(),
+        );
+    }
+}
+
 #[test]
 fn lends(rt: HostRuntime) {
     let mut receiver = Receiver::<8>::new();
