@@ -14,7 +14,7 @@ use std::collections::BTreeMap;
 ///
 /// # Example
 /// ```rust
-/// fn grows<T: Grows>() -> bool {
+/// fn grows<'de, T: Deserialize<&'de [u8]>>() -> bool {
 ///     T::grows()
 /// }
 /// ```
