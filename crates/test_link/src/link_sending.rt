@@ -2,7 +2,7 @@
 //! What plain sends bring on a line are lines of `replay_link`.
 use crate::checks::{are_bytes, are_fates, check, fails_by, holds, is_too_long};
 use line_io::memory::Out;
-use link::{Fate, Framed, Sender, send_each};
+use link::{Fate, Framed, Sender, frame_into, send_each};
 use postcard::{Error, serialize_with_flavor};
 
 #[test]
@@ -25,6 +25,17 @@ fn refuses_what_is_too_long(rt: HostRuntime) {
     let count = sender.into_inner().moved();
     check(&rt, is_too_long(sent) && count == 0);
     check(&rt, !was_clean && !is_clean);
+}
+
+// No byte behind a frame is changed.
+#[test]
+fn what_is_behind_a_frame_stays(rt: HostRuntime) {
+    let mut room = [9u8; 8];
+    let is_framed = matches!(frame_into(&300u32, &mut room), Ok(3));
+    check(
+        &rt,
+        is_framed && are_bytes(&room, &[3, 0xAC, 2, 9, 9, 9, 9, 9]),
+    );
 }
 
 // The message of 252 ones.

@@ -1,5 +1,6 @@
 //! `cobs`, encoding: maximum lengths, chunks, errors, and any sentinel.
 use crate::checks::{are_equal, begin_with, check, check_all};
+use arrayvec::ArrayVec;
 use cobs::*;
 
 // 10, 11, 0, 12
@@ -41,6 +42,60 @@ fn what_is_behind_a_frame_stays(rt: HostRuntime) {
             are_equal(&masked, &[0xFD, 0xFE]),
         ],
     );
+}
+
+// A message of so many bytes, of which each one at a multiple of a number is zero.
+fn message(len: usize, every: usize) -> ArrayVec<u8, 300> {
+    let mut bytes = ArrayVec::new();
+    let mut to_zero: usize = 0;
+    for _ in 0..len {
+        if to_zero == 0 {
+            to_zero = every;
+        }
+        to_zero = to_zero.saturating_sub(1);
+        if bytes.try_push(if to_zero == 0 { 0 } else { 7 }).is_err() {
+            break;
+        }
+    }
+    bytes
+}
+
+// Whether bytes go on unchanged behind a frame of so many.
+fn stays(room: &[u8], len: usize) -> bool {
+    let Some(rest) = room.get(len..) else {
+        return false;
+    };
+    for byte in rest {
+        if *byte != 9 {
+            return false;
+        }
+    }
+    !rest.is_empty()
+}
+
+// Whether a frame leaves what is behind it, made at once and by an encoder.
+fn leaves(message: &[u8], sentinel: u8) -> bool {
+    let mut dest = [9u8; 310];
+    let at_once = match try_encode(message, &mut dest) {
+        Ok(len) => stays(&dest, len),
+        Err(_) => false,
+    };
+    let mut room = [9u8; 310];
+    let mut encoder = CobsEncoder::new_with_sentinel(&mut room, sentinel);
+    let is_taken = encoder.push(message).is_ok();
+    let len = encoder.finalize();
+    at_once && is_taken && stays(&room, len)
+}
+
+// Nor is one changed behind frames of up to 300 bytes, which are copied by up to 64 bytes at once.
+#[test]
+fn what_is_behind_a_long_frame_stays(rt: HostRuntime) {
+    for every in [1usize, 3, 60, 301] {
+        for len in 0..300usize {
+            let message = message(len, every);
+            check(&rt, leaves(&message, 0) && leaves(&message, 10));
+        }
+    }
 }
 
 #[test]

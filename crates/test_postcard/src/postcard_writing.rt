@@ -37,6 +37,22 @@ fn fixed_numbers(rt: HostRuntime) {
     );
 }
 
+// No byte behind a value, or behind its frame and the zero, is changed.
+#[test]
+fn what_is_behind_a_value_stays(rt: HostRuntime) {
+    let mut room = [9u8; 8];
+    let mut framed = [9u8; 8];
+    check_all(
+        &rt,
+        [
+            to_slice(&(300u32, "a"), &mut room).is_ok(),
+            are_equal(&room, &[0xAC, 0x02, 1, 97, 9, 9, 9, 9]),
+            to_slice_cobs(&300u32, &mut framed).is_ok(),
+            are_equal(&framed, &[3, 0xAC, 0x02, 0, 9, 9, 9, 9]),
+        ],
+    );
+}
+
 #[test]
 fn vectors(rt: HostRuntime) {
     let is_extended = match to_extend(&true, Vec::new(rt.alloc())) {
