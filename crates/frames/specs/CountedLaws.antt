@@ -1,10 +1,10 @@
--- What a counted message stands for.
+-- What a counted message is as a tree.
 use Rattle.std.specs.Prelude.{◌≡◌, ◌<◌, ◌^◌, ◌↔◌, ℕ, List, length}
 use Rattle.postcard_tree.specs.Tree.{text_of}
 use Rattle.postcard_tree.specs.Reading.{ReadsBytes}
 use Rattle.frames.specs.Events.{TakesCounted}
 
--- A message that can be counted is taken, and read as itself alone.
+-- The tree of each message shorter than 2^64 bytes is taken, and is read as that message only.
 abbrev pub IsCountedOnce : Type 0
 IsCountedOnce = (message : List ℕ) → length message < 2 ^ 64
     → TakesCounted (text_of message)

@@ -1,24 +1,24 @@
--- What is heard of plain messages that broke off.
+-- What is received of plain sends that were interrupted.
 use Rattle.std.specs.Prelude.{◌≡◌, ◌≢◌, ◌≤◌, ◌⊎◌, ◌↔◌, ℕ, List, [], ◌∷◌, ◌++◌, length}
 use Rattle.cobs.specs.Frames.{shortest_frame}
 use Rattle.cobs.specs.Sentinel.{masked}
 use Rattle.link.specs.Stream.{Verdict, value, damaged, too_long, IsAnswer, Answers}
 use Rattle.frames.specs.Events.{HoldsPlain, plain_tree}
 
--- It is heard that it is damaged, or a message that is a proper front of this one.
+-- The answer is damaged, or a message that is a proper prefix of this one.
 abbrev pub IsDamagedOrFront : List ℕ → Verdict → Type 0
 IsDamagedOrFront message answer = (answer ≡ damaged) ⊎ ((begun later : List ℕ)
     × (message ≡ begun ++ later) × (later ≢ []) × (answer ≡ value (plain_tree begun)))
 
--- Of the first bytes of a message's frame, where they are a stretch within the limit, it is heard that it is damaged, or a message
--- that is a proper front of the one sent.
+-- If a proper prefix of a message's frame is a stretch within the limit, its answer is damaged, or a message that is a proper prefix of
+-- the one sent.
 abbrev pub IsHeardOfFront : Type 0
 IsHeardOfFront = (message front rest : List ℕ) (limit : ℕ) (answer : Verdict)
     → shortest_frame message ≡ front ++ rest → rest ≢ [] → length front ≤ limit
     → IsAnswer HoldsPlain limit front answer → IsDamagedOrFront message answer
 
--- Of a send on the line that broke off inside its frame, behind which the next one begins with its sentinel, nothing is heard where no
--- byte of the frame went out, and else one answer: that, or that it is too long. What is behind it is heard as it is by itself.
+-- A send was interrupted inside its frame, and the next one begins with its sentinel. If no byte of the frame was sent, it has no
+-- answer; otherwise one: as above, or too long. The answers to what follows are those to it alone.
 abbrev pub IsHeardOfBroken : Type 0
 IsHeardOfBroken = (s limit : ℕ) (message front rest later : List ℕ) (answers : List Verdict)
     → shortest_frame message ≡ front ++ rest → rest ≢ []
@@ -28,7 +28,7 @@ IsHeardOfBroken = (s limit : ℕ) (message front rest later : List ℕ) (answers
     × Answers HoldsPlain limit s later others
     × ((answer ≡ too_long) ⊎ IsDamagedOrFront message answer))
 
--- Of the whole frame, within the limit, the message is heard.
+-- The answer to the whole frame, within the limit, is the message.
 abbrev pub IsHeardWhole : Type 0
 IsHeardWhole = (message : List ℕ) (limit : ℕ) (answer : Verdict)
     → length (shortest_frame message) ≤ limit

@@ -1,4 +1,4 @@
--- The sum behind a message of bytes.
+-- The sum after a message of bytes.
 use Rattle.std.specs.Prelude.{ℕ, List}
 use Rattle.postcard_tree.specs.Fixed.{little_endian}
 use Rattle.sealed.specs.Checksum.{sum_of_bytes}

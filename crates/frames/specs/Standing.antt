@@ -1,37 +1,45 @@
--- Where a receiver of frames stands, by what it and its caller's buffer hold.
+-- Which stream a receiver has received, by what it and its caller's buffer hold.
 use Rattle.std.specs.Prelude.{◌≡◌, ◌≢◌, ℕ, ◌≤◌, Bool, true, false, List, ◌∷◌, length, take}
 use Rattle.cobs.specs.Frames.{NoZero}
 use Rattle.cobs.specs.Sentinel.{masked}
 use Rattle.link.specs.Stream.{Begun, kept, over, begun}
 use Rattle.frames.specs.declared.receiving.FrameReceiver.{FrameReceiver}
 
--- the limit is how long the buffer is, and the sentinel the receiver's
+-- The limit and the sentinel are those of the buffer and the receiver.
 pub record HasBuffer (limit s : ℕ) (r : FrameReceiver) (buffer : List ℕ) : Type 0 where
+  -- the limit is the buffer's length
   pub room : length buffer ≡ limit
+  -- the sentinel is the receiver's
   pub sentinel : r.sentinel ≡ s
 
--- These bytes of a stretch, as they are without the sentinel, stand in front of the buffer, each XORed with it.
+-- The begun stretch has these bytes (without the sentinel's XOR), which are in front of the buffer.
 pub record KeepsFront (s : ℕ) (r : FrameReceiver) (buffer p : List ℕ) : Type 0 where
+  -- in the buffer each byte is XORed with the sentinel
   pub stands : masked s (take r.count buffer) ≡ p
+  -- the receiver has counted them
   pub counted : r.count ≡ length p
+  -- they fit
   pub within : r.count ≤ length buffer
+  -- none of them is the sentinel
   pub nonzero : NoZero p
 
--- what of a stretch is begun, by what a receiver and its buffer hold
+-- what has begun of a stretch, by what a receiver and its buffer hold: these bytes, or too many
 abbrev pub IsBegunOver : ℕ → FrameReceiver → List ℕ → Begun → Type 0
 IsBegunOver s r buffer (kept p) = (r.past ≡ 0) × KeepsFront s r buffer p
 IsBegunOver s r buffer over = (r.past ≢ 0) × (r.count ≡ 0)
 
--- a receiver over a buffer, which is its limit, and of this sentinel has begun this
+-- A receiver of this sentinel, over a buffer of this limit, has begun this.
 pub record StandsAt (limit s : ℕ) (r : FrameReceiver) (buffer : List ℕ) (b : Begun) : Type 0 where
+  -- limit and sentinel
   pub terms : HasBuffer limit s r buffer
+  -- what has begun
   pub begun : IsBegunOver s r buffer b
 
--- it stands behind this stream
+-- it has received this stream
 abbrev pub StandsBehind : ℕ → ℕ → FrameReceiver → List ℕ → List ℕ → Type 0
 StandsBehind limit s r buffer stream = StandsAt limit s r buffer (begun limit s stream)
 
--- whether a stretch is begun that wasn't answered
+-- whether a stretch has begun without an answer
 abbrev pub is_cut : Begun → Bool
 is_cut (kept (b ∷ p)) = true
 is_cut _ = false

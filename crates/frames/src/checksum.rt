@@ -1,4 +1,4 @@
-//! Messages with a checksum behind them.
+//! Messages followed by a checksum.
 ghost use Rattle.std.specs.Prelude.{◌≡◌, ◌<◌, ◌≤◌, ◌+◌, ◌++◌, ℕ, List, length, take, drop, OnOk, OnErr, IfOk, IfSome, IsNone};
 ghost use Rattle.frames.specs.Seals.{seal_bytes};
 
@@ -17,8 +17,11 @@ fn seal_of(message: &[u8]) -> [u8; 4]
     ]
 }
 
-/// Puts the CRC-32 of the first `size` bytes of a buffer behind them, as four bytes, the lowest first, and answers how many bytes
-/// are to be sent then, `size + 4`. Where they have no room it is refused, and the buffer stays as it is.
+/// Appends the CRC-32 of the first `size` bytes of a buffer to them, as four bytes, the lowest first, and returns how many bytes are
+/// to be sent: `size + 4`.
+///
+/// # Errors
+/// `DestBufTooSmallError` if they don't fit; the buffer is unchanged.
 pub fn seal(buffer: &mut [u8], size: usize) -> Result<usize, DestBufTooSmallError>
     ensures length { IfOk result (λ n. n ≡ size + 4) }
     ensures sealed { OnOk result (take (size + 4) buffer.new
@@ -38,7 +41,7 @@ pub fn seal(buffer: &mut [u8], size: usize) -> Result<usize, DestBufTooSmallErro
     Ok(size + 4)
 }
 
-/// How many bytes of a message stand before its sum; nothing where its last four bytes aren't that.
+/// How many bytes of a message precede its sum; `None` if its last four bytes aren't that sum.
 pub fn unseal(message: &[u8]) -> Option<usize>
     ensures length { IfSome result (λ n. n + 4 ≡ length message.now) }
     ensures sealed { IfSome result

@@ -1,4 +1,4 @@
-//! Messages of bytes with their length in front, as postcard spells a byte string.
+//! Counted messages: preceded by their length, as postcard encodes a byte string.
 ghost use Rattle.std.specs.Prelude.{◌≡◌, ℕ, ◌+◌, ◌<◌, ◌^◌, ◌≤◌, List, length, take, drop, Some, IfSome, IsNone};
 ghost use Rattle.cobs.specs.Frames.{Frame};
 ghost use Rattle.postcard_tree.specs.Tree.{Tree, text_of};
@@ -13,7 +13,7 @@ use postcard::ser_flavors::Flavor;
 use postcard::{Own, Readable, Serialize, Serializer, take_from_bytes};
 use std::alloc::Global;
 
-/// Bytes that are written with their count in front, at once.
+/// Bytes that are written with their count in front, in one call.
 #[derive(Drop)]
 pub(crate) struct Counted<'a>(pub &'a [u8]);
 
@@ -29,7 +29,7 @@ impl Serialize for Counted<'_> {
     }
 }
 
-// Where the bytes of a counted message stand in it, by reading it as a value. It isn't inlined, so that the short way doesn't pay for it.
+// The position and length of a counted message's bytes in it, decoded as a value. It isn't inlined, or the short path would pay for it.
 #[inline(never)]
 fn counted_long(alloc: Global, message: &[u8]) -> Option<(usize, usize)>
     ensures read { IfSome result (λ p. (rest : List ℕ)
@@ -43,7 +43,7 @@ fn counted_long(alloc: Global, message: &[u8]) -> Option<(usize, usize)>
     }
 }
 
-// The same: a count below 128 is one byte, which is looked at here.
+// The same: a count below 128 is one byte, which is inspected here. The preparations of `postcard` cost more.
 #[inline(always)]
 fn counted_in(alloc: Global, message: &[u8]) -> Option<(usize, usize)>
     ensures read { IfSome result (λ p. (rest : List ℕ)
@@ -61,7 +61,7 @@ fn counted_in(alloc: Global, message: &[u8]) -> Option<(usize, usize)>
     counted_long(alloc, message)
 }
 
-// What came about by counted messages, where a plain one stands in front of the buffer.
+// The event of counted messages, for that of plain ones: a plain message is in front of the buffer.
 #[inline(always)]
 fn counted_event(alloc: Global, event: FrameEvent, buffer: &[u8]) -> FrameEvent
     requires front { IsInFront (Some event) }
@@ -84,7 +84,7 @@ fn counted_event(alloc: Global, event: FrameEvent, buffer: &[u8]) -> FrameEvent
     }
 }
 
-// The same of a push.
+// The same for a push.
 #[inline(always)]
 pub(crate) fn as_counted(alloc: Global, push: FramePush, buffer: &[u8]) -> FramePush
     requires front { IsInFront push.event }

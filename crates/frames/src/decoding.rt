@@ -1,12 +1,12 @@
-//! A stretch that is decoded where it stands.
+//! Decoding a stretch in place.
 ghost use Rattle.std.specs.Prelude.{◌≡◌, ◌<◌, ◌≤◌, ℕ, List, length, take, IfSome, IsNone};
 ghost use Rattle.cobs.specs.Frames.{Frame, NoZero};
 ghost use Rattle.cobs.specs.Sentinel.{masked};
 
-// How many bytes of a stretch are decoded one by one at most: of fewer the windows of `cobs` cost more before they move a byte.
+// Stretches of at most so many bytes are decoded byte by byte: for these the windows of `cobs` cost more before they move a byte.
 const SHORT: usize = 32;
 
-// Decodes a short stretch byte by byte, and answers how long its message is, where it is a frame.
+// Decodes a short stretch byte by byte, and returns the length of its message if it is a frame.
 #[inline(always)]
 fn decode_short(front: &mut [u8], sentinel: u8) -> Option<usize>
     requires some { 0 < length front.old }
@@ -39,7 +39,7 @@ fn decode_short(front: &mut [u8], sentinel: u8) -> Option<usize>
     }
 }
 
-// The same of any stretch. It isn't inlined, so that a short one doesn't pay for what this one saves.
+// The same for any stretch. It isn't inlined, or a short stretch would pay for the registers that it saves.
 #[inline(never)]
 fn decode_long(front: &mut [u8], sentinel: u8) -> Option<usize>
     requires some { 0 < length front.old }
@@ -57,8 +57,8 @@ fn decode_long(front: &mut [u8], sentinel: u8) -> Option<usize>
     }
 }
 
-// Decodes a stretch, without its sentinel, over its own bytes, and answers how long its message is, where it is a frame: it stands in
-// front then.
+// Decodes a stretch, without its sentinel, in place, and returns the length of its message if it is a frame: the message is then in
+// front.
 #[inline(always)]
 pub(crate) fn decode_kept(front: &mut [u8], sentinel: u8) -> Option<usize>
     requires some { 0 < length front.old }

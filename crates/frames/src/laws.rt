@@ -1,13 +1,14 @@
-//! What is heard of what is sent. Each function here does nothing; its contract is what it is for: call one where a proof needs it.
+//! What is received of what is sent. Each function does nothing, and its contract is a law: call it where a proof needs that law.
 ghost use Rattle.std.specs.Prelude.{ℕ};
 ghost use Rattle.link.specs.Laws.{IsTold};
 ghost use Rattle.frames.specs.Events.{TakesCounted, HoldsCounted};
 ghost use Rattle.frames.specs.CountedLaws.{IsCountedOnce};
 ghost use Rattle.frames.specs.PlainLaws.{IsHeardOfFront, IsHeardOfBroken, IsHeardWhole};
 
-/// Of counted messages `link`'s headline holds: what a receiver answers to the line of a run of sends, each possibly broken off at any
-/// byte, is what is to be told of the run, and nothing else. What `send` writes is the send of a tree that is taken, and is read as the
-/// message that was sent.
+/// States `link`'s main theorem for counted messages.
+///
+/// Of a run of sends, each possibly interrupted at any byte, a receiver reports what `told` says, and nothing else. What `send` writes
+/// is such a send, of a tree that is taken, and is read as the message that was sent.
 pub fn counted()
     ensures told { (limit s : ℕ) → IsTold TakesCounted HoldsCounted limit s }
     ensures once { IsCountedOnce }
@@ -15,8 +16,10 @@ pub fn counted()
     link_laws::told::<&[u8]>();
 }
 
-/// Of a plain send that broke off inside its frame nothing is heard, or that it is damaged or too long, or a message that is a proper
-/// front of the one sent, and what is sent behind it is heard as it is by itself; of a send whose frame went out whole, its message.
+/// States what is received of a plain send.
+///
+/// If it is interrupted inside its frame: nothing, damaged, too long, or a message that is a proper prefix of the one sent; what is sent
+/// after it is received as it is alone. If its frame was sent whole: its message.
 pub fn plain()
     ensures front { IsHeardOfFront }
     ensures broken { IsHeardOfBroken }

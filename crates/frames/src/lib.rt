@@ -1,17 +1,17 @@
-//! Frames of bytes, over buffers of the caller's: what a program needs that isn't written in Rattle, by `frames_c`.
+//! Frames of bytes over the caller's buffers, for programs that aren't written in Rattle (by `frames_c`).
 //!
-//! A message of bytes goes out *counted*, with its length in front as postcard spells a byte string, unless a call says `plain`. Of
-//! counted messages `link`'s promise holds: whatever breaks off, none is heard that wasn't sent. Of plain bytes it doesn't: where a
-//! send breaks off behind a block of its frame, a front of its message is heard as a message.
+//! A message is sent *counted*, preceded by its length as postcard encodes a byte string, unless a call says `plain`. Whatever is
+//! interrupted, no counted message is received that wasn't sent. If a plain send is interrupted, a prefix of its message may be
+//! received as a message.
 //!
-//! No call keeps a reference, takes memory, waits or stops the process: what one remembers for the next stands in a struct of the
-//! caller's, which is numbers alone, and a receiver's bytes in a buffer that the caller hands in at each call.
+//! No call keeps a reference, allocates, waits or ends the process. State is in the caller's structs, which hold numbers only, and
+//! a receiver's bytes are in a buffer that the caller passes in at each call.
 //!
 //! | To | Use |
 //! |---|---|
-//! | frame a whole message, or read a whole frame | `encode`, `decode` and their kin |
-//! | receive from pieces, or byte by byte | `FrameReceiver`: `push`, `push_byte` |
-//! | send over a line that may break | `FrameSender`: `send`, then `went_out` once all did |
+//! | encode a message, or decode a frame | `encode`, `decode` and their variants |
+//! | receive from chunks, or byte by byte | `FrameReceiver`: `push`, `push_byte` |
+//! | send over a line that may break | `FrameSender`: `send`, then `went_out` once all was sent |
 //! | notice changed bytes | `seal`, `unseal` |
 #![tactic(auto)]
 

@@ -1,4 +1,7 @@
-//! Receiving frames from a stream that comes in pieces, into a buffer of the caller's.
+//! Receiving frames from a stream that comes in chunks, into a buffer of the caller's.
+//!
+//! A stretch is stored as it came, and decoded in place at its sentinel; one that is complete in a chunk is decoded from there. If bytes
+//! were decoded as they come, `push_byte` would keep another state than `push`.
 ghost use Rattle.std.specs.Prelude.{◌≡◌, ◌≢◌, ℕ, ◌+◌, ◌<◌, ◌≤◌, List, [], ◌∷◌, ◌++◌, length, take, IsTrue, ◌↔◌, MatchOption, IfSome, IfOk, OnOk, OnErr, None, false};
 ghost use Rattle.cobs.specs.Frames.{NoZero};
 ghost use Rattle.cobs.specs.Sentinel.{masked};
@@ -14,47 +17,55 @@ use cobs::before_sentinel;
 use std::alloc::Global;
 use thiserror::Error;
 
-/// What a receiver keeps between calls: numbers, so that it may be a struct of C's. All zeros are a new receiver for the sentinel
-/// zero. The bytes of the stretch that is begun stand in front of its caller's buffer.
+/// A receiver's state between calls: numbers only, so it can be a struct of C. All zeros are a new receiver with sentinel 0. The
+/// bytes of the begun stretch are in front of the caller's buffer.
+///
+/// Example: see [`FrameReceiver::push`].
 #[repr(C)]
 #[derive(Clone, Copy)]
 pub struct FrameReceiver {
     /// How many bytes the begun stretch has so far.
     pub count: usize,
-    /// Not 0 where the begun stretch is too long.
+    /// Not 0 if the begun stretch is too long.
     pub past: u8,
     /// The byte that ends a stretch.
     pub sentinel: u8,
 }
 
-/// What became of a stretch.
+/// What a stretch turned out to be.
+///
+/// Example: see [`FrameReceiver::push`].
 #[derive(Clone, Copy, PartialEq, Eq, Debug)]
 pub enum FrameEvent {
-    /// It is a frame. Its message has so many bytes in the buffer, from this place on, until the next call.
+    /// A frame. Its message is `length` bytes in the buffer from `start` on, until the next call.
     Message { start: usize, length: usize },
-    /// It is no frame, or its message isn't a counted one.
+    /// Not a frame, or its message isn't a counted one.
     Damaged,
-    /// It has more bytes than the buffer. It is answered at the byte past that, and the rest of it isn't answered.
+    /// Longer than the buffer. It is reported once, at the first byte past the buffer's length.
     TooLong,
 }
 
-/// What a push gives.
+/// The result of a push.
+///
+/// Example: see [`FrameReceiver::push`].
 #[derive(Clone, Copy, PartialEq, Eq, Debug)]
 pub struct FramePush {
-    /// How many bytes of the piece were used: all of them where nothing came about. Push the rest next.
+    /// How many bytes of the chunk were used: all of them if there is no event. Push the rest next.
     pub used: usize,
-    /// How many bytes of the answered stretch stand before the last byte that was used; 0 where nothing was answered.
+    /// How many bytes of the event's stretch come before the last byte that was used; 0 if there is no event.
     pub stretch: usize,
-    /// What came about, if anything.
+    /// The first event, if there is one.
     pub event: Option<FrameEvent>,
 }
 
 /// More bytes are begun than the buffer has: it isn't the one that the receiver was used with.
+///
+/// Example: see [`FrameReceiver::push`].
 #[derive(Clone, Copy, PartialEq, Eq, Debug, Drop, Error)]
 #[error("more bytes are begun than the buffer has")]
 pub struct WrongBuffer;
 
-// Takes a stretch that lies whole within the limit, without its sentinel, where none was begun.
+// Takes a whole stretch within the limit, without its sentinel, if none was begun.
 fn take_whole(buffer: &mut [u8], stretch: &[u8], sentinel: u8) -> Option<FrameEvent>
     requires clear { NoZero (masked sentinel stretch.now) }
     requires some { 0 < length stretch.now }
@@ -73,7 +84,7 @@ fn take_whole(buffer: &mut [u8], stretch: &[u8], sentinel: u8) -> Option<FrameEv
 }
 
 impl FrameReceiver {
-    /// A receiver between stretches, of frames that end in this byte, and whose bytes are each XORed with it.
+    /// A receiver that has received nothing, of frames that end with this byte and whose bytes are each XORed with it.
     pub fn new(sentinel: u8) -> FrameReceiver
         ensures after { (buffer : List ℕ) → StandsBehind (length buffer) sentinel result buffer [] }
         ensures sentinel { result.sentinel ≡ sentinel }
@@ -85,7 +96,7 @@ impl FrameReceiver {
         }
     }
 
-    // Ends a stretch, whose bytes stand in front of the buffer.
+    // Ends a stretch, whose bytes are in front of the buffer.
     #[inline(always)]
     fn close(&mut self, buffer: &mut [u8]) -> Option<FrameEvent>
         requires some { 0 < self.old.count }
@@ -130,7 +141,7 @@ impl FrameReceiver {
         self.close(buffer)
     }
 
-    // Takes a run without sentinels. Where it goes past the limit, how many bytes of it do.
+    // Takes bytes without a sentinel. If they go past the limit, returns how many were used, the first one past it included.
     fn take_run(&mut self, buffer: &mut [u8], run: &[u8]) -> Option<usize>
         requires { self.old.count ≤ length buffer.old }
         ensures runs { (limit s : ℕ) (b : Begun) → NoZero (masked s run.now)
@@ -157,14 +168,14 @@ impl FrameReceiver {
         None
     }
 
-    // Whether no stretch is begun.
+    // Whether no stretch has begun.
     fn is_between(&self) -> bool
         ensures { IsTrue result ↔ ((self.now.past ≡ 0) × (self.now.count ≡ 0)) }
     {
         self.past == 0 && self.count == 0
     }
 
-    // Takes bytes through the first sentinel, or up to the byte past the limit. A stretch that lies whole there is decoded at once.
+    // Takes bytes through the first sentinel, or through the byte past the limit. A stretch that is complete there is decoded at once.
     fn take_next(&mut self, buffer: &mut [u8], bytes: &[u8]) -> FramePush
         requires { self.old.count ≤ length buffer.old }
         ensures brings { (limit s : ℕ) (b : Begun) → StandsAt limit s self.old buffer.old b
@@ -212,7 +223,7 @@ impl FrameReceiver {
         }
     }
 
-    // Takes bytes of a piece, up to the first that brings something about.
+    // Takes bytes of a chunk through the first that has an event.
     fn take(&mut self, buffer: &mut [u8], piece: &[u8]) -> FramePush
         requires { self.old.count ≤ length buffer.old }
         ensures at { (limit s : ℕ) (b : Begun) → StandsAt limit s self.old buffer.old b
@@ -298,8 +309,10 @@ impl FrameReceiver {
         }
     }
 
-    /// Takes a byte that ends no stretch and goes past no limit, and says that it did: what most bytes are. Where it doesn't, nothing has
-    /// changed, and `push_byte` or `push_byte_plain` is to take it. So an interrupt handler pays a few compares and a store.
+    /// Takes a byte if it neither ends a stretch nor exceeds the limit, as most don't, and returns whether it did.
+    ///
+    /// If it didn't, nothing changed: call `push_byte` or `push_byte_plain`. It costs a few compares and a store, and the export for C
+    /// calls it first, so such a byte costs no stack in an interrupt handler.
     #[inline(always)]
     pub fn stores(&mut self, buffer: &mut [u8], byte: u8) -> bool
         ensures stands { IsTrue result → (limit s : ℕ) (stream : List ℕ)
@@ -323,12 +336,14 @@ impl FrameReceiver {
         true
     }
 
-    /// Takes bytes of the piece up to the first event: through the sentinel of an ended stretch, or through the byte past the buffer's
-    /// length; where there is none, all of them. The event is of the stretch as a whole, also where earlier pushes took its beginning.
-    /// A message is of the bytes alone, as `send_plain` frames them.
+    /// Takes bytes of the chunk up to the first event, of plain messages, and returns it with how many bytes were used.
     ///
-    /// A message stands in front of the buffer until the next push. The caller owes that it hands in the same buffer at each call, and
-    /// leaves its front alone between two calls. Where more bytes are begun than it has, it is refused, and nothing changes.
+    /// An event is at the sentinel that ends a stretch, or at the byte past the buffer's length; if there is none, all bytes are used.
+    /// It is of the whole stretch, also if earlier pushes took its beginning. A message is in front of the buffer until the next push.
+    /// Pass the same buffer to each call, and leave its front as it is between two calls.
+    ///
+    /// # Errors
+    /// `WrongBuffer` exactly if more bytes are begun than the buffer has. Nothing changes.
     pub fn push_plain(&mut self, buffer: &mut [u8], bytes: &[u8]) -> Result<FramePush, WrongBuffer>
         ensures within { IfOk result (λ p. p.used ≤ length bytes.now) }
         ensures forward { IfOk result (λ p. 0 < length bytes.now → 0 < p.used) }
@@ -351,8 +366,11 @@ impl FrameReceiver {
         Ok(self.take(buffer, bytes))
     }
 
-    /// One byte, as a push of a piece of this byte alone: for an interrupt handler. Nothing is searched, and a byte that ends no stretch
-    /// is only stored.
+    /// Takes one byte, as `push_plain` of a chunk of this byte does: for an interrupt handler. Nothing is searched, and a byte that
+    /// ends no stretch is only stored.
+    ///
+    /// # Errors
+    /// `WrongBuffer` exactly if more bytes are begun than the buffer has. Nothing changes.
     #[inline(always)]
     pub fn push_byte_plain(&mut self, buffer: &mut [u8], byte: u8) -> Result<FramePush, WrongBuffer>
         ensures used { IfOk result (λ p. p.used ≡ 1) }
@@ -375,10 +393,39 @@ impl FrameReceiver {
         Ok(self.take_byte(buffer, byte))
     }
 
-    /// As `push_plain`, of counted messages, as `send` frames them and as postcard spells a byte string: a message is the bytes behind
-    /// its length, and what is no counted message is damaged. What stands behind the counted bytes is ignored.
+    /// Takes bytes of the chunk up to the first event, of counted messages, and returns it with how many bytes were used.
     ///
-    /// A message stands in the buffer, behind its length, until the next push.
+    /// As `push_plain`, but a message is the bytes after its length, as `send` writes it and postcard encodes a byte string. It is in
+    /// the buffer, after its length, until the next push. Bytes after the counted ones are ignored, and what isn't a counted message is
+    /// damaged. The allocator is what decoding a postcard value takes; for bytes nothing is allocated.
+    ///
+    /// # Errors
+    /// `WrongBuffer` exactly if more bytes are begun than the buffer has. Nothing changes.
+    ///
+    /// # Example
+    /// ```rust
+    /// let mut receiver = FrameReceiver::new(0);
+    /// let mut buffer = [0u8; 8];
+    /// let push = receiver.push(rt.alloc(), &mut buffer, &[0, 4, 2, b'h', b'i', 0, 9]);
+    /// let event = Some(FrameEvent::Message {
+    ///     start: 1,
+    ///     length: 2,
+    /// });
+    /// let used = 6;
+    /// let stretch = 4;
+    /// check(
+    ///     &rt,
+    ///     push == Ok(FramePush {
+    ///         used,
+    ///         stretch,
+    ///         event,
+    ///     }),
+    /// );
+    /// check(&rt, buffer[1..3] == [b'h', b'i']);
+    /// check(&rt, receiver.push_plain(&mut buffer, &[9, 9]).is_ok());
+    /// let another = receiver.push_plain(&mut buffer[..1], &[9]);
+    /// check(&rt, another == Err(WrongBuffer));
+    /// ```
     pub fn push(
         &mut self,
         alloc: Global,
@@ -406,7 +453,10 @@ impl FrameReceiver {
         Ok(as_counted(alloc, push, buffer))
     }
 
-    /// One byte, as a push of a piece of this byte alone.
+    /// Takes one byte, as `push` of a chunk of this byte does.
+    ///
+    /// # Errors
+    /// `WrongBuffer` exactly if more bytes are begun than the buffer has. Nothing changes.
     #[inline(always)]
     pub fn push_byte(
         &mut self,
@@ -434,9 +484,9 @@ impl FrameReceiver {
         Ok(as_counted(alloc, push, buffer))
     }
 
-    /// Ends the stream, and begins a new one. Whether a stretch was begun and not answered: it is cut.
+    /// Ends the stream, and returns whether it was truncated: a stretch had begun without an event.
     ///
-    /// Then it is as a new receiver, over any buffer: also one that a push had refused as the wrong one, and whatever it held.
+    /// Afterwards the receiver is a new one, over any buffer, also over one that a push refused, and whatever its numbers were.
     pub fn finish(&mut self) -> bool
         ensures cut { (limit s : ℕ) (buffer stream : List ℕ)
             → StandsBehind limit s self.old buffer stream → result ≡ is_cut (begun limit s stream) }
@@ -450,7 +500,7 @@ impl FrameReceiver {
         cut
     }
 
-    /// How many bytes a begun stretch has so far: 0 where none is begun, and where it is too long.
+    /// How many bytes the begun stretch has so far; 0 if none has begun, or it is too long.
     pub fn begun_bytes(&self) -> usize
         ensures begun { (limit s : ℕ) (buffer stream : List ℕ)
             → StandsBehind limit s self.now buffer stream

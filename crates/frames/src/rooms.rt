@@ -1,4 +1,4 @@
-//! How much room the frame of a counted message needs, before a byte of it is written.
+//! How long the frame of a counted message is, before a byte of it is written.
 ghost use Rattle.std.specs.Prelude.{◌≡◌, ℕ, ◌<◌, ◌≤◌, IsTrue, ◌↔◌, length};
 ghost use Rattle.cobs.specs.Frames.{shortest_frame};
 ghost use Rattle.postcard_tree.specs.Spelling.{short, varint};
@@ -20,8 +20,8 @@ fn count_bytes(size: usize) -> usize
     varint_usize(size, &mut room).len()
 }
 
-// How long the frame of a counted message is, one of some bytes. No byte of its count is zero, so the frame's first run goes on from
-// the count through the message's bytes before its first zero.
+// The length of a counted message's frame, for a message that isn't empty. No byte of its count is zero, so the frame's first zero-free
+// run is the count and the message's bytes before its first zero; `cobs` counts the rest.
 fn counted_frame_length(message: &[u8]) -> usize
     requires some { 0 < length message.now }
     ensures { result ≡ length (shortest_frame (short (text_of message.now))) }
@@ -37,7 +37,7 @@ fn counted_frame_length(message: &[u8]) -> usize
     run + 1 + run / 254 + cobs::encoded_length(behind)
 }
 
-// Whether the frame of a counted message has room in so many bytes. It is counted only where the bounds of its length leave that open.
+// Whether the frame of a counted message fits in `room` bytes. Its length is counted only if the bounds of its length don't decide that.
 pub(crate) fn fits_counted(message: &[u8], room: usize) -> bool
     ensures { IsTrue result ↔ (length (shortest_frame (short (text_of message.now))) ≤ room) }
 {

@@ -1,4 +1,4 @@
-//! Sending frames over a line that may break them off.
+//! Sending frames over a line on which a send may be interrupted.
 ghost use Rattle.std.specs.Prelude.{◌≡◌, ◌+◌, ◌<◌, ◌≤◌, ◌∷◌, [], ◌++◌, length, take, true, false, IfOk, OnOk, OnErr};
 ghost use Rattle.cobs.specs.Frames.{shortest_frame};
 ghost use Rattle.cobs.specs.Sentinel.{frame_for};
@@ -13,17 +13,19 @@ use crate::whole::fits;
 use cobs::DestBufTooSmallError;
 use link::frame_into_with_sentinel;
 
-/// What a sender keeps between calls: numbers, so that it may be a struct of C's. All zeros are a new sender for the sentinel zero.
+/// A sender's state between calls: numbers only, so it can be a struct of C. All zeros are a new sender with sentinel 0.
+///
+/// Example: see [`FrameSender::send`].
 #[repr(C)]
 #[derive(Clone, Copy)]
 pub struct FrameSender {
-    /// Not 0 where all that was to be written went out.
+    /// Not 0 if all that was written was sent.
     pub clean: u8,
     /// The byte that ends a frame.
     pub sentinel: u8,
 }
 
-// Writes the frame of a message and the sentinel behind it.
+// Writes the frame of a message, followed by the sentinel.
 fn put_ended(message: &[u8], dest: &mut [u8], sentinel: u8) -> usize
     requires { length (shortest_frame message.now) + 1 ≤ length dest.old }
     ensures length { result ≡ length (shortest_frame message.now) + 1 }
@@ -62,12 +64,26 @@ impl FrameSender {
         FrameSender { clean: 0, sentinel }
     }
 
-    /// Writes what is to go out for a message, counted, to the front of `dest`, and answers how many bytes that is: a sentinel where
-    /// the sender isn't clean, the shortest frame of the message's length and bytes as postcard spells them, each byte XORed with the
-    /// sentinel, and a sentinel. The sender isn't clean then, until `went_out` says that all these bytes went out: so a caller whose
-    /// write fails, or took too little, has nothing to do.
+    /// Writes the bytes of a counted send to the front of `dest`, and returns how many there are.
     ///
-    /// Where it doesn't fit it is refused, and nothing changes: the next send writes what it would have written without this one.
+    /// They are: a sentinel unless the sender is clean; the shortest frame of the message's length and bytes, as postcard encodes them,
+    /// each byte XORed with the sentinel; a sentinel. Then the sender isn't clean until `went_out` says that all of them were sent. So
+    /// after a write that failed, or was short, the caller has nothing to do.
+    ///
+    /// # Errors
+    /// `DestBufTooSmallError` exactly if they don't fit. Nothing changes, and the next send writes the same as without this one.
+    ///
+    /// # Example
+    /// ```rust
+    /// let mut sender = FrameSender::new(0);
+    /// let mut room = [0u8; 6];
+    /// check(&rt, sender.send(b"hi", &mut room[..5]).is_err());
+    /// check(
+    ///     &rt,
+    ///     sender.send(b"hi", &mut room) == Ok(6) && room == [0, 4, 2, b'h', b'i', 0],
+    /// );
+    /// sender.went_out();
+    /// ```
     pub fn send(&mut self, message: &[u8], dest: &mut [u8]) -> Result<usize, DestBufTooSmallError>
         ensures length { IfOk result (λ n. n ≡ length
             (sent self.old.sentinel (is_clean self.old.clean) (text_of message.now))) }
@@ -98,10 +114,12 @@ impl FrameSender {
         Ok(put_counted(message, rest, sentinel) + 1)
     }
 
-    /// The same of the message's bytes alone, without their length. What is heard of such a send that breaks off is nothing, that it
-    /// is damaged, or a message that is a front of this one.
+    /// Writes the bytes of a plain send, of the message without its length, as `send` does, and returns how many there are.
     ///
-    /// Where it doesn't fit it is refused, and nothing changes.
+    /// If such a send is interrupted, it is received as nothing, as damaged, or as a message that is a prefix of this one.
+    ///
+    /// # Errors
+    /// `DestBufTooSmallError` exactly if they don't fit. Nothing changes.
     pub fn send_plain(
         &mut self,
         message: &[u8],
@@ -137,7 +155,7 @@ impl FrameSender {
         Ok(put_ended(message, rest, sentinel) + 1)
     }
 
-    /// Says that all the bytes of the last send went out: the sender is clean.
+    /// Makes the sender clean. Call it once all the bytes of the last send were sent.
     pub fn went_out(&mut self)
         ensures clean { is_clean self.new.clean ≡ true }
         ensures sentinel { self.new.sentinel ≡ self.old.sentinel }

@@ -1,4 +1,4 @@
-//! Messages and frames that are there as a whole.
+//! Whole messages and whole frames.
 ghost use Rattle.std.specs.Prelude.{◌≡◌, ◌≢◌, ◌<◌, ◌≤◌, ◌^◌, ◌↔◌, ℕ, List, [], length, take, drop, IsTrue, Some, None, OnOk, OnErr, IfOk};
 ghost use Rattle.cobs.specs.Frames.{Frame, shortest_frame, part, most_length};
 ghost use Rattle.cobs.specs.InPlace.{stretch, in_place, overwritten};
@@ -8,7 +8,7 @@ ghost use Rattle.cobs.specs.Whole.{frame_in, decoded_from, decoded_into};
 
 use cobs::{DecodeError, DecodeReport, DestBufTooSmallError};
 
-/// The most bytes that the frame of a message of `length` bytes has; nothing where no message is so long.
+/// The greatest length of a frame of a message of `length` bytes; `None` from 2^63 on, which no message has.
 pub fn most_encoded_length(length: usize) -> Option<usize>
     ensures most { length < 2 ^ 63 → result ≡ Some (most_length length) }
     ensures none { 2 ^ 63 ≤ length → result ≡ None }
@@ -20,14 +20,14 @@ pub fn most_encoded_length(length: usize) -> Option<usize>
     }
 }
 
-/// The length of the frame of a message: what encoding needs, and no more.
+/// The length of the frame of a message: exactly what encoding needs.
 pub fn encoded_length(source: &[u8]) -> usize
     ensures { result ≡ length (shortest_frame source.now) }
 {
     cobs::encoded_length(source)
 }
 
-// Whether the frame of a message has room in so many bytes. It is counted only where the bounds of its length leave that open.
+// Whether the frame of a message fits in `room` bytes. Its length is counted only if the bounds of its length don't decide that.
 pub(crate) fn fits(source: &[u8], room: usize) -> bool
     ensures { IsTrue result ↔ (length (shortest_frame source.now) ≤ room) }
 {
@@ -41,8 +41,10 @@ pub(crate) fn fits(source: &[u8], room: usize) -> bool
     cobs::max_encoding_length(source.len()) <= room || cobs::encoded_length(source) <= room
 }
 
-/// Writes the frame of a message to the front of `dest`, and answers its length. Where it doesn't fit it is refused, and `dest`
-/// stays as it is.
+/// Writes the frame of a message to the front of `dest`, and returns its length.
+///
+/// # Errors
+/// `DestBufTooSmallError` exactly if it doesn't fit; `dest` is unchanged.
 pub fn encode(source: &[u8], dest: &mut [u8]) -> Result<usize, DestBufTooSmallError>
     ensures length { IfOk result (λ n. n ≡ length (shortest_frame source.now)) }
     ensures frame { IfOk result (λ n. take n dest.new ≡ shortest_frame source.now) }
@@ -53,7 +55,10 @@ pub fn encode(source: &[u8], dest: &mut [u8]) -> Result<usize, DestBufTooSmallEr
     cobs::try_encode(source, dest)
 }
 
-/// The same with every byte of the frame XORed with the sentinel, so that no byte of it is the sentinel.
+/// Does the same with each byte of the frame XORed with the sentinel: no byte of it is the sentinel.
+///
+/// # Errors
+/// `DestBufTooSmallError` exactly if it doesn't fit; `dest` is unchanged.
 pub fn encode_with_sentinel(
     source: &[u8],
     dest: &mut [u8],
@@ -71,11 +76,17 @@ pub fn encode_with_sentinel(
     Ok(cobs::encode_with_sentinel(source, dest, sentinel))
 }
 
-/// Decodes the first frame of a source: leading zeros are skipped, and the frame ends at the next zero or at the end. The message
-/// then stands in front of `dest`. The zeros, the frame and its zero, where there is one, are the bytes parsed.
+/// Decodes the first frame of a source into the front of `dest`, and returns how many bytes were parsed and the message's length.
 ///
-/// `EmptyFrame` where no byte is nonzero; `TargetBufTooSmall` where `dest` has no room for what the bytes decide, and else
-/// `InvalidFrame` where they are no frame. What they decide of a message is then in front of `dest`, as far as there is room.
+/// Leading zeros are skipped, and the frame ends at the next zero or at the end. The zeros, the frame and its zero, if there is one,
+/// are the bytes parsed.
+///
+/// # Errors
+/// - `EmptyFrame`: no byte is nonzero.
+/// - `TargetBufTooSmall`: `dest` is too short for the bytes that the frame determines.
+/// - `InvalidFrame`: otherwise, the bytes aren't a frame.
+///
+/// The bytes of a message that they determine are then in front of `dest`, as far as they fit.
 pub fn decode(source: &[u8], dest: &mut [u8]) -> Result<DecodeReport, DecodeError>
     ensures answer { result ≡ decoded_from (length dest.old) source.now }
     ensures frame { IfOk result
@@ -87,11 +98,14 @@ pub fn decode(source: &[u8], dest: &mut [u8]) -> Result<DecodeReport, DecodeErro
     cobs::decode(source, dest)
 }
 
-/// Decodes the bytes before the first sentinel, or all where there is none, each XORed with it. The message then stands in front of
-/// `dest`; its length is answered, 0 where there are no such bytes.
+/// Decodes the bytes before the first sentinel, or all if there is none, each XORed with it, into the front of `dest`. Returns the
+/// message's length; 0 if there are no such bytes.
 ///
-/// `InvalidFrame` where the bytes are no frame, `TargetBufTooSmall` where they are one whose message is longer than `dest`. What
-/// they decide of a message is then in front of `dest`, as far as there is room.
+/// # Errors
+/// - `InvalidFrame`: the bytes aren't a frame.
+/// - `TargetBufTooSmall`: they are a frame, and its message is longer than `dest`.
+///
+/// The bytes of a message that they determine are then in front of `dest`, as far as they fit.
 pub fn decode_with_sentinel(
     source: &[u8],
     dest: &mut [u8],
@@ -108,10 +122,12 @@ pub fn decode_with_sentinel(
     cobs::decode_with_sentinel(source, dest, sentinel)
 }
 
-/// Decodes the bytes before the first sentinel, or all where there is none, each XORed with it, over themselves. The message then
-/// stands in front. The sentinel isn't among the bytes parsed, and all from there on are as they were.
+/// Decodes the bytes before the first sentinel, or all if there is none, each XORed with it, in place: the message is then in front.
 ///
-/// `InvalidFrame` where the bytes are no frame; what they decide of a message then stands in front.
+/// The sentinel isn't among the bytes parsed, and it and all after it are unchanged.
+///
+/// # Errors
+/// `InvalidFrame`: the bytes aren't a frame; the bytes of a message that they determine are then in front.
 pub fn decode_in_place(buffer: &mut [u8], sentinel: u8) -> Result<DecodeReport, DecodeError>
     ensures answer { result ≡ in_place (stretch (masked sentinel buffer.old)) }
     ensures frame { let p = stretch (masked sentinel buffer.old) in

@@ -1,31 +1,31 @@
--- The numbers that calls answer by.
+-- The numbers of results.
 use Rattle.std.specs.Prelude.{ℕ}
 
 -- it was done
 abbrev pub done : ℕ
 done = 0
 
--- what is to be written has no room
+-- what is to be written doesn't fit
 abbrev pub no_room : ℕ
 no_room = 1
 
--- the bytes are no frame
+-- the bytes aren't a frame
 abbrev pub invalid : ℕ
 invalid = 2
 
--- there is no byte that could be of a frame
+-- no byte could be of a frame
 abbrev pub empty : ℕ
 empty = 3
 
--- a push found nothing yet
+-- a push has no event yet
 abbrev pub more : ℕ
 more = 0
 
--- it found a message
+-- its event is a message
 abbrev pub message : ℕ
 message = 1
 
--- a stretch that is no frame, or holds no counted message
+-- a stretch that isn't a frame, or holds no counted message
 abbrev pub damaged : ℕ
 damaged = 2
 
@@ -33,6 +33,6 @@ damaged = 2
 abbrev pub too_long : ℕ
 too_long = 3
 
--- the receiver isn't one that can stand over this buffer
+-- more bytes are begun than the buffer has
 abbrev pub misused : ℕ
 misused = 4

@@ -1,4 +1,4 @@
-//! Answers by numbers.
+//! Results by numbers.
 ghost use Rattle.std.specs.Prelude.{◌≡◌, ◌≢◌, ◌+◌, ◌<◌, ◌≤◌, ℕ, None, IfOk, OnOk, OnErr};
 ghost use Rattle.frames.specs.Events.{IsInFront, IsInRoom};
 ghost use Rattle.frames_c.specs.Status.{message, misused, more};
@@ -8,37 +8,42 @@ use crate::status::{DAMAGED, DONE, EMPTY, INVALID, MESSAGE, MISUSED, MORE, NO_RO
 use cobs::{DecodeError, DecodeReport, DestBufTooSmallError};
 use frames::{FrameEvent, FramePush, WrongBuffer};
 
-/// What a call that writes answers: how many bytes it wrote, 0 where it was refused.
+/// The result of a call that writes: how many bytes it wrote, 0 after an error, and its status.
 #[repr(C)]
 #[derive(Clone, Copy)]
 pub struct FramesWritten {
+    /// How many bytes were written, or precede a sum.
     pub length: usize,
+    /// 0 if it was done, else the error.
     pub status: u8,
 }
 
-/// What a decoding answers: how many bytes of its source were used, and how long the message is; where the bytes are no frame, how
-/// many bytes of a message they decide.
+/// The result of a decoding: how many bytes of its source were used, and the message's length. If the bytes aren't a frame, `length` is
+/// how many bytes of a message they determine.
 #[repr(C)]
 #[derive(Clone, Copy)]
 pub struct FramesRead {
+    /// How many bytes of the source were used; 0 after an error.
     pub used: usize,
+    /// The message's length.
     pub length: usize,
+    /// 0 if it was done, else the error.
     pub status: u8,
 }
 
-/// What a push answers.
+/// The result of a push.
 #[repr(C)]
 #[derive(Clone, Copy)]
 pub struct FramesEvent {
-    /// How many bytes of the piece were used.
+    /// How many bytes of the chunk were used.
     pub used: usize,
-    /// How many bytes of the answered stretch stand before the last byte that was used.
+    /// How many bytes of the event's stretch come before the last byte that was used.
     pub stretch: usize,
     /// Where in the buffer the message begins.
     pub start: usize,
     /// How many bytes it has.
     pub length: usize,
-    /// What was found.
+    /// The kind of event.
     pub kind: u8,
 }
 
@@ -58,7 +63,7 @@ pub(crate) fn written(outcome: Result<usize, DestBufTooSmallError>) -> FramesWri
     }
 }
 
-// What stands before a sum.
+// What precedes a sum.
 pub(crate) fn unsealed(outcome: Option<usize>) -> FramesWritten
     ensures { IsUnsealed outcome result }
 {
@@ -74,7 +79,7 @@ pub(crate) fn unsealed(outcome: Option<usize>) -> FramesWritten
     }
 }
 
-// A refusal.
+// A decoding's error.
 fn refused(error: DecodeError) -> FramesRead
     ensures told { IsRefusedBy error result.status result.length }
     ensures used { result.used ≡ 0 }
@@ -132,7 +137,7 @@ pub(crate) fn measured(outcome: Result<usize, DecodeError>) -> FramesWritten
     }
 }
 
-// What came about, by its number, its place and its length.
+// An event, by its kind, its position and its length.
 #[inline(always)]
 fn numbered(event: Option<FrameEvent>) -> (u8, usize, usize)
     ensures event { event_by result.0 result.1 result.2 ≡ event }
@@ -148,7 +153,7 @@ fn numbered(event: Option<FrameEvent>) -> (u8, usize, usize)
     }
 }
 
-// What a push gave.
+// The result of a push.
 #[inline(always)]
 pub(crate) fn pushed(outcome: Result<FramePush, WrongBuffer>) -> FramesEvent
     ensures gives { IsPushed outcome result }
@@ -176,7 +181,7 @@ pub(crate) fn pushed(outcome: Result<FramePush, WrongBuffer>) -> FramesEvent
     }
 }
 
-// What a push of one byte gave: the event is told where something came about.
+// The result of a push of one byte: the event is written only if there is one.
 #[inline(always)]
 pub(crate) fn told(outcome: Result<FramePush, WrongBuffer>, event: &mut FramesEvent) -> u8
     ensures ok { IfOk outcome (λ p. p.used ≡ 1 → (p.event ≡ None → p.stretch ≡ 0)
@@ -198,7 +203,7 @@ pub(crate) fn told(outcome: Result<FramePush, WrongBuffer>, event: &mut FramesEv
             None => MORE,
             some => {
                 let (kind, start, length) = numbered(some);
-                // (one by one, since the bytes behind `kind` would be copied too)
+                // (field by field: the padding after `kind` would be copied too)
                 event.used = push.used;
                 event.stretch = push.stretch;
                 event.start = start;

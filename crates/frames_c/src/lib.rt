@@ -1,8 +1,9 @@
-//! The calls of `frames` as C functions: one line each over the library, with numbers where C has no enums.
+//! The calls of `frames` as C functions of one line each, with numbers where C has no enums.
 //!
-//! What each promises is what `frames` promises, in the same definitions. None has a condition on its caller but what C's types
-//! can't say: that a pointer points to as many bytes as its length, and that what is written overlaps nothing else. The header
-//! `bindings/c/frames.h` looks for null pointers.
+//! Each promises what `frames` promises, in the same definitions. None requires anything of its caller but what C's types can't say:
+//! that a pointer points to as many bytes as its length, and that what is written overlaps nothing else. The header
+//! `bindings/c/frames.h` looks for null pointers. A static library can't be tested by a crate, nor its edits tried: laws and edits are in
+//! `frames`.
 #![tactic(auto)]
 
 mod answers;

@@ -1,4 +1,4 @@
-//! Receiving frames from a stream that comes in pieces, into a buffer of the caller's.
+//! Receiving frames from a stream that comes in chunks, into the caller's buffer.
 ghost use Rattle.std.specs.Prelude.{◌≡◌, ◌≢◌, ℕ, ◌+◌, ◌<◌, ◌≤◌, List, [], ◌∷◌, ◌++◌, length, take};
 ghost use Rattle.link.specs.Stream.{begun};
 ghost use Rattle.link.specs.Pushes.{begun_length};
@@ -12,7 +12,7 @@ use crate::status::MORE;
 use frames::FrameReceiver;
 use std::alloc::Global;
 
-/// A receiver between stretches, of frames that end in this byte, and whose bytes are each XORed with it.
+/// A receiver that has received nothing, of frames that end with this byte and whose bytes are each XORed with it.
 #[unsafe(no_mangle)]
 pub extern "C" fn frames_c_receiver(sentinel: u8) -> FrameReceiver
     ensures { (buffer : List ℕ) → StandsBehind (length buffer) sentinel result buffer [] }
@@ -20,12 +20,15 @@ pub extern "C" fn frames_c_receiver(sentinel: u8) -> FrameReceiver
     FrameReceiver::new(sentinel)
 }
 
-/// Takes bytes of the piece up to the first event: through the sentinel of an ended stretch, or through the byte past the buffer's
-/// length; where there is none, all of them. The event is of the stretch as a whole, also where earlier pushes took its beginning.
-/// Messages are counted.
+/// Takes bytes of the chunk up to the first event, of counted messages, and returns it with how many bytes were used.
 ///
-/// A message stands in the buffer until the next push. The caller owes that it hands in the same buffer at each call, and leaves its
-/// front alone between two calls. A receiver that can't stand over this buffer is misused: nothing changes then.
+/// An event is at the sentinel that ends a stretch, or at the byte past the buffer's length; if there is none, all bytes are used. It
+/// is of the whole stretch, also if earlier pushes took its beginning. A message is in the buffer until the next push. Pass the same
+/// buffer to each call, and leave its front as it is between two calls. C passes nothing for `alloc`, which has no bytes, and no
+/// allocator is linked.
+///
+/// # Errors
+/// Misused exactly if more bytes are begun than the buffer has. Nothing changes.
 #[unsafe(no_mangle)]
 pub extern "C" fn frames_c_push(
     alloc: Global,
@@ -53,7 +56,10 @@ pub extern "C" fn frames_c_push(
     pushed(receiver.push(alloc, buffer, bytes))
 }
 
-/// The same of plain messages, which stand in front of the buffer.
+/// Does the same for plain messages, which are in front of the buffer.
+///
+/// # Errors
+/// Misused exactly if more bytes are begun than the buffer has. Nothing changes.
 #[unsafe(no_mangle)]
 pub extern "C" fn frames_c_push_plain(
     receiver: &mut FrameReceiver,
@@ -110,7 +116,11 @@ fn take_byte(
     told(receiver.push_byte(alloc, buffer, byte), event)
 }
 
-/// One byte, as a push of it alone, for an interrupt handler. Answers what was found, and tells the event where that isn't `MORE`.
+/// Takes one byte, as `frames_c_push` of it alone does, for an interrupt handler. Returns the kind of event, and writes the event unless
+/// that is `MORE`, so the bytes between two events cost no store.
+///
+/// # Errors
+/// Misused exactly if more bytes are begun than the buffer has. Nothing changes.
 #[unsafe(no_mangle)]
 pub extern "C" fn frames_c_push_byte(
     alloc: Global,
@@ -171,7 +181,10 @@ fn take_byte_plain(
     told(receiver.push_byte_plain(buffer, byte), event)
 }
 
-/// The same of plain messages.
+/// Does the same for plain messages.
+///
+/// # Errors
+/// Misused exactly if more bytes are begun than the buffer has. Nothing changes.
 #[unsafe(no_mangle)]
 pub extern "C" fn frames_c_push_byte_plain(
     receiver: &mut FrameReceiver,
@@ -203,9 +216,9 @@ pub extern "C" fn frames_c_push_byte_plain(
     take_byte_plain(receiver, buffer, byte, event)
 }
 
-/// Ends the stream, and begins a new one. Whether a stretch was begun and not answered: it is cut.
+/// Ends the stream, and returns whether it was truncated: a stretch had begun without an event.
 ///
-/// Then it is as a new receiver, over any buffer: also one that was misused, and whatever it held.
+/// Afterwards the receiver is a new one, over any buffer, also after a misuse, and whatever its numbers were.
 #[unsafe(no_mangle)]
 pub extern "C" fn frames_c_finish(receiver: &mut FrameReceiver) -> bool
     ensures cut { (limit s : ℕ) (buffer stream : List ℕ)
@@ -218,7 +231,7 @@ pub extern "C" fn frames_c_finish(receiver: &mut FrameReceiver) -> bool
     receiver.finish()
 }
 
-/// How many bytes a begun stretch has so far: 0 where none is begun, and where it is too long.
+/// How many bytes the begun stretch has so far; 0 if none has begun, or it is too long.
 #[unsafe(no_mangle)]
 pub extern "C" fn frames_c_begun(receiver: &FrameReceiver) -> usize
     ensures begun { (limit s : ℕ) (buffer stream : List ℕ)

@@ -1,4 +1,4 @@
-//! Sending frames over a line that may break them off, and messages with a checksum.
+//! Sending frames over a line on which a send may be interrupted, and messages with a checksum.
 ghost use Rattle.std.specs.Prelude.{◌≡◌, ◌≢◌, ◌+◌, ◌<◌, ◌≤◌, ◌++◌, ℕ, List, length, take, drop, true, false};
 ghost use Rattle.cobs.specs.Frames.{shortest_frame};
 ghost use Rattle.cobs.specs.Sentinel.{frame_for};
@@ -21,12 +21,14 @@ pub extern "C" fn frames_c_sender(sentinel: u8) -> FrameSender
     FrameSender::new(sentinel)
 }
 
-/// Writes what is to go out for a counted message to the front of `dest`: a sentinel where the sender isn't clean, the shortest frame
-/// of the message's length and bytes as postcard spells them, each byte XORed with the sentinel, and a sentinel. The sender isn't
-/// clean then, until `frames_c_sent` says that all these bytes went out: so a caller whose write fails, or took too little, has
-/// nothing to do.
+/// Writes the bytes of a counted send to the front of `dest`, and returns how many there are.
 ///
-/// Where it doesn't fit it is refused, and nothing changes: the next send writes what it would have written without this one.
+/// They are: a sentinel unless the sender is clean; the shortest frame of the message's length and bytes, as postcard encodes them, each
+/// byte XORed with the sentinel; a sentinel. Then the sender isn't clean until `frames_c_sent` says that all of them were sent. So after
+/// a write that failed, or was short, the caller has nothing to do.
+///
+/// # Errors
+/// No room exactly if they don't fit. Nothing changes, and the next send writes the same as without this one.
 #[unsafe(no_mangle)]
 pub extern "C" fn frames_c_send(
     sender: &mut FrameSender,
@@ -49,7 +51,10 @@ pub extern "C" fn frames_c_send(
     written(sender.send(message, dest))
 }
 
-/// The same of a plain message: its bytes alone. Where it doesn't fit it is refused, and nothing changes.
+/// Writes the bytes of a plain send, of the message without its length, as `frames_c_send` does.
+///
+/// # Errors
+/// No room exactly if they don't fit. Nothing changes.
 #[unsafe(no_mangle)]
 pub extern "C" fn frames_c_send_plain(
     sender: &mut FrameSender,
@@ -73,7 +78,7 @@ pub extern "C" fn frames_c_send_plain(
     written(sender.send_plain(message, dest))
 }
 
-/// Says that all the bytes of the last send went out: the sender is clean.
+/// Makes the sender clean. Call it once all the bytes of the last send were sent.
 #[unsafe(no_mangle)]
 pub extern "C" fn frames_c_sent(sender: &mut FrameSender)
     ensures clean { is_clean sender.new.clean ≡ true }
@@ -90,8 +95,11 @@ pub extern "C" fn frames_c_crc32(bytes: &[u8]) -> u32
     sealed::crc32(bytes)
 }
 
-/// Puts the sum of the first `size` bytes of a buffer behind them, as four bytes, the lowest first: `size + 4` bytes are to be sent
-/// then. Where they have no room it is refused, and the buffer stays as it is.
+/// Appends the CRC-32 of the first `size` bytes of a buffer to them, as four bytes, the lowest first, and returns how many bytes are to
+/// be sent: `size + 4`.
+///
+/// # Errors
+/// No room if they don't fit; the buffer is unchanged.
 #[unsafe(no_mangle)]
 pub extern "C" fn frames_c_seal(buffer: &mut [u8], size: usize) -> FramesWritten
     ensures fits { size + 4 ≤ length buffer.old → result.status ≡ done }
@@ -106,7 +114,10 @@ pub extern "C" fn frames_c_seal(buffer: &mut [u8], size: usize) -> FramesWritten
     written(frames::seal(buffer, size))
 }
 
-/// How many bytes of a message stand before its sum; invalid where its last four bytes aren't that.
+/// How many bytes of a message precede its sum.
+///
+/// # Errors
+/// Invalid if its last four bytes aren't that sum.
 #[unsafe(no_mangle)]
 pub extern "C" fn frames_c_unseal(message: &[u8]) -> FramesWritten
     ensures length { result.status ≡ done → result.length + 4 ≡ length message.now }

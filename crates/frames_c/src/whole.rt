@@ -1,4 +1,4 @@
-//! Messages and frames that are there as a whole.
+//! Whole messages and whole frames.
 ghost use Rattle.std.specs.Prelude.{◌≡◌, ◌≢◌, ◌<◌, ◌≤◌, ◌^◌, ℕ, List, [], length, take, drop};
 ghost use Rattle.cobs.specs.Frames.{Frame, shortest_frame, part, most_length};
 ghost use Rattle.cobs.specs.InPlace.{stretch, in_place, overwritten};
@@ -9,7 +9,7 @@ ghost use Rattle.frames_c.specs.Answers.{IsReport, IsLength};
 
 use crate::answers::{FramesRead, FramesWritten, measured, read, written};
 
-/// The most bytes that the frame of a message of `length` bytes has; 0 where no message is so long.
+/// The greatest length of a frame of a message of `length` bytes; 0 from 2^63 on, which no message has.
 #[unsafe(no_mangle)]
 pub extern "C" fn frames_c_most_encoded_length(length: usize) -> usize
     ensures most { length < 2 ^ 63 → result ≡ most_length length }
@@ -18,7 +18,7 @@ pub extern "C" fn frames_c_most_encoded_length(length: usize) -> usize
     frames::most_encoded_length(length).unwrap_or(0)
 }
 
-/// The length of the frame of a message: what encoding needs, and no more.
+/// The length of the frame of a message: exactly what encoding needs.
 #[unsafe(no_mangle)]
 pub extern "C" fn frames_c_encoded_length(source: &[u8]) -> usize
     ensures { result ≡ length (shortest_frame source.now) }
@@ -26,7 +26,10 @@ pub extern "C" fn frames_c_encoded_length(source: &[u8]) -> usize
     frames::encoded_length(source)
 }
 
-/// Writes the frame of a message to the front of `dest`. Where it doesn't fit it is refused, and `dest` stays as it is.
+/// Writes the frame of a message to the front of `dest`, and returns its length.
+///
+/// # Errors
+/// No room exactly if it doesn't fit; `dest` is unchanged.
 #[unsafe(no_mangle)]
 pub extern "C" fn frames_c_encode(source: &[u8], dest: &mut [u8]) -> FramesWritten
     ensures fits { length (shortest_frame source.now) ≤ length dest.old → result.status ≡ done }
@@ -38,7 +41,10 @@ pub extern "C" fn frames_c_encode(source: &[u8], dest: &mut [u8]) -> FramesWritt
     written(frames::encode(source, dest))
 }
 
-/// The same with every byte of the frame XORed with the sentinel, so that no byte of it is the sentinel.
+/// Does the same with each byte of the frame XORed with the sentinel: no byte of it is the sentinel.
+///
+/// # Errors
+/// No room exactly if it doesn't fit; `dest` is unchanged.
 #[unsafe(no_mangle)]
 pub extern "C" fn frames_c_encode_with_sentinel(
     source: &[u8],
@@ -55,11 +61,17 @@ pub extern "C" fn frames_c_encode_with_sentinel(
     written(frames::encode_with_sentinel(source, dest, sentinel))
 }
 
-/// Decodes the first frame of a source: leading zeros are skipped, and the frame ends at the next zero or at the end. The message
-/// then stands in front of `dest`. The zeros, the frame and its zero, where there is one, are the bytes used.
+/// Decodes the first frame of a source into the front of `dest`, and returns how many bytes were used and the message's length.
 ///
-/// Empty where no byte is nonzero; no room where `dest` has none for what the bytes decide, and else invalid where they are no
-/// frame. What they decide of a message is then in front of `dest`, as far as there is room.
+/// Leading zeros are skipped, and the frame ends at the next zero or at the end. The zeros, the frame and its zero, if there is one,
+/// are the bytes used.
+///
+/// # Errors
+/// - Empty: no byte is nonzero.
+/// - No room: `dest` is too short for the bytes that the frame determines.
+/// - Invalid: otherwise, the bytes aren't a frame.
+///
+/// The bytes of a message that they determine are then in front of `dest`, as far as they fit.
 #[unsafe(no_mangle)]
 pub extern "C" fn frames_c_decode(source: &[u8], dest: &mut [u8]) -> FramesRead
     ensures answer { IsReport (decoded_from (length dest.old) source.now)
@@ -73,11 +85,14 @@ pub extern "C" fn frames_c_decode(source: &[u8], dest: &mut [u8]) -> FramesRead
     read(frames::decode(source, dest))
 }
 
-/// Decodes the bytes before the first sentinel, or all where there is none, each XORed with it. The message then stands in front of
-/// `dest`. A source with no such bytes gives length 0.
+/// Decodes the bytes before the first sentinel, or all if there is none, each XORed with it, into the front of `dest`. Returns the
+/// message's length; 0 if there are no such bytes.
 ///
-/// Invalid where the bytes are no frame; no room where they are one whose message is longer than `dest`. What they decide of a
-/// message is then in front of `dest`, as far as there is room.
+/// # Errors
+/// - Invalid: the bytes aren't a frame.
+/// - No room: they are a frame, and its message is longer than `dest`.
+///
+/// The bytes of a message that they determine are then in front of `dest`, as far as they fit.
 #[unsafe(no_mangle)]
 pub extern "C" fn frames_c_decode_with_sentinel(
     source: &[u8],
@@ -95,10 +110,12 @@ pub extern "C" fn frames_c_decode_with_sentinel(
     measured(frames::decode_with_sentinel(source, dest, sentinel))
 }
 
-/// Decodes the bytes before the first sentinel, or all where there is none, each XORed with it, over themselves. The message then
-/// stands in front. The sentinel isn't among the bytes used, and all from there on are as they were.
+/// Decodes the bytes before the first sentinel, or all if there is none, each XORed with it, in place: the message is then in front.
 ///
-/// Invalid where the bytes are no frame; what they decide of a message then stands in front.
+/// The sentinel isn't among the bytes used, and it and all after it are unchanged.
+///
+/// # Errors
+/// Invalid: the bytes aren't a frame; the bytes of a message that they determine are then in front.
 #[unsafe(no_mangle)]
 pub extern "C" fn frames_c_decode_in_place(buffer: &mut [u8], sentinel: u8) -> FramesRead
     ensures answer { IsReport (in_place (stretch (masked sentinel buffer.old)))

@@ -1,4 +1,4 @@
--- Where a small receiver stands, by what it and its caller's buffer hold.
+-- Which stream a small receiver has received, by what it and its caller's buffer hold.
 use Rattle.std.specs.Prelude.{◌≡◌, ℕ, ◌<◌, ◌≤◌, true, false, List, length, take, Option, Some, None}
 use Rattle.std.specs.List.{AllByRecursion}
 use Rattle.cobs.specs.Frames.{part, after}
@@ -8,44 +8,56 @@ use Rattle.frames.specs.declared.receiving.FrameEvent.{FrameEvent}
 use Rattle.frames.specs.declared.receiving.FramePush.{FramePush}
 use Rattle.frames_small.specs.declared.receiving.SmallReceiver.{SmallReceiver}
 
--- bytes that may be those of a frame
+-- bytes that can be of a frame
 abbrev pub AreCodes : List ℕ → Type 0
 AreCodes p = AllByRecursion (λ b. (0 < b) × (b < 256)) p
 
--- These bytes of a stretch, as they are without the sentinel, were taken in: what they decide of a message stands in front of the
+-- These bytes of a stretch (without the sentinel's XOR) were taken: the part of the message that they determine is in front of the
 -- buffer, and the receiver knows what their last block still needs.
 pub record Decides (r : SmallReceiver) (buffer p : List ℕ) : Type 0 where
+  -- how many they are
   pub stretch : r.stretch ≡ length p
+  -- how many bytes of a message they determine
   pub decided : r.decided ≡ length (part p)
+  -- these are in front of the buffer
   pub stands : take r.decided buffer ≡ part p
+  -- how many bytes the last block still needs
   pub left : r.left ≡ (after 0 false p).0
+  -- whether a zero comes before the next block
   pub owes : r.owes ≡ (after 0 false p).1
+  -- none of them is the sentinel
   pub codes : AreCodes p
 
--- what of a stretch is begun, by what a receiver and its buffer hold
+-- what has begun of a stretch, by what a receiver and its buffer hold: these bytes, or too many
 abbrev pub SmallIsBegunOver : SmallReceiver → List ℕ → Begun → Type 0
 SmallIsBegunOver r buffer (kept p) = (r.past ≡ false) × Decides r buffer p
 SmallIsBegunOver r buffer over = r.past ≡ true
 
--- a receiver over a buffer, which is its limit, and of this sentinel has begun this
+-- A receiver of this sentinel, over a buffer of this limit, has begun this.
 pub record SmallStandsAt (limit s : ℕ) (r : SmallReceiver) (buffer : List ℕ) (b : Begun) : Type 0 where
+  -- the limit is the buffer's length
   pub room : length buffer ≡ limit
+  -- the sentinel is the receiver's
   pub sentinel : r.sentinel ≡ s
+  -- a stretch determines no more bytes than it has
   pub decided : r.decided ≤ r.stretch
+  -- the stretch is within the limit
   pub stretch : r.stretch ≤ limit
+  -- what has begun
   pub begun : SmallIsBegunOver r buffer b
 
--- What a push needs: no more bytes are begun than the buffer has, and no more decided than begun. A new receiver has it, and each push
--- keeps it.
+-- What a push needs. A new receiver has it over any buffer, and each push keeps it.
 pub record MayPush (r : SmallReceiver) (buffer : List ℕ) : Type 0 where
+  -- no more bytes are determined than begun
   pub decided : r.decided ≤ r.stretch
+  -- no more bytes are begun than the buffer has
   pub fits : r.stretch ≤ length buffer
 
--- it stands behind this stream
+-- it has received this stream
 abbrev pub SmallStandsBehind : ℕ → ℕ → SmallReceiver → List ℕ → List ℕ → Type 0
 SmallStandsBehind limit s r buffer stream = SmallStandsAt limit s r buffer (begun limit s stream)
 
--- what one byte brought about, behind so many of a stretch, as a push
+-- the push of one byte with this event, after so many bytes of a stretch
 abbrev pub by_byte : ℕ → Option FrameEvent → FramePush
 by_byte n None = found 1 0 None
 by_byte n (Some e) = found 1 n (Some e)

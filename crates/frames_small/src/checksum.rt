@@ -1,4 +1,4 @@
-//! The sum CRC-32, bit by bit: with no table.
+//! CRC-32, bit by bit, without a table.
 ghost use Rattle.std.specs.Prelude.{◌≡◌, ◌<◌, ◌≤◌, ◌+◌, ◌++◌, ℕ, List, length, take, drop, OnOk, OnErr, IfOk, IfSome, IsNone};
 ghost use Rattle.sealed.specs.Checksum.{shifted, behind_byte, behind_bytes, sum_of_bytes};
 ghost use Rattle.frames.specs.Seals.{seal_bytes};
@@ -16,7 +16,7 @@ fn add_bit(state: u32) -> u32
     }
 }
 
-// The register behind one byte more.
+// The register after one more byte.
 fn add_byte(state: u32, byte: u8) -> u32
     ensures { result ≡ behind_byte state byte }
 {
@@ -29,7 +29,7 @@ fn add_byte(state: u32, byte: u8) -> u32
     moved
 }
 
-// The register behind these bytes.
+// The register after these bytes.
 fn add_bytes(state: u32, bytes: &[u8]) -> u32
     ensures { result ≡ behind_bytes state bytes.now }
 {
@@ -61,11 +61,10 @@ fn seal_of(message: &[u8]) -> [u8; 4]
 }
 
 /// Appends the CRC-32 of the first `size` bytes of a buffer to them, as four bytes, the lowest first, and returns how many bytes are to
-/// be sent then: `size + 4`.
+/// be sent: `size + 4`.
 ///
 /// # Errors
-///
-/// `DestBufTooSmallError` if they don't fit; the buffer stays as it is.
+/// `DestBufTooSmallError` if they don't fit; the buffer is unchanged.
 pub fn seal(buffer: &mut [u8], size: usize) -> Result<usize, DestBufTooSmallError>
     ensures length { IfOk result (λ n. n ≡ size + 4) }
     ensures sealed { OnOk result (take (size + 4) buffer.new
@@ -85,7 +84,7 @@ pub fn seal(buffer: &mut [u8], size: usize) -> Result<usize, DestBufTooSmallErro
     Ok(size + 4)
 }
 
-/// How many bytes of a message precede its sum; nothing if its last four bytes aren't that.
+/// How many bytes of a message precede its sum; `None` if its last four bytes aren't that sum.
 pub fn unseal(message: &[u8]) -> Option<usize>
     ensures length { IfSome result (λ n. n + 4 ≡ length message.now) }
     ensures sealed { IfSome result

@@ -1,4 +1,6 @@
-//! Messages of bytes with their length in front, as postcard spells a byte string.
+//! Counted messages: preceded by their length, as postcard encodes a byte string.
+//!
+//! Functions are small because facts are lost in a proof where branches join, and because each is then a pair with a function in C.
 ghost use Rattle.std.specs.Prelude.{◌≡◌, ℕ, ◌+◌, ◌<◌, ◌≤◌, List, length, take, drop, Some, IfSome, IsNone};
 ghost use Rattle.postcard_tree.specs.Number.{IsGrouped, grouped_value};
 ghost use Rattle.postcard_tree.specs.Reading.{NoFront, ReadsBytes, RefusesGroups};
@@ -10,7 +12,7 @@ ghost use Rattle.frames_small.specs.Standing.{by_byte};
 
 use frames::FrameEvent;
 
-// How many bytes the count has that a message begins with: those through the first below 128. 0 where the first ten have none.
+// The length of the count that a message begins with: the bytes through the first below 128. 0 if none of the first ten is below 128.
 fn count_end(message: &[u8]) -> usize
     ensures within { result ≤ length message.now }
     ensures few { result ≤ 10 }
@@ -30,8 +32,8 @@ fn count_end(message: &[u8]) -> usize
     0
 }
 
-// The number that groups of seven bits are, of which the first is the lowest: taken from the last on, so that it never gets greater than
-// it is. None where it is more than `most`.
+// The number in groups of seven bits, the lowest group first; None if it is more than `most`. It is read from the last group on, because
+// no step then exceeds the number itself: nothing wraps at any width.
 fn value_of(groups: &[u8], most: usize) -> Option<usize>
     ensures some { IfSome result (λ n. n ≡ grouped_value groups.now) }
     ensures few { IfSome result (λ n. n ≤ most) }
@@ -52,7 +54,7 @@ fn value_of(groups: &[u8], most: usize) -> Option<usize>
     Some(n)
 }
 
-// Where the bytes of a counted message stand in it.
+// The position and length of a counted message's bytes in it.
 fn counted(message: &[u8]) -> Option<(usize, usize)>
     ensures read { IfSome result (λ p. (rest : List ℕ)
         × ReadsFront ReadsBytes message.now rest (take p.1 (drop p.0 message.now))) }
@@ -69,7 +71,7 @@ fn counted(message: &[u8]) -> Option<(usize, usize)>
     }
 }
 
-// What came about by counted messages, where a plain one stands in front of the buffer.
+// The event of counted messages, for that of plain ones: a plain message is in front of the buffer.
 fn counted_event(event: FrameEvent, buffer: &[u8]) -> FrameEvent
     requires front { IsInFront (Some event) }
     requires within { IsInRoom (length buffer.now) (Some event) }
@@ -89,7 +91,7 @@ fn counted_event(event: FrameEvent, buffer: &[u8]) -> FrameEvent
     }
 }
 
-// The same where something may have come about.
+// The same if there may be an event.
 pub(crate) fn as_counted(event: Option<FrameEvent>, buffer: &[u8]) -> Option<FrameEvent>
     requires front { IsInFront event }
     requires within { IsInRoom (length buffer.now) event }

@@ -1,11 +1,11 @@
-//! The functions of `bindings/c/frames_small.h`: a receiver that takes one byte a call and decodes it at once, a sender that hands out one
+//! The functions of `bindings/c/frames_small.h`: a receiver that takes one byte a call and decodes it at once, a sender that writes one
 //! byte a call, and a CRC-32 without a table. They promise what `frames` promises.
 //!
 //! | To | Use |
 //! |---|---|
 //! | receive byte by byte | `SmallReceiver`: `push_byte`, of counted messages; `push_byte_plain` |
 //! | send over a line that may break, without a buffer | `SmallSender`: `send`, `send_plain` |
-//! | notice changed bytes | `seal` before a message is sent, `unseal` of what is received; `crc32` |
+//! | notice changed bytes | `seal`, then send; receive, then `unseal`; `crc32` |
 #![tactic(auto)]
 
 mod checksum;

@@ -1,4 +1,4 @@
-//! Receiving frames byte by byte, each decoded as it comes, into a buffer of the caller's.
+//! Receiving frames byte by byte: each byte is decoded as it comes, into the caller's buffer.
 ghost use Rattle.std.specs.Prelude.{◌≡◌, ℕ, ◌+◌, ◌<◌, ◌≤◌, List, [], ◌∷◌, ◌++◌, length, IfOk, OnOk, OnErr};
 ghost use Rattle.link.specs.Stream.{Begun, begun};
 ghost use Rattle.link.specs.Pushes.{begun_length};
@@ -9,13 +9,16 @@ ghost use Rattle.frames_small.specs.Standing.{Decides, MayPush, SmallStandsAt, S
 use crate::counting::as_counted;
 use frames::{FrameEvent, FramePush, WrongBuffer};
 
-/// What a receiver keeps between bytes: numbers. What the begun stretch decides of a message stands in front of its caller's buffer.
+/// A receiver's state between bytes: numbers. The bytes of the message that the begun stretch determines are in front of the caller's
+/// buffer.
+///
+/// Example: see [`SmallReceiver::push_byte`].
 #[repr(C)]
 #[derive(Clone, Copy)]
 pub struct SmallReceiver {
     /// How many bytes the begun stretch has.
     pub stretch: usize,
-    /// How many of a message they decide.
+    /// How many bytes of a message they determine.
     pub decided: usize,
     /// How many bytes the block still has.
     pub left: u8,
@@ -27,7 +30,7 @@ pub struct SmallReceiver {
     pub sentinel: u8,
 }
 
-// What one byte brought about, behind so many of a stretch, as a push.
+// The push of one byte with this event, after so many bytes of a stretch.
 fn brought(stretch: usize, event: Option<FrameEvent>) -> FramePush
     ensures { result ≡ by_byte stretch event }
 {
@@ -46,7 +49,7 @@ fn brought(stretch: usize, event: Option<FrameEvent>) -> FramePush
 }
 
 impl SmallReceiver {
-    /// A receiver between stretches.
+    /// A receiver that has received nothing, of frames that end with this byte and whose bytes are each XORed with it.
     pub fn new(sentinel: u8) -> SmallReceiver
         ensures { (buffer : List ℕ)
             → SmallStandsBehind (length buffer) sentinel result buffer [] }
@@ -61,7 +64,7 @@ impl SmallReceiver {
         }
     }
 
-    // What a sentinel brings about.
+    // The event at a sentinel.
     fn kind(&self, buffer: &[u8]) -> Option<FrameEvent>
         requires decided { self.now.decided ≤ self.now.stretch }
         requires fits { self.now.stretch ≤ length buffer.now }
@@ -112,7 +115,7 @@ impl SmallReceiver {
         kind
     }
 
-    // Takes in a byte of a stretch, as it is without the sentinel.
+    // Decodes a byte of a stretch, without the sentinel's XOR.
     fn take(&mut self, buffer: &mut [u8], byte: u8)
         requires some { 0 < byte }
         requires decided { self.old.decided ≤ self.old.stretch }
@@ -140,7 +143,7 @@ impl SmallReceiver {
         }
     }
 
-    // Takes a byte.
+    // Takes a byte, and returns its event of plain messages.
     fn take_byte(&mut self, buffer: &mut [u8], byte: u8) -> Option<FrameEvent>
         requires decided { self.old.decided ≤ self.old.stretch }
         requires fits { self.old.stretch ≤ length buffer.old }
@@ -170,7 +173,7 @@ impl SmallReceiver {
         None
     }
 
-    // Takes a byte, and answers what it brings about, of plain messages.
+    // Takes a byte, and returns its event, of plain messages.
     fn push_plain(&mut self, buffer: &mut [u8], byte: u8) -> Option<FrameEvent>
         requires decided { self.old.decided ≤ self.old.stretch }
         requires fits { self.old.stretch ≤ length buffer.old }
@@ -189,7 +192,7 @@ impl SmallReceiver {
         self.take_byte(buffer, byte)
     }
 
-    // The same of counted messages.
+    // The same for counted messages.
     fn push(&mut self, buffer: &mut [u8], byte: u8) -> Option<FrameEvent>
         requires decided { self.old.decided ≤ self.old.stretch }
         requires fits { self.old.stretch ≤ length buffer.old }
@@ -209,12 +212,25 @@ impl SmallReceiver {
         as_counted(event, buffer)
     }
 
-    /// Takes a byte, and returns what it brings about, of counted messages, as `push_byte` of `frames`. The buffer is the limit, and always
-    /// the same.
+    /// Takes a byte, and returns its event, if there is one, of counted messages, as `push_byte` of `frames` does.
+    ///
+    /// The buffer's length is the limit. Pass the same buffer to each call, and leave its front as it is between two calls.
     ///
     /// # Errors
+    /// `WrongBuffer` if more bytes are begun than the buffer has, or the receiver's numbers are no receiver's. Nothing changes.
     ///
-    /// `WrongBuffer` if more bytes are begun than the buffer has, or the receiver's numbers can't be: nothing changes.
+    /// # Example
+    /// ```rust
+    /// let mut receiver = SmallReceiver::new(0);
+    /// let mut buffer = [0u8; 4];
+    /// let mut event = None;
+    /// for byte in line {
+    ///     match receiver.push_byte(&mut buffer, byte) {
+    ///         Ok(push) => event = push.event,
+    ///         Err(_) => check(&rt, false),
+    ///     }
+    /// }
+    /// ```
     pub fn push_byte(&mut self, buffer: &mut [u8], byte: u8) -> Result<FramePush, WrongBuffer>
         ensures used { IfOk result (λ p. p.used ≡ 1) }
         ensures stands { IfOk result (λ p. (limit s : ℕ) (stream : List ℕ)
@@ -238,11 +254,10 @@ impl SmallReceiver {
         Ok(brought(stretch, event))
     }
 
-    /// The same of plain messages.
+    /// Does the same for plain messages.
     ///
     /// # Errors
-    ///
-    /// `WrongBuffer` if more bytes are begun than the buffer has, or the receiver's numbers can't be: nothing changes.
+    /// `WrongBuffer` if more bytes are begun than the buffer has, or the receiver's numbers are no receiver's. Nothing changes.
     pub fn push_byte_plain(&mut self, buffer: &mut [u8], byte: u8) -> Result<FramePush, WrongBuffer>
         ensures used { IfOk result (λ p. p.used ≡ 1) }
         ensures stands { IfOk result (λ p. (limit s : ℕ) (stream : List ℕ)
@@ -266,7 +281,7 @@ impl SmallReceiver {
         Ok(brought(stretch, event))
     }
 
-    /// How many bytes have come since the last sentinel: 0 if they are too many.
+    /// How many bytes have come since the last sentinel; 0 if they are more than the limit.
     pub fn begun(&self) -> usize
         ensures begun { (limit s : ℕ) (buffer stream : List ℕ)
             → SmallStandsBehind limit s self.now buffer stream

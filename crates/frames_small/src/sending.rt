@@ -1,4 +1,4 @@
-//! Sending frames with no buffer: each byte goes out by itself.
+//! Sending frames without a buffer, byte by byte.
 ghost use Rattle.std.specs.Prelude.{◌≡◌, true, false, OnOk, OnErr, ◌+◌, ◌-◌, ◌<◌, ◌≤◌, ◌∷◌, [], ◌++◌, ◌^◌, length, take, drop, slice_index};
 ghost use Rattle.cobs.specs.Frames.{NoZero, block};
 ghost use Rattle.cobs.specs.Sentinel.{masked, frame_for};
@@ -10,7 +10,7 @@ ghost use Rattle.line_io.specs.Transfers.{WentOrBroke};
 use line_io::{Outlet, WriteFault, write_all};
 use postcard_tree::varint::varint_usize;
 
-// The byte at a place of a message with its count in front: `FRAMES_SMALL_AT`.
+// The byte at position `i` of a message with its count in front: `FRAMES_SMALL_AT`.
 fn byte_at(count: &[u8], message: &[u8], i: usize) -> u8
     requires { i < length count.now + length message.now }
     ensures { result ≡ slice_index (count.now ++ message.now) i }
@@ -22,7 +22,8 @@ fn byte_at(count: &[u8], message: &[u8], i: usize) -> u8
     }
 }
 
-// How many bytes from a place on aren't zero, as many as a block may have at most.
+// How many bytes from a position on aren't zero, at most those of a full block. The sender has no buffer, so a block's bytes are read
+// once here and once when they are sent.
 fn run_at(count: &[u8], message: &[u8], at: usize, end: usize) -> usize
     requires end { end ≡ length count.now + length message.now }
     requires within { at ≤ end }
@@ -52,7 +53,7 @@ fn put<W: Outlet>(outlet: &mut W, byte: u8) -> Result<(), WriteFault>
     write_all(outlet, &[byte])
 }
 
-// Sends the bytes from a place on.
+// Sends bytes from a position on.
 fn put_bytes<W: Outlet>(
     outlet: &mut W,
     count: &[u8],
@@ -76,7 +77,7 @@ fn put_bytes<W: Outlet>(
     Ok(())
 }
 
-// Sends a block: its code, and the bytes from a place on.
+// Sends a block: its code, and the bytes from a position on.
 fn put_block<W: Outlet>(
     outlet: &mut W,
     count: &[u8],
@@ -97,7 +98,7 @@ fn put_block<W: Outlet>(
     }
 }
 
-// Where the next block begins: behind the zero that a block stands for, or behind a full block.
+// Where the next block begins: after the zero that a block ends with, or directly after a full block.
 fn behind(at: usize, run: usize) -> usize
     requires { at + run < 2 ^ 64 - 1 }
     ensures zero { run < 254 → result ≡ at + run + 1 }
@@ -133,7 +134,7 @@ fn put_blocks<W: Outlet>(
     }
 }
 
-// Sends the frame of a message with its count in front, and the sentinel behind it.
+// Sends the frame of a message with its count in front, and then the sentinel.
 fn put_ended<W: Outlet>(
     outlet: &mut W,
     count: &[u8],
@@ -155,7 +156,7 @@ fn put_ended<W: Outlet>(
     }
 }
 
-// The same of a counted message.
+// The same for a counted message.
 fn put_counted<W: Outlet>(outlet: &mut W, message: &[u8], sentinel: u8) -> Result<(), WriteFault>
     ensures { WentOrBroke (W.line outlet.old) (W.line outlet.new)
         (frame_for sentinel (short (text_of message.now)) ++ (sentinel ∷ [])) result }
@@ -165,7 +166,7 @@ fn put_counted<W: Outlet>(outlet: &mut W, message: &[u8], sentinel: u8) -> Resul
     put_ended(outlet, count, message, sentinel)
 }
 
-// Sends the sentinel where the sender isn't clean.
+// Sends the sentinel unless the sender is clean.
 fn put_lead<W: Outlet>(outlet: &mut W, clean: bool, sentinel: u8) -> Result<(), WriteFault>
     ensures { WentOrBroke (W.line outlet.old) (W.line outlet.new) (lead sentinel clean) result }
 {
@@ -207,11 +208,13 @@ fn put_plain<W: Outlet>(
     }
 }
 
-/// What a sender keeps: whether all of the last send went out.
+/// A sender's state between calls.
+///
+/// Example: see [`SmallSender::send`].
 #[repr(C)]
 #[derive(Clone, Copy)]
 pub struct SmallSender {
-    /// Whether all of the last send went out.
+    /// Whether all of the last send was sent.
     pub clean: bool,
     /// The byte that ends a frame.
     pub sentinel: u8,
@@ -229,12 +232,20 @@ impl SmallSender {
         }
     }
 
-    /// Sends a counted message, with no buffer: a sentinel unless all of the last send went out, the frame, a sentinel. These are the
-    /// bytes of a send of a run, as `link` means them, and of `send` of `frames`.
+    /// Sends a counted message: a sentinel unless all of the last send was sent, the frame, a sentinel. These are the bytes of a send as
+    /// `link` defines it, and of `send` of `frames`.
     ///
     /// # Errors
+    /// `WriteFault` if a write failed: a prefix of the bytes was sent, and the next send begins with a sentinel.
     ///
-    /// `WriteFault` where the outlet takes no more: a prefix of the bytes went out then, and the next send begins with a sentinel.
+    /// # Example
+    /// ```rust
+    /// let mut sender = SmallSender::new(0);
+    /// let mut line = [0u8; 6];
+    /// let mut outlet = Out::new(&mut line, 1, None);
+    /// check(&rt, sender.send(&mut outlet, b"hi").is_ok());
+    /// check(&rt, line == [0, 4, 2, b'h', b'i', 0]);
+    /// ```
     pub fn send<W: Outlet>(&mut self, outlet: &mut W, message: &[u8]) -> Result<(), WriteFault>
         ensures went { WentOrBroke (W.line outlet.old) (W.line outlet.new)
             (sent self.old.sentinel self.old.clean (text_of message.now)) result }
@@ -253,11 +264,10 @@ impl SmallSender {
         }
     }
 
-    /// Sends a plain message: the same of its bytes alone, without their length.
+    /// Sends a plain message, its bytes without their length, in the same way.
     ///
     /// # Errors
-    ///
-    /// `WriteFault` where the outlet takes no more: a prefix of the bytes went out then, and the next send begins with a sentinel.
+    /// `WriteFault` if a write failed: a prefix of the bytes was sent, and the next send begins with a sentinel.
     pub fn send_plain<W: Outlet>(
         &mut self,
         outlet: &mut W,

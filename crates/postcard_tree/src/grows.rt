@@ -10,7 +10,7 @@ use crate::variants::{Last, ReadableVariants, Variant, Variants4};
 use arrayvec::{ArrayString, ArrayVec};
 use std::collections::BTreeMap;
 
-/// A type that says whether reading it can allocate, as every type that can be read does. Rust has no such call.
+/// A type that says whether reading it can allocate. Rust has no such call.
 ///
 /// # Example
 /// ```rust

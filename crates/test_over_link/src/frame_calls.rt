@@ -1,10 +1,16 @@
-//! What goes out, and what is received of a line that is damaged: bytes by hand, from the rules.
+//! What is sent, and what is received of a damaged line, by `frames` and `frames_small`: bytes by hand, from the rules.
 
 use crate::checks::check;
-use frames::{FrameEvent, FrameReceiver, FrameSender, encode, encode_with_sentinel, seal, unseal};
+use frames::{
+    FrameEvent, FramePush, FrameReceiver, FrameSender, WrongBuffer, encode, encode_with_sentinel,
+    seal, unseal,
+};
+use frames_small::{SmallReceiver, SmallSender};
+use line_io::memory::Out;
 use std::alloc::Global;
 
-// `hi` with its length; a send that was interrupted inside its block; three bytes that count as nine; nine bytes, which are too many; `yo`.
+// `hi` with its length; a send that was interrupted inside its block; three bytes whose count says nine; nine bytes, which are too many;
+// `yo`.
 const LINE: [u8; 30] = [
     0, 4, 2, b'h', b'i', 0, 9, 7, 0, 5, 9, 1, 2, 3, 0, 1, 1, 1, 1, 1, 1, 1, 1, 1, 0, 4, 2, b'y',
     b'o', 0,
@@ -33,7 +39,7 @@ const HEARD: [(usize, usize, FrameEvent); 5] = [
     ),
 ];
 
-// Whether these are received of the line, byte by byte.
+// Whether these events are received of the line, byte by byte.
 fn is_heard(alloc: Global) -> bool {
     let mut receiver = FrameReceiver::new(0);
     let mut buffer = [0u8; 8];
@@ -61,7 +67,7 @@ fn damaged_line(rt: HostRuntime) {
     check(&rt, is_heard(rt.alloc()));
 }
 
-// Whether a chunk brings about this first event, at the end of so many bytes.
+// Whether a chunk results in this first event, at the end of so many bytes.
 fn brings(alloc: Global, piece: &[u8], used: usize, wanted: FrameEvent, plain: bool) -> bool {
     let mut receiver = FrameReceiver::new(0);
     let mut buffer = [0u8; 8];
@@ -93,6 +99,54 @@ fn pieces(rt: HostRuntime) {
         &rt,
         brings(alloc, &[0, 4, b'p', b'a', b'y', 0], 6, pay, true),
     );
+}
+
+#[test]
+fn one_message(rt: HostRuntime) {
+    let mut receiver = FrameReceiver::new(0);
+    let mut buffer = [0u8; 8];
+    let push = receiver.push(rt.alloc(), &mut buffer, &[0, 4, 2, b'h', b'i', 0, 9]);
+    let event = Some(FrameEvent::Message {
+        start: 1,
+        length: 2,
+    });
+    let used = 6;
+    let stretch = 4;
+    check(
+        &rt,
+        push == Ok(FramePush {
+            used,
+            stretch,
+            event,
+        }),
+    );
+    check(&rt, buffer[1..3] == [b'h', b'i']);
+    check(&rt, receiver.push_plain(&mut buffer, &[9, 9]).is_ok());
+    let another = receiver.push_plain(&mut buffer[..1], &[9]);
+    check(&rt, another == Err(WrongBuffer));
+}
+
+#[test]
+fn small(rt: HostRuntime) {
+    let mut sender = SmallSender::new(0);
+    let mut line = [0u8; 6];
+    let mut outlet = Out::new(&mut line, 1, None);
+    check(&rt, sender.send(&mut outlet, b"hi").is_ok());
+    check(&rt, line == [0, 4, 2, b'h', b'i', 0]);
+    let mut receiver = SmallReceiver::new(0);
+    let mut buffer = [0u8; 4];
+    let mut event = None;
+    for byte in line {
+        match receiver.push_byte(&mut buffer, byte) {
+            Ok(push) => event = push.event,
+            Err(_) => check(&rt, false),
+        }
+    }
+    let message = FrameEvent::Message {
+        start: 1,
+        length: 2,
+    };
+    check(&rt, event == Some(message) && buffer[1..3] == [b'h', b'i']);
 }
 
 #[test]

@@ -1,5 +1,5 @@
-//! Tests of what uses `link`, by public calls alone: `frames`; `link_codec`, polled by hand over memory; `calls`; and the message
-//! types of `example_station`, which go over a line.
+//! Tests of what uses `link`, by public calls alone: `frames`, `frames_small`; `link_codec`, polled by hand over memory; `calls`; and
+//! the message types of `example_station`, which go over a line.
 //!
 //! They are in a crate of their own because a crate with tests is proved twice, once with and once without them.
 #![tactic(auto)]
