@@ -64,6 +64,8 @@ struct Printing<'a> {
     rt: &'a HostRuntime,
     colour: Colour,
     progress: Progress,
+    // where the last stretch ended
+    at: u64,
 }
 
 /// Prints the damage of a log as it is reported, or nothing; and keeps whether there was any.
@@ -81,6 +83,7 @@ impl<'a> Printer<'a> {
                 rt,
                 colour: Colour::new(rt),
                 progress: Progress::new(rt),
+                at: 0,
             }),
             sound: true,
         }
@@ -124,8 +127,8 @@ impl Watcher<Entry> for Printer<'_> {
         ensures halts { OnErr result ⊤ }
     {
         if let Some(to) = &mut self.to {
-            to.progress
-                .step(to.rt, stretch.to.saturating_sub(stretch.from));
+            to.progress.step(to.rt, stretch.to.saturating_sub(to.at));
+            to.at = stretch.to;
         }
         let Some(what) = held_against(&stretch.answer, again) else {
             return Ok(());

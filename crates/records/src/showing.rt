@@ -85,9 +85,10 @@ pub fn write_rest<S: Store, W: Write>(
 ) -> io::Result<Option<ScanError>> {
     let alloc = rt.alloc();
     for _ in 0..u64::MAX {
+        let from = scan.at();
         match scan.next_ended::<Entry, S>(alloc, store) {
             Ok(Some(stretch)) => {
-                progress.step(rt, stretch.to.saturating_sub(stretch.from));
+                progress.step(rt, scan.at().saturating_sub(from));
                 write_wanted(alloc, to, &stretch.answer, wanted, passed)?
             }
             Ok(None) => return Ok(None),
