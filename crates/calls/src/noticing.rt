@@ -16,7 +16,6 @@ use link::{Answer, Hearer};
 ///     hearer: Waiting { client, said: None },
 ///     notice: None,
 /// };
-/// // the server says that its last call was 9
 /// asking.hear(Answer::Value((u64::MAX, 9u64)));
 /// check(&rt, asking.has_enough());
 /// check(&rt, is_number(asking.notice.take(), 9));

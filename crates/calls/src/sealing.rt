@@ -13,7 +13,6 @@ use sealed::Keyed;
 ///
 /// # Example
 /// ```rust
-/// // A request or a reply, with its number and a sum of both.
 /// type Message = Numbered<u32, KEY>;
 /// ```
 pub type Numbered<T, const KEY: u32> = Keyed<(u64, T), KEY>;

@@ -32,7 +32,6 @@ pub struct Halt;
 ///         let Answer::Value((number, Sealed((sealed, value)))) = answer else {
 ///             return Err(Halt);
 ///         };
-///         // a record whose number isn't the sealed one is none
 ///         if number == sealed {
 ///             self.total = self.total.saturating_add(value as u64);
 ///         }
