@@ -32,7 +32,7 @@ use crate::checking::{check, mend};
 use crate::entries::{NULL, OUTPUT, hold_descriptors, say_error, say_failed};
 use crate::following::follow;
 use crate::showing::show;
-use crate::words::{NO_OPTION, TOO_MANY, Wanted, WrongWord, wanted_by};
+use crate::words::{NO_OPTION, TOO_MANY, Wanted, WrongArgument, wanted_by};
 use help::answer;
 use std::io::IsTerminal;
 use std::process::ExitCode;
@@ -42,15 +42,15 @@ const USAGE: &str =
     "usage: records append FILE, show [FILE] [from=N] [last=K] [json], check [FILE], repair, or follow FILE [from=N] [json]";
 
 // Says which word is wrong, and how the program is called.
-fn say_wrong(rt: &HostRuntime, wrong: WrongWord<'_>) -> io::Result<u8> {
-    let WrongWord { word, why } = wrong;
+fn say_wrong(rt: &HostRuntime, wrong: WrongArgument<'_>) -> io::Result<u8> {
+    let WrongArgument { word, why } = wrong;
     eprintln!(rt; "records: {word}: {why}")?;
     eprintln!(rt; "{USAGE}")?;
     Ok(2)
 }
 
 fn wrong(rt: &HostRuntime, word: &str, why: &'static str) -> io::Result<u8> {
-    say_wrong(rt, WrongWord { word, why })
+    say_wrong(rt, WrongArgument { word, why })
 }
 
 // Shows a log by the arguments of `show`.

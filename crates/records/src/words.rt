@@ -2,7 +2,7 @@
 
 /// A wrong argument.
 #[derive(Clone, Copy, Drop)]
-pub struct WrongWord<'a> {
+pub struct WrongArgument<'a> {
     /// The word that is wrong, or after which one is missing.
     pub word: &'a str,
     /// Why.
@@ -31,11 +31,11 @@ pub const TOO_MANY: &str = "one word too many";
 pub const NO_OPTION: &str = "no such option";
 
 // The number after a word's beginning, if the word begins so; an error if that is no number.
-fn number_behind<'a>(word: &'a str, beginning: &str) -> Option<Result<u64, WrongWord<'a>>> {
+fn number_behind<'a>(word: &'a str, beginning: &str) -> Option<Result<u64, WrongArgument<'a>>> {
     let number = word.strip_prefix(beginning)?;
     match number.parse::<u64>() {
         Ok(number) => Some(Ok(number)),
-        Err(_) => Some(Err(WrongWord {
+        Err(_) => Some(Err(WrongArgument {
             word,
             why: "not a number from 0 to 18446744073709551615",
         })),
@@ -46,7 +46,7 @@ fn number_behind<'a>(word: &'a str, beginning: &str) -> Option<Result<u64, Wrong
 ///
 /// # Errors
 /// The first wrong word, and why.
-pub fn wanted_by<'a>(words: &[&'a str]) -> Result<Wanted<'a>, WrongWord<'a>> {
+pub fn wanted_by<'a>(words: &[&'a str]) -> Result<Wanted<'a>, WrongArgument<'a>> {
     let mut wanted = Wanted {
         path: None,
         first: 0,
@@ -64,7 +64,7 @@ pub fn wanted_by<'a>(words: &[&'a str]) -> Result<Wanted<'a>, WrongWord<'a>> {
         } else if wanted.path.is_none() {
             wanted.path = Some(*word);
         } else {
-            return Err(WrongWord {
+            return Err(WrongArgument {
                 word: *word,
                 why: TOO_MANY,
             });
