@@ -10,14 +10,16 @@ use Rattle.calls.specs.declared.client.CallError.TheVariants.{Full, Idle, Unsent
 
 -- where a client stands: its next number, and the call that is pending
 pub record Asker (Q : Type 0) : Type 0 where
+  -- the number of the next call
   pub next : ℕ
+  -- the number and the request of the call that is pending, if one is
   pub pending : Option (ℕ × Q)
 
 -- where this client stands
 abbrev pub asker_of : {W Q : Type 0} {N : ℕ} → Client W Q N → Asker Q
 asker_of c = record { next = c.next; pending = c.pending }
 
--- the number of a call, where there is one
+-- the number of a call, if there is one
 abbrev pub number_of : {Q : Type 0} → Option (ℕ × Q) → Option ℕ
 number_of None = None
 number_of (Some p) = Some p.0
@@ -57,7 +59,7 @@ IsNumbered a = IfSome a.pending (λ p. p.0 < a.next)
 abbrev pub AsksOnePerNumber : (Q : Type 0) → Type 0
 AsksOnePerNumber Q = (a : Asker Q) (steps : List (Step Q)) → IsNumbered a → OnePerNumber (all_tried a steps)
 
--- what a call did, by its answer: a number is left exactly where it isn't full; one that is refused begins no call
+-- what a call did, by its result: a number is left exactly where it isn't full; one that is refused begins no call
 abbrev pub IsCalled : {Q : Type 0} → Asker Q → Asker Q → Q → Result (Unit {0}) CallError → (same : Type 0) → (ℕ × Q → Result (Unit {0}) SendError → Type 0) → Type 0
 IsCalled old new q (Ok u) same sends = (new ≡ stepped old (calls q)) × sends (old.next, q) (Ok tt) × (old.next < no_call)
 IsCalled old new q (Err (Unsent (Refused e))) same sends = (new ≡ old) × sends (old.next, q) (Err (Refused e)) × (old.next < no_call)

@@ -4,8 +4,11 @@ use Rattle.link.specs.Run.{Among}
 
 -- a call that was executed: its number, what it asked, and what was said to it
 pub record Execution (Q R : Type 0) : Type 0 where
+  -- the call's number
   pub number : ℕ
+  -- what was asked
   pub asks : Q
+  -- what was said to it
   pub says : R
 
 -- the execution of a request by this number, with this reply
@@ -21,7 +24,7 @@ next_of (Some e) = e.number + 1
 abbrev pub no_call : ℕ
 no_call = 18446744073709551615
 
--- what goes out of what is said of a request that was passed over, where anything is
+-- what goes out of what is said of a request that was passed over, if anything is
 abbrev pub notices : {R : Type 0} → Option R → List (ℕ × R)
 notices None = []
 notices (Some said) = (no_call, said) ∷ []
@@ -75,7 +78,7 @@ abbrev pub ExecutesCalls : (Q R : Type 0) → Type 0
 ExecutesCalls Q R = (equal : Q → Q → Bool) (passes : ℕ → ℕ → Option R) (kept later : Option (Execution Q R)) (qs : List (ℕ × Q)) (log : List (Execution Q R)) (out : List (ℕ × R)) → ServesAll equal passes kept qs log out later
     → (e : Execution Q R) → In e log → e.number < no_call
 
--- a number stands for one request, however often it is sent
+-- no two requests have one number, however often each is sent
 abbrev pub OnePerNumber : {Q : Type 0} → List (ℕ × Q) → Type 0
 OnePerNumber {Q} sent = (a b : ℕ × Q) → In a sent → In b sent → a.0 ≡ b.0 → a ≡ b
 
@@ -84,21 +87,21 @@ abbrev pub KeptFor : {Q R : Type 0} → (Q → Q → Bool) → Option (Execution
 KeptFor equal None n q r = ⊥
 KeptFor equal (Some e) n q r = (e.number ≡ n) × (equal e.asks q ≡ true) × (e.says ≡ r)
 
--- Whatever a server hears, and whatever it served before: each reply is to a request that it heard by that number, and is what it said
+-- Whatever a server receives, and whatever it served before: each reply is to a request that it received by that number, and is what it said
 -- when it executed that one; or what it had kept, of a request that is the same. A new server had kept nothing.
 abbrev pub RepliesWereSaid : (Q R : Type 0) → Type 0
 RepliesWereSaid Q R = (equal : Q → Q → Bool) (passes : ℕ → ℕ → Option R) (kept : Option (Execution Q R)) (heard : List (ℕ × Q)) (log : List (Execution Q R)) (out : List (ℕ × R)) (later : Option (Execution Q R)) (n : ℕ) (r : R)
     → n < no_call → ServesAll equal passes kept heard log out later → In (n, r) out
     → (q : Q) × In (n, q) heard × (In (call n q r) log ⊎ KeptFor equal kept n q r)
 
--- Whatever a new server heard before, in any order, and however often requests had the same number: what it replies to one has that
+-- Whatever a new server received before, in any order, and however often requests had the same number: what it replies to one has that
 -- one's number, and is what was said when this very request was executed by it, or one that is the same by the test of its type.
 abbrev pub RepliesToTheSame : (Q R : Type 0) → Type 0
 RepliesToTheSame Q R = (equal : Q → Q → Bool) (passes : ℕ → ℕ → Option R) (before : List (ℕ × Q)) (log now : List (Execution Q R)) (out said : List (ℕ × R)) (mid later : Option (Execution Q R)) (n m : ℕ) (q : Q) (r : R)
     → m < no_call → ServesAll equal passes None before log out mid → Serves equal passes mid n q now said later → In (m, r) said
     → (m ≡ n) × (executed : Q) × ((executed ≡ q) ⊎ (equal executed q ≡ true)) × In (call n executed r) (log ++ now)
 
--- Some of what a client sent is heard by a server, whatever that has served before and whoever had asked it, and some of its replies
+-- Some of what a client sent is received by a server, whatever that has served before and whoever had asked it, and some of its replies
 -- come back: a reply to a call's number is what the server said when it executed that call; or what it had kept already, of a request
 -- that is the same by the test of its type. A new server had kept nothing.
 abbrev pub MatchesCalls : (Q R : Type 0) → Type 0

@@ -13,12 +13,12 @@ abbrev pub told_apart : {R : Type 0} → Answer (ℕ × R) → Result R (Answer 
 told_apart (Value p) = if p.0 == no_call then Ok p.1 else Err (Value p)
 told_apart other = Err other
 
--- an answer that is no notice, in front of others
+-- a result that is no notice, in front of others
 abbrev pub before : {R : Type 0} → Result R (Answer (ℕ × R)) → List (Answer (ℕ × R)) → List (Answer (ℕ × R))
 before (Ok said) answers = answers
 before (Err answer) answers = answer ∷ answers
 
--- the answers that are no notices
+-- the results that are no notices
 abbrev pub others : {R : Type 0} → List (Answer (ℕ × R)) → List (Answer (ℕ × R))
 others [] = []
 others (a ∷ answers) = before (told_apart a) (others answers)
@@ -33,11 +33,11 @@ abbrev pub last_notice : {R : Type 0} → Option R → List (Answer (ℕ × R)) 
 last_notice notice [] = notice
 last_notice notice (a ∷ answers) = last_notice (later_notice notice (told_apart a)) answers
 
--- what a hearer makes of answers from which notices are taken out, of which the last is kept
+-- what a hearer makes of results from which notices are taken out, of which the last is kept
 abbrev pub HearsOthers : {H R : Type 0} → (H → List (Answer (ℕ × R)) → H → Type 0) → Noticing H R → List (Answer (ℕ × R)) → Noticing H R → Type 0
 HearsOthers hears old answers new = hears old.hearer (others answers) new.hearer × (new.notice ≡ last_notice old.notice answers)
 
--- it has enough where a notice was heard, or the one behind it has
+-- it has enough where a notice was received, or the one after it has
 abbrev pub enough_noticed : {R : Type 0} → Option R → Bool → Bool
 enough_noticed notice enough = if is_some notice then true else enough
 
@@ -53,7 +53,7 @@ last_then : {R : Type 0} (notice : Option R) (xs ys : List (Answer (ℕ × R))) 
 last_then notice [] ys = refl
 last_then notice (x ∷ xs) ys = last_then (later_notice notice (told_apart x)) xs ys
 
--- that owes what a hearer owes, where the one behind it does
+-- it meets the laws of a hearer, if its own hearer does
 pub notices_laws : {H R : Type 0} (hears : H → List (Answer (ℕ × R)) → H → Type 0)
     → HearerLaws hears → HearerLaws {H = Noticing H R} (HearsOthers hears)
 notices_laws hears laws = record {

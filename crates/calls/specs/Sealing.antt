@@ -11,18 +11,18 @@ use Rattle.calls.specs.declared.sealing.Checked.{Checked}
 use Rattle.calls.specs.declared.sealing.Replies.{Replies}
 use Rattle.calls.specs.declared.sealing.Numbering.{Numbering}
 
--- an answer of the line by its two numbers: a message in which they differ is damaged
+-- a result of the line by its two numbers: a message in which they differ is damaged
 abbrev pub compared : {T : Type 0} {K : ℕ} → Answer (ℕ × Keyed (ℕ × T) K) → Answer (ℕ × Keyed (ℕ × T) K)
 compared (Value p) = if p.0 == p.1.0.0 then Value p else Damaged
 compared other = other
 
--- what a hearer makes of answers whose numbers are compared first
+-- what a hearer makes of results whose numbers are compared first
 abbrev pub HearsCompared : {H T : Type 0} {K : ℕ}
     → (H → List (Answer (ℕ × Keyed (ℕ × T) K)) → H → Type 0)
     → Checked H → List (Answer (ℕ × Keyed (ℕ × T) K)) → Checked H → Type 0
 HearsCompared hears old answers new = hears old.hearer (map compared answers) new.hearer
 
--- that owes what a hearer owes, where the one behind it does
+-- it meets the laws of a hearer, if its own hearer does
 pub compared_laws : {H T : Type 0} {K : ℕ} (hears : H → List (Answer (ℕ × Keyed (ℕ × T) K)) → H → Type 0)
     → HearerLaws hears → HearerLaws {H = Checked H} (HearsCompared hears)
 compared_laws hears laws = record {
@@ -32,11 +32,11 @@ compared_laws hears laws = record {
       (laws.more h.hearer k.hearer m.hearer (map compared a) (map compared b) p q);
 }
 
--- the number inside a reply to the call by this number: the one behind it
+-- the number inside a reply to the call by this number: the one after it
 abbrev pub replied_inside : ℕ → ℕ
 replied_inside n = if n == no_call then 0 else n + 1
 
--- an answer of the line by its two numbers: a reply in which the second isn't behind the first is damaged
+-- a result of the line by its two numbers: a reply in which the second isn't after the first is damaged
 abbrev pub compared_reply : {T : Type 0} {K : ℕ} → Answer (ℕ × Keyed (ℕ × T) K) → Answer (ℕ × Keyed (ℕ × T) K)
 compared_reply (Value p) = if replied_inside p.0 == p.1.0.0 then Value p else Damaged
 compared_reply other = other
@@ -47,7 +47,7 @@ abbrev pub HearsReplies : {H T : Type 0} {K : ℕ}
     → Replies H → List (Answer (ℕ × Keyed (ℕ × T) K)) → Replies H → Type 0
 HearsReplies hears old answers new = hears old.hearer (map compared_reply answers) new.hearer
 
--- that owes what a hearer owes, where the one behind it does
+-- it meets the laws of a hearer, if its own hearer does
 pub replies_laws : {H T : Type 0} {K : ℕ} (hears : H → List (Answer (ℕ × Keyed (ℕ × T) K)) → H → Type 0)
     → HearerLaws hears → HearerLaws {H = Replies H} (HearsReplies hears)
 replies_laws hears laws = record {
@@ -57,13 +57,13 @@ replies_laws hears laws = record {
       (laws.more h.hearer k.hearer m.hearer (map compared_reply a) (map compared_reply b) p q);
 }
 
--- what an application does with a request that has its number inside: the reply has the one behind it
+-- what an application does with a request that has its number inside: the reply has the one after it
 abbrev pub ExecutesNumbered : {A Q R : Type 0} {K : ℕ} → (A → Q → R → A → Type 0)
     → Numbering A → Keyed (ℕ × Q) K → Keyed (ℕ × R) K → Numbering A → Type 0
 ExecutesNumbered executes old asks says new =
     (says.0.0 ≡ replied_inside asks.0.0) × executes old.application asks.0.1 says.0.1 new.application
 
--- what is said of a request that is passed over, with the number inside that stands behind the greatest
+-- what is said of a request that is passed over, with the number inside that stands after the greatest
 abbrev pub passes_numbered : {R : Type 0} {K : ℕ} → Option R → Option (Keyed (ℕ × R) K)
 passes_numbered None = None
 passes_numbered (Some said) = Some (record { 0 = (0, said) })

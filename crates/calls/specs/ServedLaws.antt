@@ -1,4 +1,4 @@
--- What serving is, one request after another: laws of what a service owes as a hearer.
+-- What serving is, one request after another: laws of what a service must meet as a hearer.
 use Rattle.std.proofs.Common.{◌≡◌, ℕ, length, ◌+◌, ◌<◌, ◌≤◌, Bool, true, false, cond, eqb, ◌⊎◌, List, [], ◌∷◌, ◌++◌, Option, Some, None, Result, refl, sym, ap, ◌∙◌, subst, inl, inr, arith, append_assoc}
 use Rattle.std.specs.List.{FoldsTo}
 use Rattle.std.proofs.lemmas.Bool.{eq-eqb, eqb-true}
@@ -25,7 +25,7 @@ use Rattle.calls.specs.declared.service.Service.{Service}
 use Rattle.calls.specs.declared.server.Served.{Served}
 use Rattle.calls.specs.declared.server.Served.TheVariants.{Executed, Again, Other, Passed, NoCall}
 
--- What is in lists one behind the other.
+-- What is in lists one after the other.
 pub in_joined : {A : Type 0} (x : A) (xs ys : List A) → In x (xs ++ ys) → In x xs ⊎ In x ys
 in_joined x [] ys i = inr i
 in_joined x (y ∷ xs) ys (inl e) = inl (inl e)
@@ -110,7 +110,7 @@ module _ {V : Type 0} (limit : ℕ) (writes : V → Option Tree) (valid : V → 
         },
       )
 
-  -- Whether it was sent whole is told alike by the answer and by what became of it.
+  -- Whether it was sent whole is told alike by the result and by what became of it.
   told_alike : (v : V) (r : Result (Unit {0}) SendError) (x : Send) (unsent : Bool) → IsSent limit (writes v) r x → unsent_by_result unsent r ≡ unsent_by_fate unsent (fate_of x)
   told_alike v r (completed t) unsent i = rw i.0 refl
   told_alike v r refused unsent i = rw i.1 refl
@@ -131,7 +131,7 @@ folds_then : {P A : Type 0} (R : P → A → P → Type 0) (p q r : P) (xs ys : 
 folds_then R p q r [] ys h k = subst (λ x. FoldsTo R x ys r) (sym h) k
 folds_then R p q r (x ∷ xs) ys h k = (h.0, h.1, folds_then R h.0 q r xs ys h.2 k)
 
--- The requests among answers one behind the other.
+-- The requests among results one after the other.
 pub requests_then : {V : Type 0} (xs ys : List (Answer V)) → requests_of (xs ++ ys) ≡ requests_of xs ++ requests_of ys
 requests_then [] ys = refl
 requests_then (Value v ∷ xs) ys = ap (λ l. v ∷ l) (requests_then xs ys)
@@ -338,7 +338,7 @@ module _ {A Q R : Type 0} (executes : A → Q → R → A → Type 0) (equal : Q
   executes_one old new kept later u v here there same TooLong unsaid (e, f, g, t) = stays_as old new kept later u v here there e f t (unsaid g)
   executes_one old new kept later u v here there same Cut unsaid (e, f, g, t) = stays_as old new kept later u v here there e f t (unsaid g)
 
--- what a service owes as a hearer
+-- what a service must meet as a hearer
 pub service_laws : {A W Q R : Type 0} {N : ℕ} (executes : A → Q → R → A → Type 0) (equal : Q → Q → Bool) (passes : ℕ → ℕ → Option R) (line : W → LineState) (writes : ℕ × R → Option Tree) (valid : ℕ × R → Type 0)
     → HearerLaws {H = Service A W Q R N} (ServiceHears executes equal passes line writes valid)
 service_laws {A} {W} {Q} {R} {N} executes equal passes line writes valid = record {

@@ -1,4 +1,4 @@
--- What a server does with a request, by its answer, and what a service does with the answers of a line.
+-- What a server does with a request, by its result, and what a service does with the results of a line.
 use Rattle.std.specs.Prelude.{◌≡◌, ℕ, ◌<◌, ◌≤◌, Bool, true, false, List, [], ◌∷◌, Option, Some, None, Result, Ok, Err}
 use Rattle.std.specs.List.{FoldsTo}
 use Rattle.line_io.specs.Device.{LineState}
@@ -58,7 +58,7 @@ IsServed executes equal old new kept later number asks (Other r) = IsStanding eq
 IsServed {Q = Q} {R = R} executes equal old new kept later number asks (Passed r) = (number < no_call) × (e : Execution Q R) × (kept ≡ Some e) × (number < e.number) × (later ≡ kept) × (new ≡ old)
 IsServed executes equal old new kept later number asks NoCall = (no_call ≤ number) × (later ≡ kept) × (new ≡ old)
 
--- what is said of a request that was passed over, where anything is, goes out by the greatest number; else nothing is sent
+-- what is said of a request that was passed over, if anything is, goes out by the greatest number; else nothing is sent
 abbrev pub IsPassed : {R : Type 0} → Option R → (same : Type 0) → (ℕ × R → Result (Unit {0}) SendError → Type 0) → Option (Result (Unit {0}) SendError) → Type 0
 IsPassed None same sends None = same
 IsPassed None same sends (Some r) = ⊥
@@ -99,7 +99,7 @@ abbrev pub unsent_of : Bool → List Fate → Bool
 unsent_of unsent [] = unsent
 unsent_of unsent (f ∷ fates) = unsent_of (unsent_by_fate unsent f) fates
 
--- the requests among the answers of a line
+-- the requests among the results of a line
 abbrev pub requests_of : {V : Type 0} → List (Answer V) → List V
 requests_of [] = []
 requests_of (Value v ∷ more) = v ∷ requests_of more
@@ -108,14 +108,23 @@ requests_of (_ ∷ more) = requests_of more
 -- What was executed of requests, and replied: some of them, in their order, each number once at most and above those before; the
 -- replies are one session. Whether one of them wasn't sent whole is told.
 pub record Executes {A Q R : Type 0} (executes : A → Q → R → A → Type 0) (equal : Q → Q → Bool) (passes : ℕ → ℕ → Option R) (limit : ℕ) (writes : ℕ × R → Option Tree) (valid : ℕ × R → Type 0) (old new : A) (kept later : Option (Execution Q R)) (unsent unsent' : Bool) (before after : SenderPlace) (requests : List (ℕ × Q)) : Type 0 where
+  -- the requests that were executed, in order
   pub log : List (Execution Q R)
+  -- the replies and notices, in order
   pub out : List (ℕ × R)
+  -- whether each of these was sent whole
   pub fates : List Fate
+  -- these are executed and replied when the requests are served in turn
   pub served : ServesAll equal passes kept requests log out later
+  -- each executed number is above those before, and above the last one that was kept
   pub rises : Rises (next_of kept) log
+  -- the application executed these, in order, and nothing else
   pub ran : FoldsTo (Runs executes) old log new
+  -- the replies were sent as one session
   pub replied : SaysAll limit writes valid before after out fates
+  -- the sender keeps its sentinel
   pub sentinel : after.sentinel ≡ before.sentinel
+  -- `unsent` is set if a reply wasn't sent whole, and otherwise as it was
   pub told : unsent' ≡ unsent_of unsent fates
 
 -- One answer of the line: a request is served, and anything else changes nothing.
@@ -124,7 +133,7 @@ TakesAnswer executes equal passes old new kept later unsent unsent' same sends (
 TakesAnswer executes equal passes old new kept later unsent unsent' same sends _ =
     (new ≡ old) × (later ≡ kept) × same × (unsent' ≡ unsent)
 
--- what a service makes of the answers of a line
+-- what a service makes of the results of a line
 abbrev pub ServiceHears : {A W Q R : Type 0} {N : ℕ} → (A → Q → R → A → Type 0) → (Q → Q → Bool) → (ℕ → ℕ → Option R) → (W → LineState) → (ℕ × R → Option Tree) → (ℕ × R → Type 0) → Service A W Q R N → List (Answer (ℕ × Q)) → Service A W Q R N → Type 0
 ServiceHears {N = N} executes equal passes line writes valid old answers new =
     Executes executes equal passes N writes valid old.application new.application (kept_of old.server) (kept_of new.server) old.unsent new.unsent

@@ -1,4 +1,4 @@
--- What a client that waits makes of the answers of a line.
+-- What a client that waits makes of the results of a line.
 use Rattle.std.specs.Prelude.{◌≡◌, ℕ, Bool, is_none, ◌==◌, if◌then◌else◌, List, [], ◌∷◌, Option, Some, None}
 use Rattle.std.proofs.Common.{◌++◌, refl, sym, ap, ◌∙◌}
 use Rattle.link.specs.Each.{HearerLaws}
@@ -9,7 +9,9 @@ use Rattle.calls.specs.declared.waiting.Waiting.{Waiting}
 
 -- where a client that waits stands: its client, and what was said to its call
 pub record Waiter (Q R : Type 0) : Type 0 where
+  -- the client: its next number and its pending call
   pub asker : Asker Q
+  -- the reply that was accepted last, if it is still there
   pub said : Option R
 
 -- where this client that waits stands
@@ -25,7 +27,7 @@ abbrev pub after_reply : {Q R : Type 0} → Waiter Q R → Option (ℕ × Q) →
 after_reply w None n r = w
 after_reply w (Some p) n r = if n == p.0 then record { asker = stepped w.asker ends; said = Some r } else w
 
--- an answer of the line: only a reply changes anything
+-- a result of the line: only a reply changes anything
 abbrev pub after_answer : {Q R : Type 0} → Waiter Q R → Answer (ℕ × R) → Waiter Q R
 after_answer w (Value p) = after_reply w w.asker.pending p.0 p.1
 after_answer w _ = w
@@ -39,11 +41,11 @@ after_answers w (a ∷ answers) = after_answers (after_answer w a) answers
 abbrev pub anew : {Q R : Type 0} → Waiter Q R → Waiter Q R
 anew w = if is_over w.asker then w else record { asker = w.asker; said = None }
 
--- what a client that waits makes of answers; it sends nothing
+-- what a client that waits makes of results; it sends nothing
 abbrev pub WaitingHears : {W Q R : Type 0} {N : ℕ} → Waiting W Q R N → List (Answer (ℕ × R)) → Waiting W Q R N → Type 0
 WaitingHears old answers new = (waiter_of new ≡ after_answers (waiter_of old) answers) × (sender_of new.client ≡ sender_of old.client)
 
--- what waiting makes of answers: what was said to an earlier call is let go first
+-- what waiting makes of results: what was said to an earlier call is let go first
 abbrev pub WaitsAnew : {W Q R : Type 0} {N : ℕ} → Waiting W Q R N → List (Answer (ℕ × R)) → Waiting W Q R N → Type 0
 WaitsAnew old answers new = (waiter_of new ≡ after_answers (anew (waiter_of old)) answers) × (sender_of new.client ≡ sender_of old.client)
 
@@ -51,7 +53,7 @@ after_more : {Q R : Type 0} (w : Waiter Q R) (xs ys : List (Answer (ℕ × R))) 
 after_more w [] ys = refl
 after_more w (x ∷ xs) ys = after_more (after_answer w x) xs ys
 
--- what a client that waits owes as a hearer
+-- what a client that waits must meet as a hearer
 pub waiting_laws : {W Q R : Type 0} {N : ℕ} → HearerLaws {H = Waiting W Q R N} WaitingHears
 waiting_laws = record {
   none = λ h. (refl, refl);

@@ -10,8 +10,9 @@ use link::{Answer, SendError, Sender};
 use postcard::{Readable, Serialize};
 
 impl<W: Outlet, Q: Serialize + Drop, const N: usize> Client<W, Q, N> {
-    /// A client whose first call has this number, which is to be above those of all clients before it, and whose requests this
-    /// sender sends.
+    /// A client that sends its requests by this sender, and whose first call has the number `first`.
+    ///
+    /// `first` must be above all numbers that the server has received, for example from a file: lower ones are passed over.
     pub fn new(sender: Sender<W, N>, first: u64) -> Client<W, Q, N>
         ensures asker { asker_of result ≡ record { next = first; pending = None } }
         ensures sender { sender_of result ≡ sender }
@@ -23,14 +24,14 @@ impl<W: Outlet, Q: Serialize + Drop, const N: usize> Client<W, Q, N> {
         }
     }
 
-    /// The number of the next call, where one is left.
+    /// The number of the next call. If it is the greatest `u64`, no number is left.
     pub fn next(&self) -> u64
         ensures { result ≡ (asker_of self.now).next }
     {
         self.next
     }
 
-    /// The number of the call that is pending.
+    /// The number of the pending call, if there is one.
     pub fn pending(&self) -> Option<u64>
         ensures { result ≡ number_of (asker_of self.now).pending }
     {
@@ -40,11 +41,27 @@ impl<W: Outlet, Q: Serialize + Drop, const N: usize> Client<W, Q, N> {
         }
     }
 
-    /// Calls, with a new number, in place of a call that is pending: no reply to that one is taken then.
+    /// Sends a request under the next number; the call is pending until its reply is accepted.
     ///
-    /// At `Unsent(Line)` the call is pending all the same: the server may have heard it, and `again` sends it again. At
-    /// `Unsent(Refused)` and at `Full` nothing was sent and nothing has changed: a request that refuses itself or is longer than N
-    /// takes no number, and the greatest u64 is no call's.
+    /// An earlier call that is pending is given up: its reply isn't accepted any more. Allocates nothing.
+    ///
+    /// # Errors
+    /// - `Full`: no number is left. Nothing was sent, and nothing has changed.
+    /// - `Unsent(Refused)`: the request can't be encoded, or its frame has more than N bytes. Nothing was sent, and nothing has
+    ///   changed.
+    /// - `Unsent(Line)`: a write failed. The call is pending all the same, since the server may have received it; `again` repeats
+    ///   it.
+    ///
+    /// # Example
+    /// ```rust
+    /// let mut client = Client::<Line, u32, 4>::new(sender(rt.alloc(), 0), 5);
+    /// let sent = client.call(u32::MAX);
+    /// check(
+    ///     &rt,
+    ///     matches!(sent, Err(CallError::Unsent(SendError::Refused(_)))),
+    /// );
+    /// check(&rt, client.pending().is_none());
+    /// ```
     pub fn call(&mut self, request: Q) -> Result<(), CallError>
         ensures called { IsCalled (asker_of self.old) (asker_of self.new) request result
             (sender_of self.new ≡ sender_of self.old)
@@ -72,7 +89,17 @@ impl<W: Outlet, Q: Serialize + Drop, const N: usize> Client<W, Q, N> {
         }
     }
 
-    /// Sends the pending call again, with its number.
+    /// Sends the pending call again, under its number. The server executes it at most once, however often it is sent.
+    ///
+    /// # Errors
+    /// - `Idle`: no call is pending. Nothing was sent.
+    /// - `Unsent`: as for `call`. The call stays pending.
+    ///
+    /// # Example
+    /// ```rust
+    /// check(&rt, client.call(7).is_ok());
+    /// check(&rt, client.again().is_ok());
+    /// ```
     pub fn again(&mut self) -> Result<(), CallError>
         ensures repeated { IsRepeated (asker_of self.old) (asker_of self.new) result
             (sender_of self.new ≡ sender_of self.old)
@@ -100,7 +127,18 @@ impl<W: Outlet, Q: Serialize + Drop, const N: usize> Client<W, Q, N> {
         }
     }
 
-    /// Takes an answer of the line: what is said to the pending call, which is then over. Anything else changes nothing.
+    /// Processes a result of the line, and returns the reply if this is the one to the pending call, which is over then.
+    ///
+    /// Anything else changes nothing: damage, and replies under other numbers.
+    ///
+    /// # Example
+    /// ```rust
+    /// client.hear::<u32>(Answer::Damaged).is_none()
+    ///     && client.hear(Answer::Value((4, 3u32))).is_none()
+    ///     && client.hear(Answer::Value((6, 3u32))).is_none()
+    ///     && is_reply(client.hear(Answer::Value((5, 3u32))), 3)
+    ///     && client.hear(Answer::Value((5, 3u32))).is_none()
+    /// ```
     pub fn hear<R: Drop>(&mut self, answer: Answer<(u64, R)>) -> Option<R>
         ensures accepts { MatchOption result (asker_of self.new ≡ asker_of self.old)
             (λ said. (n : ℕ) × (q : Q) × ((asker_of self.old).pending ≡ Some (n, q))
@@ -119,7 +157,7 @@ impl<W: Outlet, Q: Serialize + Drop, const N: usize> Client<W, Q, N> {
         Some(said)
     }
 
-    /// Gives the pending call up: no reply to it is taken then.
+    /// Gives up the pending call: its reply isn't accepted any more.
     pub fn give_up(&mut self)
         ensures asker { asker_of self.new ≡ stepped (asker_of self.old) ends }
         ensures sender { sender_of self.new ≡ sender_of self.old }
@@ -127,15 +165,16 @@ impl<W: Outlet, Q: Serialize + Drop, const N: usize> Client<W, Q, N> {
         self.pending = None;
     }
 
-    /// What it writes to.
+    /// The writer of the sender.
     pub fn get_ref(&self) -> &W
         ensures { result.now ≡ writer_of (sender_of self.now) }
     {
         self.sender.get_ref()
     }
 
-    /// Puts another writer in the place of the one that it writes to, as after a line that broke, and gives that one, after all its
-    /// writes. The pending call stays, and `again` sends it over the new one. What comes is to stand behind what went before.
+    /// Replaces the writer, for example after a line broke, and returns the old one with all that was written to it.
+    ///
+    /// The pending call stays, and `again` sends it by the new writer. Further bytes must follow those that were sent before.
     pub fn replace_inner(&mut self, writer: W) -> W
         ensures before { result ≡ writer_of (sender_of self.old) }
         ensures writer { writer_of (sender_of self.new) ≡ writer }
@@ -146,7 +185,7 @@ impl<W: Outlet, Q: Serialize + Drop, const N: usize> Client<W, Q, N> {
         self.sender.replace_inner(writer)
     }
 
-    /// What it writes to, after all its writes.
+    /// Returns the writer, with all that was written to it.
     pub fn into_inner(self) -> W
         ensures { result ≡ writer_of (sender_of self) }
     {

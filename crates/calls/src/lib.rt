@@ -1,13 +1,14 @@
-//! Calls by number over a line that breaks: typed requests and replies, each executed at most once.
+//! Remote calls by number over a line that breaks: typed requests and replies, each request executed at most once.
 //!
-//! A request is a pair of a number and what it asks, a reply the same number and what is said. A [`Server`] executes a number once at
-//! most, whatever bytes come, and keeps its last call, to say its reply again to the same request. A [`Client`] numbers its calls upwards,
-//! sends one again where its caller asks for it, and takes a reply for the call that is pending alone. Neither takes memory of its own.
+//! A request is a pair of a number and what is asked, a reply the same number and what is said. A [`Server`] executes each number
+//! at most once, whatever bytes come, and keeps its last call: if the same request comes again, it sends the kept reply. A
+//! [`Client`] numbers its calls upwards, repeats one if its caller asks for that, and accepts the reply to the pending call alone.
+//! Neither allocates.
 //!
-//! Messages of any types may be called by: then damage, an echo and another program's messages are calls and replies as any others. Of
-//! [`Numbered`] messages, by [`Checked`] at the server and [`Replies`] at the client, they are damage.
+//! Messages of any types can be called by, but then damage, an echo and another program's messages may pass for calls and replies.
+//! If the messages are [`Numbered`], with [`Checked`] at the server and [`Replies`] at the client, they are `Damaged`.
 //!
-//! What is known of a call with no reply: it was executed once at most, and is never executed after a reply to a higher number.
+//! What is known without a reply: the call was executed at most once, and is never executed after a reply to a higher number.
 #![tactic(auto)]
 
 mod calling;

@@ -1,22 +1,34 @@
-//! Hearing what a server says of a request that it passed over.
+//! Receiving the notice for a request that was passed over.
 ghost use Rattle.std.specs.Prelude.{◌≡◌, [], ◌∷◌};
 ghost use Rattle.calls.specs.Notices.{told_apart, HearsOthers, enough_noticed, notices_laws};
 
 use link::{Answer, Hearer};
 
-/// A hearer of replies that takes notices out: what comes by the greatest number, which is no call's, is what the server's application
-/// says of a request that was passed over (`Application::pass`). The last one is kept here, and everything else is handed on. It has
-/// enough where a notice was heard, or the hearer behind it has.
+/// A hearer that takes the notices out of the replies, keeps the last one, and passes everything else on.
 ///
-/// A notice may be of an earlier request: what it says has to tell of which.
+/// A notice comes under the greatest number, which no call has: it is what the server's application says of a request that was
+/// passed over ([`Application::pass`](crate::Application::pass)). It has enough if a notice came, or its hearer has. A notice may
+/// be of an earlier request, so it has to say of which.
+///
+/// # Example
+/// ```rust
+/// let mut asking = Noticing {
+///     hearer: Waiting { client, said: None },
+///     notice: None,
+/// };
+/// asking.hear(Answer::Value((u64::MAX, 9u64)));
+/// check(&rt, asking.has_enough());
+/// check(&rt, is_number(asking.notice.take(), 9));
+/// ```
 #[derive(Drop)]
 pub struct Noticing<H, R> {
+    /// What receives everything else.
     pub hearer: H,
-    /// The last notice. The caller takes it out.
+    /// The last notice, until the caller takes it.
     pub notice: Option<R>,
 }
 
-// A notice, or another answer.
+// A notice, or another result.
 fn notice_of<R>(answer: Answer<(u64, R)>) -> Result<R, Answer<(u64, R)>>
     ensures { result ≡ told_apart answer }
 {

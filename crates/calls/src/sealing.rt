@@ -1,4 +1,4 @@
-//! Messages under a sum, so that one which was changed on the line, came back over it, or is another interface's isn't taken for another.
+//! Messages under a sum: a changed message, an echo and another interface's message are damage.
 ghost use Rattle.std.specs.Prelude.{◌≡◌, [], ◌∷◌};
 ghost use Rattle.calls.specs.Sealing.{compared, HearsCompared, compared_laws, replied_inside, compared_reply, HearsReplies, replies_laws, ExecutesNumbered, passes_numbered};
 
@@ -6,18 +6,41 @@ use crate::server::Application;
 use link::{Answer, Hearer};
 use sealed::Keyed;
 
-/// What is asked or said, with the number of its call, and a sum of both, under the key of the interface: the same number on both sides
-/// of a line, which stands on no line. A message under another key is damage, and so another program's isn't executed.
+/// A request or a reply with a second copy of its call's number, and a sum of both under the key of the interface.
+///
+/// The key is one number for both sides, and no line carries it. A message under another key is damage, so another program's
+/// request isn't executed. The number inside is compared with the one outside by [`Checked`] and [`Replies`].
+///
+/// # Example
+/// ```rust
+/// type Message = Numbered<u32, KEY>;
+/// ```
 pub type Numbered<T, const KEY: u32> = Keyed<(u64, T), KEY>;
 
-/// A hearer of messages that have their number inside too: one in which it differs from the number outside is handed on as
-/// `Damaged`, and everything else as it is.
+/// A hearer of requests, for a server: passes a message on as `Damaged` if the number inside isn't the one outside, and everything
+/// else as it is.
+///
+/// # Example
+/// ```rust
+/// let mut server = Checked {
+///     hearer: Service {
+///         application: Numbering {
+///             application: Adder { sum: 0 },
+///         },
+///         server: Server::<_, Message, Message, FRAME>::new(Sender::new(Writes::new(
+///             rt.stdout(),
+///         ))),
+///         unsent: false,
+///     },
+/// };
+/// ```
 #[derive(Drop)]
 pub struct Checked<H> {
+    /// What receives the compared results.
     pub hearer: H,
 }
 
-// An answer of the line, which is damaged where its two numbers differ.
+// A result of the line, damaged if its two numbers differ.
 fn compare<T: Drop, const KEY: u32>(
     answer: Answer<(u64, Numbered<T, KEY>)>,
 ) -> Answer<(u64, Numbered<T, KEY>)>
@@ -61,7 +84,7 @@ impl<T: Drop, H: Hearer<(u64, Numbered<T, KEY>)>, const KEY: u32> Hearer<(u64, N
     }
 }
 
-// The number that stands inside a reply to the call by this number: one above it, so that no reply is spelled as a request.
+// The number inside a reply to the call with this number: one above it, so that no reply is encoded as a request.
 fn inside_reply(number: u64) -> u64
     ensures { result ≡ replied_inside number }
 {
@@ -71,14 +94,27 @@ fn inside_reply(number: u64) -> u64
     number + 1
 }
 
-/// A hearer of replies, whose number inside is the one behind that outside: any other is handed on as `Damaged`, and everything else as
-/// it is. So a request that the line gives back, as one with two wires does, is none.
+/// A hearer of replies, for a client: passes a message on as `Damaged` if the number inside isn't the one after the number outside,
+/// and everything else as it is.
+///
+/// So a request that the line gives back, as a line with two wires does, isn't taken for a reply.
+///
+/// # Example
+/// ```rust
+/// let mut asking = Replies {
+///     hearer: Waiting::<_, Message, Message, FRAME> {
+///         client: Client::new(sender, number),
+///         said: None,
+///     },
+/// };
+/// ```
 #[derive(Drop)]
 pub struct Replies<H> {
+    /// What receives the compared results.
     pub hearer: H,
 }
 
-// A reply, which is damaged where its number inside isn't the one behind that outside.
+// A reply, damaged if its number inside isn't the one after the number outside.
 fn compare_reply<T: Drop, const KEY: u32>(
     answer: Answer<(u64, Numbered<T, KEY>)>,
 ) -> Answer<(u64, Numbered<T, KEY>)>
@@ -122,9 +158,13 @@ impl<T: Drop, H: Hearer<(u64, Numbered<T, KEY>)>, const KEY: u32> Hearer<(u64, N
     }
 }
 
-/// An application that is asked, and replies, by messages that have their number inside too; in a reply it is the one behind.
+/// An application for [`Numbered`] messages: executes what was asked, and puts the number after the request's into the reply, 0
+/// into a notice.
+///
+/// Example: see [`Checked`].
 #[derive(Drop)]
 pub struct Numbering<A> {
+    /// What executes the requests without their numbers.
     pub application: A,
 }
 

@@ -1,4 +1,4 @@
-//! Executing requests, each number once at most.
+//! Executing requests, each number at most once.
 ghost use Rattle.std.specs.Prelude.{◌≡◌, ℕ, Option, Some, None};
 ghost use Rattle.link.specs.Senders.{writer_of, clean_of, sentinel_of, sender_place, HasSent};
 ghost use Rattle.calls.specs.Calls.{Execution};
@@ -8,42 +8,75 @@ use line_io::Outlet;
 use link::{SendError, Sender};
 use postcard::{Readable, Serialize};
 
-/// What a server is for.
+/// What a server executes requests with.
+///
+/// # Example
+/// ```rust
+/// impl Application<u32, u32> for Adder {
+///     ghost executes = { λ old asks says new. ⊤ };
+///
+///     ghost passes = { λ number last. None };
+///
+///     fn execute(&mut self, amount: &u32) -> u32
+///         ensures { ⊤ }
+///     {
+///         self.sum = self.sum.saturating_add(*amount);
+///         self.sum
+///     }
+///
+///     fn pass(_number: u64, _last: u64) -> Option<u32>
+///         ensures { result ≡ None }
+///     {
+///         None
+///     }
+/// }
+/// ```
 pub trait Application<Q, R> {
-    /// What executing a request makes of it, and what it says to it.
+    /// The effect of a request on the application, and its reply.
     ghost executes: { Self → Q → R → Self → Type 0 };
 
-    /// What is said of a request that is passed over, by its number and that of the last call; or nothing.
+    /// The notice for a request that is passed over, by its number and that of the last call; or nothing.
     ghost passes: { ℕ → ℕ → Option R };
 
-    /// Executes a request, and says what its reply is to say. The server keeps the request, to know it when it comes again.
+    /// Executes a request, and returns what its reply says. The server keeps the request, to recognise it if it comes again.
     fn execute(&mut self, request: &Q) -> R
         ensures { executes self.old request.now result self.new };
 
-    /// What is said of a request that isn't executed, since a call by the number `last`, which isn't below its own, was executed last:
-    /// so that its client hears why no reply comes. It goes out by the greatest number, which is no call's. `None`: nothing is said.
+    /// The notice for a request that isn't executed, because the last executed call has the number `last`, which is the same or
+    /// higher. It is sent under the greatest number, which no call has, so that the client learns why no reply comes. `None`:
+    /// nothing is sent.
     fn pass(number: u64, last: u64) -> Option<R>
         ensures { result ≡ passes number last };
 }
 
 /// What a server did with a request.
+///
+/// # Example
+/// ```rust
+/// match served {
+///     Served::Executed(sent) => match sent {
+///         Ok(()) => 'E',
+///         Err(SendError::Line) => 'e',
+///         Err(_) => '?',
+///     },
+/// ```
 #[derive(Clone, Copy, PartialEq, Debug, Drop)]
 pub enum Served {
-    /// It was executed, and the reply was sent, as the sender answered.
+    /// It was executed, and its reply was sent, with this result of the sender.
     Executed(Result<(), SendError>),
-    /// It is the one that was executed last, by its number and by the test of its type: its reply was sent again.
+    /// It is the last one executed, by its number and the `==` of its type: its reply was sent again.
     Again(Result<(), SendError>),
-    /// Another request was executed last by the same number: nothing was done. What the application says of that was sent, where it
-    /// says anything; not the reply to that one, since this one's client would take it for its own.
+    /// Another request was executed under the same number: nothing was done. The notice was sent, if the application has one; not the
+    /// kept reply, which this request's client would take for its own.
     Other(Option<Result<(), SendError>>),
-    /// It was executed before, or passed over: nothing was done. What the application says of that was sent, where it says anything.
+    /// Its number is below the last one: nothing was done. The notice was sent, if the application has one.
     Passed(Option<Result<(), SendError>>),
-    /// Its number is the greatest, which is no call's: nothing was done, and nothing was said of it.
+    /// Its number is the greatest, which no call has: nothing was done or sent.
     NoCall,
 }
 
-// How a request stands to the last one that was executed: by the greatest number, by a higher one than that of the last, the same
-// request, another one by the same number, or by a number below that of the last.
+// A request compared with the last one that was executed: under the greatest number, under a higher one than the last, the same
+// request, another one under the same number, or under a lower number than the last.
 #[derive(Clone, Copy)]
 enum Standing {
     Greatest,
@@ -54,19 +87,23 @@ enum Standing {
 }
 
 /// The call that a server executed last.
+///
+/// Example: see [`Server::resume`].
 #[derive(Drop)]
 pub struct LastCall<Q, R> {
-    /// What was asked.
+    /// The request.
     pub request: Q,
-    /// The call's number, and what was said to it.
+    /// The call's number, and its reply.
     pub reply: (u64, R),
 }
 
 /// Executes requests whose numbers are above those before, and replies.
 ///
-/// **By itself it executes its own replies** if the line gives back what is sent and a reply can be read as a request, without end; and
-/// what damage or another program made of a message. Take [`Numbered`](crate::Numbered) requests and put [`Checked`](crate::Checked) in
-/// front of its [`Service`](crate::Service), and none is executed.
+/// **By itself it executes its own replies, without end,** if the line gives back what is sent and a reply can be read as a
+/// request. It also executes what damage or another program made of a message. Take [`Numbered`](crate::Numbered) requests and put
+/// [`Checked`](crate::Checked) before its [`Service`](crate::Service), and none of these is executed.
+///
+/// Example: see [`Server::resume`].
 #[derive(Drop)]
 pub struct Server<W, Q, R, const N: usize> {
     pub(crate) sender: Sender<W, N>,
@@ -74,7 +111,7 @@ pub struct Server<W, Q, R, const N: usize> {
 }
 
 impl<W: Outlet, Q: PartialEq + Drop, R: Serialize + Drop, const N: usize> Server<W, Q, R, N> {
-    /// A server that has executed nothing, and whose replies this sender sends.
+    /// A server that has executed nothing, and sends its replies by this sender.
     pub fn new(sender: Sender<W, N>) -> Server<W, Q, R, N>
         ensures kept { kept_of result ≡ None }
         ensures sender { sender_of result ≡ sender }
@@ -82,8 +119,17 @@ impl<W: Outlet, Q: PartialEq + Drop, R: Serialize + Drop, const N: usize> Server
         Server { sender, last: None }
     }
 
-    /// A server that goes on behind this call, where there is one, as `last` of an earlier server told it: also after a restart that
-    /// call isn't executed again, nor one by a lower number.
+    /// A server that continues after the call `last` of an earlier server, if there is one: neither that call nor a lower number is
+    /// executed again, also after a restart.
+    ///
+    /// # Example
+    /// ```rust
+    /// let last = LastCall {
+    ///     request: 4u64,
+    ///     reply: (9, 4u64),
+    /// };
+    /// let mut server = Server::<Line, u64, u64, 16>::resume(sender(rt.alloc(), 0), Some(last));
+    /// ```
     pub fn resume(sender: Sender<W, N>, last: Option<LastCall<Q, R>>) -> Server<W, Q, R, N>
         ensures kept { kept_of result ≡ kept_as last }
         ensures sender { sender_of result ≡ sender }
@@ -91,22 +137,36 @@ impl<W: Outlet, Q: PartialEq + Drop, R: Serialize + Drop, const N: usize> Server
         Server { sender, last }
     }
 
-    /// The call that was executed last, which `resume` takes.
+    /// The call that was executed last; `resume` continues after it.
     pub fn last(&self) -> &Option<LastCall<Q, R>>
         ensures { kept_as result.now ≡ kept_of self.now }
     {
         &self.last
     }
 
-    /// Serves a request: where its number is above that of the last one that was executed, the application executes it, and it and its
-    /// reply are kept, and the reply is sent. Where it is the same request by the same number, the reply that is kept is sent again;
-    /// where it is another one by that number, or its number is below, nothing is done, and what the application says of that is sent
-    /// by the greatest number, which is no call's. A request by that number is passed over in silence.
+    /// Executes a request if its number is new, and sends the reply.
     ///
-    /// Which requests are the same the test `==` of their type says: of one that isn't equal to itself, as a float that is no number,
-    /// no reply is sent again.
+    /// | Number | What happens | Returns |
+    /// |---|---|---|
+    /// | above the last executed one | executed; the reply is kept and sent | `Executed` |
+    /// | the last one, the same request | the kept reply is sent again | `Again` |
+    /// | the last one, another request | not executed; the notice is sent, if there is one | `Other` |
+    /// | below the last one | the same | `Passed` |
+    /// | the greatest, which no call has | nothing is done or sent | `NoCall` |
     ///
-    /// A reply that wasn't sent is kept all the same: the client asks again.
+    /// The notice is [`Application::pass`]. Requests are compared by the `==` of their type: one that isn't equal to itself, such
+    /// as NaN, gets no second reply. A reply that couldn't be sent is kept too, so the client can ask again. Allocates nothing of
+    /// its own.
+    ///
+    /// # Example
+    /// ```rust
+    /// letter(server.answer(&mut adder, 9, 4u32)) == 'E'
+    ///     && letter(server.answer(&mut adder, 8, 4u32)) == 'P'
+    ///     && letter(server.answer(&mut adder, 9, 70u32)) == 'O'
+    ///     && letter(server.answer(&mut adder, 9, 4u32)) == 'A'
+    ///     && letter(server.answer(&mut adder, 10, 1u32)) == 'E'
+    ///     && adder.executed == 2
+    /// ```
     pub fn answer<A: Application<Q, R>>(
         &mut self,
         application: &mut A,
@@ -136,7 +196,7 @@ impl<W: Outlet, Q: PartialEq + Drop, R: Serialize + Drop, const N: usize> Server
         }
     }
 
-    // How a request stands to the last one that was executed.
+    // Compares a request with the last one that was executed.
     fn standing(&self, number: u64, request: &Q) -> Standing
         ensures { IsStanding Q.eq (kept_of self.now) number request.now result }
     {
@@ -160,7 +220,7 @@ impl<W: Outlet, Q: PartialEq + Drop, R: Serialize + Drop, const N: usize> Server
         }
     }
 
-    // Sends the reply that is kept, where there is one.
+    // Sends the kept reply, if there is one.
     fn send_last(&mut self) -> Result<(), SendError>
         ensures sent { (e : Execution Q R) → kept_of self.old ≡ Some e
             → HasSent N (⟦<(u64, R) as Readable>⟧.form.writes (e.number, e.says))
@@ -175,7 +235,7 @@ impl<W: Outlet, Q: PartialEq + Drop, R: Serialize + Drop, const N: usize> Server
         }
     }
 
-    // Sends what the application says of a request that is passed over, where it says anything.
+    // Sends the notice for a request that is passed over, if the application has one.
     fn say_passed<A: Application<Q, R>>(
         &mut self,
         number: u64,
@@ -194,15 +254,16 @@ impl<W: Outlet, Q: PartialEq + Drop, R: Serialize + Drop, const N: usize> Server
         }
     }
 
-    /// What it writes to.
+    /// The writer of the sender.
     pub fn get_ref(&self) -> &W
         ensures { result.now ≡ writer_of (sender_of self.now) }
     {
         self.sender.get_ref()
     }
 
-    /// Puts another writer in the place of the one that it writes to, as after a line that broke, and gives that one, after all its
-    /// writes. The last reply is kept. What comes is to stand behind what went before.
+    /// Replaces the writer, for example after a line broke, and returns the old one with all that was written to it.
+    ///
+    /// The last call is kept. Further bytes must follow those that were sent before.
     pub fn replace_inner(&mut self, writer: W) -> W
         ensures before { result ≡ writer_of (sender_of self.old) }
         ensures writer { writer_of (sender_of self.new) ≡ writer }
@@ -213,7 +274,7 @@ impl<W: Outlet, Q: PartialEq + Drop, R: Serialize + Drop, const N: usize> Server
         self.sender.replace_inner(writer)
     }
 
-    /// What it writes to, after all its writes.
+    /// Returns the writer, with all that was written to it.
     pub fn into_inner(self) -> W
         ensures { result ≡ writer_of (sender_of self) }
     {

@@ -9,16 +9,20 @@ use line_io::Outlet;
 use link::{Answer, Hearer, SendError};
 use postcard::{Readable, Serialize};
 
-/// An application and the server that executes its requests.
+/// An application and the server that executes its requests, as a hearer of requests.
+///
+/// Example: see [`Checked`].
 #[derive(Drop)]
 pub struct Service<A, W, Q, R, const N: usize> {
+    /// What executes the requests.
     pub application: A,
+    /// What keeps the last call, and sends the replies.
     pub server: Server<W, Q, R, N>,
-    /// Whether a reply wasn't sent whole, since the caller put `false` here.
+    /// Whether a reply wasn't sent whole since the caller put `false` here.
     pub unsent: bool,
 }
 
-// Whether a reply wasn't sent whole, of this one too.
+// Whether a reply wasn't sent whole, this one included.
 fn after_sending(unsent: bool, sent: Result<(), SendError>) -> bool
     ensures { result ≡ unsent_by_result unsent sent }
 {
@@ -28,7 +32,7 @@ fn after_sending(unsent: bool, sent: Result<(), SendError>) -> bool
     }
 }
 
-// The same by what a server did.
+// The same, by what the server did.
 fn after_serving(unsent: bool, served: Served) -> bool
     ensures { result ≡ unsent_by unsent served }
 {
@@ -46,7 +50,7 @@ impl<Q: PartialEq + Drop, R: Serialize + Drop, A, W: Outlet, const N: usize> Ser
     R,
     N,
 > {
-    // Takes one answer of the line.
+    // Processes one result of the line.
     fn take(&mut self, answer: Answer<(u64, Q)>)
     where
         A: Application<Q, R>,

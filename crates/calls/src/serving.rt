@@ -1,4 +1,4 @@
-//! Serving all that a reader gives.
+//! Serving everything that a reader provides.
 ghost use Rattle.std.specs.Prelude.{◌≡◌, Some, false, ⊤};
 ghost use Rattle.link.specs.Receivers.{SameTerms};
 ghost use Rattle.link.specs.Each.{HearsOut, MayLackMemory};
@@ -11,13 +11,22 @@ use link::{Decoding, End, MessageReader, Reception};
 use postcard::{Readable, Serialize};
 use std::alloc::Global;
 
-/// Serves the requests among all that a reader gives, to its end or first fault, each as soon as the byte that ends its frame was
-/// read, by a receiver and a reader of messages. A receiver that was given some of a stream goes on in it, so that after a fault this may
-/// be called again.
+/// Serves the requests among everything that a reader provides, until it ends or fails, each as soon as its last byte was read.
 ///
-/// Whatever bytes come: what is executed are requests of which the whole frames came, in their order, and each number once at most;
-/// the replies are one session. No more calls of the reader are used than bytes were read, and one that ends the reading. At
-/// `NoMemory` (only where a request asks for memory) the first requests were served, and at least one answer is missing.
+/// Returns why it stopped. The receiver continues in a stream of which it was given a part, so this can be called again after a
+/// fault. Whatever bytes come: what is executed are requests whose whole frames came, in their order, each number at most once, and
+/// the replies are one session. It uses at most one call of the reader for each byte, and one more. Allocates only if a request
+/// does.
+///
+/// # Errors
+/// - `ReadFault`: a read failed; everything read before was served.
+/// - `NoMemory`: a request couldn't be allocated. The requests before it were served, and at least one result is missing.
+///
+/// # Example
+/// ```rust
+/// let mut receiver = Receiver::<8>::new();
+/// Some(serve_with(alloc, &mut receiver, &Ordinary(OfType), reader, service))
+/// ```
 pub fn serve_with<
     Q: PartialEq + Drop,
     R: Serialize + Drop,

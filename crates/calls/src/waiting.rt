@@ -12,16 +12,19 @@ use link::{Answer, Decoding, End, Hearer, MessageReader, Reception};
 use postcard::Serialize;
 use std::alloc::Global;
 
-/// A client, and what was said to its call.
+/// A client and the reply to its call, as a hearer of replies. It has enough if no call is pending.
+///
+/// Example: see [`Replies`].
 #[derive(Drop)]
 pub struct Waiting<W, Q, R, const N: usize> {
+    /// What has called.
     pub client: Client<W, Q, N>,
-    /// The last reply that was taken: of the call that is over. `wait_with` lets it go where another call is pending.
+    /// The last reply that was accepted, to the call that is over. `wait_with` drops it if another call is pending.
     pub said: Option<R>,
 }
 
 impl<W: Outlet, Q: Serialize + Drop, R: Drop, const N: usize> Waiting<W, Q, R, N> {
-    // Lets what was said to an earlier call go, where a call is pending.
+    // Drops the reply to an earlier call, if a call is pending.
     fn forget(&mut self)
         ensures waiter { waiter_of self.new ≡ anew (waiter_of self.old) }
         ensures sender { sender_of self.new.client ≡ sender_of self.old.client }
@@ -62,15 +65,36 @@ impl<W: Outlet, Q: Serialize + Drop, R: Drop, const N: usize> Hearer<(u64, R)>
     }
 }
 
-/// Listens until no call is pending, and answers None; else how the reading ended. Whether the call is pending says what came of it: it
-/// is where nothing was taken, and `said` is empty then; where it isn't, its reply is in `said`. A reply to an earlier call is let go
-/// first.
+/// Receives until no call is pending, and returns `None` then; otherwise why reading stopped.
 ///
-/// At `ReadFault` the call is pending, and the receiver stands where it stood, so a reader that had nothing yet, as one with a time
-/// limit, may be waited at again, perhaps after `again`. At `NoMemory` (only where a reply asks for memory) at least one answer is
-/// missing, and the reply may have been taken all the same, from the same read. What one read brings is heard all the same, as much as
-/// the room holds; replies to other numbers are passed over. No more calls of the reader are used than bytes were read, and one that
-/// ends the reading: none where no call is pending. The caller owes that the room isn't empty.
+/// If the call isn't pending any more its reply is in `said`; if it is, nothing was accepted, and `said` is empty. A reply to an
+/// earlier call is dropped first; replies under other numbers are passed over. What one read brought is processed to its end. It
+/// uses at most one call of the reader for each byte, and one more; none if no call is pending. Sends nothing. Allocates only if a
+/// reply does.
+///
+/// # Errors
+/// - `ReadFault`: a read failed, and the call is pending. The receiver keeps its state: if the reader had nothing yet, for example
+///   because of a time limit, call this again, perhaps after `again`.
+/// - `NoMemory`: a reply couldn't be allocated, and at least one result is missing. The reply may have been accepted all the same,
+///   in the same read.
+///
+/// # Requires
+/// `room`, the buffer for reads, isn't empty.
+///
+/// # Example
+/// ```rust
+/// check(&rt, waiting.client.call(said).is_ok());
+/// let end = wait_with(
+///     rt.alloc(),
+///     &mut receiver,
+///     &Ordinary(OfType),
+///     &mut reader,
+///     &mut waiting,
+///     &mut room,
+/// );
+/// check(&rt, end.is_none());
+/// check(&rt, is_reply(waiting.said.take(), said));
+/// ```
 pub fn wait_with<
     Q: Serialize + Drop,
     R: Drop,

@@ -17,7 +17,7 @@ use Rattle.calls.specs.declared.sealing.Numbering.{Numbering}
 abbrev pub IsRequest : {T : Type 0} {K : ℕ} → ℕ × Keyed (ℕ × T) K → Type 0
 IsRequest p = p.1.0.0 ≡ p.0
 
--- a reply or a notice: the number inside is behind the one outside
+-- a reply or a notice: the number inside is after the one outside
 abbrev pub IsReply : {T : Type 0} {K : ℕ} → ℕ × Keyed (ℕ × T) K → Type 0
 IsReply p = p.1.0.0 ≡ replied_inside p.0
 
@@ -29,22 +29,22 @@ SaysReplies {A} {Q} {R} K executes passes = (equal : Keyed (ℕ × Q) K → Keye
     → ServesAll equal (λ number last. passes_numbered (passes number last)) kept qs log out later → FoldsTo (Runs (ExecutesNumbered executes)) old log new
     → ((p : ℕ × Keyed (ℕ × Q) K) → In p qs → IsRequest p) → IfSome kept (λ e. IsReply (e.number, e.says)) → (p : ℕ × Keyed (ℕ × R) K) → In p out → IsReply p
 
--- Bytes that begin with a reply, however a message is read from them: it is damaged to who compares the numbers of requests.
+-- Bytes that begin with a reply, however a message is read from them: it is damaged to a hearer that compares the numbers of requests.
 abbrev pub NoRequest : {Q R : Type 0} {K L : ℕ} → (Tree → ℕ × Keyed (ℕ × R) K → Type 0) → (Tree → ℕ × Keyed (ℕ × Q) L → Type 0) → Type 0
 NoRequest {Q} {R} {K} {L} says asks = (t u : Tree) (front before rest behind : List ℕ) (said : ℕ × Keyed (ℕ × R) K) (asked : ℕ × Keyed (ℕ × Q) L)
     → IsReply said → says t said → Spells t front → asks u asked → Spells u before → front ++ rest ≡ before ++ behind → compared (Value asked) ≡ Damaged
 
--- Bytes that begin with a request, however a message is read from them: it is damaged to who compares the numbers of replies.
+-- Bytes that begin with a request, however a message is read from them: it is damaged to a hearer that compares the numbers of replies.
 abbrev pub NoReply : {Q R : Type 0} {K L : ℕ} → (Tree → ℕ × Keyed (ℕ × Q) L → Type 0) → (Tree → ℕ × Keyed (ℕ × R) K → Type 0) → Type 0
 NoReply {Q} {R} {K} {L} asks says = (t u : Tree) (front before rest behind : List ℕ) (asked : ℕ × Keyed (ℕ × Q) L) (said : ℕ × Keyed (ℕ × R) K)
     → IsRequest asked → asks t asked → Spells t front → says u said → Spells u before → front ++ rest ≡ before ++ behind → compared_reply (Value said) ≡ Damaged
 
--- Replies went over a line: among what is heard of it, numbers compared, is no request.
+-- Replies went over a line: among what is received of it, numbers compared, is no request.
 abbrev pub ServerHearsNothing : {T : Type 0} {K : ℕ} → (ℕ → ℕ → List (List ((ℕ × Keyed (ℕ × T) K) × Send)) → List (Answer (ℕ × Keyed (ℕ × T) K)) → Type 0) → Type 0
 ServerHearsNothing {T} {K} over = (limit s : ℕ) (said : List (List ((ℕ × Keyed (ℕ × T) K) × Send))) (answers : List (Answer (ℕ × Keyed (ℕ × T) K)))
     → over limit s said answers → ((p : ℕ × Keyed (ℕ × T) K) → In p (values_sent said) → IsReply p) → requests_of (map compared answers) ≡ []
 
--- Requests went over a line: among what is heard of it, numbers compared, is no reply.
+-- Requests went over a line: among what is received of it, numbers compared, is no reply.
 abbrev pub ClientHearsNothing : {T : Type 0} {K : ℕ} → (ℕ → ℕ → List (List ((ℕ × Keyed (ℕ × T) K) × Send)) → List (Answer (ℕ × Keyed (ℕ × T) K)) → Type 0) → Type 0
 ClientHearsNothing {T} {K} over = (limit s : ℕ) (asked : List (List ((ℕ × Keyed (ℕ × T) K) × Send))) (answers : List (Answer (ℕ × Keyed (ℕ × T) K)))
     → over limit s asked answers → ((p : ℕ × Keyed (ℕ × T) K) → In p (values_sent asked) → IsRequest p) → requests_of (map compared_reply answers) ≡ []

@@ -1,7 +1,7 @@
-//! One call over two lines, made from both of their ends.
+//! One call over two lines, by both of their ends.
 //!
-//! `call_once` is a client that calls, perhaps again and again, a server that serves what came, and the client that waits for the
-//! reply. Its contract says what a user may rely on, of the application alone: no line, frame or number is in it.
+//! `call_once` is a client that calls, perhaps repeatedly, a server that serves what came, and the client that waits for the reply.
+//! Its contract speaks of the application alone: no line, frame or number is in it.
 ghost use Rattle.std.specs.Prelude.{◌≡◌, [], ◌<◌, Some, IfSome};
 ghost use Rattle.calls_laws.specs.Exchange.{ExecutedOnce, ExecutedAtMostOnce, SidesFitInMemory};
 
@@ -14,12 +14,19 @@ use line_io::memory::OwnedOut;
 use postcard::Lawful;
 use std::alloc::Global;
 
-/// A writer whose bytes can be had from it, whatever faults it met.
+/// A writer that returns its bytes, whatever faults it met.
+///
+/// # Example
+/// ```rust
+/// fn taken<W: Kept>(writer: W) -> Vec<u8> {
+///     writer.into_taken()
+/// }
+/// ```
 pub trait Kept: Outlet + Drop {
-    /// One that is put in another one's place, and of which nothing more is said.
+    /// A writer that replaces another one; nothing more is specified.
     fn spare(alloc: Global) -> Self;
 
-    /// All that it has taken.
+    /// Returns all bytes that it has taken.
     fn into_taken(self) -> Vec<u8>
         ensures { (Self.line self).told ≡ Some result.items };
 }
@@ -36,35 +43,51 @@ impl Kept for OwnedOut {
     }
 }
 
-/// A line one way: what takes the bytes, and how they are read.
+/// One direction of a line: what takes the bytes, and how they are read.
+///
+/// Example: see [`call_once`].
 #[derive(Drop)]
 pub struct Way<W> {
-    /// What takes the bytes. It may break each send off at any byte.
+    /// What takes the bytes. It may interrupt each send at any byte.
     pub writer: W,
     /// The byte that ends each frame.
     pub sentinel: u8,
-    /// How many bytes a read gives at most.
+    /// The greatest number of bytes of one read.
     pub each: usize,
-    /// After how many bytes a read is a fault, which ends the reading.
+    /// After how many bytes a read fails, which ends the reading; never if there is no number.
     pub stops: Option<usize>,
 }
 
-/// What came of a call.
+/// The result of a call.
+///
+/// Example: see [`call_once`].
 #[derive(Drop)]
 pub struct Called<A, R> {
     /// The application of the server.
     pub application: A,
-    /// What was said to the call, where the client took a reply.
+    /// The reply, if the client accepted one.
     pub said: Option<R>,
 }
 
-/// Calls by this number, sends the call so often again, has a new server serve what came of that, and waits for the reply.
+/// Calls under this number, sends the call `again` more times, lets a new server serve what came of that, and waits for the reply.
 ///
-/// Each send may be broken off at any byte, by either writer, and either reading may end anywhere. A reply that the client took is,
-/// by `alike`, what the application said when it executed a request alike the one that was called, and it executed that once and
-/// nothing else. Without a reply it executed it once, or nothing.
+/// Either writer may interrupt each send at any byte, and either reading may end anywhere. A reply that the client accepted is, by
+/// `alike`, what the application said when it executed a request alike the one that was called; it executed that once and nothing
+/// else. Without a reply it executed it once, or nothing.
 ///
-/// The caller owes writers that have taken nothing, and reads of at least a byte.
+/// # Requires
+/// Both writers have taken nothing, and a read gives at least one byte.
+///
+/// # Example
+/// ```rust
+/// fn called_by<M: SentReader<(u64, u32)>>(alloc: Global, messages: &M) -> Called<Adder, u32> {
+///     let there = Way {
+///         writer: OwnedOut::new(Vec::new(alloc), 3, None),
+///         sentinel: 0,
+///         each: 64,
+///         stops: None,
+///     };
+/// ```
 pub fn call_once<
     Q: Lawful + PartialEq + Drop,
     R: Lawful + Drop,

@@ -1,16 +1,20 @@
-//! What a reply says that came over two lines that may break off any send.
+//! What a reply says that came over two lines on which each send may be interrupted.
 ghost use Rattle.calls_laws.specs.Headline.{WentOver, RepliesAreRight};
 
 use crate::heard::SentReader;
 use postcard::{Lawful, Readable};
 
-/// Over two lines that bring a front of what was written, every send perhaps broken off at any byte: a reply with a call's number is,
-/// by `alike`, what the application said when it executed a request alike the one that was called, and it executed it once.
+/// Over two lines that deliver a prefix of what was written, every send perhaps interrupted at any byte: a reply under a call's
+/// number is, by `alike`, what the application said when it executed a request alike the one that was called, and it executed it
+/// once.
 ///
-/// Whatever the server served before: where it had kept a reply to that number, it may be that one, said to a request that is the same
-/// by the test of its type. It takes a client that sends one request by a number (`calls::laws::one_per_number`), a server that serves
-/// what the first line gives, and frames within the receivers' limits. Either reading may have ended anyhow, and be ordinary or
-/// strict. The greatest number is no call's.
+/// That holds whatever the server served before: if it had kept a reply under that number, it may be that one, to a request that is
+/// equal by the `==` of its type.
+///
+/// # Requires
+/// The client sends one request under a number (`calls::laws::one_per_number`), the server serves what the first line delivers, and
+/// no frame exceeds the receivers' limits. Either reading may have ended in any way, and be ordinary or strict. The greatest number
+/// is no call's.
 pub fn calls<Q: Lawful, R: Lawful, M: SentReader<(u64, Q)>, K: SentReader<(u64, R)>>(
     requests_by: &M,
     replies_by: &K,

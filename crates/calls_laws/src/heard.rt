@@ -1,4 +1,4 @@
-//! What is heard by whoever was given a front of a line.
+//! What a receiver of a prefix of a line receives.
 ghost use Rattle.postcard.specs.Frames.{Holds};
 ghost use Rattle.link.specs.Stream.{HoldsExactly};
 ghost use Rattle.calls_laws.specs.Heard.{HearsSent};
@@ -6,8 +6,8 @@ ghost use Rattle.calls_laws.specs.Heard.{HearsSent};
 use link::{MessageReader, OfType, Ordinary, Strict};
 use postcard::{DeserializeOwned, Exact, Lawful};
 
-/// Whoever was given a front of a line, perhaps all of it, heard only values that are alike those sent, however the reading ended:
-/// at the reader's end, by a fault, or out of memory; and so whoever listened on behind values that found no memory.
+/// A receiver of a prefix of a line, perhaps all of it, receives only values that are alike those sent, however the reading ended:
+/// at the reader's end, at a fault, or out of memory; also if it continued after values that couldn't be allocated.
 pub fn heard_was_sent<T: Lawful>()
     ensures ordinary { HearsSent T.form.takes (Holds T.form.takes) T.form.reads T.form.alike
         T.form.writes T.form.valid }
@@ -22,9 +22,11 @@ pub fn heard_was_sent<T: Lawful>()
     link_laws::start_anywhere::<T>();
 }
 
-/// A reader of messages by which whoever was given a front of a line heard only what was sent.
+/// A reader of messages for which `heard_was_sent` holds: `Ordinary(OfType)` and `Strict(OfType)`.
+///
+/// Example: see [`call_once`].
 pub trait SentReader<T: Lawful>: MessageReader<T> {
-    /// Shows it. It does nothing.
+    /// Shows that. It does nothing.
     fn show_sent(&self)
         ensures { HearsSent T.form.takes (Self.judging self.now).holds (Self.judging self.now).reads
             T.form.alike T.form.writes T.form.valid };

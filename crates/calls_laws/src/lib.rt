@@ -1,4 +1,4 @@
-//! What holds of calls over two lines: the laws, and a program whose contract says what a user may rely on.
+//! Laws of calls over two lines, and a call from end to end, whose contract says what a user can rely on.
 #![tactic(auto)]
 
 pub mod echo;

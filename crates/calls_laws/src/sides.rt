@@ -13,7 +13,7 @@ use link::{MessageReader, Receiver, Sender};
 use postcard::{Readable, Serialize};
 use std::alloc::Global;
 
-// Calls, and sends the call so often again.
+// Calls, and sends the call `again` more times.
 fn repeat<Q: Serialize + Drop, W: Outlet, const N: usize>(
     client: &mut Client<W, Q, N>,
     request: Q,
@@ -32,7 +32,7 @@ fn repeat<Q: Serialize + Drop, W: Outlet, const N: usize>(
     }
 }
 
-// A new client that calls, and sends the call so often again; and what it left on its line.
+// A new client that calls, and sends the call `again` more times; and the bytes on its line.
 pub(crate) fn ask_all<Q: Serialize + Drop, W: Kept, const N: usize>(
     alloc: Global,
     writer: W,
@@ -55,7 +55,7 @@ pub(crate) fn ask_all<Q: Serialize + Drop, W: Kept, const N: usize>(
     (client, taken)
 }
 
-// A new server that serves the requests of a line; and what it left on its own.
+// A new server that serves the requests of a line; and the bytes on its own line.
 pub(crate) fn serve_all<
     Q: PartialEq + Drop,
     R: Serialize + Drop,
@@ -103,7 +103,7 @@ pub(crate) fn serve_all<
     (application, server.into_inner().into_taken())
 }
 
-// What a client takes as its reply.
+// The reply that a client accepts.
 pub(crate) fn take_reply<
     Q: Serialize + Drop,
     R: Drop,

@@ -15,7 +15,7 @@ const KEY: u32 = 0xA0E4_4147;
 // A request or a reply, with its number and a sum of both.
 type Message = Numbered<u32, KEY>;
 
-// The bytes of a frame at most: two numbers of ten bytes, one of five, four of the sum, and one for the frame.
+// The greatest length of a frame: two numbers of ten bytes, one of five, four of the sum, and one for the frame.
 const FRAME: usize = 30;
 
 /// Adds what it is asked to.
@@ -64,7 +64,7 @@ fn serve(rt: &HostRuntime) -> Option<End> {
     )
 }
 
-// Calls on standard output, and waits on standard input for the reply; none where the line ends before.
+// Calls on standard output, and waits on standard input for the reply; nothing if the line ends before.
 fn call(rt: &HostRuntime, number: u64, amount: u32) -> Option<u32> {
     let sender = Sender::new(Writes::new(rt.stdout()));
     let mut asking = Replies {
@@ -73,7 +73,7 @@ fn call(rt: &HostRuntime, number: u64, amount: u32) -> Option<u32> {
             said: None,
         },
     };
-    // a call that wasn't sent whole may have come over all the same
+    // a call that was not sent whole may have been received all the same
     let _ = asking.hearer.client.call(Keyed((number, amount)));
     let _ = Receiver::<FRAME>::new().listen_until_with::<(u64, Message), _, _, _>(
         rt.alloc(),
@@ -88,7 +88,7 @@ fn call(rt: &HostRuntime, number: u64, amount: u32) -> Option<u32> {
     }
 }
 
-// The number and the amount that the words say.
+// The number and the amount of the arguments.
 fn numbers_of(words: &[String]) -> Option<(u64, u32)> {
     match words {
         [number, amount] => Some((number.parse().ok()?, amount.parse().ok()?)),

@@ -1,27 +1,35 @@
-//! What the programs answer to the word `--help`, and to `--version`.
+//! What the programs share: `--help` and `--version`, the progress of long work, and whether damage is shown in colour.
 #![tactic(auto)]
 
 ghost use Rattle.std.specs.Prelude.{◌≡◌, ◌↔◌, ◌∷◌, [], map, string_bytes, Some, true};
 ghost use Rattle.std.specs.List.{Contains};
 ghost use Rattle.help.specs.Words.{help_word, version_word};
 
+mod colours;
+mod progress;
+
+pub use colours::wants_colour;
+pub use progress::Progress;
 use std::io::{self, Write};
 
-/// The version of the programs.
-pub const VERSION: &str = "0.1";
+/// The version of all programs; the head of CHANGELOG.md has it and the date.
+pub const VERSION: &str = "0.1.0";
+
+/// The day of that version.
+pub const DATE: &str = "2026-11-27";
 
 /// What a program says of itself.
 #[derive(Clone, Copy, Drop)]
 pub struct About {
     /// Its name.
     pub name: &'static str,
-    /// What it does, and where more is said.
+    /// What it does.
     pub text: &'static str,
     /// How it is called.
     pub usage: &'static str,
 }
 
-/// What is asked of a program in place of its work.
+/// What a program is asked for in place of its work.
 #[derive(Clone, Copy, Debug, PartialEq, Eq, Drop)]
 pub enum Asked {
     /// How it is called.
@@ -30,7 +38,7 @@ pub enum Asked {
     Version,
 }
 
-/// Whether a word is `--help`.
+// Whether a word is `--help`.
 fn is_help(word: &String) -> bool
     ensures { result ≡ true ↔ string_bytes word.now ≡ help_word }
 {
@@ -40,8 +48,8 @@ fn is_help(word: &String) -> bool
     }
 }
 
-/// What the words ask for in place of the program's work: help where one of them is `--help`, wherever it stands; the version where
-/// `--version` stands alone.
+/// What the arguments ask for in place of the program's work: help if one of them is `--help`, anywhere; the version if `--version` is
+/// the only one. Allocates nothing.
 pub fn asked_by(words: &[String]) -> Option<Asked>
     ensures help { result ≡ Some Asked.Help ↔ Contains (map string_bytes words.now) help_word }
     ensures version { result ≡ Some Asked.Version
@@ -61,7 +69,7 @@ pub fn asked_by(words: &[String]) -> Option<Asked>
     }
 }
 
-/// Says it.
+// Writes what was asked for.
 fn say<W: Write>(out: &mut W, about: About, asked: Asked) -> io::Result<()> {
     let About { name, text, usage } = about;
     match asked {
@@ -70,12 +78,12 @@ fn say<W: Write>(out: &mut W, about: About, asked: Asked) -> io::Result<()> {
             writeln!(out, "{}", usage.trim_end())?;
             writeln!(out, "       {name} --help | --version")
         }
-        Asked::Version => writeln!(out, "{name} {VERSION}"),
+        Asked::Version => writeln!(out, "{name} {VERSION} ({DATE})"),
     }
 }
 
-/// Answers words that ask for help, or for the version. The status of the program: 0, or 3 where that isn't written; none where the
-/// words ask for something else.
+/// Writes help or the version, if the arguments ask for one of them, and returns the program's status: 0, or 3 if the write failed.
+/// Returns nothing if they ask for something else.
 pub fn answer<W: Write>(out: &mut W, about: About, words: &[String]) -> Option<u8> {
     let asked = asked_by(words)?;
     match say(out, about, asked) {

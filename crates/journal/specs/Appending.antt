@@ -14,7 +14,7 @@ use Rattle.journal.specs.Reading.{IsHanded}
 use Rattle.journal.specs.declared.log.AppendError.{AppendError}
 use Rattle.journal.specs.declared.log.AppendError.TheVariants.{Refused, Line, Spent, Full}
 
--- what an append did, as a send of a clean sender on the log's line, by its answer: the record with this number went out whole, or
+-- what an append did, as a send of a clean sender on the log's line, by its result: the record with this number went out whole, or
 -- a beginning of its bytes did, or it was refused
 abbrev pub IsAppend : ℕ → Bool → ℕ → Option Tree → Result ℕ AppendError → Send → Type 0
 IsAppend limit spent n writes (Ok m) x = (m ≡ n) × ((v : Tree) × (writes ≡ Some v) × (x ≡ completed (numbered n v)))
@@ -23,7 +23,7 @@ IsAppend limit spent n writes (Err (Refused e)) x = (x ≡ refused) × UnlessRef
 IsAppend limit spent n writes (Err Spent) x = (x ≡ refused) × (spent ≡ true)
 IsAppend limit spent n writes (Err Full) x = (x ≡ refused) × (n ≡ 2 ^ 64 - 1)
 
--- the number behind an append, and whether the journal is spent then
+-- the number after an append, and whether the journal is spent then
 abbrev pub next_after : ℕ → Result ℕ AppendError → ℕ
 next_after n (Ok m) = n + 1
 next_after n (Err e) = n
@@ -36,17 +36,21 @@ spent_after spent r = spent
 -- an append to a store that held the first and now holds the second
 pub record Appended (limit : ℕ) (spent : Bool) (n : ℕ) (writes : Option Tree) (r : Result ℕ AppendError)
     (old new : LineState) : Type 0 where
+  -- the append as a send
   pub send : Send
+  -- it is one of a clean sender
   pub is_send : IsSend IsTree limit 0 true send
+  -- which one, by the result
   pub is : IsAppend limit spent n writes r send
+  -- the store has grown by exactly its bytes
   pub wrote : Wrote old new (written 0 true send)
 
--- a fact where the store failed to take bytes
+-- a fact if the store failed to take bytes
 abbrev pub OnStore : Result ℕ AppendError → Type 0 → Type 0
 OnStore (Err Line) P = P
 OnStore _ P = Unit {0}
 
--- a fact where nothing was tried
+-- a fact if nothing was tried
 abbrev pub Unless : Result ℕ AppendError → Type 0 → Type 0
 Unless (Ok m) P = Unit {0}
 Unless (Err Line) P = Unit {0}
@@ -54,7 +58,7 @@ Unless (Err (Refused e)) P = P
 Unless (Err Spent) P = P
 Unless (Err Full) P = P
 
--- a fact where bytes were handed to the store
+-- a fact if bytes were handed to the store
 abbrev pub OnTried : Result ℕ AppendError → Type 0 → Type 0
 OnTried (Ok m) P = P
 OnTried (Err Line) P = P
@@ -65,20 +69,30 @@ OnTried (Err Full) P = Unit {0}
 -- where a log stands: its line, how many of the line's bytes no crash takes, the number of the next
 -- record, and whether an append or a sync failed
 pub record LogPlace : Type 0 where
+  -- the state of its store's line
   pub line : LineState
+  -- how many of the line's bytes survive any crash
   pub settled : ℕ
+  -- the number of the next record
   pub next : ℕ
+  -- whether an append or a sync failed
   pub spent : Bool
 
--- A log was opened: a zero was put behind what the store held; no crash takes any of that; and what is read of it was handed on.
+-- A log was opened: a zero was put after what the store held; all of that survives any crash; and what is read of it was handed on.
 pub record IsOpened {S V : Type 0} (took : S → List (Answer (ℕ × V)) → S → Type 0)
     (judging : Judging (ℕ × V)) (limit first : ℕ) (old : LineState) (log : LogPlace)
     (visitor later : S) : Type 0 where
+  -- the store has grown by exactly a zero
   pub wrote : Wrote old log.line (0 ∷ [])
+  -- no call of the store was a fault
   pub quiet : log.line.faults ≡ old.faults
+  -- all that it holds survives any crash
   pub settles : Settles log.line.told log.settled
+  -- the visitor was handed what is read of it, and the next number follows from that
   pub read : IfSome log.line.told
       (λ bytes. IsHanded took judging limit first visitor later log.next bytes)
+  -- the store was called at most once a byte, and three times more
   pub few : IfSome log.line.told
       (λ bytes. old.calls_left ≤ log.line.calls_left + (length bytes + 3))
+  -- the journal isn't spent
   pub ready : log.spent ≡ false

@@ -21,14 +21,14 @@ takes_record takes = GroupOf (PartThen (TakesNumber 64) (PartThen takes NoParts)
 abbrev pub reads_record : {V : Type 0} → (Tree → V → Type 0) → Tree → ℕ × V → Type 0
 reads_record reads t r = GroupOf (PartThen (λ u. ReadsNumber 64 u r.0) (PartThen (λ u. reads u r.1) NoParts)) t
 
--- the number behind an answer, where n is the one behind those before it
+-- the number after a result, where n is the one after those before it
 abbrev pub past : {V : Type 0} → ℕ → Answer (ℕ × V) → ℕ
 past n (Value r) = if nat_lt r.0 n then n else min (r.0 + 1) (2 ^ 64 - 1)
 past n Damaged = n
 past n TooLong = n
 past n Cut = n
 
--- the number behind the greatest one of these answers, and at least n
+-- the number after the greatest one of these results, and at least n
 abbrev pub past_all : {V : Type 0} → ℕ → List (Answer (ℕ × V)) → ℕ
 past_all n [] = n
 past_all n (a ∷ answers) = past_all (past n a) answers

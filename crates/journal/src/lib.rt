@@ -1,17 +1,23 @@
-//! A log of framed, numbered records that goes on after crashes, torn writes and damage.
+//! A log of framed, numbered records that continues after crashes, torn writes and damage.
 //!
-//! A record is a number and a value, in the spelling of that pair, in a frame of COBS with a zero behind it. There is no index, no
-//! checksum, no header and no write in place, so any reader of COBS and postcard can read a log, and logs behind one another are one.
+//! A record is the encoding of a number and a value, in a COBS frame, and a zero. There is no index, checksum, header or write in
+//! place: any reader of COBS and postcard can read a log, and concatenated logs are one.
 //!
-//! ```text
-//! let mut list = Listed::new(alloc);
-//! let mut journal = Journal::<_, 256>::open::<Reading, _, _>(alloc, store, 0, &Strict(OfType), &mut list)?;
-//! let number = journal.append(&reading)?;
-//! journal.sync()?;      // from here on no crash takes it
+//! [`Journal::open`] appends a zero, syncs, and only then reads: so what it has handed on stays what is read, whatever comes later,
+//! and survives any crash. A journal that failed to append or to sync is spent: open the log again.
+//!
+//! # Example
+//! ```rust
+//! let entry = Sealed((journal.next(), value));
+//! match journal.append(&entry) {
+//!     Ok(number) => match journal.sync() {
+//!         Ok(()) => Done::Settled(number),
+//!         Err(_) => Done::Failed,
+//!     },
+//!     Err(AppendError::Refused(_)) => Done::TooLong,
+//!     Err(_) => Done::Failed,
+//! }
 //! ```
-//!
-//! [`Journal::open`] puts a zero behind what is there, syncs, and only then reads: so what it has handed back stays what is read,
-//! whatever comes later, and no crash takes it. A journal that failed to append or to sync is spent: open it again.
 #![tactic(auto)]
 
 mod framing;

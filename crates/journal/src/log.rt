@@ -16,13 +16,15 @@ use stores::{Store, SyncFault, put};
 use thiserror::Error;
 
 /// Why a value wasn't appended.
+///
+/// Example: see [`Journal::append`].
 #[derive(Clone, Copy, PartialEq, Eq, Debug, Drop, Error)]
 pub enum AppendError {
-    /// The value refuses itself, or its record takes more than N bytes. Nothing was written, and the number wasn't given.
+    /// The value can't be encoded, or its record has more than N bytes. Nothing was written, and the number wasn't given.
     #[error("refused: {0}")]
     Refused(postcard::Error),
-    /// The store failed. A beginning of the record's bytes went out, not all of them, and perhaps none. The journal is spent: it
-    /// can't know whether the record will be read.
+    /// The store failed. Some of the record's bytes were written, perhaps none, but not all. The journal is spent: it can't know
+    /// whether the record will be read.
     #[error("write failed")]
     Line,
     /// The journal is spent: an append or a sync failed before. Nothing was written. Open the log again.
@@ -34,29 +36,35 @@ pub enum AppendError {
 }
 
 /// Why a log wasn't opened.
+///
+/// Example: see [`Journal::open`].
 #[derive(Clone, Copy, PartialEq, Eq, Debug, Drop, Error)]
 pub enum OpenError {
-    /// The zero couldn't be put behind what is there.
+    /// The zero couldn't be appended.
     #[error("write failed")]
     Line,
     /// The store couldn't be synced.
     #[error("not synced")]
     Sync,
-    /// It wasn't read to its end.
+    /// The log wasn't read to its end.
     #[error("{0}")]
     Read(ReadError),
 }
 
-/// A log that wasn't opened.
+/// The store of a log that wasn't opened, and why.
+///
+/// Example: see [`Journal::open`].
 #[derive(Drop)]
 pub struct Unopened<S> {
-    /// Why.
+    /// Why it wasn't opened.
     pub cause: OpenError,
-    /// The store that was handed in.
+    /// The store that was given; it may have got the zero.
     pub store: S,
 }
 
-/// A log that is appended to. A record takes at most N bytes of the store, with its zero.
+/// A log to append to. A record has at most N bytes, with its zero; N is at least 2.
+///
+/// Example: see [`Journal::open`].
 #[derive(Drop)]
 pub struct Journal<S, const N: usize> {
     store: S,
@@ -69,14 +77,32 @@ pub struct Journal<S, const N: usize> {
 impl<S: Store, const N: usize> Journal<S, N> {
     ghost use Rattle.journal.specs.Logs.{store_of, next_of, spent_of, log_place};
 
-    /// Opens a log: puts a zero behind what is there, syncs, and hands what is read to the visitor. The first record of an empty
-    /// log gets the number `first`, any other one the number behind the greatest that was read, and at least `first`.
+    /// Opens a log: appends a zero, syncs, and then hands what is read to the visitor.
     ///
-    /// By `Strict(OfType)` a stretch is a record where it is the very frame that appending one makes, by `Ordinary(OfType)` where a
-    /// front of its message is one in any spelling: also where a newer writer put fields behind those that are known here. What is
-    /// appended is spelled as ever.
+    /// The first record of an empty log gets the number `first`; otherwise the next record gets the number after the greatest that
+    /// was read, and at least `first`. By `Strict(OfType)` a record is read only in the exact frame that appending it writes. By
+    /// `Ordinary(OfType)` a record is read at the front of a message, in any encoding: also of a newer writer that added fields at
+    /// the end. Appending is the same in both cases. Allocates only if a value or the visitor does.
     ///
-    /// At an error the store is handed back; it may have got the zero.
+    /// # Errors
+    /// The store is returned with the reason; it may have got the zero.
+    /// - `Line`: the zero couldn't be appended.
+    /// - `Sync`: the store couldn't be synced.
+    /// - `Read`: a read failed, a value couldn't be allocated, or the visitor halted.
+    ///
+    /// # Example
+    /// ```rust
+    /// match Journal::<MemoryStore, 24>::open::<Entry, _, _>(alloc, store, 0, by, &mut Unheard) {
+    ///     Ok(mut journal) => {
+    ///         let done = append_sealed(&mut journal, value);
+    ///         (done, journal.into_store())
+    ///     }
+    ///     Err(Unopened { cause, store }) => match cause {
+    ///         OpenError::Read(_) => (Done::Unread, store),
+    ///         _ => (Done::Failed, store),
+    ///     },
+    /// }
+    /// ```
     pub fn open<T: Drop, M: MessageReader<(u64, T)>, V: Visitor<T>>(
         alloc: Global,
         store: S,
@@ -118,8 +144,10 @@ impl<S: Store, const N: usize> Journal<S, N> {
         }
     }
 
-    /// A log that goes on at the end of this store, by this number, and is neither read nor written here. The caller knows that no
-    /// stretch is begun at the store's end, and which numbers were given: as `open` does, which puts a zero there, syncs and reads.
+    /// A log that continues at the end of this store, with this number; the store is neither read nor written.
+    ///
+    /// The caller must know that the store ends after a zero, and which numbers were given: as `open`, which appends a zero, syncs
+    /// and reads.
     pub fn resume(store: S, next: u64) -> Journal<S, N>
         requires some { 1 < N }
         requires fits { ReceiverFitsInMemory N.row }
@@ -135,7 +163,7 @@ impl<S: Store, const N: usize> Journal<S, N> {
         }
     }
 
-    /// Leaves out all numbers below this one: the next record gets it, or the number that it would have got where that is above.
+    /// Skips all numbers below this one: the next record gets `number`, or the number that it would have got if that is higher.
     pub fn skip_to(&mut self, number: u64)
         ensures next { next_of self.new ≡ max (next_of self.old) number }
         ensures spent { spent_of self.new ≡ spent_of self.old }
@@ -144,21 +172,21 @@ impl<S: Store, const N: usize> Journal<S, N> {
         self.next = self.next.max(number);
     }
 
-    /// The number that the next record gets.
+    /// The number of the next record.
     pub fn next(&self) -> u64
         ensures { result ≡ next_of self.now }
     {
         self.next
     }
 
-    /// Whether an append or a sync failed.
+    /// Whether an append or a sync failed. Then nothing more is appended.
     pub fn is_spent(&self) -> bool
         ensures { result ≡ spent_of self.now }
     {
         self.spent
     }
 
-    /// The store, after all that was done to it.
+    /// Returns the store, with all that was written to it.
     pub fn into_store(self) -> S
         ensures { result ≡ store_of self }
     {
@@ -171,8 +199,30 @@ impl<S: Store, const N: usize> Journal<S, N> {
         store
     }
 
-    /// Appends a value, and answers its number. The record is whole in the journal's own buffer before its first byte goes out, and
-    /// goes out by one call where the store takes whole pieces. No crash takes it from the next `sync` on that is Ok.
+    /// Appends a value, and returns the number of its record. It survives a crash once a later `sync` is `Ok`.
+    ///
+    /// The record is complete in the journal's own buffer before its first byte is written. It takes one call of the store, if that
+    /// takes whole chunks. Allocates nothing.
+    ///
+    /// # Errors
+    /// - `Refused`: the value can't be encoded, or its record has more than N bytes. Nothing was written, and the number wasn't
+    ///   given.
+    /// - `Line`: the store failed. A proper prefix of the record, perhaps empty, was written, and the journal is spent.
+    /// - `Spent`: an append or a sync failed before. Nothing was written; open the log again.
+    /// - `Full`: no number is left. Nothing was written.
+    ///
+    /// # Example
+    /// ```rust
+    /// let entry = Sealed((journal.next(), value));
+    /// match journal.append(&entry) {
+    ///     Ok(number) => match journal.sync() {
+    ///         Ok(()) => Done::Settled(number),
+    ///         Err(_) => Done::Failed,
+    ///     },
+    ///     Err(AppendError::Refused(_)) => Done::TooLong,
+    ///     Err(_) => Done::Failed,
+    /// }
+    /// ```
     pub fn append<T: Serialize>(&mut self, value: &T) -> Result<u64, AppendError>
         ensures appended { Appended (N - 1) (spent_of self.old) (next_of self.old)
             (T.form.writes value.now) result (S.line (store_of self.old))
@@ -210,7 +260,10 @@ impl<S: Store, const N: usize> Journal<S, N> {
         Ok(number)
     }
 
-    /// Makes all records so far safe from crashes. At an error the journal is spent: a later sync that is Ok would say nothing of
+    /// Makes all records so far survive any crash.
+    ///
+    /// # Errors
+    /// `SyncFault`: the journal was spent, or the sync failed. It is spent then, because a later sync that is `Ok` wouldn't show
     /// what this one lost.
     pub fn sync(&mut self) -> Result<(), SyncFault>
         ensures settled { OnOk result

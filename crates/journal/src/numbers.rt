@@ -8,7 +8,7 @@ use link::Answer;
 // The fewest bytes that a record takes: one of its number, one more of its frame, and its zero.
 const LEAST: u64 = 3;
 
-// The number of the next record, how many bytes of the log stand through the last record that moved it, and how many were heard.
+// The number of the next record, the position after the last record that moved it, and how many bytes were read.
 #[derive(Clone, Copy, Drop)]
 pub(crate) struct Count {
     pub next: u64,
@@ -16,14 +16,14 @@ pub(crate) struct Count {
     pub heard: u64,
 }
 
-// Whether a number is further ahead than the bytes before its stretch can account for.
+// Whether a number is further ahead than the bytes before its stretch account for.
 fn is_ahead(count: Count, before: u64, number: u64) -> bool
     ensures { result ≡ nat_lt (furthest (numbering_of count) before) number }
 {
     number > count.next && number - count.next > before.saturating_sub(count.through) / LEAST
 }
 
-// The answer to a stretch behind so many bytes, as it is handed on.
+// The result of a stretch after so many bytes, as it is handed on.
 pub(crate) fn believe<T: Drop>(
     count: Count,
     before: u64,
@@ -44,7 +44,7 @@ pub(crate) fn believe<T: Drop>(
     }
 }
 
-// The numbers behind an answer that is handed on at the bytes that were heard.
+// The numbers after a result that is handed on at the bytes that were read.
 pub(crate) fn count_on<T>(count: Count, answer: &Answer<(u64, T)>) -> Count
     ensures numbers { numbering_of result ≡ numbered_behind (numbering_of count) count.heard
         answer.now }

@@ -16,20 +16,22 @@ use thiserror::Error;
 const ROOM: usize = 1024;
 
 /// Why a log wasn't read to its end.
+///
+/// Example: see [`read_all`].
 #[derive(Clone, Copy, PartialEq, Eq, Debug, Drop, Error)]
 pub enum ReadError {
-    /// A read failed, or the store has no call left. What was read before it was handed on.
+    /// A read failed, or the store has no call left. What was read before was handed on.
     #[error("read failed")]
     Fault,
-    /// No memory was found for a value.
+    /// A value couldn't be allocated.
     #[error("no memory")]
     NoMemory,
-    /// The visitor wanted no more.
+    /// The visitor halted.
     #[error("halted")]
     Halted,
 }
 
-// Hands on the answer of a push, where it has one, as it is believed. The stretch has so many bytes before the last one heard.
+// Hands on the result of a push, if there is one, as it is believed. The stretch has so many bytes before the last one read.
 fn hand_on<T: Drop, V: Visitor<T>>(
     visitor: &mut V,
     count: Count,
@@ -58,7 +60,7 @@ fn hand_on<T: Drop, V: Visitor<T>>(
     }
 }
 
-// The same count with more bytes heard.
+// The same count after more bytes.
 fn hear_on(count: Count, used: usize) -> Count
     requires { count.heard + used < 2 ^ 64 }
     ensures numbers { numbering_of result ≡ numbering_of count }
@@ -71,7 +73,7 @@ fn hear_on(count: Count, used: usize) -> Count
     }
 }
 
-// Hears a piece, and hands on the answers.
+// Processes a chunk, and hands on its results.
 fn hear<T: Drop, M: MessageReader<(u64, T)>, V: Visitor<T>, const N: usize>(
     alloc: Global,
     messages: &M,
@@ -107,15 +109,24 @@ fn hear<T: Drop, M: MessageReader<(u64, T)>, V: Visitor<T>, const N: usize>(
     Ok(count)
 }
 
-/// Reads a log from its first byte to its end, hands the answers to its stretches to a visitor, and answers the number behind the
-/// greatest one, which is at least `first`. What stands behind the last zero isn't answered.
+/// Reads a log to its end, hands the results to the visitor, and returns the number after the greatest, which is at least `first`.
 ///
-/// By `Strict(OfType)` a stretch is a value only where it is the very frame that appending that record makes. By `Ordinary(OfType)`
-/// it is one where a front of its message is a record in any spelling: also where a newer writer put fields behind those that are
-/// known here.
+/// What follows the last zero has no result. The way of reading is as for [`Journal::open`](crate::Journal::open); the store isn't
+/// changed. It is read once from front to back, in at most one read for each byte, and one more. Allocates only if a value or the
+/// visitor does.
 ///
-/// The store is read once from front to back, in at most one read for each byte and one more. At `Fault` the visitor was handed what
-/// was read until then, and nothing else.
+/// # Errors
+/// - `Fault`: a read failed. The visitor was handed the results of what was read before.
+/// - `NoMemory`: a value couldn't be allocated.
+/// - `Halted`: the visitor halted.
+///
+/// # Example
+/// ```rust
+/// let mut sum = Sum { total: 0 };
+/// let by = &Strict(OfType);
+/// let next = read_all::<Entry, _, _, _, 24>(rt.alloc(), &mut store, 0, by, &mut sum);
+/// check(&rt, matches!(next, Err(ReadError::Halted)));
+/// ```
 pub fn read_all<T: Drop, M: MessageReader<(u64, T)>, S: Store, V: Visitor<T>, const N: usize>(
     alloc: Global,
     store: &mut S,

@@ -1,4 +1,4 @@
-//! What is handed the answers to a log.
+//! What receives the results of a log.
 ghost use Rattle.std.specs.Prelude.{◌≡◌, ℕ, List, [], ◌∷◌, ◌++◌, OnOk, OnErr, ⊤};
 ghost use Rattle.link.specs.declared.receiver.Answer.{Answer};
 ghost use Rattle.journal.specs.Visits.{VisitorLaws};
@@ -7,36 +7,81 @@ use link::Answer;
 use std::alloc::Global;
 use thiserror::Error;
 
-/// A visitor wants no more answers, as when out of memory.
+/// A visitor wants no more results, for example because it is out of memory.
+///
+/// Example: see [`Visitor`].
 #[derive(Clone, Copy, PartialEq, Eq, Debug, Drop, Error)]
 #[error("halted")]
 pub struct Halt;
 
-/// What is handed the answers to the stretches of a log, in order: it may keep, count, print or copy them, or none of that.
+/// Receives the results of a log, in order: it may keep, count, print or copy them.
+///
+/// # Example
+/// ```rust
+/// impl Visitor<Entry> for Sum {
+///     ghost took = { λ _ _ _. ⊤ };
+///
+///     ghost halts = { λ _. ⊤ };
+///
+///     ghost laws = { record { nothing = λ s. tt; more = λ s t u a b p q. tt } };
+///
+///     fn visit(&mut self, answer: Answer<(u64, Entry)>) -> Result<(), Halt>
+///         ensures took { OnOk result ⊤ }
+///         ensures halts { OnErr result ⊤ }
+///     {
+///         let Answer::Value((number, Sealed((sealed, value)))) = answer else {
+///             return Err(Halt);
+///         };
+///         if number == sealed {
+///             self.total = self.total.saturating_add(value as u64);
+///         }
+///         Ok(())
+///     }
+/// }
+/// ```
 pub trait Visitor<T> {
-    /// It was handed these answers, one after another: before, the answers, after.
+    /// It was handed these results in turn: the visitor before, the results, the visitor after.
     ghost took: { Self → List (Answer (ℕ × T)) → Self → Type 0 };
 
-    /// Where it may halt; one that never does says so by the empty type.
+    /// Holds if it may halt; the empty type for one that never does.
     ghost halts: { Self → Type 0 };
 
-    /// Takes the next answer.
+    /// Receives the next result.
+    ///
+    /// # Errors
+    /// `Halt`: it wants no more, and reading stops.
     fn visit(&mut self, answer: Answer<(u64, T)>) -> Result<(), Halt>
         ensures took { OnOk result (took self.old (answer ∷ []) self.new) }
         ensures halts { OnErr result (halts self.old) };
 
+    /// Results that were handed on in turn were handed on as one list.
     ghost laws: { VisitorLaws took };
 }
 
-/// A visitor that keeps all answers.
+/// A visitor that keeps all results, and halts if it is out of memory.
+///
+/// # Example
+/// ```rust
+/// let mut list = Listed::<Entry>::new(alloc);
+/// match read_all::<Entry, Strict<OfType>, MemoryStore, Listed<Entry>, N>(
+///     alloc,
+///     store,
+///     0,
+///     &Strict(OfType),
+///     &mut list,
+/// ) {
+///     Ok(_) => bits(&list.answers),
+///     Err(_) => None,
+/// }
+/// ```
 #[derive(Drop)]
 pub struct Listed<T> {
-    /// The answers so far.
+    /// The results so far.
     pub answers: Vec<Answer<(u64, T)>>,
 }
 
 impl<T> Listed<T> {
-    /// One that was handed nothing.
+    /// A list of no results.
     pub fn new(alloc: Global) -> Listed<T>
         ensures { result.answers.items ≡ [] }
     {
@@ -51,7 +96,7 @@ impl<T: Drop> Visitor<T> for Listed<T> {
 
     ghost took = { λ l a m. m.answers.items ≡ l.answers.items ++ a };
 
-    // where no memory is found for the answer
+    // if no memory is left for the result
     ghost halts = { λ _. ⊤ };
 
     ghost laws = { record {
@@ -72,7 +117,9 @@ impl<T: Drop> Visitor<T> for Listed<T> {
     }
 }
 
-/// A visitor that keeps nothing: for a log that is opened to be appended to.
+/// A visitor that keeps nothing and never halts: for a log that is only appended to.
+///
+/// Example: see [`Journal::open`].
 #[derive(Clone, Copy, Debug, Drop)]
 pub struct Unheard;
 

@@ -16,13 +16,21 @@ use Rattle.journal_laws.specs.Sessions.{HistoryGoesOn}
 
 -- what was read of a history and handed to a visitor, and where the journal stands
 pub record ReadsHistory {S V : Type 0} (took : S → List (Answer (ℕ × V)) → S → Type 0) (reads : Tree → V → Type 0) (any : Tree) (events : List LogEvent) (held : Option (List ℕ)) (old new : S) (next : ℕ) : Type 0 where
+  -- the results
   pub answers : List (Answer (ℕ × V))
+  -- the visitor was handed them, in order
   pub handed : took old answers new
+  -- the store holds the line of the history, and a zero
   pub bytes : held ≡ Some (line 0 (history 0 numbered any [] events) ++ 0 ∷ [])
+  -- the results as trees
   pub verdicts : List Verdict
+  -- each result is read from its tree
   pub matching : AllZip (Matches (reads_record reads)) answers verdicts
+  -- the records among them are those of the history
   pub are : values_of verdicts ≡ read_of (history 0 numbered any [] events)
+  -- they carry the numbers 0, 1, 2 and on
   pub counted : Counted numbered 0 (values_of verdicts)
+  -- the next number is how many they are
   pub next_is : next ≡ min (length (read_of (history 0 numbered any [] events))) (2 ^ 64 - 1)
 
 -- what opening does to a store that holds the line of a history
@@ -44,15 +52,25 @@ numbers_on n (suc k) = n ∷ numbers_on (n + 1) k
 -- the history, all of them are counted, none is missing, and no stretch is unfinished.
 pub record JudgesHistory {V W : Type 0} (told : W → List (Stretch V) → W → Type 0) (reads : Tree → V → Type 0) (any : Tree) (events : List LogEvent)
     (held : Option (List ℕ)) (old new : W) (report : Report V) (next : ℕ) : Type 0 where
+  -- the stretches
   pub stretches : List (Stretch V)
+  -- the watcher received them, in order
   pub handed : told old stretches new
+  -- the store holds the line of the history, and a zero
   pub bytes : held ≡ Some (line 0 (history 0 numbered any [] events) ++ 0 ∷ [])
+  -- the results as trees
   pub verdicts : List Verdict
+  -- each result is read from its tree
   pub matching : AllZip (λ s v. Matches (reads_record reads) s.answer v) stretches verdicts
+  -- the records among them are those of the history
   pub are : values_of verdicts ≡ read_of (history 0 numbered any [] events)
+  -- they carry the numbers 0, 1, 2 and on
   pub counted : Counted numbered 0 (values_of verdicts)
+  -- the tally has exactly these numbers
   pub tallied : IsTally (numbers_on 0 (length (read_of (history 0 numbered any [] events)))) report.tally
+  -- no stretch is unfinished
   pub all_ended : report.unfinished ≡ None
+  -- the next number is how many they are
   pub next_is : next ≡ min (length (read_of (history 0 numbered any [] events))) (2 ^ 64 - 1)
 
 -- what opening by the records that count does to a store that holds the line of a history, each record of which counts

@@ -1,4 +1,4 @@
-//! Opening a log, and what that reads, through whatever the log went.
+//! Opening a log, and what that reads, whatever happened to the log before.
 ghost use Rattle.std.specs.Prelude.{◌≡◌, ℕ, ◌<◌, ◌-◌, ◌^◌, [], length, IfOk, OnOk, IfSome};
 ghost use Rattle.postcard_tree.specs.Tree.{Tree};
 ghost use Rattle.link.specs.Laws.{Appends};
@@ -17,10 +17,31 @@ use postcard_tree::Readable;
 use std::alloc::Global;
 use stores::Store;
 
-/// A way of judging stretches by which the laws of a log hold.
+/// A way of judging stretches for which the laws of logs hold: `Strict(OfType)` and `Ordinary(OfType)`.
+///
+/// # Example
+/// ```rust
+/// fn go_on<M: LogReader<u32>>(
+///     alloc: Global,
+///     messages: &M,
+///     store: MemoryStore,
+///     values: &[u32],
+/// ) -> Option<(u64, MemoryStore)> {
+///     match session::<u32, M, MemoryStore, Unheard, 24>(
+///         alloc,
+///         store,
+///         messages,
+///         &mut Unheard,
+///         values,
+///     ) {
+///         Some(journal) => Some((journal.next(), journal.into_store())),
+///         None => None,
+///     }
+/// }
+/// ```
 pub trait LogReader<T: Readable>: MessageReader<(u64, T)> {
-    /// Shows that they do: records that were counted from 0 on are read so, what stands behind a zero adds its own answers, and a
-    /// record is read as its number and its value. It does nothing.
+    /// Shows that they do, and does nothing: records that were numbered from 0 on are read so; bytes after a zero add their own results;
+    /// and a record is read as its number and its value.
     fn show_laws(&self)
         ensures counts { (limit : ℕ)
             → CountsOn (takes_record T.form.takes) (Self.judging self.now).holds limit 0 }
@@ -43,10 +64,12 @@ impl<T: DeserializeOwned + Exact> LogReader<T> for Strict<OfType> {
     }
 }
 
-/// Opens a log. Where what the store held is what any history leaves, of openings, appends that completed or were broken off at any
-/// byte, and crashes that left any number of its bytes: what is read carries the numbers 0, 1, 2 and on, none missing and none
-/// twice; it is exactly the records of the appends that completed, or whose whole frame went out, as far as crashes left them; and
-/// the next record gets the next number. Of the same history the same is read strictly and ordinarily.
+/// Opens a log whose store holds what any history leaves: openings, appends that completed or were interrupted at any byte, and
+/// crashes that left any number of bytes.
+///
+/// What is read carries the numbers 0, 1, 2 and on, none missing and none twice. It is exactly the records of the appends that
+/// completed, or whose whole frame was written, as far as crashes left them; and the next record gets the next number. The same is
+/// read strictly and ordinarily. Errors are those of `Journal::open`.
 pub fn open_history<T: Readable + Drop, M: LogReader<T>, S: Store, V: Visitor<T>, const N: usize>(
     alloc: Global,
     store: S,
@@ -65,7 +88,7 @@ pub fn open_history<T: Readable + Drop, M: LogReader<T>, S: Store, V: Visitor<T>
     }
 }
 
-/// Appends values in turn, up to the first that isn't appended.
+/// Appends values in turn, up to the first that isn't appended. Errors are those of `Journal::append`.
 pub fn append_each<T: Lawful, S: Store, const N: usize>(
     journal: &mut Journal<S, N>,
     values: &[T],
@@ -82,7 +105,7 @@ pub fn append_each<T: Lawful, S: Store, const N: usize>(
     Ok(())
 }
 
-// Appends all of the values, or gives the journal up.
+// Appends all of the values, or drops the journal.
 fn append_all<T: Lawful, S: Store + Drop, const N: usize>(
     journal: Journal<S, N>,
     values: &[T],
@@ -99,8 +122,8 @@ fn append_all<T: Lawful, S: Store + Drop, const N: usize>(
     }
 }
 
-/// Opens a log and appends values in turn. Where what the store held is what a history leaves, what it holds then is what that
-/// history leaves with this session behind it.
+/// Opens a log and appends values in turn; returns nothing if any of that fails. If the store held what a history leaves, it holds
+/// then what that history leaves with this session after it.
 pub fn session<T: Lawful + Drop, M: LogReader<T>, S: Store + Drop, V: Visitor<T>, const N: usize>(
     alloc: Global,
     store: S,
@@ -120,9 +143,11 @@ pub fn session<T: Lawful + Drop, M: LogReader<T>, S: Store + Drop, V: Visitor<T>
     }
 }
 
-/// Opens a log by the records that count, as a program does whose records are sealed. Where what the store held is what any history
-/// leaves, each record of which counts: what is told are the stretches of that history with its records, numbered 0, 1, 2 and on; none
-/// is missing, none is there twice, and nothing is unfinished; and the next record gets the next number.
+/// Opens a log by the records that count, as a program does whose records are sealed.
+///
+/// If the store holds what a history leaves, each record of which counts: the stretches of that history are reported with its
+/// records, numbered 0, 1, 2 and on; none is missing, none is there twice, nothing is unfinished, and the next record gets the next
+/// number. Errors are those of `open_by`.
 pub fn open_history_by<T: DeserializeOwned + Exact, S: Store, W: Watcher<T>, const N: usize>(
     alloc: Global,
     store: S,
@@ -141,8 +166,8 @@ pub fn open_history_by<T: DeserializeOwned + Exact, S: Store, W: Watcher<T>, con
     }
 }
 
-/// Opens a log by the records that count and appends values in turn: the line of a history, each record of which counts, becomes the
-/// line of that history with this session behind it.
+/// Opens a log by the records that count and appends values in turn; returns nothing if any of that fails. The line of a history,
+/// each record of which counts, becomes the line of that history with this session after it.
 pub fn session_by<T: DeserializeOwned + Exact, S: Store + Drop, W: Watcher<T>, const N: usize>(
     alloc: Global,
     store: S,

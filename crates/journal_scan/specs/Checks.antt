@@ -23,7 +23,7 @@ StandAt takes reads limit bytes ps stretches =
 abbrev pub AreStretches : {V : Type 0} → (Tree → Type 0) → (Tree → V → Type 0) → ℕ → List ℕ → List (Stretch V) → Type 0
 AreStretches takes reads limit bytes stretches = StandAt takes reads limit bytes (ended 0 bytes) stretches
 
--- the record that an answer is, where it is one that counts
+-- the record that a result is, if it is one that counts
 abbrev pub record_in : {V : Type 0} → (ℕ → V → Bool) → Answer (ℕ × V) → List (ℕ × V)
 record_in counted (Value r) = if counted r.0 r.1 then r ∷ [] else []
 record_in counted Damaged = []
@@ -44,27 +44,32 @@ abbrev pub listed_rest : {V : Type 0} → Option (Stretch V) → List (Stretch V
 listed_rest None = []
 listed_rest (Some s) = s ∷ []
 
--- an answer that is no record
+-- a result that is no record
 abbrev pub IsNoRecord : {V : Type 0} → Answer (ℕ × V) → Type 0
 IsNoRecord (Value r) = ⊥
 IsNoRecord Damaged = Unit {0}
 IsNoRecord TooLong = Unit {0}
 IsNoRecord Cut = Unit {0}
 
--- what is left of a log's stretches once the watcher was told of the others: it stands at the log's end, and is no record
+-- what is left of a log's stretches once the watcher received the others: it stands at the log's end, and is no record
 abbrev pub IsRest : {V : Type 0} → List ℕ → Option (Stretch V) → Type 0
 IsRest bytes None = Unit {0}
 IsRest bytes (Some s) = (s.to ≡ length bytes) × IsNoRecord s.answer
 
--- A log was checked, with a zero behind it, as opening it puts one there: the watcher was told of its stretches, in order, but for
+-- A log was checked, with a zero after it, as opening it puts one there: the watcher received its stretches, in order, but for
 -- the last one where no zero ends that and it is no record; and what is kept is the tally of the records among them that count.
 pub record IsChecked {V W : Type 0} (told : W → List (Stretch V) → W → Type 0)
     (counted : ℕ → V → Bool) (takes : Tree → Type 0) (reads : Tree → V → Type 0) (limit : ℕ)
     (held : Option (List ℕ)) (old new : W) (tally : Tally) (unfinished : Option (Stretch V)) : Type 0 where
+  -- the stretches that were reported
   pub stretches : List (Stretch V)
+  -- the watcher received them, in order
   pub handed : told old stretches new
+  -- with the unfinished one they are all stretches of the log and a zero
   pub are : IfSome held (λ bytes. AreStretches takes reads limit (with_zero bytes) (stretches ++ listed_rest unfinished))
+  -- the tally has exactly the records that count
   pub tallied : IsTally (numbers_of (records_in counted stretches)) tally
+  -- the unfinished one ends where the log does, and is no record
   pub rest : IfSome held (λ bytes. IsRest bytes unfinished)
 
 -- Whether the number of a record that counts was among those before it; of none it isn't. Of the greatest number of all that isn't
@@ -73,7 +78,7 @@ abbrev pub IsAgain : {V : Type 0} → List ℕ → List (ℕ × V) → Bool → 
 IsAgain numbers [] again = again ≡ false
 IsAgain numbers (r ∷ _) again = r.0 < 2 ^ 64 - 1 → IsTrue again ↔ Contains numbers r.0
 
--- why a log wasn't checked to its end: a read failed, no memory was found, or the watcher halted
+-- why a log wasn't checked to its end: a read failed, an allocation failed, or the watcher halted
 abbrev pub CheckCause : Type 0 → Type 0 → CheckError → Type 0
 CheckCause failed halted (Read Fault) = failed
 CheckCause failed halted (Read NoMemory) = Unit {0}

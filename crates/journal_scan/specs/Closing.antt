@@ -1,4 +1,4 @@
--- Where a scan of a log with a zero behind it stands, and what it finds.
+-- Where a scan of a log with a zero after it stands, and what it finds.
 use Rattle.std.specs.Prelude.{◌≡◌, ℕ, ◌+◌, ◌-◌, ◌^◌, Bool, true, false, List, length, Option}
 use Rattle.std.specs.Prelude.{if◌then◌else◌}
 use Rattle.postcard_tree.specs.Tree.{Tree}
@@ -6,16 +6,16 @@ use Rattle.journal_scan.specs.declared.scanning.Stretch.{Stretch}
 use Rattle.journal_scan.specs.declared.closing.ClosedScan.{ClosedScan}
 use Rattle.journal_scan.specs.Scanning.{IsScanning, FoundAll, offset_of, with_zero}
 
--- a fact where a test failed
+-- a fact if a test failed
 abbrev pub OnFalse : Bool → Type 0 → Type 0
 OnFalse true P = Unit {0}
 OnFalse false P = P
 
--- until the zero behind the log was passed it is a scan of these bytes
+-- until the zero after the log was passed it is a scan of these bytes
 abbrev pub IsClosing : ℕ → List ℕ → ClosedScan → Type 0
 IsClosing limit bytes scan = OnFalse scan.closed (IsScanning limit bytes scan.scan)
 
--- how many of these bytes and the zero behind them it passed
+-- how many of these bytes and the zero after them it passed
 abbrev pub passed_by : List ℕ → ClosedScan → ℕ
 passed_by bytes scan = if scan.closed then length bytes + 1 else offset_of scan.scan
 
@@ -23,7 +23,7 @@ passed_by bytes scan = if scan.closed then length bytes + 1 else offset_of scan.
 abbrev pub HasPassedNone : ℕ → List ℕ → ClosedScan → Type 0
 HasPassedNone limit bytes scan = IsClosing limit bytes scan × (passed_by bytes scan ≡ 0)
 
--- what is next in a log with a zero behind it: a stretch, or no further one ends
+-- what is next in a log with a zero after it: a stretch, or no further one ends
 abbrev pub FoundClosed : {V : Type 0} → (Tree → Type 0) → (Tree → V → Type 0) → ℕ → List ℕ
     → ClosedScan → ClosedScan → Option (Stretch V) → Type 0
 FoundClosed takes reads limit bytes old new o = IsClosing limit bytes new

@@ -14,19 +14,25 @@ use Rattle.journal_scan.specs.declared.scanning.ScanError.TheVariants.{Fault, No
 use Rattle.journal_scan.specs.declared.checking.CheckError.{CheckError}
 use Rattle.journal_scan.specs.declared.checking.CheckError.TheVariants.{Read, Halted}
 
--- A log was opened: a zero was put behind what the store held; no crash takes any of that; the watcher was told of all its stretches;
--- and the next number is the one behind the greatest of the records that count.
+-- A log was opened: a zero was put after what the store held; all of that survives any crash; the watcher received all its stretches;
+-- and the next number is the one after the greatest of the records that count.
 pub record IsOpenedBy {V W : Type 0}
     (told : W → List (Stretch V) → W → Type 0) (counted : ℕ → V → Bool)
     (takes : Tree → Type 0) (reads : Tree → V → Type 0) (limit : ℕ)
     (old : LineState) (log : LogPlace) (watcher later : W) (report : Report V) : Type 0 where
+  -- the store has grown by exactly a zero
   pub wrote : Wrote old log.line (0 ∷ [])
+  -- no call of the store was a fault
   pub quiet : log.line.faults ≡ old.faults
+  -- all that it holds survives any crash
   pub settles : Settles log.line.told log.settled
+  -- the log was checked
   pub checked : IsChecked told counted takes reads limit log.line.told watcher later
       report.tally report.unfinished
+  -- the next number follows the greatest of the records that count
   pub next_is : (numbers : List ℕ) → IsTally numbers report.tally
       → log.next ≡ behind_greatest numbers
+  -- the journal isn't spent
   pub ready : log.spent ≡ false
 
 -- a cause of a check, as reading a log says it

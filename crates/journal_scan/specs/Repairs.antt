@@ -19,7 +19,7 @@ use Rattle.journal_scan.specs.declared.repairing.Repaired.{Repaired}
 use Rattle.journal_scan.specs.declared.repairing.RepairError.{RepairError}
 use Rattle.journal_scan.specs.declared.repairing.RepairError.TheVariants.{Read, Refused, Line, Sync}
 
--- the bytes of records that are appended one behind another, each its frame and a zero
+-- the bytes of records that are appended one after another, each its frame and a zero
 abbrev pub appended_anew : List Tree → List ℕ
 appended_anew ts = session_line 0 true (map completed ts)
 
@@ -46,40 +46,58 @@ AreTreesOf writes records ts = AllZip (IsTreeOf writes) records ts
 -- these are the trees of all records that are read of a log, strictly, in order
 pub record AreReadIn (takes : Tree → Type 0) (limit : ℕ) (bytes : List ℕ)
     (ts : List Tree) : Type 0 where
+  -- the results of the log, read strictly
   pub answers : List Verdict
+  -- they are all of them
   pub whole : Answers (HoldsExactly (takes_record takes)) limit 0 bytes answers
+  -- the records among them are these
   pub are : values_of answers ≡ ts
 
--- these are the trees of all records that are read of some front of a log
+-- these are the trees of all records that are read of some prefix of a log
 pub record AreReadFirst (takes : Tree → Type 0) (limit : ℕ) (bytes : List ℕ)
     (ts : List Tree) : Type 0 where
+  -- how many bytes of the log were read
   pub count : ℕ
+  -- their results, read strictly
   pub answers : List Verdict
+  -- they are all results of these bytes
   pub given : Given (HoldsExactly (takes_record takes)) limit 0 (take count bytes) answers
+  -- the records among them are these
   pub are : values_of answers ≡ ts
 
--- A log was repaired: all records that are read of it were appended anew, behind a zero; so many they are, and this is the number
--- behind the greatest of theirs.
+-- A log was repaired: all records that are read of it were appended anew, after a zero; so many they are, and this is the number
+-- after the greatest of theirs.
 pub record IsRepaired {V : Type 0} (takes : Tree → Type 0) (writes : V → Option Tree)
     (limit : ℕ) (held : Option (List ℕ)) (old new : LineState)
     (repaired : Repaired) : Type 0 where
+  -- the records that were appended
   pub records : List (ℕ × V)
+  -- their trees
   pub trees : List Tree
+  -- each record has its tree
   pub of : AreTreesOf writes records trees
+  -- they are all records that are read of the log
   pub read : IfSome held (λ bytes. AreReadIn takes limit bytes trees)
+  -- the destination has grown by exactly a zero and these records
   pub wrote : Wrote old new (rewritten trees)
+  -- how many they are, at most 2^64 - 1
   pub records_are : repaired.records ≡ min (length records) (2 ^ 64 - 1)
+  -- the number after the greatest of theirs
   pub next_is : repaired.next ≡ behind_greatest (numbers_of records)
 
--- A repair was broken off: a front of what appending the first records anew writes is there.
+-- A repair was interrupted: a prefix of what appending the first records anew writes is there.
 pub record IsPartlyRepaired (takes : Tree → Type 0) (limit : ℕ)
     (held : Option (List ℕ)) (old new : LineState) : Type 0 where
+  -- the trees of the first records
   pub trees : List Tree
+  -- how many bytes were written
   pub count : ℕ
+  -- they are the first records that are read of the log
   pub read : IfSome held (λ bytes. AreReadFirst takes limit bytes trees)
+  -- the destination has grown by the first bytes of a zero and these records
   pub wrote : Wrote old new (take count (rewritten trees))
 
--- the record that an answer is, where it is one
+-- the record that a result is, if it is one
 abbrev pub record_read : {V : Type 0} → Answer (ℕ × V) → List (ℕ × V)
 record_read (Value r) = r ∷ []
 record_read Damaged = []
@@ -88,28 +106,40 @@ record_read Cut = []
 
 -- a record was appended anew
 pub record WentAnew (writes : Option Tree) (n : ℕ) (old new : LineState) : Type 0 where
+  -- what the value writes
   pub value : Tree
+  -- it writes that
   pub is : writes ≡ Some value
+  -- the destination has grown by exactly the record
   pub wrote : Wrote old new (sent 0 true (numbered n value))
 
--- a front of it was
+-- a prefix of it was
 pub record BrokeAnew (writes : Option Tree) (n : ℕ) (old new : LineState) : Type 0 where
+  -- what the value writes
   pub value : Tree
+  -- it writes that
   pub is : writes ≡ Some value
+  -- how many bytes were written
   pub count : ℕ
+  -- the destination has grown by the first bytes of the record
   pub wrote : Wrote old new (take count (sent 0 true (numbered n value)))
 
--- the record that an answer is was appended anew, where it is one, and is counted
+-- the record that a result is was appended anew, if it is one, and is counted
 pub record GoesAnew {V : Type 0} (writes : V → Option Tree) (answer : Answer (ℕ × V))
     (old new : LineState) (repaired later : Repaired) : Type 0 where
+  -- the tree of the record, if the result is one
   pub trees : List Tree
+  -- it is the tree of that record
   pub of : AreTreesOf writes (record_read answer) trees
+  -- the destination has grown by exactly the record
   pub wrote : Wrote old new (appended_anew trees)
+  -- the record is counted
   pub records_are : later.records ≡ min (repaired.records + length trees) (2 ^ 64 - 1)
+  -- the next number follows the greatest, this one included
   pub next_is : (ns : List ℕ) → repaired.next ≡ behind_greatest ns
       → later.next ≡ behind_greatest (ns ++ numbers_of (record_read answer))
 
--- it wasn't: a front of it was, or it was refused, since it takes more than so many bytes
+-- it wasn't: a prefix of it was, or it was refused, since it takes more than so many bytes
 abbrev pub StopsAnew : {V : Type 0} → (V → Option Tree) → ℕ → Answer (ℕ × V)
     → LineState → LineState → RepairError → Type 0
 StopsAnew writes most (Value r) old new Line = BrokeAnew (writes r.1) r.0 old new
@@ -118,7 +148,7 @@ StopsAnew writes most (Value r) old new (Refused e) =
     × UnlessRefused (record_of r.0 (writes r.1)) (λ bytes. most < length (shortest_frame bytes))
 StopsAnew writes most a old new e = ⊥
 
--- why a repair was broken off: the log's store failed, or the destination did
+-- why a repair was interrupted: the log's store failed, or the destination did
 abbrev pub RepairCause : RepairError → Type 0 → Type 0 → Type 0
 RepairCause (Read Fault) P Q = P
 RepairCause (Read NoMemory) P Q = Unit {0}
@@ -126,14 +156,14 @@ RepairCause (Refused e) P Q = Unit {0}
 RepairCause Line P Q = Q
 RepairCause Sync P Q = Q
 
--- a fact where a record was refused
+-- a fact if a record was refused
 abbrev pub IfRefused : RepairError → Type 0 → Type 0
 IfRefused (Read e) P = Unit {0}
 IfRefused (Refused e) P = P
 IfRefused Line P = Unit {0}
 IfRefused Sync P = Unit {0}
 
--- a fact where the destination couldn't be synced
+-- a fact if the destination couldn't be synced
 abbrev pub IfUnsynced : RepairError → Type 0 → Type 0
 IfUnsynced (Read e) P = Unit {0}
 IfUnsynced (Refused e) P = Unit {0}

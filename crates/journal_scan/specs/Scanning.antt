@@ -16,36 +16,57 @@ use Rattle.journal_scan.specs.declared.scanning.Scan.{Scan}
 use Rattle.journal_scan.specs.declared.scanning.ScanError.{ScanError}
 use Rattle.journal_scan.specs.declared.scanning.Stretch.{Stretch}
 
--- The bytes from..to of a log are this stretch; it stands behind a zero or at the front, a zero stands behind it, and this is the
+-- The bytes from..to of a log are this stretch; it stands after a zero or at the front, a zero stands after it, and this is the
 -- answer to it.
 pub record IsStretchAt {V : Type 0} (holds : List ℕ → Tree → Type 0) (reads : Tree → V → Type 0) (limit : ℕ) (bytes stretch : List ℕ) (from to : ℕ) (answer : Answer V) : Type 0 where
+  -- the bytes before the stretch
   pub front : List ℕ
+  -- the bytes after its zero
   pub rest : List ℕ
+  -- the log is these, with the stretch and its zero between
   pub bytes_are : bytes ≡ front ++ (stretch ++ (0 ∷ rest))
+  -- where the stretch begins
   pub from_is : length front ≡ from
+  -- where it ends
   pub to_is : from + length stretch ≡ to
+  -- a zero precedes it, or the start of the log
   pub between : EndsBetween 0 front
+  -- no byte of it is a zero
   pub nonzero : NoZero stretch
+  -- it isn't empty
   pub some : 0 < length stretch
+  -- its result as a tree
   pub verdict : Verdict
+  -- the result is read from that tree
   pub says : Matches reads answer verdict
+  -- that is the result of the stretch
   pub is : IsAnswer holds limit stretch verdict
 
 -- Between an offset and a later one the stretches that end are this one alone.
 pub record IsNextStretch {V : Type 0} (holds : List ℕ → Tree → Type 0) (reads : Tree → V → Type 0) (limit : ℕ) (bytes : List ℕ) (old new from to : ℕ) (answer : Answer V) : Type 0 where
+  -- its bytes
   pub stretch : List ℕ
+  -- they are this stretch of the log
   pub is : IsStretchAt holds reads limit bytes stretch from to answer
+  -- the scan is after its zero
   pub behind : new ≡ to + 1
+  -- no other stretch ends between the two positions
   pub next : ended 0 (take new bytes) ≡ ended 0 (take old bytes) ++ (stretch ∷ [])
 
--- Where a scan stands in a log's bytes: what it read last is what stands at its offset; its receiver stands behind the bytes before;
+-- Where a scan stands in a log's bytes: what it read last is what stands at its offset; its receiver stands after the bytes before;
 -- and the unfinished stretch of these begins at `from`.
 pub record ScanStands (limit : ℕ) (receiver : Reception CobsDecoderOwned) (at from : ℕ) (past : Bool) (unread bytes : List ℕ) : Type 0 where
+  -- the offset is in the log
   pub within : at ≤ length bytes
+  -- what wasn't read yet
   pub rest : List ℕ
+  -- what was read last is at the offset
   pub unread_is : drop at bytes ≡ unread ++ rest
+  -- where the unfinished stretch begins
   pub from_is : from + length (unfinished 0 (take at bytes)) ≡ at
+  -- the receiver was given the bytes before the offset
   pub behind : IsBehind in_owner limit 0 receiver (take at bytes)
+  -- whether the unfinished stretch is longer than the limit
   pub past_is : past ≡ nat_lt limit (length (unfinished 0 (take at bytes)))
 
 -- a scan of these bytes, with stretches of at most so many
@@ -66,12 +87,12 @@ abbrev pub Goes : {V : Type 0} → (Tree → Type 0) → (Tree → V → Type 0)
 Goes takes reads limit bytes old new (Ok o) = IsScanning limit bytes new × Found takes reads limit bytes old.at new.at o
 Goes takes reads limit bytes old new (Err e) = IsScanning limit bytes new
 
--- what is next in a log: a stretch; or no further stretch ends in it, and the scan is behind its last byte
+-- what is next in a log: a stretch; or no further stretch ends in it, and the scan is after its last byte
 abbrev pub FoundAll : {V : Type 0} → (Tree → Type 0) → (Tree → V → Type 0) → ℕ → List ℕ → ℕ → ℕ → Option (Stretch V) → Type 0
 FoundAll takes reads limit bytes old new None = (new ≡ length bytes) × (ended 0 bytes ≡ ended 0 (take old bytes))
 FoundAll takes reads limit bytes old new (Some s) = Found takes reads limit bytes old new (Some s)
 
--- a log with a zero behind it, as opening it puts one there
+-- a log with a zero after it, as opening it puts one there
 abbrev pub with_zero : List ℕ → List ℕ
 with_zero bytes = bytes ++ 0 ∷ []
 
@@ -80,11 +101,11 @@ abbrev pub told_with_zero : Option (List ℕ) → Option (List ℕ)
 told_with_zero None = None
 told_with_zero (Some bytes) = Some (with_zero bytes)
 
--- what a zero behind a log ends: a stretch, or nothing
+-- what a zero after a log ends: a stretch, or nothing
 abbrev pub FoundLast : {V : Type 0} → (Tree → Type 0) → (Tree → V → Type 0) → ℕ → List ℕ → Option (Stretch V) → Type 0
 FoundLast takes reads limit bytes o = Found takes reads limit (with_zero bytes) (length bytes) (length bytes + 1) o
 
--- the answer to a stretch of so many bytes that no zero ends
+-- the result of a stretch of so many bytes that no zero ends
 abbrev pub IsOver : {V : Type 0} → ℕ → ℕ → Answer V → Type 0
 IsOver limit n TooLong = limit < n
 IsOver limit n Cut = n ≤ limit

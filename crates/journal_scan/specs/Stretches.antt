@@ -1,4 +1,4 @@
--- The stretch that an answer of a receiver ends.
+-- The stretch that a result of a receiver ends.
 use Rattle.std.specs.Prelude.{ℕ, Bool, true, false, Option, Some, None}
 use Rattle.link.specs.declared.receiver.Answer.{Answer}
 use Rattle.link.specs.declared.receiver.Answer.TheVariants.{Value, Damaged, TooLong, Cut}
@@ -12,7 +12,7 @@ is_past (Some Damaged) = false
 is_past (Some TooLong) = true
 is_past (Some Cut) = false
 
--- the stretch from..to that it ends, where it does
+-- the stretch from..to that it ends, if it does
 abbrev pub ended_stretch : {V : Type 0} → ℕ → ℕ → Option (Answer (ℕ × V)) → Option (Stretch V)
 ended_stretch from to None = None
 ended_stretch from to (Some (Value r)) = Some (record { from = from; to = to; answer = Value r })

@@ -1,4 +1,4 @@
-//! Checking a log: what isn't a record, and which numbers no record has.
+//! Checking a log: what isn't a record, and which numbers are missing.
 ghost use Rattle.std.specs.Prelude.{◌≡◌, ◌↔◌, ℕ, ◌≤◌, true, List, ◌++◌, OnOk, IfOk, IfErr};
 ghost use Rattle.line_io.specs.Transfers.{Failed};
 ghost use Rattle.journal.specs.Reading.{HaltsBehind};
@@ -16,26 +16,34 @@ use stores::Store;
 use thiserror::Error;
 
 /// Why a log wasn't checked to its end.
+///
+/// # Example
+/// ```rust
+/// let found = checked(rt.alloc(), &BYTES, &mut told);
+/// check(&rt, matches!(found, Some(Err(CheckError::Halted))));
+/// ```
 #[derive(Clone, Copy, PartialEq, Eq, Debug, Drop, Error)]
 pub enum CheckError {
-    /// It wasn't read to its end, or no memory was found for what is missing.
+    /// A read failed, or memory for a value or a range of missing numbers couldn't be allocated.
     #[error("{0}")]
     Read(ScanError),
-    /// The watcher wanted no more.
+    /// The watcher halted.
     #[error("halted")]
     Halted,
 }
 
-/// What was found of a log.
+/// What a check found.
+///
+/// Example: see [`check`].
 #[derive(Drop)]
 pub struct Report<T> {
-    /// The records that count: how many they are, the number behind the greatest, and the numbers below it that none has.
+    /// The records that count: how many they are, the number after the greatest, and the missing numbers below it.
     pub tally: Tally,
-    /// The stretch that no zero ends, where there is one that isn't a record.
+    /// What follows the last zero, unless it is a record that lacks only its zero.
     pub unfinished: Option<Stretch<T>>,
 }
 
-// Whether a stretch is left over: it only ends where the log does, and isn't a record. Then the watcher isn't told of it.
+// Whether a stretch is left over: the log's end ends it, and it isn't a record. It isn't reported to the watcher then.
 fn is_left_over<T>(closed: bool, answer: &Answer<(u64, T)>) -> bool
     ensures { result ≡ true ↔ ((closed ≡ true) × IsNoRecord answer.now) }
 {
@@ -47,7 +55,7 @@ fn is_left_over<T>(closed: bool, answer: &Answer<(u64, T)>) -> bool
     }
 }
 
-// Counts the record that a stretch is, where it is one that counts, and says whether its number was there before.
+// Counts a stretch that is a record that counts, and returns whether its number was there before.
 fn count_record<T, W: Watcher<T>>(
     watcher: &W,
     tally: &mut Tally,
@@ -71,10 +79,27 @@ fn count_record<T, W: Watcher<T>>(
     }
 }
 
-/// Goes over a log to its end, tells the watcher of each stretch that a zero ends, and answers which numbers are missing among the
-/// records that count. What stands behind the last zero is judged as opening the log will, which puts a zero behind it: a record
-/// there is told and counted as any other, and what is none is answered. Keeps one stretch, one read's bytes and the ranges that
-/// are missing.
+/// Reads a log to its end, reports each stretch to the watcher, and returns what was counted and what follows the last zero.
+///
+/// The log is judged as opening it will leave it, with one more zero: a record that lacks only its zero is reported and counted as
+/// any other. `limit` is the greatest length of a stretch. Allocates memory for one stretch, one read and the ranges of missing
+/// numbers, whatever the log's size.
+///
+/// # Errors
+/// - `Read`: a read failed, or an allocation did.
+/// - `Halted`: the watcher halted.
+///
+/// # Example
+/// ```rust
+/// ) -> Option<Result<Report<u32>, CheckError>> {
+///     match holding(alloc, bytes) {
+///         Some(mut store) => Some(journal_scan::check::<u32, MemoryStore, Told>(
+///             alloc, 12, &mut store, told,
+///         )),
+///         None => None,
+///     }
+/// }
+/// ```
 pub fn check<T: DeserializeOwned + Exact, S: Store, W: Watcher<T>>(
     alloc: Global,
     limit: usize,

@@ -1,4 +1,4 @@
-//! Going over a log as opening it will leave it: with a zero behind it.
+//! Scanning a log as opening it will leave it: with one more zero.
 ghost use Rattle.std.specs.Prelude.{◌≡◌, ◌<◌, ◌≤◌, ℕ, List, Err, Some, OnOk, IfOk, IfErr, IfSome};
 ghost use Rattle.line_io.specs.Transfers.{Failed};
 
@@ -7,19 +7,18 @@ use postcard::{DeserializeOwned, Exact};
 use std::alloc::Global;
 use stores::Store;
 
-/// Goes over a log with a zero behind it, so that what stands behind its last zero is a stretch as
-/// any other.
+/// Scans a log and one more zero, so that what follows its last zero is a stretch as any other.
 #[derive(Drop)]
 pub(crate) struct ClosedScan {
     scan: Scan,
-    /// Whether the zero behind the log was passed.
+    /// Whether the zero after the log was passed.
     pub closed: bool,
 }
 
 impl ClosedScan {
     ghost use Rattle.journal_scan.specs.Closing.{IsClosing, HasPassedNone, FoundClosed, left_of};
 
-    /// From the log's first byte on.
+    /// A scan from the log's first byte.
     pub fn new(alloc: Global, limit: usize) -> Result<ClosedScan, ScanError>
         ensures begins { IfOk result (λ scan. (bytes : List ℕ) → HasPassedNone limit bytes scan) }
         ensures memory { IfErr result (λ e. e ≡ ScanError.NoMemory) }
@@ -33,7 +32,7 @@ impl ClosedScan {
         }
     }
 
-    /// The next stretch; nothing behind the last one.
+    /// The next stretch; nothing after the last one.
     pub fn next<T: DeserializeOwned + Exact, S: Store>(
         &mut self,
         alloc: Global,

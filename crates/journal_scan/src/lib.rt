@@ -1,4 +1,5 @@
-//! Going over a log stretch by stretch with the places of the stretches, checking it, and appending its records anew.
+//! Reading a log stretch by stretch with the position of each, checking it, repairing it, and opening it by its records. A stretch
+//! is the bytes between two zeros.
 #![tactic(auto)]
 
 mod checking;

@@ -1,4 +1,4 @@
-//! Opening a log to be appended to, by the records that count.
+//! Opening a log to append, by the records that count.
 ghost use Rattle.std.specs.Prelude.{◌<◌, true, IfOk, IfErr};
 ghost use Rattle.line_io.specs.Transfers.{Failed};
 ghost use Rattle.link.specs.Listening.{ReceiverFitsInMemory};
@@ -14,7 +14,7 @@ use postcard::{DeserializeOwned, Exact};
 use std::alloc::Global;
 use stores::{Store, put};
 
-// The same cause, as reading a log says it.
+// The same cause, as an error of reading a log.
 fn read_error(e: CheckError) -> ReadError
     ensures { IsReadErrorOf e result }
 {
@@ -25,11 +25,17 @@ fn read_error(e: CheckError) -> ReadError
     }
 }
 
-/// Opens a log as `Journal::open` does, but reads it once, as `check` does, by the records that count: the next number is the one
-/// behind the greatest of these, also where numbers are missing before it and the bytes that accounted for them are gone. A record
-/// that doesn't count moves nothing, whatever its number.
+/// Opens a log as `Journal::open` does, but by one reading, which is that of `check`: the next number follows the greatest record
+/// that counts.
 ///
-/// At an error the store is handed back; it may have got the zero.
+/// That holds also if numbers are missing, and the bytes that accounted for them are gone. A record that doesn't count moves
+/// nothing, whatever its number. Returns the log, and the report of the check. Allocates as `check`.
+///
+/// # Errors
+/// The store is returned with the reason; it may have got the zero. See `Journal::open`.
+///
+/// # Requires
+/// N is at least 2.
 pub fn open_by<T: DeserializeOwned + Exact, S: Store, W: Watcher<T>, const N: usize>(
     alloc: Global,
     store: S,

@@ -1,4 +1,4 @@
-//! Going over a log stretch by stretch, with the places of the stretches.
+//! Scanning a log stretch by stretch, with their positions.
 ghost use Rattle.std.specs.Prelude.{◌≡◌, ◌+◌, ◌-◌, ◌<◌, ◌≤◌, ◌^◌, ℕ, List, ◌∷◌, ◌++◌, Err, Some, None, OnOk, IfOk, IfErr, IfSome, MatchOption, MatchResult, length, take, drop, vec_len, true, false};
 ghost use Rattle.line_io.specs.Transfers.{Failed};
 ghost use Rattle.link.specs.Laws.{EndsBetween};
@@ -16,29 +16,44 @@ use thiserror::Error;
 const ROOM: usize = 16384;
 
 /// Why the next stretch isn't known.
+///
+/// Example: see [`Stretch`].
 #[derive(Clone, Copy, PartialEq, Eq, Debug, Drop, Error)]
 pub enum ScanError {
     /// A read failed, or the store has no call left.
     #[error("read failed")]
     Fault,
-    /// No memory was found for a value.
+    /// A value, or the buffers of the scan, couldn't be allocated.
     #[error("no memory")]
     NoMemory,
 }
 
-/// A stretch of a log: the bytes from..to of the store, which are no zeros, and the answer to them. Behind it stands a zero, or the
-/// store's end.
+/// A stretch of a log: the bytes from..to of the store, none of which is a zero, and the result. A zero or the store's end follows.
+///
+/// # Example
+/// ```rust
+/// fn add_stretch(found: Result<Option<Stretch<u32>>, ScanError>, all: &mut Vec<u8>) -> bool {
+///     match found {
+///         Ok(Some(stretch)) => match &stretch.answer {
+///             Answer::Value(record) => add_frame(all, record),
+///             _ => true,
+///         },
+///         Ok(None) => true,
+///         Err(_) => false,
+///     }
+/// }
+/// ```
 #[derive(Drop)]
 pub struct Stretch<T> {
-    /// The offset of its first byte.
+    /// The offset of its first byte, in bytes.
     pub from: u64,
-    /// The offset behind its last byte.
+    /// The offset after its last byte, in bytes.
     pub to: u64,
-    /// What it is.
+    /// Whether it is a record, or what damage.
     pub answer: Answer<(u64, T)>,
 }
 
-// Whether a stretch was answered as too long.
+// Whether a stretch is too long.
 fn is_too_long<T>(answer: &Option<Answer<T>>) -> bool
     ensures { result ≡ is_past answer.now }
 {
@@ -51,7 +66,7 @@ fn is_too_long<T>(answer: &Option<Answer<T>>) -> bool
     }
 }
 
-// The stretch that an answer ends: none where it is too long, since that is answered before its zero is there.
+// The stretch that a result ends: none if it is too long, since that is known before its zero is read.
 fn stretch_of<T>(from: u64, to: u64, answer: Option<Answer<(u64, T)>>) -> Option<Stretch<T>>
     ensures { result ≡ ended_stretch from to answer }
 {
@@ -65,16 +80,18 @@ fn stretch_of<T>(from: u64, to: u64, answer: Option<Answer<(u64, T)>>) -> Option
     Some(Stretch { from, to, answer })
 }
 
-/// Goes over a log, and keeps one read's bytes of it.
+/// Scans a log, and keeps one stretch's and one read's bytes of it.
+///
+/// Example: see [`Scan::new`].
 #[derive(Drop)]
 pub struct Scan {
     receiver: OwnedReceiver,
-    // what was read last: start..end of it stands at the offset `at`, and wasn't gone over yet
+    // what was read last: start..end of it is at the offset `at`, and wasn't scanned yet
     room: Vec<u8>,
     start: usize,
     end: usize,
     at: u64,
-    // where the unfinished stretch begins, and whether it is too long
+    // the start of the unfinished stretch, and whether it is too long
     from: u64,
     past: bool,
     ghost order: { start ≤ end },
@@ -86,8 +103,18 @@ pub struct Scan {
 impl Scan {
     ghost use Rattle.journal_scan.specs.Scanning.{IsScanning, offset_of, Goes, Found, FoundAll, FoundLast, IsUnfinishedStretch};
 
-    /// From an offset on, which is 0 or stands behind a zero, with stretches of at most `limit` bytes. Takes memory for one
-    /// stretch's and one read's bytes.
+    /// A scan from an offset, which is 0 or follows a zero, with stretches of at most `limit` bytes.
+    ///
+    /// # Errors
+    /// `NoMemory`: the buffers for one stretch and one read couldn't be allocated.
+    ///
+    /// # Example
+    /// ```rust
+    /// match Scan::new(alloc, LIMIT, 0) {
+    ///     Ok(scan) => all.push(0u8).is_ok() && add_all(alloc, scan, bytes, all),
+    ///     Err(_) => false,
+    /// }
+    /// ```
     pub fn new(alloc: Global, limit: usize, at: u64) -> Result<Scan, ScanError>
         ensures stands { IfOk result (λ scan. (bytes : List ℕ) → at ≤ length bytes
             → EndsBetween 0 (take at bytes) → IsScanning limit bytes scan) }
@@ -119,7 +146,7 @@ impl Scan {
         self.at
     }
 
-    // Reads what stands at the offset; false is the end.
+    // Reads at the offset; false is the end.
     fn fill<S: Store>(&mut self, store: &mut S) -> Result<bool, ScanError>
         ensures stands { (limit : ℕ) (bytes : List ℕ) → (S.line store.old).told ≡ Some bytes
             → IsScanning limit bytes self.old → IsScanning limit bytes self.new }
@@ -149,7 +176,7 @@ impl Scan {
         }
     }
 
-    // Passes the zeros in front, where no stretch is begun.
+    // Skips zeros, if no stretch has begun.
     fn skip_zeros(&mut self)
         ensures stands { (limit : ℕ) (bytes : List ℕ) → IsScanning limit bytes self.old
             → IsScanning limit bytes self.new
@@ -169,7 +196,7 @@ impl Scan {
         }
     }
 
-    // Gives the receiver what was read, up to the first answer.
+    // Gives the receiver what was read, up to the first result.
     fn push<T: DeserializeOwned + Exact>(
         &mut self,
         alloc: Global,
@@ -210,7 +237,7 @@ impl Scan {
         }
     }
 
-    // Passes a stretch that is too long, and answers it where its zero was read.
+    // Skips a stretch that is too long, and returns it once its zero was read.
     fn pass<T: DeserializeOwned>(&mut self) -> Option<Stretch<T>>
         requires past { self.old.past ≡ true }
         ensures back { self.old.at ≤ self.new.at }
@@ -238,7 +265,7 @@ impl Scan {
         None
     }
 
-    /// The stretch that no zero ends yet, where one is begun: `Cut`, or `TooLong`.
+    /// The stretch that no zero ends yet, if one has begun: `Cut`, or `TooLong`.
     pub fn unfinished<T>(&self) -> Option<Stretch<T>>
         ensures { (limit : ℕ) (bytes : List ℕ) → IsScanning limit bytes self.now
             → IsUnfinishedStretch limit bytes (offset_of self.now) result }
@@ -282,9 +309,24 @@ impl Scan {
         }
     }
 
-    /// The next stretch that a zero ends; nothing at the end of what the store holds now. Called again later, it goes on behind
-    /// what was appended since. At `NoMemory` it stands behind the stretch whose value had no memory. At `Fault` it passed no stretch
-    /// that a zero ends: called again, it finds the next one.
+    /// The next stretch that a zero ends; `None` at the end of what the store holds now. Called again later, it continues with what
+    /// was appended since.
+    ///
+    /// Allocates only if a value does.
+    ///
+    /// # Errors
+    /// - `Fault`: a read failed. No stretch was passed: called again, it finds the next one.
+    /// - `NoMemory`: a value couldn't be allocated. The scan is after its stretch.
+    ///
+    /// # Example
+    /// ```rust
+    /// for _ in bytes {
+    ///     if !add_stretch(scan.next_ended::<u32, MemoryStore>(alloc, &mut from), all) {
+    ///         return false;
+    ///     }
+    /// }
+    /// add_stretch(scan.finish::<u32>(alloc), all)
+    /// ```
     pub fn next_ended<T: DeserializeOwned + Exact, S: Store>(
         &mut self,
         alloc: Global,
@@ -320,7 +362,7 @@ impl Scan {
         }
     }
 
-    // What a zero behind the log ends, where the scan stands at the log's end. It goes on no more then.
+    // The stretch that a zero after the log ends, for a scan at the log's end. The scan ends with it.
     pub(crate) fn close<T: DeserializeOwned + Exact>(
         &mut self,
         alloc: Global,
@@ -345,8 +387,12 @@ impl Scan {
         }
     }
 
-    /// What stands behind the last zero, where anything does, as it is once a zero stands behind it: opening the log puts one there.
-    /// The scan stands at the end of what the store holds, as it does where `next_ended` answered nothing.
+    /// The stretch after the last zero, if there is one, judged as if one more zero followed: opening the log appends one.
+    ///
+    /// Call it at the end of the store, when `next_ended` has returned `None`.
+    ///
+    /// # Errors
+    /// `NoMemory`: its value couldn't be allocated.
     pub fn finish<T: DeserializeOwned + Exact>(
         self,
         alloc: Global,

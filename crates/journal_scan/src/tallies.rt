@@ -7,7 +7,16 @@ use std::alloc::Global;
 use std::collections::BTreeMap;
 use std::collections::btree_map::Iter;
 
-/// Which numbers were counted so far: keeps the ranges that are missing below the greatest one, and nothing of the others.
+/// The numbers that were counted so far: keeps the ranges of missing numbers below the greatest one, and nothing of the others.
+///
+/// # Example
+/// ```rust
+/// let mut tally = Tally::new(rt.alloc());
+/// for (number, again, missing) in NUMBERS {
+///     check(&rt, counts(&mut tally, number, again, missing));
+/// }
+/// check(&rt, tally.next() == 6 && tally.counted() == 7);
+/// ```
 #[derive(Drop)]
 pub struct Tally {
     // the last number of each range, by its first
@@ -19,7 +28,7 @@ pub struct Tally {
 impl Tally {
     ghost use Rattle.journal_scan.specs.Tallies.{IsTally, Tallies, AreApart, AreMissing, LiesIn, IsGapAt, KeysBelow, behind_greatest, behind_ranges, gaps_of, gaps_without, gap_before, gap};
 
-    /// One that counted nothing.
+    /// A tally that has counted nothing.
     pub fn new(alloc: Global) -> Tally
         ensures { IsTally [] result }
     {
@@ -30,7 +39,7 @@ impl Tally {
         }
     }
 
-    // The range that a number lies in: its first number and its last.
+    // The range of missing numbers that has this number: its first and its last.
     fn gap_at(&self, number: u64) -> Option<(u64, u64)>
         ensures first { IfSome result (λ g. g.0 ≤ number) }
         ensures last { IfSome result (λ g. number ≤ g.1) }
@@ -49,7 +58,7 @@ impl Tally {
         }
     }
 
-    // Leaves of a range the numbers before this one, where there are any.
+    // Keeps of a range the numbers before this one, if there are any.
     fn shorten(&mut self, first: u64, number: u64) -> Result<(), NoMemory>
         ensures shortened { OnOk result ((front rest : List (ℕ × ℕ)) (last : ℕ)
             → KeysBelow first front → self.old.gaps.entries ≡ front ++ ((first, last) ∷ rest)
@@ -62,7 +71,7 @@ impl Tally {
         ensures count { self.new.count ≡ self.old.count }
     {
         if first < number {
-            // no memory is asked for where the range is there
+            // the range is there, so nothing is allocated
             return match self.gaps.insert(first, number - 1) {
                 Ok(_) => Ok(()),
                 Err(_) => Err(NoMemory),
@@ -72,7 +81,7 @@ impl Tally {
         Ok(())
     }
 
-    // Takes a number out of a range that it lies in.
+    // Takes a number out of its range.
     fn cut_out(&mut self, first: u64, last: u64, number: u64) -> Result<(), NoMemory>
         requires first { first ≤ number }
         requires last { number ≤ last }
@@ -97,7 +106,7 @@ impl Tally {
         self.shorten(first, number)
     }
 
-    // Makes a range of the numbers from the next one up to this one.
+    // Makes a range of the numbers from the next one to the one before this.
     fn pass_to(&mut self, number: u64) -> Result<(), NoMemory>
         ensures ahead { OnOk result (AreApart 0 (gaps_of self.old.gaps.entries)
             → (self.old.next < number
@@ -117,7 +126,7 @@ impl Tally {
         Ok(())
     }
 
-    // Puts a number where it belongs, and says whether it was there.
+    // Counts a number, and returns whether it was there.
     fn put(&mut self, number: u64) -> Result<bool, NoMemory>
         ensures put { OnOk result ((numbers : List ℕ) → IsTally numbers self.old
             → Tallies (numbers ++ number ∷ []) self.new.next (gaps_of self.new.gaps.entries)
@@ -142,8 +151,18 @@ impl Tally {
         Ok(false)
     }
 
-    /// Counts a number, and says whether it was counted before (of the greatest number of all that isn't kept). At an error it isn't
-    /// counted.
+    /// Counts a number, and returns whether it was counted before. Of 2^64 - 1 that isn't kept.
+    ///
+    /// # Errors
+    /// `NoMemory`: a range of missing numbers couldn't be allocated, and the number isn't counted.
+    ///
+    /// # Example
+    /// ```rust
+    /// match tally.count(number) {
+    ///     Ok(found) => found == again && are_missing(tally, missing),
+    ///     Err(_) => false,
+    /// }
+    /// ```
     pub fn count(&mut self, number: u64) -> Result<bool, NoMemory>
         ensures counted { OnOk result ((numbers : List ℕ) → IsTally numbers self.old
             → IsTally (numbers ++ number ∷ []) self.new) }
@@ -157,7 +176,7 @@ impl Tally {
         Ok(again)
     }
 
-    /// How many numbers were counted, one that was counted twice twice; 2^64 - 1 at most.
+    /// How many numbers were counted, with repetitions; at most 2^64 - 1.
     pub fn counted(&self) -> u64
         ensures { (numbers : List ℕ) → IsTally numbers self.now
             → result ≡ min (length numbers) (2 ^ 64 - 1) }
@@ -165,14 +184,14 @@ impl Tally {
         self.count
     }
 
-    /// The number behind the greatest one, 2^64 - 1 at most; 0 where none was counted.
+    /// The number after the greatest one; at most 2^64 - 1, and 0 if none was counted.
     pub fn next(&self) -> u64
         ensures { (numbers : List ℕ) → IsTally numbers self.now → result ≡ behind_greatest numbers }
     {
         self.next
     }
 
-    /// The ranges of the numbers below the next one that weren't counted, in order: the first number of each and its last.
+    /// The ranges of the numbers below `next` that weren't counted, in order: the first and the last number of each.
     pub fn missing(&self) -> Iter<'_, u64, u64>
         ensures { (numbers : List ℕ) → IsTally numbers self.now
             → AreMissing numbers (gaps_of result) }

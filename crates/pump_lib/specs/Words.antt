@@ -1,14 +1,14 @@
--- The words by which a command is said.
+-- The words of a command.
 use Rattle.std.specs.Prelude.{◌≡◌, ℕ, List, [], ◌∷◌, codes}
 use Rattle.std.specs.Str.Parse.{IsNumeral, digits_value, without_leading_plus}
 use Rattle.pump_lib.specs.declared.messages.Command.{Command}
 use Rattle.pump_lib.specs.declared.messages.Command.TheVariants.{Show, On, Off, Limit, Dose, Reset}
 
--- the text is a number in decimal digits, before which a plus may stand
+-- the text is a number in decimal digits, perhaps with a plus before them
 abbrev pub IsNumber : ℕ → List ℕ → Type 0
 IsNumber n text = IsNumeral 10 (without_leading_plus text) × (digits_value 10 (without_leading_plus text) ≡ n)
 
--- a name, and a number behind it
+-- a name and a number
 abbrev pub AreNameAndNumber : List ℕ → ℕ → List (List ℕ) → Type 0
 AreNameAndNumber name n words = (text : List ℕ) × (words ≡ name ∷ text ∷ []) × IsNumber n text
 

@@ -1,26 +1,28 @@
-//! What the words of a call say.
+//! The arguments of a call.
 use crate::messages::Command;
 use crate::words::command_of;
 
-/// Where the call's number is from.
+/// Where the call's number comes from.
 #[derive(Drop)]
 pub enum Numbers {
-    /// It is this one.
+    /// This is the number.
     Number(u64),
-    /// A file by this name holds it.
+    /// A file of this name holds it.
     In(String),
 }
 
-/// What is to be called.
+/// The call to make.
 #[derive(Drop)]
 pub struct Arguments {
+    /// Where its number comes from.
     pub numbers: Numbers,
     /// How often the call may be sent again.
     pub again: u64,
+    /// What is called.
     pub command: Command,
 }
 
-// What is said so far: where the number is from, and how often the call may be sent again.
+// The options so far: where the number comes from, and how often the call may be sent again.
 #[derive(Drop)]
 struct Options {
     numbers: Option<Numbers>,
@@ -28,7 +30,7 @@ struct Options {
 }
 
 impl Options {
-    // Takes an option, where this is one and wasn't said before.
+    // Takes an option; nothing if it is none, or was given before.
     fn take(&mut self, rt: &HostRuntime, name: &str, value: &str) -> Option<()> {
         match name {
             "--again" => self.again = value.parse().ok()?,
@@ -44,7 +46,7 @@ impl Options {
     }
 }
 
-/// What the words say, where they are right: options, each a name and a value, and a command behind them.
+/// What the arguments say: options, each a name and a value, and then a command. Returns nothing if they are wrong.
 pub fn arguments_of(rt: &HostRuntime, words: &[String]) -> Option<Arguments> {
     let mut options = Options {
         numbers: None,

@@ -1,6 +1,6 @@
 //! A call and its reply.
-use crate::messages::{Command, Report};
-use crate::{Asked, FRAME, Said};
+use crate::messages::{Command, PumpReport};
+use crate::{AskedCommand, FRAME, Said};
 use calls::{CallError, Client, Noticing, Replies, Waiting};
 use line_io::{Reads, Writes};
 use link::{End, OfType, Ordinary, Receiver, SendError, Sender};
@@ -8,40 +8,41 @@ use sealed::Keyed;
 use std::io::{self, Stdin, Stdout};
 use std::time::Instant;
 
-// A reading that ends sooner, in milliseconds, has waited for nothing: its input is at an end, or its terminal was hung up.
+// In milliseconds: a reading that ends sooner is taken for the end of its input, such as of a terminal that was hung up.
 const AT_ONCE: u128 = 50;
 
-/// What came of a call.
+/// The result of a call.
 #[derive(Clone, Copy, Drop)]
-pub enum Outcome {
-    /// It was executed, once, and this was said to it.
-    Replied(Report),
-    /// The device passed it over, since it had executed the call `last`.
+pub enum CallOutcome {
+    /// It was executed, once, and this is its reply.
+    Replied(PumpReport),
+    /// The device passed it over, because it had executed the call `last`.
     Passed { last: u64 },
-    /// Nothing was heard of it; whether a sending of it broke off, and whether reading failed.
+    /// No reply came; whether a send of it was interrupted, and whether reading failed.
     Unheard { unsent: bool, unread: bool },
 }
 
-// A client that waits, and hears what is said of a call that was passed over.
-type Asking = Replies<Noticing<Waiting<Writes<Stdout>, Asked, Said, FRAME>, Said>>;
+// A client that waits for the reply, or the notice that its call was passed over.
+type Asking = Replies<Noticing<Waiting<Writes<Stdout>, AskedCommand, Said, FRAME>, Said>>;
 
-// The number of the call that was executed last, where this is said of the call by this number.
+// The number of the call that was executed last, if this notice is of the call with this number.
 fn passed_behind(said: Option<Said>, of: u64) -> Option<u64> {
     match said {
-        Some(Keyed((_, Report::Passed(it)))) if it.number == of => Some(it.last),
+        Some(Keyed((_, PumpReport::Passed(it)))) if it.number == of => Some(it.last),
         _ => None,
     }
 }
 
-// Listens until something is heard of the call by this number, or the reading ends: nothing is answered then, and whether it failed.
+// Receives until the reply to the call with this number, or its notice, or the end of reading: then an error that says whether reading
+// failed.
 fn listen(
     rt: &HostRuntime,
     receiver: &mut Receiver<FRAME>,
     reader: &mut Reads<Stdin>,
     asking: &mut Asking,
     number: u64,
-) -> Result<Outcome, bool> {
-    // what is said of earlier calls is passed over
+) -> Result<CallOutcome, bool> {
+    // replies and notices of earlier calls are dropped
     for _ in 0..u64::MAX {
         let ended = receiver.listen_until_with::<(u64, Said), _, _, _>(
             rt.alloc(),
@@ -51,10 +52,10 @@ fn listen(
             &mut [0u8; 1024],
         );
         if let Some(Keyed((_, report))) = asking.hearer.hearer.said {
-            return Ok(Outcome::Replied(report));
+            return Ok(CallOutcome::Replied(report));
         }
         if let Some(last) = passed_behind(asking.hearer.notice.take(), number) {
-            return Ok(Outcome::Passed { last });
+            return Ok(CallOutcome::Passed { last });
         }
         match ended {
             None => {}
@@ -65,7 +66,7 @@ fn listen(
     Err(true)
 }
 
-// Whether a reading that began then has waited, as one that a time limit of the terminal ends.
+// Whether a reading that began then has waited, as one that a terminal's time limit ends.
 fn has_waited(rt: &HostRuntime, begin: &io::Result<Instant>) -> bool {
     match begin {
         Ok(begin) => match begin.elapsed(rt) {
@@ -76,29 +77,30 @@ fn has_waited(rt: &HostRuntime, begin: &io::Result<Instant>) -> bool {
     }
 }
 
-/// Calls over standard output, and waits on standard input for the reply. Where a reading ends without it, and has waited, the call is
-/// sent again, so many times at most: not at an end of the input, nor where reading fails.
+/// Calls on standard output, and waits on standard input for the reply. If a reading has waited and ends without it, the call is sent
+/// again, at most `again` times: not at the end of the input, nor if reading fails.
 ///
-/// `Full` where the number is the greatest, which is no call's, and `Unsent(Refused)` of a call that has no room: nothing was sent.
+/// # Errors
+/// `Full`: the number is the greatest, which no call has. `Unsent(Refused)`: the call doesn't fit a frame. Nothing was sent.
 pub fn ask(
     rt: &HostRuntime,
     number: u64,
     again: u64,
     command: Command,
-) -> Result<Outcome, CallError> {
+) -> Result<CallOutcome, CallError> {
     let mut reader = Reads::new(rt.stdin());
     let mut receiver = Receiver::<FRAME>::new();
     let sender = Sender::<_, FRAME>::new(Writes::new(rt.stdout()));
     let mut asking = Replies {
         hearer: Noticing {
             hearer: Waiting {
-                client: Client::<_, Asked, FRAME>::new(sender, number),
+                client: Client::<_, AskedCommand, FRAME>::new(sender, number),
                 said: None,
             },
             notice: None,
         },
     };
-    // what wasn't sent whole may have been heard all the same, so its reply is waited for too
+    // a call that wasn't sent whole may have been received all the same, so its reply is waited for too
     let mut unsent = match asking.hearer.hearer.client.call(Keyed((number, command))) {
         Ok(_) => false,
         Err(CallError::Unsent(SendError::Line)) => true,
@@ -118,5 +120,5 @@ pub fn ask(
             break;
         }
     }
-    Ok(Outcome::Unheard { unsent, unread })
+    Ok(CallOutcome::Unheard { unsent, unread })
 }

@@ -1,7 +1,7 @@
-//! One call to the device: its command goes out over standard output, the reply comes over standard input and is said on standard
-//! error. It is sent again, by the same number, where reading ends without a reply, as often as the caller allows.
+//! One call to the device: its command is sent on standard output, the reply is received on standard input and printed on standard
+//! error. If reading ends without a reply it is sent again, with the same number, as often as the user allows.
 use crate::arguments::{Arguments, Numbers, arguments_of};
-use crate::asking::{Outcome, ask};
+use crate::asking::{CallOutcome, ask};
 use crate::numbers::{NumbersError, skip_past, take_number};
 use std::fs::{File, OpenOptions};
 use std::io;
@@ -13,12 +13,12 @@ fn open_null(rt: &HostRuntime) -> io::Result<File> {
         .open(rt, "/dev/null")
 }
 
-// Opens the null device, so that no file that is opened later takes the place of a standard stream that is closed.
+// Opens the null device in place of closed standard streams, so that no file that is opened later gets their descriptors.
 fn hold_streams(rt: &HostRuntime) -> io::Result<[File; 3]> {
     Ok([open_null(rt)?, open_null(rt)?, open_null(rt)?])
 }
 
-// Leaves out the numbers of the file up to the last that the device heard, and says so where that can't be done.
+// Skips the numbers of the file up to the last that the device executed, or writes why that failed.
 fn skip(rt: &HostRuntime, path: &str, last: u64) -> io::Result<u8> {
     match skip_past(rt, path, last) {
         Ok(()) => Ok(1),
@@ -33,8 +33,8 @@ fn skip(rt: &HostRuntime, path: &str, last: u64) -> io::Result<u8> {
     }
 }
 
-// Says that the device passed the call over. An earlier copy of it may have been executed, as of a line that doubles what it brings. The
-// next number of the file, where there is one, is above the last that the device heard.
+// Writes that the device passed the call over. An earlier copy of it may have been executed, for example if the line doubles what it
+// delivers. The file, if there is one, continues above the last number that the device executed.
 fn say_passed(rt: &HostRuntime, numbers: &Numbers, number: u64, last: u64) -> io::Result<u8> {
     if last == number {
         eprintln!(rt; "the device heard another call {number} last: this one is not done now")?;
@@ -47,7 +47,7 @@ fn say_passed(rt: &HostRuntime, numbers: &Numbers, number: u64, last: u64) -> io
     }
 }
 
-// Says that nothing was heard of the call, and what failed, where something did.
+// Writes that no reply came, and what failed, if something did.
 fn say_unheard(rt: &HostRuntime, number: u64, unsent: bool, unread: bool) -> io::Result<u8> {
     if unsent {
         eprintln!(rt; "pump: standard output: write failed")?;
@@ -59,15 +59,15 @@ fn say_unheard(rt: &HostRuntime, number: u64, unsent: bool, unread: bool) -> io:
     Ok(if unsent || unread { 3 } else { 1 })
 }
 
-// Calls by this number, and says what came of it; the status of the program.
+// Calls with this number, and writes the result. Returns the status.
 fn call(rt: &HostRuntime, arguments: &Arguments, number: u64) -> io::Result<u8> {
     match ask(rt, number, arguments.again, arguments.command) {
-        Ok(Outcome::Replied(report)) => {
+        Ok(CallOutcome::Replied(report)) => {
             eprintln!(rt; "{report}")?;
             Ok(0)
         }
-        Ok(Outcome::Passed { last }) => say_passed(rt, &arguments.numbers, number, last),
-        Ok(Outcome::Unheard { unsent, unread }) => say_unheard(rt, number, unsent, unread),
+        Ok(CallOutcome::Passed { last }) => say_passed(rt, &arguments.numbers, number, last),
+        Ok(CallOutcome::Unheard { unsent, unread }) => say_unheard(rt, number, unsent, unread),
         Err(error) => {
             eprintln!(rt; "pump: {error}")?;
             Ok(2)
@@ -75,7 +75,7 @@ fn call(rt: &HostRuntime, arguments: &Arguments, number: u64) -> io::Result<u8> 
     }
 }
 
-// Calls by the number that the arguments give; the status of the program.
+// Calls with the number that the arguments name. Returns the status.
 fn call_numbered(rt: &HostRuntime, arguments: &Arguments) -> io::Result<u8> {
     match &arguments.numbers {
         Numbers::Number(number) => call(rt, arguments, *number),
@@ -89,7 +89,7 @@ fn call_numbered(rt: &HostRuntime, arguments: &Arguments) -> io::Result<u8> {
     }
 }
 
-/// Calls by these words; the status of the program, or none where they are wrong.
+/// Makes the call of these arguments. Returns the status, or nothing if they are wrong.
 pub fn call_by(rt: &HostRuntime, words: &[String]) -> io::Result<Option<u8>> {
     let Ok(_streams) = hold_streams(rt) else {
         eprintln!(rt; "pump: /dev/null can't be opened")?;

@@ -1,24 +1,24 @@
 //! What the device does.
 ghost use Rattle.std.specs.Prelude.{◌≡◌, ◌+◌, ◌<◌, ◌≤◌, false, Some, IfSome, IfNone};
 ghost use Rattle.pump_lib.specs.Device.{DeviceStands, Does, Doses};
-ghost use Rattle.pump_lib.specs.declared.messages.Report.TheVariants.{Passed};
+ghost use Rattle.pump_lib.specs.declared.messages.PumpReport.TheVariants.{Passed};
 
-use crate::messages::{Behind, Command, Refusal, Report};
+use crate::messages::{Behind, Command, PumpReport, Refusal};
 use calls::Application;
 
 /// A pump that doses, and counts what it has dosed.
 #[derive(Clone, Copy, Debug, PartialEq, Eq, Drop)]
 pub struct Device {
-    /// Whether it doses at all.
+    /// Whether it is switched on.
     pub is_on: bool,
     /// The most that it doses in all, in millilitres.
     pub limit: u32,
-    /// What it has dosed since it last counted from nothing, in millilitres.
+    /// What it has dosed since it last counted from zero, in millilitres.
     pub used: u32,
 }
 
 impl Device {
-    /// A device that is off, with a limit of nothing, that has dosed nothing.
+    /// A device that is off, with a limit of 0, that has dosed nothing.
     pub fn new() -> Device
         ensures { DeviceStands result false 0 0 }
     {
@@ -29,24 +29,24 @@ impl Device {
         }
     }
 
-    // Doses so much more, where it is on and its limit allows it.
-    fn dose(&mut self, amount: u32) -> Report
+    // Doses so much more, if it is on and its limit allows it.
+    fn dose(&mut self, amount: u32) -> PumpReport
         ensures { Doses self.old amount result self.new }
     {
         if !self.is_on {
-            return Report::Refused(Refusal::IsOff);
+            return PumpReport::Refused(Refusal::IsOff);
         }
         match used_within(self.limit, self.used, amount) {
             Some(used) => {
                 self.used = used;
-                Report::Done
+                PumpReport::Done
             }
-            None => Report::Refused(Refusal::OverLimit),
+            None => PumpReport::Refused(Refusal::OverLimit),
         }
     }
 }
 
-// What is used with so much more, where the limit allows it.
+// The total with so much more, if the limit allows it.
 fn used_within(limit: u32, used: u32, amount: u32) -> Option<u32>
     ensures some { IfSome result (λ more. (more ≡ used + amount) × (used + amount ≤ limit)) }
     ensures none { IfNone result (limit < used + amount) }
@@ -57,17 +57,17 @@ fn used_within(limit: u32, used: u32, amount: u32) -> Option<u32>
     }
 }
 
-impl Application<Command, Report> for Device {
+impl Application<Command, PumpReport> for Device {
     ghost executes = { Does };
 
     ghost passes = { λ number last. Some (Passed (record { number = number; last = last })) };
 
-    fn execute(&mut self, command: &Command) -> Report
+    fn execute(&mut self, command: &Command) -> PumpReport
         ensures { Does self.old command.now result self.new }
     {
         match *command {
             Command::Show => {
-                return Report::State {
+                return PumpReport::State {
                     is_on: self.is_on,
                     limit: self.limit,
                     used: self.used,
@@ -79,12 +79,12 @@ impl Application<Command, Report> for Device {
             Command::Dose(amount) => return self.dose(amount),
             Command::Reset => self.used = 0,
         }
-        Report::Done
+        PumpReport::Done
     }
 
-    fn pass(number: u64, last: u64) -> Option<Report>
+    fn pass(number: u64, last: u64) -> Option<PumpReport>
         ensures { result ≡ Some (Passed (record { number = number; last = last })) }
     {
-        Some(Report::Passed(Behind { number, last }))
+        Some(PumpReport::Passed(Behind { number, last }))
     }
 }

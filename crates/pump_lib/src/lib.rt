@@ -1,5 +1,4 @@
-//! A device that is spoken to by commands: what they are, what it does with them, how they are said in words, and both sides of its
-//! line.
+//! A device that executes commands: their types, what it does with each, how they are written as words, and both sides of its line.
 #![tactic(auto)]
 
 mod about;
@@ -15,19 +14,19 @@ mod words;
 
 use calls::Numbered;
 pub use device::Device;
-pub use messages::{Behind, Command, Refusal, Report};
+pub use messages::{Behind, Command, PumpReport, Refusal};
 pub use program::run;
 pub use words::command_of;
 
-/// The bytes of a frame at most, on both lines. The longest message is a number, and that number and what is said of a call that was
-/// passed over with their sum: 45 bytes, whose frame has 46.
+/// The greatest length of a frame, on both lines. The longest message is the notice for a call that was passed over, with its number
+/// outside and inside and a sum: 45 bytes, whose frame has 46.
 pub const FRAME: usize = 48;
 
-/// The key of both lines: the CRC-32 of `pump 1`. It changes with the messages, so that no pump of another version takes them.
+/// The key of both lines: the CRC-32 of `pump 1`. It changes with the messages, so that no pump of another version accepts them.
 pub const KEY: u32 = 0xD235_A0CB;
 
-/// What the device is asked, with its number, under the key.
-pub type Asked = Numbered<Command, KEY>;
+/// A command with its number, under the key.
+pub type AskedCommand = Numbered<Command, KEY>;
 
-/// What the device says.
-pub type Said = Numbered<Report, KEY>;
+/// A report with its number, under the key.
+pub type Said = Numbered<PumpReport, KEY>;

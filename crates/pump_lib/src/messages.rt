@@ -1,45 +1,45 @@
-//! What the device is asked, and what it says.
+//! The messages: commands and reports.
 mod wire;
 
-/// What the device is asked.
+/// A command to the device.
 // message
 #[derive(Clone, Copy, Debug, PartialEq, Eq, Drop)]
 pub enum Command {
-    /// How it stands.
+    /// Report the state.
     Show,
-    /// To be on.
+    /// Switch on.
     On,
-    /// To be off.
+    /// Switch off.
     Off,
-    /// To dose so much in all at most, in millilitres.
+    /// Dose at most so much in all, in millilitres.
     Limit(u32),
-    /// To dose so much more, in millilitres: not the same twice as once.
+    /// Dose so much more, in millilitres: twice isn't the same as once.
     Dose(u32),
-    /// To count from nothing again.
+    /// Count from zero again.
     Reset,
 }
 
-/// What the device says.
+/// What the device replies.
 // message
 #[derive(Clone, Copy, Debug, PartialEq, Eq, Drop)]
-pub enum Report {
-    /// How it stands.
+pub enum PumpReport {
+    /// Its state; limit and used in millilitres.
     State { is_on: bool, limit: u32, used: u32 },
     /// It was done.
     Done,
     /// Nothing was done.
     Refused(Refusal),
-    /// A call was passed over. It may have been executed before.
+    /// A call was passed over; it may have been executed before.
     Passed(Behind),
 }
 
-/// A call that isn't above the last.
+/// A call whose number isn't above the last one.
 // message
 #[derive(Clone, Copy, Debug, PartialEq, Eq, Drop)]
 pub struct Behind {
     /// Its number.
     pub number: u64,
-    /// That of the call that was executed last.
+    /// The number of the call that was executed last.
     pub last: u64,
 }
 
@@ -49,6 +49,6 @@ pub struct Behind {
 pub enum Refusal {
     /// The device is off.
     IsOff,
-    /// It would be more than the limit in all.
+    /// It would exceed the limit.
     OverLimit,
 }

@@ -1,22 +1,22 @@
 //! The number of the next call, in a file: in decimal, on one line.
 //!
-//! A file is locked while it is read and written, so that two consoles at once have two numbers; and it has the next number, on the
-//! disk, before this one goes out: so a console that is killed anywhere leaves out a number at most.
+//! The file is locked while it is read and written, so that two consoles at once get two numbers. The next number is on the disk before
+//! this one is used: a console that is killed anywhere skips at most one number.
 use std::fs::{File, OpenOptions};
 use std::io;
 use std::os::unix::fs::FileExt;
 use thiserror::Error;
 
-// A number that is written has all the digits that a u64 may have, so that each is written over the one before.
+// A number is written with all the digits that a u64 can have, so that each overwrites the one before.
 const WRITTEN: usize = 21;
 
-// The last number that a call has: the greatest is none's.
+// The last number that a call can have: the greatest is none's.
 const LAST: u64 = u64::MAX - 1;
 
-/// Why a file gives no number.
+/// Why no number was taken from a file.
 #[derive(Debug, Drop, Error)]
 pub enum NumbersError {
-    /// It isn't there and can't be made, or may not be read and written.
+    /// It is missing and can't be created, or may not be read and written.
     #[error("can't be opened: {0}")]
     Open(io::Error),
     /// It can't be locked.
@@ -28,18 +28,18 @@ pub enum NumbersError {
     /// What is in it is no number. Nothing was written.
     #[error("holds no number")]
     NoNumber,
-    /// The greatest number stands in it, which is no call's.
+    /// It holds the greatest number, which no call has.
     #[error("no number is left")]
     Full,
-    /// The device has heard the last number that a call has. Nothing was written: started anew, it takes lower ones.
+    /// The device has executed the last number that a call can have. Nothing was written: started anew, it accepts lower ones.
     #[error("left as it is: no call has a number above that, until the device is started anew")]
     NoneAbove,
-    /// The next number can't be written: no call goes out by this one.
+    /// The next number can't be written: no call is sent with this one.
     #[error("can't be written: {0}")]
     Write(io::Error),
 }
 
-// Opens the file, which is made where it isn't there, and waits until no other console holds it.
+// Opens the file, creates it if it is missing, and waits until no other console holds its lock.
 fn open(rt: &HostRuntime, path: &str) -> Result<File, NumbersError> {
     let mut options = OpenOptions::new();
     options.read(true).write(true).create(true);
@@ -53,7 +53,7 @@ fn open(rt: &HostRuntime, path: &str) -> Result<File, NumbersError> {
     }
 }
 
-// The number that the file holds; 1 where it is empty.
+// The number that the file holds; 1 if it is empty.
 fn held(file: &File) -> Result<u64, NumbersError> {
     let mut room = [0u8; 64];
     let n = match file.read_at(&mut room, 0) {
@@ -69,7 +69,7 @@ fn held(file: &File) -> Result<u64, NumbersError> {
     }
 }
 
-// Writes a number in the place of the one that the file holds, to the disk.
+// Replaces the number that the file holds, on the disk.
 fn put(rt: &HostRuntime, file: &File, number: u64) -> io::Result<()> {
     let line = format!(in rt.alloc(); "{number:020}\n")?;
     file.write_all_at(line.as_bytes(), 0)?;
@@ -77,7 +77,10 @@ fn put(rt: &HostRuntime, file: &File, number: u64) -> io::Result<()> {
     file.sync_all()
 }
 
-/// The number of the next call, which no later one gets from this file.
+/// Takes the number of the next call, which no later one gets from this file.
+///
+/// # Errors
+/// Why no number was taken; the file holds what it held, unless writing it failed.
 pub fn take_number(rt: &HostRuntime, path: &str) -> Result<u64, NumbersError> {
     let file = open(rt, path)?;
     let number = held(&file)?;
@@ -90,8 +93,10 @@ pub fn take_number(rt: &HostRuntime, path: &str) -> Result<u64, NumbersError> {
     }
 }
 
-/// Leaves numbers out up to this one, where the file isn't past it: the next call has one above it. Where no call has one above it the
-/// file stays as it is.
+/// Skips the numbers up to this one, unless the file is past it already: the next call has a higher one.
+///
+/// # Errors
+/// `NoneAbove`: no call can have a higher number; the file stays as it is. Otherwise as `take_number`.
 pub fn skip_past(rt: &HostRuntime, path: &str, last: u64) -> Result<(), NumbersError> {
     if last >= LAST {
         return Err(NumbersError::NoneAbove);

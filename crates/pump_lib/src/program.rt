@@ -1,17 +1,17 @@
-//! What the words after the program's name ask for.
+//! The program: its arguments and its modes.
 use crate::about::{CONSOLE, DEVICE, PUMP};
 use crate::console::call_by;
 use crate::serving::serve;
 use help::{About, answer};
 use std::{env, io};
 
-// Says how it is called.
+// Writes how it is called. Returns the status.
 fn say_usage(rt: &HostRuntime, about: About) -> io::Result<u8> {
     eprintln!(rt; "{}", about.usage)?;
     Ok(2)
 }
 
-// What these words ask of the program itself, where they do; the status of the program.
+// Writes help or the version, if the arguments ask for it. Returns the status then.
 fn answered(rt: &HostRuntime, about: About, words: &[String]) -> io::Result<Option<u8>> {
     let status = answer(&mut rt.stdout(), about, words);
     if let Some(3) = status {
@@ -20,7 +20,7 @@ fn answered(rt: &HostRuntime, about: About, words: &[String]) -> io::Result<Opti
     Ok(status)
 }
 
-// Serves, where no words stand behind `device`.
+// Serves, if no arguments follow `device`.
 fn serve_by(rt: &HostRuntime, words: &[String]) -> io::Result<u8> {
     if words.is_empty() {
         return serve(rt);
@@ -31,7 +31,7 @@ fn serve_by(rt: &HostRuntime, words: &[String]) -> io::Result<u8> {
     }
 }
 
-// Calls by the words behind `console`.
+// Calls by the arguments of `console`.
 fn console_by(rt: &HostRuntime, words: &[String]) -> io::Result<u8> {
     if let Some(status) = answered(rt, CONSOLE, words)? {
         return Ok(status);
@@ -42,7 +42,7 @@ fn console_by(rt: &HostRuntime, words: &[String]) -> io::Result<u8> {
     }
 }
 
-// Does what the words say.
+// Runs the mode that the arguments name.
 fn run_by(rt: &HostRuntime, words: &[String]) -> io::Result<u8> {
     if let [mode, rest @ ..] = words {
         match mode.as_str() {
@@ -57,7 +57,7 @@ fn run_by(rt: &HostRuntime, words: &[String]) -> io::Result<u8> {
     }
 }
 
-// The words after the program's name.
+// The arguments of the program.
 fn words_of(rt: &HostRuntime) -> io::Result<Vec<String>> {
     let mut words: Vec<String> = Vec::new(rt.alloc());
     for word in env::args(rt)?.skip(1) {
@@ -76,8 +76,8 @@ fn run_or_say(rt: &HostRuntime) -> io::Result<u8> {
     }
 }
 
-/// Does what the words after the program's name say: `device`, or `console` and a call. The status of the program, which is 3 where
-/// what failed can't be said.
+/// Runs what the arguments name: `device`, or `console` and a call. Returns the program's status, which is 3 if what failed can't be
+/// written.
 pub fn run(rt: &HostRuntime) -> u8 {
     run_or_say(rt).unwrap_or(3)
 }

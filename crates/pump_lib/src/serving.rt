@@ -1,12 +1,12 @@
-//! The device: executes the commands that come over standard input, and replies over standard output, until its input ends.
+//! The device: executes the commands that it receives on standard input, and replies on standard output, until its input ends.
 use crate::device::Device;
-use crate::{Asked, FRAME, Said};
+use crate::{AskedCommand, FRAME, Said};
 use calls::{Checked, Numbering, Server, Service};
 use line_io::{Reads, Writes};
 use link::{End, OfType, Ordinary, Receiver, Sender};
 use std::io;
 
-// Serves all that comes; how the reading ended, and whether a reply wasn't sent whole.
+// Serves all of its input. Returns how reading ended, and whether a reply wasn't sent whole.
 fn work(rt: &HostRuntime) -> (Option<End>, bool) {
     let mut reader = Reads::new(rt.stdin());
     let mut receiver = Receiver::<FRAME>::new();
@@ -16,11 +16,11 @@ fn work(rt: &HostRuntime) -> (Option<End>, bool) {
             application: Numbering {
                 application: Device::new(),
             },
-            server: Server::<_, Asked, Said, FRAME>::new(sender),
+            server: Server::<_, AskedCommand, Said, FRAME>::new(sender),
             unsent: false,
         },
     };
-    let end = receiver.receive_each_with::<(u64, Asked), _, _, _>(
+    let end = receiver.receive_each_with::<(u64, AskedCommand), _, _, _>(
         rt.alloc(),
         &Ordinary(OfType),
         &mut reader,
@@ -29,7 +29,7 @@ fn work(rt: &HostRuntime) -> (Option<End>, bool) {
     (end, service.hearer.unsent)
 }
 
-/// Serves, and says what failed; the status of the program.
+/// Serves, and writes what failed. Returns the status.
 pub fn serve(rt: &HostRuntime) -> io::Result<u8> {
     let (end, unsent) = work(rt);
     if unsent {

@@ -1,18 +1,18 @@
-//! Commands and reports in words.
+//! Commands and reports as words.
 ghost use Rattle.std.specs.Prelude.{◌≡◌, [], ◌∷◌, map, string_bytes, IfSome};
 ghost use Rattle.pump_lib.specs.Words.{IsNumber, AreWordsOf};
 
-use crate::messages::{Command, Refusal, Report};
+use crate::messages::{Command, PumpReport, Refusal};
 use std::fmt;
 
-// The number that a word names.
+// The number that a word is.
 fn number_of(word: &str) -> Option<u32>
     ensures some { IfSome result (λ number. IsNumber number word.now) }
 {
     word.parse().ok()
 }
 
-// The command that one word says.
+// The command of one word.
 fn command_of_one(word: &str) -> Option<Command>
     ensures some { IfSome result (λ command. AreWordsOf command (word.now ∷ [])) }
 {
@@ -25,7 +25,7 @@ fn command_of_one(word: &str) -> Option<Command>
     }
 }
 
-// The command that a name and a number say.
+// The command of a name and a number.
 fn command_of_two(name: &str, number: &str) -> Option<Command>
     ensures some { IfSome result (λ command. AreWordsOf command (name.now ∷ number.now ∷ [])) }
 {
@@ -36,8 +36,8 @@ fn command_of_two(name: &str, number: &str) -> Option<Command>
     }
 }
 
-/// The command that these words say: `show`, `on`, `off`, `reset`, or `limit` or `dose` and a number of millilitres. `None` for
-/// other words, and for a number that is no u32.
+/// The command of these words: `show`, `on`, `off`, `reset`, or `limit` or `dose` and a number of millilitres. `None` for other words,
+/// and for a number that isn't a u32.
 pub fn command_of(words: &[String]) -> Option<Command>
     ensures some { IfSome result (λ command. AreWordsOf command (map string_bytes words.now)) }
 {
@@ -57,16 +57,16 @@ impl fmt::Display for Refusal {
     }
 }
 
-impl fmt::Display for Report {
+impl fmt::Display for PumpReport {
     fn fmt<W: fmt::Write>(&self, f: &mut fmt::Formatter<W>) -> fmt::Result {
         match self {
-            Report::State { is_on, limit, used } => {
+            PumpReport::State { is_on, limit, used } => {
                 let switched = if *is_on { "on" } else { "off" };
                 write!(f, "{switched}, {used} of {limit} ml")
             }
-            Report::Done => write!(f, "done"),
-            Report::Refused(refusal) => write!(f, "refused: {refusal}"),
-            Report::Passed(it) => write!(f, "call {} is behind call {}", it.number, it.last),
+            PumpReport::Done => write!(f, "done"),
+            PumpReport::Refused(refusal) => write!(f, "refused: {refusal}"),
+            PumpReport::Passed(it) => write!(f, "call {} is behind call {}", it.number, it.last),
         }
     }
 }

@@ -1,4 +1,4 @@
--- What numbers that may be printed stand for.
+-- What numbers that may be printed promise.
 use Rattle.std.specs.Prelude.{◌≡◌, ℕ, ◌+◌, true, List, [], ◌∷◌, ◌++◌, length, Result, Ok, Err}
 use Rattle.line_io.specs.Device.{LineState, Wrote}
 use Rattle.postcard_tree.specs.Tree.{Tree}
@@ -12,7 +12,7 @@ use Rattle.records.specs.declared.settling.Settled.{Settled}
 abbrev pub first_of : Group → ℕ
 first_of g = g.first
 
--- the number behind the one of its last record
+-- the number after that of its last record
 abbrev pub behind_of : Group → ℕ
 behind_of g = g.next
 
@@ -20,22 +20,24 @@ behind_of g = g.next
 abbrev pub first_settled : Settled → ℕ
 first_settled s = s.first
 
--- the number behind the one of the last of these
+-- the number after that of the last of these
 abbrev pub behind_settled : Settled → ℕ
 behind_settled s = s.next
 
--- the bytes of records of these values, with the numbers from n on
+-- the bytes of records of these values, numbered from n upwards
 abbrev pub records_from : ℕ → List Tree → List ℕ
 records_from n [] = []
 records_from n (v ∷ vs) = sent 0 true (numbered n v) ++ records_from (n + 1) vs
 
--- Since a line stood at the first, records of these values were appended, with the numbers from one up to another; and behind them
--- these bytes, where appending one more failed.
+-- From the old state of the line to the new one, records of these values were appended, with the numbers from `first` up to, not
+-- including, `behind`; and after them the bytes `rest`, if appending one more failed.
 pub record HasGrown (old new : LineState) (first behind : ℕ) (values : List Tree) (rest : List ℕ) : Type 0 where
+  -- exactly these bytes were written
   pub wrote : Wrote old new (records_from first values ++ rest)
+  -- a number for each value
   pub numbers : behind ≡ first + length values
 
--- what an append answers, as a journal answers it
+-- the result of an append with the record's number, as a journal returns it
 abbrev pub numbered_by : ℕ → Result (Unit {0}) AppendError → Result ℕ AppendError
 numbered_by n (Ok u) = Ok n
 numbered_by n (Err e) = Err e

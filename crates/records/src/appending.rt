@@ -17,16 +17,13 @@ use stores::Stored;
 
 type Log = Stored<File>;
 
-// How many bytes are asked for in one read of the input: lines that come by one share a sync.
+// How many bytes are asked for in one read of the input: lines that arrive in one read share a sync.
 const ROOM: usize = 65536;
 
-// A log of this store, to be appended to; or the status where it can't be had. The next number is the one behind the greatest of a
-// sealed record: also where numbers are missing and the bytes that accounted for them are gone.
+// Opens the log of this store to append, or returns the status. The next number is the one after the greatest of a sealed record, also
+// if numbers are missing and the bytes that accounted for them are gone.
 fn open_log(rt: &HostRuntime, path: &str, store: Log) -> Result<Journal<Log, MOST>, u8> {
-    let mut silent = Printer {
-        rt: None,
-        sound: true,
-    };
+    let mut silent = Printer::silent();
     match open_by::<Entry, Log, Printer<'_>, MOST>(rt.alloc(), store, &mut silent) {
         Ok((journal, _)) => Ok(journal),
         Err(Unopened { cause, store: _ }) => match cause {
@@ -36,7 +33,7 @@ fn open_log(rt: &HostRuntime, path: &str, store: Log) -> Result<Journal<Log, MOS
     }
 }
 
-// Prints the numbers of records that no crash takes; the status of that.
+// Prints the numbers of records that survive any crash. Returns the status.
 fn print_numbers(rt: &HostRuntime, settled: &Settled) -> io::Result<u8> {
     let Ok(mut printed) = BufWriter::new(rt.alloc(), io::writer(rt)) else {
         return Ok(say_no_memory(rt, OUTPUT));
@@ -48,7 +45,7 @@ fn print_numbers(rt: &HostRuntime, settled: &Settled) -> io::Result<u8> {
     Ok(0)
 }
 
-// Says that a line has more bytes than a record takes; the status of that.
+// Writes that a line is longer than a record can hold. Returns the status.
 fn say_too_long(rt: &HostRuntime) -> u8 {
     say_failed(rt, INPUT, &"a line is too long: up to 992 bytes always fit");
     1
@@ -62,7 +59,7 @@ struct Target<'a> {
     identity: Identity,
 }
 
-// Prints the numbers of settled records, where the log's name still leads to it; the status of that.
+// Prints the numbers of settled records, if the log's name still leads to it. Returns the status.
 fn tell(to: Target<'_>, settled: &Settled) -> io::Result<u8> {
     match to.identity.has_moved(to.rt, to.path) {
         Ok(false) => print_numbers(to.rt, settled),
@@ -71,7 +68,7 @@ fn tell(to: Target<'_>, settled: &Settled) -> io::Result<u8> {
     }
 }
 
-// Syncs what was appended, and tells its numbers; the status of that.
+// Syncs what was appended, and prints its numbers. Returns the status.
 fn settle(to: Target<'_>, journal: &mut Journal<Log, MOST>, group: Group) -> io::Result<u8> {
     if group.is_empty() {
         return Ok(0);
@@ -82,7 +79,7 @@ fn settle(to: Target<'_>, journal: &mut Journal<Log, MOST>, group: Group) -> io:
     }
 }
 
-// The same where appending goes no further, and ends with this status. Where it failed the journal is spent, so its store is synced.
+// The same at the end of appending, with its status. If an append failed the journal is spent, so the store itself is synced.
 fn settle_last(
     to: Target<'_>,
     journal: Journal<Log, MOST>,
@@ -107,12 +104,12 @@ fn settle_last(
 enum Line {
     // Its bytes, without the line feed that ends it.
     Read(Vec<u8>),
-    // It has more bytes than a record; they were passed, and none is kept.
+    // It is longer than a record can hold; its bytes were skipped, and none is kept.
     TooLong,
 }
 
-// Takes what the input's buffer has of the next line, and the line feed that ends it, where that is there: whether it is. Of a line no
-// more is kept than tells that it is too long.
+// Takes what the input's buffer has of the next line, with its line feed, and returns whether that was there. No more of a line is
+// kept than shows that it is too long.
 fn take_buffered<R: BufRead>(input: &mut R, line: &mut Vec<u8>) -> io::Result<Option<bool>> {
     let buffered = input.fill_buf()?;
     if buffered.is_empty() {
@@ -128,7 +125,7 @@ fn take_buffered<R: BufRead>(input: &mut R, line: &mut Vec<u8>) -> io::Result<Op
     Ok(Some(used > length))
 }
 
-// The next line; nothing at the end of the input. No byte but its line feed is taken off.
+// The next line; nothing at the end of the input. Only its line feed is removed.
 fn read_line<R: BufRead>(alloc: Global, input: &mut R) -> io::Result<Option<Line>> {
     let mut line: Vec<u8> = Vec::new(alloc);
     let mut is_begun = false;
@@ -155,7 +152,7 @@ fn read_line<R: BufRead>(alloc: Global, input: &mut R) -> io::Result<Option<Line
     Ok(Some(Line::Read(line)))
 }
 
-// The next line of text, or nothing in it where it is too long; nothing at the end of the input. Or the status where there is none.
+// The next line of text, or `Some(None)` if it is too long; nothing at the end of the input; the status at an error.
 fn next_text<R: BufRead>(rt: &HostRuntime, input: &mut R) -> Result<Option<Option<String>>, u8> {
     match read_line(rt.alloc(), input) {
         Ok(Some(Line::Read(line))) => match String::from_utf8(line) {
@@ -168,17 +165,17 @@ fn next_text<R: BufRead>(rt: &HostRuntime, input: &mut R) -> Result<Option<Optio
     }
 }
 
-// What came of the next line.
+// What was done with the next line.
 #[derive(Drop)]
 enum Next {
     Appended,
     LeftOut,
     Ended,
-    // It isn't appended, nor is any other; with this status.
+    // Appending stops, with this status.
     Failed(u8),
 }
 
-// Appends a line, which isn't synced yet.
+// Appends a line, without a sync.
 fn append_text(
     to: Target<'_>,
     journal: &mut Journal<Log, MOST>,
@@ -214,7 +211,7 @@ fn append_next<R: BufRead>(
     }
 }
 
-// Appends each line of standard input; one that is too long is left out. The log is synced, and the numbers are told, before a read that
+// Appends each line of standard input but those that are too long. The log is synced, and the numbers are printed, before a read that
 // may wait: so lines that are there already share a sync.
 fn append_lines(to: Target<'_>, journal: Journal<Log, MOST>) -> io::Result<u8> {
     let Ok(mut input) = BufReader::with_capacity(to.rt.alloc(), ROOM, to.rt.reader()) else {
@@ -240,7 +237,7 @@ fn append_lines(to: Target<'_>, journal: Journal<Log, MOST>) -> io::Result<u8> {
     Ok(status)
 }
 
-// Takes the lock of a log's file; or says why not. The status of that.
+// Takes the lock of a log's file, or writes why that failed. Returns the status.
 fn lock(rt: &HostRuntime, path: &str, file: &File) -> u8 {
     match file.try_lock() {
         Ok(()) => 0,
@@ -249,8 +246,8 @@ fn lock(rt: &HostRuntime, path: &str, file: &File) -> u8 {
     }
 }
 
-/// Appends each line of standard input to a log that none else appends to, and prints its number once it is synced and the log's name
-/// still leads to it.
+/// Appends each line of standard input to a log that nobody else appends to, and prints its number once it is synced and the log's name
+/// still leads to it. Returns the status.
 pub fn append(rt: &HostRuntime, path: &str) -> io::Result<u8> {
     let file = match open_file(rt, path, true) {
         Ok(file) => file,
@@ -260,7 +257,7 @@ pub fn append(rt: &HostRuntime, path: &str) -> io::Result<u8> {
         0 => {}
         failed => return Ok(failed),
     }
-    // also of a file that has bytes: a copy, or one that `repair` wrote, may have no name on the disk yet
+    // also for a file that has bytes: the name of a copy, or of what `repair` wrote, may not be on the disk yet
     match sync_folder(rt, path) {
         0 => {}
         failed => return Ok(failed),

@@ -4,6 +4,7 @@ ghost use Rattle.std.specs.Prelude.{◌==◌, ⊤, OnOk, OnErr};
 use crate::entries::{
     Entry, INPUT, MOST, OUTPUT, open_file, read_input, say_failed, say_no_memory, status_of,
 };
+use help::{Progress, wants_colour};
 use journal::Halt;
 use journal_scan::{CheckError, Judge, RepairError, Report, Stretch, Tally, Watcher};
 use line_io::{Writes, write_all};
@@ -12,7 +13,7 @@ use sealed::Sealed;
 use std::io;
 use stores::{MemoryStore, Store, Stored};
 
-// What is held against a stretch, where something is.
+// Why a stretch isn't a record that counts, if it isn't.
 fn held_against(answer: &Answer<(u64, Entry)>, again: bool) -> Option<&'static str> {
     match answer {
         Answer::Value((number, Sealed((sealed, _)))) if *number == *sealed => {
@@ -23,20 +24,85 @@ fn held_against(answer: &Answer<(u64, Entry)>, again: bool) -> Option<&'static s
     }
 }
 
-fn print_stretch(rt: &HostRuntime, from: u64, to: u64, what: &str) -> Result<(), Halt> {
-    match println!(rt; "bytes {from}..{to}: {what}") {
+// How a line of damage begins and ends: in red, or as it is.
+#[derive(Clone, Copy, Drop)]
+struct Colour {
+    on: &'static str,
+    off: &'static str,
+}
+
+impl Colour {
+    fn new(rt: &HostRuntime) -> Colour {
+        if wants_colour(rt) {
+            Colour {
+                on: "\x1b[31m",
+                off: "\x1b[0m",
+            }
+        } else {
+            Colour { on: "", off: "" }
+        }
+    }
+}
+
+fn print_stretch(
+    rt: &HostRuntime,
+    colour: Colour,
+    from: u64,
+    to: u64,
+    what: &str,
+) -> Result<(), Halt> {
+    let Colour { on, off } = colour;
+    match println!(rt; "{on}bytes {from}..{to}: {what}{off}") {
         Ok(()) => Ok(()),
         Err(_) => Err(Halt),
     }
 }
 
-// Prints what a log has against it, as it is told, or nothing; and keeps whether it was told of something.
+// Where damage is printed.
+#[derive(Drop)]
+struct Printing<'a> {
+    rt: &'a HostRuntime,
+    colour: Colour,
+    progress: Progress,
+    // where the last stretch ended
+    at: u64,
+}
+
+/// Prints the damage of a log as it is reported, or nothing; and keeps whether there was any.
 #[derive(Drop)]
 pub struct Printer<'a> {
-    /// Where it is printed.
-    pub rt: Option<&'a HostRuntime>,
-    /// Whether it was told of nothing so far.
-    pub sound: bool,
+    to: Option<Printing<'a>>,
+    sound: bool,
+}
+
+impl<'a> Printer<'a> {
+    /// Prints to standard output, and shows the progress.
+    fn new(rt: &'a HostRuntime) -> Printer<'a> {
+        Printer {
+            to: Some(Printing {
+                rt,
+                colour: Colour::new(rt),
+                progress: Progress::new(rt),
+                at: 0,
+            }),
+            sound: true,
+        }
+    }
+
+    /// Prints nothing.
+    pub fn silent() -> Printer<'a> {
+        Printer {
+            to: None,
+            sound: true,
+        }
+    }
+
+    // Takes the progress away.
+    fn end(&mut self) {
+        if let Some(to) = &mut self.to {
+            to.progress.end(to.rt);
+        }
+    }
 }
 
 impl Judge<Entry> for Printer<'_> {
@@ -51,7 +117,7 @@ impl Judge<Entry> for Printer<'_> {
 impl Watcher<Entry> for Printer<'_> {
     ghost told = { λ _ _ _. ⊤ };
 
-    // where what it says can't be printed
+    // if a line can't be printed
     ghost halts = { λ _. ⊤ };
 
     ghost laws = { record { nothing = λ s. tt; more = λ s t u a b p q. tt } };
@@ -60,18 +126,22 @@ impl Watcher<Entry> for Printer<'_> {
         ensures told { OnOk result ⊤ }
         ensures halts { OnErr result ⊤ }
     {
+        if let Some(to) = &mut self.to {
+            to.progress.step(to.rt, stretch.to.saturating_sub(to.at));
+            to.at = stretch.to;
+        }
         let Some(what) = held_against(&stretch.answer, again) else {
             return Ok(());
         };
         self.sound = false;
-        match self.rt {
-            Some(rt) => print_stretch(rt, stretch.from, stretch.to, what),
+        match &self.to {
+            Some(to) => print_stretch(to.rt, to.colour, stretch.from, stretch.to, what),
             None => Ok(()),
         }
     }
 }
 
-// Says why a check of a log went no further; the status of that.
+// Writes why a check stopped before the end of the log, and returns the status.
 fn status_at(rt: &HostRuntime, log: &str, e: CheckError) -> u8 {
     match e {
         CheckError::Read(e) => status_of(rt, log, e),
@@ -79,9 +149,10 @@ fn status_at(rt: &HostRuntime, log: &str, e: CheckError) -> u8 {
     }
 }
 
-fn print_missing(rt: &HostRuntime, tally: &Tally) -> io::Result<()> {
+fn print_missing(rt: &HostRuntime, colour: Colour, tally: &Tally) -> io::Result<()> {
+    let Colour { on, off } = colour;
     for (first, last) in tally.missing() {
-        println!(rt; "records {first}..{last}: missing")?;
+        println!(rt; "{on}records {first}..{last}: missing{off}")?;
     }
     Ok(())
 }
@@ -94,30 +165,36 @@ fn print_counted(rt: &HostRuntime, tally: &Tally) -> io::Result<()> {
     }
 }
 
-// Prints what a log has against it as a whole, and what it holds; its status, where its stretches are sound or aren't.
+// Prints the damage of the log as a whole, and how many records it has. Returns the status.
 fn sum_up(rt: &HostRuntime, report: &Report<Entry>, sound: bool) -> io::Result<u8> {
+    let colour = Colour::new(rt);
     if let Some(last) = &report.unfinished {
         let from = last.from;
-        println!(rt; "bytes {from}..: cut")?;
+        let Colour { on, off } = colour;
+        println!(rt; "{on}bytes {from}..: cut{off}")?;
     }
-    print_missing(rt, &report.tally)?;
+    print_missing(rt, colour, &report.tally)?;
     print_counted(rt, &report.tally)?;
     let whole = report.unfinished.is_none() && report.tally.missing().next().is_none();
     if whole && sound { Ok(0) } else { Ok(1) }
 }
 
 fn check_in<S: Store>(rt: &HostRuntime, log: &str, store: &mut S) -> io::Result<u8> {
-    let mut printer = Printer {
-        rt: Some(rt),
-        sound: true,
-    };
-    match journal_scan::check::<Entry, S, Printer<'_>>(rt.alloc(), MOST, store, &mut printer) {
+    let mut printer = Printer::new(rt);
+    let checked = journal_scan::check::<Entry, S, Printer<'_>>(
+        rt.alloc(),
+        MOST,
+        store,
+        &mut printer,
+    );
+    printer.end();
+    match checked {
         Ok(report) => sum_up(rt, &report, printer.sound),
         Err(e) => Ok(status_at(rt, log, e)),
     }
 }
 
-/// Checks a log.
+/// Prints the damage of a log, the missing numbers and the count of records. Returns the status.
 pub fn check(rt: &HostRuntime, path: Option<&str>) -> io::Result<u8> {
     match path {
         Some(path) => match open_file(rt, path, false) {
@@ -131,7 +208,7 @@ pub fn check(rt: &HostRuntime, path: Option<&str>) -> io::Result<u8> {
     }
 }
 
-// Repairs a log to an empty one, and prints that.
+// Repairs a log into an empty one, and prints that.
 fn mend_to(rt: &HostRuntime, from: &mut MemoryStore, to: &mut MemoryStore) -> io::Result<u8> {
     match journal_scan::repair::<Entry, MemoryStore, MemoryStore>(rt.alloc(), MOST, from, to) {
         Ok(repaired) => {
@@ -143,12 +220,12 @@ fn mend_to(rt: &HostRuntime, from: &mut MemoryStore, to: &mut MemoryStore) -> io
             Ok(0)
         }
         Err(RepairError::Read(e)) => Ok(status_of(rt, INPUT, e)),
-        // the store in memory found none for what it got
+        // an append to memory fails only if an allocation does
         Err(_) => Ok(say_no_memory(rt, INPUT)),
     }
 }
 
-/// Repairs the log on standard input to standard output. Nothing is written unless all of it was read.
+/// Repairs the log on standard input to standard output. Writes nothing unless all of it was read. Returns the status.
 pub fn mend(rt: &HostRuntime) -> io::Result<u8> {
     match read_input(rt) {
         Ok(mut from) => mend_to(rt, &mut from, &mut MemoryStore::new(Vec::new(rt.alloc()))),

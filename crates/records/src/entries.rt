@@ -1,4 +1,4 @@
-//! What a log of `records` holds, and where one is read.
+//! What a record is, how logs are opened, and messages about files.
 
 use journal_scan::ScanError;
 use line_io::{End, Reads, read_to_end};
@@ -8,15 +8,16 @@ use std::fs::{self, File, OpenOptions};
 use std::io::{self, ErrorKind};
 use stores::MemoryStore;
 
-/// The most bytes that a record takes, with its zero.
+/// The greatest length of a record, with its zero.
 pub const MOST: usize = 1024;
 
-/// A line with its record's number, and the sum of both.
+/// A record's number and its line, with the CRC-32 of both.
 pub type Entry = Sealed<(u64, String)>;
 
-/// Opens the file of a log, to be read, or to be appended to as well: then it is made where it isn't there.
+/// Opens the file of a log to be read, or to be read and appended to: then a missing file is created.
 ///
-/// Where that fails it is said, and the status answered.
+/// # Errors
+/// The program's status, if that fails; the message is written.
 pub fn open_file(rt: &HostRuntime, path: &str, write: bool) -> Result<File, u8> {
     let mut options = OpenOptions::new();
     options.read(true);
@@ -29,7 +30,7 @@ pub fn open_file(rt: &HostRuntime, path: &str, write: bool) -> Result<File, u8> 
     }
 }
 
-// Opens the folder that a file lies in: of a link the one of the file that it leads to.
+// Opens the folder of a file: for a link, the folder of the file that it leads to.
 fn open_folder(rt: &HostRuntime, path: &str) -> io::Result<File> {
     let mut options = OpenOptions::new();
     options.read(true);
@@ -40,7 +41,7 @@ fn open_folder(rt: &HostRuntime, path: &str) -> io::Result<File> {
     }
 }
 
-/// Syncs the folder that a file lies in, so that no crash takes the file; or says why not. The status of that.
+/// Syncs the folder of a file, so that the file survives a crash, or writes why that failed. Returns the status.
 pub fn sync_folder(rt: &HostRuntime, path: &str) -> u8 {
     match open_folder(rt, path) {
         Ok(opened) => match opened.sync_all() {
@@ -61,32 +62,32 @@ fn open_null(rt: &HostRuntime) -> io::Result<File> {
     options.open(rt, NULL)
 }
 
-/// Holds the descriptors 0 to 2 for as long as the answer is held: one that was closed is the null device then. Else a log that is
-/// opened next would get it, and what is printed would be written into the log.
+/// Keeps the descriptors 0 to 2 open as long as the result lives: one that was closed is the null device then. Otherwise a log that is
+/// opened next would get its number, and output would be written into the log.
 pub fn hold_descriptors(rt: &HostRuntime) -> io::Result<[File; 3]> {
     Ok([open_null(rt)?, open_null(rt)?, open_null(rt)?])
 }
 
-/// What standard input is called, also where a log stands on it.
+/// What standard input is called in messages.
 pub const INPUT: &str = "standard input";
 
-/// What standard output is called.
+/// What standard output is called in messages.
 pub const OUTPUT: &str = "standard output";
 
-/// Says what failed of a file; and the status of that.
+/// Writes what failed about a file to standard error, and returns the status 3.
 pub fn say_failed<W: Display>(rt: &HostRuntime, file: &str, what: &W) -> u8 {
-    // where this fails too the status is the same
+    // if this fails too, the status is the same
     let _ = eprintln!(rt; "records: {file}: {what}");
     3
 }
 
-/// Says that no memory was found for what was done with a file; and the status of that.
+/// Writes that an allocation failed, and returns the status 4.
 pub fn say_no_memory(rt: &HostRuntime, file: &str) -> u8 {
-    say_failed(rt, file, &"no memory");
+    say_failed(rt, file, &"out of memory");
     4
 }
 
-/// Says why reading or writing a file failed; and the status of that.
+/// Writes why reading or writing a file failed, and returns the status.
 pub fn say_error(rt: &HostRuntime, file: &str, e: &io::Error) -> u8 {
     if e.kind() == ErrorKind::OutOfMemory {
         return say_no_memory(rt, file);
@@ -94,7 +95,10 @@ pub fn say_error(rt: &HostRuntime, file: &str, e: &io::Error) -> u8 {
     say_failed(rt, file, e)
 }
 
-/// The log that stands on standard input; or the status where it can't be had.
+/// Reads a log from standard input, and keeps all of it in memory.
+///
+/// # Errors
+/// The program's status, if reading or an allocation fails; the message is written.
 pub fn read_input(rt: &HostRuntime) -> Result<MemoryStore, u8> {
     let mut bytes = Vec::new(rt.alloc());
     match read_to_end(&mut Reads::new(rt.stdin()), &mut bytes) {
@@ -104,7 +108,7 @@ pub fn read_input(rt: &HostRuntime) -> Result<MemoryStore, u8> {
     }
 }
 
-/// Says why a scan of a log went no further; and the status of that.
+/// Writes why a scan stopped before the end of the log, and returns the status.
 pub fn status_of(rt: &HostRuntime, log: &str, e: ScanError) -> u8 {
     match e {
         ScanError::Fault => say_failed(rt, log, &"read failed"),

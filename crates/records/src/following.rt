@@ -1,4 +1,4 @@
-//! Following a log: showing it, and what is appended to it, as it comes.
+//! Following a log: printing it, and then what is appended to it.
 ghost use Rattle.std.specs.Prelude.{◌-◌, IsTrue};
 ghost use Rattle.stores.specs.Store.{EndsBefore};
 
@@ -6,6 +6,7 @@ use crate::entries::{MOST, OUTPUT, open_file, say_error, say_failed, say_no_memo
 use crate::naming::{Identity, MOVED};
 use crate::showing::write_rest;
 use crate::words::Wanted;
+use help::Progress;
 use journal_scan::Scan;
 use std::io::{self, BufWriter, Write};
 use std::thread::sleep;
@@ -18,7 +19,7 @@ const PAUSE: u64 = 250;
 // How many of the last bytes that were read of a log are looked at again.
 const SEEN: usize = 64;
 
-// The last bytes that were read of a log, and where they stand.
+// The last bytes that were read of a log, and their offset.
 #[derive(Drop)]
 struct Seen {
     from: u64,
@@ -27,7 +28,7 @@ struct Seen {
 }
 
 impl Seen {
-    // Those before an offset; nothing where a read failed.
+    // The bytes before an offset; nothing if a read failed.
     fn before<S: Store>(store: &mut S, at: u64) -> Option<Seen> {
         let from = at.saturating_sub(SEEN as u64);
         let mut bytes = [0u8; SEEN];
@@ -36,7 +37,7 @@ impl Seen {
         Some(Seen { from, count, bytes })
     }
 
-    // Whether other bytes stand there now; nothing where a read failed.
+    // Whether there are other bytes now; nothing if a read failed.
     fn is_other<S: Store>(&self, store: &mut S) -> Option<bool> {
         let mut now = [0u8; SEEN];
         let wanted = self.count.min(SEEN);
@@ -53,7 +54,7 @@ fn is_cut_off<S: Store>(store: &mut S, at: u64) -> bool
     at > 0 && matches!(store.read_at(at - 1, &mut room), Some(0))
 }
 
-// What became of the part of a log that was shown, where that isn't as it was.
+// How the part of a log that was shown has changed, if it has.
 fn changed<S: Store>(store: &mut S, at: u64, seen: &Seen) -> Option<&'static str> {
     if is_cut_off(store, at) {
         return Some("cut off: it is shorter than what was shown");
@@ -73,8 +74,8 @@ struct Followed<'a> {
     identity: Identity,
 }
 
-// Shows what the scan still comes to; answers the last bytes of that, or the status where it goes no further. The bytes are looked at
-// before the last lines are out, so that what is done to the log on these is seen.
+// Shows what the scan still finds, and returns the last bytes of that, or the status if it stops. The bytes are read before the last
+// lines are printed, so that what is done to the log in answer to these lines is noticed.
 fn look<S: Store>(
     log: Followed<'_>,
     scan: &mut Scan,
@@ -85,7 +86,8 @@ fn look<S: Store>(
     let Ok(mut printed) = BufWriter::new(rt.alloc(), io::writer(rt)) else {
         return Ok(Err(say_no_memory(rt, OUTPUT)));
     };
-    let shown = write_rest(rt.alloc(), scan, store, &mut printed, wanted, &mut 0);
+    let hidden = &mut Progress::hidden();
+    let shown = write_rest(rt, hidden, scan, store, &mut printed, wanted, &mut 0);
     let seen = Seen::before(store, scan.at());
     printed.flush()?;
     if let Some(e) = shown? {
@@ -97,7 +99,7 @@ fn look<S: Store>(
     }
 }
 
-// Says that a log's name leads to another file, or to none, where that is so; the status of that.
+// Writes that a log's name leads to another file, or to none, if it does. Returns the status.
 fn say_moved(log: Followed<'_>) -> u8 {
     match log.identity.has_moved(log.rt, log.path) {
         Ok(false) => 0,
@@ -106,7 +108,7 @@ fn say_moved(log: Followed<'_>) -> u8 {
     }
 }
 
-// Shows what the scan still comes to, and then what is appended, until the log isn't what was shown, or its name leads elsewhere.
+// Shows what the scan still finds, and then what is appended, until the log has changed, or its name leads elsewhere.
 fn follow_on<S: Store>(
     log: Followed<'_>,
     scan: &mut Scan,
@@ -130,7 +132,7 @@ fn follow_on<S: Store>(
     Ok(0)
 }
 
-/// Shows a log, and what is appended to it, four times a second.
+/// Prints a log, and looks four times a second for what was appended to it. Returns the status.
 pub fn follow(rt: &HostRuntime, path: &str, wanted: Wanted<'_>) -> io::Result<u8> {
     let file = match open_file(rt, path, false) {
         Ok(file) => file,

@@ -1,19 +1,19 @@
 //! A log of lines of text from the shell.
 //!
-//!     records append FILE      appends each line of standard input, and prints its number once no crash takes it
+//!     records append FILE      appends each line of standard input, and prints its number once it is synced
 //!     records show [FILE] [from=N] [last=K] [json]
-//!                              prints each record, or those numbered N and on, or the last K of these: its number and its text
-//!     records check [FILE]     prints each stretch that isn't a record, the numbers that no record has, and how many records there are
-//!     records repair           writes the records of the log on standard input, appended anew, to standard output
+//!                              prints each record, or those numbered N and above, or the last K of these: its number and its text
+//!     records check [FILE]     prints what is damaged, which numbers are missing, and how many records there are
+//!     records repair           reads a log from standard input, and writes its records to standard output as a new log
 //!     records follow FILE [from=N] [json]
-//!                              as show, and then what is appended to it, as it comes
+//!                              as show, and then what is appended to it, until it is interrupted
 //!
-//! Where FILE is left out, the log is standard input, which is read to its end first.
+//! If FILE is left out, the log is standard input, which is read to its end first.
 //!
-//! Each line is sealed with its number: a record whose seal is of another number, or of other bytes, is damaged.
+//! Each line is sealed with its number: a record whose seal has another number or a wrong sum is damaged.
 //!
-//! The status is 0 where all is sound, 1 at damage or a line that is too long, 2 at wrong words, 3 where a file failed or is in use,
-//! and 4 where no memory was found.
+//! The status is 0 if all is sound, 1 at damage or a line that is too long, 2 for wrong arguments, 3 if a file failed or is in use, and
+//! 4 out of memory.
 #![tactic(auto)]
 
 mod about;
@@ -32,7 +32,7 @@ use crate::checking::{check, mend};
 use crate::entries::{NULL, OUTPUT, hold_descriptors, say_error, say_failed};
 use crate::following::follow;
 use crate::showing::show;
-use crate::words::{NO_OPTION, TOO_MANY, Wanted, Wrong, wanted_by};
+use crate::words::{NO_OPTION, TOO_MANY, Wanted, WrongArgument, wanted_by};
 use help::answer;
 use std::io::IsTerminal;
 use std::process::ExitCode;
@@ -42,18 +42,18 @@ const USAGE: &str =
     "usage: records append FILE, show [FILE] [from=N] [last=K] [json], check [FILE], repair, or follow FILE [from=N] [json]";
 
 // Says which word is wrong, and how the program is called.
-fn say_wrong(rt: &HostRuntime, wrong: Wrong<'_>) -> io::Result<u8> {
-    let Wrong { word, why } = wrong;
+fn say_wrong(rt: &HostRuntime, wrong: WrongArgument<'_>) -> io::Result<u8> {
+    let WrongArgument { word, why } = wrong;
     eprintln!(rt; "records: {word}: {why}")?;
     eprintln!(rt; "{USAGE}")?;
     Ok(2)
 }
 
 fn wrong(rt: &HostRuntime, word: &str, why: &'static str) -> io::Result<u8> {
-    say_wrong(rt, Wrong { word, why })
+    say_wrong(rt, WrongArgument { word, why })
 }
 
-// Shows a log by the words behind `show`.
+// Shows a log by the arguments of `show`.
 fn show_by(rt: &HostRuntime, words: &[&str]) -> io::Result<u8> {
     match wanted_by(words) {
         Ok(wanted) => show(rt, for_stdout(rt, wanted)),
@@ -61,7 +61,7 @@ fn show_by(rt: &HostRuntime, words: &[&str]) -> io::Result<u8> {
     }
 }
 
-// Follows a log by the words behind `follow`.
+// Follows a log by the arguments of `follow`.
 fn follow_by(rt: &HostRuntime, words: &[&str]) -> io::Result<u8> {
     let wanted = match wanted_by(words) {
         Ok(wanted) => wanted,
@@ -76,7 +76,7 @@ fn follow_by(rt: &HostRuntime, words: &[&str]) -> io::Result<u8> {
     }
 }
 
-// The same, escaped where it goes to a terminal.
+// The same, escaped if it goes to a terminal.
 fn for_stdout<'a>(rt: &HostRuntime, wanted: Wanted<'a>) -> Wanted<'a> {
     Wanted {
         escaped: rt.stdout().is_terminal(),
@@ -84,7 +84,7 @@ fn for_stdout<'a>(rt: &HostRuntime, wanted: Wanted<'a>) -> Wanted<'a> {
     }
 }
 
-// Does what the words say, none of which begins as an option.
+// Executes a command, of whose words none begins as an option.
 fn run_by(rt: &HostRuntime, words: &[&str]) -> io::Result<u8> {
     match words {
         ["append", path] => append(rt, path),
@@ -100,7 +100,7 @@ fn run_by(rt: &HostRuntime, words: &[&str]) -> io::Result<u8> {
     }
 }
 
-// Does what the words say. One that begins as an option is none of them.
+// Executes a command. A word that begins as an option is refused.
 fn run_checked(rt: &HostRuntime, words: &[&str]) -> io::Result<u8> {
     for word in words {
         if word.starts_with("--") {
@@ -110,7 +110,7 @@ fn run_checked(rt: &HostRuntime, words: &[&str]) -> io::Result<u8> {
     run_by(rt, words)
 }
 
-// The same, of the program's words as they are held.
+// The same, for arguments that own their text.
 fn run_on(rt: &HostRuntime, held: &[String]) -> io::Result<u8> {
     let mut words: Vec<&str> = Vec::new(rt.alloc());
     for word in held {
@@ -119,7 +119,7 @@ fn run_on(rt: &HostRuntime, held: &[String]) -> io::Result<u8> {
     run_checked(rt, &words)
 }
 
-// The words behind the program's name.
+// The arguments of the program.
 fn words_of(rt: &HostRuntime) -> io::Result<Vec<String>> {
     let mut words: Vec<String> = Vec::new(rt.alloc());
     for word in env::args(rt)?.skip(1) {
@@ -147,7 +147,7 @@ fn run(rt: &HostRuntime) -> io::Result<u8> {
 fn main(rt: HostRuntime) -> ExitCode {
     match run(&rt) {
         Ok(status) => ExitCode::from(status),
-        // what else failed was said where it did
+        // every other failure was reported when it happened
         Err(e) => ExitCode::from(say_error(&rt, OUTPUT, &e)),
     }
 }

@@ -3,7 +3,7 @@ use std::fs::{self, File};
 use std::io::{self, ErrorKind};
 use std::os::unix::fs::MetadataExt;
 
-/// What is said where it doesn't.
+/// What is reported if it doesn't.
 pub const MOVED: &str = "moved or replaced: its name leads to another file now, or to none";
 
 /// Which file was opened.
@@ -14,7 +14,7 @@ pub struct Identity {
 }
 
 impl Identity {
-    /// That of an open file.
+    /// Which file is open here.
     pub fn of(file: &File) -> io::Result<Identity> {
         let of = file.metadata()?;
         Ok(Identity {
@@ -23,7 +23,7 @@ impl Identity {
         })
     }
 
-    /// Whether this name leads to another file, or to none.
+    /// Whether this path leads to another file now, or to none.
     pub fn has_moved(&self, rt: &HostRuntime, path: &str) -> io::Result<bool> {
         match fs::metadata(rt, path) {
             Ok(now) => Ok(now.dev() != self.device || now.ino() != self.node),

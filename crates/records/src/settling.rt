@@ -1,4 +1,4 @@
-//! Appending lines so that their numbers may be told: several, and then one sync behind them.
+//! Appending lines so that their numbers may be printed: several, and then one sync after them.
 ghost use Rattle.std.specs.Prelude.{◌≡◌, ◌↔◌, ◌+◌, ◌^◌, ◌⊎◌, ◌-◌, ℕ, true, Some, List, [], ◌∷◌, ◌++◌, IfOk, OnOk, OnErr};
 ghost use Rattle.line_io.specs.Device.{LineState};
 ghost use Rattle.line_io.specs.Transfers.{Failed};
@@ -12,7 +12,7 @@ use postcard::Serialize;
 use std::ops::Range;
 use stores::{Store, SyncFault};
 
-/// The numbers of records that no crash takes. Only a `Group` makes one.
+/// The numbers of records that survive any crash. Only a `Group` makes one.
 #[derive(Drop)]
 pub struct Settled {
     first: u64,
@@ -22,7 +22,7 @@ pub struct Settled {
 impl Settled {
     ghost use Rattle.records.specs.Settling.{first_settled, behind_settled};
 
-    /// The numbers.
+    /// The numbers, in order.
     pub fn numbers(&self) -> Range<u64>
         ensures first { result.start ≡ first_settled self.now }
         ensures behind { result.end ≡ behind_settled self.now }
@@ -31,7 +31,7 @@ impl Settled {
     }
 }
 
-/// The records that were appended to a log since it was synced: their numbers, which may not be told yet.
+/// The numbers of records that were appended to a log since it was synced; they can't be printed yet.
 #[derive(Clone, Copy, Drop)]
 pub struct Group {
     first: u64,
@@ -41,7 +41,7 @@ pub struct Group {
 impl Group {
     ghost use Rattle.records.specs.Settling.{first_of, behind_of, first_settled, behind_settled, HasGrown, numbered_by};
 
-    /// One of no records yet.
+    /// A group of no records, which begins at the journal's next number.
     pub fn new<S: Store, const N: usize>(journal: &Journal<S, N>) -> Group
         ensures first { first_of result ≡ next_of journal.now }
         ensures behind { behind_of result ≡ next_of journal.now }
@@ -57,7 +57,10 @@ impl Group {
         self.first == self.next
     }
 
-    /// Appends an entry behind those of the group.
+    /// Appends an entry after those of the group.
+    ///
+    /// # Errors
+    /// As `Journal::append`; the group is unchanged.
     pub fn append<T: Serialize, S: Store, const N: usize>(
         &mut self,
         journal: &mut Journal<S, N>,
@@ -90,7 +93,10 @@ impl Group {
         }
     }
 
-    /// Syncs the log behind its records.
+    /// Syncs the log, and returns the numbers of the group, which can be printed then.
+    ///
+    /// # Errors
+    /// `SyncFault`: the journal was spent, or the sync failed.
     pub fn settle<S: Store, const N: usize>(
         self,
         journal: &mut Journal<S, N>,
@@ -115,7 +121,10 @@ impl Group {
         })
     }
 
-    /// Syncs the log behind its records where appending another one failed, so that the journal was given up.
+    /// The same for the store itself, after an append failed and the journal was given up.
+    ///
+    /// # Errors
+    /// `SyncFault`: the sync failed.
     pub fn settle_store<S: Store>(self, store: &mut S) -> Result<Settled, SyncFault>
         ensures grown { IfOk result (λ s. (start : LineState) (values : List Tree) (rest : List ℕ)
             → HasGrown start (S.line store.old) (first_of self) (behind_of self) values rest

@@ -2,6 +2,7 @@
 
 use crate::entries::{Entry, INPUT, MOST, OUTPUT, open_file, read_input, say_no_memory, status_of};
 use crate::words::Wanted;
+use help::Progress;
 use journal_scan::{Scan, ScanError};
 use link::Answer;
 use sealed::Sealed;
@@ -9,8 +10,8 @@ use std::alloc::Global;
 use std::io::{self, BufWriter, ErrorKind, Write};
 use stores::{Store, Stored};
 
-// Writes a text as it is, or with its control characters escaped, as Rust spells them or as JSON does: so none of it moves a terminal's
-// cursor, sets its colours or writes over what stands there. Tabs stay.
+// Writes a text as it is, or with its control characters but tabs escaped, as Rust or JSON writes them: so that no text moves a
+// terminal's cursor, sets its colours or writes over a line.
 fn write_text<W: Write>(to: &mut W, text: &str, json: bool, escaped: bool) -> io::Result<()> {
     if !escaped {
         return write!(to, "{text}");
@@ -50,7 +51,7 @@ fn write_record<W: Write>(
     writeln!(to, "}}")
 }
 
-// Writes what is a record that is wanted, and is sealed with its own number, unless it is one of the first so many, which are passed.
+// Writes a record that is wanted and sealed with its own number, unless it is one of the first `passed`.
 fn write_wanted<W: Write>(
     alloc: Global,
     to: &mut W,
@@ -71,19 +72,25 @@ fn write_wanted<W: Write>(
     write_record(alloc, to, *number, text, wanted)
 }
 
-/// Writes what is wanted of the records that the scan still comes to, without the first `passed` of them; or why the scan went no
-/// further.
+/// Writes what is wanted of the records that the scan still finds, without the first `passed` of them, and counts its bytes as
+/// progress. Returns why the scan stopped, or nothing at the log's end.
 pub fn write_rest<S: Store, W: Write>(
-    alloc: Global,
+    rt: &HostRuntime,
+    progress: &mut Progress,
     scan: &mut Scan,
     store: &mut S,
     to: &mut W,
     wanted: Wanted<'_>,
     passed: &mut u64,
 ) -> io::Result<Option<ScanError>> {
+    let alloc = rt.alloc();
     for _ in 0..u64::MAX {
+        let from = scan.at();
         match scan.next_ended::<Entry, S>(alloc, store) {
-            Ok(Some(stretch)) => write_wanted(alloc, to, &stretch.answer, wanted, passed)?,
+            Ok(Some(stretch)) => {
+                progress.step(rt, scan.at().saturating_sub(from));
+                write_wanted(alloc, to, &stretch.answer, wanted, passed)?
+            }
             Ok(None) => return Ok(None),
             Err(e) => return Ok(Some(e)),
         }
@@ -91,9 +98,10 @@ pub fn write_rest<S: Store, W: Write>(
     Ok(Some(ScanError::Fault))
 }
 
-// Prints the same. The lines are gathered, and all of them are printed before this returns, also where it goes no further.
+// Prints the same. The lines are buffered, and all of them are printed before this returns, also at an error.
 fn show_rest<S: Store>(
     rt: &HostRuntime,
+    progress: &mut Progress,
     scan: &mut Scan,
     store: &mut S,
     wanted: Wanted<'_>,
@@ -102,7 +110,8 @@ fn show_rest<S: Store>(
     let Ok(mut printed) = BufWriter::new(rt.alloc(), io::writer(rt)) else {
         return Ok(say_no_memory(rt, OUTPUT));
     };
-    let shown = write_rest(rt.alloc(), scan, store, &mut printed, wanted, passed);
+    let shown = write_rest(rt, progress, scan, store, &mut printed, wanted, passed);
+    progress.end(rt);
     printed.flush()?;
     match shown? {
         None => Ok(0),
@@ -110,7 +119,7 @@ fn show_rest<S: Store>(
     }
 }
 
-// Prints what stands behind the last zero, where that is a record but for its zero, and is wanted.
+// Prints what follows the last zero, if that is a record but for its zero, and is wanted.
 fn show_last(rt: &HostRuntime, scan: Scan, wanted: Wanted<'_>, passed: &mut u64) -> io::Result<u8> {
     match scan.finish::<Entry>(rt.alloc()) {
         Ok(Some(stretch)) => {
@@ -123,15 +132,16 @@ fn show_last(rt: &HostRuntime, scan: Scan, wanted: Wanted<'_>, passed: &mut u64)
     }
 }
 
-// Prints what is wanted of a log, without the first `passed` of it.
+// Prints what is wanted of a log, without its first `passed` records.
 fn show_from<S: Store>(
     rt: &HostRuntime,
+    progress: &mut Progress,
     store: &mut S,
     wanted: Wanted<'_>,
     passed: &mut u64,
 ) -> io::Result<u8> {
     match Scan::new(rt.alloc(), MOST, 0) {
-        Ok(mut scan) => match show_rest(rt, &mut scan, store, wanted, passed) {
+        Ok(mut scan) => match show_rest(rt, progress, &mut scan, store, wanted, passed) {
             Ok(0) => show_last(rt, scan, wanted, passed),
             failed => failed,
         },
@@ -139,21 +149,22 @@ fn show_from<S: Store>(
     }
 }
 
-// Shows a log: goes over it twice where only the last ones are wanted, so that none is kept.
+// Shows a log. It is read twice if only the last records are wanted, so that none is kept.
 fn show_in<S: Store>(rt: &HostRuntime, store: &mut S, wanted: Wanted<'_>) -> io::Result<u8> {
     let mut passed = 0u64;
+    let mut progress = Progress::new(rt);
     if let Some(last) = wanted.last {
-        // all of them are passed, and none is printed
+        // counts all of them, and prints none
         let mut left = u64::MAX;
-        match show_from(rt, store, wanted, &mut left) {
+        match show_from(rt, &mut progress, store, wanted, &mut left) {
             Ok(0) => passed = u64::MAX.saturating_sub(left).saturating_sub(last),
             failed => return failed,
         }
     }
-    show_from(rt, store, wanted, &mut passed)
+    show_from(rt, &mut progress, store, wanted, &mut passed)
 }
 
-/// Shows a log.
+/// Prints what is wanted of a log. Returns the status.
 pub fn show(rt: &HostRuntime, wanted: Wanted<'_>) -> io::Result<u8> {
     match wanted.path {
         Some(path) => match open_file(rt, path, false) {

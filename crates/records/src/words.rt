@@ -1,9 +1,9 @@
-//! The words behind the program's name.
+//! The program's arguments.
 
-/// Words that it doesn't take.
+/// A wrong argument.
 #[derive(Clone, Copy, Drop)]
-pub struct Wrong<'a> {
-    /// The word that is wrong, or behind which one is missing.
+pub struct WrongArgument<'a> {
+    /// The word that is wrong, or after which one is missing.
     pub word: &'a str,
     /// Why.
     pub why: &'static str,
@@ -12,11 +12,11 @@ pub struct Wrong<'a> {
 /// What is to be shown of a log.
 #[derive(Clone, Copy, Drop)]
 pub struct Wanted<'a> {
-    /// The file of the log; standard input where there is none.
+    /// The file of the log; standard input if there is none.
     pub path: Option<&'a str>,
-    /// The records with this number and on.
+    /// The least number of the records.
     pub first: u64,
-    /// So many of these at most: the last ones.
+    /// At most so many of these: the last ones.
     pub last: Option<u64>,
     /// As lines of JSON.
     pub json: bool,
@@ -24,26 +24,29 @@ pub struct Wanted<'a> {
     pub escaped: bool,
 }
 
-/// Why a word behind the last that a command takes is wrong.
+/// Why a word after the last that a command takes is wrong.
 pub const TOO_MANY: &str = "one word too many";
 
 /// Why a word that begins as an option is wrong. A file of such a name is `./--name`.
 pub const NO_OPTION: &str = "no such option";
 
-/// The number behind a word's beginning, where the word begins so; the word where that is no number.
-fn number_behind<'a>(word: &'a str, beginning: &str) -> Option<Result<u64, Wrong<'a>>> {
+// The number after a word's beginning, if the word begins so; an error if that is no number.
+fn number_behind<'a>(word: &'a str, beginning: &str) -> Option<Result<u64, WrongArgument<'a>>> {
     let number = word.strip_prefix(beginning)?;
     match number.parse::<u64>() {
         Ok(number) => Some(Ok(number)),
-        Err(_) => Some(Err(Wrong {
+        Err(_) => Some(Err(WrongArgument {
             word,
             why: "not a number from 0 to 18446744073709551615",
         })),
     }
 }
 
-/// What these words want, in any order: a file at most, `from=N`, `last=K` and `json`. Or the first wrong one.
-pub fn wanted_by<'a>(words: &[&'a str]) -> Result<Wanted<'a>, Wrong<'a>> {
+/// What these arguments ask for, in any order: at most one file, `from=N`, `last=K` and `json`.
+///
+/// # Errors
+/// The first wrong word, and why.
+pub fn wanted_by<'a>(words: &[&'a str]) -> Result<Wanted<'a>, WrongArgument<'a>> {
     let mut wanted = Wanted {
         path: None,
         first: 0,
@@ -61,7 +64,7 @@ pub fn wanted_by<'a>(words: &[&'a str]) -> Result<Wanted<'a>, Wrong<'a>> {
         } else if wanted.path.is_none() {
             wanted.path = Some(*word);
         } else {
-            return Err(Wrong {
+            return Err(WrongArgument {
                 word: *word,
                 why: TOO_MANY,
             });

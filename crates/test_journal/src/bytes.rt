@@ -17,7 +17,7 @@ pub fn are_bytes(bytes: &[u8], wanted: &[u8]) -> bool {
     *bytes == *wanted
 }
 
-// These parts, one behind another.
+// These parts, one after another.
 fn joined(alloc: Global, parts: [&[u8]; 3]) -> Option<Vec<u8>> {
     let mut all = Vec::new(alloc);
     for part in parts {
@@ -44,10 +44,10 @@ pub fn holding(alloc: Global, bytes: &[u8]) -> Option<MemoryStore> {
     }
 }
 
-/// From, to, and the name of what stands there: `v` a value, `d` damaged, `l` too long, `c` cut.
+/// From, to, and the name of what is there: `v` a value, `d` damaged, `l` too long, `c` cut.
 pub type Place = (u64, u64, char);
 
-/// Whether a stretch stands there, and is that.
+/// Whether a stretch is there, and is that.
 pub fn is_place(stretch: &Stretch<u32>, place: Place) -> bool {
     let (from, to, what) = place;
     let name = match &stretch.answer {

@@ -1,4 +1,4 @@
-//! Logs that are checked: what is told, and which numbers are missing.
+//! Logs that are checked: what is reported, and which numbers are missing.
 ghost use Rattle.std.specs.Prelude.{true, ⊤, OnOk, OnErr};
 
 use crate::bytes::{Place, check, holding, is_last, is_place};
@@ -15,7 +15,7 @@ const BYTES: [u8; 47] = [
     255, 255, 255, 255, 255, 255, 255, 255, 255, 1, 9, 0, 0, 3, 4, 1,
 ];
 
-// What is told of it: a stretch, and whether its number was there before.
+// What is reported of it: a stretch, and whether its number was there before.
 const TOLD: [(Place, bool); 7] = [
     ((1, 4, 'v'), false),
     ((5, 7, 'd'), false),
@@ -28,7 +28,7 @@ const TOLD: [(Place, bool); 7] = [
 
 const MISSING: [(u64, u64); 3] = [(0, 0), (2, 2), (5, 18446744073709551614)];
 
-// Compares what it is told, so many stretches at most.
+// Compares what is reported, at most so many stretches.
 #[derive(Drop)]
 struct Told {
     wanted: &'static [(Place, bool)],
@@ -47,7 +47,7 @@ impl Told {
         }
     }
 
-    // Whether it was told what is wanted, so many stretches.
+    // Whether what is wanted was reported, so many stretches.
     fn is(&self, count: usize) -> bool {
         self.is_right && self.count == count
     }
@@ -88,7 +88,7 @@ impl Watcher<u32> for Told {
     }
 }
 
-// Checks these bytes; nothing where no memory was found for them.
+// Checks these bytes; nothing if they could not be allocated.
 fn checked(
     alloc: Global,
     bytes: &[u8],

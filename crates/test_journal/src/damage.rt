@@ -28,7 +28,7 @@ fn is_appended(number: u64, value: u32) -> bool {
     }
 }
 
-// Which of the values these are, as bits; nothing where one was never appended.
+// Which of the values these are, as bits; nothing if one was never appended.
 fn bits(answers: &[Answer<(u64, Entry)>]) -> Option<u8> {
     let mut found = 0u8;
     for answer in answers {
@@ -45,7 +45,7 @@ fn bits(answers: &[Answer<(u64, Entry)>]) -> Option<u8> {
     Some(found)
 }
 
-// Which of the values are read, as bits; nothing where a record is read that was never appended.
+// Which of the values are read, as bits; nothing if a record is read that was never appended.
 fn found(alloc: Global, store: &mut MemoryStore) -> Option<u8> {
     let mut list = Listed::<Entry>::new(alloc);
     match read_all::<Entry, Strict<OfType>, MemoryStore, Listed<Entry>, N>(

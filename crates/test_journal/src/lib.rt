@@ -10,9 +10,13 @@ mod damage;
 #[cfg(test)]
 mod files;
 #[cfg(test)]
+mod histories;
+#[cfg(test)]
 mod logs;
 #[cfg(test)]
 mod offsets;
+#[cfg(test)]
+mod reading;
 #[cfg(test)]
 mod repairs;
 #[cfg(test)]

@@ -12,7 +12,7 @@ pub const N: usize = 24;
 
 const VALUES: [u32; 5] = [300, 5, 0, 70000, 1];
 
-// What is appended behind all of them.
+// What is appended after all of them.
 const BEHIND: u32 = 9;
 
 type Log = Journal<MemoryStore, N>;
@@ -52,7 +52,7 @@ fn value_at(number: usize) -> u32 {
     }
 }
 
-// How many records there are, where they carry the numbers 0, 1 and on, and the values in their order.
+// How many records there are, if they carry the numbers 0, 1 and on, and the values in their order.
 fn counted(answers: &[Answer<(u64, u32)>]) -> Option<usize> {
     let mut next = 0usize;
     for answer in answers {
@@ -140,7 +140,7 @@ fn gone_on(alloc: Global, store: MemoryStore) -> Option<(usize, MemoryStore)> {
     }
 }
 
-// A crash leaves so many of the bytes that weren't synced, and so many zeros behind them; then the log is opened, gets one more
+// A crash leaves so many of the bytes that weren't synced, and so many zeros after them; then the log is opened, gets one more
 // record, is synced and read again.
 fn survives_crash(alloc: Global, left: usize, zeros: usize) -> bool {
     let (_, store) = write(alloc, MemoryStore::new(Vec::new(alloc)), &VALUES);

@@ -1,4 +1,4 @@
-//! Where the stretches of a log stand.
+//! The positions of the stretches of a log.
 
 use crate::bytes::{Place, check, holding, is_last, is_place};
 use journal_scan::Scan;
@@ -11,7 +11,7 @@ const BYTES: [u8; 23] = [
     0, 0, 1, 3, 172, 2, 0, 9, 9, 0, 3, 1, 5, 0, 7, 7, 7, 7, 7, 7, 0, 2, 1,
 ];
 
-// Where each stands that a zero ends, and a record's number.
+// The position of each that a zero ends, and a record's number.
 const PLACES: [(Place, Option<u64>); 4] = [
     ((2, 6, 'v'), Some(0)),
     ((7, 9, 'd'), None),
@@ -48,7 +48,7 @@ fn finds_all(alloc: Global, scan: &mut Scan, store: &mut MemoryStore) -> bool {
             return false;
         }
     }
-    // no other comes, and the cut one stands at the end; what was appended since ends it
+    // no other comes, and the cut one is at the end; what was appended since ends it
     matches!(scan.next_ended::<u32, MemoryStore>(alloc, store), Ok(None))
         && is_last(&scan.unfinished::<u32>(), Some((21, 23, 'c')))
         && put(store, &[0]) == 1

@@ -36,7 +36,7 @@ fn repaired(
     }
 }
 
-// Whether so many records are repaired, the next one behind them has this number, and these bytes are all that is written.
+// Whether so many records are repaired, the next one after them has this number, and these bytes are all that is written.
 fn writes(alloc: Global, bytes: &[u8], records: u64, next: u64, wanted: &[u8]) -> bool {
     let mut to = room_for(alloc, 99);
     match repaired(alloc, bytes, &mut to) {
@@ -79,7 +79,7 @@ fn add_frame(all: &mut Vec<u8>, record: &(u64, u32)) -> bool {
     }
 }
 
-// Appends the record of a stretch, where it is one; false where the scan or the memory fails.
+// Appends the record of a stretch, if it is one; false if the scan or the memory fails.
 fn add_stretch(found: Result<Option<Stretch<u32>>, ScanError>, all: &mut Vec<u8>) -> bool {
     match found {
         Ok(Some(stretch)) => match &stretch.answer {
@@ -91,7 +91,7 @@ fn add_stretch(found: Result<Option<Stretch<u32>>, ScanError>, all: &mut Vec<u8>
     }
 }
 
-// Appends the records of these bytes, one by one, each as postcard frames that pair, behind a zero.
+// Appends the records of these bytes, one by one, each as postcard frames that pair, after a zero.
 fn add_all(alloc: Global, scan: Scan, bytes: &[u8], all: &mut Vec<u8>) -> bool {
     let mut scan = scan;
     let Some(mut from) = holding(alloc, bytes) else {
@@ -152,7 +152,7 @@ fn repaired_after_damage(rt: HostRuntime) {
     }
 }
 
-// Whether a destination that fails behind so many bytes has these, and they are those of the whole.
+// Whether a destination that fails after so many bytes has these, and they are those of the whole.
 fn breaks_off(alloc: Global, room: usize) -> bool {
     let mut to = room_for(alloc, room);
     match (repaired(alloc, &LOG, &mut to), LOG.get(..room)) {

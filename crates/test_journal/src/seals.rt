@@ -14,7 +14,7 @@ fn published_sums(rt: HostRuntime) {
     );
 }
 
-// A number with the sum of its two bytes behind it, as zlib gives that.
+// A number with the sum of its two bytes after it, as zlib gives that.
 const SEALED: [u8; 6] = [0xAC, 0x02, 0x36, 0x80, 0x65, 0xAD];
 
 // Whether the sealed number is refused so with another byte at one place; or read, where nothing refuses it.
@@ -52,8 +52,8 @@ fn sealed_number(rt: HostRuntime) {
     }
 }
 
-// A frame of 65 bytes and its zero. Its first code says where the first zero of the message stands; a flipped bit there moves the
-// blocks behind, so the message changes in several places, and its last four bytes are the CRC-32 of the rest all the same.
+// A frame of 65 bytes and its zero. Its first code says where the first zero of the message is; a flipped bit there moves the
+// blocks after it, so the message changes in several places, and its last four bytes are the CRC-32 of the rest all the same.
 const FRAME: [u8; 66] = [
     0x02, 0x92, 0x07, 0x02, 0xEE, 0x02, 0x95, 0x09, 0x55, 0x02, 0xDC, 0x09, 0xB2, 0xED, 0x45, 0x96,
     0x07, 0xDE, 0x72, 0xC5, 0x06, 0x36, 0x6B, 0x07, 0xFB, 0x24, 0x02, 0xA7, 0x03, 0x6F, 0x18, 0x22,
@@ -62,7 +62,7 @@ const FRAME: [u8; 66] = [
     0xA9, 0x00,
 ];
 
-// Whether the frame holds a sealed value with such a first code, and these are its bytes behind the first.
+// Whether the frame holds a sealed value with such a first code, and these are its bytes after the first.
 fn goes_on(alloc: Global, code: u8, second: u8, third: u8) -> bool {
     let mut frame = FRAME;
     frame[0] = code;

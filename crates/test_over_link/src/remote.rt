@@ -3,6 +3,7 @@
 mod checks;
 mod exchanges;
 mod noise;
+mod notices;
 mod seals;
 mod served;
 mod waiting;

@@ -3,7 +3,7 @@
 ghost use Rattle.postcard_tree.specs.ReadingLaws.{form_as};
 ghost use Rattle.postcard_tree.specs.Shapes.{form_matches};
 
-use super::{Behind, Command, Refusal, Report};
+use super::{Behind, Command, PumpReport, Refusal};
 use postcard::ser_flavors::Flavor;
 use postcard::{
     AsShape, Last, MatchesShape, Readable, Serialize, Serializer, ShapeOf, Shaped, Variant,
@@ -66,14 +66,14 @@ impl Serialize for Command {
     }
 }
 
-type ReportShape = Variant<(bool, u32, u32), Variant<(), Variant<Refusal, Last<Behind>>>>;
+type PumpReportShape = Variant<(bool, u32, u32), Variant<(), Variant<Refusal, Last<Behind>>>>;
 
-impl Shaped for Report {
-    ghost use Rattle.pump_lib.specs.declared.messages.Report.TheVariants.{State, Done, Refused, Passed};
+impl Shaped for PumpReport {
+    ghost use Rattle.pump_lib.specs.declared.messages.PumpReport.TheVariants.{State, Done, Refused, Passed};
     ghost use Rattle.postcard_tree.specs.declared.variants.Variant.TheVariants.{This, Other};
     ghost use Rattle.postcard_tree.specs.declared.variants.Last.TheVariants.{Last};
 
-    type Shape = ReportShape;
+    type Shape = PumpReportShape;
 
     ghost shape = { λ v. elim v [
       | State x0 x1 x2 ↦ This (x0, x1, x2)
@@ -82,36 +82,38 @@ impl Shaped for Report {
       | Passed x0 ↦ Other (Other (Other (Last x0)))
     ] };
 
-    fn from_shape(it: ReportShape) -> Report {
+    fn from_shape(it: PumpReportShape) -> PumpReport {
         match it {
-            Variant::This((is_on, limit, used)) => Report::State { is_on, limit, used },
-            Variant::Other(Variant::This(())) => Report::Done,
-            Variant::Other(Variant::Other(Variant::This(p0))) => Report::Refused(p0),
-            Variant::Other(Variant::Other(Variant::Other(Last::Last(p0)))) => Report::Passed(p0),
+            Variant::This((is_on, limit, used)) => PumpReport::State { is_on, limit, used },
+            Variant::Other(Variant::This(())) => PumpReport::Done,
+            Variant::Other(Variant::Other(Variant::This(p0))) => PumpReport::Refused(p0),
+            Variant::Other(Variant::Other(Variant::Other(Last::Last(p0)))) => PumpReport::Passed(
+                p0,
+            ),
         }
     }
 }
 
-impl Readable for Report {
+impl Readable for PumpReport {
     type Form = AsShape;
 
     ghost form = { form_as ⟦<Self as Shaped>⟧.shape ⟦<ShapeOf<Self> as Readable>⟧.form };
 }
 
-impl MatchesShape for Report {
+impl MatchesShape for PumpReport {
     ghost matches = { form_matches };
 }
 
-impl Serialize for Report {
+impl Serialize for PumpReport {
     fn serialize<F: Flavor>(&self, serializer: &mut Serializer<F>) -> postcard::Result<()> {
         match self {
-            Report::State { is_on, limit, used } => serializer.serialize_newtype_variant(
+            PumpReport::State { is_on, limit, used } => serializer.serialize_newtype_variant(
                 0,
                 &(is_on, limit, used),
             ),
-            Report::Done => serializer.serialize_unit_variant(1),
-            Report::Refused(p0) => serializer.serialize_newtype_variant(2, p0),
-            Report::Passed(p0) => serializer.serialize_newtype_variant(3, p0),
+            PumpReport::Done => serializer.serialize_unit_variant(1),
+            PumpReport::Refused(p0) => serializer.serialize_newtype_variant(2, p0),
+            PumpReport::Passed(p0) => serializer.serialize_newtype_variant(3, p0),
         }
     }
 }

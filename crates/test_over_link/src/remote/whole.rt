@@ -4,7 +4,8 @@
 
 use crate::checks::check;
 use crate::remote::served::Adder;
-use calls_laws::exchange::{Called, Way, call_once};
+use calls_laws::exchange::{Called, Kept, Way, call_once};
+use calls_laws::heard::SentReader;
 use line_io::memory::{Fault, OwnedOut};
 use link::{OfType, Ordinary, Strict};
 use std::alloc::Global;
@@ -149,30 +150,44 @@ fn a_send_that_breaks_off(rt: HostRuntime) {
     }
 }
 
-#[test]
-fn a_strict_call(rt: HostRuntime) {
+// What comes of the call by a reader of messages, over lines that interrupt nothing; it is sent again three times.
+fn called_by<M: SentReader<(u64, u32)>>(alloc: Global, messages: &M) -> Called<Adder, u32> {
     let there = Way {
-        writer: OwnedOut::new(Vec::new(rt.alloc()), 3, None),
+        writer: OwnedOut::new(Vec::new(alloc), 3, None),
         sentinel: 0,
         each: 64,
         stops: None,
     };
     let back = Way {
-        writer: OwnedOut::new(Vec::new(rt.alloc()), 3, None),
+        writer: OwnedOut::new(Vec::new(alloc), 3, None),
         sentinel: 10,
         each: 64,
         stops: None,
     };
-    let all = call_once::<u32, u32, Adder, Strict<OfType>, Strict<OfType>, OwnedOut, 16, 8>(
-        rt.alloc(),
-        &Strict(OfType),
-        &Strict(OfType),
+    call_once::<u32, u32, Adder, M, M, OwnedOut, 16, 8>(
+        alloc,
+        messages,
+        messages,
         there,
         back,
         Adder::new(),
         5,
         7,
         3,
-    );
-    check(&rt, WHOLE.is(&all));
+    )
+}
+
+#[test]
+fn a_strict_call(rt: HostRuntime) {
+    check(&rt, WHOLE.is(&called_by(rt.alloc(), &Strict(OfType))));
+}
+
+// What a writer has taken, whatever faults it met.
+fn taken<W: Kept>(writer: W) -> Vec<u8> {
+    writer.into_taken()
+}
+
+#[test]
+fn a_new_writer_is_empty(rt: HostRuntime) {
+    check(&rt, taken(OwnedOut::spare(rt.alloc())).is_empty());
 }

@@ -1,0 +1,25 @@
+//! Whether standard output is a terminal that shows colours.
+use std::env;
+use std::io::IsTerminal;
+
+// Whether a variable of the environment is missing or empty.
+fn is_unset(rt: &HostRuntime, name: &str) -> bool {
+    match env::var(rt, name) {
+        Ok(value) => value.is_empty(),
+        Err(env::VarError::NotPresent) => true,
+        Err(_) => false,
+    }
+}
+
+// Whether the terminal says that it can't move its cursor or set colours.
+fn is_dumb(rt: &HostRuntime) -> bool {
+    match env::var(rt, "TERM") {
+        Ok(value) => value.as_str() == "dumb",
+        Err(_) => false,
+    }
+}
+
+/// Whether what goes to standard output may have colours: it is a terminal, `TERM` isn't `dumb`, and `NO_COLOR` is missing or empty.
+pub fn wants_colour(rt: &HostRuntime) -> bool {
+    rt.stdout().is_terminal() && !is_dumb(rt) && is_unset(rt, "NO_COLOR")
+}
