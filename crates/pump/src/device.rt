@@ -1,7 +1,7 @@
 //! What the device does.
 ghost use Rattle.std.specs.Prelude.{◌≡◌, ◌+◌, ◌<◌, ◌≤◌, false, Some, IfSome, IfNone};
-ghost use Rattle.pump_lib.specs.Device.{DeviceStands, Does, Doses};
-ghost use Rattle.pump_lib.specs.declared.messages.PumpReport.TheVariants.{Passed};
+ghost use Rattle.pump.specs.Device.{DeviceStands, Does, Doses};
+ghost use Rattle.pump.specs.declared.messages.PumpReport.TheVariants.{Passed};
 
 use crate::messages::{Behind, Command, PumpReport, Refusal};
 use calls::Application;

@@ -13,7 +13,7 @@ use postcard::{
 type CommandShape = Variants4<(), (), (), u32, Variant<u32, Last<()>>>;
 
 impl Shaped for Command {
-    ghost use Rattle.pump_lib.specs.declared.messages.Command.TheVariants.{Show, On, Off, Limit, Dose, Reset};
+    ghost use Rattle.pump.specs.declared.messages.Command.TheVariants.{Show, On, Off, Limit, Dose, Reset};
     ghost use Rattle.postcard_tree.specs.declared.variants.Variants4.TheVariants.{V0, V1, V2, V3, More};
     ghost use Rattle.postcard_tree.specs.declared.variants.Variant.TheVariants.{This, Other};
     ghost use Rattle.postcard_tree.specs.declared.variants.Last.TheVariants.{Last};
@@ -69,7 +69,7 @@ impl Serialize for Command {
 type PumpReportShape = Variant<(bool, u32, u32), Variant<(), Variant<Refusal, Last<Behind>>>>;
 
 impl Shaped for PumpReport {
-    ghost use Rattle.pump_lib.specs.declared.messages.PumpReport.TheVariants.{State, Done, Refused, Passed};
+    ghost use Rattle.pump.specs.declared.messages.PumpReport.TheVariants.{State, Done, Refused, Passed};
     ghost use Rattle.postcard_tree.specs.declared.variants.Variant.TheVariants.{This, Other};
     ghost use Rattle.postcard_tree.specs.declared.variants.Last.TheVariants.{Last};
 
@@ -150,7 +150,7 @@ impl Serialize for Behind {
 type RefusalShape = Variant<(), Last<()>>;
 
 impl Shaped for Refusal {
-    ghost use Rattle.pump_lib.specs.declared.messages.Refusal.TheVariants.{IsOff, OverLimit};
+    ghost use Rattle.pump.specs.declared.messages.Refusal.TheVariants.{IsOff, OverLimit};
     ghost use Rattle.postcard_tree.specs.declared.variants.Variant.TheVariants.{This, Other};
     ghost use Rattle.postcard_tree.specs.declared.variants.Last.TheVariants.{Last};
 

@@ -1,12 +1,12 @@
 -- What the device does with a command.
 use Rattle.std.specs.Prelude.{◌≡◌, ℕ, Bool, true, false, ◌+◌, ◌<◌, ◌≤◌}
-use Rattle.pump_lib.specs.declared.messages.Command.{Command}
-use Rattle.pump_lib.specs.declared.messages.Command.TheVariants.{Show, On, Off, Limit, Dose, Reset}
-use Rattle.pump_lib.specs.declared.messages.PumpReport.{PumpReport}
-use Rattle.pump_lib.specs.declared.messages.PumpReport.TheVariants.{State, Done, Refused}
-use Rattle.pump_lib.specs.declared.messages.Refusal.{Refusal}
-use Rattle.pump_lib.specs.declared.messages.Refusal.TheVariants.{IsOff, OverLimit}
-use Rattle.pump_lib.specs.declared.device.Device.{Device}
+use Rattle.pump.specs.declared.messages.Command.{Command}
+use Rattle.pump.specs.declared.messages.Command.TheVariants.{Show, On, Off, Limit, Dose, Reset}
+use Rattle.pump.specs.declared.messages.PumpReport.{PumpReport}
+use Rattle.pump.specs.declared.messages.PumpReport.TheVariants.{State, Done, Refused}
+use Rattle.pump.specs.declared.messages.Refusal.{Refusal}
+use Rattle.pump.specs.declared.messages.Refusal.TheVariants.{IsOff, OverLimit}
+use Rattle.pump.specs.declared.device.Device.{Device}
 
 -- whether it is on, its limit, and what it has dosed since it last counted from zero
 abbrev pub DeviceStands : Device → Bool → ℕ → ℕ → Type 0

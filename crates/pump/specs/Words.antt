@@ -1,8 +1,8 @@
 -- The words of a command.
 use Rattle.std.specs.Prelude.{◌≡◌, ℕ, List, [], ◌∷◌, codes}
 use Rattle.std.specs.Str.Parse.{IsNumeral, digits_value, without_leading_plus}
-use Rattle.pump_lib.specs.declared.messages.Command.{Command}
-use Rattle.pump_lib.specs.declared.messages.Command.TheVariants.{Show, On, Off, Limit, Dose, Reset}
+use Rattle.pump.specs.declared.messages.Command.{Command}
+use Rattle.pump.specs.declared.messages.Command.TheVariants.{Show, On, Off, Limit, Dose, Reset}
 
 -- the text is a number in decimal digits, perhaps with a plus before them
 abbrev pub IsNumber : ℕ → List ℕ → Type 0

@@ -1,6 +1,6 @@
 //! Commands and reports as words.
 ghost use Rattle.std.specs.Prelude.{◌≡◌, [], ◌∷◌, map, string_bytes, IfSome};
-ghost use Rattle.pump_lib.specs.Words.{IsNumber, AreWordsOf};
+ghost use Rattle.pump.specs.Words.{IsNumber, AreWordsOf};
 
 use crate::messages::{Command, PumpReport, Refusal};
 use std::fmt;
