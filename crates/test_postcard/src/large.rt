@@ -66,6 +66,11 @@ fn a_count_alone_asks_for_nothing(rt: HostRuntime) {
         &rt,
         [
             fails(from_bytes_owned::<Vec<[u8; 64]>>(alloc, &FEW), end),
+            fails(from_bytes_owned::<String>(alloc, &FEW), end),
+            fails(
+                Deserializer::from_bytes(alloc, &FEW).deserialize_byte_buf(),
+                end,
+            ),
             is_refused,
         ],
     );
