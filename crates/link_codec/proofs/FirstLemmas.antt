@@ -1,7 +1,8 @@
 -- The items of a framed reader however it goes on: the answers given of a front of its bytes, or all answers.
-use Rattle.std.proofs.Common.{◌≡◌, ℕ, ◌⊎◌, true, List, [], ◌∷◌, ◌++◌, All, IsOk, is_ok, Option, Result, Ok, Err, refl, subst, inl, inr, append-nil, append_assoc}
+use Rattle.std.proofs.Common.{◌≡◌, ℕ, ◌⊎◌, true, List, [], ◌∷◌, ◌++◌, All, IsOk, is_ok, Option, Some, Result, Ok, Err, refl, subst, inl, inr, append-nil, append_assoc}
 use Rattle.std.proofs.lemmas.List.Elements.{All-head, All-tail}
 use Rattle.std.specs.declared.io.Error.{Error}
+use Rattle.futures.specs.declared.task.Poll.{Poll}
 use Rattle.link.specs.declared.decoding.Decoding.{Ghosts}
 use Rattle.link.specs.Judged.{Judging}
 use Rattle.link_codec.specs.Decoders.{IsGiven as Given, IsGivenTo, messages_in, gives_judged, judged_stable}
@@ -16,6 +17,20 @@ use Rattle.tokio_util.specs.Codec.Framing.{unframed, as_last, IsReading, SawEnd}
 use Rattle.tokio_util.specs.Codec.Framed.{Reads, PollsFrame}
 use Rattle.tokio_util.specs.Codec.Whole.{EndIsFinal}
 use Rattle.tokio_util.proofs.CodecLemmas.Next.{Resumes-append, Resumes_now}
+
+-- what is yielded begins with what stands in front of it
+pub yields_front : {S X : Type 0} (step : S → Poll (Option X) → S → Type 0) (s : S) (items : List X) (end : Option X) → Yields step s items end → (front behind : List X) → items ≡ front ++ behind → (next : Option X) × Yields step s front next
+yields_front step _ _ _ (answers s t end h) [] behind e = (end, answers s t end h)
+yields_front step _ _ _ (answers s t end h) (y ∷ front) behind e = cc
+yields_front step _ _ _ (passes s t x xs end h later) [] behind e = (Some x, answers s t (Some x) h)
+yields_front step _ _ _ (passes s t x xs end h later) (y ∷ front) behind e =
+    let head : x ≡ y = cc in
+    let tail : xs ≡ front ++ behind = cc in
+    let next = yields_front step t xs end later front behind tail in
+    (next.0, subst (λ z. Yields step s (z ∷ front) next.0) head (passes s t x front next.0 h next.1))
+yields_front step _ _ _ (waits s t xs end h later) front behind e =
+    let next = yields_front step t xs end later front behind e in
+    (next.0, waits s t front next.0 h next.1)
 
 -- it stops anywhere
 abbrev ReadsSome : {D X E : Type 0} → Gives D X E → D → List ℕ → List (Result X E) → Type 0

@@ -39,6 +39,15 @@ IsHeardOf holds reads limit s answers stream = ((front : List ℕ) × (rest : Li
     × (stream ≡ front ++ rest) × HasGiven holds reads limit s answers front)
     ⊎ HasAnswered holds reads limit s answers stream
 
+-- before its first error, and before any other item, a list of items of the stream has the answers given of a front of it, or all
+-- answers of one
+abbrev pub IsHeardSoFar : {V : Type 0} → (List ℕ → Tree → Type 0) → (Tree → V → Type 0)
+    → ℕ → ℕ → List (Result (Answer V) DecodeError) → List ℕ → Type 0
+IsHeardSoFar {V} holds reads limit s items stream =
+    (front behind : List (Result (Answer V) DecodeError)) → items ≡ front ++ behind → All IsOk front
+    → (bytes : List ℕ) × (rest : List ℕ) × (stream ≡ bytes ++ rest)
+    × IsHeardOf holds reads limit s (answers_of front) bytes
+
 module _ {R D C V : Type 0} (gave : Passes R) (is_at_end : R → Type 0) (fails : R → Error → Type 0) (decoder_in : D → C) (IsGiven : GivenBy C) (gives : Gives D (Answer V) DecodeError) (judging : C → Judging V) (f : Reads R D) where
   -- From a reader whose end is final, items that are no errors, up to the end, are the answers of all the bytes that it gave.
   abbrev pub IsAnsweredWhole : Type 0

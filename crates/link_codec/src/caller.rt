@@ -2,10 +2,10 @@
 ghost use Rattle.std.specs.Prelude.{All, IsOk, IfOk, IfSome};
 ghost use Rattle.postcard.specs.Frames.{Holds};
 ghost use Rattle.link.specs.Listening.{HasAnswered};
-ghost use Rattle.link_codec.specs.Whole.{answers_of};
+ghost use Rattle.link_codec.specs.Whole.{answers_of, IsHeardSoFar};
 
 use crate::error::DecodeError;
-use crate::laws::answered_whole;
+use crate::laws::{answered_so_far, answered_whole};
 use crate::owned::OwnedLinkDecoder;
 use futures::{FutureExt, StreamExt};
 use link::{Answer, NoMemory};
@@ -17,7 +17,7 @@ use tokio_util::codec::FramedRead;
 
 /// The items of a framed reader over a complete stream, collected by one poll; `None` if the reader yielded in between.
 ///
-/// If no item is an error, they are all results of the stream.
+/// If no item is an error, they are all results of the stream. Those before an error are the results of a beginning of it.
 ///
 /// # Errors
 /// An `io::Error`, such as `OutOfMemory` if the decoder's buffer could not be allocated.
@@ -42,6 +42,8 @@ pub fn answers_at_once<T: DeserializeOwned, R: RandomSource + AllocGlobal>(
     ensures all { IfOk result (λ o. IfSome o (λ items. All IsOk items.items
         → HasAnswered (Holds T.form.takes) T.form.reads limit sentinel
         (answers_of items.items) stream.now)) }
+    ensures so_far { IfOk result (λ o. IfSome o (λ items. IsHeardSoFar (Holds T.form.takes)
+        T.form.reads limit sentinel items.items stream.now)) }
 {
     let decoder = match OwnedLinkDecoder::<T>::new(rt.alloc(), limit, sentinel) {
         Ok(decoder) => decoder,
@@ -49,6 +51,7 @@ pub fn answers_at_once<T: DeserializeOwned, R: RandomSource + AllocGlobal>(
     };
     let answers = FramedRead::new(rt.alloc(), stream, decoder)?;
     answered_whole(&answers);
+    answered_so_far(&answers);
     match answers.collect(rt.alloc()).now_or_never(rt)? {
         Some(items) => Ok(Some(items?)),
         None => Ok(None),

@@ -5,6 +5,7 @@ use Rattle.link.specs.Listening.{HasAnswered}
 use Rattle.link_codec.specs.Decoders.{IsGiven}
 use Rattle.link_codec.specs.Whole.{answers_of}
 use Rattle.tokio_util.proofs.CodecLemmas.Whole.{slice_end_is_final}
+use Rattle.link_codec.proofs.FirstLemmas.{yields_front}
 use Rattle.link_codec.proofs.caller.answers_at_once.Goals as goal
 
 pub returns-in_ok-items-in-Some : goal.returns-in_ok-items-in-Some
@@ -18,4 +19,8 @@ returns-in_ok-items-in-Some g c =
           let bytes : whole.0 ≡ c.args.stream.now =
           sym (ap (λ (s : Bor (List ℕ)). s.now) (sym start.0) ∙ whole.2 ∙ ap (λ zs. whole.0 ++ zs) (nil_from_length _ whole.3) ∙ append-nil whole.0) in
           subst (λ zs. HasAnswered (Holds g.T.Readable.form.takes) g.T.Readable.form.reads c.args.limit c.args.sentinel (answers_of collected.0) zs) bytes whole.4);
+      so_far = rw collected.2 (λ front behind e oks.
+          let first = yields_front _ _ _ _ collected.1 front behind e in
+          let heard = c.answered_so_far.ensures c.args.limit c.args.sentinel front first.0 slice_end_is_final (record { reading = start.3; none = start.2; given = subst (λ d. IsGiven c.args.limit c.args.sentinel d []) (sym start.1) c.in-Ok.ensures }) oks first.1 in
+          (heard.0, heard.1.now, ap (λ (s : Bor (List ℕ)). s.now) (sym start.0) ∙ heard.2, heard.3));
     }
